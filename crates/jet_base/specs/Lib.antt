@@ -1,0 +1,4 @@
+pub mod Ids
+pub mod JetName
+pub mod ColumnType
+pub mod Given

@@ -1,0 +1,16 @@
+//! The words that every layer of the engine shares: identifiers, column types, replies, names, byte strings and lists.
+#![tactic(auto)]
+
+mod ids;
+mod items;
+mod memory;
+mod replies;
+mod text;
+mod words;
+
+pub use ids::{ColumnId, CursorId, IndexId, Session, TableId};
+pub use items::Items;
+pub use memory::OutOfMemory;
+pub use replies::{Jet, name};
+pub use text::{Name, Octets};
+pub use words::{ColType, ColumnFlags, Given, Prepare, Way};

@@ -1,0 +1,158 @@
+//! The names that a call may answer.
+
+ghost use Rattle.std.specs.Prelude.{◌≡◌};
+ghost use Rattle.jet_base.specs.JetName.{jet_name};
+
+/// The reply of a call: success, a warning, or the one reason why it was refused.
+///
+/// A variant is the name as Microsoft's `esent.h` spells it, without `JET_err` or `JET_wrn`.
+#[derive(Clone, Copy, Debug, PartialEq, Eq)]
+pub enum Jet {
+    Success,
+    SeekNotEqual,
+    ColumnNull,
+    BufferTruncated,
+    OutOfMemory,
+    SessionInUse,
+    InvalidSesid,
+    InvalidTableId,
+    NoCurrentRecord,
+    RecordDeleted,
+    ColumnNotFound,
+    WriteConflict,
+    SessionWriteConflict,
+    LogSequenceEnd,
+    VersionStoreOutOfMemory,
+    InstanceUnavailable,
+    LogWriteFail,
+    OutOfSessions,
+    TransTooDeep,
+    NotInTransaction,
+    InTransaction,
+    ObjectNotFound,
+    TableInUse,
+    TableDuplicate,
+    OutOfObjectIDs,
+    ColumnDuplicate,
+    MultiValuedColumnMustBeTagged,
+    InvalidColumnType,
+    TableNotEmpty,
+    TooManyColumns,
+    ColumnInUse,
+    IndexDuplicate,
+    TooManyIndexes,
+    IndexHasPrimary,
+    CannotIndex,
+    IndexInvalidDef,
+    NullKeyDisallowed,
+    KeyTruncated,
+    KeyDuplicate,
+    IndexNotFound,
+    IndexMustStay,
+    OutOfCursors,
+    NoCurrentIndex,
+    KeyNotMade,
+    KeyIsMade,
+    InvalidBufferSize,
+    RecordNotFound,
+    InvalidBookmark,
+    AlreadyPrepared,
+    UpdateNotPrepared,
+    ColumnNotUpdatable,
+    BadItagSequence,
+    ColumnTooBig,
+    NullInvalid,
+    RecordTooBig,
+    RecordPrimaryChanged,
+    CheckpointCorrupt,
+    ReadVerifyFailure,
+    DatabaseCorrupted,
+    LogFileCorrupt,
+    DatabaseDuplicate,
+    ColumnRedundant,
+    OutOfAutoincrementValues,
+    InvalidParameter,
+}
+
+/// The printed name, with its prefix: `JET_wrn` for the three warnings, `JET_err` for all others.
+pub fn name(jet: Jet) -> &'static str
+    ensures { result.now ≡ jet_name jet }
+{
+    match jet {
+        Jet::Success => "JET_errSuccess",
+        Jet::SeekNotEqual => "JET_wrnSeekNotEqual",
+        Jet::ColumnNull => "JET_wrnColumnNull",
+        Jet::BufferTruncated => "JET_wrnBufferTruncated",
+        Jet::OutOfMemory => "JET_errOutOfMemory",
+        Jet::SessionInUse => "JET_errSessionInUse",
+        Jet::InvalidSesid => "JET_errInvalidSesid",
+        Jet::InvalidTableId => "JET_errInvalidTableId",
+        Jet::NoCurrentRecord => "JET_errNoCurrentRecord",
+        Jet::RecordDeleted => "JET_errRecordDeleted",
+        Jet::ColumnNotFound => "JET_errColumnNotFound",
+        Jet::WriteConflict => "JET_errWriteConflict",
+        Jet::SessionWriteConflict => "JET_errSessionWriteConflict",
+        Jet::LogSequenceEnd => "JET_errLogSequenceEnd",
+        Jet::VersionStoreOutOfMemory => "JET_errVersionStoreOutOfMemory",
+        Jet::InstanceUnavailable => "JET_errInstanceUnavailable",
+        Jet::LogWriteFail => "JET_errLogWriteFail",
+        Jet::OutOfSessions => "JET_errOutOfSessions",
+        Jet::TransTooDeep => "JET_errTransTooDeep",
+        Jet::NotInTransaction => "JET_errNotInTransaction",
+        Jet::InTransaction => "JET_errInTransaction",
+        Jet::ObjectNotFound => "JET_errObjectNotFound",
+        Jet::TableInUse => "JET_errTableInUse",
+        Jet::TableDuplicate => "JET_errTableDuplicate",
+        Jet::OutOfObjectIDs => "JET_errOutOfObjectIDs",
+        Jet::ColumnDuplicate => "JET_errColumnDuplicate",
+        Jet::MultiValuedColumnMustBeTagged => "JET_errMultiValuedColumnMustBeTagged",
+        Jet::InvalidColumnType => "JET_errInvalidColumnType",
+        Jet::TableNotEmpty => "JET_errTableNotEmpty",
+        Jet::TooManyColumns => "JET_errTooManyColumns",
+        Jet::ColumnInUse => "JET_errColumnInUse",
+        Jet::IndexDuplicate => "JET_errIndexDuplicate",
+        Jet::TooManyIndexes => "JET_errTooManyIndexes",
+        Jet::IndexHasPrimary => "JET_errIndexHasPrimary",
+        Jet::CannotIndex => "JET_errCannotIndex",
+        Jet::IndexInvalidDef => "JET_errIndexInvalidDef",
+        Jet::NullKeyDisallowed => "JET_errNullKeyDisallowed",
+        Jet::KeyTruncated => "JET_errKeyTruncated",
+        Jet::KeyDuplicate => "JET_errKeyDuplicate",
+        Jet::IndexNotFound => "JET_errIndexNotFound",
+        Jet::IndexMustStay => "JET_errIndexMustStay",
+        Jet::OutOfCursors => "JET_errOutOfCursors",
+        Jet::NoCurrentIndex => "JET_errNoCurrentIndex",
+        Jet::KeyNotMade => "JET_errKeyNotMade",
+        Jet::KeyIsMade => "JET_errKeyIsMade",
+        Jet::InvalidBufferSize => "JET_errInvalidBufferSize",
+        Jet::RecordNotFound => "JET_errRecordNotFound",
+        Jet::InvalidBookmark => "JET_errInvalidBookmark",
+        Jet::AlreadyPrepared => "JET_errAlreadyPrepared",
+        Jet::UpdateNotPrepared => "JET_errUpdateNotPrepared",
+        Jet::ColumnNotUpdatable => "JET_errColumnNotUpdatable",
+        Jet::BadItagSequence => "JET_errBadItagSequence",
+        Jet::ColumnTooBig => "JET_errColumnTooBig",
+        Jet::NullInvalid => "JET_errNullInvalid",
+        Jet::RecordTooBig => "JET_errRecordTooBig",
+        Jet::RecordPrimaryChanged => "JET_errRecordPrimaryChanged",
+        Jet::CheckpointCorrupt => "JET_errCheckpointCorrupt",
+        Jet::ReadVerifyFailure => "JET_errReadVerifyFailure",
+        Jet::DatabaseCorrupted => "JET_errDatabaseCorrupted",
+        Jet::LogFileCorrupt => "JET_errLogFileCorrupt",
+        Jet::DatabaseDuplicate => "JET_errDatabaseDuplicate",
+        Jet::ColumnRedundant => "JET_errColumnRedundant",
+        Jet::OutOfAutoincrementValues => "JET_errOutOfAutoincrementValues",
+        Jet::InvalidParameter => "JET_errInvalidParameter",
+    }
+}
+
+#[cfg(test)]
+mod tests {
+    use super::*;
+
+    #[test]
+    fn names_have_their_prefix(rt: HostRuntime) {
+        assert_eq!(rt; name(Jet::Success), "JET_errSuccess");
+        assert_eq!(rt; name(Jet::SeekNotEqual), "JET_wrnSeekNotEqual");
+    }
+}
