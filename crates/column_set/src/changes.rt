@@ -1,0 +1,152 @@
+//! The changes that sessions make to records.
+
+ghost use Rattle.std.specs.Prelude.{◌≡◌, IfOk, Some, refl, bytes_eq};
+ghost use Rattle.std.specs.Ordering.{nat_cmp};
+ghost use Rattle.std.specs.Cmp.{partial_equiv_from_equiv};
+ghost use Rattle.std.specs.Cmp.Lexicographic.{slice_cmp, nat_list_eq_equiv, nat_list_cmp_total, texts_ties, texts_po};
+
+use crate::records::Record;
+use jet_base::{ColumnId, OutOfMemory, TableId};
+use std::alloc::{AllocError, Global};
+use std::cmp::Ordering;
+use std::marker::Model;
+
+/// What a record of a table is found by: its key in the primary index, or else the number of the entry that inserted
+/// it, in 8 bytes big-endian. A stored record's has 1 to 255 bytes.
+#[derive(Debug, Drop)]
+pub struct Bookmark {
+    bytes: Vec<u8>,
+}
+
+impl Model for Bookmark {
+    ghost use Rattle.std.specs.Prelude.{List, ℕ};
+
+    ghost Value = { List ℕ };
+
+    ghost view = { λ a. a.bytes.items };
+}
+
+impl Bookmark {
+    /// The bookmark of these bytes, which it takes over.
+    pub fn new(bytes: Vec<u8>) -> Bookmark
+        ensures { result ≡ bytes.items }
+    {
+        Bookmark { bytes }
+    }
+
+    /// The bookmark of these bytes, copied.
+    pub fn from_slice(alloc: Global, bytes: &[u8]) -> Result<Bookmark, OutOfMemory>
+        ensures { IfOk result (λ made. made ≡ bytes.now) }
+    {
+        Ok(Bookmark {
+            bytes: Vec::from_slice(alloc, bytes)?,
+        })
+    }
+
+    /// The bytes.
+    pub fn as_bytes(&self) -> &[u8]
+        ensures { result.now ≡ self.now }
+    {
+        self.bytes.as_slice()
+    }
+
+    /// Another value of the same bookmark.
+    pub fn copy(&self) -> Result<Bookmark, OutOfMemory>
+        ensures { IfOk result (λ made. made ≡ self.now) }
+    {
+        Ok(self.clone()?)
+    }
+}
+
+impl Clone for Bookmark {
+    ghost is_clone = { λ a b. b ≡ a };
+
+    fn clone(&self) -> Result<Bookmark, AllocError> {
+        Ok(Bookmark {
+            bytes: self.bytes.clone()?,
+        })
+    }
+}
+
+impl PartialEq for Bookmark {
+    ghost eq = { bytes_eq };
+
+    ghost laws = { partial_equiv_from_equiv nat_list_eq_equiv };
+
+    fn eq(&self, other: &Bookmark) -> bool {
+        self.as_bytes() == other.as_bytes()
+    }
+}
+
+impl Eq for Bookmark {
+    ghost laws = { nat_list_eq_equiv };
+}
+
+impl PartialOrd for Bookmark {
+    ghost partial_cmp = { λ a b. Some (slice_cmp nat_cmp a b) };
+
+    ghost laws = { texts_po };
+
+    fn partial_cmp(&self, other: &Bookmark) -> Option<Ordering> {
+        Some(self.cmp(other))
+    }
+}
+
+impl Ord for Bookmark {
+    ghost cmp = { slice_cmp nat_cmp };
+
+    ghost total = { nat_list_cmp_total };
+
+    ghost matches_partial_cmp = { λ a b. refl };
+
+    ghost matches_eq = { texts_ties };
+
+    fn cmp(&self, other: &Bookmark) -> Ordering {
+        self.as_bytes().cmp(other.as_bytes())
+    }
+}
+
+/// A change of one record.
+#[derive(Debug, Drop)]
+pub enum Change {
+    /// The record under the bookmark has these values now. It is new, or takes the place of the one there.
+    Put {
+        table: TableId,
+        bookmark: Bookmark,
+        /// The record that it was copied from, where it was and the session still sees that one.
+        copied: Option<Bookmark>,
+        values: Record,
+    },
+    /// The record is gone.
+    Drop {
+        table: TableId,
+        bookmark: Bookmark,
+    },
+    /// The record is locked against the writes of others, and stays as it is.
+    Hold {
+        table: TableId,
+        bookmark: Bookmark,
+    },
+    /// The amount is added to the record's sum in an escrow column, wrapping at 32 bits.
+    Add {
+        table: TableId,
+        bookmark: Bookmark,
+        column: ColumnId,
+        amount: i32,
+    },
+}
+
+#[cfg(test)]
+mod tests {
+    use super::*;
+    use std::test::Fail;
+
+    #[test]
+    fn bookmarks_are_made_and_copied(rt: HostRuntime) -> Result<(), Fail> {
+        let bookmark = Bookmark::from_slice(rt.alloc(), &[127, 1])?;
+        assert_eq!(rt; bookmark.as_bytes(), [127, 1].as_slice());
+        assert!(rt; bookmark.copy()? == bookmark);
+        assert!(rt; bookmark < Bookmark::new([127, 2].to_vec(rt.alloc())?));
+        Ok(())
+    }
+}

@@ -1,0 +1,84 @@
+//! The columns of a table.
+
+ghost use Rattle.std.specs.Prelude.{◌≡◌, IfOk};
+
+use jet_base::{ColType, ColumnId, Items, Name, OutOfMemory};
+use std::alloc::AllocError;
+
+/// A column of a table.
+#[derive(Debug, Drop)]
+pub struct Column {
+    /// Its number: 1 to 127 for a fixed column, 128 to 255 for a variable one, 256 to 511 for a tagged one.
+    pub id: ColumnId,
+    /// Its name, which no other column of the table has.
+    pub name: Name,
+    /// Its type.
+    pub kind: ColType,
+    /// It was asked to be a tagged column, whatever its type.
+    pub tagged: bool,
+    /// A record may have several values, numbered from 1.
+    pub multi: bool,
+    /// A record is stored only with a value.
+    pub not_null: bool,
+    /// A Long that is a sum, to which sessions add at the same time. It starts at 0.
+    pub escrow: bool,
+    /// A Long that counts the replaces of its record.
+    pub version: bool,
+    /// A Long that is drawn from the table's rising numbers for each new record.
+    pub auto: bool,
+}
+
+impl Column {
+    /// Another value that is equal.
+    pub fn copy(&self) -> Result<Column, OutOfMemory>
+        ensures { IfOk result (λ made. made ≡ self.now) }
+    {
+        Ok(self.clone()?)
+    }
+}
+
+impl Clone for Column {
+    ghost is_clone = { λ a b. b ≡ a };
+
+    fn clone(&self) -> Result<Column, AllocError> {
+        Ok(Column {
+            id: self.id,
+            name: self.name.clone()?,
+            kind: self.kind,
+            tagged: self.tagged,
+            multi: self.multi,
+            not_null: self.not_null,
+            escrow: self.escrow,
+            version: self.version,
+            auto: self.auto,
+        })
+    }
+}
+
+/// The columns of a table, by rising number.
+pub type Columns = Items<Column>;
+
+#[cfg(test)]
+mod tests {
+    use super::*;
+    use std::test::Fail;
+
+    #[test]
+    fn a_column_is_copied(rt: HostRuntime) -> Result<(), Fail> {
+        let column = Column {
+            id: ColumnId(1),
+            name: Name::new(rt.alloc(), "id")?,
+            kind: ColType::Long,
+            tagged: false,
+            multi: false,
+            not_null: true,
+            escrow: false,
+            version: false,
+            auto: false,
+        };
+        let other = column.copy()?;
+        assert!(rt; other.name == column.name);
+        assert!(rt; other.not_null);
+        Ok(())
+    }
+}
