@@ -1,0 +1,4 @@
+pub mod KeyBytes
+pub mod KeyOrder
+pub mod KeySoFar
+pub mod Spelling
