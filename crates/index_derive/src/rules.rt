@@ -1,0 +1,155 @@
+//! What an index holds, and the schema of a table.
+
+ghost use Rattle.std.specs.Prelude.{◌≡◌, IfOk};
+
+use column_set::Columns;
+use jet_base::{ColumnId, IndexId, Items, Name, OutOfMemory};
+use std::alloc::AllocError;
+
+/// A column of an index's key.
+#[derive(Clone, Copy, Debug, PartialEq, Eq)]
+pub struct Segment {
+    pub column: ColumnId,
+    /// Greater values come first.
+    pub descending: bool,
+}
+
+/// A condition that a record meets to stand in the index.
+#[derive(Clone, Copy, Debug, PartialEq, Eq)]
+pub struct Condition {
+    pub column: ColumnId,
+    /// The column has no value. Otherwise: it has one.
+    pub must_be_null: bool,
+}
+
+/// The flags of an index, in the order in which files number them from 0.
+#[derive(Clone, Copy, Debug, PartialEq, Eq)]
+pub struct IndexFlags {
+    /// Records are kept in the order of this index, and its keys are their bookmarks.
+    pub primary: bool,
+    /// No two records have an equal key.
+    pub unique: bool,
+    /// A record with a NULL in its key is refused.
+    pub disallownull: bool,
+    /// An entry of which all columns are NULL is left out.
+    pub ignorenull: bool,
+    /// An entry of which any column is NULL is left out.
+    pub ignoreanynull: bool,
+    /// An entry of which the first column is NULL is left out.
+    pub ignorefirstnull: bool,
+    /// NULL comes after all values.
+    pub sortnullshigh: bool,
+    /// There is an entry for each combination of the values of columns with several.
+    pub crossproduct: bool,
+    /// A record with a key that would be cut is refused.
+    pub disallowtruncation: bool,
+    /// There is an entry for each part of a text.
+    pub tuples: bool,
+}
+
+/// The rule of an index: which entries a record has in it.
+#[derive(Debug, Drop)]
+pub struct IndexRule {
+    /// Its number, from 1.
+    pub id: IndexId,
+    /// Its name, which no other index of the table has.
+    pub name: Name,
+    /// Its order of making: one above the greatest that stood in the table when it was made, 1 for the first.
+    pub order: u32,
+    /// The columns of its key, in their order: 1 to 12.
+    pub segments: Items<Segment>,
+    pub flags: IndexFlags,
+    /// A record stands in it where it meets all of them: 0 to 12.
+    pub conditions: Items<Condition>,
+    /// Keys are cut at so many bytes: 255, or 256 to 500.
+    pub key_most: u16,
+}
+
+impl IndexRule {
+    /// Another value that is equal.
+    pub fn copy(&self) -> Result<IndexRule, OutOfMemory>
+        ensures { IfOk result (λ made. made ≡ self.now) }
+    {
+        Ok(self.clone()?)
+    }
+}
+
+impl Clone for IndexRule {
+    ghost is_clone = { λ a b. b ≡ a };
+
+    fn clone(&self) -> Result<IndexRule, AllocError> {
+        Ok(IndexRule {
+            id: self.id,
+            name: self.name.clone()?,
+            order: self.order,
+            segments: self.segments.clone()?,
+            flags: self.flags,
+            conditions: self.conditions.clone()?,
+            key_most: self.key_most,
+        })
+    }
+}
+
+/// The columns and indexes of a table.
+#[derive(Debug, Drop)]
+pub struct Schema {
+    /// By rising number.
+    pub columns: Columns,
+    /// The primary index first, then by rising order of making.
+    pub indexes: Items<IndexRule>,
+}
+
+impl Schema {
+    /// Another value that is equal.
+    pub fn copy(&self) -> Result<Schema, OutOfMemory>
+        ensures { IfOk result (λ made. made ≡ self.now) }
+    {
+        Ok(Schema {
+            columns: self.columns.copy()?,
+            indexes: self.indexes.copy()?,
+        })
+    }
+}
+
+#[cfg(test)]
+mod tests {
+    use super::*;
+    use std::test::Fail;
+
+    #[test]
+    fn a_schema_is_copied(rt: HostRuntime) -> Result<(), Fail> {
+        let mut schema = Schema {
+            columns: Items::empty(rt.alloc()),
+            indexes: Items::empty(rt.alloc()),
+        };
+        let mut segments = Items::empty(rt.alloc());
+        segments.push(Segment {
+            column: ColumnId(1),
+            descending: true,
+        })?;
+        schema.indexes.push(IndexRule {
+            id: IndexId(1),
+            name: Name::new(rt.alloc(), "pk")?,
+            order: 1,
+            segments,
+            flags: IndexFlags {
+                primary: true,
+                unique: true,
+                disallownull: false,
+                ignorenull: false,
+                ignoreanynull: false,
+                ignorefirstnull: false,
+                sortnullshigh: false,
+                crossproduct: false,
+                disallowtruncation: false,
+                tuples: false,
+            },
+            conditions: Items::empty(rt.alloc()),
+            key_most: 255,
+        })?;
+        let copy = schema.copy()?;
+        assert_eq!(rt; copy.indexes.as_slice().len(), 1);
+        assert!(rt; copy.indexes.as_slice()[0].name == schema.indexes.as_slice()[0].name);
+        Ok(())
+    }
+}
