@@ -1,0 +1,12 @@
+pub mod Refusals
+pub mod Table
+pub mod Changes
+pub mod State
+pub mod View
+pub mod Conflicts
+pub mod VersionStore
+pub mod Puts
+pub mod SchemaChanges
+pub mod Step
+pub mod Lawful
+pub mod Equivalence
