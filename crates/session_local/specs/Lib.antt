@@ -1,0 +1,11 @@
+pub mod Answer
+pub mod Local
+pub mod Outcome
+pub mod SessionCalls
+pub mod SchemaCalls
+pub mod CursorCalls
+pub mod RecordCalls
+pub mod Calls
+pub mod Run
+pub mod Computing
+pub mod Agreement
