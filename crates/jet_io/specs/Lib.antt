@@ -1,0 +1,4 @@
+pub mod Faults
+pub mod Schedule
+pub mod Memory
+pub mod System

@@ -1,0 +1,51 @@
+//! How often an object of the outside has failed.
+
+ghost use Rattle.std.specs.Prelude.{◌≡◌, ℕ, ◌+◌, ◌-◌, ◌^◌, min};
+
+use crate::rises::Rises;
+use std::marker::Model;
+
+/// A count of faults. It rises by one with each fault and never falls.
+///
+/// A clause sees the count itself, which has no greatest value. Code reads it as a `u64`, which stays
+/// at 2^64 - 1 once it is there.
+#[derive(Drop)]
+pub struct FaultCount {
+    shown: u64,
+    rises: Rises,
+}
+
+impl Model for FaultCount {
+    ghost Value = { ℕ };
+
+    ghost view = { λ c. c.rises.total };
+
+    ghost invariant = { λ c. c.shown ≡ min c.rises.total (2 ^ 64 - 1) };
+}
+
+impl FaultCount {
+    /// No fault yet.
+    pub fn new() -> FaultCount
+        ensures { result ≡ 0 }
+    {
+        FaultCount {
+            shown: 0,
+            rises: Rises::new(),
+        }
+    }
+
+    /// Counts one fault.
+    pub fn rise(&mut self)
+        ensures { self.new ≡ self.old + 1 }
+    {
+        self.rises.rise();
+        self.shown = self.shown.saturating_add(1);
+    }
+
+    /// The count, or 2^64 - 1 where it is greater.
+    pub fn shown(&self) -> u64
+        ensures { result ≡ min self.now (2 ^ 64 - 1) }
+    {
+        self.shown
+    }
+}
