@@ -1,0 +1,5 @@
+pub mod Gate
+pub mod Bytes
+pub mod FileLemmas
+pub mod Calls
+pub mod Outcomes

@@ -1,0 +1,6 @@
+use Rattle.jet_volume.proofs.Calls.{settled_anew}
+use Rattle.jet_volume.proofs.memory.MemVolume.of_files.Goals as goal
+
+pub returns-clause-settled : goal.returns-clause-settled
+returns-clause-settled c =
+    settled_anew (record { contents = c.of_files.result; calls = c.new.result; schedule = c.new-3.result; faults = c.new-4.result; short = c.new-5.result }) c.new.ensures.items

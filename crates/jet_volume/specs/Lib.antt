@@ -1,0 +1,10 @@
+pub mod Image
+pub mod Crash
+pub mod Moments
+pub mod Published
+pub mod Record
+pub mod RecordLaws
+pub mod Covers
+pub mod Memory
+pub mod Names
+pub mod Disk
