@@ -1,0 +1,6 @@
+pub mod Edits
+pub mod Keys
+pub mod Kept
+pub mod Nodes
+pub mod Spelled
+pub mod Words

@@ -1,0 +1,11 @@
+//! Pages of 4,096 bytes: sorted lists of nodes, each a key with data in a place of fixed extent.
+#![tactic(auto)]
+
+mod offsets;
+mod page;
+mod spelling;
+
+pub use page::{BadPage, Full, Page};
+
+#[cfg(test)]
+mod tests;
