@@ -1,0 +1,27 @@
+-- Each part is at most half of all and of one node more.
+use Rattle.std.proofs.Common.{◌+◌, ◌-◌, arith}
+use Rattle.btree_node.specs.Cut.{sizes_with}
+use Rattle.btree_node.proofs.Sizes.{cut_here, cut_last, length-sizes_with, sizes_small, sum-take-more, nodes_are_some}
+use Rattle.btree_node.proofs.split_at.Goals as goal
+
+pub loop-m-preserved : goal.loop-m-preserved
+loop-m-preserved c =
+    let sizes = sizes_with c.args.page.now.nodes c.args.i c.args.need in
+    let small = sizes_small c.args.page.now.nodes c.args.i c.args.need c.requires.place c.requires.small c.requires.all_small c.loop-m.m (omega (arith, c.loop-m-test.true, c.len-count.ensures.value)) in
+    let more = sum-take-more sizes c.loop-m.m (omega (arith, c.loop-m-test.true, c.len-count.ensures.value, length-sizes_with c.args.page.now.nodes c.args.i c.args.need c.requires.place)) in
+    record {
+      within = omega arith;
+      sum = omega (arith, c.loop-m.invariant.sum, c.size_with-size.ensures, more);
+      left = omega (arith, c.if-before-size.false, c.used.ensures.within, c.requires.small, small, c.size_with-size.ensures);
+    }
+
+pub returns-after-loop-m : goal.returns-after-loop-m
+returns-after-loop-m c =
+    cut_last c.args.page.now.nodes c.args.i c.args.need c.loop-m.m c.loop-m.before c.requires.place c.requires.small c.requires.all_small (nodes_are_some c.args.page.now.nodes c.args.need c.requires.full c.requires.small)
+    (omega (arith, c.loop-m-test.false, c.loop-m.invariant.within, c.len-count.ensures.value)) c.loop-m.invariant.sum c.loop-m.invariant.left
+
+pub returns-then-before-size : goal.returns-then-before-size
+returns-then-before-size c =
+    cut_here c.args.page.now.nodes c.args.i c.args.need c.loop-m.m c.loop-m.before c.size_with-size.result (c.used.result - 32 + c.args.need) c.requires.place c.requires.small c.requires.all_small
+    (omega (arith, c.loop-m-test.true, c.len-count.ensures.value)) c.loop-m.invariant.sum c.loop-m.invariant.left c.size_with-size.ensures (omega (arith, c.used.ensures.value)) c.if-before-size.true
+    (omega (arith, c.requires.full, c.used.ensures.value)) (omega (arith, c.used.ensures.within, c.requires.small))
