@@ -1,0 +1,149 @@
+//! The space of pages: frames in memory, each taken or free.
+#![tactic(auto)]
+
+ghost use Rattle.std.specs.Prelude.{◌≡◌, ℕ, ◌<◌, ◌≤◌, ◌↔◌, Some, None, [], length, slice_set, IfOk, IsSome, IsTrue, OnErr, All};
+ghost use Rattle.std.specs.Borrow.{sem};
+ghost use Rattle.page_space.specs.Frames.{IsTaken, Takes, page_at};
+ghost use Rattle.page_space.specs.Lending.{LendsPage};
+
+use page_image::Page;
+use std::alloc::{AllocError, AllocFailed, Global};
+use std::marker::Model;
+use thiserror::Error;
+
+/// The most pages of a space: 64 GiB of them.
+const MAX_PAGES: usize = 16_777_216;
+
+/// The kind of a page that was taken and not written yet.
+const LEAF: u8 = 1;
+
+/// There was no memory for one more page.
+#[derive(Debug, Drop, Error)]
+#[error("out of memory")]
+pub struct OutOfMemory;
+
+impl From<AllocError> for OutOfMemory {
+    fn from(_: AllocError) -> OutOfMemory {
+        OutOfMemory
+    }
+}
+
+impl<T: Drop> From<AllocFailed<T>> for OutOfMemory {
+    fn from(_: AllocFailed<T>) -> OutOfMemory {
+        OutOfMemory
+    }
+}
+
+/// Pages by their numbers, which begin at 0. A page keeps its bytes while it is taken.
+#[derive(Drop)]
+pub struct Space {
+    pages: Vec<Page>,
+    taken: Vec<bool>,
+    // The numbers of the free pages, with room for all, so that giving back takes no memory.
+    free: Vec<u32>,
+}
+
+impl Model for Space {
+    ghost use Rattle.page_space.specs.Frames.{Frames};
+
+    ghost Value = { Frames };
+
+    ghost use Rattle.page_space.specs.Held.{IsKept, frames};
+
+    ghost view = { frames };
+
+    ghost invariant = { IsKept };
+}
+
+impl Space {
+    /// A space with no page.
+    pub fn new(alloc: Global) -> Space
+        ensures { result ≡ [] }
+    {
+        Space {
+            pages: Vec::new(alloc),
+            taken: Vec::new(alloc),
+            free: Vec::new(alloc),
+        }
+    }
+
+    /// How many pages there are, taken and free.
+    pub fn len(&self) -> usize
+        ensures value { result ≡ length self.now }
+        ensures limit { result ≤ 16777216 }
+    {
+        self.pages.len()
+    }
+
+    /// Whether a page is taken.
+    pub fn is_taken(&self, page: u32) -> bool
+        ensures { IsTrue result ↔ IsTaken self.now page }
+    {
+        let page = page as usize;
+        page < self.taken.len() && self.taken[page]
+    }
+
+    /// A page that is taken.
+    pub fn page(&self, page: u32) -> &Page
+        requires { IsTaken self.now page }
+        ensures { page_at self.now page ≡ Some result.now }
+    {
+        &self.pages[page as usize]
+    }
+
+    /// A page that is taken, to be written.
+    pub fn page_mut(&mut self, page: u32) -> &mut Page
+        requires { IsTaken self.old page }
+        ensures* writes_back { sem 𝓛 (LendsPage self.entry page result) }
+        ensures value { page_at self.old page ≡ Some result.now }
+    {
+        &mut self.pages[page as usize]
+    }
+
+    /// Takes a free page, or one more page where none is free: a leaf with no node. It is refused
+    /// for want of memory alone, also past 16,777,216 pages.
+    pub fn take(&mut self) -> Result<u32, OutOfMemory>
+        ensures ok { IfOk result (λ page. Takes self.old page self.new) }
+        ensures err { OnErr result (self.new ≡ self.old) }
+        ensures none_free { OnErr result (All IsSome self.old) }
+    {
+        match self.free.pop() {
+            Some(page) => {
+                self.pages[page as usize] = Page::empty(page, LEAF);
+                self.taken[page as usize] = true;
+                Ok(page)
+            }
+            None => self.grow(),
+        }
+    }
+
+    /// Takes one more page, where none is free.
+    fn grow(&mut self) -> Result<u32, OutOfMemory>
+        requires { All IsSome self.old }
+        ensures ok { IfOk result (λ page. Takes self.old page self.new) }
+        ensures err { OnErr result (self.new ≡ self.old) }
+    {
+        let count = self.pages.len();
+        if count >= MAX_PAGES {
+            return Err(OutOfMemory);
+        }
+        let page = count as u32;
+        self.free.reserve(count + 1)?;
+        self.taken.reserve(1)?;
+        self.pages.push(Page::empty(page, LEAF))?;
+        self.taken.push(true)?;
+        Ok(page)
+    }
+
+    /// Makes a page free, which takes no memory.
+    pub fn give_back(&mut self, page: u32)
+        requires { IsTaken self.old page }
+        ensures { self.new ≡ slice_set self.old page None }
+    {
+        self.taken[page as usize] = false;
+        let _ = self.free.push(page);
+    }
+}
+
+#[cfg(test)]
+mod tests;
