@@ -1,0 +1,127 @@
+-- The last node up to a key, found from the right.
+use Rattle.std.proofs.Common.{◌≡◌, ℕ, suc, ◌+◌, ◌-◌, ◌<◌, ◌≤◌, Bool, true, false, Option, Some, None, List, [], ◌∷◌, ◌++◌, length, take, drop, get_or, refl, sym, ap, subst, ◌∙◌, arith, cond}
+use Rattle.std.specs.Prelude.{find, reverse, All}
+use Rattle.std.specs.List.{flat_map}
+use Rattle.std.specs.Option.{option_or}
+use Rattle.std.specs.Ordering.{nat_cmp, ordering_reverse, is_le}
+use Rattle.std.specs.declared.cmp.Ordering.{Ordering}
+use Rattle.std.specs.declared.cmp.Ordering.TheVariants.{Less, Equal, Greater}
+use Rattle.std.specs.Cmp.Lexicographic.{slice_cmp}
+use Rattle.std.proofs.lemmas.Cmp.{nat_list_cmp_total}
+use Rattle.std.proofs.lemmas.List.{take-append-drop, take_more, get_or-take, get_or-drop, length-take-le, length-drop, length-reverse, append-nil, append_assoc, get_or-reverse, reverse-append, get_or_default}
+use Rattle.std.proofs.lemmas.List.Concat.{flat_map-append}
+use Rattle.std.proofs.lemmas.List.Folds.{find-append}
+use Rattle.page_image.specs.Page.{Node, no_node, node_at, IsBelow, HasRisingKeys, IsInsertPlace}
+use Rattle.page_space.specs.Frames.{Frames}
+use Rattle.btree_node.specs.Cut.{IsChildPlace}
+use Rattle.btree_inplace.specs.Order.{is_upto}
+use Rattle.btree_inplace.specs.Neighbors.{last_of, found_left}
+use Rattle.btree_inplace.specs.Shape.{IsSubtree, child_of, entries, page_in}
+use Rattle.btree_inplace.proofs.Below.{All-flat_map, before_child, behind_child, find-all, find-any, find-any_front, find-none, find-none_before, flat_map-around, itself, or_none, or_some}
+
+upto_above : (r : Ordering) → ordering_reverse r ≡ Less → is_le r ≡ false
+upto_above Less e = cc
+upto_above Equal e = cc
+upto_above Greater e = refl
+
+upto_below : (r : Ordering) → r ≡ Less → is_le r ≡ true
+upto_below Less e = refl
+upto_below Equal e = cc
+upto_below Greater e = cc
+
+upto_itself : (r : Ordering) → r ≡ Equal → is_le r ≡ true
+upto_itself Less e = cc
+upto_itself Equal e = refl
+upto_itself Greater e = cc
+
+is_upto-above : (n : Node) (key : List ℕ) → IsBelow key n.key → is_upto key n ≡ false
+is_upto-above n key h = upto_above (slice_cmp nat_cmp n.key key) (sym (nat_list_cmp_total.antisymm key n.key) ∙ h)
+
+is_upto-below : (n : Node) (key : List ℕ) → IsBelow n.key key → is_upto key n ≡ true
+is_upto-below n key h = upto_below (slice_cmp nat_cmp n.key key) h
+
+is_upto-itself : (n : Node) (key : List ℕ) → n.key ≡ key → is_upto key n ≡ true
+is_upto-itself n key e = ap (λ (k : List ℕ). is_le (slice_cmp nat_cmp k key)) e ∙ upto_itself (slice_cmp nat_cmp key key) (itself (slice_cmp nat_cmp key key) (nat_list_cmp_total.antisymm key key))
+
+All-reverse : {X : Type 0} (P : X → Type 0) (xs : List X) → All P xs → All P (reverse xs)
+All-reverse P xs all k d h =
+    let within : k < length xs = omega (arith, length-reverse xs) in
+    subst P (sym (get_or-reverse xs k d within)) (all (length xs - 1 - k) d (omega arith))
+
+-- the last node that passes, where none behind it does
+find-last : (p : Node → Bool) (nodes : List Node) (i : ℕ) → i < length nodes → ((k : ℕ) → i < k → k < length nodes → p (node_at nodes k) ≡ false) → p (node_at nodes i) ≡ true → find p (reverse nodes) ≡ Some (node_at nodes i)
+find-last p nodes i h none here =
+    let n = node_at nodes i in
+    let behind : All (λ m. p m ≡ false) (drop (i + 1) nodes) = λ k d lt.
+    let within : i + 1 + k < length nodes = omega (arith, length-drop (i + 1) nodes) in
+    let same : get_or (drop (i + 1) nodes) k d ≡ node_at nodes (i + 1 + k) = get_or-drop (i + 1) nodes k d ∙ get_or_default nodes (i + 1 + k) d no_node within in
+    ap p same ∙ none (i + 1 + k) (omega arith) within in
+    let whole : nodes ≡ (take i nodes ++ n ∷ []) ++ drop (i + 1) nodes = sym (take-append-drop (i + 1) nodes) ∙ ap (λ (x : List Node). x ++ drop (i + 1) nodes) (take_more nodes i no_node h) in
+    ap (λ (x : List Node). find p (reverse x)) whole
+    ∙ ap (find p) (reverse-append (take i nodes ++ n ∷ []) (drop (i + 1) nodes))
+    ∙ find-none_before p (reverse (drop (i + 1) nodes)) (reverse (take i nodes ++ n ∷ [])) (All-reverse (λ m. p m ≡ false) (drop (i + 1) nodes) behind)
+    ∙ ap (find p) (reverse-append (take i nodes) (n ∷ []))
+    ∙ ap (λ b. cond b (Some n) (find p (reverse (take i nodes)))) here
+
+pub upto_found : (nodes : List Node) (key : List ℕ) (i : ℕ) → HasRisingKeys nodes → i < length nodes → (node_at nodes i).key ≡ key → find (is_upto key) (reverse nodes) ≡ Some (node_at nodes i)
+upto_found nodes key i rising h here = find-last (is_upto key) nodes i h
+    (λ k lt within. is_upto-above (node_at nodes k) key (subst (λ (x : List ℕ). IsBelow x (node_at nodes k).key) here (rising i k no_node lt within)))
+    (is_upto-itself (node_at nodes i) key here)
+
+pub upto_place : (nodes : List Node) (key : List ℕ) (i : ℕ) → IsInsertPlace nodes key i → 1 ≤ i → find (is_upto key) (reverse nodes) ≡ Some (node_at nodes (i - 1))
+upto_place nodes key i place some = find-last (is_upto key) nodes (i - 1) (omega (arith, place.within))
+    (λ k lt within. is_upto-above (node_at nodes k) key (place.above k (omega arith) within))
+    (is_upto-below (node_at nodes (i - 1)) key (place.below (i - 1) (omega arith)))
+
+pub upto_none : (nodes : List Node) (key : List ℕ) → IsInsertPlace nodes key 0 → find (is_upto key) (reverse nodes) ≡ None
+upto_none nodes key place = find-none (is_upto key) (reverse nodes) (All-reverse (λ m. is_upto key m ≡ false) nodes (λ k d h. ap (is_upto key) (get_or_default nodes k d no_node h) ∙ is_upto-above (node_at nodes k) key (place.above k (omega arith) h)))
+
+-- The children behind the one that a key belongs to have no node up to the key, and those before it no other.
+find_upto : (depth : ℕ) (frames : Frames) (page : ℕ) (key : List ℕ) (i : ℕ) → IsSubtree (suc depth) frames page → IsChildPlace (page_in frames page).nodes key i → find (is_upto key) (reverse (entries (suc depth) frames page)) ≡ option_or (find (is_upto key) (reverse (entries depth frames (child_of (node_at (page_in frames page).nodes i))))) (find (λ _. true) (reverse (flat_map (λ n. entries depth frames (child_of n)) (take i (page_in frames page).nodes))))
+find_upto depth frames page key i tree place =
+    let nodes = (page_in frames page).nodes in
+    let f : Node → List Node = λ n. entries depth frames (child_of n) in
+    let rising = tree.0.page.rising in
+    let a = flat_map f (take i nodes) in
+    let b = f (node_at nodes i) in
+    let z = flat_map f (drop (i + 1) nodes) in
+    let before : All (λ n. is_upto key n ≡ true) a = All-flat_map (λ n. is_upto key n ≡ true) f (take i nodes)
+    (λ k d h k' d' h'.
+    let early : k < i = omega (arith, length-take-le i nodes (omega (arith, place.within))) in
+    let same : get_or (take i nodes) k d ≡ node_at nodes k = get_or-take i nodes k d early ∙ get_or_default nodes k d no_node (omega (arith, place.within)) in
+    subst (λ (n : Node). (j : ℕ) (e : Node) → j < length (f n) → is_upto key (get_or (f n) j e) ≡ true) (sym same)
+    (λ j e g. is_upto-below (get_or (f (node_at nodes k)) j e) key (before_child nodes (f (node_at nodes k)) key i k rising place early (tree.3 k (omega (arith, place.within))) j e g)) k' d' h') in
+    let behind : All (λ n. is_upto key n ≡ false) z = All-flat_map (λ n. is_upto key n ≡ false) f (drop (i + 1) nodes)
+    (λ k d h k' d' h'.
+    let within : i + 1 + k < length nodes = omega (arith, length-drop (i + 1) nodes) in
+    let same : get_or (drop (i + 1) nodes) k d ≡ node_at nodes (i + 1 + k) = get_or-drop (i + 1) nodes k d ∙ get_or_default nodes (i + 1 + k) d no_node within in
+    subst (λ (n : Node). (j : ℕ) (e : Node) → j < length (f n) → is_upto key (get_or (f n) j e) ≡ false) (sym same)
+    (λ j e g. is_upto-above (get_or (f (node_at nodes (i + 1 + k))) j e) key (behind_child nodes (f (node_at nodes (i + 1 + k))) key i (i + 1 + k) rising place (omega arith) within (tree.3 (i + 1 + k) within) j e g)) k' d' h') in
+    let turned : reverse (a ++ (b ++ z)) ≡ reverse z ++ (reverse b ++ reverse a) = reverse-append a (b ++ z) ∙ ap (λ (x : List Node). x ++ reverse a) (reverse-append b z) ∙ append_assoc (reverse z) (reverse b) (reverse a) in
+    ap (λ (x : List Node). find (is_upto key) (reverse x)) (flat_map-around f nodes i no_node place.within)
+    ∙ ap (find (is_upto key)) turned
+    ∙ find-none_before (is_upto key) (reverse z) (reverse b ++ reverse a) (All-reverse (λ n. is_upto key n ≡ false) z behind)
+    ∙ find-append (is_upto key) (reverse b) (reverse a)
+    ∙ ap (option_or (find (is_upto key) (reverse b))) (find-all (is_upto key) (reverse a) (All-reverse (λ n. is_upto key n ≡ true) a before))
+
+-- with a child before the path, that child is the neighbor
+pub left_child : (depth : ℕ) (frames : Frames) (page : ℕ) (key : List ℕ) (i : ℕ) (next : Option (ℕ × ℕ)) → IsSubtree (suc depth) frames page → IsChildPlace (page_in frames page).nodes key i → 0 < i → found_left frames depth (child_of (node_at (page_in frames page).nodes i)) (Some (child_of (node_at (page_in frames page).nodes (i - 1)), depth)) key ≡ found_left frames (suc depth) page next key
+left_child depth frames page key i next tree place more =
+    let nodes = (page_in frames page).nodes in
+    let f : Node → List Node = λ n. entries depth frames (child_of n) in
+    let one = f (node_at nodes (i - 1)) in
+    let some = (tree.3 (i - 1) (omega (arith, place.within))).some in
+    let front : take i nodes ≡ take (i - 1) nodes ++ node_at nodes (i - 1) ∷ [] = ap (λ k. take k nodes) (omega arith) ∙ take_more nodes (i - 1) no_node (omega (arith, place.within)) in
+    let parts : flat_map f (take i nodes) ≡ flat_map f (take (i - 1) nodes) ++ one = ap (flat_map f) front ∙ flat_map-append f (take (i - 1) nodes) (node_at nodes (i - 1) ∷ []) ∙ ap (λ (x : List Node). flat_map f (take (i - 1) nodes) ++ x) (append-nil one) in
+    let rest : find (λ _. true) (reverse (flat_map f (take i nodes))) ≡ find (λ _. true) (reverse one) = ap (λ (x : List Node). find (λ _. true) (reverse x)) parts ∙ ap (find (λ _. true)) (reverse-append (flat_map f (take (i - 1) nodes)) one) ∙ find-any_front (reverse one) (reverse (flat_map f (take (i - 1) nodes))) (omega (arith, length-reverse one, some)) in
+    let a = find (is_upto key) (reverse (f (node_at nodes i))) in
+    sym (ap (λ r. option_or r (last_of frames next)) (find_upto depth frames page key i tree place)
+    ∙ or_some a (find (λ _. true) (reverse (flat_map f (take i nodes)))) (last_of frames next) (node_at (reverse one) 0) (rest ∙ find-any (reverse one) (omega (arith, length-reverse one, some)))
+    ∙ ap (option_or a) rest)
+
+-- with no child before the path, the neighbor stays
+pub left_end : (depth : ℕ) (frames : Frames) (page : ℕ) (key : List ℕ) (next : Option (ℕ × ℕ)) → IsSubtree (suc depth) frames page → IsChildPlace (page_in frames page).nodes key 0 → found_left frames depth (child_of (node_at (page_in frames page).nodes 0)) next key ≡ found_left frames (suc depth) page next key
+left_end depth frames page key next tree place =
+    let nodes = (page_in frames page).nodes in
+    let f : Node → List Node = λ n. entries depth frames (child_of n) in
+    sym (ap (λ r. option_or r (last_of frames next)) (find_upto depth frames page key 0 tree place) ∙ or_none (find (is_upto key) (reverse (f (node_at nodes 0)))) (find (λ _. true) (reverse (flat_map f (take 0 nodes)))) (last_of frames next) refl)

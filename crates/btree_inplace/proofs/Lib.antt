@@ -1,0 +1,4 @@
+pub mod Before
+pub mod Below
+pub mod Changing
+pub mod Staying

@@ -1,0 +1,11 @@
+use Rattle.std.proofs.Common.{◌≡◌, ◌-◌, None}
+use Rattle.btree_inplace.specs.Shape.{IsSubtree}
+use Rattle.btree_inplace.specs.Neighbors.{IsNeighbor, found_right}
+use Rattle.btree_inplace.proofs.Tree.at_or_after.Given as goal
+
+abbrev pub invariant-loop-level : goal.invariant-loop-level
+invariant-loop-level l = record {
+  shape : IsSubtree (l.self.depth - l.level) l.space l.page;
+  beside : IsNeighbor l.space l.next;
+  found : found_right l.space (l.self.depth - l.level) l.page l.next l.key ≡ found_right l.space l.self.depth l.self.root None l.key;
+}

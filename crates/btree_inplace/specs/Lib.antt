@@ -1,0 +1,5 @@
+pub mod Changes
+pub mod Neighbors
+pub mod Order
+pub mod Shape
+pub mod Trees

@@ -1,0 +1,39 @@
+-- What the look-ups of a sorted list of nodes answer.
+use Rattle.std.specs.Prelude.{ℕ, Bool, true, Option, List, find, reverse}
+use Rattle.std.specs.Option.{option_map}
+use Rattle.std.specs.Ordering.{nat_cmp, is_eq, is_le, is_ge}
+use Rattle.std.specs.Cmp.Lexicographic.{slice_cmp}
+use Rattle.page_image.specs.Page.{Node}
+
+abbrev pub has_key : List ℕ → Node → Bool
+has_key key n = is_eq (slice_cmp nat_cmp n.key key)
+
+abbrev pub is_from : List ℕ → Node → Bool
+is_from key n = is_ge (slice_cmp nat_cmp n.key key)
+
+abbrev pub is_upto : List ℕ → Node → Bool
+is_upto key n = is_le (slice_cmp nat_cmp n.key key)
+
+-- the key and the data of a node
+abbrev pub key_and_data : Node → List ℕ × List ℕ
+key_and_data n = (n.key, n.data)
+
+-- the data of the node with a key
+abbrev pub get_in : List Node → List ℕ → Option (List ℕ)
+get_in nodes key = option_map (λ (n : Node). n.data) (find (has_key key) nodes)
+
+-- the first node whose key is not below a key
+abbrev pub at_or_after_in : List Node → List ℕ → Option (List ℕ × List ℕ)
+at_or_after_in nodes key = option_map key_and_data (find (is_from key) nodes)
+
+-- the last node whose key is not above a key
+abbrev pub at_or_before_in : List Node → List ℕ → Option (List ℕ × List ℕ)
+at_or_before_in nodes key = option_map key_and_data (find (is_upto key) (reverse nodes))
+
+-- the first node
+abbrev pub first_in : List Node → Option (List ℕ × List ℕ)
+first_in nodes = option_map key_and_data (find (λ _. true) nodes)
+
+-- the last node
+abbrev pub last_in : List Node → Option (List ℕ × List ℕ)
+last_in nodes = option_map key_and_data (find (λ _. true) (reverse nodes))

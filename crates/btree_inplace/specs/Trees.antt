@@ -1,0 +1,22 @@
+-- A tree in a space: its nodes in key order, and its pages.
+use Rattle.std.specs.Prelude.{◌≡◌, ◌≢◌, ℕ, List, AllPairs, Contains}
+use Rattle.page_image.specs.Page.{Node}
+use Rattle.page_space.specs.Frames.{Frames, page_at}
+use Rattle.btree_inplace.specs.Shape.{IsSubtree, entries, pages}
+use Rattle.btree_inplace.specs.declared.Tree.{Tree}
+
+-- the nodes of a tree
+abbrev pub nodes_of : Frames → Tree → List Node
+nodes_of frames tree = entries tree.depth frames tree.root
+
+-- the pages of a tree, which no other tree has
+abbrev pub pages_of : Frames → Tree → List ℕ
+pages_of frames tree = pages tree.depth frames tree.root
+
+pub record IsTree (frames : Frames) (tree : Tree) : Type 0 where
+  pub shape : IsSubtree tree.depth frames tree.root
+  pub once : AllPairs (λ p q. p ≢ q) (pages_of frames tree)
+
+-- These pages are the same in both spaces.
+abbrev pub Stay : Frames → Frames → List ℕ → Type 0
+Stay old new pages = (p : ℕ) → Contains pages p → page_at new p ≡ page_at old p
