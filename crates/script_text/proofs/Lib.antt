@@ -1,0 +1,9 @@
+pub mod Digits
+pub mod JetNames
+pub mod Cuts
+pub mod WordCounts
+pub mod Decimal
+pub mod NameBytes
+pub mod HexPairs
+pub mod Scripts
+pub mod BuiltLines

@@ -1,0 +1,72 @@
+//! A whole script.
+
+ghost use Rattle.std.specs.Prelude.{◌≡◌, ℕ, Ok, Err, IfOk, IsTrue};
+ghost use Rattle.script_text.specs.FirstPath.{built_lines, may_follow};
+ghost use Rattle.script_text.specs.Grammar.{script_lines};
+ghost use Rattle.script_text.specs.declared.first_path.Stage.TheVariants as stages;
+ghost use Rattle.script_text.specs.Parsed.{calls_of};
+
+use crate::first_path::{Stage, built_call};
+use crate::grammar::is_skipped;
+use crate::parts::Parts;
+use crate::refusal::Refusal;
+use jet_base::Session;
+use session_local::Request;
+use std::alloc::Global;
+use thiserror::Error;
+
+/// Why a script was not parsed.
+#[derive(Clone, Copy, Debug, PartialEq, Eq, Error)]
+pub enum ScriptFault {
+    /// The line of this number, from 1, is the first that is not built. Skipped lines count.
+    #[error("not built line {0}")]
+    NotBuilt(u64),
+    /// There was no memory to keep the calls.
+    #[error("out of memory")]
+    OutOfMemory,
+}
+
+/// The calls of a script in order, line by line.
+fn built_calls(alloc: Global, bytes: &[u8]) -> Result<Vec<(Session, Request)>, ScriptFault>
+    ensures built { IfOk result (λ calls. built_lines bytes.now ≡ Ok (calls_of calls.items)) }
+    ensures not_built { (line : ℕ) → result ≡ Err (ScriptFault.NotBuilt line) → built_lines bytes.now ≡ Err line }
+{
+    let mut calls = Vec::new(alloc);
+    let mut stage = Stage::Fresh;
+    let mut number: u64 = 0;
+    let mut lines = Parts::of(bytes, b'\n');
+    while let Some(line) = lines.next() {
+        number += 1;
+        if is_skipped(line) {
+            continue;
+        }
+        match built_call(alloc, stage, line) {
+            Ok((call, after)) => {
+                match calls.push(call) {
+                    Ok(()) => {}
+                    Err(_) => return Err(ScriptFault::OutOfMemory),
+                }
+                stage = after;
+            }
+            Err(Refusal::Bad) => return Err(ScriptFault::NotBuilt(number)),
+            Err(Refusal::Memory) => return Err(ScriptFault::OutOfMemory),
+        }
+    }
+    Ok(calls)
+}
+
+/// The calls of a script in order, each with the session that makes it.
+///
+/// Names and values are copied; lines and words are read in place. The fault `NotBuilt` comes exactly where some line is
+/// not built, and names the first such line.
+#[tactic(auto, using(crate::proofs::BuiltLines::built))]
+pub fn parse(alloc: Global, bytes: &[u8]) -> Result<Vec<(Session, Request)>, ScriptFault>
+    ensures built { IfOk result (λ calls. built_lines bytes.now ≡ Ok (calls_of calls.items)) }
+    // They are what the grammar reads, and they follow one another as the stages of a built script say.
+    ensures read { IfOk result (λ calls. script_lines bytes.now ≡ Ok (calls_of calls.items)) }
+    ensures staged { IfOk result (λ calls. IsTrue (may_follow stages.Fresh (calls_of calls.items))) }
+    ensures not_built { (line : ℕ) → result ≡ Err (ScriptFault.NotBuilt line) → built_lines bytes.now ≡ Err line }
+{
+    let calls = built_calls(alloc, bytes)?;
+    Ok(calls)
+}
