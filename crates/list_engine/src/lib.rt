@@ -1,0 +1,11 @@
+//! A plain engine over a sorted list, for scripts of one session that make one table, fill it in one transaction and
+//! walk it.
+#![tactic(auto)]
+
+mod engine;
+pub mod laws;
+mod position;
+mod record;
+mod records;
+
+pub use engine::{ListEngine, Served};
