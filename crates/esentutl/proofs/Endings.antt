@@ -1,0 +1,46 @@
+-- How a call ends where no script runs.
+use Rattle.std.proofs.Common.{◌≡◌, inl, inr, refl, ℕ, true, List, [], Option, Some, None, Err, arith}
+use Rattle.std.specs.Io.KnownBytes.{prepend_known}
+use Rattle.esentutl.specs.declared.reading.ReadScriptFault.{ReadScriptFault}
+use Rattle.esentutl.specs.declared.reading.ReadScriptFault.TheVariants as fault
+use Rattle.esentutl.specs.Reading.{ReadsAs, line_of_fault, status_of_fault}
+use Rattle.esentutl.specs.TopCall.{Outside, Ending, too_long, source_failed, want_of_memory, not_built, SaysOnly, SinkIsSound, Took, EndsBy, status_of, accepts}
+
+-- nothing is put in front
+pub prepend_nothing : (known : Option (List ℕ)) → known ≡ prepend_known [] known
+prepend_nothing None = refl
+prepend_nothing (Some bytes) = refl
+
+pub ending_of : ReadScriptFault → Ending
+ending_of fault.Source = source_failed
+ending_of fault.TooLong = too_long
+ending_of (fault.NotBuilt number) = not_built number
+ending_of fault.Memory = want_of_memory
+
+pub status_of-ending_of : (f : ReadScriptFault) → status_of_fault f ≡ status_of (ending_of f)
+unfolding ending_of
+status_of-ending_of fault.Source = refl
+status_of-ending_of fault.TooLong = refl
+status_of-ending_of (fault.NotBuilt number) = refl
+status_of-ending_of fault.Memory = refl
+
+pub accepts-ending_of : (f : ReadScriptFault) → true ≡ accepts (ending_of f)
+unfolding ending_of
+accepts-ending_of fault.Source = refl
+accepts-ending_of fault.TooLong = refl
+accepts-ending_of (fault.NotBuilt number) = refl
+accepts-ending_of fault.Memory = refl
+
+-- a line without a byte says nothing
+says_nothing : (o : Outside) → SaysOnly o [] → SinkIsSound o × Took o []
+says_nothing o (inl whole) = (whole.1, whole.0)
+says_nothing o (inr front) = let never : ⊥ = omega (arith, front.1) in absurd never
+
+pub ends_by_fault : (o : Outside) (text : List ℕ) (f : ReadScriptFault)
+    → ReadsAs (record { left_before = o.left_before; left_after = o.left_after; faults_before = o.source_before; faults_after = o.source_after }) text (Err f)
+    → SaysOnly o (line_of_fault f) → EndsBy o text (ending_of f)
+unfolding ending_of
+ends_by_fault o text fault.Source reads says = (reads, says)
+ends_by_fault o text fault.TooLong reads says = (reads.0, says, reads.1)
+ends_by_fault o text (fault.NotBuilt number) reads says = (reads.0.0, says, reads.0.1, reads.0.2, reads.1)
+ends_by_fault o text fault.Memory reads says = let nothing = says_nothing o says in (reads, nothing.0, inl nothing.1)

@@ -1,0 +1,4 @@
+pub mod LineText
+pub mod RunLaws
+pub mod Endings
+pub mod Completeness

@@ -1,0 +1,142 @@
+-- Runs line by line: what one line more adds.
+use Rattle.std.proofs.Common.{◌≡◌, ℕ, ◌+◌, ◌<◌, Bool, true, false, ◌&&◌, List, [], ◌∷◌, ◌++◌, length, take, drop, refl, sym, ap, ◌∙◌, append_assoc}
+use Rattle.std.proofs.Common.{Option, subst}
+use Rattle.std.specs.Io.KnownBytes.{append_known}
+use Rattle.jet_io.proofs.Known.{append_none, append_twice}
+use Rattle.std.proofs.Common.{get_or, add-one, arith}
+use Rattle.std.proofs.Math.Seq.{take-suc, drop-cons, take-append-add}
+use Rattle.jet_base.specs.declared.ids.Session.{Session}
+use Rattle.session_local.specs.declared.request.Request.{Request}
+use Rattle.script_text.specs.Parsed.{calls_of, call_of}
+use Rattle.std.specs.List.{list_all}
+use Rattle.std.proofs.lemmas.List.{append-nil, map-append, take-map, length-append}
+use Rattle.std.proofs.lemmas.List.Folds.{list_all-append}
+use Rattle.std.proofs.lemmas.Grind.{flat_map-append}
+use Rattle.database_state.specs.State.{empty_state}
+use Rattle.session_local.specs.Run.{RunState, Line, LineOutcome, run_from, rows_from, rows_of_line, run_after, run_after_all, may_come, outcomes_may_come}
+use Rattle.script_text.specs.TranscriptLine.{transcript_of, row_line}
+use Rattle.esentutl.specs.TopCall.{span_limit, is_plain, AreOutcomesOf, run_transcript}
+use Rattle.esentutl.specs.Lines.{line_text, RunsLine, BreaksLine}
+
+-- a line with its outcome
+abbrev pub Served : Type 0
+Served = Line × LineOutcome
+
+abbrev pub first_of_pair : Served → Line
+first_of_pair pair = pair.0
+
+abbrev pub is_plain_pair : Served → Bool
+is_plain_pair pair = is_plain pair.1
+
+pub run_after_all-append : (run : RunState) (pairs : List Served) (pair : Served)
+    → run_after_all span_limit run (pairs ++ pair ∷ []) ≡ run_after span_limit (run_after_all span_limit run pairs) pair.0 pair.1
+run_after_all-append run [] pair = refl
+run_after_all-append run (first ∷ pairs) pair = run_after_all-append (run_after span_limit run first.0 first.1) pairs pair
+
+pub rows_from-append : (run : RunState) (pairs : List Served) (pair : Served)
+    → rows_from span_limit run (pairs ++ pair ∷ []) ≡ rows_from span_limit run pairs ++ rows_of_line span_limit (run_after_all span_limit run pairs) pair.0 pair.1
+rows_from-append run [] pair = append-nil (rows_of_line span_limit run pair.0 pair.1)
+rows_from-append run (first ∷ pairs) pair =
+    ap (λ rows. rows_of_line span_limit run first.0 first.1 ++ rows) (rows_from-append (run_after span_limit run first.0 first.1) pairs pair)
+    ∙ sym (append_assoc (rows_of_line span_limit run first.0 first.1) (rows_from span_limit (run_after span_limit run first.0 first.1) pairs) (rows_of_line span_limit (run_after_all span_limit (run_after span_limit run first.0 first.1) pairs) pair.0 pair.1))
+
+and_true : (a : Bool) → a && true ≡ a
+and_true true = refl
+and_true false = refl
+
+and_assoc : (a b c : Bool) → a && (b && c) ≡ (a && b) && c
+and_assoc true b c = refl
+and_assoc false b c = refl
+
+pub outcomes_may_come-append : (run : RunState) (pairs : List Served) (pair : Served)
+    → outcomes_may_come span_limit run (pairs ++ pair ∷ []) ≡ outcomes_may_come span_limit run pairs && may_come span_limit (run_after_all span_limit run pairs) pair.0 pair.1
+outcomes_may_come-append run [] pair = and_true (may_come span_limit run pair.0 pair.1)
+outcomes_may_come-append run (first ∷ pairs) pair =
+    ap (λ b. may_come span_limit run first.0 first.1 && b) (outcomes_may_come-append (run_after span_limit run first.0 first.1) pairs pair)
+    ∙ and_assoc (may_come span_limit run first.0 first.1) (outcomes_may_come span_limit (run_after span_limit run first.0 first.1) pairs) (may_come span_limit (run_after_all span_limit (run_after span_limit run first.0 first.1) pairs) pair.0 pair.1)
+
+-- the transcript of one line more
+pub run_transcript-append : (pairs : List Served) (pair : Served)
+    → run_transcript (pairs ++ pair ∷ []) ≡ run_transcript pairs ++ line_text (run_after_all span_limit (run_from empty_state) pairs) pair.0 pair.1
+run_transcript-append pairs pair =
+    ap transcript_of (rows_from-append (run_from empty_state) pairs pair)
+    ∙ flat_map-append row_line (rows_from span_limit (run_from empty_state) pairs) (rows_of_line span_limit (run_after_all span_limit (run_from empty_state) pairs) pair.0 pair.1)
+
+both : (a b : Bool) → a ≡ true → b ≡ true → (a && b) ≡ true
+both true b e f = f
+both false b e f = e
+
+-- the outcomes of one line more
+pub AreOutcomesOf-append : (lines : List Line) (pairs : List Served) (line : Line) (outcome : LineOutcome) → AreOutcomesOf lines pairs → is_plain outcome ≡ true
+    → may_come span_limit (run_after_all span_limit (run_from empty_state) pairs) line outcome ≡ true
+    → AreOutcomesOf (lines ++ line ∷ []) (pairs ++ (line, outcome) ∷ [])
+AreOutcomesOf-append lines pairs line outcome so_far plain may =
+    let pair : Served = (line, outcome) in (
+      map-append first_of_pair pairs (pair ∷ []) ∙ ap (λ xs. xs ++ line ∷ []) so_far.0,
+      list_all-append is_plain_pair pairs (pair ∷ []) ∙ both (list_all is_plain_pair pairs) (is_plain outcome && true) so_far.1 (and_true (is_plain outcome) ∙ plain),
+      outcomes_may_come-append (run_from empty_state) pairs pair ∙ both (outcomes_may_come span_limit (run_from empty_state) pairs) (may_come span_limit (run_after_all span_limit (run_from empty_state) pairs) line outcome) so_far.2 may,
+    )
+
+-- What holds before each line: the lines so far had outcomes that they may have, the sink took their transcript, and the
+-- engine can serve the rest.
+pub record SoFar {E : Type 0} (serves : E → RunState → List Line → Type 0) (engine : E) (gone left : List Line) (taken_before taken_now : Option (List ℕ)) : Type 0 where
+  pub pairs : List Served
+  pub outcomes : AreOutcomesOf gone pairs
+  pub ready : serves engine (run_after_all span_limit (run_from empty_state) pairs) left
+  pub taken : taken_now ≡ append_known taken_before (run_transcript pairs)
+
+-- nothing is written yet
+pub none_so_far : {E : Type 0} (serves : E → RunState → List Line → Type 0) (engine : E) (lines : List Line) (taken : Option (List ℕ))
+    → serves engine (run_from empty_state) lines → SoFar serves engine [] lines taken taken
+none_so_far serves engine lines taken ready = record { pairs = []; outcomes = (refl, refl, refl); ready = ready; taken = append_none taken }
+
+-- one line more
+pub one_more : {E : Type 0} (serves : E → RunState → List Line → Type 0) (engine after : E) (gone rest : List Line) (line : Line) (taken_before taken_now taken_after : Option (List ℕ))
+    → SoFar serves engine gone (line ∷ rest) taken_before taken_now → (outcome : LineOutcome) → RunsLine serves engine after line outcome taken_now taken_after
+    → SoFar serves after (gone ++ line ∷ []) rest taken_before taken_after
+one_more serves engine after gone rest line taken_before taken_now taken_after so_far outcome runs =
+    let run = run_after_all span_limit (run_from empty_state) so_far.pairs in
+    let facts = runs.1 run rest so_far.ready in
+    record {
+      pairs = so_far.pairs ++ (line, outcome) ∷ [];
+      outcomes = AreOutcomesOf-append gone so_far.pairs line outcome so_far.outcomes runs.0 facts.0;
+      ready = subst (λ r. serves after r rest) (sym (run_after_all-append (run_from empty_state) so_far.pairs (line, outcome))) facts.1;
+      taken = facts.2 ∙ ap (λ t. append_known t (line_text run line outcome)) so_far.taken
+          ∙ append_twice taken_before (run_transcript so_far.pairs) (line_text run line outcome)
+          ∙ ap (append_known taken_before) (sym (run_transcript-append so_far.pairs (line, outcome)));
+    }
+
+-- ---- the lines that are gone and the lines that are left
+
+pub calls_of-take_more : (lines : List (Session × Request)) (i : ℕ) (line : Session × Request) → line ≡ get_or lines i line → i < length lines
+    → calls_of (take (i + 1) lines) ≡ calls_of (take i lines) ++ call_of line ∷ []
+calls_of-take_more lines i line is below =
+    rw (add-one i, take-suc lines i line below, sym is) (map-append call_of (take i lines) (line ∷ []))
+
+pub calls_of-drop_one : (lines : List (Session × Request)) (i : ℕ) (line : Session × Request) → line ≡ get_or lines i line → i < length lines
+    → calls_of (drop i lines) ≡ call_of line ∷ calls_of (drop (i + 1) lines)
+calls_of-drop_one lines i line is below = rw (add-one i, drop-cons lines i line below, sym is) refl
+
+pub take_calls_of : (lines : List (Session × Request)) (i : ℕ) → calls_of (take i lines) ≡ take i (calls_of lines)
+take_calls_of lines i = sym (take-map call_of i lines)
+
+-- a front of one line's text behind the transcript so far is a front of the transcript with it
+pub broken_line : {E : Type 0} (serves : E → RunState → List Line → Type 0) (engine : E) (gone rest : List Line) (line : Line) (taken_before taken_now taken_after : Option (List ℕ))
+    → SoFar serves engine gone (line ∷ rest) taken_before taken_now → (outcome : LineOutcome) → BreaksLine serves engine line outcome taken_now taken_after
+    → (n : ℕ) × (pairs : List Served) × AreOutcomesOf (gone ++ line ∷ []) pairs × (n < length (run_transcript pairs)) × (taken_after ≡ append_known taken_before (take n (run_transcript pairs)))
+broken_line serves engine gone rest line taken_before taken_now taken_after so_far outcome breaks =
+    let run = run_after_all span_limit (run_from empty_state) so_far.pairs in
+    let facts = breaks.1 run rest so_far.ready in
+    let old = run_transcript so_far.pairs in
+    let text = line_text run line outcome in
+    let whole = run_transcript-append so_far.pairs (line, outcome) in (
+      length old + facts.1.0,
+      so_far.pairs ++ (line, outcome) ∷ [],
+      AreOutcomesOf-append gone so_far.pairs line outcome so_far.outcomes breaks.0 facts.0,
+      rw (whole, length-append old text) (below_sum (length old) facts.1.0 (length text) facts.1.1),
+      rw (whole, take-append-add old text facts.1.0)
+          (facts.1.2 ∙ ap (λ t. append_known t (take facts.1.0 text)) so_far.taken ∙ append_twice taken_before old (take facts.1.0 text)),
+    )
+  where
+    below_sum : (a n m : ℕ) → n < m → a + n < a + m
+    below_sum a n m h = omega arith

@@ -1,0 +1,5 @@
+pub mod Words
+pub mod TopCall
+pub mod Lines
+pub mod Reading
+pub mod RunEnds

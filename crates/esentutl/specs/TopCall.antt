@@ -1,0 +1,129 @@
+-- What a call of the program comes to.
+use Rattle.std.specs.Prelude.{◌≡◌, ℕ, ◌<◌, ◌≤◌, ◌⊎◌, Bool, true, false, List, [], length, map, take, codes, Option, Ok, Err, IfSome}
+use Rattle.std.specs.List.{list_all}
+use Rattle.std.specs.Io.KnownBytes.{append_known}
+use Rattle.database_state.specs.State.{empty_state}
+use Rattle.session_local.specs.Run.{Line, LineOutcome, served, no_memory, flush_failed, unserved, run_from, rows_from, outcomes_may_come}
+use Rattle.script_text.specs.FirstPath.{built_lines}
+use Rattle.script_text.specs.TranscriptLine.{transcript_of}
+use Rattle.esentutl.specs.Words.{last_line, not_built_line}
+
+-- the most bytes of a script, and the limit of the version store's span
+abbrev pub script_limit : ℕ
+script_limit = 16777216
+
+abbrev pub span_limit : ℕ
+span_limit = 4194304
+
+-- ---- runs
+
+-- in this run a line is served, or finds no memory
+abbrev pub is_plain : LineOutcome → Bool
+is_plain served = true
+is_plain no_memory = true
+is_plain (flush_failed reply) = false
+is_plain unserved = false
+
+-- these lines, each with an outcome that it may have
+abbrev pub AreOutcomesOf : List Line → List (Line × LineOutcome) → Type 0
+AreOutcomesOf lines pairs =
+    (map (λ pair. pair.0) pairs ≡ lines)
+    × (list_all (λ pair. is_plain pair.1) pairs ≡ true)
+    × (outcomes_may_come span_limit (run_from empty_state) pairs ≡ true)
+
+-- the transcript of the lines with these outcomes, from the empty database
+abbrev pub run_transcript : List (Line × LineOutcome) → List ℕ
+run_transcript pairs = transcript_of (rows_from span_limit (run_from empty_state) pairs)
+
+-- ---- the outside
+
+-- the source and the sink before a call and after it: their bytes where they tell them, and their counts of faults
+pub record Outside : Type 0 where
+  pub left_before : Option (List ℕ)
+  pub left_after : Option (List ℕ)
+  pub source_before : ℕ
+  pub source_after : ℕ
+  pub taken_before : Option (List ℕ)
+  pub taken_after : Option (List ℕ)
+  pub sink_before : ℕ
+  pub sink_after : ℕ
+
+-- the sink took these bytes more
+abbrev pub Took : Outside → List ℕ → Type 0
+Took o bytes = o.taken_after ≡ append_known o.taken_before bytes
+
+abbrev pub SourceIsSound : Outside → Type 0
+SourceIsSound o = o.source_after ≡ o.source_before
+
+abbrev pub SinkIsSound : Outside → Type 0
+SinkIsSound o = o.sink_after ≡ o.sink_before
+
+-- the source was read to its end
+abbrev pub IsReadOut : Outside → Type 0
+IsReadOut o = IfSome o.left_after (λ rest. rest ≡ [])
+
+-- A sink took all of a line, or a front of it and failed.
+abbrev pub Says : Option (List ℕ) → Option (List ℕ) → ℕ → ℕ → List ℕ → Type 0
+Says before after faults_before faults_after line =
+    ((after ≡ append_known before line) × (faults_after ≡ faults_before))
+    ⊎ ((n : ℕ) × (n < length line) × (after ≡ append_known before (take n line)) × (faults_before < faults_after))
+
+-- The one line that is printed where no script runs.
+abbrev pub SaysOnly : Outside → List ℕ → Type 0
+SaysOnly o line = Says o.taken_before o.taken_after o.sink_before o.sink_after line
+
+-- ---- how a call ends
+
+pub data Ending : Type 0 where
+  -- every line ran
+  done : Ending
+  -- the words are no form of a call
+  bad_words : Ending
+  too_long : Ending
+  source_failed : Ending
+  sink_failed : Ending
+  want_of_memory : Ending
+  -- the first line that is not built
+  not_built : ℕ → Ending
+
+abbrev pub status_of : Ending → ℕ
+status_of done = 0
+status_of bad_words = 1
+status_of too_long = 2
+status_of source_failed = 5
+status_of sink_failed = 6
+status_of want_of_memory = 7
+status_of (not_built number) = 9
+
+-- the words are a form of a call
+abbrev pub accepts : Ending → Bool
+accepts bad_words = false
+accepts _ = true
+
+-- the script is read, is not too long, and these are its lines
+abbrev pub IsScript : Outside → List ℕ → List Line → Type 0
+IsScript o text lines = IsReadOut o × (length text ≤ script_limit) × (built_lines text ≡ Ok lines)
+
+-- What each ending says, over the text that the source gave.
+abbrev pub EndsBy : Outside → List ℕ → Ending → Type 0
+-- the output is the transcript of all lines
+EndsBy o text done =
+    SourceIsSound o × SinkIsSound o
+    × ((lines : List Line) × (pairs : List (Line × LineOutcome)) × IsScript o text lines × AreOutcomesOf lines pairs × Took o (run_transcript pairs))
+EndsBy o text bad_words = SourceIsSound o × SaysOnly o (last_line (codes "words")) × (text ≡ [])
+EndsBy o text too_long =
+    SourceIsSound o × SaysOnly o (last_line (codes "script too long")) × IfSome o.left_before (λ bytes. script_limit < length bytes)
+EndsBy o text source_failed = (o.source_before < o.source_after) × SaysOnly o (last_line (codes "source"))
+-- the output is a front of the transcript of some first lines
+EndsBy o text sink_failed =
+    SourceIsSound o × (o.sink_before < o.sink_after)
+    × ((lines : List Line) × (pairs : List (Line × LineOutcome)) × (count n : ℕ) × IsScript o text lines × AreOutcomesOf (take count lines) pairs
+    × (n < length (run_transcript pairs)) × Took o (take n (run_transcript pairs)))
+-- nothing was printed, or the whole transcript of some first lines
+EndsBy o text want_of_memory =
+    SourceIsSound o × SinkIsSound o
+    × (Took o []
+    ⊎ ((lines : List Line) × (pairs : List (Line × LineOutcome)) × (count : ℕ) × IsScript o text lines × AreOutcomesOf (take count lines) pairs × Took o (run_transcript pairs)))
+EndsBy o text (not_built number) =
+    SourceIsSound o × SaysOnly o (not_built_line number)
+    × IsReadOut o × (length text ≤ script_limit) × (built_lines text ≡ Err number)

@@ -1,0 +1,59 @@
+//! How a call ends: its status, and the last line where no script runs.
+
+ghost use Rattle.std.specs.Prelude.{◌≡◌, ◌<◌, ◌⊎◌, ℕ, List, [], codes, length, take};
+ghost use Rattle.std.specs.Io.KnownBytes.{append_known};
+ghost use Rattle.database_state.specs.State.{empty_state};
+ghost use Rattle.session_local.specs.Run.{run_from};
+ghost use Rattle.script_text.specs.Parsed.{calls_of};
+ghost use Rattle.esentutl.specs.Reading.{line_of_fault, status_of_fault};
+ghost use Rattle.esentutl.specs.TopCall.{Ending, Says, status_of};
+ghost use Rattle.esentutl.specs.RunEnds.{RunEndsBy};
+
+use crate::engine::ScriptEngine;
+use crate::reading::ReadScriptFault;
+use crate::report::{make_last_line, make_not_built_line, say_only};
+use crate::run::{LineFault, run_lines};
+use jet_base::Session;
+use jet_io::Sink;
+use session_local::Request;
+use std::alloc::Global;
+
+/// Tells why a script is not run, by its line and its status. Want of memory has no line.
+pub fn tell<K: Sink>(fault: ReadScriptFault, out: &mut K) -> u8
+    ensures status { result ≡ status_of_fault fault }
+    ensures line { Says (K.taken out.old) (K.taken out.new) (K.faults out.old) (K.faults out.new) (line_of_fault fault) }
+{
+    match fault {
+        ReadScriptFault::Source => {
+            say_only(out, &make_last_line("source"));
+            5
+        }
+        ReadScriptFault::TooLong => {
+            say_only(out, &make_last_line("script too long"));
+            2
+        }
+        ReadScriptFault::NotBuilt(line) => {
+            say_only(out, &make_not_built_line(line));
+            9
+        }
+        ReadScriptFault::Memory => 7,
+    }
+}
+
+/// Runs the calls of a script over an engine that is ready for them.
+pub fn run_script<'a, E: ScriptEngine<'a>, K: Sink>(
+    alloc: Global,
+    engine: &mut E,
+    lines: &'a [(Session, Request)],
+    out: &mut K,
+) -> u8
+    requires { E.serves engine.old (run_from empty_state) (calls_of lines.now) }
+    ensures { (ending : Ending) × (result ≡ status_of ending)
+        × RunEndsBy (calls_of lines.now) (K.taken out.old) (K.taken out.new) (K.faults out.old) (K.faults out.new) ending }
+{
+    match run_lines(alloc, engine, lines, out) {
+        Ok(()) => 0,
+        Err(LineFault::Memory) => 7,
+        Err(LineFault::Sink) => 6,
+    }
+}

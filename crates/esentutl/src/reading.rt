@@ -1,0 +1,59 @@
+//! The reading of a script.
+
+ghost use Rattle.std.specs.Prelude.{◌≡◌, true, ℕ, List, MatchResult, IfOk, Ok, Err};
+ghost use Rattle.std.specs.Io.KnownBytes.{prepend_known};
+ghost use Rattle.script_text.specs.declared.first_path.Stage.TheVariants.{Fresh};
+ghost use Rattle.script_text.specs.FirstPath.{may_follow};
+ghost use Rattle.script_text.specs.Parsed.{calls_of};
+ghost use Rattle.esentutl.specs.Reading.{ReadsAs};
+
+use jet_base::Session;
+use jet_io::{ReadFault, Source, read_to_limit};
+use script_text::{ScriptFault, parse};
+use session_local::Request;
+use std::alloc::Global;
+use thiserror::Error;
+
+/// The most bytes of a script.
+const SCRIPT_LIMIT: usize = 16_777_216;
+
+/// Why a script is not run.
+#[derive(Clone, Copy, Debug, PartialEq, Eq, Error)]
+pub enum ReadScriptFault {
+    /// The source failed.
+    #[error("source")]
+    Source,
+    /// It has more than 16,777,216 bytes.
+    #[error("script too long")]
+    TooLong,
+    /// The first line that is not built, counted from 1.
+    #[error("not built line {0}")]
+    NotBuilt(u64),
+    /// There was no memory for the script.
+    #[error("out of memory")]
+    Memory,
+}
+
+/// Reads a script to its end, and its calls from it.
+pub fn read_script<S: Source>(
+    alloc: Global,
+    script: &mut S,
+) -> Result<Vec<(Session, Request)>, ReadScriptFault>
+    ensures script { (text : List ℕ) × (S.left script.old ≡ prepend_known text (S.left script.new))
+        × MatchResult result
+        (λ lines. ReadsAs (record { left_before = S.left script.old; left_after = S.left script.new; faults_before = S.faults script.old; faults_after = S.faults script.new }) text (Ok lines.items))
+        (λ e. ReadsAs (record { left_before = S.left script.old; left_after = S.left script.new; faults_before = S.faults script.old; faults_after = S.faults script.new }) text (Err e)) }
+    // The calls may be made in turn, all by session 1.
+    ensures staged { IfOk result (λ lines. may_follow Fresh (calls_of lines.items) ≡ true) }
+{
+    match read_to_limit(alloc, script, SCRIPT_LIMIT) {
+        Ok(text) => match parse(alloc, &text) {
+            Ok(lines) => Ok(lines),
+            Err(ScriptFault::NotBuilt(line)) => Err(ReadScriptFault::NotBuilt(line)),
+            Err(ScriptFault::OutOfMemory) => Err(ReadScriptFault::Memory),
+        },
+        Err(ReadFault::Failed) => Err(ReadScriptFault::Source),
+        Err(ReadFault::TooLong) => Err(ReadScriptFault::TooLong),
+        Err(ReadFault::OutOfMemory) => Err(ReadScriptFault::Memory),
+    }
+}
