@@ -1,0 +1,9 @@
+//! Worked examples of runs: scripts with the replies, or the whole transcript, that the definitions give.
+#![tactic(auto)]
+
+pub mod indexes;
+pub mod navigation;
+pub mod records;
+pub mod sessions;
+pub mod transactions;
+pub mod transcripts;

@@ -1,0 +1,2 @@
+pub mod OrdinaryRun
+pub mod Rows
