@@ -16,8 +16,8 @@ use std::{fs, io};
 #[derive(Drop)]
 pub struct Handle<F: Drop> {
     file: F,
-    /// It was made, and the folder has not been synced since.
-    is_made: bool,
+    /// The folder has been synced since the file was opened.
+    is_listed: bool,
 }
 
 impl<F: Read + Write + Seek + OpenFile + Drop> Handle<F> {
@@ -51,12 +51,13 @@ impl<F: Read + Write + Seek + OpenFile + Drop> Handle<F> {
         Ok(())
     }
 
-    /// Syncs the file, and the folder of the volume where the file was made.
+    /// Syncs the file, and the first time its folder too: the file may be new, also where a process that died
+    /// before its first sync has made it.
     pub fn sync<R: Files>(&mut self, rt: &R, name: &String) -> io::Result<()> {
         self.file.sync_all()?;
-        if self.is_made {
+        if !self.is_listed {
             fs::open(rt, folder(name))?.sync_all()?;
-            self.is_made = false;
+            self.is_listed = true;
         }
         Ok(())
     }
@@ -119,20 +120,16 @@ fn open<R: Files>(rt: &R, name: &String, file: File) -> io::Result<Handle<R::Fil
     let path = path_of(name, file)?;
     let mut how = OpenOptions::new();
     how.read(true).write(true);
-    match how.open(rt, path.as_str()) {
-        Ok(file) => Ok(Handle {
-            file,
-            is_made: false,
-        }),
+    let file = match how.open(rt, path.as_str()) {
         Err(error) if error.kind() == ErrorKind::NotFound => {
-            let file = how.create_new(true).open(rt, path.as_str())?;
-            Ok(Handle {
-                file,
-                is_made: true,
-            })
+            how.create_new(true).open(rt, path.as_str())?
         }
-        Err(error) => Err(error),
-    }
+        outcome => outcome?,
+    };
+    Ok(Handle {
+        file,
+        is_listed: false,
+    })
 }
 
 /// The name of a file: that of the volume with the file's ending.
