@@ -2,7 +2,7 @@
 use Rattle.std.proofs.Common.{◌≡◌, ℕ, suc, ◌+◌, ◌<◌, ◌≤◌, inl, inr, Bool, true, false, Option, Some, None, List, [], ◌∷◌, ◌++◌, length, take, drop, get_or, refl, sym, ap, subst, ◌∙◌, arith, cond}
 use Rattle.std.specs.Prelude.{find, reverse, All}
 use Rattle.std.specs.List.{flat_map}
-use Rattle.std.specs.Ordering.{nat_cmp, ordering_reverse, is_eq, is_ge}
+use Rattle.std.specs.Ordering.{nat_cmp, ordering_reverse, is_eq, is_ge, is_gt}
 use Rattle.std.specs.declared.cmp.Ordering.{Ordering}
 use Rattle.std.specs.declared.cmp.Ordering.TheVariants.{Less, Equal, Greater}
 use Rattle.std.specs.Cmp.Lexicographic.{slice_cmp}
@@ -15,7 +15,7 @@ use Rattle.std.proofs.lemmas.List.Elements.{All-nil, All-append, All-head, All-t
 use Rattle.page_image.specs.Page.{Node, no_node, node_at, IsBelow, HasRisingKeys, IsInsertPlace}
 use Rattle.page_space.specs.Frames.{Frames}
 use Rattle.btree_node.specs.Cut.{IsChildPlace}
-use Rattle.btree_inplace.specs.Order.{has_key, is_from}
+use Rattle.btree_inplace.specs.Order.{PassesAbove, has_key, is_above, is_from}
 use Rattle.btree_inplace.specs.Neighbors.{first_of, found_right}
 use Rattle.std.specs.Option.{option_or}
 use Rattle.std.proofs.lemmas.List.Folds.{find-append}
@@ -211,33 +211,70 @@ is_from-below n key h = from_below (slice_cmp nat_cmp n.key key) h
 pub is_from-itself : (n : Node) (key : List ℕ) → n.key ≡ key → is_from key n ≡ true
 is_from-itself n key e = ap (λ (k : List ℕ). is_ge (slice_cmp nat_cmp k key)) e ∙ from_itself (slice_cmp nat_cmp key key) (itself (slice_cmp nat_cmp key key) (nat_list_cmp_total.antisymm key key))
 
+pub is_from-passes : (key : List ℕ) → PassesAbove (is_from key) key
+is_from-passes key = record { below = λ n h. is_from-below n key h; above = λ n h. is_from-above n key h }
+
+above_above : (r : Ordering) → ordering_reverse r ≡ Less → is_gt r ≡ true
+above_above Less e = cc
+above_above Equal e = cc
+above_above Greater e = refl
+
+above_below : (r : Ordering) → r ≡ Less → is_gt r ≡ false
+above_below Less e = refl
+above_below Equal e = cc
+above_below Greater e = cc
+
+above_itself : (r : Ordering) → r ≡ Equal → is_gt r ≡ false
+above_itself Less e = cc
+above_itself Equal e = refl
+above_itself Greater e = cc
+
+pub is_above-above : (n : Node) (key : List ℕ) → IsBelow key n.key → is_above key n ≡ true
+is_above-above n key h = above_above (slice_cmp nat_cmp n.key key) (sym (nat_list_cmp_total.antisymm key n.key) ∙ h)
+
+pub is_above-below : (n : Node) (key : List ℕ) → IsBelow n.key key → is_above key n ≡ false
+is_above-below n key h = above_below (slice_cmp nat_cmp n.key key) h
+
+is_above-itself : (n : Node) (key : List ℕ) → n.key ≡ key → is_above key n ≡ false
+is_above-itself n key e = ap (λ (k : List ℕ). is_gt (slice_cmp nat_cmp k key)) e ∙ above_itself (slice_cmp nat_cmp key key) (itself (slice_cmp nat_cmp key key) (nat_list_cmp_total.antisymm key key))
+
+pub is_above-passes : (key : List ℕ) → PassesAbove (is_above key) key
+is_above-passes key = record { below = λ n h. is_above-below n key h; above = λ n h. is_above-above n key h }
+
+-- no node up to the one with the key is above it
+not_above : (nodes : List Node) (key : List ℕ) (i : ℕ) → HasRisingKeys nodes → i < length nodes → (node_at nodes i).key ≡ key → (k : ℕ) → k < i + 1 → is_above key (node_at nodes k) ≡ false
+not_above nodes key i rising within here k h = elim (cases_eq k i) [
+  | inl at ↦ is_above-itself (node_at nodes k) key (ap (λ j. (node_at nodes j).key) at ∙ here)
+  | inr other ↦ is_above-below (node_at nodes k) key (subst (λ (x : List ℕ). IsBelow (node_at nodes k).key x) here (rising k i no_node (omega arith) within))
+]
+
 -- where all pass, the first is found
 pub find-all : {X : Type 0} (p : X → Bool) (xs : List X) → All (λ x. p x ≡ true) xs → find p xs ≡ find (λ _. true) xs
 find-all p [] all = refl
 find-all p (x ∷ xs) all = rw (All-head (λ y. p y ≡ true) x xs all) refl
 
--- The children before the one that a key belongs to have no node from the key on, and those behind it no other.
-pub find_from : (depth : ℕ) (frames : Frames) (page : ℕ) (key : List ℕ) (i : ℕ) → IsSubtree (suc depth) frames page → IsChildPlace (page_in frames page).nodes key i → find (is_from key) (entries (suc depth) frames page) ≡ option_or (find (is_from key) (entries depth frames (child_of (node_at (page_in frames page).nodes i)))) (find (λ _. true) (flat_map (λ n. entries depth frames (child_of n)) (drop (i + 1) (page_in frames page).nodes)))
-find_from depth frames page key i tree place =
+-- The children before the one that a key belongs to have no node that passes, and those behind it no other.
+pub find_above : (test : Node → Bool) (depth : ℕ) (frames : Frames) (page : ℕ) (key : List ℕ) (i : ℕ) → PassesAbove test key → IsSubtree (suc depth) frames page → IsChildPlace (page_in frames page).nodes key i → find test (entries (suc depth) frames page) ≡ option_or (find test (entries depth frames (child_of (node_at (page_in frames page).nodes i)))) (find (λ _. true) (flat_map (λ n. entries depth frames (child_of n)) (drop (i + 1) (page_in frames page).nodes)))
+find_above test depth frames page key i passes tree place =
     let nodes = (page_in frames page).nodes in
     let f : Node → List Node = λ n. entries depth frames (child_of n) in
     let rising = tree.0.page.rising in
-    let before : All (λ n. is_from key n ≡ false) (flat_map f (take i nodes)) = All-flat_map (λ n. is_from key n ≡ false) f (take i nodes)
+    let before : All (λ n. test n ≡ false) (flat_map f (take i nodes)) = All-flat_map (λ n. test n ≡ false) f (take i nodes)
     (λ k d h k' d' h'.
     let early : k < i = omega (arith, length-take-le i nodes (omega (arith, place.within))) in
     let same : get_or (take i nodes) k d ≡ node_at nodes k = get_or-take i nodes k d early ∙ get_or_default nodes k d no_node (omega (arith, place.within)) in
-    subst (λ (n : Node). (j : ℕ) (e : Node) → j < length (f n) → is_from key (get_or (f n) j e) ≡ false) (sym same)
-    (λ j e g. is_from-below (get_or (f (node_at nodes k)) j e) key (before_child nodes (f (node_at nodes k)) key i k rising place early (tree.3 k (omega (arith, place.within))) j e g)) k' d' h') in
-    let behind : All (λ n. is_from key n ≡ true) (flat_map f (drop (i + 1) nodes)) = All-flat_map (λ n. is_from key n ≡ true) f (drop (i + 1) nodes)
+    subst (λ (n : Node). (j : ℕ) (e : Node) → j < length (f n) → test (get_or (f n) j e) ≡ false) (sym same)
+    (λ j e g. passes.below (get_or (f (node_at nodes k)) j e) (before_child nodes (f (node_at nodes k)) key i k rising place early (tree.3 k (omega (arith, place.within))) j e g)) k' d' h') in
+    let behind : All (λ n. test n ≡ true) (flat_map f (drop (i + 1) nodes)) = All-flat_map (λ n. test n ≡ true) f (drop (i + 1) nodes)
     (λ k d h k' d' h'.
     let within : i + 1 + k < length nodes = omega (arith, length-drop (i + 1) nodes) in
     let same : get_or (drop (i + 1) nodes) k d ≡ node_at nodes (i + 1 + k) = get_or-drop (i + 1) nodes k d ∙ get_or_default nodes (i + 1 + k) d no_node within in
-    subst (λ (n : Node). (j : ℕ) (e : Node) → j < length (f n) → is_from key (get_or (f n) j e) ≡ true) (sym same)
-    (λ j e g. is_from-above (get_or (f (node_at nodes (i + 1 + k))) j e) key (behind_child nodes (f (node_at nodes (i + 1 + k))) key i (i + 1 + k) rising place (omega arith) within (tree.3 (i + 1 + k) within) j e g)) k' d' h') in
-    ap (find (is_from key)) (flat_map-around f nodes i no_node place.within)
-    ∙ find-none_before (is_from key) (flat_map f (take i nodes)) (f (node_at nodes i) ++ flat_map f (drop (i + 1) nodes)) before
-    ∙ find-append (is_from key) (f (node_at nodes i)) (flat_map f (drop (i + 1) nodes))
-    ∙ ap (option_or (find (is_from key) (f (node_at nodes i)))) (find-all (is_from key) (flat_map f (drop (i + 1) nodes)) behind)
+    subst (λ (n : Node). (j : ℕ) (e : Node) → j < length (f n) → test (get_or (f n) j e) ≡ true) (sym same)
+    (λ j e g. passes.above (get_or (f (node_at nodes (i + 1 + k))) j e) (behind_child nodes (f (node_at nodes (i + 1 + k))) key i (i + 1 + k) rising place (omega arith) within (tree.3 (i + 1 + k) within) j e g)) k' d' h') in
+    ap (find test) (flat_map-around f nodes i no_node place.within)
+    ∙ find-none_before test (flat_map f (take i nodes)) (f (node_at nodes i) ++ flat_map f (drop (i + 1) nodes)) before
+    ∙ find-append test (f (node_at nodes i)) (flat_map f (drop (i + 1) nodes))
+    ∙ ap (option_or (find test (f (node_at nodes i)))) (find-all test (flat_map f (drop (i + 1) nodes)) behind)
 
 pub or_some : {X : Type 0} (a b c : Option X) (x : X) → b ≡ Some x → option_or (option_or a b) c ≡ option_or a b
 or_some None b c x e = rw e refl
@@ -248,37 +285,45 @@ or_none None b c e = rw e refl
 or_none (Some y) b c e = refl
 
 -- with a child behind the path, that child is the neighbor
-pub right_child : (depth : ℕ) (frames : Frames) (page : ℕ) (key : List ℕ) (i : ℕ) (next : Option (ℕ × ℕ)) → IsSubtree (suc depth) frames page → IsChildPlace (page_in frames page).nodes key i → i + 1 < length (page_in frames page).nodes → found_right frames depth (child_of (node_at (page_in frames page).nodes i)) (Some (child_of (node_at (page_in frames page).nodes (i + 1)), depth)) key ≡ found_right frames (suc depth) page next key
-right_child depth frames page key i next tree place more =
+pub right_child : (test : Node → Bool) (depth : ℕ) (frames : Frames) (page : ℕ) (key : List ℕ) (i : ℕ) (next : Option (ℕ × ℕ)) → PassesAbove test key → IsSubtree (suc depth) frames page → IsChildPlace (page_in frames page).nodes key i → i + 1 < length (page_in frames page).nodes → found_right frames depth (child_of (node_at (page_in frames page).nodes i)) (Some (child_of (node_at (page_in frames page).nodes (i + 1)), depth)) test ≡ found_right frames (suc depth) page next test
+right_child test depth frames page key i next passes tree place more =
     let nodes = (page_in frames page).nodes in
     let f : Node → List Node = λ n. entries depth frames (child_of n) in
-    let a = find (is_from key) (f (node_at nodes i)) in
+    let a = find test (f (node_at nodes i)) in
     let some = (tree.3 (i + 1) more).some in
     let rest : find (λ _. true) (flat_map f (drop (i + 1) nodes)) ≡ find (λ _. true) (f (node_at nodes (i + 1))) = ap (λ (ns : List Node). find (λ _. true) (flat_map f ns)) (drop_more nodes (i + 1) no_node more) ∙ find-any_front (f (node_at nodes (i + 1))) (flat_map f (drop (i + 1 + 1) nodes)) some in
-    sym (ap (λ r. option_or r (first_of frames next)) (find_from depth frames page key i tree place)
+    sym (ap (λ r. option_or r (first_of frames next)) (find_above test depth frames page key i passes tree place)
     ∙ or_some a (find (λ _. true) (flat_map f (drop (i + 1) nodes))) (first_of frames next) (node_at (f (node_at nodes (i + 1))) 0) (rest ∙ find-any (f (node_at nodes (i + 1))) some)
     ∙ ap (option_or a) rest)
 
 -- with no child behind the path, the neighbor stays
-pub right_end : (depth : ℕ) (frames : Frames) (page : ℕ) (key : List ℕ) (i : ℕ) (next : Option (ℕ × ℕ)) → IsSubtree (suc depth) frames page → IsChildPlace (page_in frames page).nodes key i → length (page_in frames page).nodes ≤ i + 1 → found_right frames depth (child_of (node_at (page_in frames page).nodes i)) next key ≡ found_right frames (suc depth) page next key
-right_end depth frames page key i next tree place last =
+pub right_end : (test : Node → Bool) (depth : ℕ) (frames : Frames) (page : ℕ) (key : List ℕ) (i : ℕ) (next : Option (ℕ × ℕ)) → PassesAbove test key → IsSubtree (suc depth) frames page → IsChildPlace (page_in frames page).nodes key i → length (page_in frames page).nodes ≤ i + 1 → found_right frames depth (child_of (node_at (page_in frames page).nodes i)) next test ≡ found_right frames (suc depth) page next test
+right_end test depth frames page key i next passes tree place last =
     let nodes = (page_in frames page).nodes in
     let f : Node → List Node = λ n. entries depth frames (child_of n) in
-    let a = find (is_from key) (f (node_at nodes i)) in
+    let a = find test (f (node_at nodes i)) in
     let rest : find (λ _. true) (flat_map f (drop (i + 1) nodes)) ≡ None = ap (λ (ns : List Node). find (λ _. true) (flat_map f ns)) (drop_all (i + 1) nodes last) in
-    sym (ap (λ r. option_or r (first_of frames next)) (find_from depth frames page key i tree place) ∙ or_none a (find (λ _. true) (flat_map f (drop (i + 1) nodes))) (first_of frames next) rest)
+    sym (ap (λ r. option_or r (first_of frames next)) (find_above test depth frames page key i passes tree place) ∙ or_none a (find (λ _. true) (flat_map f (drop (i + 1) nodes))) (first_of frames next) rest)
 
--- what a leaf's search says of the first node from a key on
-pub from_place : (nodes : List Node) (key : List ℕ) (i : ℕ) → IsInsertPlace nodes key i → i < length nodes → find (is_from key) nodes ≡ Some (node_at nodes i)
-from_place nodes key i place h = find-first (is_from key) nodes i h (λ k lt. is_from-below (node_at nodes k) key (place.below k lt)) (is_from-above (node_at nodes i) key (place.above i (omega arith) h))
+-- what a leaf's search says of the first node that passes
+pub above_place : (test : Node → Bool) (nodes : List Node) (key : List ℕ) (i : ℕ) → PassesAbove test key → IsInsertPlace nodes key i → i < length nodes → find test nodes ≡ Some (node_at nodes i)
+above_place test nodes key i passes place h = find-first test nodes i h (λ k lt. passes.below (node_at nodes k) (place.below k lt)) (passes.above (node_at nodes i) (place.above i (omega arith) h))
+
+pub above_none : (test : Node → Bool) (nodes : List Node) (key : List ℕ) (i : ℕ) → PassesAbove test key → IsInsertPlace nodes key i → length nodes ≤ i → find test nodes ≡ None
+above_none test nodes key i passes place past = find-none test nodes (λ k d h. ap test (get_or_default nodes k d no_node h) ∙ passes.below (node_at nodes k) (place.below k (omega arith)))
 
 pub from_found : (nodes : List Node) (key : List ℕ) (i : ℕ) → HasRisingKeys nodes → i < length nodes → (node_at nodes i).key ≡ key → find (is_from key) nodes ≡ Some (node_at nodes i)
 from_found nodes key i rising h here = find-first (is_from key) nodes i h
     (λ k lt. is_from-below (node_at nodes k) key (subst (λ (x : List ℕ). IsBelow (node_at nodes k).key x) here (rising k i no_node lt h)))
     (is_from-itself (node_at nodes i) key here)
 
-pub from_none : (nodes : List Node) (key : List ℕ) (i : ℕ) → IsInsertPlace nodes key i → length nodes ≤ i → find (is_from key) nodes ≡ None
-from_none nodes key i place past = find-none (is_from key) nodes (λ k d h. ap (is_from key) (get_or_default nodes k d no_node h) ∙ is_from-below (node_at nodes k) key (place.below k (omega arith)))
+-- behind the node with the key
+pub above_found : (nodes : List Node) (key : List ℕ) (i : ℕ) → HasRisingKeys nodes → i + 1 < length nodes → (node_at nodes i).key ≡ key → find (is_above key) nodes ≡ Some (node_at nodes (i + 1))
+above_found nodes key i rising h here = find-first (is_above key) nodes (i + 1) h (not_above nodes key i rising (omega arith) here)
+    (is_above-above (node_at nodes (i + 1)) key (subst (λ (x : List ℕ). IsBelow x (node_at nodes (i + 1)).key) here (rising i (i + 1) no_node (omega arith) h)))
+
+pub above_last : (nodes : List Node) (key : List ℕ) (i : ℕ) → HasRisingKeys nodes → i + 1 ≡ length nodes → (node_at nodes i).key ≡ key → find (is_above key) nodes ≡ None
+above_last nodes key i rising last here = find-none (is_above key) nodes (λ k d h. ap (is_above key) (get_or_default nodes k d no_node h) ∙ not_above nodes key i rising (omega arith) here k (omega arith))
 
 pub or_end : {X : Type 0} (a : Option X) → option_or a None ≡ a
 or_end None = refl

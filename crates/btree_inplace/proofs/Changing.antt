@@ -39,7 +39,7 @@ in_middle a b c k h = (
 )
 
 -- the parts keep their keys
-old_keys : (key : List ℕ) (a b b' c : List Node) → All (IsOldKey key b) b' → All (IsOldKey key (a ++ (b ++ c))) (a ++ (b' ++ c))
+pub old_keys : (key : List ℕ) (a b b' c : List Node) → All (IsOldKey key b) b' → All (IsOldKey key (a ++ (b ++ c))) (a ++ (b' ++ c))
 old_keys key a b b' c keys =
     All-append (IsOldKey key (a ++ (b ++ c))) a (b' ++ c)
     (λ k d h. inr (k, omega (arith, length-append a (b ++ c)), ap (λ (n : Node). n.key) (get_or_append_left a (b ++ c) no_node k h ∙ get_or_default a k no_node d h)))
@@ -55,7 +55,7 @@ old_keys key a b b' c keys =
     )))
 
 -- the changed child stands between the same bounds
-between_changed : (nodes old new : List Node) (key : List ℕ) (i : ℕ) → IsChildPlace nodes key i → IsBetween nodes i old → All (IsOldKey key old) new → 0 < length new → IsBetween nodes i new
+pub between_changed : (nodes old new : List Node) (key : List ℕ) (i : ℕ) → IsChildPlace nodes key i → IsBetween nodes i old → All (IsOldKey key old) new → 0 < length new → IsBetween nodes i new
 between_changed nodes old new key i place between keys some = record {
   some = some;
   lower = λ k d h. elim (keys k d h) [
@@ -76,7 +76,7 @@ rest_once : (page : ℕ) (rest : List ℕ) → AllPairs (λ a b. a ≢ b) (page 
 rest_once page rest once a b d lt h = once (suc a) (suc b) d (omega arith) (omega arith)
 
 -- a tree page that stays
-kept_page : (old new : Frames) (page kind : ℕ) → page_at new page ≡ page_at old page → IsTreePage old page kind → IsTreePage new page kind
+pub kept_page : (old new : Frames) (page kind : ℕ) → page_at new page ≡ page_at old page → IsTreePage old page kind → IsTreePage new page kind
 kept_page old new page kind stays t =
     let same : page_in old page ≡ page_in new page = ap (λ (o : Option PageContents). unwrap_or o (empty_page page)) (sym stays) in
     record {
@@ -186,7 +186,7 @@ child_among depth frames page i leaf h at =
     Contains-append_right (page ∷ []) (flat_map (λ n. pages depth frames (child_of n)) (page_in frames page).nodes) leaf (Contains-flat_map (λ n. pages depth frames (child_of n)) (page_in frames page).nodes i no_node leaf h at)
 
 -- the data of one key
-map-fixed : (f : Node → Node) (xs : List Node) → All (λ x. f x ≡ x) xs → map f xs ≡ xs
+pub map-fixed : (f : Node → Node) (xs : List Node) → All (λ x. f x ≡ x) xs → map f xs ≡ xs
 map-fixed f [] same = refl
 map-fixed f (x ∷ xs) same = rw (All-head (λ y. f y ≡ y) x xs same, map-fixed f xs (All-tail (λ y. f y ≡ y) x xs same)) refl
 

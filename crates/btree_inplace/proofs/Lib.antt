@@ -1,4 +1,17 @@
+pub mod Altering
 pub mod Before
 pub mod Below
 pub mod Changing
+pub mod Counting
+pub mod Cuts
+pub mod Entering
+pub mod Laws
+pub mod Leaves
+pub mod Parts
+pub mod Raising
+pub mod Removing
+pub mod Splits
+pub mod Splitting
 pub mod Staying
+pub mod Swapping
+pub mod Writes

@@ -1,5 +1,7 @@
 -- A change at one key, in one leaf of a tree.
-use Rattle.std.specs.Prelude.{◌≡◌, ◌≢◌, ℕ, ◌<◌, ◌⊎◌, List, ◌++◌, length, map, All, if◌then◌else◌}
+use Rattle.std.specs.Prelude.{◌≡◌, ◌≢◌, ℕ, ◌<◌, ◌⊎◌, List, [], ◌∷◌, ◌++◌, length, map, not, filter, All, if◌then◌else◌}
+use Rattle.std.specs.Ordering.{nat_cmp, is_lt}
+use Rattle.std.specs.Cmp.Lexicographic.{slice_cmp}
 use Rattle.page_image.specs.Page.{Node, IsBelow, node_at}
 use Rattle.page_space.specs.Frames.{Frames, page_at}
 use Rattle.btree_inplace.specs.Order.{has_key}
@@ -8,6 +10,19 @@ use Rattle.btree_inplace.specs.Shape.{IsSubtree, entries, pages}
 -- the nodes with other data under a key
 abbrev pub with_data_at : List Node → List ℕ → List ℕ → List Node
 with_data_at nodes key value = map (λ n. if has_key key n then record n { «data» = value } else n) nodes
+
+-- the nodes with another extent under a key
+abbrev pub with_extent_at : List Node → List ℕ → ℕ → List Node
+with_extent_at nodes key extent = map (λ n. if has_key key n then record n { extent = extent } else n) nodes
+
+-- the nodes with one more, behind those with lower keys
+abbrev pub inserted : List Node → Node → List Node
+inserted [] node = node ∷ []
+inserted (n ∷ nodes) node = if is_lt (slice_cmp nat_cmp n.key node.key) then n ∷ inserted nodes node else node ∷ n ∷ nodes
+
+-- the nodes without the one that has a key
+abbrev pub without_key : List Node → List ℕ → List Node
+without_key nodes key = filter (λ n. not (has_key key n)) nodes
 
 -- all pages but one stay
 abbrev pub StayBut : Frames → Frames → ℕ → Type 0

@@ -1,3 +1,4 @@
+pub mod Alterations
 pub mod Changes
 pub mod Neighbors
 pub mod Order

@@ -1,10 +1,9 @@
 -- A look-up's path with the nearest subtree beside it, which has the node that the path's leaf may lack.
-use Rattle.std.specs.Prelude.{ℕ, ◌<◌, true, Option, Some, None, List, length, find, reverse}
+use Rattle.std.specs.Prelude.{◌≡◌, ℕ, ◌<◌, ◌≤◌, Bool, true, Option, Some, None, List, length, find, reverse}
 use Rattle.std.specs.Option.{MatchOption, option_or}
 use Rattle.std.specs.Prelude.{⊤}
-use Rattle.page_image.specs.Page.{Node}
+use Rattle.page_image.specs.Page.{Node, node_at}
 use Rattle.page_space.specs.Frames.{Frames}
-use Rattle.btree_inplace.specs.Order.{is_from, is_upto}
 use Rattle.btree_inplace.specs.Shape.{IsSubtree, entries}
 
 -- a subtree, by its page and its depth, that has a node
@@ -16,15 +15,24 @@ abbrev pub first_of : Frames → Option (ℕ × ℕ) → Option Node
 first_of frames None = None
 first_of frames (Some at) = find (λ _. true) (entries at.1 frames at.0)
 
--- the first node from a key on, below a page or else in its neighbor on the right
-abbrev pub found_right : Frames → ℕ → ℕ → Option (ℕ × ℕ) → List ℕ → Option Node
-found_right frames depth page next key = option_or (find (is_from key) (entries depth frames page)) (first_of frames next)
+-- the first node that passes, below a page or else the first of its neighbor on the right
+abbrev pub found_right : Frames → ℕ → ℕ → Option (ℕ × ℕ) → (Node → Bool) → Option Node
+found_right frames depth page next test = option_or (find test (entries depth frames page)) (first_of frames next)
 
 -- the last node of a neighbor
 abbrev pub last_of : Frames → Option (ℕ × ℕ) → Option Node
 last_of frames None = None
 last_of frames (Some at) = find (λ _. true) (reverse (entries at.1 frames at.0))
 
--- the last node up to a key, below a page or else in its neighbor on the left
-abbrev pub found_left : Frames → ℕ → ℕ → Option (ℕ × ℕ) → List ℕ → Option Node
-found_left frames depth page next key = option_or (find (is_upto key) (reverse (entries depth frames page))) (last_of frames next)
+-- the last node that passes, below a page or else the last of its neighbor on the left
+abbrev pub found_left : Frames → ℕ → ℕ → Option (ℕ × ℕ) → (Node → Bool) → Option Node
+found_left frames depth page next test = option_or (find test (reverse (entries depth frames page))) (last_of frames next)
+
+-- the place of the first node that passes, or one behind all nodes where none does
+pub record IsFirstPlace (test : Node → Bool) (nodes : List Node) (i : ℕ) : Type 0 where
+  pub found : i < length nodes → find test nodes ≡ Some (node_at nodes i)
+  pub none : length nodes ≤ i → find test nodes ≡ None
+
+-- the place of the last node that passes, where one does
+abbrev pub IsLastPlace : (Node → Bool) → List Node → Option ℕ → Type 0
+IsLastPlace test nodes place = MatchOption place (find test (reverse nodes) ≡ None) (λ i. (i < length nodes) × (find test (reverse nodes) ≡ Some (node_at nodes i)))

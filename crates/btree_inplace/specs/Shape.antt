@@ -36,11 +36,12 @@ pub record IsTreePage (frames : Frames) (p k : ℕ) : Type 0 where
   pub page : IsPage (page_in frames p)
   pub small : All IsTreeNode (page_in frames p).nodes
 
--- An inner page has a node, its first key is empty, and each node names a child by four bytes.
+-- An inner page has a node, its first key is empty, and each node names a child by four bytes, the whole of its extent.
 pub record IsInner (nodes : List Node) : Type 0 where
   pub some : 0 < length nodes
   pub first : (node_at nodes 0).key ≡ []
   pub children : All (λ n. length n.data ≡ 4) nodes
+  pub extents : All (λ n. n.extent ≡ 4) nodes
 
 -- A key of an inner page is a lower bound of its child's keys, and an upper bound, not reached, of those of the child before. No child is empty.
 pub record IsBetween (nodes : List Node) (i : ℕ) (below : List Node) : Type 0 where

@@ -1,5 +1,5 @@
 -- A tree in a space: its nodes in key order, and its pages.
-use Rattle.std.specs.Prelude.{◌≡◌, ◌≢◌, ℕ, List, AllPairs, Contains}
+use Rattle.std.specs.Prelude.{◌≡◌, ◌≢◌, ℕ, None, ◌⊎◌, List, AllPairs, Contains}
 use Rattle.page_image.specs.Page.{Node}
 use Rattle.page_space.specs.Frames.{Frames, page_at}
 use Rattle.btree_inplace.specs.Shape.{IsSubtree, entries, pages}
@@ -20,3 +20,9 @@ pub record IsTree (frames : Frames) (tree : Tree) : Type 0 where
 -- These pages are the same in both spaces.
 abbrev pub Stay : Frames → Frames → List ℕ → Type 0
 Stay old new pages = (p : ℕ) → Contains pages p → page_at new p ≡ page_at old p
+
+-- A tree that had the pages before and has the pages after gives back those that it lost, takes only free ones, and leaves all others.
+pub record Exchanges (old new : Frames) (before after : List ℕ) : Type 0 where
+  pub taken : (p : ℕ) → Contains after p → Contains before p ⊎ (page_at old p ≡ None)
+  pub given_back : (p : ℕ) → Contains before p → ¬ Contains after p → page_at new p ≡ None
+  pub others : (p : ℕ) → ¬ Contains before p → ¬ Contains after p → page_at new p ≡ page_at old p

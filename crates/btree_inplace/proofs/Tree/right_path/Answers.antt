@@ -1,0 +1,22 @@
+-- The leaf has the node, or the neighbor begins with it.
+use Rattle.std.proofs.Common.{◌≡◌, ◌+◌, ◌-◌, ℕ, suc, sym, ap, subst, ◌∙◌, arith}
+use Rattle.btree_inplace.specs.Neighbors.{found_right}
+use Rattle.btree_inplace.specs.Shape.{IsSubtree}
+use Rattle.btree_inplace.proofs.Tree.right_path.Goals as goal
+
+pub step_right-requires-clause-tree : goal.step_right-requires-clause-tree
+step_right-requires-clause-tree c =
+    let here : c.args.self.now.depth - c.loop-level.level ≡ suc (c.args.self.now.depth - 1 - c.loop-level.level) = omega (arith, c.loop-level-test.true) in
+    subst (λ (n : ℕ). IsSubtree n c.args.space.now c.loop-level.page) here c.loop-level.invariant.shape
+
+pub loop-level-preserved : goal.loop-level-preserved
+loop-level-preserved c =
+    let here : c.args.self.now.depth - c.loop-level.level ≡ suc (c.args.self.now.depth - 1 - c.loop-level.level) = omega (arith, c.loop-level-test.true) in
+    let below : c.args.self.now.depth - (c.loop-level.level + 1) ≡ c.args.self.now.depth - 1 - c.loop-level.level = omega arith in
+    record {
+      shape = subst (λ (n : ℕ). IsSubtree n c.args.space.now c.step_right.result.0) (sym below) c.step_right.ensures.tree;
+      beside = c.step_right.ensures.next;
+      found = λ test passes.
+          ap (λ n. found_right c.args.space.now n c.step_right.result.0 c.step_right.result.1 test) below ∙ c.step_right.ensures.found test passes
+          ∙ ap (λ n. found_right c.args.space.now n c.loop-level.page c.loop-level.next test) (sym here) ∙ c.loop-level.invariant.found test passes;
+    }

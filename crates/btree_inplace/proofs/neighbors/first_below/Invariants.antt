@@ -1,0 +1,10 @@
+use Rattle.std.proofs.Common.{◌≡◌, ◌-◌}
+use Rattle.btree_inplace.specs.Order.{first_in}
+use Rattle.btree_inplace.specs.Shape.{IsSubtree, entries}
+use Rattle.btree_inplace.proofs.neighbors.first_below.Given as goal
+
+abbrev pub invariant-loop : goal.invariant-loop
+invariant-loop l = record {
+  shape : IsSubtree (l.depth - l.counter) l.space l.page;
+  first : first_in (entries (l.depth - l.counter) l.space l.page) ≡ first_in (entries l.depth l.space l.fn.page);
+}

@@ -1,0 +1,39 @@
+-- The child behind the path is the neighbor, where there is one.
+use Rattle.std.proofs.Common.{◌≡◌, ◌+◌, length, sym, ap, subst, ◌∙◌, arith, Some}
+use Rattle.std.specs.Prelude.{Option, unwrap_or}
+use Rattle.byteorder.specs.Endian.{little_number}
+use Rattle.page_image.specs.Page.{PageContents, node_at}
+use Rattle.page_space.specs.Frames.{empty_page}
+use Rattle.btree_node.specs.Cut.{IsChildPlace}
+use Rattle.btree_inplace.specs.Neighbors.{found_right}
+use Rattle.btree_inplace.specs.Shape.{child_of, page_in}
+use Rattle.btree_inplace.proofs.Below.{right_child, right_end}
+use Rattle.btree_inplace.proofs.neighbors.step_right.Goals as goal
+
+pub returns-then-i-count-clause-found : goal.returns-then-i-count-clause-found
+returns-then-i-count-clause-found c test passes =
+    let frames = c.args.space.now in
+    let page = c.args.page in
+    let i = c.child-i.result in
+    let depth = c.args.depth in
+    let inner : page_in frames page ≡ c.page-inner.result.now = ap (λ (o : Option PageContents). unwrap_or o (empty_page page)) c.page-inner.ensures in
+    let place : IsChildPlace (page_in frames page).nodes c.args.key.now i = subst (λ (q : PageContents). IsChildPlace q.nodes c.args.key.now i) (sym inner) c.child-i.ensures in
+    let below : c.read_u32-below.result ≡ child_of (node_at (page_in frames page).nodes i) = c.read_u32-below.ensures ∙ ap (little_number 4) c.data.ensures ∙ ap (λ (q : PageContents). child_of (node_at q.nodes i)) (sym inner) in
+    let count : c.len-count.result ≡ length (page_in frames page).nodes = c.len-count.ensures.value ∙ ap (λ (q : PageContents). length q.nodes) (sym inner) in
+    let next : c.read_u32.result ≡ child_of (node_at (page_in frames page).nodes (i + 1)) = c.read_u32.ensures ∙ ap (little_number 4) c.data-then-i-count.ensures ∙ ap (λ (q : PageContents). child_of (node_at q.nodes (i + 1))) (sym inner) in
+    ap (λ q. found_right frames depth q (Some (c.read_u32.result, depth)) test) below
+    ∙ ap (λ q. found_right frames depth (child_of (node_at (page_in frames page).nodes i)) (Some (q, depth)) test) next
+    ∙ right_child test depth frames page c.args.key.now i c.args.next passes c.requires.tree place (omega (arith, c.if-i-count.true, count))
+
+pub returns-clause-found : goal.returns-clause-found
+returns-clause-found c test passes =
+    let frames = c.args.space.now in
+    let page = c.args.page in
+    let i = c.child-i.result in
+    let depth = c.args.depth in
+    let inner : page_in frames page ≡ c.page-inner.result.now = ap (λ (o : Option PageContents). unwrap_or o (empty_page page)) c.page-inner.ensures in
+    let place : IsChildPlace (page_in frames page).nodes c.args.key.now i = subst (λ (q : PageContents). IsChildPlace q.nodes c.args.key.now i) (sym inner) c.child-i.ensures in
+    let below : c.read_u32-below.result ≡ child_of (node_at (page_in frames page).nodes i) = c.read_u32-below.ensures ∙ ap (little_number 4) c.data.ensures ∙ ap (λ (q : PageContents). child_of (node_at q.nodes i)) (sym inner) in
+    let count : c.len-count.result ≡ length (page_in frames page).nodes = c.len-count.ensures.value ∙ ap (λ (q : PageContents). length q.nodes) (sym inner) in
+    ap (λ q. found_right frames depth q c.args.next test) below
+    ∙ right_end test depth frames page c.args.key.now i c.args.next passes c.requires.tree place (omega (arith, c.if-i-count.false, count))
