@@ -1,0 +1,4 @@
+pub mod Bytes
+pub mod HeldLemmas
+pub mod HeldSteps
+pub mod LayoutLemmas
