@@ -60,13 +60,20 @@ with_values fields column (value ∷ values) = put_by_number column (value ∷ v
 abbrev pub has_value : RecordFields → ℕ → Bool
 has_value fields column = nat_lt 0 (length (values_of fields column))
 
--- the room of a value in its row: a value of more than 255 bytes is kept apart, and its row has 16 bytes that name it
-abbrev pub size_of_value : List ℕ → ℕ
-size_of_value value = cond (nat_lt 255 (length value)) 16 (length value)
+-- the room of a value of so many bytes in its row: a value of more than 255 bytes is kept apart, and its row has 16 bytes that name it
+abbrev pub size_of_length : ℕ → ℕ
+size_of_length count = cond (nat_lt 255 count) 16 count
 
--- the in-page size of a record: a count of 2 bytes and, for each value, 5 bytes and its room
+abbrev pub size_of_value : List ℕ → ℕ
+size_of_value value = size_of_length (length value)
+
+-- the room of values in their row: 5 bytes for each, and its own room
+abbrev pub size_of_values : List (List ℕ) → ℕ
+size_of_values values = sum_by (λ value. 5 + size_of_value value) values
+
+-- the in-page size of a record: a count of 2 bytes, and the room of the values of each column
 abbrev pub record_size : RecordFields → ℕ
-record_size fields = 2 + sum_by (λ field. sum_by (λ value. 5 + size_of_value value) field.1) fields
+record_size fields = 2 + sum_by (λ field. size_of_values field.1) fields
 
 -- ---- the columns of a table
 

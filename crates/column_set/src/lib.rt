@@ -2,9 +2,29 @@
 #![tactic(auto)]
 
 mod changes;
+mod checking;
 mod columns;
+mod decoding;
+mod encoding;
+mod fields;
+mod reading;
 mod records;
+mod row_fault;
+mod row_ref;
+mod rows;
+mod values;
 
 pub use changes::{Bookmark, Change};
+pub use checking::is_row;
 pub use columns::{Column, Columns};
+pub use decoding::decode;
+pub use encoding::encode;
+pub use fields::{VALUE_HEADER, size_of_length, size_of_values};
 pub use records::Record;
+pub use row_fault::RowFault;
+pub use row_ref::{RowRef, rows_have_one_spelling};
+pub use rows::{Row, RowValue, size_of_a_row};
+pub use values::Values;
+
+#[cfg(test)]
+mod row_tests;

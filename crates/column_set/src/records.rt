@@ -1,17 +1,24 @@
 //! Records: the values that a row of a table has.
 
-ghost use Rattle.std.specs.Prelude.{◌≡◌, [], IfOk};
+ghost use Rattle.std.specs.Prelude.{◌≡◌, ◌+◌, ◌-◌, ◌^◌, ◌<◌, ℕ, List, [], ◌∷◌, ◌++◌, length, min, remove, slice_set, IfOk, IfErr, if◌then◌else◌, is_ok};
+ghost use Rattle.column_set.specs.RecordPlaces.{IsPlaceOf, IsGapFor};
+ghost use Rattle.column_set.specs.RecordValues.{values_of, with_values, record_size, size_of_values};
 
-use jet_base::{Items, Octets, OutOfMemory};
+use crate::fields::{Field, size_of_values};
+use crate::values::Values;
+use jet_base::{ColumnId, Octets, OutOfMemory};
 use std::alloc::Global;
 use std::marker::Model;
+
+// What a row takes for the count of its values.
+const COUNT_SIZE: usize = 2;
 
 /// A record: for each column that has a value, by rising number, its values in their order.
 ///
 /// A column without a value, which is NULL, does not stand in it.
 #[derive(Debug, Drop)]
 pub struct Record {
-    fields: Items<(u16, Items<Octets>)>,
+    fields: Vec<Field>,
 }
 
 impl Model for Record {
@@ -20,9 +27,9 @@ impl Model for Record {
 
     ghost Value = { List (ℕ × List (List ℕ)) };
 
-    ghost view = { λ a. a.fields };
+    ghost view = { λ a. a.fields.items };
 
-    ghost invariant = { λ a. IsTrue (is_record a.fields) };
+    ghost invariant = { λ a. IsTrue (is_record a.fields.items) };
 }
 
 impl Record {
@@ -31,7 +38,7 @@ impl Record {
         ensures { result ≡ [] }
     {
         Record {
-            fields: Items::empty(alloc),
+            fields: Vec::new(alloc),
         }
     }
 
@@ -40,8 +47,133 @@ impl Record {
         ensures { IfOk result (λ made. made ≡ self.now) }
     {
         Ok(Record {
-            fields: self.fields.copy()?,
+            fields: self.fields.clone()?,
         })
+    }
+
+    /// The values of the column, none where it is NULL. The record with them is the record itself.
+    pub fn values(&self, column: ColumnId) -> &[Octets]
+        ensures values { result.now ≡ values_of self.now column.0 }
+        ensures same { with_values self.now column.0 (values_of self.now column.0) ≡ self.now }
+    {
+        match self.search(column) {
+            Ok(place) => self.fields[place].values(),
+            Err(_) => &[],
+        }
+    }
+
+    /// The in-page size of the record, in bytes: its row is refused where that is more than 1,700. Past the largest
+    /// number it is that number.
+    pub fn size(&self) -> usize
+        ensures { result ≡ min (record_size self.now) (2 ^ 64 - 1) }
+    {
+        let mut total = COUNT_SIZE;
+        for field in self.fields.iter() {
+            total = total.saturating_add(size_of_values(field.values()));
+        }
+        total
+    }
+
+    /// The size that the record has without the values of the column. With other values there it has their room on
+    /// top.
+    pub fn size_without(&self, column: ColumnId) -> usize
+        ensures size { result ≡ min (record_size (with_values self.now column.0 [])) (2 ^ 64 - 1) }
+        ensures room { (values : List (List ℕ)) → record_size (with_values self.now column.0 values) ≡ record_size (with_values self.now column.0 []) + size_of_values values }
+    {
+        let mut total = COUNT_SIZE;
+        for field in self.fields.iter() {
+            if field.column() != column.0 {
+                total = total.saturating_add(size_of_values(field.values()));
+            }
+        }
+        total
+    }
+
+    /// Puts the value in the place of another of the column. Places are counted from 0.
+    pub fn set_value(&mut self, column: ColumnId, at: usize, value: Octets)
+        requires { at < length (values_of self.old column.0) }
+        ensures { self.new ≡ with_values self.old column.0 (slice_set (values_of self.old column.0) at value) }
+    {
+        if let Ok(place) = self.search(column) {
+            self.fields[place].set(at, value);
+        }
+    }
+
+    /// Puts the value in the place of all values of the column. Where there is no memory all stays.
+    pub fn set_only_value(&mut self, column: ColumnId, value: Octets) -> Result<(), OutOfMemory>
+        ensures { self.new ≡ (if is_ok result then with_values self.old column.0 (value ∷ []) else self.old) }
+    {
+        match self.search(column) {
+            Ok(place) => {
+                self.fields[place].set_only(value);
+                Ok(())
+            }
+            Err(place) => self.insert(place, column, value),
+        }
+    }
+
+    /// Puts one more value behind those of the column. Where there is no memory all stays.
+    pub fn push_value(&mut self, column: ColumnId, value: Octets) -> Result<(), OutOfMemory>
+        ensures { self.new ≡ (if is_ok result then with_values self.old column.0 (values_of self.old column.0 ++ value ∷ []) else self.old) }
+    {
+        match self.search(column) {
+            Ok(place) => self.fields[place].push(value),
+            Err(place) => self.insert(place, column, value),
+        }
+    }
+
+    /// Takes a value of the column out, and the later ones close up. Places are counted from 0.
+    pub fn remove_value(&mut self, column: ColumnId, at: usize)
+        requires { at < length (values_of self.old column.0) }
+        ensures { self.new ≡ with_values self.old column.0 (remove (values_of self.old column.0) at) }
+    {
+        if let Ok(place) = self.search(column) {
+            if self.fields[place].values().len() > 1 {
+                self.fields[place].remove(at);
+            } else {
+                self.fields.remove(place);
+            }
+        }
+    }
+
+    /// Takes all values of the column out, so that it is NULL.
+    pub fn clear(&mut self, column: ColumnId)
+        ensures { self.new ≡ with_values self.old column.0 [] }
+    {
+        if let Ok(place) = self.search(column) {
+            self.fields.remove(place);
+        }
+    }
+
+    // Puts a column with one value into its gap.
+    fn insert(&mut self, place: usize, column: ColumnId, value: Octets) -> Result<(), OutOfMemory>
+        requires { IsGapFor self.old column.0 place }
+        ensures { self.new ≡ (if is_ok result then with_values self.old column.0 (value ∷ []) else self.old) }
+    {
+        let field = Field::new(*self.fields.allocator(), column, value)?;
+        self.fields.insert(place, field)?;
+        Ok(())
+    }
+
+    // Where the column's field is, or where it would go.
+    fn search(&self, column: ColumnId) -> Result<usize, usize>
+        ensures found { IfOk result (IsPlaceOf self.now column.0) }
+        ensures absent { IfErr result (IsGapFor self.now column.0) }
+    {
+        self.fields
+            .binary_search_by_key(&column.0, |field| field.column())
+    }
+}
+
+impl Values for Record {
+    ghost fields = { λ values. values };
+
+    fn count(&self, column: ColumnId) -> usize {
+        self.values(column).len()
+    }
+
+    fn value(&self, column: ColumnId, at: usize) -> Option<&[u8]> {
+        Some(self.values(column).get(at)?.as_bytes())
     }
 }
 
@@ -50,9 +182,44 @@ mod tests {
     use super::*;
     use std::test::Fail;
 
+    fn octets(alloc: Global, bytes: &[u8]) -> Result<Octets, OutOfMemory> {
+        Octets::from_slice(alloc, bytes)
+    }
+
     #[test]
-    fn a_record_is_copied(rt: HostRuntime) -> Result<(), Fail> {
-        let _copy = Record::new(rt.alloc()).copy()?;
+    fn values_are_put_and_taken_out(rt: HostRuntime) -> Result<(), Fail> {
+        let (number, text, tags) = (ColumnId(1), ColumnId(128), ColumnId(256));
+        let mut record = Record::new(rt.alloc());
+        assert_eq!(rt; record.size(), 2);
+        record.push_value(tags, octets(rt.alloc(), b"red")?)?;
+        record.push_value(tags, octets(rt.alloc(), b"")?)?;
+        record.set_only_value(text, octets(rt.alloc(), b"bob")?)?;
+        record.set_only_value(number, octets(rt.alloc(), &[2, 0, 0, 0])?)?;
+        assert_eq!(rt; record.size(), 2 + 9 + 8 + 8 + 5);
+        assert_eq!(rt; record.size_without(tags), 2 + 9 + 8);
+        record.set_value(tags, 1, octets(rt.alloc(), b"green")?);
+        record.remove_value(tags, 0);
+        assert_eq!(rt; record.count(tags), 1);
+        assert_eq!(rt; record.value(tags, 0), Some(b"green".as_slice()));
+        assert_eq!(rt; record.value(tags, 1), None);
+        record.remove_value(tags, 0);
+        record.set_only_value(text, octets(rt.alloc(), b"Bob")?)?;
+        assert_eq!(rt; record.copy()?.value(text, 0), Some(b"Bob".as_slice()));
+        record.clear(text);
+        record.clear(tags);
+        assert_eq!(rt; record.values(text).len(), 0);
+        assert_eq!(rt; record.size(), 2 + 9);
+        Ok(())
+    }
+
+    #[test]
+    fn a_value_past_255_bytes_takes_16(rt: HostRuntime) -> Result<(), Fail> {
+        let column = ColumnId(256);
+        for (length, size) in [(0, 7), (255, 262), (256, 23), (1024, 23)] {
+            let mut record = Record::new(rt.alloc());
+            record.push_value(column, Octets::new(vec![in rt.alloc(); 97; length]?))?;
+            assert_eq!(rt; record.size(), size);
+        }
         Ok(())
     }
 }

@@ -1,0 +1,10 @@
+pub mod RowFieldValues
+pub mod Checked
+pub mod Grouping
+pub mod Loop
+pub mod OneColumn
+pub mod Sizes
+pub mod Spelling
+pub mod Places
+pub mod Edits
+pub mod Walking

@@ -1,0 +1,97 @@
+-- The size of a row, and what the values of a row in order have.
+use Rattle.std.proofs.Common.{◌≡◌, ℕ, ◌+◌, ◌*◌, ◌<◌, ◌≤◌, Bool, true, false, cond, ltb, leb, eqb, ◌&&◌, List, [], ◌∷◌, ◌++◌, length, take, get_or, refl, sym, ap, ◌∙◌, arith, All}
+use Rattle.std.specs.Prelude.{bytes_eq, map, sum_by}
+use Rattle.std.specs.List.{flat_map, AllByRecursion}
+use Rattle.std.proofs.lemmas.Bool.{and_parts, and_from, leb-true, le-leb, le-ltb}
+use Rattle.std.proofs.lemmas.List.{length-append, take_more}
+use Rattle.std.proofs.lemmas.Slice.Eq.{bytes_eq-Decides}
+use Rattle.std.proofs.lemmas.List.Sums.{sum_by-cons, sum_by-take-le, sum_by_push}
+use Rattle.std.proofs.lemmas.List.Elements.{All-from_recursion}
+use Rattle.column_set.specs.declared.rows.RowValue.{RowValue}
+use Rattle.column_set.specs.declared.rows.RowValue.TheVariants.{Here, Apart}
+use Rattle.column_set.specs.Rows.{RowFields, values_in_order, value_fits_row, room_in_row, value_bytes, is_row, is_row_of, is_well_formed, record_values_in_order, row_size, stands_for, values_stand_for}
+use Rattle.column_set.specs.RecordValues.{RecordFields, record_size, size_of_value}
+use Rattle.column_set.specs.RowReading.{are_in_order, size_of_values}
+use Rattle.column_set.proofs.Grouping.{in_order_parts}
+
+each_fits : (least : ℕ) (values : List (ℕ × RowValue)) → are_in_order least values ≡ true → AllByRecursion (λ value. value_fits_row value.1 ≡ true) values
+each_fits least [] h = tt
+each_fits least (value ∷ values) h =
+    let parts = in_order_parts least value values h in
+    (parts.fits, each_fits value.0 values parts.rest)
+
+pub values_fit : (values : List (ℕ × RowValue)) → are_in_order 0 values ≡ true → All (λ value. value_fits_row value.1 ≡ true) values
+values_fit values h = All-from_recursion (λ value. value_fits_row value.1 ≡ true) values (each_fits 0 values h)
+
+-- each value takes five bytes at least
+sum-length : (values : List (ℕ × RowValue)) → 5 * length values ≤ sum_by (λ value. 5 + room_in_row value.1) values
+sum-length [] = omega arith
+sum-length (value ∷ values) = omega (arith, sum-length values, sum_by-cons (λ (v : ℕ × RowValue). 5 + room_in_row v.1) value values)
+
+pub size-length : (values : List (ℕ × RowValue)) → 5 * length values + 2 ≤ size_of_values values
+size-length values = omega (arith, sum-length values)
+
+pub size-take : (values : List (ℕ × RowValue)) (i : ℕ) → size_of_values (take i values) ≤ size_of_values values
+size-take values i = omega (arith, sum_by-take-le (λ (v : ℕ × RowValue). 5 + room_in_row v.1) values i)
+
+length-value_bytes : (value : ℕ × RowValue) → length (value_bytes value) ≡ 5 + room_in_row value.1
+length-value_bytes (column, Here bytes) = omega arith
+length-value_bytes (column, Apart entry place size) = refl
+
+pub length-values : (values : List (ℕ × RowValue)) → 2 + length (flat_map value_bytes values) ≡ size_of_values values
+length-values [] = refl
+length-values (value ∷ values) =
+    omega (arith, length-values values, length-append (value_bytes value) (flat_map value_bytes values), length-value_bytes value, sum_by-cons (λ (v : ℕ × RowValue). 5 + room_in_row v.1) value values)
+
+pub is_row-from : (row : RowFields) → is_well_formed row ≡ true → row_size row ≤ 1700 → is_row row ≡ true
+is_row-from row formed small = and_from (is_well_formed row) (leb (row_size row) 1700) formed (le-leb _ _ small)
+
+pub record IsSmallRow (row : RowFields) : Type 0 where
+  pub formed : is_well_formed row ≡ true
+  pub small : row_size row ≤ 1700
+
+pub is_row-parts : (row : RowFields) → is_row row ≡ true → IsSmallRow row
+is_row-parts row h =
+    let parts = and_parts (is_well_formed row) (leb (row_size row) 1700) h in
+    record { formed = parts.0; small = leb-true _ _ parts.1 }
+
+-- one value more
+pub size-more : (values : List (ℕ × RowValue)) (i : ℕ) (value : ℕ × RowValue) → i < length values → value ≡ get_or values i value → size_of_values (take (i + 1) values) ≡ size_of_values (take i values) + (5 + room_in_row value.1)
+size-more values i value lt is =
+    let one = take_more values i value lt in
+    let e : size_of_values (take (i + 1) values) ≡ size_of_values (take i values ++ value ∷ []) = ap size_of_values (one ∙ ap (λ (v : ℕ × RowValue). take i values ++ v ∷ []) (sym is)) in
+    e ∙ omega (arith, sum_by_push (λ (v : ℕ × RowValue). 5 + room_in_row v.1) (take i values) value)
+
+-- ---- the size of the record
+
+size_of_value-stands : (x : RowValue) (value : List ℕ) → stands_for x value ≡ true → room_in_row x ≡ size_of_value value
+size_of_value-stands (Here bytes) value h =
+    let parts = and_parts (bytes_eq bytes value) (leb (length value) 255) h in
+    let same : bytes ≡ value = (bytes_eq-Decides bytes value).0 parts.0 in
+    let short : ltb 255 (length value) ≡ false = le-ltb _ _ (leb-true _ _ parts.1) in
+    ap length same ∙ sym (ap (λ (b : Bool). cond b 16 (length value)) short)
+size_of_value-stands (Apart entry place size) value h =
+    let parts = and_parts (ltb 255 (length value)) (eqb size (length value)) h in
+    sym (ap (λ (b : Bool). cond b 16 (length value)) parts.0)
+
+sizes-stand : (xs : List (ℕ × RowValue)) (values : List (ℕ × List ℕ)) → values_stand_for xs values ≡ true → sum_by (λ x. 5 + room_in_row x.1) xs ≡ sum_by (λ value. 5 + size_of_value value.1) values
+sizes-stand [] [] h = refl
+sizes-stand [] (value ∷ values) h = absurd cc
+sizes-stand (x ∷ xs) [] h = absurd cc
+sizes-stand (x ∷ xs) (value ∷ values) h =
+    let a = and_parts (eqb x.0 value.0 && stands_for x.1 value.1) (values_stand_for xs values) h in
+    let b = and_parts (eqb x.0 value.0) (stands_for x.1 value.1) a.0 in
+    omega (arith, sum_by-cons (λ (v : ℕ × RowValue). 5 + room_in_row v.1) x xs, sum_by-cons (λ (v : ℕ × List ℕ). 5 + size_of_value v.1) value values, size_of_value-stands x.1 value.1 b.1, sizes-stand xs values a.1)
+
+sum-field : (column : ℕ) (values : List (List ℕ)) (rest : List (ℕ × List ℕ)) → sum_by (λ value. 5 + size_of_value value.1) (map (λ value. (column, value)) values ++ rest) ≡ sum_by (λ value. 5 + size_of_value value) values + sum_by (λ value. 5 + size_of_value value.1) rest
+sum-field column [] rest = omega arith
+sum-field column (value ∷ values) rest =
+    omega (arith, sum_by-cons (λ (v : ℕ × List ℕ). 5 + size_of_value v.1) (column, value) (map (λ v. (column, v)) values ++ rest), sum_by-cons (λ (v : List ℕ). 5 + size_of_value v) value values, sum-field column values rest)
+
+sum-record : (fields : RecordFields) → sum_by (λ value. 5 + size_of_value value.1) (record_values_in_order fields) ≡ sum_by (λ field. sum_by (λ value. 5 + size_of_value value) field.1) fields
+sum-record [] = refl
+sum-record (field ∷ fields) =
+    omega (arith, sum-field field.0 field.1 (record_values_in_order fields), sum-record fields, sum_by-cons (λ (f : ℕ × List (List ℕ)). sum_by (λ v. 5 + size_of_value v) f.1) field fields)
+
+pub row_size-record_size : (row : RowFields) (fields : RecordFields) → is_row_of row fields ≡ true → row_size row ≡ record_size fields
+row_size-record_size row fields h = ap (λ (n : ℕ). 2 + n) (sizes-stand (values_in_order row) (record_values_in_order fields) h ∙ sum-record fields)

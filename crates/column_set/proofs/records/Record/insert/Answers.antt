@@ -1,0 +1,9 @@
+use Rattle.std.proofs.Common.{◌∙◌, [], ◌∷◌}
+use Rattle.column_set.proofs.Edits.{inserted, is_record-changed}
+use Rattle.column_set.proofs.records.Record.insert.Goals as goal
+
+pub returns : goal.returns
+returns c = c.in_ok-insert.ensures.items ∙ inserted _ _ c.self.view_is _ _ _ _ c.requires c.in_ok-field.ensures
+
+pub invariant_of-self-2 : goal.invariant_of-self-2
+invariant_of-self-2 c = is_record-changed _ _ c.self.view_is c.args.column.0 c.args.place c.self.invariant _ (c.args.value ∷ []) (c.in_ok-insert.ensures.items ∙ inserted _ _ c.self.view_is _ _ _ _ c.requires c.in_ok-field.ensures)

@@ -1,0 +1,9 @@
+use Rattle.std.proofs.Common.{[], ◌∷◌, arith}
+use Rattle.column_set.proofs.Edits.{written, is_record-changed}
+use Rattle.column_set.proofs.records.Record.set_only_value.Goals as goal
+
+pub returns-in-Ok : goal.returns-in-Ok
+returns-in-Ok c = written _ _ c.self.view_is _ _ _ _ (λ values. c.args.value ∷ []) c.index_mut.ensures.value c.in-Ok.ensures.found c.set_only.ensures (omega arith)
+
+pub invariant_of-self : goal.invariant_of-self
+invariant_of-self c = is_record-changed _ _ c.self.view_is c.args.column.0 c.in-Ok.place c.self.invariant _ (c.args.value ∷ []) (written _ _ c.self.view_is _ _ _ _ (λ values. c.args.value ∷ []) c.index_mut.ensures.value c.in-Ok.ensures.found c.set_only.ensures (omega arith))

@@ -1,0 +1,20 @@
+use Rattle.std.proofs.Common.{ap, ◌≡◌, length, slice_set, arith}
+use Rattle.std.proofs.Math.ListN.{length-set}
+use Rattle.column_set.specs.RecordValues.{values_of}
+use Rattle.column_set.proofs.Edits.{field_at, written, is_record-changed, values_in_gap}
+use Rattle.column_set.proofs.records.Record.set_value.Goals as goal
+
+pub set-requires : goal.set-requires
+set-requires c = rw (field_at _ _ c.self.view_is _ _ _ c.index_mut.ensures.value c.in-Ok.ensures.found) c.requires
+
+pub returns-in-Ok : goal.returns-in-Ok
+returns-in-Ok c = written _ _ c.self.view_is _ _ _ _ (λ values. slice_set values c.args.at c.args.value) c.index_mut.ensures.value c.in-Ok.ensures.found c.set.ensures (omega (arith, c.requires, length-set (values_of c.args.self.now c.args.column.0) c.args.at c.args.value))
+
+pub invariant_of-self : goal.invariant_of-self
+invariant_of-self c = is_record-changed _ _ c.self.view_is c.args.column.0 c.in-Ok.place c.self.invariant _ _ (written _ _ c.self.view_is _ _ _ _ (λ values. slice_set values c.args.at c.args.value) c.index_mut.ensures.value c.in-Ok.ensures.found c.set.ensures (omega (arith, c.requires, length-set (values_of c.args.self.now c.args.column.0) c.args.at c.args.value)))
+
+-- a place that is required is one of a value
+pub returns-in_default : goal.returns-in_default
+returns-in_default c =
+    let none : length (values_of c.args.self.now c.args.column.0) ≡ 0 = ap length (values_in_gap _ _ _ c.in_default.ensures.absent) in
+    absurd (omega (arith, c.requires))

@@ -1,0 +1,114 @@
+//! Writing rows.
+
+ghost use Rattle.std.specs.Prelude.{◌≡◌, ◌<◌, ◌≤◌, ◌↔◌, ◌++◌, ◌∷◌, length, IfOk, IsErrOf, IsTrue, MatchOption, OnOk};
+ghost use Rattle.std.specs.Int.{w16, w32, w64, to_le_bytes};
+ghost use Rattle.column_set.specs.Rows.{is_row, room_in_row, row_bytes, row_size, value_bytes, value_fits_row};
+ghost use Rattle.column_set.specs.RowReading.{are_in_order, size_of_values};
+
+use crate::row_fault::RowFault;
+use crate::rows::{Row, RowValue};
+use std::alloc::{AllocError, Global};
+
+/// The most bytes that a row has.
+pub const MAX_ROW_SIZE: usize = 1700;
+
+/// The bytes of a value before its own: its column, its form and the count of the bytes that follow.
+pub const VALUE_HEAD_BYTES: usize = 5;
+
+/// The form of a value that stands in its row.
+pub const HERE: u8 = 0;
+
+/// The form of a value that is kept apart.
+pub const APART: u8 = 1;
+
+/// The bytes that a value kept apart has in its row.
+pub const APART_BYTES: u16 = 16;
+
+/// The bytes of a value that stand in its row.
+fn room(value: &RowValue) -> usize
+    requires { IsTrue (value_fits_row value.now) }
+    ensures value { result ≡ room_in_row value.now }
+    ensures small { result ≤ 255 }
+{
+    match value {
+        RowValue::Here(bytes) => bytes.as_bytes().len(),
+        RowValue::Apart { .. } => APART_BYTES as usize,
+    }
+}
+
+/// The size of the row that has the values, where it is at most 1,700.
+fn size_within(values: &[(u16, RowValue)]) -> Option<usize>
+    requires { IsTrue (are_in_order 0 values.now) }
+    ensures { MatchOption result (1700 < size_of_values values.now) (λ size. (size ≡ size_of_values values.now) × (size ≤ 1700)) }
+{
+    let mut size = 2;
+    for (_, value) in values {
+        size += VALUE_HEAD_BYTES + room(value);
+        if size > MAX_ROW_SIZE {
+            return None;
+        }
+    }
+    Some(size)
+}
+
+/// Writes where a value is kept apart.
+fn put_place(bytes: &mut Vec<u8>, entry: u64, place: u32, length: u32) -> Result<(), AllocError>
+    ensures { OnOk result (bytes.new.items ≡ bytes.old.items ++ (to_le_bytes w64 entry ++ to_le_bytes w32 place ++ to_le_bytes w32 length)) }
+{
+    bytes.extend_from_slice(&entry.to_le_bytes())?;
+    bytes.extend_from_slice(&place.to_le_bytes())?;
+    bytes.extend_from_slice(&length.to_le_bytes())
+}
+
+/// Writes a value's column, its form and the count of the bytes that follow.
+fn put_head(bytes: &mut Vec<u8>, column: u16, form: u8, count: u16) -> Result<(), AllocError>
+    ensures { OnOk result (bytes.new.items ≡ bytes.old.items ++ (to_le_bytes w16 column ++ (form ∷ to_le_bytes w16 count))) }
+{
+    bytes.extend_from_slice(&column.to_le_bytes())?;
+    bytes.push(form)?;
+    bytes.extend_from_slice(&count.to_le_bytes())
+}
+
+/// Writes a value with its column.
+fn put_value(bytes: &mut Vec<u8>, column: u16, value: &RowValue) -> Result<(), AllocError>
+    requires { IsTrue (value_fits_row value.now) }
+    ensures { OnOk result (bytes.new.items ≡ bytes.old.items ++ value_bytes (column, value.now)) }
+{
+    match value {
+        RowValue::Here(here) => {
+            let here = here.as_bytes();
+            put_head(bytes, column, HERE, here.len() as u16)?;
+            bytes.extend_from_slice(here)
+        }
+        RowValue::Apart {
+            entry,
+            place,
+            length,
+        } => {
+            put_head(bytes, column, APART, APART_BYTES)?;
+            put_place(bytes, *entry, *place, *length)
+        }
+    }
+}
+
+/// The bytes of a row, each number lowest byte first: a count of the values in two bytes and, for each value, its
+/// column in two, its form in one, the count of what follows in two, and these bytes.
+///
+/// A value here, form 0, has its own bytes, at most 255. One kept apart, form 1, has 16: the number of its entry in
+/// eight, its place there in four and its length in four. The call answers `RecordTooBig` above 1,700 bytes.
+pub fn encode(alloc: Global, row: &Row) -> Result<Vec<u8>, RowFault>
+    ensures ok { IfOk result (λ bytes. IsTrue (is_row row.now) × (bytes.items ≡ row_bytes row.now)) }
+    ensures too_big { IsErrOf result RowFault.RecordTooBig ↔ (1700 < row_size row.now) }
+    ensures never_bad { IsErrOf result RowFault.BadRecord → ⊥ }
+{
+    let values = row.values();
+    let Some(size) = size_within(values) else {
+        return Err(RowFault::RecordTooBig);
+    };
+    let mut bytes = Vec::with_capacity(alloc, size)?;
+    bytes.extend_from_slice(&(values.len() as u16).to_le_bytes())?;
+    for (column, value) in values {
+        put_value(&mut bytes, *column, value)?;
+    }
+    Ok(bytes)
+}
