@@ -1,1 +1,4 @@
+pub mod Columns
+pub mod Derived
 pub mod Entries
+pub mod Walks

@@ -1,12 +1,27 @@
-//! Indexes: their rules, the places in them, and the schema calls and log entries that speak of them.
+//! Indexes: their rules, the places in them, the entries that a record has in one, and the schema calls and log
+//! entries that speak of them.
 #![tactic(auto)]
 
+pub mod derive;
 mod entries;
+mod entry;
+mod faults;
+mod laws;
+mod legality;
 mod log;
+mod plan;
 mod rules;
 mod schema_calls;
+mod values;
+mod walk;
 
 pub use entries::{IndexEntry, Place};
+pub use faults::DeriveFault;
+pub use laws::{entries_rise, next_entries_are_entries};
+pub use legality::legal;
 pub use log::{Entry, EntryKind, Step};
 pub use rules::{Condition, IndexFlags, IndexRule, Schema, Segment};
 pub use schema_calls::{NamedCondition, NamedSegment, SchemaCall, SchemaStep};
+
+#[cfg(test)]
+mod tests;

@@ -1,0 +1,9 @@
+pub mod Bridge
+pub mod Combining
+pub mod Fronts
+pub mod Keys
+pub mod Least
+pub mod Lists
+pub mod Rows
+pub mod Sorting
+pub mod Texts

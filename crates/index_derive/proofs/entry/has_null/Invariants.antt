@@ -1,0 +1,7 @@
+use Rattle.std.proofs.Common.{◌≡◌, map, drop}
+use Rattle.std.specs.Prelude.{option_copied, is_none}
+use Rattle.std.specs.List.{list_any}
+use Rattle.index_derive.proofs.entry.has_null.Given as goal
+
+abbrev pub invariant-loop-value : goal.invariant-loop-value
+invariant-loop-value l = list_any is_none (map option_copied (drop l.value-index l.values)) ≡ list_any is_none (map option_copied l.values)

@@ -1,0 +1,54 @@
+//! The columns of a key, with what the schema says of each.
+
+ghost use Rattle.std.specs.Prelude.{◌≡◌, ◌≤◌, map, length};
+ghost use Rattle.index_derive.specs.Walks.{plan_of, planned_column};
+
+use crate::legality::{is_multi, kind_of};
+use crate::rules::{IndexRule, Schema, Segment};
+use arrayvec::ArrayVec;
+use jet_base::{ColType, ColumnId};
+
+/// A column of a key.
+#[derive(Clone, Copy, Debug)]
+pub struct KeyPart {
+    pub column: ColumnId,
+    pub kind: ColType,
+    /// It brings all of its values, in the walk over them.
+    pub multi: bool,
+    pub descending: bool,
+}
+
+impl Default for KeyPart {
+    fn default() -> KeyPart {
+        KeyPart {
+            column: ColumnId(0),
+            kind: ColType::Binary,
+            multi: false,
+            descending: false,
+        }
+    }
+}
+
+/// The columns of the rule's key, in their order, looked up once.
+pub(crate) fn plan(rule: &IndexRule, schema: &Schema) -> ArrayVec<KeyPart, 12>
+    requires { length rule.now.segments ≤ 12 }
+    ensures { result.items ≡ plan_of rule.now schema.now }
+{
+    let mut parts = ArrayVec::new();
+    for segment in rule.segments.as_slice() {
+        parts.push(part(*segment, schema));
+    }
+    parts
+}
+
+/// The column of the key, with what the schema says of it.
+fn part(segment: Segment, schema: &Schema) -> KeyPart
+    ensures { result ≡ planned_column schema.now segment }
+{
+    KeyPart {
+        column: segment.column,
+        kind: kind_of(schema, segment.column),
+        multi: is_multi(schema, segment.column),
+        descending: segment.descending,
+    }
+}
