@@ -7,6 +7,7 @@ pub mod Conflicts
 pub mod VersionStore
 pub mod Puts
 pub mod SchemaChanges
+pub mod SchemaSteps
 pub mod Step
 pub mod Lawful
 pub mod Equivalence

@@ -146,12 +146,12 @@ table_refusals state name =
     (is_some (table_named state.tables name), jet.TableDuplicate)
     ∷ (nat_le 64 (length state.tables) || nat_le 4294967295 state.greatest_table, jet.OutOfObjectIDs) ∷ []
 
-abbrev pub column_refusals : Table → Column → Refusals
-column_refusals table column =
+abbrev pub column_refusals : Bool → Table → Column → Refusals
+column_refusals holds_records table column =
     (list_any (λ c. bytes_eq c.name column.name) table.columns, jet.ColumnDuplicate)
     ∷ (column.multi && not (column.tagged || is_long_column column), jet.MultiValuedColumnMustBeTagged)
     ∷ (column.escrow && (not (is_type_long column.kind) || column.tagged || column.multi), jet.InvalidColumnType)
-    ∷ (column.escrow && has_records table, jet.TableNotEmpty)
+    ∷ (column.escrow && holds_records, jet.TableNotEmpty)
     ∷ (not (has_column_id column.kind column.tagged (next_column_id table.greatest column.kind column.tagged)), jet.TooManyColumns) ∷ []
 
 abbrev pub deleted_column_refusals : Table → ColumnId → Refusals
@@ -159,31 +159,50 @@ deleted_column_refusals table column =
     (not (has_column table column.0), jet.ColumnNotFound)
     ∷ (column_is_used column (primary_first table.indexes), jet.ColumnInUse) ∷ []
 
-abbrev pub index_refusals : Table → IndexRule → Refusals
-index_refusals table rule =
-    (list_any (λ made. bytes_eq made.name rule.name) table.indexes, jet.IndexDuplicate)
-    ∷ (nat_le 64 (length table.indexes) || nat_le 4294967295 (greatest_order table.indexes), jet.TooManyIndexes)
-    ∷ (rule.flags.primary && list_any (λ made. made.flags.primary) table.indexes, jet.IndexHasPrimary)
-    ∷ (rule.flags.primary && has_records table, jet.TableNotEmpty)
+abbrev pub index_number_refusals : Table → List ℕ → Refusals
+index_number_refusals table name =
+    (list_any (λ made. bytes_eq made.name name) table.indexes, jet.IndexDuplicate)
+    ∷ (nat_le 64 (length table.indexes) || nat_le 4294967295 (greatest_order table.indexes), jet.TooManyIndexes) ∷ []
+
+abbrev pub index_rule_refusals : Bool → Table → IndexRule → Refusals
+index_rule_refusals holds_records table rule =
+    (rule.flags.primary && list_any (λ made. made.flags.primary) table.indexes, jet.IndexHasPrimary)
+    ∷ (rule.flags.primary && holds_records, jet.TableNotEmpty)
     ∷ (list_any (λ id. not (has_column table id)) (rule_columns rule), jet.ColumnNotFound)
     ∷ (list_any (is_escrow_column (schema_of table)) (rule_columns rule), jet.CannotIndex)
-    ∷ (not (is_legal rule (schema_of table)), jet.IndexInvalidDef)
-    ∷ (list_any (λ row. is_null_refusal (entries rule (schema_of table) row.1)) table.rows, jet.NullKeyDisallowed)
-    ∷ (list_any (λ row. is_cut_refusal (entries rule (schema_of table) row.1)) table.rows, jet.KeyTruncated)
-    ∷ (is_unique rule && has_double_key rule (schema_of table) table.rows, jet.KeyDuplicate) ∷ []
+    ∷ (not (is_legal rule (schema_of table)), jet.IndexInvalidDef) ∷ []
+
+abbrev pub index_refusals : Bool → Table → IndexRule → Refusals
+index_refusals holds_records table rule = index_number_refusals table rule.name ++ index_rule_refusals holds_records table rule
 
 abbrev pub deleted_index_refusals : Table → ℕ → Refusals
 deleted_index_refusals table index =
     (not (list_any (λ made. made.id.0 == index) table.indexes), jet.IndexNotFound)
     ∷ (list_any (λ made. (made.id.0 == index) && made.flags.primary) table.indexes, jet.IndexMustStay) ∷ []
 
+-- those that names, numbers and limits decide, given whether the table holds records
+abbrev pub schema_refusals : DatabaseState → Bool → Table → SchemaStep → Refusals
+schema_refusals state holds_records table (step.CreateTable id name) = table_refusals state name
+schema_refusals state holds_records table (step.DeleteTable id) = []
+schema_refusals state holds_records table (step.AddColumn id column) = column_refusals holds_records table column
+schema_refusals state holds_records table (step.DeleteColumn id column) = deleted_column_refusals table column
+schema_refusals state holds_records table (step.CreateIndex id rule) = index_refusals holds_records table rule
+schema_refusals state holds_records table (step.DeleteIndex id index) = deleted_index_refusals table index.0
+
+-- those of a new index that go over the records
+abbrev pub record_refusals : Table → SchemaStep → Refusals
+record_refusals table (step.CreateTable id name) = []
+record_refusals table (step.DeleteTable id) = []
+record_refusals table (step.AddColumn id column) = []
+record_refusals table (step.DeleteColumn id column) = []
+record_refusals table (step.CreateIndex id rule) =
+    (list_any (λ row. is_null_refusal (entries rule (schema_of table) row.1)) table.rows, jet.NullKeyDisallowed)
+    ∷ (list_any (λ row. is_cut_refusal (entries rule (schema_of table) row.1)) table.rows, jet.KeyTruncated)
+    ∷ (is_unique rule && has_double_key rule (schema_of table) table.rows, jet.KeyDuplicate) ∷ []
+record_refusals table (step.DeleteIndex id index) = []
+
 abbrev pub step_refusals : DatabaseState → Table → SchemaStep → Refusals
-step_refusals state table (step.CreateTable id name) = table_refusals state name
-step_refusals state table (step.DeleteTable id) = []
-step_refusals state table (step.AddColumn id column) = column_refusals table column
-step_refusals state table (step.DeleteColumn id column) = deleted_column_refusals table column
-step_refusals state table (step.CreateIndex id rule) = index_refusals table rule
-step_refusals state table (step.DeleteIndex id index) = deleted_index_refusals table index.0
+step_refusals state table step = schema_refusals state (has_records table) table step ++ record_refusals table step
 
 -- The refusals of a schema step by a session. A column or an index that the call named and the table has not stands in
 -- the step with the number 0, which none has.
