@@ -1,2 +1,5 @@
 pub mod Places
 pub mod Navigation
+pub mod MakingKeys
+pub mod CursorView
+pub mod Steps

@@ -1,5 +1,5 @@
 -- What the calls of a cursor answer and where they leave it, over the sorted entries of its index in the session's view.
-use Rattle.std.specs.Prelude.{ℕ, Bool, true, false, min, length, List, filter, find, Option, Some, None, if◌then◌else◌, bytes_eq}
+use Rattle.std.specs.Prelude.{ℕ, ◌==◌, ◌||◌, nat_lt, Result, Ok, Err, Bool, true, false, min, length, List, filter, find, Option, Some, None, if◌then◌else◌, bytes_eq}
 use Rattle.std.specs.List.{last_or}
 use Rattle.jet_base.specs.declared.replies.Jet.{Jet}
 use Rattle.jet_base.specs.declared.replies.Jet.TheVariants as jet
@@ -10,7 +10,8 @@ use Rattle.index_derive.specs.declared.entries.Place.{Place}
 use Rattle.index_derive.specs.declared.entries.Place.TheVariants.{Before, After, On, Gap}
 use Rattle.cursor_nav.specs.declared.seek_by.SeekBy.{SeekBy}
 use Rattle.cursor_nav.specs.declared.seek_by.SeekBy.TheVariants as by
-use Rattle.cursor_nav.specs.Places.{Pair, KeyRange, entry_after, entry_before, is_within, place_at_limit, reaches_limit, entries_from}
+use Rattle.cursor_nav.specs.declared.cursor.Moved.{Moved}
+use Rattle.cursor_nav.specs.Places.{Pair, KeyRange, entry_after, entry_before, least_entry_of, is_within, place_at_limit, reaches_limit, entries_from}
 
 -- A key being made: how many segments stand, and their bytes, cut to the most that the index's keys have.
 pub record MadeKey : Type 0 where
@@ -127,3 +128,40 @@ at_most (Some most) count = min most count
 -- how many entries are not below the place's entry, within an upper limit
 unfoldable pub count_from : CursorState → List Pair → Pair → Option ℕ → ℕ
 count_from cursor entries from most = at_most most (length (entries_from from cursor.range entries))
+
+-- ---- the current record
+
+-- what a call that needs a current record is answered: the place is an entry, and its record is there
+abbrev pub current_answer : (List ℕ → Bool) → Place → Jet
+current_answer has_record (On key bookmark) = if has_record bookmark then jet.Success else jet.RecordDeleted
+current_answer has_record _ = jet.NoCurrentRecord
+
+-- ---- bookmarks
+
+abbrev pub gone_to_entry : CursorState → Option Pair → Navigated
+gone_to_entry cursor None = record { jet = jet.NoCurrentRecord; cursor = cursor }
+gone_to_entry cursor (Some entry) = record { jet = jet.Success; cursor = record cursor { place = On entry.0 entry.1; range = None } }
+
+abbrev pub gone_to_record : CursorState → List Pair → Bool → List ℕ → Navigated
+gone_to_record cursor entries is_there bookmark = if is_there then gone_to_entry cursor (least_entry_of bookmark entries) else record { jet = jet.RecordDeleted; cursor = cursor }
+
+-- A bookmark has 1 to 255 bytes, and its record is there. The place is the record's least entry, and a range ends; after a
+-- refusal nothing moved.
+unfoldable pub gone_to : CursorState → List Pair → (List ℕ → Bool) → List ℕ → Navigated
+gone_to cursor entries has_record bookmark =
+    if (length bookmark == 0) || nat_lt 255 (length bookmark) then record { jet = jet.InvalidBookmark; cursor = cursor }
+    else gone_to_record cursor entries (has_record bookmark) bookmark
+
+-- ---- answers in code
+
+-- success and the warnings are no refusals
+abbrev pub is_refusal : Jet → Bool
+is_refusal jet.Success = false
+is_refusal jet.SeekNotEqual = false
+is_refusal jet.ColumnNull = false
+is_refusal jet.BufferTruncated = false
+is_refusal _ = true
+
+-- a refusal is an error; success and the warnings come with a number
+abbrev pub answer_of : Jet → ℕ → Result Moved Jet
+answer_of reply number = if is_refusal reply then Err reply else Ok (record { jet = reply; number = number })

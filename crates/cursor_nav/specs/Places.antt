@@ -1,9 +1,10 @@
 -- Places among the sorted entries of an index, and what lies beyond and before them.
-use Rattle.std.specs.Prelude.{ℕ, Bool, true, false, not, ◌&&◌, ◌||◌, List, filter, find, Option, Some, None, if◌then◌else◌, bytes_eq}
-use Rattle.std.specs.List.{last_or, list_any}
+use Rattle.std.specs.Prelude.{ℕ, [], ◌∷◌, Bool, true, false, not, ◌&&◌, ◌||◌, List, filter, find, Option, Some, None, if◌then◌else◌, bytes_eq}
+use Rattle.std.specs.List.{last_or, list_any, list_all}
 use Rattle.column_set.specs.RecordValues.{bytes_lt, bytes_le}
 use Rattle.index_derive.specs.declared.entries.Place.{Place}
 use Rattle.index_derive.specs.declared.entries.Place.TheVariants.{Before, After, On, Gap}
+use Rattle.index_derive.specs.declared.entries.IndexEntry.{IndexEntry}
 
 -- An entry of an index: its key and the bookmark of its record.
 abbrev pub Pair : Type 0
@@ -12,6 +13,39 @@ Pair = List ℕ × List ℕ
 -- Entries are ordered by key, then by bookmark.
 abbrev pub pair_lt : Pair → Pair → Bool
 pair_lt one other = bytes_lt one.0 other.0 || (bytes_eq one.0 other.0 && bytes_lt one.1 other.1)
+
+-- whether each entry lies below all that follow it: they are in order, and none stands twice
+abbrev pub are_sorted : List Pair → Bool
+are_sorted [] = true
+are_sorted (entry ∷ entries) = list_all (pair_lt entry) entries && are_sorted entries
+
+-- an entry as a pair
+abbrev pub pair_of : IndexEntry → Pair
+pair_of entry = (entry.key, entry.bookmark)
+
+-- the same, where there is one
+abbrev pub found_pair : Option IndexEntry → Option Pair
+found_pair None = None
+found_pair (Some entry) = Some (entry.key, entry.bookmark)
+
+-- ---- what a place shows
+
+abbrev pub is_on : Place → Bool
+is_on (On key bookmark) = true
+is_on _ = false
+
+abbrev pub place_key : Place → List ℕ
+place_key (On key bookmark) = key
+place_key _ = []
+
+abbrev pub place_bookmark : Place → List ℕ
+place_bookmark (On key bookmark) = bookmark
+place_bookmark _ = []
+
+abbrev pub place_pair : Place → Pair
+place_pair place = (place_key place, place_bookmark place)
+
+-- ---- neighbours of a place
 
 -- A gap stands just above all entries with its key, or just below them.
 abbrev pub is_beyond : Place → Pair → Bool
@@ -36,6 +70,8 @@ entry_before place entries = last_or None (filter (is_short_of place) entries)
 -- the least entry of a record
 abbrev pub least_entry_of : List ℕ → List Pair → Option Pair
 least_entry_of bookmark entries = find (λ entry. bytes_eq entry.1 bookmark) entries
+
+-- ---- ranges
 
 -- A limit on moves: an upper one concerns Next and counts, a lower one Previous.
 pub record KeyRange : Type 0 where

@@ -1,0 +1,6 @@
+pub mod Counting
+pub mod Cutting
+pub mod InOrder
+pub mod Listing
+pub mod PairOrder
+pub mod Seeking

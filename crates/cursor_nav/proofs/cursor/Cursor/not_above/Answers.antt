@@ -1,0 +1,26 @@
+use Rattle.std.proofs.Common.{◌≡◌, true, not, find, filter, None, ap, ◌∙◌, sym, subst}
+use Rattle.std.specs.List.{last_or}
+use Rattle.cursor_nav.specs.Places.{Pair, pair_lt, is_on, place_pair, found_pair}
+use Rattle.cursor_nav.specs.Navigation.{CursorState}
+use Rattle.cursor_nav.proofs.PairOrder.{not_above_by_neighbour, entry_short_of}
+use Rattle.cursor_nav.proofs.cursor.Cursor.not_above.Goals as goal
+
+pub returns-in-Some : goal.returns-in-Some
+returns-in-Some g c =
+    let entries = g.W.View.entries c.args.view.now c.self.inside.table.0 c.self.inside.index.0 in
+    let IsOn : CursorState → Type 0 = λ s. is_on s.place ≡ true in
+    let here : is_on c.self.inside.place ≡ true = subst IsOn (sym c.self.view_is) c.requires in
+    let IsNearest : CursorState → Type 0 = λ s. found_pair c.before-in-Some.result ≡ last_or None (filter (λ entry. not (pair_lt (place_pair s.place) entry)) (g.W.View.entries c.args.view.now s.table s.index)) in
+    subst IsNearest c.self.view_is
+    (c.before-in-Some.ensures ∙ ap (λ found. entry_short_of found entries) c.in-Some.ensures
+    ∙ not_above_by_neighbour c.self.inside.place entries here (g.met.W.View.sorted c.args.view.now c.self.inside.table.0 c.self.inside.index.0))
+
+pub returns-in-None : goal.returns-in-None
+returns-in-None g c =
+    let entries = g.W.View.entries c.args.view.now c.self.inside.table.0 c.self.inside.index.0 in
+    let IsOn : CursorState → Type 0 = λ s. is_on s.place ≡ true in
+    let here : is_on c.self.inside.place ≡ true = subst IsOn (sym c.self.view_is) c.requires in
+    let IsNearest : CursorState → Type 0 = λ s. found_pair c.before-in-None.result ≡ last_or None (filter (λ entry. not (pair_lt (place_pair s.place) entry)) (g.W.View.entries c.args.view.now s.table s.index)) in
+    subst IsNearest c.self.view_is
+    (c.before-in-None.ensures ∙ ap (λ found. entry_short_of found entries) c.in-None.ensures
+    ∙ not_above_by_neighbour c.self.inside.place entries here (g.met.W.View.sorted c.args.view.now c.self.inside.table.0 c.self.inside.index.0))

@@ -1,0 +1,52 @@
+-- What the steps of a cursor's calls do.
+use Rattle.std.specs.Prelude.{ℕ, Bool, true, false, not, List, [], ◌∷◌, reverse, find, filter, Option, Some, None, if◌then◌else◌, bytes_eq}
+use Rattle.std.specs.List.{last_or}
+use Rattle.jet_base.specs.declared.replies.Jet.TheVariants as jet
+use Rattle.index_derive.specs.declared.entries.Place.{Place}
+use Rattle.index_derive.specs.declared.entries.Place.TheVariants.{On}
+use Rattle.index_derive.specs.declared.entries.IndexEntry.{IndexEntry}
+use Rattle.cursor_nav.specs.Places.{Pair, KeyRange, pair_lt, pair_of, is_beyond, is_short_of, reaches_limit}
+use Rattle.cursor_nav.specs.Navigation.{CursorState, Navigated, found_or, limited}
+
+-- on the entry that was found, or else at this place
+abbrev pub standing : CursorState → Option Pair → Place → CursorState
+standing cursor (Some entry) place = record cursor { place = On entry.0 entry.1 }
+standing cursor None place = record cursor { place = place }
+
+-- a move that came upon this entry, where a range with an upper, or else with a lower limit concerns it
+abbrev pub moved_in : CursorState → Option Pair → Bool → Place → Option KeyRange → Navigated
+moved_in cursor found upper place None = found_or cursor jet.Success found jet.NoCurrentRecord place
+moved_in cursor found upper place (Some range) =
+    if (if upper then range.upper else not range.upper) then limited cursor range found
+    else found_or cursor jet.Success found jet.NoCurrentRecord place
+
+-- whether the place is an entry, and some entry lies from there to the limit
+abbrev pub reaches_from : Place → KeyRange → List Pair → Bool
+reaches_from (On key bookmark) range entries = reaches_limit range (key, bookmark) entries
+reaches_from _ range entries = false
+
+-- the least entry that is not below this one, or else the greatest that is not above it
+abbrev pub nearest_entry : Bool → Pair → List Pair → Option Pair
+nearest_entry upper from entries = if upper then find (λ entry. not (pair_lt entry from)) entries else last_or None (filter (λ entry. not (pair_lt from entry)) entries)
+
+-- the entry where it has the key
+abbrev pub only_equal : List ℕ → Option Pair → Option Pair
+only_equal key None = None
+only_equal key (Some entry) = if bytes_eq entry.0 key then Some entry else None
+
+-- whether it lies below the first of the others, where there is one
+abbrev pub is_below_first : Pair → List Pair → Bool
+is_below_first pair [] = true
+is_below_first pair (other ∷ others) = pair_lt pair other
+
+-- ---- a plain list
+
+-- the first of the entries beyond a place, the last before it, and the first with a bookmark
+abbrev pub first_beyond : Place → List IndexEntry → Option IndexEntry
+first_beyond place entries = find (λ entry. is_beyond place (pair_of entry)) entries
+
+abbrev pub last_before : Place → List IndexEntry → Option IndexEntry
+last_before place entries = find (λ entry. is_short_of place (pair_of entry)) (reverse entries)
+
+abbrev pub first_of : List ℕ → List IndexEntry → Option IndexEntry
+first_of bookmark entries = find (λ entry. bytes_eq entry.bookmark bookmark) entries
