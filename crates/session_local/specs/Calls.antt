@@ -4,12 +4,13 @@ use Rattle.jet_base.specs.declared.replies.Jet.{Jet}
 use Rattle.jet_base.specs.declared.replies.Jet.TheVariants as jet
 use Rattle.jet_base.specs.declared.words.Prepare.{Prepare}
 use Rattle.jet_base.specs.declared.words.Prepare.TheVariants as prepare
+use Rattle.database_state.specs.SchemaSteps.{table_step, deleted_table_step, column_step, deleted_column_step, index_step, deleted_index_step}
 use Rattle.session_local.specs.declared.request.Request.{Request}
 use Rattle.session_local.specs.declared.request.Request.TheVariants as call
 use Rattle.session_local.specs.Local.{OpenCursor}
 use Rattle.session_local.specs.Outcome.{Asked, Outcome, refused, at_cursor}
 use Rattle.session_local.specs.SessionCalls.{begin_session, end_session, begin_transaction, commit_transaction, rollback}
-use Rattle.session_local.specs.SchemaCalls.{schema_changed, table_step, deleted_table_step, column_step, deleted_column_step, index_step, deleted_index_step}
+use Rattle.session_local.specs.SchemaCalls.{schema_changed}
 use Rattle.session_local.specs.CursorCalls.{open_table, close_table, set_current_index, move_cursor, seek_key, set_index_range, remove_index_range, make_key, index_record_count, retrieve_key, get_bookmark, goto_bookmark}
 use Rattle.session_local.specs.RecordCalls.{prepare_insert, prepare_copy, prepare_replace, cancel_update, set_column, retrieve_column, retrieve_copy, update, delete, get_lock, escrow_update}
 

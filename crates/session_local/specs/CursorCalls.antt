@@ -1,14 +1,9 @@
 -- Cursors and navigation.
-use Rattle.std.specs.Prelude.{ℕ, ◌+◌, ◌==◌, Bool, true, false, not, ◌&&◌, ◌||◌, nat_le, nat_lt, length, List, [], ◌∷◌, ◌++◌, slice_get, Option, Some, None, option_map, is_some, is_none, unwrap_or, if◌then◌else◌, bytes_eq, find}
+use Rattle.std.specs.Prelude.{ℕ, ◌==◌, Bool, not, ◌&&◌, ◌||◌, nat_le, nat_lt, length, List, [], ◌∷◌, slice_get, Option, Some, None, is_some, is_none, bytes_eq, find}
 use Rattle.jet_base.specs.declared.replies.Jet.TheVariants as jet
 use Rattle.jet_base.specs.declared.words.Given.{Given}
 use Rattle.jet_base.specs.declared.words.Way.{Way}
-use Rattle.jet_base.specs.declared.words.ColType.{ColType}
-use Rattle.jet_base.specs.declared.words.ColType.TheVariants as kind
-use Rattle.jet_base.specs.Given.{given_fits, given_front, given_is_null}
-use Rattle.column_set.specs.declared.columns.Column.{Column}
-use Rattle.column_set.specs.RecordValues.{column_of_id}
-use Rattle.key_normal.specs.KeyBytes.{segment_bytes, cut_key}
+use Rattle.jet_base.specs.Given.{given_fits}
 use Rattle.index_derive.specs.declared.rules.IndexRule.{IndexRule}
 use Rattle.index_derive.specs.declared.rules.Segment.{Segment}
 use Rattle.index_derive.specs.declared.entries.Place.TheVariants.{On}
@@ -16,6 +11,7 @@ use Rattle.index_derive.specs.declared.log.EntryKind.TheVariants as entry
 use Rattle.cursor_nav.specs.declared.seek_by.SeekBy.{SeekBy}
 use Rattle.cursor_nav.specs.Places.{Pair, least_entry_of}
 use Rattle.cursor_nav.specs.Navigation.{MadeKey, new_cursor, moved, index_set, sought, ranged, count_from, without_range}
+use Rattle.cursor_nav.specs.MakingKeys.{begun_key, segment_kind, with_segment}
 use Rattle.database_state.specs.Table.{Table, row_at, schema_of, primary_order, rule_with_id, table_named}
 use Rattle.session_local.specs.Answer.{ShownValue, Nothing, Count, Bytes}
 use Rattle.session_local.specs.Local.{OpenCursor, cursor_labelled, with_cursor, with_new_cursor, without_cursor, place_key, place_bookmark}
@@ -84,24 +80,6 @@ abbrev pub remove_index_range : Asked → OpenCursor → Outcome
 remove_index_range asked open_cursor = done (with_cursor asked.local (record open_cursor { cursor = without_range open_cursor.cursor })) Nothing None
 
 -- ---- keys
-
--- the segments so far, none where the key is begun anew or none is made
-abbrev pub begun_key : Bool → Option MadeKey → MadeKey
-begun_key true key = record { segments = 0; bytes = [] }
-begun_key false key = unwrap_or key (record { segments = 0; bytes = [] })
-
-abbrev pub segment_kind : List Column → Segment → ColType
-segment_kind columns segment = unwrap_or (option_map (λ c. c.kind) (column_of_id columns segment.column.0)) kind.Binary
-
--- the first 255 bytes of a value, or NULL
-abbrev pub key_value : ColType → Given → Option (List ℕ)
-key_value type value = if given_is_null value then None else Some (given_front 255 type value)
-
-abbrev pub with_segment : IndexRule → ColType → Segment → Given → MadeKey → MadeKey
-with_segment rule type segment value key = record {
-  segments = key.segments + 1;
-  bytes = cut_key rule.key_most (key.bytes ++ segment_bytes type (key_value type value) segment.descending rule.flags.sortnullshigh);
-}
 
 abbrev pub segment_made : Asked → OpenCursor → IndexRule → MadeKey → Given → Option Segment → Outcome
 segment_made asked open_cursor rule key value None = refused asked jet.KeyIsMade

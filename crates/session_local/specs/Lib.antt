@@ -9,3 +9,11 @@ pub mod Calls
 pub mod Run
 pub mod Computing
 pub mod Agreement
+pub mod LocalCalls
+pub mod Finishing
+pub mod Preparing
+pub mod CursorSeen
+pub mod SessionSide
+pub mod Holding
+pub mod Deciding
+pub mod Navigating

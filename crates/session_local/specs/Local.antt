@@ -1,11 +1,10 @@
 -- A session's own state: its cursors and what is prepared on them.
-use Rattle.std.specs.Prelude.{ℕ, ◌==◌, Bool, true, false, not, ◌&&◌, List, [], ◌∷◌, ◌++◌, map, filter, find, Option, Some, None, if◌then◌else◌, bytes_eq}
+use Rattle.std.specs.Prelude.{ℕ, ◌==◌, Bool, false, not, ◌&&◌, List, [], ◌∷◌, ◌++◌, map, filter, find, Option, Some, None, if◌then◌else◌, bytes_eq}
 use Rattle.std.specs.List.{list_any}
 use Rattle.index_derive.specs.declared.rules.Schema.{Schema}
-use Rattle.index_derive.specs.declared.entries.Place.{Place}
-use Rattle.index_derive.specs.declared.entries.Place.TheVariants.{On}
 use Rattle.column_set.specs.RecordValues.{RecordFields}
 use Rattle.cursor_nav.specs.Navigation.{CursorState}
+pub use Rattle.cursor_nav.specs.Places.{is_on, place_key, place_bookmark}
 
 -- What a prepared update will do: insert a record, perhaps copied from one, or replace the one under a bookmark.
 pub data PreparedFor : Type 0 where
@@ -51,20 +50,6 @@ unprepared open_cursor = record open_cursor { prepared = None }
 -- every prepared update of the session is dropped
 abbrev pub without_prepared : LocalState → LocalState
 without_prepared local = record local { cursors = map unprepared local.cursors }
-
--- ---- places
-
-abbrev pub is_on : Place → Bool
-is_on (On key bookmark) = true
-is_on _ = false
-
-abbrev pub place_key : Place → List ℕ
-place_key (On key bookmark) = key
-place_key _ = []
-
-abbrev pub place_bookmark : Place → List ℕ
-place_bookmark (On key bookmark) = bookmark
-place_bookmark _ = []
 
 -- ---- prepared updates
 

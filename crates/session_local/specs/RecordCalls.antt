@@ -1,14 +1,14 @@
 -- Records: prepared updates, columns, and changes.
-use Rattle.std.specs.Prelude.{ℕ, ◌+◌, ◌-◌, ◌==◌, Bool, true, false, not, ◌&&◌, nat_le, nat_lt, length, List, [], ◌∷◌, ◌++◌, filter, fold, take, remove, slice_get, slice_set, ℤ, pos, Option, Some, None, is_some, is_none, unwrap_or, if◌then◌else◌, bytes_eq}
+use Rattle.std.specs.Prelude.{ℕ, ◌+◌, ◌-◌, ◌==◌, Bool, false, not, nat_lt, length, List, [], ◌∷◌, ◌++◌, filter, fold, take, slice_get, ℤ, pos, Option, Some, None, is_some, is_none, unwrap_or, if◌then◌else◌, bytes_eq}
 use Rattle.jet_base.specs.declared.replies.Jet.TheVariants as jet
 use Rattle.jet_base.specs.declared.words.Given.{Given}
 use Rattle.jet_base.specs.declared.words.ColType.TheVariants as kind
-use Rattle.jet_base.specs.ColumnType.{big_endian, largest_value, is_number_type, number_of}
-use Rattle.jet_base.specs.Given.{given_fits, given_bytes, given_length, given_is_null}
+use Rattle.jet_base.specs.ColumnType.{big_endian, is_number_type, number_of}
 use Rattle.column_set.specs.declared.columns.Column.{Column}
 use Rattle.column_set.specs.declared.changes.Change.{Change}
 use Rattle.column_set.specs.declared.changes.Change.TheVariants as change
-use Rattle.column_set.specs.RecordValues.{RecordFields, values_of, with_values, record_size, column_named, is_missing_a_value}
+use Rattle.column_set.specs.RecordValues.{RecordFields, values_of, with_values, column_named, is_missing_a_value}
+use Rattle.record_edit.specs.SetColumn.{set_refusals, size_refusals, fields_after}
 use Rattle.index_derive.specs.declared.rules.IndexRule.{IndexRule}
 use Rattle.index_derive.specs.declared.rules.Schema.{Schema}
 use Rattle.index_derive.specs.Entries.{primary_key}
@@ -110,40 +110,11 @@ on_column asked (Some column) next = next column
 
 -- ---- columns
 
--- whether the sequence, counted from 1, is that of a value
-abbrev pub is_place_of : ℕ → List (List ℕ) → Bool
-is_place_of sequence values = nat_le 1 sequence && nat_le sequence (length values)
-
--- In a multi-valued column a value goes to its place, or to the end; NULL at a place takes that value out, and elsewhere
--- does nothing. Any other column has the one value, or none.
-abbrev pub values_after : Bool → ℕ → Option (List ℕ) → List (List ℕ) → List (List ℕ)
-values_after false sequence None values = []
-values_after false sequence (Some value) values = value ∷ []
-values_after true sequence None values = if is_place_of sequence values then remove values (sequence - 1) else values
-values_after true sequence (Some value) values = if is_place_of sequence values then slice_set values (sequence - 1) value else values ++ value ∷ []
-
-abbrev pub set_refusals : Column → ℕ → Given → RecordFields → Refusals
-set_refusals column sequence value fields =
-    (column.escrow, jet.ColumnNotUpdatable)
-    ∷ (not column.multi && nat_lt 1 sequence, jet.BadItagSequence)
-    ∷ (not (given_fits column.kind value), jet.InvalidBufferSize)
-    ∷ (nat_lt (largest_value column.kind) (given_length value), jet.ColumnTooBig)
-    ∷ (given_is_null value && column.not_null && (length (values_after column.multi sequence None (values_of fields column.id.0)) == 0), jet.NullInvalid)
-    ∷ []
-
-abbrev pub stored_value : Column → Given → Option (List ℕ)
-stored_value column value = if given_is_null value then None else Some (given_bytes column.kind value)
-
-abbrev pub fields_after : Column → ℕ → Given → RecordFields → RecordFields
-fields_after column sequence value fields =
-    with_values fields column.id.0 (values_after column.multi sequence (stored_value column value) (values_of fields column.id.0))
-
 abbrev pub set_column_in : Asked → OpenCursor → PreparedUpdate → ℕ → Given → Column → Outcome
 set_column_in asked open_cursor prepared sequence value column =
     unless asked (set_refusals column sequence value prepared.values)
-    (λ _. let fields = fields_after column sequence value prepared.values in
-    unless asked ((nat_lt 1700 (record_size fields), jet.RecordTooBig) ∷ [])
-    (λ _. done (with_prepared asked open_cursor (Some (record prepared { values = fields }))) Nothing None))
+    (λ _. unless asked (size_refusals column sequence value prepared.values)
+    (λ _. done (with_prepared asked open_cursor (Some (record prepared { values = fields_after column sequence value prepared.values }))) Nothing None))
 
 abbrev pub set_column : Asked → OpenCursor → List ℕ → ℕ → Given → Outcome
 set_column asked open_cursor name sequence value =

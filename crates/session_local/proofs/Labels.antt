@@ -1,0 +1,36 @@
+-- Cursors by label.
+use Rattle.std.proofs.Common.{◌≡◌, ℕ, ◌==◌, true, false, cond, List, [], ◌∷◌, map, find, Some, refl, sym, subst, if◌then◌else◌, arith}
+use Rattle.std.proofs.lemmas.Bool.Decides.{nat_tests}
+use Rattle.session_local.specs.Local.{LocalState, OpenCursor, cursor_labelled, with_cursor}
+
+pub same_number : (m n : ℕ) → (m == n) ≡ true → m ≡ n
+same_number m n e = grind (arith, nat_tests)
+
+pub number_is_itself : (n : ℕ) → (n == n) ≡ true
+number_is_itself n = grind (arith, nat_tests)
+
+-- a cursor that is found by a label has it
+pub labelled : (label : ℕ) (cursors : List OpenCursor) (c : OpenCursor) → find (λ c. c.label == label) cursors ≡ Some c → c.label ≡ label
+labelled label [] c found = cc
+labelled label (x ∷ xs) c found =
+    elim (x.label == label) as (λ b. (x.label == label) ≡ b → cond b (Some x) (find (λ c. c.label == label) xs) ≡ Some c → c.label ≡ label) [
+      | true ↦ λ e h. let same : x ≡ c = cc in let n = same_number x.label label e in cc
+      | false ↦ λ e h. labelled label xs c h
+    ] refl found
+
+abbrev put_at : ℕ → OpenCursor → List OpenCursor → List OpenCursor
+put_at label new cursors = map (λ c. if c.label == label then new else c) cursors
+
+found_after : (label : ℕ) (cursors : List OpenCursor) (new old : OpenCursor) → (new.label == label) ≡ true → find (λ c. c.label == label) cursors ≡ Some old → find (λ c. c.label == label) (put_at label new cursors) ≡ Some new
+found_after label [] new old same found = cc
+found_after label (x ∷ xs) new old same found =
+    elim (x.label == label) as (λ b. (x.label == label) ≡ b → cond b (Some x) (find (λ c. c.label == label) xs) ≡ Some old → find (λ c. c.label == label) ((if b then new else x) ∷ put_at label new xs) ≡ Some new) [
+      | true ↦ λ e h. rw same refl
+      | false ↦ λ e h. rw e (found_after label xs new old same h)
+    ] refl found
+
+-- once a cursor is put in the place of the one with its label, that label finds it
+pub cursor_labelled-with_cursor : (local : LocalState) (label : ℕ) (new old : OpenCursor) → new.label ≡ label → cursor_labelled local label ≡ Some old → cursor_labelled (with_cursor local new) label ≡ Some new
+cursor_labelled-with_cursor local label new old same found =
+    let P : ℕ → Type 0 = λ l. find (λ c. c.label == label) (put_at l new local.cursors) ≡ Some new in
+    subst P (sym same) (found_after label local.cursors new old (rw same (number_is_itself label)) found)

@@ -1,0 +1,38 @@
+-- What a session of the code holds, as the definitions see it.
+use Rattle.std.specs.Prelude.{◌≡◌, ℕ, ◌≤◌, ◌==◌, true, List, [], Option, Some, None, map, position, vec_len, vec_capacity}
+use Rattle.session_local.specs.declared.local.Local.TheInside.{Inside}
+use Rattle.session_local.specs.declared.begun.Begun.TheInside as begun
+use Rattle.session_local.specs.declared.buffers.Buffers.TheInside as buffers
+use Rattle.session_local.specs.Local.{LocalState, OpenCursor, no_session}
+use Rattle.session_local.specs.SessionSide.{SessionSide, HeldState, label_of, are_distinct}
+
+abbrev pub side_with : ℕ → Option HeldState → SessionSide
+side_with session None = record { session = session; state = no_session; reply = [] }
+side_with session (Some held) = record { session = session; state = record { begun = true; cursors = held.cursors }; reply = held.reply }
+
+-- the state of a session that was begun, with these cursors
+abbrev pub begun_with_cursors : List OpenCursor → LocalState
+begun_with_cursors cursors = record { begun = true; cursors = cursors }
+
+abbrev pub side : Inside → SessionSide
+side local = side_with local.session.0 local.begun
+
+abbrev pub held : begun.Inside → HeldState
+held inside = record { cursors = inside.cursors.items; reply = inside.reply.items }
+
+-- No label stands twice, there is room for 16 cursors and no more of them, and the reply buffer has its bytes.
+pub record IsHeld (inside : begun.Inside) : Type 0 where
+  pub distinct : are_distinct (map label_of inside.cursors.items) ≡ true
+  pub few : vec_len inside.cursors ≤ 16
+  pub room : 16 ≤ vec_capacity inside.cursors
+  pub bytes : vec_len inside.reply ≡ 1048576
+
+-- There is room for 16 cursors and none of them, and the reply buffer has its bytes.
+pub record AreTaken (inside : buffers.Inside) : Type 0 where
+  pub none : vec_len inside.cursors ≡ 0
+  pub room : 16 ≤ vec_capacity inside.cursors
+  pub bytes : vec_len inside.reply ≡ 1048576
+
+-- the place of the first cursor with this label
+abbrev pub position_of : ℕ → List OpenCursor → Option ℕ
+position_of label cursors = position (λ c. c.label == label) cursors

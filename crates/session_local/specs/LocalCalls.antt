@@ -1,0 +1,47 @@
+-- The calls that a session answers by itself, from its own state alone.
+use Rattle.std.specs.Prelude.{ℕ, Bool, true, false, not, ◌||◌, Option, Some, None, is_some, is_none}
+use Rattle.session_local.specs.declared.request.Request.{Request}
+use Rattle.session_local.specs.declared.request.Request.TheVariants as call
+use Rattle.session_local.specs.Local.{LocalState, cursor_labelled}
+use Rattle.session_local.specs.Calls.{is_always_local}
+
+-- the label of the cursor that a call is made at
+abbrev pub cursor_of : Request → Option ℕ
+cursor_of (call.CloseTable cursor) = Some cursor.0
+cursor_of (call.SetCurrentIndex cursor index) = Some cursor.0
+cursor_of (call.Move cursor way) = Some cursor.0
+cursor_of (call.MakeKey cursor fresh value) = Some cursor.0
+cursor_of (call.Seek cursor by) = Some cursor.0
+cursor_of (call.SetIndexRange cursor upper inclusive) = Some cursor.0
+cursor_of (call.RemoveIndexRange cursor) = Some cursor.0
+cursor_of (call.IndexRecordCount cursor most) = Some cursor.0
+cursor_of (call.RetrieveKey cursor) = Some cursor.0
+cursor_of (call.GetBookmark cursor) = Some cursor.0
+cursor_of (call.GotoBookmark cursor bookmark) = Some cursor.0
+cursor_of (call.PrepareUpdate cursor how) = Some cursor.0
+cursor_of (call.SetColumn cursor column sequence value) = Some cursor.0
+cursor_of (call.RetrieveColumn cursor column sequence copy most) = Some cursor.0
+cursor_of (call.Update cursor) = Some cursor.0
+cursor_of (call.Delete cursor) = Some cursor.0
+cursor_of (call.GetLock cursor) = Some cursor.0
+cursor_of (call.EscrowUpdate cursor column amount) = Some cursor.0
+cursor_of _ = None
+
+-- whether the call is made at a cursor that the session does not have
+abbrev pub lacks_cursor : LocalState → Option ℕ → Bool
+lacks_cursor local None = false
+lacks_cursor local (Some label) = is_none (cursor_labelled local label)
+
+abbrev pub is_answered_begun : LocalState → Request → Bool
+is_answered_begun local call.BeginSession = true
+is_answered_begun local (call.OpenTable cursor table) = is_some (cursor_labelled local cursor.0)
+is_answered_begun local request = is_always_local request || lacks_cursor local (cursor_of request)
+
+abbrev pub is_begin : Request → Bool
+is_begin call.BeginSession = true
+is_begin _ = false
+
+-- Whether a session answers the call by itself: a session that was not begun refuses all but BeginSession, and one that was
+-- refuses BeginSession, a cursor label that is taken or not known, and answers the calls that are always local.
+abbrev pub is_answered_locally : LocalState → Request → Bool
+is_answered_locally local request = elim local.begun [ true ↦ is_answered_begun local request | false ↦ not (is_begin request) ]

@@ -1,0 +1,168 @@
+//! What a session holds from its begin to its end.
+
+ghost use Rattle.std.specs.Prelude.{◌≡◌, ◌≤◌, ◌<◌, ◌==◌, ◌||◌, ◌++◌, [], ◌∷◌, Option, Some, None, MatchOption, length, nat_le, find, filter, map, not, is_some, option_map, drop, remove, vec_len, vec_capacity, if◌then◌else◌};
+ghost use Rattle.session_local.specs.Answer.{Bytes, shown_by};
+ghost use Rattle.session_local.specs.Local.{unprepared};
+ghost use Rattle.session_local.specs.Finishing.{with_update_at};
+ghost use Rattle.session_local.specs.Holding.{position_of, begun_with_cursors};
+ghost use Rattle.session_local.specs.Preparing.{update_of, FitsCursor};
+
+use crate::buffers::{Buffers, MOST_CURSORS};
+use crate::open_cursor::OpenCursor;
+use crate::prepared::Prepared;
+use crate::reply::Value;
+use jet_base::CursorId;
+use std::marker::Model;
+
+/// The cursors and the reply buffer of a session that was begun.
+#[derive(Debug, Drop)]
+pub(crate) struct Begun {
+    pub(crate) cursors: Vec<OpenCursor>,
+    reply: Vec<u8>,
+}
+
+impl Model for Begun {
+    ghost use Rattle.session_local.specs.SessionSide.{HeldState};
+
+    ghost Value = { HeldState };
+
+    ghost use Rattle.session_local.specs.Holding.{held, IsHeld};
+
+    ghost view = { held };
+
+    ghost invariant = { IsHeld };
+}
+
+impl Begun {
+    /// A session that has just begun.
+    pub(crate) fn new(buffers: Buffers) -> Begun
+        ensures { result ≡ record { cursors = []; reply = buffers } }
+    {
+        let Buffers { cursors, reply } = buffers;
+        Begun { cursors, reply }
+    }
+
+    /// The bytes of the reply buffer.
+    pub(crate) fn reply(&self) -> &[u8]
+        ensures { result.now ≡ self.now.reply }
+    {
+        self.reply.as_slice()
+    }
+
+    /// The cursors, in the order in which they were opened.
+    pub(crate) fn cursors(&self) -> &[OpenCursor]
+        ensures { result.now ≡ self.now.cursors }
+    {
+        self.cursors.as_slice()
+    }
+
+    /// The place of the cursor with this label.
+    pub(crate) fn position(&self, label: CursorId) -> Option<usize>
+        ensures { result ≡ position_of label.0 self.now.cursors }
+    {
+        self.cursors
+            .iter()
+            .position(|cursor| cursor.label().0 == label.0)
+    }
+
+    /// The cursor with this label.
+    pub(crate) fn cursor(&self, label: CursorId) -> Option<&OpenCursor>
+        ensures { MatchOption result (find (λ c. c.label == label.0) self.now.cursors ≡ None) (λ found. find (λ c. c.label == label.0) self.now.cursors ≡ Some found.now) }
+    {
+        match self.position(label) {
+            Some(at) => Some(&self.cursors[at]),
+            None => None,
+        }
+    }
+
+    /// Whether a cursor with this label may be opened: none has it, and 16 are not open yet.
+    pub(crate) fn has_room_for(&self, label: CursorId) -> bool
+        ensures { result ≡ not (is_some (find (λ c. c.label == label.0) self.now.cursors) || nat_le 16 (length self.now.cursors)) }
+    {
+        match self.position(label) {
+            Some(_) => false,
+            None => self.cursors.len() < MOST_CURSORS,
+        }
+    }
+
+    /// Puts a cursor behind the others. There is room for it.
+    pub(crate) fn push(&mut self, cursor: OpenCursor)
+        requires free { find (λ c. c.label == cursor.label) self.old.cursors ≡ None }
+        requires few { length self.old.cursors < 16 }
+        ensures { self.new ≡ record self.old { cursors = self.old.cursors ++ cursor ∷ [] } }
+    {
+        match self.cursors.push(cursor) {
+            Ok(()) => {}
+            Err(_) => unreachable!(),
+        }
+    }
+
+    /// Lets the cursor with this label go.
+    pub(crate) fn remove(&mut self, label: CursorId)
+        ensures reply { self.new.reply ≡ self.old.reply }
+        ensures cursors { self.new.cursors ≡ filter (λ c. not (c.label == label.0)) self.old.cursors }
+    {
+        if let Some(at) = self.position(label) {
+            take_out(&mut self.cursors, at);
+        }
+    }
+
+    /// Puts this prepared update on the cursor with this label, in the place of the one that there was. It has the
+    /// columns of the cursor's table.
+    pub(crate) fn prepare(&mut self, label: CursorId, prepared: Option<Prepared>)
+        requires { FitsCursor (find (λ c. c.label == label.0) self.old.cursors) prepared }
+        ensures reply { self.new.reply ≡ self.old.reply }
+        ensures cursors { self.new.cursors ≡ (with_update_at (begun_with_cursors self.old.cursors) label.0 (option_map update_of prepared)).cursors }
+    {
+        if let Some(at) = self.position(label) {
+            let cursor = &mut self.cursors[at];
+            cursor.prepare(prepared);
+        }
+    }
+
+    /// Lets every prepared update go.
+    pub(crate) fn drop_prepared(&mut self)
+        ensures reply { self.new.reply ≡ self.old.reply }
+        ensures cursors { self.new.cursors ≡ map unprepared self.old.cursors }
+    {
+        drop_each(&mut self.cursors);
+    }
+
+    /// Writes these bytes to the front of the reply buffer: the value that shows them, as a front of one of so many.
+    pub(crate) fn show(&mut self, front: &[u8], whole: u64) -> Value
+        requires { length front.now ≤ 1048576 }
+        ensures shown { shown_by result self.new.reply ≡ Bytes front.now whole }
+        ensures cursors { self.new.cursors ≡ self.old.cursors }
+    {
+        write_front(&mut self.reply, front);
+        Value::Bytes(front.len(), whole)
+    }
+}
+
+// Lets the prepared update of each cursor go.
+fn drop_each(cursors: &mut [OpenCursor])
+    ensures { cursors.new ≡ map unprepared cursors.old }
+{
+    for cursor in cursors.iter_mut() {
+        cursor.prepare(None);
+    }
+}
+
+// Takes the cursor at this place out.
+fn take_out(cursors: &mut Vec<OpenCursor>, at: usize)
+    requires { at < vec_len cursors.old }
+    ensures items { cursors.new.items ≡ remove cursors.old.items at }
+    ensures len { vec_len cursors.new ≤ vec_len cursors.old }
+    ensures capacity { vec_capacity cursors.new ≡ vec_capacity cursors.old }
+{
+    let _ = cursors.remove(at);
+}
+
+// Writes the piece over the first bytes.
+fn write_front(bytes: &mut [u8], piece: &[u8])
+    requires { length piece.now ≤ length bytes.old }
+    ensures { bytes.new ≡ piece.now ++ drop (length piece.now) bytes.old }
+{
+    let (front, _) = bytes.split_at_mut(piece.len());
+    front.copy_from_slice(piece);
+}
