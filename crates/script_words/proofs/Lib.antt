@@ -1,0 +1,5 @@
+pub mod Cuts
+pub mod WordCounts
+pub mod Decimal
+pub mod NameBytes
+pub mod HexPairs
