@@ -1,0 +1,2 @@
+pub mod TranscriptLine
+pub mod Written

@@ -1,0 +1,10 @@
+//! The transcript of a script: the bytes of a line for each call and its reply.
+#![tactic(auto)]
+
+mod append;
+mod names;
+#[cfg(test)]
+mod tests;
+mod transcript;
+
+pub use transcript::{LINE_ROOM, Transcript};
