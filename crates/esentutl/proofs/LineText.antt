@@ -8,7 +8,7 @@ use Rattle.session_local.specs.declared.request.Request.{Request}
 use Rattle.session_local.specs.declared.reply.Reply.{Reply}
 use Rattle.session_local.specs.Answer.{Row, answered_by}
 use Rattle.session_local.specs.Run.{RunState, Line, LineOutcome, rows_of_line}
-use Rattle.script_text.specs.TranscriptLine.{transcript_of, transcript_line, row_line}
+use Rattle.script_transcript.specs.TranscriptLine.{transcript_of, transcript_line, row_line}
 use Rattle.esentutl.specs.TopCall.{span_limit, is_plain}
 use Rattle.list_engine.specs.Lines.{outcome_of_jet, row_told}
 use Rattle.esentutl.specs.Lines.{line_text}

@@ -14,7 +14,7 @@ use Rattle.std.proofs.lemmas.List.Folds.{list_all-append}
 use Rattle.std.proofs.lemmas.Grind.{flat_map-append}
 use Rattle.database_state.specs.State.{empty_state}
 use Rattle.session_local.specs.Run.{RunState, Line, LineOutcome, run_from, rows_from, rows_of_line, run_after, run_after_all, may_come, outcomes_may_come}
-use Rattle.script_text.specs.TranscriptLine.{transcript_of, row_line}
+use Rattle.script_transcript.specs.TranscriptLine.{transcript_of, row_line}
 use Rattle.esentutl.specs.TopCall.{span_limit, is_plain, AreOutcomesOf, run_transcript}
 use Rattle.esentutl.specs.Lines.{line_text, RunsLine, BreaksLine}
 

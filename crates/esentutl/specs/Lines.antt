@@ -2,7 +2,7 @@
 use Rattle.std.specs.Prelude.{◌≡◌, ℕ, ◌<◌, List, ◌∷◌, true, length, take, Option}
 use Rattle.std.specs.Io.KnownBytes.{append_known}
 use Rattle.session_local.specs.Run.{RunState, Line, LineOutcome, rows_of_line, run_after, may_come}
-use Rattle.script_text.specs.TranscriptLine.{transcript_of}
+use Rattle.script_transcript.specs.TranscriptLine.{transcript_of}
 use Rattle.esentutl.specs.TopCall.{span_limit, is_plain}
 
 abbrev pub line_text : RunState → Line → LineOutcome → List ℕ

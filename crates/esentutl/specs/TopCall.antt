@@ -5,7 +5,7 @@ use Rattle.std.specs.Io.KnownBytes.{append_known}
 use Rattle.database_state.specs.State.{empty_state}
 use Rattle.session_local.specs.Run.{Line, LineOutcome, served, no_memory, flush_failed, unserved, run_from, rows_from, outcomes_may_come}
 use Rattle.script_text.specs.FirstPath.{built_lines}
-use Rattle.script_text.specs.TranscriptLine.{transcript_of}
+use Rattle.script_transcript.specs.TranscriptLine.{transcript_of}
 use Rattle.esentutl.specs.Words.{last_line, not_built_line}
 
 -- the most bytes of a script, and the limit of the version store's span

@@ -3,7 +3,7 @@
 ghost use Rattle.std.specs.Prelude.{◌≡◌, ◌≤◌, ℕ, List, ◌∷◌, [], true, length};
 ghost use Rattle.session_local.specs.Run.{RunState, Line, rows_of_line, run_after, may_come};
 ghost use Rattle.session_local.specs.Answer.{answered_by};
-ghost use Rattle.script_text.specs.TranscriptLine.{NamesNoMore};
+ghost use Rattle.script_transcript.specs.TranscriptLine.{NamesNoMore};
 ghost use Rattle.esentutl.specs.TopCall.{span_limit};
 ghost use Rattle.list_engine.specs.Lines.{outcome_told, row_told, IsReady};
 ghost use Rattle.list_engine.specs.Serving.{reply_buffer};

@@ -4,7 +4,7 @@ ghost use Rattle.std.specs.Prelude.{◌≡◌, ◌<◌, ℕ, List, [], ◌∷◌
 ghost use Rattle.std.specs.Io.KnownBytes.{append_known};
 ghost use Rattle.database_state.specs.State.{empty_state};
 ghost use Rattle.session_local.specs.Run.{RunState, Line, LineOutcome, run_from, rows_of_line, run_after, may_come};
-ghost use Rattle.script_text.specs.TranscriptLine.{transcript_of};
+ghost use Rattle.script_transcript.specs.TranscriptLine.{transcript_of};
 ghost use Rattle.script_text.specs.Parsed.{calls_of};
 ghost use Rattle.esentutl.specs.TopCall.{AreOutcomesOf, run_transcript};
 ghost use Rattle.esentutl.specs.Lines.{RunsLine, BreaksLine};
@@ -12,7 +12,7 @@ ghost use Rattle.esentutl.specs.Lines.{RunsLine, BreaksLine};
 use crate::engine::ScriptEngine;
 use jet_base::{OutOfMemory, Session};
 use jet_io::{Failed, Sink, write_all};
-use script_text::Transcript;
+use script_transcript::Transcript;
 use session_local::Request;
 use std::alloc::Global;
 use thiserror::Error;

@@ -15,7 +15,7 @@ use Rattle.script_text.specs.declared.first_path.Stage.{Stage}
 use Rattle.script_text.specs.declared.first_path.Stage.TheVariants.{Filling, KeySet, ValueSet}
 use Rattle.script_text.specs.FirstPath.{stage_after, is_cursor_one}
 use Rattle.script_text.specs.FirstPath.{may_follow}
-use Rattle.script_text.specs.TranscriptLine.{NamesNoMore, names_at_most}
+use Rattle.script_transcript.specs.TranscriptLine.{NamesNoMore, names_at_most}
 use Rattle.list_engine.specs.declared.engine.ListEngine.{ListEngine}
 use Rattle.list_engine.specs.Path.{Path, Names, PathRecord, PathPrepared, path_run, path_reply, path_next, path_number, reply_of, filling, is_numbered, is_at_stage, is_sound}
 use Rattle.list_engine.specs.Serving.{CanServe, MayCome, Serves, IsServed, IsAnswered, IsUnserved, NumberIsKept, NamesWithin, reply_buffer, is_update}

@@ -8,7 +8,7 @@ ghost use Rattle.database_state.specs.State.{empty_state};
 ghost use Rattle.session_local.specs.Run.{RunState, Line, run_from};
 ghost use Rattle.script_text.specs.declared.first_path.Stage.TheVariants.{Fresh};
 ghost use Rattle.script_text.specs.FirstPath.{may_follow};
-ghost use Rattle.script_text.specs.TranscriptLine.{NamesNoMore};
+ghost use Rattle.script_transcript.specs.TranscriptLine.{NamesNoMore};
 ghost use Rattle.list_engine.specs.Lines.{IsReady, IsRun, outcome_told, row_told};
 ghost use Rattle.list_engine.specs.Rows.{IsPositionIn, place_at, fields_in};
 ghost use Rattle.list_engine.specs.Serving.{Shows, CanServe, Serves, NumberIsKept, reply_buffer, shown_prepared, key_name, is_key_name, plain_reply, IsStorable, with_given, IsUpdated, Answers};

@@ -4,7 +4,7 @@ use Rattle.std.specs.Prelude.{if◌then◌else◌, ◌==◌, ◌&&◌}
 use Rattle.session_local.specs.declared.request.Request.{Request}
 use Rattle.script_text.specs.declared.first_path.Stage.{Stage}
 use Rattle.script_text.specs.declared.first_path.Stage.TheVariants.{Fresh}
-use Rattle.script_text.specs.Words.{◌>>=◌, words_of}
+use Rattle.script_words.specs.Words.{◌>>=◌, words_of}
 use Rattle.script_text.specs.Grammar.{ScriptResult, with_front, said_lines, line_request, requests_of, script_lines}
 use Rattle.script_text.specs.FirstPath.{stage_after, is_built_form, built_call, built_from, built_lines, may_follow}
 

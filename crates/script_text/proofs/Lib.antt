@@ -1,9 +1,2 @@
-pub mod Digits
-pub mod JetNames
-pub mod Cuts
-pub mod WordCounts
-pub mod Decimal
-pub mod NameBytes
-pub mod HexPairs
 pub mod Scripts
 pub mod BuiltLines

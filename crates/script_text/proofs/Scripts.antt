@@ -6,7 +6,7 @@ use Rattle.session_local.specs.declared.request.Request.{Request}
 use Rattle.script_text.specs.declared.first_path.Stage.{Stage}
 use Rattle.script_text.specs.Grammar.{ScriptResult, numbered_from}
 use Rattle.script_text.specs.declared.first_path.Stage.TheVariants.{Fresh}
-use Rattle.script_text.specs.Words.{lines_of}
+use Rattle.script_words.specs.Words.{lines_of}
 use Rattle.script_text.specs.FirstPath.{built_from, built_lines}
 use Rattle.std.proofs.lemmas.List.Splits.{length-slice_split}
 use Rattle.std.proofs.lemmas.List.Sums.{count_by-le-length}

@@ -18,8 +18,8 @@ use Rattle.cursor_nav.specs.declared.seek_by.SeekBy.{SeekBy}
 use Rattle.cursor_nav.specs.declared.seek_by.SeekBy.TheVariants as seek
 use Rattle.session_local.specs.declared.request.Request.{Request}
 use Rattle.session_local.specs.declared.request.Request.TheVariants as call
-use Rattle.script_text.specs.Words.{◌>>=◌, first_word, only_word, two_words, three_words, is_empty_list, choice_of, has_word, are_distinct, after_prefix, number_within, signed_number_of, label_of, name_of, hex_bytes_of}
-use Rattle.script_text.specs.Values.{given_of}
+use Rattle.script_words.specs.Words.{◌>>=◌, first_word, only_word, two_words, three_words, is_empty_list, begins_with_word, optional_word, choice_of, has_word, are_distinct, after_prefix, number_within, signed_number_of, label_of, name_of, hex_bytes_of}
+use Rattle.script_words.specs.Values.{given_of}
 
 -- a call without words
 unfoldable pub bare_call : Request → List (List ℕ) → Option Request
@@ -50,18 +50,6 @@ part_call request words = do
   table ← name_of word.0
   part ← name_of word.1
   Some (request table part)
-
--- whether the first word is this one
-abbrev pub begins_with_word : List ℕ → List (List ℕ) → Bool
-begins_with_word expected [] = false
-begins_with_word expected (word ∷ words) = bytes_eq word expected
-
--- whether the one word stands, where nothing else does
-unfoldable pub optional_word : List ℕ → List (List ℕ) → Option Bool
-optional_word expected words =
-    if is_empty_list words
-    then Some false
-    else (only_word words >>= λ word. if bytes_eq word expected then Some true else None)
 
 -- `CommitTransaction`, with `lazy` or without
 unfoldable pub commit_call : List (List ℕ) → Option Request

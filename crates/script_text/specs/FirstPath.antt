@@ -12,8 +12,7 @@ use Rattle.session_local.specs.declared.request.Request.{Request}
 use Rattle.session_local.specs.declared.request.Request.TheVariants as call
 use Rattle.script_text.specs.declared.first_path.Stage.{Stage}
 use Rattle.script_text.specs.declared.first_path.Stage.TheVariants.{Fresh, Begun, TableMade, KeyAdded, ValueAdded, Indexed, Opened, Filling, Prepared, KeySet, ValueSet, Walking}
-use Rattle.script_text.specs.Calls.{begins_with_word}
-use Rattle.script_text.specs.Words.{◌>>=◌, is_empty_list, words_of}
+use Rattle.script_words.specs.Words.{◌>>=◌, begins_with_word, is_empty_list, words_of}
 use Rattle.script_text.specs.Grammar.{ScriptResult, with_front, said_lines, line_request}
 
 -- whether the cursor has the label 1, the only one of these scripts

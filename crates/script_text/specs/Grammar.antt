@@ -1,7 +1,7 @@
 -- The grammar of a script, byte by byte, and the first line that is outside it.
 use Rattle.std.specs.Prelude.{ℕ, ◌+◌, Bool, true, ◌==◌, if◌then◌else◌, List, [], ◌∷◌, Option, Some, None, Result, Ok, Err}
 use Rattle.session_local.specs.declared.request.Request.{Request}
-use Rattle.script_text.specs.Words.{◌>>=◌, first_word, lines_of, words_of, label_of}
+use Rattle.script_words.specs.Words.{◌>>=◌, first_word, lines_of, words_of, label_of}
 use Rattle.script_text.specs.Calls.{named_call}
 
 -- whether a line says nothing: an empty one, and one that begins with `#` (byte 23), whatever its bytes

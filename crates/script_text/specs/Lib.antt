@@ -1,11 +1,6 @@
-pub mod Words
-pub mod Values
 pub mod Calls
 pub mod Grammar
 pub mod FirstPath
-pub mod TranscriptLine
 pub mod Computing
 pub mod ScriptRun
-pub mod Written
-pub mod Reading
 pub mod Parsed

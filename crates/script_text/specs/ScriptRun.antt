@@ -3,7 +3,7 @@ use Rattle.std.specs.Prelude.{ℕ, List, [], ◌∷◌, ◌++◌, Ok, Err}
 use Rattle.session_local.specs.Answer.{Row}
 use Rattle.session_local.specs.Run.{served_rows}
 use Rattle.script_text.specs.Grammar.{ScriptResult, script_lines}
-use Rattle.script_text.specs.TranscriptLine.{transcript_of}
+use Rattle.script_transcript.specs.TranscriptLine.{transcript_of}
 use Rattle.script_text.specs.Computing as script
 use Rattle.session_local.specs.Computing as engine
 

@@ -3,21 +3,20 @@
 ghost use Rattle.std.specs.Prelude.{◌≡◌, List, ℕ, Some};
 ghost use Rattle.jet_base.specs.declared.ids.CursorId.{CursorId};
 ghost use Rattle.session_local.specs.declared.request.Request.TheVariants as call;
-ghost use Rattle.script_text.specs.Reading.{Reads};
-ghost use Rattle.script_text.specs.Words.{label_of};
+ghost use Rattle.script_words.specs.Reading.{Reads};
+ghost use Rattle.script_words.specs.Words.{label_of};
 ghost use Rattle.script_text.specs.Calls as calls;
 
-use crate::arity::{
-    first_word, no_more, only_word, optional_word, takes_word, three_words, two_words,
-};
 use crate::choices::{column_type, comparison, preparation, way};
 use crate::flags::{after_prefix, column_flags, index_flags};
 use crate::index_words::{are_index_words, conditions, segments};
-use crate::numbers::{label, number_within, signed_number};
-use crate::parts::Parts;
-use crate::refusal::Refusal;
-use crate::texts::{given, hex_bytes, is_word, name};
 use jet_base::{CursorId, Name, Octets};
+use script_words::arity::{
+    first_word, no_more, only_word, optional_word, takes_word, three_words, two_words,
+};
+use script_words::numbers::{label, number_within, signed_number};
+use script_words::texts::{given, hex_bytes, is_word, name};
+use script_words::{Parts, Refusal};
 use session_local::Request;
 use std::alloc::Global;
 

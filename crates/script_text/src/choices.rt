@@ -1,14 +1,14 @@
 //! Words that stand for one of a few things.
 
 ghost use Rattle.std.specs.Prelude.{◌≡◌};
-ghost use Rattle.script_text.specs.Reading.{Reads};
-ghost use Rattle.script_text.specs.Words.{choice_of};
+ghost use Rattle.script_words.specs.Reading.{Reads};
+ghost use Rattle.script_words.specs.Words.{choice_of};
 ghost use Rattle.script_text.specs.Calls.{column_types, ways, comparisons, preparations};
 
-use crate::refusal::Refusal;
-use crate::texts::is_word;
 use cursor_nav::SeekBy;
 use jet_base::{ColType, Prepare, Way};
+use script_words::Refusal;
+use script_words::texts::is_word;
 
 /// The type of a column.
 pub fn column_type(word: &[u8]) -> Result<ColType, Refusal>

@@ -1,18 +1,17 @@
 //! The scripts that are built: one session that makes one table, fills it in one transaction, and reads it.
 
 ghost use Rattle.std.specs.Prelude.{◌≡◌};
-ghost use Rattle.script_text.specs.Reading.{Reads};
+ghost use Rattle.script_words.specs.Reading.{Reads};
 ghost use Rattle.script_text.specs.FirstPath.{stage_after, is_cursor_one, is_long, is_plain_column, is_only_primary, is_ascending_on, begins_with_hex, is_built_form, built_call};
-ghost use Rattle.script_text.specs.Words.{words_of};
+ghost use Rattle.script_words.specs.Words.{words_of};
 ghost use Rattle.script_text.specs.declared.first_path.Stage.TheVariants as stages;
 
-use crate::arity::{skip_words, takes_word};
 use crate::grammar::line_request;
-use crate::parts::Parts;
-use crate::refusal::Refusal;
-use crate::texts::{is_word, split_form};
 use index_derive::{IndexFlags, NamedSegment};
 use jet_base::{ColType, ColumnFlags, CursorId, Given, Name, Prepare, Session};
+use script_words::arity::{skip_words, takes_word};
+use script_words::texts::{is_word, split_form};
+use script_words::{Parts, Refusal};
 use session_local::Request;
 use std::alloc::Global;
 

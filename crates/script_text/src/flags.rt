@@ -3,15 +3,14 @@
 ghost use Rattle.std.specs.Prelude.{◌≡◌, ◌&&◌, is_some, filter};
 ghost use Rattle.std.specs.List.{list_all, filter_map};
 ghost use Rattle.std.specs.Option.{option_copied};
-ghost use Rattle.script_text.specs.Reading.{Reads};
-ghost use Rattle.script_text.specs.Words.{has_word, are_distinct, after_prefix};
+ghost use Rattle.script_words.specs.Reading.{Reads};
+ghost use Rattle.script_words.specs.Words.{has_word, are_distinct, after_prefix};
 ghost use Rattle.script_text.specs.Calls.{is_column_flag, column_flags_of, is_index_flag, index_flags_of, direction_of, segment_of, prefixed_condition_of, condition_of, is_index_word, has_flags_once, are_index_words};
 
-use crate::parts::Parts;
-use crate::refusal::Refusal;
-use crate::texts::{is_word, name};
 use index_derive::{IndexFlags, NamedCondition, NamedSegment};
 use jet_base::{ColumnFlags, Items};
+use script_words::texts::{is_word, name};
+use script_words::{Parts, Refusal};
 use std::alloc::Global;
 
 /// Whether a word stands among the words.

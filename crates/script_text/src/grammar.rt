@@ -1,21 +1,20 @@
 //! A line of a script: who calls, and what.
 
 ghost use Rattle.std.specs.Prelude.{◌≡◌};
-ghost use Rattle.script_text.specs.Reading.{Reads};
+ghost use Rattle.script_words.specs.Reading.{Reads};
 ghost use Rattle.script_text.specs.Calls as calls;
 ghost use Rattle.script_text.specs.Grammar.{is_skipped, words_request, line_request};
 
-use crate::arity::first_word;
 use crate::calls::{
     add_column, bare, commit, count, create_index, create_table, delete_column, delete_index,
     delete_table, escrow_update, goto_bookmark, make_key, move_to, open_table, prepare_update,
     retrieve_column, rollback, seek, set_column, set_current_index, set_index_range,
 };
-use crate::numbers::label;
-use crate::parts::Parts;
-use crate::refusal::Refusal;
-use crate::texts::is_word;
 use jet_base::{CursorId, Session};
+use script_words::arity::first_word;
+use script_words::numbers::label;
+use script_words::texts::is_word;
+use script_words::{Parts, Refusal};
 use session_local::Request;
 use std::alloc::Global;
 

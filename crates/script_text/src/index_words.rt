@@ -5,15 +5,14 @@ ghost use Rattle.std.specs.List.{list_all, filter_map};
 ghost use Rattle.script_text.specs.Calls.{segment_of, prefixed_condition_of, condition_of, is_index_word, are_index_words};
 
 use crate::flags::{after_prefix, condition, has_flags_once, is_index_flag, segment};
-use crate::parts::Parts;
-use crate::refusal::Refusal;
-use crate::texts::is_name;
 use index_derive::{NamedCondition, NamedSegment};
 use jet_base::{Items, OutOfMemory};
+use script_words::texts::is_name;
+use script_words::{Parts, Refusal};
 use std::alloc::Global;
 
 /// Whether a word is a key column behind its sign.
-#[tactic(auto, unfolding(crate::specs::Calls::segment_of, crate::specs::Calls::direction_of, crate::specs::Words::name_of))]
+#[tactic(auto, unfolding(crate::specs::Calls::segment_of, crate::specs::Calls::direction_of, script_words::specs::Words::name_of))]
 fn is_segment(word: &[u8]) -> bool
     ensures { result ≡ is_some (segment_of word.now) }
 {
@@ -25,7 +24,7 @@ fn is_segment(word: &[u8]) -> bool
 }
 
 /// Whether a word is a name behind the prefix of a condition.
-#[tactic(auto, unfolding(crate::specs::Calls::prefixed_condition_of, crate::specs::Words::name_of))]
+#[tactic(auto, unfolding(crate::specs::Calls::prefixed_condition_of, script_words::specs::Words::name_of))]
 fn is_prefixed_name(word: &[u8], prefix: &[u8]) -> bool
     ensures { (b : Bool) → result ≡ is_some (prefixed_condition_of prefix.now b word.now) }
 {

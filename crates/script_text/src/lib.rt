@@ -1,25 +1,16 @@
-//! Scripts and transcripts: the grammar of a script byte by byte, and the bytes of a transcript line.
+//! Scripts: the grammar of a script's lines, and the calls that they are.
 #![tactic(auto)]
 
-mod append;
-mod arity;
 mod calls;
 mod choices;
 mod first_path;
 mod flags;
 mod grammar;
 mod index_words;
-mod names;
-mod numbers;
-mod parts;
-mod refusal;
 mod script;
-mod texts;
-mod transcript;
 
 pub use first_path::Stage;
 pub use script::{ScriptFault, parse};
-pub use transcript::{LINE_ROOM, Transcript};
 
 #[cfg(test)]
 mod tests;

@@ -8,9 +8,8 @@ ghost use Rattle.script_text.specs.Parsed.{calls_of};
 
 use crate::first_path::{Stage, built_call};
 use crate::grammar::is_skipped;
-use crate::parts::Parts;
-use crate::refusal::Refusal;
 use jet_base::Session;
+use script_words::{Parts, Refusal};
 use session_local::Request;
 use std::alloc::Global;
 use thiserror::Error;

@@ -1,7 +1,7 @@
 use Rattle.std.proofs.Common.{◌≡◌, length}
 use Rattle.std.specs.Prelude.{◌&&◌}
 use Rattle.std.specs.List.{list_all}
-use Rattle.script_text.specs.Words.{are_distinct}
+use Rattle.script_words.specs.Words.{are_distinct}
 use Rattle.script_text.specs.Calls.{is_column_flag}
 use Rattle.script_text.proofs.flags.are_column_flags.Given as goal
 

@@ -1,5 +1,5 @@
 use Rattle.std.proofs.Common.{◌≡◌, length}
-use Rattle.script_text.specs.Words.{has_word}
+use Rattle.script_words.specs.Words.{has_word}
 use Rattle.script_text.proofs.flags.has_word.Given as goal
 
 -- the word stands among all words where it stands among those that are left
