@@ -5,4 +5,5 @@ pub mod entries;
 pub mod indexes;
 pub mod keys;
 pub mod records;
+pub mod rows;
 pub mod values;

@@ -8,7 +8,7 @@ use Rattle.session_local.specs.Run.{log_from, run_from, all_served}
 use Rattle.script_text.specs.Grammar.{ScriptResult, script_lines}
 use Rattle.jet_base.specs.JetName.{jet_name}
 use Rattle.session_local.specs.Answer.{Answered, Row}
-use Rattle.script_text.specs.TranscriptLine.{shown_text}
+use Rattle.script_transcript.specs.TranscriptLine.{shown_text}
 use Rattle.script_text.specs.ScriptRun.{script_rows, text_of}
 
 -- a line and its reply: the name of the reply, with the value behind it where one is to be told

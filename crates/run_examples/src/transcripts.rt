@@ -2,7 +2,7 @@
 #![tactic(auto, unfolding(script_text::specs::ScriptRun::running))]
 
 ghost use Rattle.std.specs.Prelude.{◌≡◌, List, [], ◌∷◌, codes};
-ghost use Rattle.script_text.specs.TranscriptLine.{transcript_of, merged};
+ghost use Rattle.script_transcript.specs.TranscriptLine.{transcript_of, merged};
 ghost use Rattle.script_text.specs.ScriptRun.{script_rows, script_transcript, text_of};
 
 /// A script without a line prints nothing.

@@ -7,9 +7,9 @@ ghost use Rattle.jet_base.specs.declared.replies.Jet.TheVariants as jet;
 ghost use Rattle.jet_base.specs.declared.words.Way.TheVariants as way;
 ghost use Rattle.session_local.specs.declared.request.Request.TheVariants as call;
 ghost use Rattle.session_local.specs.Answer as answer;
-ghost use Rattle.script_text.specs.Words.{text_of_lines};
+ghost use Rattle.script_words.specs.Words.{text_of_lines};
 ghost use Rattle.script_text.specs.Grammar.{line_request};
-ghost use Rattle.script_text.specs.TranscriptLine.{answer_line, merged};
+ghost use Rattle.script_transcript.specs.TranscriptLine.{answer_line, merged};
 ghost use Rattle.script_examples.specs.OrdinaryRun.{only_primary};
 ghost use Rattle.script_examples.specs.Rows.{row};
 

@@ -3,7 +3,7 @@
 
 ghost use Rattle.std.specs.Prelude.{◌≡◌, [], ◌∷◌, ◌++◌, Ok, Err, codes};
 ghost use Rattle.session_local.specs.declared.request.Request.TheVariants as call;
-ghost use Rattle.script_text.specs.Words.{text_of_lines};
+ghost use Rattle.script_words.specs.Words.{text_of_lines};
 ghost use Rattle.script_text.specs.Grammar.{script_lines};
 ghost use Rattle.script_text.specs.FirstPath.{built_lines};
 ghost use Rattle.script_examples.specs.OrdinaryRun.{filling_lines, filling_lines_up_to_key, walking_lines, ordinary_lines, ordinary_calls};

@@ -3,8 +3,8 @@
 
 ghost use Rattle.std.specs.Prelude.{◌≡◌, [], ◌∷◌, Some, None, pos, negsuc, codes, length, replicate};
 ghost use Rattle.jet_base.specs.declared.words.Given.TheVariants as given;
-ghost use Rattle.script_text.specs.Words.{name_of, label_of};
-ghost use Rattle.script_text.specs.Values.{given_of};
+ghost use Rattle.script_words.specs.Words.{name_of, label_of};
+ghost use Rattle.script_words.specs.Values.{given_of};
 
 /// The numbers of a value reach from -2^63 to 2^63 - 1, without a leading zero; minus zero is zero.
 pub fn numbers_have_a_range()
