@@ -1,6 +1,7 @@
 pub mod RowFieldValues
 pub mod Checked
 pub mod Grouping
+pub mod HereRows
 pub mod Loop
 pub mod OneColumn
 pub mod Sizes

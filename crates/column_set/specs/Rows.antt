@@ -87,6 +87,18 @@ abbrev pub stands_for : RowValue → List ℕ → Bool
 stands_for (Here bytes) value = bytes_eq bytes value && nat_le (length value) 255
 stands_for (Apart entry place size) value = nat_lt 255 (length value) && (size == length value)
 
+-- the row that keeps every value of a record
+abbrev pub all_here : RecordFields → RowFields
+all_here fields = map (λ field. (field.0, map (λ value. Here value) field.1)) fields
+
+-- whether each of the values may stand in a row
+abbrev pub are_short : List (List ℕ) → Bool
+are_short values = list_all (λ value. nat_le (length value) 255) values
+
+-- whether each value of a record may
+abbrev pub is_all_here : RecordFields → Bool
+is_all_here fields = list_all (λ field. are_short field.1) fields
+
 -- the values of a record by rising column and in their order, each with its column
 abbrev pub record_values_in_order : RecordFields → List (ℕ × List ℕ)
 record_values_in_order fields = flat_map (λ field. map (λ value. (field.0, value)) field.1) fields

@@ -69,17 +69,22 @@ fn put_head(bytes: &mut Vec<u8>, column: u16, form: u8, count: u16) -> Result<()
     bytes.extend_from_slice(&count.to_le_bytes())
 }
 
+/// Writes a value that stands in its row, with its column.
+pub(crate) fn put_here(bytes: &mut Vec<u8>, column: u16, here: &[u8]) -> Result<(), AllocError>
+    requires { length here.now ≤ 255 }
+    ensures { OnOk result (bytes.new.items ≡ bytes.old.items ++ value_bytes (column, RowValue.Here here.now)) }
+{
+    put_head(bytes, column, HERE, here.len() as u16)?;
+    bytes.extend_from_slice(here)
+}
+
 /// Writes a value with its column.
 fn put_value(bytes: &mut Vec<u8>, column: u16, value: &RowValue) -> Result<(), AllocError>
     requires { IsTrue (value_fits_row value.now) }
     ensures { OnOk result (bytes.new.items ≡ bytes.old.items ++ value_bytes (column, value.now)) }
 {
     match value {
-        RowValue::Here(here) => {
-            let here = here.as_bytes();
-            put_head(bytes, column, HERE, here.len() as u16)?;
-            bytes.extend_from_slice(here)
-        }
+        RowValue::Here(here) => put_here(bytes, column, here.as_bytes()),
         RowValue::Apart {
             entry,
             place,

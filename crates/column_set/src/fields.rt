@@ -14,7 +14,7 @@ pub const VALUE_HEADER: usize = 5;
 const NAME_SIZE: usize = 16;
 
 // The longest value that is kept in its row.
-const LONGEST_KEPT: usize = 255;
+pub(crate) const LONGEST_KEPT: usize = 255;
 
 /// The room of a value of so many bytes in its row.
 pub fn size_of_length(length: usize) -> usize

@@ -1,6 +1,7 @@
 //! Records: the values that a row of a table has.
 
-ghost use Rattle.std.specs.Prelude.{◌≡◌, ◌+◌, ◌-◌, ◌^◌, ◌<◌, ℕ, List, [], ◌∷◌, ◌++◌, length, min, remove, slice_set, IfOk, IfErr, if◌then◌else◌, is_ok};
+ghost use Rattle.std.specs.Prelude.{◌≡◌, ◌+◌, ◌-◌, ◌^◌, ◌<◌, ℕ, List, [], ◌∷◌, ◌++◌, length, min, remove, slice_set, IfOk, IfErr, IsTrue, if◌then◌else◌, is_ok};
+ghost use Rattle.column_set.specs.Record.{is_record};
 ghost use Rattle.column_set.specs.RecordPlaces.{IsPlaceOf, IsGapFor};
 ghost use Rattle.column_set.specs.RecordValues.{values_of, with_values, record_size, size_of_values};
 
@@ -60,6 +61,14 @@ impl Record {
             Ok(place) => self.fields[place].values(),
             Err(_) => &[],
         }
+    }
+
+    /// The columns that have a value, by rising number.
+    pub(crate) fn fields(&self) -> &[Field]
+        ensures fields { result.now ≡ self.now }
+        ensures formed { IsTrue (is_record self.now) }
+    {
+        self.fields.as_slice()
     }
 
     /// The in-page size of the record, in bytes: its row is refused where that is more than 1,700. Past the largest

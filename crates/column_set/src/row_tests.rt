@@ -126,3 +126,41 @@ fn bytes_that_are_no_row_are_refused(rt: HostRuntime) {
         assert!(rt; matches!(decode(rt.alloc(), bytes), Err(RowFault::BadRecord)));
     }
 }
+
+#[test]
+fn the_row_of_a_record_is_written(rt: HostRuntime) -> Result<(), Fail> {
+    let mut record = Record::new(rt.alloc());
+    record.set_only_value(ColumnId(128), Octets::from_slice(rt.alloc(), b"bob")?)?;
+    record.set_only_value(ColumnId(1), Octets::from_slice(rt.alloc(), &[2, 0, 0, 0])?)?;
+    if !is_all_here(&record) {
+        return Err(Fail::new("a value is kept apart"));
+    }
+    let bytes = encode_record(rt.alloc(), &record)?;
+    assert_eq!(rt; bytes.as_slice(), BOB.as_slice());
+    // with a value more in a column that has one
+    record.push_value(ColumnId(128), Octets::from_slice(rt.alloc(), b"")?)?;
+    if !is_all_here(&record) {
+        return Err(Fail::new("a value is kept apart"));
+    }
+    let bytes = encode_record(rt.alloc(), &record)?;
+    assert_eq!(rt; bytes.len(), BOB.len() + 5);
+    assert_eq!(rt; bytes.first(), Some(&3));
+    record.push_value(ColumnId(256), Octets::from_slice(rt.alloc(), &[97; 256])?)?;
+    assert!(rt; !is_all_here(&record));
+    values_here_are_the_record();
+    Ok(())
+}
+
+#[test]
+fn the_row_of_a_record_has_at_most_1700_bytes(rt: HostRuntime) -> Result<(), Fail> {
+    let mut record = Record::new(rt.alloc());
+    for _ in 0..7 {
+        record.push_value(ColumnId(200), Octets::from_slice(rt.alloc(), &[97; 255])?)?;
+    }
+    if !is_all_here(&record) {
+        return Err(Fail::new("a value is kept apart"));
+    }
+    let seven = encode_record(rt.alloc(), &record);
+    assert!(rt; matches!(seven, Err(RowFault::RecordTooBig)));
+    Ok(())
+}
