@@ -1,9 +1,9 @@
 -- The stored bytes of a written value.
-use Rattle.std.proofs.Common.{◌≡◌, ℕ, suc, zero, ◌+◌, ◌-◌, ◌*◌, ◌/◌, ◌%◌, ◌^◌, ◌<◌, ◌≤◌, List, [], ◌∷◌, length, take, map, replicate, set, refl, ap, sym, ◌∙◌, arith}
+use Rattle.std.proofs.Common.{◌≡◌, ℕ, suc, zero, ◌+◌, ◌/◌, ◌<◌, List, [], ◌∷◌, length, map, replicate, set, refl, ap, arith}
 use Rattle.jet_base.specs.declared.words.ColType.{ColType}
 use Rattle.jet_base.specs.declared.words.ColType.TheVariants.{Bit, UnsignedByte, Short, UnsignedShort, Long, UnsignedLong, LongLong, Currency, Guid, Binary, Text, LongBinary, LongText}
-use Rattle.jet_base.specs.ColumnType.{little_endian, twos_complement, largest_value}
-use Rattle.jet_base.specs.Given.{as_bit, as_stored, number_fits}
+use Rattle.jet_base.specs.ColumnType.{little_endian}
+use Rattle.jet_base.specs.Given.{as_bit, as_stored}
 use Rattle.std.specs.List.{remove}
 use Rattle.std.proofs.lemmas.List.Sums.{sum_by-set, sum_by-remove}
 use Rattle.column_set.specs.RecordValues.{size_of_value, size_of_values}

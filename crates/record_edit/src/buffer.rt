@@ -13,11 +13,11 @@ ghost use Rattle.record_edit.specs.SetColumn.{buffer_after, refusal_in_column, s
 use crate::effect::Effect;
 use crate::fault::EditFault;
 use crate::new_value::NewValue;
-use crate::numbers::largest_value;
 use column_set::{Column, Columns, Record};
 use jet_base::{ColType, ColumnId, Given, Jet, OutOfMemory};
 use std::alloc::Global;
 use std::marker::Model;
+use stored_value::largest_value;
 
 // The most bytes of a record in a row.
 const LARGEST_RECORD: usize = 1_700;

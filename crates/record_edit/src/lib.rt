@@ -5,7 +5,6 @@ mod buffer;
 mod effect;
 mod fault;
 mod new_value;
-mod numbers;
 
 pub use buffer::CopyBuffer;
 pub use fault::EditFault;

@@ -1,14 +1,13 @@
 //! The values that are set.
 
 ghost use Rattle.std.specs.Prelude.{◌≡◌, IsTrue, IfOk, length, replicate};
-ghost use Rattle.jet_base.specs.Given.{as_bit, as_stored, given_bytes, given_fits, given_is_null, given_length, number_fits};
-ghost use Rattle.jet_base.specs.declared.words.Given.TheVariants as given;
+ghost use Rattle.jet_base.specs.Given.{as_bit, as_stored, given_bytes, given_fits, given_is_null, given_length};
 ghost use Rattle.record_edit.specs.NewValues.{given_of, given_of_bytes};
 ghost use Rattle.std.specs.Option.{option_copied};
 
-use crate::numbers::{largest_value, number_fits, width_fits};
 use jet_base::{ColType, Given, Octets, OutOfMemory};
 use std::alloc::Global;
+use stored_value::{largest_value, number_fits, stored_number, width_fits};
 
 /// A value that is set, as it is written.
 #[derive(Clone, Copy)]
@@ -96,20 +95,13 @@ impl<'a> NewValue<'a> {
     {
         match self {
             NewValue::Null => Ok(Octets::empty(alloc)),
-            NewValue::Number(number) => stored_number(alloc, kind, number),
+            NewValue::Number(number) => {
+                Octets::from_slice(alloc, stored_number(kind, number).as_slice())
+            }
             NewValue::Bytes(bytes) => stored_bytes(alloc, kind, bytes),
             NewValue::Fill(count, byte) => stored_fill(alloc, kind, count, byte),
         }
     }
-}
-
-// A number, lowest byte first in the type's width.
-fn stored_number(alloc: Global, kind: ColType, number: i64) -> Result<Octets, OutOfMemory>
-    requires { IsTrue (number_fits kind number) }
-    ensures { IfOk result (λ made. made ≡ given_bytes kind (given.Number number)) }
-{
-    let bytes = number.to_le_bytes();
-    Octets::from_slice(alloc, &bytes[..largest_value(kind)])
 }
 
 // A byte as a `Bit` stores it: 00 stays, and any other is 01.

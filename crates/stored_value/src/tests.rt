@@ -9,7 +9,7 @@ use std::test::Fail;
 
 /// The least and the greatest number of each type, as `esent.h` states their widths, and the bytes that they are on
 /// a machine with the lowest byte first.
-const NUMBERS: [(ColType, i64, &[u8]); 16] = [
+const NUMBERS: [(ColType, i64, &[u8]); 18] = [
     (ColType::Bit, 0, b"\x00"),
     (ColType::Bit, 1, b"\x01"),
     (ColType::UnsignedByte, 0, b"\x00"),
@@ -22,6 +22,11 @@ const NUMBERS: [(ColType, i64, &[u8]); 16] = [
     (ColType::Long, 2_147_483_647, b"\xff\xff\xff\x7f"),
     (ColType::UnsignedLong, 0, b"\x00\x00\x00\x00"),
     (ColType::UnsignedLong, 4_294_967_295, b"\xff\xff\xff\xff"),
+    (
+        ColType::LongLong,
+        i64::MIN,
+        b"\x00\x00\x00\x00\x00\x00\x00\x80",
+    ),
     (ColType::LongLong, -2, b"\xfe\xff\xff\xff\xff\xff\xff\xff"),
     (
         ColType::LongLong,
@@ -32,6 +37,11 @@ const NUMBERS: [(ColType, i64, &[u8]); 16] = [
         ColType::Currency,
         i64::MIN,
         b"\x00\x00\x00\x00\x00\x00\x00\x80",
+    ),
+    (
+        ColType::Currency,
+        i64::MAX,
+        b"\xff\xff\xff\xff\xff\xff\xff\x7f",
     ),
     (ColType::Currency, 258, b"\x02\x01\x00\x00\x00\x00\x00\x00"),
 ];

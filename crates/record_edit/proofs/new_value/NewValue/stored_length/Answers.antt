@@ -1,5 +1,4 @@
-use Rattle.std.proofs.Common.{◌∙◌, sym, ◌*◌}
-use Rattle.jet_base.specs.ColumnType.{largest_value, twos_complement}
+use Rattle.std.proofs.Common.{◌∙◌, sym}
 use Rattle.record_edit.proofs.Stored.{length-little_endian}
 use Rattle.record_edit.proofs.new_value.NewValue.stored_length.Goals as goal
 
