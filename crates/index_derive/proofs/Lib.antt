@@ -1,9 +1,11 @@
 pub mod Bridge
 pub mod Combining
+pub mod FirstValues
 pub mod Fronts
 pub mod Keys
 pub mod Least
 pub mod Lists
+pub mod OneEntry
 pub mod Rows
 pub mod Sorting
 pub mod Texts

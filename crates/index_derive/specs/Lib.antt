@@ -1,4 +1,5 @@
 pub mod Columns
 pub mod Derived
 pub mod Entries
+pub mod Primary
 pub mod Walks

@@ -10,6 +10,7 @@ mod laws;
 mod legality;
 mod log;
 mod plan;
+mod primary;
 mod rules;
 mod schema_calls;
 mod values;
@@ -20,8 +21,11 @@ pub use faults::DeriveFault;
 pub use laws::{entries_rise, next_entries_are_entries};
 pub use legality::legal;
 pub use log::{Entry, EntryKind, Step};
+pub use primary::{a_primary_index_has_one_entry, primary_key};
 pub use rules::{Condition, IndexFlags, IndexRule, Schema, Segment};
 pub use schema_calls::{NamedCondition, NamedSegment, SchemaCall, SchemaStep};
 
+#[cfg(test)]
+mod primary_tests;
 #[cfg(test)]
 mod tests;

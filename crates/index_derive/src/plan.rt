@@ -1,6 +1,7 @@
 //! The columns of a key, with what the schema says of each.
 
-ghost use Rattle.std.specs.Prelude.{◌≡◌, ◌≤◌, map, length};
+ghost use Rattle.std.specs.Prelude.{◌≡◌, ◌≤◌, false, map, length};
+ghost use Rattle.jet_base.specs.declared.words.ColType.TheVariants.{Binary};
 ghost use Rattle.index_derive.specs.Walks.{plan_of, planned_column};
 
 use crate::legality::{is_multi, kind_of};
@@ -19,6 +20,9 @@ pub struct KeyPart {
 }
 
 impl Default for KeyPart {
+    ghost is_default = { λ part. (part.column.0 ≡ 0) × (part.kind ≡ Binary) × (part.multi ≡ false) × (part.descending ≡ false) };
+
+    /// What fills the places that no column takes.
     fn default() -> KeyPart {
         KeyPart {
             column: ColumnId(0),

@@ -1,9 +1,12 @@
 //! Entries of small records.
 
+mod cases;
+
 ghost use Rattle.std.specs.Prelude.{◌≡◌, ◌≤◌, ◌∷◌, [], map};
 ghost use Rattle.column_set.specs.RecordValues.{values_of};
 
 use crate::derive::{entries, next_entry, yields};
+use crate::tests::cases::{CASES, Case, PLAIN};
 use crate::{
     Condition, DeriveFault, IndexFlags, IndexRule, Schema, Segment, entries_rise, legal,
     next_entries_are_entries,
@@ -45,28 +48,14 @@ impl<'a> Values for Pair<'a> {
     }
 }
 
-/// No flag.
-const PLAIN: IndexFlags = IndexFlags {
-    primary: false,
-    unique: false,
-    disallownull: false,
-    ignorenull: false,
-    ignoreanynull: false,
-    ignorefirstnull: false,
-    sortnullshigh: false,
-    crossproduct: false,
-    disallowtruncation: false,
-    tuples: false,
-};
-
-/// A multi-valued column.
-fn column(alloc: Global, id: u16, kind: ColType) -> Result<Column, OutOfMemory> {
+/// A column of the type, which may be multi-valued.
+fn column(alloc: Global, id: u16, kind: ColType, multi: bool) -> Result<Column, OutOfMemory> {
     Ok(Column {
         id: ColumnId(id),
         name: Name::new(alloc, "column")?,
         kind,
         tagged: true,
-        multi: true,
+        multi,
         not_null: false,
         escrow: false,
         version: false,
@@ -74,11 +63,11 @@ fn column(alloc: Global, id: u16, kind: ColType) -> Result<Column, OutOfMemory> 
     })
 }
 
-/// Columns 256 and 257 of the type.
-fn schema(alloc: Global, kind: ColType) -> Result<Schema, OutOfMemory> {
+/// Columns 256 and 257 of the type, which may be multi-valued.
+fn schema(alloc: Global, kind: ColType, multi: bool) -> Result<Schema, OutOfMemory> {
     let mut columns = Items::empty(alloc);
-    columns.push(column(alloc, 256, kind)?)?;
-    columns.push(column(alloc, 257, kind)?)?;
+    columns.push(column(alloc, 256, kind, multi)?)?;
+    columns.push(column(alloc, 257, kind, multi)?)?;
     Ok(Schema {
         columns,
         indexes: Items::empty(alloc),
@@ -145,33 +134,9 @@ fn keys_of(
     Ok(Ok(keys))
 }
 
-/// A record, the rule of an index, and what it has there. The values are of one byte.
-#[derive(Clone, Copy)]
-struct Case<'a> {
-    flags: IndexFlags,
-    columns: &'a [(u16, bool)],
-    conditions: &'a [(u16, bool)],
-    first: &'a [&'a [u8]],
-    second: &'a [&'a [u8]],
-    expected: Result<&'a [&'a [u8]], DeriveFault>,
-}
-
-/// Both columns, ascending.
-const BOTH: &[(u16, bool)] = &[(256, false), (257, false)];
-
-/// A record without values in an index on both columns, which has one entry.
-const CASE: Case = Case {
-    flags: PLAIN,
-    columns: BOTH,
-    conditions: &[],
-    first: &[],
-    second: &[],
-    expected: Ok(&[b"\0\0"]),
-};
-
 /// Whether the record has what is expected.
 fn holds(alloc: Global, case: &Case) -> Result<bool, Fail> {
-    let schema = schema(alloc, ColType::UnsignedByte)?;
+    let schema = schema(alloc, case.kind, case.multi)?;
     let rule = rule(alloc, case.flags, case.columns, case.conditions)?;
     let pair = Pair {
         first: case.first,
@@ -191,266 +156,6 @@ fn holds(alloc: Global, case: &Case) -> Result<bool, Fail> {
         _ => false,
     })
 }
-
-/// Every flag alone and with those that it meets, conditions, orders and NULLs.
-static CASES: &[Case] = &[
-    CASE,
-    // one entry for each value of the first multi-valued column
-    Case {
-        first: &[b"\x01", b"\x02", b"\x03"],
-        second: &[b"\x08", b"\x09"],
-        expected: Ok(&[
-            b"\x7f\x01\x7f\x08",
-            b"\x7f\x02\x7f\x08",
-            b"\x7f\x03\x7f\x08",
-        ]),
-        ..CASE
-    },
-    // one for each combination
-    Case {
-        flags: IndexFlags {
-            crossproduct: true,
-            ..PLAIN
-        },
-        first: &[b"\x01", b"\x02", b"\x03"],
-        second: &[b"\x08", b"\x09"],
-        expected: Ok(&[
-            b"\x7f\x01\x7f\x08",
-            b"\x7f\x01\x7f\x09",
-            b"\x7f\x02\x7f\x08",
-            b"\x7f\x02\x7f\x09",
-            b"\x7f\x03\x7f\x08",
-            b"\x7f\x03\x7f\x09",
-        ]),
-        ..CASE
-    },
-    // the first multi-valued column gives the entries, also where it has no value
-    Case {
-        first: &[],
-        second: &[b"\x08", b"\x09"],
-        expected: Ok(&[b"\0\x7f\x08"]),
-        ..CASE
-    },
-    // NULL counts as one value
-    Case {
-        flags: IndexFlags {
-            crossproduct: true,
-            ..PLAIN
-        },
-        first: &[],
-        second: &[b"\x08", b"\x09"],
-        expected: Ok(&[b"\0\x7f\x08", b"\0\x7f\x09"]),
-        ..CASE
-    },
-    // in rising order and each once
-    Case {
-        columns: &[(256, false)],
-        first: &[b"\x03", b"\x01", b"\x02", b"\x01"],
-        expected: Ok(&[b"\x7f\x01", b"\x7f\x02", b"\x7f\x03"]),
-        ..CASE
-    },
-    // greater values first
-    Case {
-        columns: &[(256, true)],
-        first: &[b"\x01", b"\x02"],
-        expected: Ok(&[b"\x80\xfd", b"\x80\xfe"]),
-        ..CASE
-    },
-    // the columns in the order of the key
-    Case {
-        columns: &[(257, false), (256, true)],
-        first: &[b"\x01", b"\x02"],
-        second: &[b"\x08", b"\x09"],
-        expected: Ok(&[b"\x7f\x08\x80\xfe", b"\x7f\x09\x80\xfe"]),
-        ..CASE
-    },
-    // a descending NULL
-    Case {
-        columns: &[(256, true)],
-        expected: Ok(&[b"\xff"]),
-        ..CASE
-    },
-    // a high NULL
-    Case {
-        flags: IndexFlags {
-            sortnullshigh: true,
-            ..PLAIN
-        },
-        expected: Ok(&[b"\xc0\xc0"]),
-        ..CASE
-    },
-    // a descending high NULL
-    Case {
-        flags: IndexFlags {
-            sortnullshigh: true,
-            ..PLAIN
-        },
-        columns: &[(256, true)],
-        expected: Ok(&[b"\x3f"]),
-        ..CASE
-    },
-    // all columns are NULL
-    Case {
-        flags: IndexFlags {
-            ignorenull: true,
-            ..PLAIN
-        },
-        expected: Ok(&[]),
-        ..CASE
-    },
-    // one of several is not all
-    Case {
-        flags: IndexFlags {
-            ignorenull: true,
-            ..PLAIN
-        },
-        second: &[b"\x08"],
-        expected: Ok(&[b"\0\x7f\x08"]),
-        ..CASE
-    },
-    // any column is NULL
-    Case {
-        flags: IndexFlags {
-            ignoreanynull: true,
-            ..PLAIN
-        },
-        first: &[b"\x01"],
-        expected: Ok(&[]),
-        ..CASE
-    },
-    // none is
-    Case {
-        flags: IndexFlags {
-            ignoreanynull: true,
-            ..PLAIN
-        },
-        first: &[b"\x01"],
-        second: &[b"\x08"],
-        expected: Ok(&[b"\x7f\x01\x7f\x08"]),
-        ..CASE
-    },
-    // the first column is NULL
-    Case {
-        flags: IndexFlags {
-            ignorefirstnull: true,
-            ..PLAIN
-        },
-        second: &[b"\x08"],
-        expected: Ok(&[]),
-        ..CASE
-    },
-    // the last is
-    Case {
-        flags: IndexFlags {
-            ignorefirstnull: true,
-            ..PLAIN
-        },
-        first: &[b"\x01"],
-        expected: Ok(&[b"\x7f\x01\0"]),
-        ..CASE
-    },
-    // a NULL is refused
-    Case {
-        flags: IndexFlags {
-            disallownull: true,
-            ..PLAIN
-        },
-        first: &[b"\x01"],
-        expected: Err(DeriveFault::NullKeyDisallowed),
-        ..CASE
-    },
-    // none is there
-    Case {
-        flags: IndexFlags {
-            disallownull: true,
-            ..PLAIN
-        },
-        first: &[b"\x01"],
-        second: &[b"\x08"],
-        expected: Ok(&[b"\x7f\x01\x7f\x08"]),
-        ..CASE
-    },
-    // what is left out is not refused
-    Case {
-        flags: IndexFlags {
-            disallownull: true,
-            ignoreanynull: true,
-            ..PLAIN
-        },
-        first: &[b"\x01"],
-        expected: Ok(&[]),
-        ..CASE
-    },
-    // what is not left out is
-    Case {
-        flags: IndexFlags {
-            disallownull: true,
-            ignorenull: true,
-            ..PLAIN
-        },
-        first: &[b"\x01"],
-        expected: Err(DeriveFault::NullKeyDisallowed),
-        ..CASE
-    },
-    // also behind another that is left out
-    Case {
-        flags: IndexFlags {
-            disallownull: true,
-            ignorefirstnull: true,
-            crossproduct: true,
-            ..PLAIN
-        },
-        first: &[b"\x01"],
-        expected: Err(DeriveFault::NullKeyDisallowed),
-        ..CASE
-    },
-    // a condition that is not met
-    Case {
-        flags: IndexFlags {
-            disallownull: true,
-            ..PLAIN
-        },
-        conditions: &[(257, false)],
-        first: &[b"\x01"],
-        expected: Ok(&[]),
-        ..CASE
-    },
-    // one that is met
-    Case {
-        conditions: &[(257, false)],
-        first: &[b"\x01"],
-        second: &[b"\x08"],
-        expected: Ok(&[b"\x7f\x01\x7f\x08"]),
-        ..CASE
-    },
-    // one that asks for NULL and is not met
-    Case {
-        conditions: &[(256, false), (257, true)],
-        first: &[b"\x01"],
-        second: &[b"\x08"],
-        expected: Ok(&[]),
-        ..CASE
-    },
-    // one that asks for NULL and is met
-    Case {
-        conditions: &[(256, false), (257, true)],
-        first: &[b"\x01"],
-        expected: Ok(&[b"\x7f\x01\0"]),
-        ..CASE
-    },
-    // unique changes no key
-    Case {
-        flags: IndexFlags {
-            unique: true,
-            disallowtruncation: true,
-            ..PLAIN
-        },
-        first: &[b"\x01", b"\x02"],
-        second: &[b"\x08"],
-        expected: Ok(&[b"\x7f\x01\x7f\x08", b"\x7f\x02\x7f\x08"]),
-        ..CASE
-    },
-];
 
 #[test]
 fn entries_follow_the_rule(rt: HostRuntime) -> Result<(), Fail> {
@@ -485,7 +190,7 @@ fn parts_of_texts_have_entries(rt: HostRuntime) -> Result<(), Fail> {
         disallownull: true,
         ..PLAIN
     };
-    let schema = schema(rt.alloc(), ColType::LongText)?;
+    let schema = schema(rt.alloc(), ColType::LongText, true)?;
     let rule = rule(rt.alloc(), flags, &[(256, false)], &[])?;
     let long = distinct_starts(rt.alloc(), 1100)?;
     let cases: [(&[&[u8]], usize); 7] = [
@@ -516,54 +221,6 @@ fn parts_of_texts_have_entries(rt: HostRuntime) -> Result<(), Fail> {
             );
         }
         Err(_) => assert!(rt; false),
-    }
-    Ok(())
-}
-
-#[test]
-fn long_values_are_seen_and_cut(rt: HostRuntime) -> Result<(), Fail> {
-    let texts = schema(rt.alloc(), ColType::Text)?;
-    let plain = rule(rt.alloc(), PLAIN, &[(256, false)], &[])?;
-    let pair = Pair {
-        first: &[b"b", b"B", b"a"],
-        second: &[],
-    };
-    match keys_of(rt.alloc(), &plain, &texts, &pair)? {
-        Ok(keys) => {
-            assert_eq!(rt; keys.as_slice().len(), 2);
-            assert_eq!(rt;
-                keys.as_slice()[0].as_bytes(),
-                b"\x7fA\0\0\0\0\0\0\0\x01".as_slice()
-            );
-            assert_eq!(rt;
-                keys.as_slice()[1].as_bytes(),
-                b"\x7fB\0\0\0\0\0\0\0\x01".as_slice()
-            );
-        }
-        Err(_) => assert!(rt; false),
-    }
-    let bytes = schema(rt.alloc(), ColType::LongBinary)?;
-    let mut other = [1; 300];
-    other[299] = 2;
-    let long = Pair {
-        first: &[&[1; 300], &other, &[1; 255]],
-        second: &[],
-    };
-    match keys_of(rt.alloc(), &plain, &bytes, &long)? {
-        Ok(keys) => {
-            assert_eq!(rt; keys.as_slice().len(), 1);
-            assert_eq!(rt; keys.as_slice()[0].as_bytes().len(), 255);
-        }
-        Err(_) => assert!(rt; false),
-    }
-    let flags = IndexFlags {
-        disallowtruncation: true,
-        ..PLAIN
-    };
-    let whole = rule(rt.alloc(), flags, &[(256, false)], &[])?;
-    match keys_of(rt.alloc(), &whole, &bytes, &long)? {
-        Ok(_) => assert!(rt; false),
-        Err(fault) => assert_eq!(rt; fault, DeriveFault::KeyTruncated),
     }
     Ok(())
 }

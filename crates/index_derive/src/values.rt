@@ -70,7 +70,11 @@ fn combination<'a, R: Values>(
 
 /// What an index sees of a value of the column, or NULL where there is none.
 #[tactic(auto, using(crate::proofs::Fronts::seen_value, crate::proofs::Fronts::no_value))]
-fn value_at<'a, R: Values>(record: &'a R, column: ColumnId, place: usize) -> Option<&'a [u8]>
+pub(crate) fn value_at<'a, R: Values>(
+    record: &'a R,
+    column: ColumnId,
+    place: usize,
+) -> Option<&'a [u8]>
     ensures { option_copied result ≡ value_at (R.fields «record».now) column.0 place }
 {
     match record.value(column, place) {
