@@ -9,24 +9,24 @@ use Rattle.session_local.specs.Local.{OpenCursor, unprepared}
 use Rattle.session_local.specs.SessionSide.{label_of, are_distinct}
 use Rattle.session_local.proofs.Labels.{same_number}
 
-both : (a b : Bool) → (a && b) ≡ true → (a ≡ true) × (b ≡ true)
+pub both : (a b : Bool) → (a && b) ≡ true → (a ≡ true) × (b ≡ true)
 both true true e = (refl, refl)
 both true false e = cc
 both false b e = cc
 
-joined : (a b : Bool) → a ≡ true → b ≡ true → (a && b) ≡ true
+pub joined : (a b : Bool) → a ≡ true → b ≡ true → (a && b) ≡ true
 joined a b p q = rw (p, q) refl
 
-neither : (a b : Bool) → (a || b) ≡ false → (a ≡ false) × (b ≡ false)
+pub neither : (a b : Bool) → (a || b) ≡ false → (a ≡ false) × (b ≡ false)
 neither false false e = (refl, refl)
 neither false true e = cc
 neither true b e = cc
 
-denied : (b : Bool) → not b ≡ true → b ≡ false
+pub denied : (b : Bool) → not b ≡ true → b ≡ false
 denied false e = refl
 denied true e = cc
 
-turned : (m n : ℕ) → (m == n) ≡ false → (n == m) ≡ false
+pub turned : (m n : ℕ) → (m == n) ≡ false → (n == m) ≡ false
 turned m n e = grind (arith, nat_tests)
 
 below : (m n : ℕ) → ltb m n ≡ true → m < n

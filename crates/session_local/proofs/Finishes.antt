@@ -94,7 +94,7 @@ shows_value asked column most (Some value) =
       | false ↦ refl
     ]
 
-shows_column : (asked : Asked) (sequence most : ℕ) (fields : RecordFields) (column : Column) → (column_shown asked sequence most fields column).local ≡ asked.local
+pub shows_column : (asked : Asked) (sequence most : ℕ) (fields : RecordFields) (column : Column) → (column_shown asked sequence most fields column).local ≡ asked.local
 shows_column asked sequence most fields column =
     let values = values_of fields column.id.0 in
     elim (sequence == 0) as (λ b. local_of (if b then said asked jet.Success (Number (pos (length values))) else value_shown asked column most (slice_get values (sequence - 1))) ≡ asked.local) [

@@ -4,3 +4,10 @@ pub mod Distinct
 pub mod Updates
 pub mod Finishes
 pub mod Locals
+pub mod Fitting
+pub mod Records
+pub mod Kept
+pub mod Steps
+pub mod AtCursor
+pub mod Answered
+pub mod Served

@@ -17,3 +17,6 @@ pub mod SessionSide
 pub mod Holding
 pub mod Deciding
 pub mod Navigating
+pub mod WellFormed
+pub mod Changing
+pub mod Showing

@@ -1,9 +1,19 @@
 -- The calls that a session answers by itself, from its own state alone.
-use Rattle.std.specs.Prelude.{ℕ, Bool, true, false, not, ◌||◌, Option, Some, None, is_some, is_none}
+use Rattle.std.specs.Prelude.{◌≡◌, ℕ, Bool, true, false, not, ◌||◌, Option, Some, None, Result, Ok, Err, is_some, is_none}
+use Rattle.jet_base.specs.declared.replies.Jet.{Jet}
+use Rattle.jet_base.specs.declared.replies.Jet.TheVariants as jet
+use Rattle.jet_base.specs.declared.memory.OutOfMemory.{OutOfMemory}
+use Rattle.jet_base.specs.declared.words.Prepare.TheVariants as prepare
 use Rattle.session_local.specs.declared.request.Request.{Request}
 use Rattle.session_local.specs.declared.request.Request.TheVariants as call
+use Rattle.session_local.specs.declared.reply.Reply.{Reply}
+use Rattle.session_local.specs.declared.reply.Value.TheVariants as value
+use Rattle.session_local.specs.Answer.{Answered, answered_by}
 use Rattle.session_local.specs.Local.{LocalState, cursor_labelled}
-use Rattle.session_local.specs.Calls.{is_always_local}
+use Rattle.session_local.specs.SessionSide.{HeldState}
+use Rattle.session_local.specs.Holding.{begun_with_cursors}
+use Rattle.session_local.specs.Outcome.{Asked}
+use Rattle.session_local.specs.Calls.{answer, answer_begun, is_always_local}
 
 -- the label of the cursor that a call is made at
 abbrev pub cursor_of : Request → Option ℕ
@@ -45,3 +55,33 @@ is_begin _ = false
 -- refuses BeginSession, a cursor label that is taken or not known, and answers the calls that are always local.
 abbrev pub is_answered_locally : LocalState → Request → Bool
 is_answered_locally local request = elim local.begun [ true ↦ is_answered_begun local request | false ↦ not (is_begin request) ]
+
+-- the local calls that take memory
+abbrev pub takes_memory : Request → Bool
+takes_memory (call.SetColumn cursor column sequence value) = true
+takes_memory (call.PrepareUpdate cursor prepare.Insert) = true
+takes_memory _ = false
+
+-- The definitions answer so and leave this state, whatever the limit, the database and the label of the session are.
+abbrev pub IsAnswer : LocalState → Request → Answered → LocalState → Type 0
+IsAnswer local request answered after =
+    (asked : Asked) → asked.local ≡ local → ((answer asked request).answered ≡ answered) × ((answer asked request).local ≡ after)
+
+-- ---- what the code does
+
+abbrev pub plain : Jet → Reply
+plain reply = record { jet = reply; value = value.Nothing }
+
+-- the reply of a session that was not begun
+abbrev pub reply_not_begun : Request → Option Reply
+reply_not_begun call.BeginSession = None
+reply_not_begun _ = Some (plain jet.InvalidSesid)
+
+-- what the code does with a call, once the session was begun
+abbrev pub StepsBy : HeldState → Request → Result (Option Reply) OutOfMemory → HeldState → Type 0
+StepsBy old request (Ok (Some reply)) new =
+    (is_answered_begun (begun_with_cursors old.cursors) request ≡ true)
+    × ((asked : Asked) → asked.local ≡ begun_with_cursors old.cursors →
+    ((answer_begun asked request).answered ≡ answered_by reply new.reply) × ((answer_begun asked request).local ≡ begun_with_cursors new.cursors))
+StepsBy old request (Ok None) new = (is_answered_begun (begun_with_cursors old.cursors) request ≡ false) × (new ≡ old)
+StepsBy old request (Err e) new = new ≡ old

@@ -18,7 +18,7 @@ use std::marker::Model;
 #[derive(Debug, Drop)]
 pub(crate) struct Begun {
     pub(crate) cursors: Vec<OpenCursor>,
-    reply: Vec<u8>,
+    pub(crate) reply: Vec<u8>,
 }
 
 impl Model for Begun {
@@ -159,7 +159,7 @@ fn take_out(cursors: &mut Vec<OpenCursor>, at: usize)
 }
 
 // Writes the piece over the first bytes.
-fn write_front(bytes: &mut [u8], piece: &[u8])
+pub(crate) fn write_front(bytes: &mut [u8], piece: &[u8])
     requires { length piece.now ≤ length bytes.old }
     ensures { bytes.new ≡ piece.now ++ drop (length piece.now) bytes.old }
 {

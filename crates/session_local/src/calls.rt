@@ -1,10 +1,11 @@
 //! Which calls a session answers without a look at the shared state.
 
-ghost use Rattle.std.specs.Prelude.{◌≡◌};
+ghost use Rattle.std.specs.Prelude.{◌≡◌, option_map};
 ghost use Rattle.session_local.specs.Calls.{is_always_local, is_local_reply, is_local};
+ghost use Rattle.session_local.specs.LocalCalls.{cursor_of};
 
 use crate::request::Request;
-use jet_base::{Jet, Prepare};
+use jet_base::{CursorId, Jet, Prepare};
 
 /// Whether a call that was answered so is a local one: one that touches the session's own state alone.
 ///
@@ -17,7 +18,7 @@ pub fn is_local(request: &Request, jet: Jet) -> bool
 }
 
 // the calls that are local whatever they answer
-fn is_always_local(request: &Request) -> bool
+pub(crate) fn is_always_local(request: &Request) -> bool
     ensures { result ≡ is_always_local request.now }
 {
     match request {
@@ -37,4 +38,31 @@ fn is_local_reply(jet: Jet) -> bool
         jet,
         Jet::InvalidSesid | Jet::SessionInUse | Jet::InvalidTableId
     )
+}
+
+// The label of the cursor that the call is made at.
+pub(crate) fn cursor_of(request: &Request) -> Option<CursorId>
+    ensures { option_map (λ label. label.0) result ≡ cursor_of request.now }
+{
+    match request {
+        Request::CloseTable { cursor }
+        | Request::SetCurrentIndex { cursor, .. }
+        | Request::Move { cursor, .. }
+        | Request::MakeKey { cursor, .. }
+        | Request::Seek { cursor, .. }
+        | Request::SetIndexRange { cursor, .. }
+        | Request::RemoveIndexRange { cursor }
+        | Request::IndexRecordCount { cursor, .. }
+        | Request::RetrieveKey { cursor }
+        | Request::GetBookmark { cursor }
+        | Request::GotoBookmark { cursor, .. }
+        | Request::PrepareUpdate { cursor, .. }
+        | Request::SetColumn { cursor, .. }
+        | Request::RetrieveColumn { cursor, .. }
+        | Request::Update { cursor }
+        | Request::Delete { cursor }
+        | Request::GetLock { cursor }
+        | Request::EscrowUpdate { cursor, .. } => Some(*cursor),
+        _ => None,
+    }
 }

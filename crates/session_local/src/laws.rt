@@ -1,11 +1,19 @@
 //! Laws of the session's own state.
 
-ghost use Rattle.std.specs.Prelude.{◌≡◌, true, None};
+ghost use Rattle.std.specs.Prelude.{◌≡◌, ℕ, true, None, IsTrue};
+ghost use Rattle.std.specs.List.{list_all};
+ghost use Rattle.cursor_nav.specs.Navigation.{Navigated};
+ghost use Rattle.database_state.specs.Table.{schema_of};
+ghost use Rattle.database_state.specs.State.{DatabaseState};
 ghost use Rattle.session_local.specs.declared.request.Request.{Request};
 ghost use Rattle.session_local.specs.Outcome.{Asked};
 ghost use Rattle.session_local.specs.Calls.{answer, is_local};
 ghost use Rattle.session_local.specs.LocalCalls.{is_answered_locally};
-ghost use Rattle.session_local.specs.Finishing.{finished, decided_by, is_finished};
+ghost use Rattle.session_local.specs.Finishing.{Decided, finished, decided_by, is_finished};
+ghost use Rattle.session_local.specs.Local.{LocalState, OpenCursor, cursor_labelled};
+ghost use Rattle.session_local.specs.Navigating.{navigated_on};
+ghost use Rattle.session_local.specs.Agreement.{Agrees};
+ghost use Rattle.session_local.specs.WellFormed.{IsWellFormed, is_well_formed_schema, is_well_formed_table, is_well_formed_copy};
 
 /// What a decision leaves of the session's own state is what the definitions say, for every call that is decided on the
 /// shared state and moves no cursor.
@@ -17,4 +25,25 @@ pub fn finish_is_the_answer()
 pub fn local_calls_take_no_step()
     ensures step { (asked : Asked) (request : Request) → is_answered_locally asked.local request ≡ true → (answer asked request).step ≡ None }
     ensures local { (asked : Asked) (request : Request) → is_answered_locally asked.local request ≡ true → is_local request (answer asked request).answered.jet ≡ true }
+{}
+
+/// A call that a session answers by itself keeps the session's own state well formed.
+pub fn local_calls_keep_well_formed()
+    ensures { (asked : Asked) (request : Request) → is_answered_locally asked.local request ≡ true → IsWellFormed asked.local → IsWellFormed (answer asked request).local }
+{}
+
+/// What a decision leaves of a well-formed state is well formed, where the table that is opened has a well-formed schema
+/// and a copied update is of a record that its columns take.
+pub fn finish_keeps_well_formed()
+    ensures { (local : LocalState) (request : Request) (decided : Decided) → IsWellFormed local → IsTrue (is_well_formed_table decided.table) → IsTrue (is_well_formed_copy local request decided.copied) → IsWellFormed (finished local request decided) }
+{}
+
+/// A call that moves a cursor keeps the state well formed.
+pub fn navigation_keeps_well_formed()
+    ensures { (local : LocalState) (label : ℕ) (move : OpenCursor → Navigated) → IsWellFormed local → IsWellFormed (navigated_on local (cursor_labelled local label) move) }
+{}
+
+/// A state that agrees with a database whose tables have well-formed schemas is well formed.
+pub fn agreeing_states_are_well_formed()
+    ensures { (state : DatabaseState) (session : ℕ) (local : LocalState) → Agrees state session local → IsTrue (list_all (λ table. is_well_formed_schema (schema_of table)) state.tables) → IsWellFormed local }
 {}

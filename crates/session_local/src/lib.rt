@@ -1,6 +1,7 @@
 //! A session's side of a call: the request, and the reply.
 #![tactic(auto)]
 
+mod answering;
 mod begun;
 mod buffers;
 mod calls;
@@ -8,22 +9,33 @@ mod decision;
 mod finishing;
 mod laws;
 mod local;
+mod making_keys;
 mod navigating;
 mod open_cursor;
 mod prepared;
+mod preparing;
 mod reply;
 mod request;
+mod retrieving_copies;
+mod schemas;
+mod setting_columns;
+mod showing;
 
+pub use answering::local_step;
 pub use buffers::Buffers;
 pub use calls::is_local;
 pub use decision::Decision;
 pub use finishing::finish;
-pub use laws::{finish_is_the_answer, local_calls_take_no_step};
+pub use laws::{
+    agreeing_states_are_well_formed, finish_is_the_answer, finish_keeps_well_formed,
+    local_calls_keep_well_formed, local_calls_take_no_step, navigation_keeps_well_formed,
+};
 pub use local::Local;
 pub use open_cursor::OpenCursor;
 pub use prepared::{Prepared, Purpose};
 pub use reply::{Reply, Value};
 pub use request::Request;
+pub use schemas::is_well_formed;
 
 #[cfg(test)]
 mod tests;

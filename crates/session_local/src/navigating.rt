@@ -108,7 +108,7 @@ fn rule_named<'a>(schema: &'a Schema, name: &Name) -> Option<&'a IndexRule>
 }
 
 // The name that a cursor answered.
-fn jet_of(answer: Result<Moved, Jet>) -> Jet
+pub(crate) fn jet_of(answer: Result<Moved, Jet>) -> Jet
     ensures { (reply : Jet) → answer ≡ answer_of reply 0 → result ≡ reply }
 {
     match answer {

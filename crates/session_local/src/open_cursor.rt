@@ -19,7 +19,7 @@ pub struct OpenCursor {
     label: CursorId,
     pub(crate) schema: Schema,
     pub(crate) cursor: Cursor,
-    prepared: Option<Prepared>,
+    pub(crate) prepared: Option<Prepared>,
 }
 
 impl Model for OpenCursor {

@@ -1,0 +1,249 @@
+-- Records whose values stand under columns that take them.
+use Rattle.std.proofs.Common.{◌≡◌, ℕ, zero, suc, ◌+◌, ◌*◌, ◌≤◌, ◌==◌, Bool, true, false, cond, not, ◌&&◌, ◌||◌, List, [], ◌∷◌, length, map, filter, find, fold, Option, Some, None, refl, sym, ap, ◌∙◌, sum_by, unwrap_or, slice_get, get_or, take, drop, ◌-◌, arith}
+use Rattle.std.specs.List.{list_all, list_any}
+use Rattle.std.specs.Ordering.{nat_cmp, is_eq}
+use Rattle.std.specs.declared.cmp.Ordering.{Ordering}
+use Rattle.std.specs.declared.cmp.Ordering.TheVariants.{Less, Equal, Greater}
+use Rattle.std.specs.FinMap.{nat_cmp-IsAntisymmetric}
+use Rattle.std.specs.FinMap.Entries.{find as find_entry, put as put_entry, by_order}
+use Rattle.std.proofs.lemmas.List.Sums.{sum_by-cons}
+use Rattle.column_set.specs.declared.columns.Column.{Column}
+use Rattle.column_set.specs.RecordValues.{RecordFields, values_of, with_values, column_of_id, value_fits, values_fit, size_of_value, size_of_values, record_size}
+use Rattle.database_state.specs.SchemaChanges.{is_type_long}
+use Rattle.session_local.specs.RecordCalls.{with_sums_at_zero}
+use Rattle.session_local.specs.SessionSide.{are_distinct}
+use Rattle.session_local.specs.WellFormed.{number_of_column, is_sum, is_long_if_sum, stands_in}
+use Rattle.session_local.proofs.Distinct.{both, joined, neither, denied, turned}
+use Rattle.session_local.proofs.Fitting.{value_fits-zero}
+use Rattle.session_local.proofs.Labels.{same_number, number_is_itself}
+
+-- ---- lists that pass a test
+
+pub all_found : {X : Type 0} (p test : X → Bool) (xs : List X) (x : X) → list_all p xs ≡ true → find test xs ≡ Some x → p x ≡ true
+all_found p test [] x all found = cc
+all_found p test (y ∷ ys) x all found =
+    let parts : (p y ≡ true) × (list_all p ys ≡ true) = both _ _ all in
+    elim (test y) as (λ b. cond b (Some y) (find test ys) ≡ Some x → p x ≡ true) [
+      | true ↦ λ h. let same : y ≡ x = cc in rw (← same) parts.0
+      | false ↦ λ h. all_found p test ys x parts.1 h
+    ] found
+
+pub all_filtered : {X : Type 0} (p test : X → Bool) (xs : List X) → list_all p xs ≡ true → list_all p (filter test xs) ≡ true
+all_filtered p test [] all = refl
+all_filtered p test (x ∷ xs) all =
+    let parts : (p x ≡ true) × (list_all p xs ≡ true) = both _ _ all in
+    elim (test x) as (λ b. list_all p (cond b (x ∷ filter test xs) (filter test xs)) ≡ true) [
+      | true ↦ joined (p x) (list_all p (filter test xs)) parts.0 (all_filtered p test xs parts.1)
+      | false ↦ all_filtered p test xs parts.1
+    ]
+
+-- ---- columns by number
+
+any_found : (test : Column → Bool) (columns : List Column) (column : Column) (number : ℕ) → find test columns ≡ Some column → (column.id.0 == number) ≡ true → list_any (λ other. other == number) (map number_of_column columns) ≡ true
+any_found test [] column number found same = cc
+any_found test (x ∷ xs) column number found same =
+    elim (test x) as (λ b. cond b (Some x) (find test xs) ≡ Some column → ((x.id.0 == number) || list_any (λ other. other == number) (map number_of_column xs)) ≡ true) [
+      | true ↦ λ h. let is : x ≡ column = cc in rw (is, same) refl
+      | false ↦ λ h. elim (x.id.0 == number) as (λ b. (b || list_any (λ other. other == number) (map number_of_column xs)) ≡ true) [
+        | true ↦ refl
+        | false ↦ any_found test xs column number h same
+      ]
+    ] found
+
+-- a column that is found is the one with its number
+pub by_number : (test : Column → Bool) (columns : List Column) (column : Column) → are_distinct (map number_of_column columns) ≡ true → find test columns ≡ Some column → column_of_id columns column.id.0 ≡ Some column
+by_number test [] column distinct found = cc
+by_number test (x ∷ xs) column distinct found =
+    let parts : (not (list_any (λ other. other == x.id.0) (map number_of_column xs)) ≡ true) × (are_distinct (map number_of_column xs) ≡ true) = both _ _ distinct in
+    elim (test x) as (λ b. cond b (Some x) (find test xs) ≡ Some column → cond (x.id.0 == column.id.0) (Some x) (column_of_id xs column.id.0) ≡ Some column) [
+      | true ↦ λ h. let is : x ≡ column = cc in rw (is, number_is_itself column.id.0) refl
+      | false ↦ λ h. elim (x.id.0 == column.id.0) as (λ b. (x.id.0 == column.id.0) ≡ b → cond b (Some x) (column_of_id xs column.id.0) ≡ Some column) [
+        | true ↦ λ e.
+            let same : x.id.0 ≡ column.id.0 = same_number x.id.0 column.id.0 e in
+            let again : (column.id.0 == x.id.0) ≡ true = rw same (number_is_itself column.id.0) in
+            let twice : list_any (λ other. other == x.id.0) (map number_of_column xs) ≡ true = any_found test xs column x.id.0 h again in
+            let once : list_any (λ other. other == x.id.0) (map number_of_column xs) ≡ false = denied _ parts.0 in
+            cc
+        | false ↦ λ e. by_number test xs column parts.1 h
+      ] refl
+    ] found
+
+-- ---- the values of a column
+
+tied : (m n : ℕ) → is_eq (nat_cmp m n) ≡ true → m ≡ n
+tied m n h = nat_cmp-IsAntisymmetric m n (equal (nat_cmp m n) h)
+  where
+    equal : (o : Ordering) → is_eq o ≡ true → o ≡ Equal
+    equal Less e = cc
+    equal Equal e = refl
+    equal Greater e = cc
+
+no_values_fit : (column : Column) → values_fit column [] ≡ true
+no_values_fit column = elim column.multi as (λ b. ((b || true) && true) ≡ true) [ true ↦ refl | false ↦ refl ]
+
+-- what a field is held against
+pub taken : (columns : List Column) (field : ℕ × List (List ℕ)) (found : Option Column) → column_of_id columns field.0 ≡ found → stands_in columns field ≡ elim found [ Some column ↦ values_fit column field.1 | None ↦ false ]
+taken columns field found is = ap (λ (o : Option Column). elim o [ Some column ↦ values_fit column field.1 | None ↦ false ]) is
+
+-- the values of a column fit it
+pub values_of-fit : (columns : List Column) (fields : RecordFields) (id : ℕ) (column : Column) → list_all (stands_in columns) fields ≡ true → column_of_id columns id ≡ Some column → values_fit column (values_of fields id) ≡ true
+values_of-fit columns [] id column all found = no_values_fit column
+values_of-fit columns (field ∷ fields) id column all found =
+    let parts : (stands_in columns field ≡ true) × (list_all (stands_in columns) fields ≡ true) = both _ _ all in
+    elim (is_eq (nat_cmp id field.0)) as (λ b. is_eq (nat_cmp id field.0) ≡ b → values_fit column (unwrap_or (cond b (Some field.1) (find_entry nat_cmp id fields)) []) ≡ true) [
+      | true ↦ λ e. let same : id ≡ field.0 = tied id field.0 e in
+          let its : column_of_id columns field.0 ≡ Some column = rw (← same) found in
+          sym (taken columns field (Some column) its) ∙ parts.0
+      | false ↦ λ e. values_of-fit columns fields id column parts.1 found
+    ] refl
+
+-- values that fit their column stand in it
+pub stands-in : (columns : List Column) (id : ℕ) (column : Column) (values : List (List ℕ)) → column_of_id columns id ≡ Some column → values_fit column values ≡ true → stands_in columns (id, values) ≡ true
+stands-in columns id column values found fit = taken columns (id, values) (Some column) found ∙ fit
+
+all_put : (columns : List Column) (id : ℕ) (values : List (List ℕ)) (fields : RecordFields) → list_all (stands_in columns) fields ≡ true → stands_in columns (id, values) ≡ true → list_all (stands_in columns) (put_entry nat_cmp id values fields) ≡ true
+all_put columns id values [] all one = rw one refl
+all_put columns id values (field ∷ fields) all one =
+    let parts : (stands_in columns field ≡ true) × (list_all (stands_in columns) fields ≡ true) = both _ _ all in
+    elim (nat_cmp id field.0) as (λ o. nat_cmp id field.0 ≡ o → list_all (stands_in columns) (by_order o ((id, values) ∷ field ∷ fields) ((field.0, values) ∷ fields) (field ∷ put_entry nat_cmp id values fields)) ≡ true) [
+      | Less ↦ λ e. joined (stands_in columns (id, values)) (list_all (stands_in columns) (field ∷ fields)) one all
+      | Equal ↦ λ e. let same : id ≡ field.0 = nat_cmp-IsAntisymmetric id field.0 e in
+          joined (stands_in columns (field.0, values)) (list_all (stands_in columns) fields) (rw (← same) one) parts.1
+      | Greater ↦ λ e. joined (stands_in columns field) (list_all (stands_in columns) (put_entry nat_cmp id values fields)) parts.0 (all_put columns id values fields parts.1 one)
+    ] refl
+
+-- a record with other values that stand in their column
+pub all_with_values : (columns : List Column) (fields : RecordFields) (id : ℕ) (values : List (List ℕ)) → list_all (stands_in columns) fields ≡ true → stands_in columns (id, values) ≡ true → list_all (stands_in columns) (with_values fields id values) ≡ true
+all_with_values columns fields id [] all one = all_filtered (stands_in columns) (λ field. not (field.0 == id)) fields all
+all_with_values columns fields id (value ∷ values) all one = all_put columns id (value ∷ values) fields all one
+
+-- ---- sizes
+
+size_put : (id : ℕ) (values : List (List ℕ)) (fields : RecordFields) → sum_by (λ field. size_of_values field.1) (put_entry nat_cmp id values fields) ≤ size_of_values values + sum_by (λ field. size_of_values field.1) fields
+size_put id values [] = omega arith
+size_put id values (field ∷ fields) =
+    let room : ℕ × List (List ℕ) → ℕ = λ f. size_of_values f.1 in
+    let old = sum_by-cons room field fields in
+    elim (nat_cmp id field.0) as (λ o. sum_by (λ f. size_of_values f.1) (by_order o ((id, values) ∷ field ∷ fields) ((field.0, values) ∷ fields) (field ∷ put_entry nat_cmp id values fields)) ≤ size_of_values values + sum_by (λ f. size_of_values f.1) (field ∷ fields)) [
+      | Less ↦ let new = sum_by-cons room (id, values) (field ∷ fields) in omega (arith, new)
+      | Equal ↦ let new = sum_by-cons room (field.0, values) fields in omega (arith, old, new)
+      | Greater ↦ let new = sum_by-cons room field (put_entry nat_cmp id values fields) in let rest = size_put id values fields in omega (arith, old, new, rest)
+    ]
+
+counted : (values : List (List ℕ)) → length values ≤ size_of_values values
+counted [] = omega arith
+counted (value ∷ values) = let more = sum_by-cons (λ v. 5 + size_of_value v) value values in let rest = counted values in omega (arith, more, rest)
+
+pub values_of-counted : (fields : RecordFields) (id : ℕ) → length (values_of fields id) ≤ record_size fields
+values_of-counted [] id = omega arith
+values_of-counted (field ∷ fields) id =
+    let whole = sum_by-cons (λ (f : ℕ × List (List ℕ)). size_of_values f.1) field fields in
+    elim (is_eq (nat_cmp id field.0)) as (λ b. length (unwrap_or (cond b (Some field.1) (find_entry nat_cmp id fields)) []) ≤ record_size (field ∷ fields)) [
+      | true ↦ let here = counted field.1 in omega (arith, whole, here)
+      | false ↦ let rest = values_of-counted fields id in omega (arith, whole, rest)
+    ]
+
+-- ---- sums at 0
+
+abbrev zero_values : List (List ℕ)
+zero_values = (0 ∷ 0 ∷ 0 ∷ 0 ∷ []) ∷ []
+
+abbrev with_zeros : RecordFields → List Column → RecordFields
+with_zeros fields sums = fold (λ made column. with_values made column.id.0 zero_values) fields sums
+
+abbrev takes_zero : List Column → Column → Bool
+takes_zero columns column = stands_in columns (column.id.0, zero_values)
+
+all_zeros : (columns sums : List Column) (fields : RecordFields) → list_all (takes_zero columns) sums ≡ true → list_all (stands_in columns) fields ≡ true → list_all (stands_in columns) (with_zeros fields sums) ≡ true
+all_zeros columns [] fields each all = all
+all_zeros columns (sum ∷ sums) fields each all =
+    let parts : (takes_zero columns sum ≡ true) × (list_all (takes_zero columns) sums ≡ true) = both _ _ each in
+    all_zeros columns sums (with_values fields sum.id.0 zero_values) parts.1 (all_with_values columns fields sum.id.0 zero_values all parts.0)
+
+-- one column more, of another number
+below_one_more : (x : Column) (columns sums : List Column) → list_all (takes_zero columns) sums ≡ true → list_any (λ other. other == x.id.0) (map number_of_column sums) ≡ false → list_all (takes_zero (x ∷ columns)) sums ≡ true
+below_one_more x columns [] each none = refl
+below_one_more x columns (sum ∷ sums) each none =
+    let parts : (takes_zero columns sum ≡ true) × (list_all (takes_zero columns) sums ≡ true) = both _ _ each in
+    let apart : ((sum.id.0 == x.id.0) ≡ false) × (list_any (λ other. other == x.id.0) (map number_of_column sums) ≡ false) = neither _ _ none in
+    let other : (x.id.0 == sum.id.0) ≡ false = turned sum.id.0 x.id.0 apart.0 in
+    let past : column_of_id (x ∷ columns) sum.id.0 ≡ column_of_id columns sum.id.0 = ap (λ b. cond b (Some x) (column_of_id columns sum.id.0)) other in
+    joined (takes_zero (x ∷ columns) sum) (list_all (takes_zero (x ∷ columns)) sums)
+    (taken (x ∷ columns) (sum.id.0, zero_values) (column_of_id columns sum.id.0) past ∙ parts.0)
+    (below_one_more x columns sums parts.1 apart.1)
+
+any_filtered : (number : ℕ) (columns : List Column) → list_any (λ other. other == number) (map number_of_column columns) ≡ false → list_any (λ other. other == number) (map number_of_column (filter is_sum columns)) ≡ false
+any_filtered number [] none = refl
+any_filtered number (x ∷ xs) none =
+    let parts : ((x.id.0 == number) ≡ false) × (list_any (λ other. other == number) (map number_of_column xs) ≡ false) = neither _ _ none in
+    elim (is_sum x) as (λ b. list_any (λ other. other == number) (map number_of_column (cond b (x ∷ filter is_sum xs) (filter is_sum xs))) ≡ false) [
+      | true ↦ rw parts.0 (any_filtered number xs parts.1)
+      | false ↦ any_filtered number xs parts.1
+    ]
+
+takes_its_zero : (x : Column) (columns : List Column) → is_long_if_sum x ≡ true → is_sum x ≡ true → takes_zero (x ∷ columns) x ≡ true
+takes_its_zero x columns long sum =
+    let kind : is_type_long x.kind ≡ true = rw sum at long in
+    let zero : value_fits x.kind (0 ∷ 0 ∷ 0 ∷ 0 ∷ []) ≡ true = value_fits-zero x.kind kind in
+    let fit : values_fit x zero_values ≡ true = rw zero (elim x.multi as (λ b. ((b || true) && true) ≡ true) [ true ↦ refl | false ↦ refl ]) in
+    stands-in (x ∷ columns) x.id.0 x zero_values (rw (number_is_itself x.id.0) refl) fit
+
+sums_take_zero : (columns : List Column) → are_distinct (map number_of_column columns) ≡ true → list_all is_long_if_sum columns ≡ true → list_all (takes_zero columns) (filter is_sum columns) ≡ true
+sums_take_zero [] distinct long = refl
+sums_take_zero (x ∷ xs) distinct long =
+    let parts : (not (list_any (λ other. other == x.id.0) (map number_of_column xs)) ≡ true) × (are_distinct (map number_of_column xs) ≡ true) = both _ _ distinct in
+    let longs : (is_long_if_sum x ≡ true) × (list_all is_long_if_sum xs ≡ true) = both _ _ long in
+    let rest : list_all (takes_zero (x ∷ xs)) (filter is_sum xs) ≡ true =
+    below_one_more x xs (filter is_sum xs) (sums_take_zero xs parts.1 longs.1) (any_filtered x.id.0 xs (denied _ parts.0)) in
+    elim (is_sum x) as (λ b. is_sum x ≡ b → list_all (takes_zero (x ∷ xs)) (cond b (x ∷ filter is_sum xs) (filter is_sum xs)) ≡ true) [
+      | true ↦ λ e. joined (takes_zero (x ∷ xs) x) (list_all (takes_zero (x ∷ xs)) (filter is_sum xs)) (takes_its_zero x xs longs.0 e) rest
+      | false ↦ λ e. rest
+    ] refl
+
+size_zeros : (sums : List Column) (fields : RecordFields) → record_size (with_zeros fields sums) ≤ record_size fields + 9 * length sums
+size_zeros [] fields = omega arith
+size_zeros (sum ∷ sums) fields =
+    let one = size_put sum.id.0 zero_values fields in
+    let rest = size_zeros sums (with_values fields sum.id.0 zero_values) in
+    omega (arith, one, rest)
+
+-- a record of sums alone stands in its columns
+pub sums_at_zero-stand : (columns : List Column) → are_distinct (map number_of_column columns) ≡ true → list_all is_long_if_sum columns ≡ true → list_all (stands_in columns) (with_sums_at_zero columns []) ≡ true
+sums_at_zero-stand columns distinct long = all_zeros columns (filter is_sum columns) [] (sums_take_zero columns distinct long) refl
+
+pub sums_at_zero-small : (columns : List Column) → length (filter is_sum columns) ≤ 127 → record_size (with_sums_at_zero columns []) ≤ 1700
+sums_at_zero-small columns few = let size = size_zeros (filter is_sum columns) [] in omega (arith, size)
+
+-- ---- one value of a column
+
+pub all_at : {X : Type 0} (p : X → Bool) (xs : List X) (i : ℕ) (x : X) → list_all p xs ≡ true → slice_get xs i ≡ Some x → p x ≡ true
+all_at p [] i x all found = cc
+all_at p (y ∷ ys) zero x all found =
+    let parts : (p y ≡ true) × (list_all p ys ≡ true) = both _ _ all in let same : y ≡ x = cc in rw (← same) parts.0
+all_at p (y ∷ ys) (suc i) x all found =
+    let parts : (p y ≡ true) × (list_all p ys ≡ true) = both _ _ all in all_at p ys i x parts.1 found
+
+pub any_numbers : (number : ℕ) (columns : List Column) → list_any (λ other. other == number) (map number_of_column columns) ≡ list_any (λ column. column.id.0 == number) columns
+any_numbers number [] = refl
+any_numbers number (x ∷ xs) = ap (λ b. (x.id.0 == number) || b) (any_numbers number xs)
+
+-- the columns behind the first, as the code has them
+abbrev pub behind : List Column → List Column
+behind columns = take (length columns - 1) (drop 1 columns)
+
+behind-cons : (x : Column) (xs : List Column) → behind (x ∷ xs) ≡ xs
+behind-cons x xs = let e : suc (length xs) - 1 ≡ length xs = omega arith in ap (λ n. take n xs) e ∙ whole xs
+  where
+    whole : (xs : List Column) → take (length xs) xs ≡ xs
+    whole [] = refl
+    whole (x ∷ xs) = ap (λ cs. x ∷ cs) (whole xs)
+
+pub distinct_cons : (columns : List Column) (first : Column) (again : Bool) → 1 ≤ length columns → first ≡ get_or columns 0 first → again ≡ list_any (λ column. column.id.0 == first.id.0) (behind columns) → are_distinct (map number_of_column columns) ≡ (not again && are_distinct (map number_of_column (behind columns)))
+distinct_cons [] first again some is told = absurd (omega (arith, some))
+distinct_cons (x ∷ xs) first again some is told =
+    let any : list_any (λ other. other == x.id.0) (map number_of_column xs) ≡ again =
+    any_numbers x.id.0 xs
+    ∙ ap (λ (c : Column). list_any (λ column. column.id.0 == c.id.0) xs) (sym is)
+    ∙ ap (λ (cs : List Column). list_any (λ column. column.id.0 == first.id.0) cs) (sym (behind-cons x xs))
+    ∙ sym told in
+    ap (λ b. not b && are_distinct (map number_of_column xs)) any ∙ ap (λ (cs : List Column). not again && are_distinct (map number_of_column cs)) (sym (behind-cons x xs))

@@ -1,0 +1,27 @@
+-- What a call that shows a value answers, before its bytes are written to the reply buffer.
+use Rattle.std.specs.Prelude.{◌≤◌, ℕ, List, length, take, nat_lt, Result, Ok, Err, if◌then◌else◌}
+use Rattle.jet_base.specs.declared.replies.Jet.{Jet}
+use Rattle.jet_base.specs.declared.replies.Jet.TheVariants as jet
+use Rattle.session_local.specs.declared.showing.Shown.{Shown}
+use Rattle.session_local.specs.declared.showing.Shown.TheVariants as shown
+use Rattle.session_local.specs.Answer.{Answered, Nothing, Number, Bytes}
+
+-- bytes up to the most that was asked for
+abbrev pub bytes_answered : ℕ → List ℕ → Answered
+bytes_answered most bytes = record {
+  jet = if nat_lt most (length bytes) then jet.BufferTruncated else jet.Success;
+  shown = Bytes (take most bytes) (length bytes);
+}
+
+abbrev pub answered_with : ℕ → Shown → Answered
+answered_with most (shown.Number number) = record { jet = jet.Success; shown = Number number }
+answered_with most (shown.Bytes bytes) = bytes_answered most bytes.now
+
+abbrev pub answered_or : ℕ → Result Shown Jet → Answered
+answered_or most (Ok value) = answered_with most value
+answered_or most (Err reply) = record { jet = reply; shown = Nothing }
+
+-- the bytes have room in the reply buffer
+abbrev pub HasRoom : Shown → Type 0
+HasRoom (shown.Number number) = Unit {0}
+HasRoom (shown.Bytes bytes) = length bytes.now ≤ 1048576
