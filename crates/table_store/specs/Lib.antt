@@ -1,0 +1,3 @@
+pub mod StoredRows
+pub mod TableTrees
+pub mod StoreView

@@ -1,0 +1,12 @@
+//! The records of all tables, as bytes under bookmarks, in B-trees of one space.
+#![tactic(auto)]
+
+mod laws;
+mod store;
+mod table_tree;
+
+pub use laws::{rows_after_a_change, rows_beside_a_new_table};
+pub use store::RecordStore;
+
+#[cfg(test)]
+mod tests;
