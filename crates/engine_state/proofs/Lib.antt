@@ -1,0 +1,17 @@
+pub mod Tests
+pub mod Past
+pub mod Sessions
+pub mod Seen
+pub mod Kept
+pub mod Followed
+pub mod Inserted
+pub mod Left
+pub mod Records
+pub mod Stored
+pub mod Told
+pub mod ToldTables
+pub mod SteppingStored
+pub mod SteppingSessions
+pub mod SteppingColumns
+pub mod SteppingTables
+pub mod Stepping

@@ -1,0 +1,5 @@
+pub mod SingleSession
+pub mod EngineState
+pub mod Represents
+pub mod EngineSteps
+pub mod EngineRun
