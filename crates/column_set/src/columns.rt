@@ -1,6 +1,7 @@
 //! The columns of a table.
 
-ghost use Rattle.std.specs.Prelude.{◌≡◌, IfOk};
+ghost use Rattle.std.specs.Prelude.{◌≡◌, IfOk, option_copied};
+ghost use Rattle.column_set.specs.RecordValues.{column_named};
 
 use jet_base::{ColType, ColumnId, Items, Name, OutOfMemory};
 use std::alloc::AllocError;
@@ -55,8 +56,18 @@ impl Clone for Column {
     }
 }
 
-/// The columns of a table, by rising number.
+/// The columns of a table, in the order in which they were added.
 pub type Columns = Items<Column>;
+
+/// The column of this name. Names are compared byte for byte.
+pub fn column_named<'a>(columns: &'a Columns, name: &Name) -> Option<&'a Column>
+    ensures { option_copied result ≡ column_named columns.now name.now }
+{
+    columns
+        .as_slice()
+        .iter()
+        .find(|column| column.name == *name)
+}
 
 #[cfg(test)]
 mod tests {

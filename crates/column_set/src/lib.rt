@@ -17,11 +17,11 @@ mod values;
 
 pub use changes::{Bookmark, Change};
 pub use checking::is_row;
-pub use columns::{Column, Columns};
+pub use columns::{Column, Columns, column_named};
 pub use decoding::decode;
 pub use encoding::encode;
 pub use encoding_records::{encode_record, is_all_here, values_here_are_the_record};
-pub use fields::{VALUE_HEADER, size_of_length, size_of_values};
+pub use fields::{Field, VALUE_HEADER, size_of_length, size_of_values};
 pub use records::Record;
 pub use row_fault::RowFault;
 pub use row_ref::{RowRef, rows_have_one_spelling};

@@ -1,6 +1,7 @@
 //! Records: the values that a row of a table has.
 
-ghost use Rattle.std.specs.Prelude.{◌≡◌, ◌+◌, ◌-◌, ◌^◌, ◌<◌, ℕ, List, [], ◌∷◌, ◌++◌, length, min, remove, slice_set, IfOk, IfErr, IsTrue, if◌then◌else◌, is_ok};
+ghost use Rattle.std.specs.Prelude.{◌≡◌, ◌+◌, ◌-◌, ◌^◌, ◌<◌, ◌≤◌, ℕ, List, [], ◌∷◌, ◌++◌, length, min, remove, slice_get, slice_index_or, slice_set, IfOk, IfErr, IsTrue, MatchOption, if◌then◌else◌, is_ok, option_copied};
+ghost use Rattle.column_set.specs.Reading.{IsFront};
 ghost use Rattle.column_set.specs.Record.{is_record};
 ghost use Rattle.column_set.specs.RecordPlaces.{IsPlaceOf, IsGapFor};
 ghost use Rattle.column_set.specs.RecordValues.{values_of, with_values, record_size, size_of_values};
@@ -63,8 +64,8 @@ impl Record {
         }
     }
 
-    /// The columns that have a value, by rising number.
-    pub(crate) fn fields(&self) -> &[Field]
+    /// The columns that have a value, by rising number, each with its values in their order.
+    pub fn fields(&self) -> &[Field]
         ensures fields { result.now ≡ self.now }
         ensures formed { IsTrue (is_record self.now) }
     {
@@ -181,7 +182,11 @@ impl Values for Record {
         self.values(column).len()
     }
 
-    fn value(&self, column: ColumnId, at: usize) -> Option<&[u8]> {
+    /// The whole value at a place, counted from 0.
+    fn value(&self, column: ColumnId, at: usize) -> Option<&[u8]>
+        ensures front { MatchOption result (length (values_of self.now column.0) ≤ at) (λ bytes. (at < length (values_of self.now column.0)) × IsFront bytes.now (slice_index_or (values_of self.now column.0) at [])) }
+        ensures whole { option_copied result ≡ slice_get (values_of self.now column.0) at }
+    {
         Some(self.values(column).get(at)?.as_bytes())
     }
 }
