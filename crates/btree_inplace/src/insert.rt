@@ -13,8 +13,9 @@ ghost use Rattle.btree_inplace.specs.Trees.{Exchanges, IsTree, nodes_of, pages_o
 use crate::Tree;
 use btree_node::child;
 use byteorder::{ByteOrder, LittleEndian};
+use jet_base::OutOfMemory;
 use page_image::Page;
-use page_space::{OutOfMemory, Space};
+use page_space::Space;
 
 /// The kind of a page that is no leaf.
 const INNER: u8 = 2;

@@ -18,7 +18,8 @@ mod remove;
 
 use btree_node::child;
 use byteorder::{ByteOrder, LittleEndian};
-use page_space::{OutOfMemory, Space};
+use jet_base::OutOfMemory;
+use page_space::Space;
 
 /// A sorted list of nodes in the pages of a space, found by its root page.
 #[derive(Drop)]

@@ -6,33 +6,16 @@ ghost use Rattle.std.specs.Borrow.{sem};
 ghost use Rattle.page_space.specs.Frames.{IsTaken, Takes, page_at};
 ghost use Rattle.page_space.specs.Lending.{LendsPage};
 
+use jet_base::OutOfMemory;
 use page_image::Page;
-use std::alloc::{AllocError, AllocFailed, Global};
+use std::alloc::Global;
 use std::marker::Model;
-use thiserror::Error;
 
 /// The most pages of a space: 64 GiB of them.
 const MAX_PAGES: usize = 16_777_216;
 
 /// The kind of a page that was taken and not written yet.
 const LEAF: u8 = 1;
-
-/// There was no memory for one more page.
-#[derive(Debug, Drop, Error)]
-#[error("out of memory")]
-pub struct OutOfMemory;
-
-impl From<AllocError> for OutOfMemory {
-    fn from(_: AllocError) -> OutOfMemory {
-        OutOfMemory
-    }
-}
-
-impl<T: Drop> From<AllocFailed<T>> for OutOfMemory {
-    fn from(_: AllocFailed<T>) -> OutOfMemory {
-        OutOfMemory
-    }
-}
 
 /// Pages by their numbers, which begin at 0. A page keeps its bytes while it is taken.
 #[derive(Drop)]

@@ -30,7 +30,7 @@ impl TableTree {
         tree_stays();
         match Tree::new(space) {
             Ok(tree) => Ok(TableTree { table, tree }),
-            Err(_) => Err(OutOfMemory),
+            Err(fault) => Err(fault),
         }
     }
 
@@ -63,7 +63,7 @@ impl TableTree {
         tree_stays();
         match self.tree.insert(space, bookmark, row, row.len()) {
             Ok(()) => Ok(()),
-            Err(_) => Err(OutOfMemory),
+            Err(fault) => Err(fault),
         }
     }
 

@@ -2,8 +2,8 @@
 ghost use Rattle.std.specs.Prelude.{◌≡◌, ◌+◌, ◌*◌, ◌/◌, ◌^◌, ◌<◌, ◌≤◌, [], ◌++◌, length, IfOk};
 ghost use Rattle.version_bucket.specs.Layout.{HasPiece, cost, piece_at, stored};
 
-use crate::OutOfMemory;
 use crate::bucket::Bucket;
+use jet_base::OutOfMemory;
 use std::alloc::Global;
 
 /// The length of a piece stands before it in as many bytes.

@@ -14,27 +14,10 @@ mod held;
 
 use crate::bucket::BUCKET_SIZE;
 use crate::held::{Held, cost_of};
-use std::alloc::{AllocError, AllocFailed, Global};
+use jet_base::OutOfMemory;
+use std::alloc::Global;
 use std::collections::VecDeque;
 use std::marker::Model;
-use thiserror::Error;
-
-/// There was no memory for one more piece.
-#[derive(Debug, Drop, Error)]
-#[error("out of memory")]
-pub struct OutOfMemory;
-
-impl From<AllocError> for OutOfMemory {
-    fn from(_: AllocError) -> OutOfMemory {
-        OutOfMemory
-    }
-}
-
-impl<T: Drop> From<AllocFailed<T>> for OutOfMemory {
-    fn from(_: AllocFailed<T>) -> OutOfMemory {
-        OutOfMemory
-    }
-}
 
 /// Where a piece lies: buckets are counted from the first that was ever held.
 #[derive(Clone, Copy)]
