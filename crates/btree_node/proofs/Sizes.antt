@@ -1,5 +1,5 @@
 -- The sizes of nodes with a new one among them.
-use Rattle.std.proofs.Common.{◌≡◌, ℕ, zero, suc, ◌+◌, ◌*◌, ◌<◌, ◌≤◌, inl, inr, List, [], ◌∷◌, length, map, sum, take, drop, get_or, refl, sym, ap, ◌∙◌, arith, add-one}
+use Rattle.std.proofs.Common.{◌≡◌, ℕ, zero, suc, ◌+◌, ◌-◌, ◌*◌, ◌<◌, ◌≤◌, inl, inr, List, [], ◌∷◌, length, map, sum, take, drop, get_or, refl, sym, ap, ◌∙◌, arith, add-one}
 use Rattle.std.specs.Prelude.{sum_by, insert, All}
 use Rattle.std.proofs.lemmas.List.{take-append-drop, drop_all, get_or-map, length-map}
 use Rattle.std.proofs.lemmas.List.Edits.{length-insert, get_or-insert_below, get_or-insert_at, get_or-insert_above}
@@ -7,6 +7,7 @@ use Rattle.std.proofs.lemmas.List.Sums.{sum_by-cons, sum_by-append, sum_by_more}
 use Rattle.std.proofs.lemmas.Bool.{cases_lt, cases_eq}
 use Rattle.page_image.specs.Page.{Node, no_node, node_at, node_size, page_size}
 use Rattle.btree_node.specs.Cut.{IsCut, sizes_with}
+use Rattle.btree_node.specs.Parts.{larger_part}
 
 pub length-sizes_with : (nodes : List Node) (i need : ℕ) → i ≤ length nodes → length (sizes_with nodes i need) ≡ length nodes + 1
 length-sizes_with nodes i need h = omega (arith, length-insert (map node_size nodes) i need (omega (arith, length-map nodes node_size)), length-map nodes node_size)
@@ -86,3 +87,27 @@ cut_here nodes i need m before size whole place small all within before_is left 
     first : (m : ℕ) → before ≡ sum (take m (sizes_with nodes i need)) → 0 < m
     first zero none = absurd (omega (arith, sizes_small nodes i need place small all m (omega arith)))
     first (suc m) some = omega arith
+
+-- more nodes take more
+sum-take-rises : (xs : List ℕ) (j k : ℕ) → j ≤ k → sum (take j xs) ≤ sum (take k xs)
+sum-take-rises xs zero k h = omega arith
+sum-take-rises [] (suc j) k h = omega arith
+sum-take-rises (x ∷ xs) (suc j) zero h = absurd (omega arith)
+sum-take-rises (x ∷ xs) (suc j) (suc k) h = omega (arith, sum-take-rises xs j k (omega arith), sum_by-cons (λ x. x) x (take j xs), sum_by-cons (λ x. x) x (take k xs))
+
+-- A cut is as even as can be where a node more in the first part makes it the larger one by more, and a node less the other.
+pub larger_part-least : (sizes : List ℕ) (m k : ℕ) → ((j : ℕ) → j + 1 ≡ m → sum (take j sizes) + sum (take m sizes) ≤ sum sizes) → sum sizes ≤ sum (take m sizes) + sum (take (m + 1) sizes) → larger_part sizes m ≤ larger_part sizes k
+larger_part-least sizes m k less more = elim (cases_lt k m) [
+  | inl below ↦ omega (arith, sum-parts sizes m, sum-parts sizes k, sum-take-rises sizes k (m - 1) (omega arith), sum-take-rises sizes k m (omega arith), less (m - 1) (omega arith))
+  | inr from ↦ elim (cases_eq k m) [
+    | inl same ↦ omega (arith, ap (larger_part sizes) same)
+    | inr other ↦ omega (arith, sum-parts sizes m, sum-parts sizes k, sum-take-rises sizes m k (omega arith), sum-take-rises sizes (m + 1) k (omega arith), more)
+  ]
+]
+
+-- all but the last node are before the last cut
+pub sum-take-all : (nodes : List Node) (i need m : ℕ) → i ≤ length nodes → m ≡ length nodes → sum (take (m + 1) (sizes_with nodes i need)) ≡ sum (sizes_with nodes i need)
+sum-take-all nodes i need m place is =
+    let sizes = sizes_with nodes i need in
+    let none : sum (drop (m + 1) sizes) ≡ 0 = ap sum (drop_all (m + 1) sizes (omega (arith, length-sizes_with nodes i need place))) in
+    omega (arith, sum-parts sizes (m + 1), none)

@@ -1,9 +1,10 @@
 //! The steps of a B-tree on one page: which child a key belongs to, and where a full page is cut in two.
 #![tactic(auto)]
 
-ghost use Rattle.std.specs.Prelude.{◌≡◌, ◌+◌, ◌<◌, ◌≤◌, [], length, slice_index, All};
+ghost use Rattle.std.specs.Prelude.{◌≡◌, ℕ, ◌+◌, ◌<◌, ◌≤◌, [], length, slice_index, All};
 ghost use Rattle.page_image.specs.Page.{node_at, node_size, page_size};
 ghost use Rattle.btree_node.specs.Cut.{IsChildPlace, IsCut, sizes_with};
+ghost use Rattle.btree_node.specs.Parts.{larger_part};
 
 use page_image::Page;
 
@@ -33,7 +34,9 @@ pub fn split_at(page: &Page, i: usize, need: usize) -> usize
     requires full { 4096 < page_size page.now.nodes + need }
     requires small { need ≤ 2032 }
     requires all_small { All (λ n. node_size n ≤ 2032) page.now.nodes }
-    ensures { IsCut page.now.nodes i need result }
+    ensures cut { IsCut page.now.nodes i need result }
+    ensures behind_all { i ≡ length page.now.nodes → result ≡ i }
+    ensures even { i < length page.now.nodes → (k : ℕ) → larger_part (sizes_with page.now.nodes i need) result ≤ larger_part (sizes_with page.now.nodes i need) k }
 {
     let count = page.len();
     if i == count {

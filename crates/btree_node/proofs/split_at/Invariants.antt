@@ -1,12 +1,13 @@
-use Rattle.std.proofs.Common.{◌-◌, ◌≡◌, ◌≤◌, sum, take}
+use Rattle.std.proofs.Common.{ℕ, ◌+◌, ◌-◌, ◌≡◌, ◌≤◌, sum, take}
 use Rattle.btree_node.specs.Cut.{sizes_with}
 use Rattle.btree_node.proofs.split_at.Given as goal
 
 abbrev pub invariant-loop-m : goal.invariant-loop-m
 invariant-loop-m l = record {
   within : l.m ≤ l.count;
-  sum : l.before ≡ sum (take l.m (sizes_with l.page.nodes l.i l.need));
+  total : l.before ≡ sum (take l.m (sizes_with l.page.nodes l.i l.need));
   left : l.before ≤ 4064;
+  less : (j : ℕ) → j + 1 ≡ l.m → sum (take j (sizes_with l.page.nodes l.i l.need)) + sum (take l.m (sizes_with l.page.nodes l.i l.need)) ≤ sum (sizes_with l.page.nodes l.i l.need);
 }
 
 abbrev pub decreases-loop-m : goal.decreases-loop-m
