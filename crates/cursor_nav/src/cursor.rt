@@ -69,6 +69,20 @@ impl Cursor {
         }
     }
 
+    /// The cursor's table.
+    pub fn table(&self) -> TableId
+        ensures { result.0 ≡ self.now.table }
+    {
+        self.table
+    }
+
+    /// Its current index, 0 for the hidden order.
+    pub fn index(&self) -> IndexId
+        ensures { result.0 ≡ self.now.index }
+    {
+        self.index
+    }
+
     /// Where the cursor stands.
     pub fn place(&self) -> &Place
         ensures { result.now ≡ self.now.place }

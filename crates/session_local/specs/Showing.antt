@@ -1,7 +1,11 @@
 -- What a call that shows a value answers, before its bytes are written to the reply buffer.
-use Rattle.std.specs.Prelude.{◌≤◌, ℕ, List, length, take, nat_lt, Result, Ok, Err, if◌then◌else◌}
+use Rattle.std.specs.Prelude.{◌≤◌, ℕ, Bool, true, List, length, take, nat_le, nat_lt, Option, Some, None, Result, Ok, Err, if◌then◌else◌, IsTrue}
 use Rattle.jet_base.specs.declared.replies.Jet.{Jet}
 use Rattle.jet_base.specs.declared.replies.Jet.TheVariants as jet
+use Rattle.jet_base.specs.declared.memory.OutOfMemory.{OutOfMemory}
+use Rattle.session_local.specs.declared.reply.Reply.{Reply}
+use Rattle.session_local.specs.declared.reply.Value.{Value}
+use Rattle.session_local.specs.declared.reply.Value.TheVariants as value
 use Rattle.session_local.specs.declared.showing.Shown.{Shown}
 use Rattle.session_local.specs.declared.showing.Shown.TheVariants as shown
 use Rattle.session_local.specs.Answer.{Answered, Nothing, Number, Bytes}
@@ -25,3 +29,14 @@ answered_or most (Err reply) = record { jet = reply; shown = Nothing }
 abbrev pub HasRoom : Shown → Type 0
 HasRoom (shown.Number number) = Unit {0}
 HasRoom (shown.Bytes bytes) = length bytes.now ≤ 1048576
+
+-- whether a value names at most so many bytes of the reply buffer
+abbrev pub names_within : Value → ℕ → Bool
+names_within (value.Bytes count whole) most = nat_le count most
+names_within _ most = true
+
+-- the reply, if there is one, names at most so many
+abbrev pub NamesWithin : Result (Option Reply) OutOfMemory → ℕ → Type 0
+NamesWithin (Ok (Some reply)) most = IsTrue (names_within reply.value most)
+NamesWithin (Ok None) most = Unit {0}
+NamesWithin (Err fault) most = Unit {0}

@@ -7,7 +7,7 @@ ghost use Rattle.session_local.specs.Holding.{begun_with_cursors};
 ghost use Rattle.session_local.specs.LocalCalls.{cursor_of, is_answered_locally, plain, reply_not_begun, takes_memory, IsAnswer, StepsBy};
 ghost use Rattle.session_local.specs.Outcome.{Asked, on_cursor};
 ghost use Rattle.session_local.specs.RecordCalls.{retrieve_copy};
-ghost use Rattle.session_local.specs.Showing.{answered_with, bytes_answered, HasRoom};
+ghost use Rattle.session_local.specs.Showing.{answered_with, bytes_answered, names_within, HasRoom, NamesWithin};
 ghost use Rattle.session_local.specs.WellFormed.{IsWellFormed, is_well_formed_cursor};
 
 use crate::begun::{Begun, write_front};
@@ -34,6 +34,7 @@ pub fn local_step(local: &mut Local, request: &Request) -> Result<Option<Reply>,
     ensures unchanged { IfErr result (λ _. local.new ≡ local.old) }
     ensures memory { IfErr result (λ _. takes_memory request.now ≡ true) }
     ensures kept { IsWellFormed local.new.state }
+    ensures named { NamesWithin result (length local.new.reply) }
 {
     let Some(begun) = &mut local.begun else {
         return Ok(step_not_begun(request));
@@ -65,6 +66,7 @@ impl Begun {
     fn local_step(&mut self, request: &Request) -> Result<Option<Reply>, OutOfMemory>
         requires { IsWellFormed (begun_with_cursors self.old.cursors) }
         ensures step { StepsBy self.old request.now result self.new }
+        ensures named { NamesWithin result (length self.new.reply) }
         ensures memory { IfErr result (λ _. takes_memory request.now ≡ true) }
     {
         match request {
@@ -85,6 +87,7 @@ impl Begun {
         requires well_formed { IsWellFormed (begun_with_cursors self.old.cursors) }
         requires label { cursor_of request.now ≡ Some label.0 }
         ensures step { StepsBy self.old request.now result self.new }
+        ensures named { NamesWithin result (length self.new.reply) }
         ensures memory { IfErr result (λ _. takes_memory request.now ≡ true) }
     {
         if !is_always_local(request) {
@@ -111,6 +114,7 @@ impl Begun {
         requires { IsWellFormed (begun_with_cursors self.old.cursors) }
         ensures shown { (asked : Asked) → answered_by result self.new.reply ≡ (on_cursor asked (find (λ c. c.label == label.0) self.old.cursors) (λ c. retrieve_copy asked c column.now sequence most)).answered }
         ensures cursors { self.new.cursors ≡ self.old.cursors }
+        ensures named { IsTrue (names_within result.value (length self.new.reply)) }
     {
         let Some(at) = self.position(label) else {
             return without_value(Jet::InvalidTableId);
@@ -162,7 +166,8 @@ impl OpenCursor {
 fn show_value(buffer: &mut [u8], value: Shown<'_>, most: u32) -> Reply
     requires room { HasRoom value }
     requires size { 1048576 ≤ length buffer.old }
-    ensures { answered_by result buffer.new ≡ answered_with most value.entry }
+    ensures answer { answered_by result buffer.new ≡ answered_with most value.entry }
+    ensures named { IsTrue (names_within result.value (length buffer.new)) }
 {
     match value {
         Shown::Number(number) => Reply {
@@ -176,7 +181,8 @@ fn show_value(buffer: &mut [u8], value: Shown<'_>, most: u32) -> Reply
 // Writes the bytes to the front of the reply buffer, up to the most that was asked for.
 fn show_bytes(buffer: &mut [u8], bytes: &[u8], most: usize) -> Reply
     requires { length bytes.now ≤ length buffer.old }
-    ensures { answered_by result buffer.new ≡ bytes_answered most bytes.now }
+    ensures answer { answered_by result buffer.new ≡ bytes_answered most bytes.now }
+    ensures named { IsTrue (names_within result.value (length buffer.new)) }
 {
     let (front, _) = bytes.split_at(most.min(bytes.len()));
     write_front(buffer, front);

@@ -1,11 +1,13 @@
 //! What a session holds from its begin to its end.
 
-ghost use Rattle.std.specs.Prelude.{◌≡◌, ◌≤◌, ◌<◌, ◌==◌, ◌||◌, ◌++◌, [], ◌∷◌, Option, Some, None, MatchOption, length, nat_le, find, filter, map, not, is_some, option_map, drop, remove, vec_len, vec_capacity, if◌then◌else◌};
+ghost use Rattle.std.specs.Prelude.{◌≡◌, ◌≤◌, ◌<◌, ◌==◌, ◌||◌, ◌++◌, [], ◌∷◌, true, Option, Some, None, MatchOption, length, nat_le, find, filter, map, not, is_some, option_map, drop, remove, vec_len, vec_capacity, if◌then◌else◌};
 ghost use Rattle.session_local.specs.Answer.{Bytes, shown_by};
+ghost use Rattle.session_local.specs.declared.reply.Value.TheVariants as value;
 ghost use Rattle.session_local.specs.Local.{unprepared};
 ghost use Rattle.session_local.specs.Finishing.{with_update_at};
 ghost use Rattle.session_local.specs.Holding.{position_of, begun_with_cursors};
 ghost use Rattle.session_local.specs.Preparing.{update_of, FitsCursor};
+ghost use Rattle.session_local.specs.SessionSide.{label_of, are_distinct};
 
 use crate::buffers::{Buffers, MOST_CURSORS};
 use crate::open_cursor::OpenCursor;
@@ -44,14 +46,16 @@ impl Begun {
 
     /// The bytes of the reply buffer.
     pub(crate) fn reply(&self) -> &[u8]
-        ensures { result.now ≡ self.now.reply }
+        ensures bytes { result.now ≡ self.now.reply }
+        ensures count { length self.now.reply ≡ 1048576 }
     {
         self.reply.as_slice()
     }
 
     /// The cursors, in the order in which they were opened.
     pub(crate) fn cursors(&self) -> &[OpenCursor]
-        ensures { result.now ≡ self.now.cursors }
+        ensures cursors { result.now ≡ self.now.cursors }
+        ensures distinct { are_distinct (map label_of self.now.cursors) ≡ true }
     {
         self.cursors.as_slice()
     }
@@ -132,6 +136,9 @@ impl Begun {
     pub(crate) fn show(&mut self, front: &[u8], whole: u64) -> Value
         requires { length front.now ≤ 1048576 }
         ensures shown { shown_by result self.new.reply ≡ Bytes front.now whole }
+        ensures value { result ≡ value.Bytes (length front.now) whole }
+        ensures room { length self.new.reply ≡ 1048576 }
+        ensures held { length self.old.reply ≡ 1048576 }
         ensures cursors { self.new.cursors ≡ self.old.cursors }
     {
         write_front(&mut self.reply, front);

@@ -1,11 +1,13 @@
 //! One session's own state.
 
-ghost use Rattle.std.specs.Prelude.{◌≡◌, ◌≤◌, [], IsTrue, Option, Some, None, MatchOption, option_map, length};
+ghost use Rattle.std.specs.Prelude.{◌≡◌, ◌≤◌, true, [], IsTrue, Option, Some, None, MatchOption, option_map, length, map, if◌then◌else◌};
 ghost use Rattle.session_local.specs.Answer.{Bytes, shown_by};
+ghost use Rattle.session_local.specs.declared.reply.Value.TheVariants as value;
 ghost use Rattle.session_local.specs.Local.{no_session, cursor_labelled, without_cursor, without_prepared};
 ghost use Rattle.session_local.specs.Finishing.{with_opened, with_update_at};
 ghost use Rattle.session_local.specs.Holding.{begun_with_cursors};
 ghost use Rattle.session_local.specs.Preparing.{update_of, FitsCursor};
+ghost use Rattle.session_local.specs.SessionSide.{label_of, are_distinct};
 
 use crate::begun::Begun;
 use crate::buffers::Buffers;
@@ -63,7 +65,8 @@ impl Local {
 
     /// The reply buffer, empty before BeginSession.
     pub fn reply(&self) -> &[u8]
-        ensures { result.now ≡ self.now.reply }
+        ensures bytes { result.now ≡ self.now.reply }
+        ensures count { length self.now.reply ≡ (if self.now.state.begun then 1048576 else 0) }
     {
         match &self.begun {
             Some(begun) => begun.reply(),
@@ -71,9 +74,10 @@ impl Local {
         }
     }
 
-    /// The cursors, in the order in which they were opened: 16 at most.
+    /// The cursors, in the order in which they were opened: 16 at most, and no two with one label.
     pub fn cursors(&self) -> &[OpenCursor]
-        ensures { result.now ≡ self.now.state.cursors }
+        ensures cursors { result.now ≡ self.now.state.cursors }
+        ensures distinct { are_distinct (map label_of self.now.state.cursors) ≡ true }
     {
         match &self.begun {
             Some(begun) => begun.cursors(),
@@ -97,6 +101,9 @@ impl Local {
         requires begun { IsTrue self.old.state.begun }
         requires room { length front.now ≤ 1048576 }
         ensures shown { shown_by result self.new.reply ≡ Bytes front.now whole }
+        ensures value { result ≡ value.Bytes (length front.now) whole }
+        ensures room { length self.new.reply ≡ 1048576 }
+        ensures held { length self.old.reply ≡ 1048576 }
         ensures state { self.new.state ≡ self.old.state }
         ensures session { self.new.session ≡ self.old.session }
     {

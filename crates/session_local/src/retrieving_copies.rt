@@ -8,9 +8,8 @@ ghost use Rattle.session_local.specs.Showing.{answered_or, answered_with, HasRoo
 ghost use Rattle.session_local.specs.WellFormed.{is_well_formed_cursor};
 
 use crate::open_cursor::OpenCursor;
-use crate::setting_columns::column_named;
 use crate::showing::Shown;
-use column_set::Column;
+use column_set::{Column, column_named};
 use jet_base::{Jet, Name};
 use stored_value::{is_number_type, number_of};
 

@@ -1,8 +1,6 @@
 //! SetColumn.
 
 ghost use Rattle.std.specs.Prelude.{◌≡◌, true, Some, IsTrue, map};
-ghost use Rattle.std.specs.Option.{option_copied};
-ghost use Rattle.column_set.specs.RecordValues.{column_named};
 ghost use Rattle.session_local.specs.Changing.{value_set_at, ChangesTo};
 ghost use Rattle.session_local.specs.Local.{OpenCursor};
 ghost use Rattle.session_local.specs.Preparing.{update_of};
@@ -11,7 +9,7 @@ ghost use Rattle.session_local.specs.WellFormed.{number_of_column, is_well_forme
 
 use crate::open_cursor::OpenCursor;
 use crate::prepared::Prepared;
-use column_set::{Column, Columns};
+use column_set::column_named;
 use jet_base::{Given, Jet, Name, OutOfMemory};
 use record_edit::EditFault;
 
@@ -50,14 +48,4 @@ impl Prepared {
             Err(EditFault::OutOfMemory) => Err(OutOfMemory),
         }
     }
-}
-
-// The column of this name.
-pub(crate) fn column_named<'a>(columns: &'a Columns, name: &Name) -> Option<&'a Column>
-    ensures { option_copied result ≡ column_named columns.now name.now }
-{
-    columns
-        .as_slice()
-        .iter()
-        .find(|column| column.name == *name)
 }
