@@ -1,7 +1,7 @@
 //! Schema calls, each decided and made, with the answers that they get.
 
 use crate::{Catalog, called_name};
-use index_derive::{IndexFlags, NamedCondition, NamedSegment, SchemaCall};
+use index_derive::{IndexFlags, NamedCondition, NamedSegment, SchemaCall, SchemaStep};
 use jet_base::{ColType, ColumnFlags, Items, Jet, Name, OutOfMemory, TableId};
 use std::alloc::Global;
 use std::test::Fail;
@@ -309,5 +309,19 @@ fn an_index_has_conditions(rt: HostRuntime) -> Result<(), Fail> {
     assert_eq!(rt; called_name(&call).as_str(), "T");
     assert_eq!(rt; calls.answer(&call, true)?, Jet::Success);
     assert_eq!(rt; calls.delete_column("b")?, Jet::ColumnInUse);
+    Ok(())
+}
+
+#[test]
+fn a_new_table_is_taken_back(rt: HostRuntime) -> Result<(), Fail> {
+    let mut catalog = Catalog::new(rt.alloc());
+    catalog.make(&SchemaStep::CreateTable {
+        table: TableId(1),
+        name: Name::new(rt.alloc(), "T")?,
+    })?;
+    assert_eq!(rt; catalog.len(), 1);
+    catalog.go_back(0, 0);
+    assert_eq!(rt; catalog.len(), 0);
+    assert_eq!(rt; catalog.greatest(), 0);
     Ok(())
 }
