@@ -1,0 +1,109 @@
+-- Trees that change one after the other.
+use Rattle.std.proofs.Common.{◌≡◌, ◌≢◌, ℕ, zero, suc, ◌<◌, ◌⊎◌, ◌==◌, inl, inr, Some, None, List, [], ◌∷◌, ◌++◌, length, get_or, refl, sym, ap, subst, ◌∙◌, true≢false, arith}
+use Rattle.std.specs.Prelude.{Contains}
+use Rattle.std.proofs.lemmas.Bool.{cases_lt}
+use Rattle.std.proofs.lemmas.Bool.Decides.{Decides-eqb}
+use Rattle.std.proofs.lemmas.Map.Made.{Contains-tail}
+use Rattle.std.proofs.lemmas.List.{get_or-set_other, get_or_append_left, get_or_past, length_push}
+use Rattle.page_image.specs.Page.{Node}
+use Rattle.page_space.specs.Frames.{Frames, Takes, empty_page, page_at}
+use Rattle.btree_inplace.specs.Trees.{Exchanges, IsTree, nodes_of, pages_of}
+use Rattle.btree_inplace.specs.declared.Tree.{Tree}
+use Rattle.long_value.specs.Stores.{Becomes}
+use Rattle.long_value.proofs.Keys.{by_test}
+
+-- ---- pages
+
+member : (xs : List ℕ) (p : ℕ) → Contains xs p ⊎ (¬ Contains xs p)
+member [] p = inr (λ c. absurd (omega (arith, c.1)))
+member (x ∷ xs) p =
+    by_test (x == p)
+    (λ t. inl (0, omega arith, (Decides-eqb x p).0 t))
+    (λ f. elim (member xs p) [
+      | inl c ↦ inl (suc c.0, omega (arith, c.1), c.2)
+      | inr n ↦ inr (λ c. n (Contains-tail x xs p (λ e. true≢false (sym ((Decides-eqb x p).1 e) ∙ f)) c))
+    ])
+
+pub exchanges_then : (a b c : Frames) (first second third : List ℕ) → Exchanges a b first second → Exchanges b c second third → Exchanges a c first third
+exchanges_then a b c first second third s t = record {
+  taken = λ p h. elim (member first p) [
+    | inl was ↦ inl was
+    | inr none ↦ inr (elim (member second p) [
+      | inl between ↦ elim (s.taken p between) [
+        | inl there ↦ absurd (none there)
+        | inr free ↦ free
+      ]
+      | inr not ↦ elim (t.taken p h) [
+        | inl there ↦ absurd (not there)
+        | inr free ↦ sym (s.others p none not) ∙ free
+      ]
+    ])
+  ];
+  given_back = λ p h none. elim (member second p) [
+    | inl between ↦ t.given_back p between none
+    | inr not ↦ t.others p not none ∙ s.given_back p h not
+  ];
+  others = λ p h none. elim (member second p) [
+    | inl between ↦ elim (s.taken p between) [
+      | inl there ↦ absurd (h there)
+      | inr free ↦ t.given_back p between none ∙ sym free
+    ]
+    | inr not ↦ t.others p not none ∙ s.others p h not
+  ];
+}
+
+pub exchanges_none : (frames : Frames) (pages : List ℕ) → Exchanges frames frames pages pages
+exchanges_none frames pages = record { taken = λ p h. inl h; given_back = λ p h not. absurd (not h); others = λ p h not. refl }
+
+pub exchanges_written : (old new : Frames) (before after : List ℕ) → after ≡ before → ((p : ℕ) → ¬ Contains before p → page_at new p ≡ page_at old p) → Exchanges old new before after
+exchanges_written old new before after same others = record {
+  taken = λ p h. inl (subst (λ (l : List ℕ). Contains l p) same h);
+  given_back = λ p h not. absurd (not (subst (λ (l : List ℕ). Contains l p) (sym same) h));
+  others = λ p h not. others p h;
+}
+
+-- ---- trees
+
+pub becomes_same : (frames : Frames) (tree : Tree) → IsTree frames tree → Becomes frames tree frames tree (nodes_of frames tree)
+becomes_same frames tree is = record { tree = is; has = refl; pages = exchanges_none frames (pages_of frames tree) }
+
+pub becomes_then : (a b c : Frames) (first second third : Tree) (nodes nodes' : List Node) → Becomes a first b second nodes → Becomes b second c third nodes' → Becomes a first c third nodes'
+becomes_then a b c first second third nodes nodes' s t = record {
+  tree = t.tree;
+  has = t.has;
+  pages = exchanges_then a b c (pages_of a first) (pages_of b second) (pages_of c third) s.pages t.pages;
+}
+
+pub becomes_as : (old : Frames) (was : Tree) (new : Frames) (is : Tree) (nodes nodes' : List Node) → nodes ≡ nodes' → Becomes old was new is nodes → Becomes old was new is nodes'
+becomes_as old was new is nodes nodes' e b = record { tree = b.tree; has = b.has ∙ e; pages = b.pages }
+
+-- ---- one page more
+
+only_page : (page p k : ℕ) → k < 1 → get_or (page ∷ []) k p ≡ p → page ≡ p
+only_page page p zero lt e = e
+only_page page p (suc k) lt e = absurd (omega arith)
+
+was_free : (old : Frames) (page : ℕ) (new : Frames) → Takes old page new → page_at old page ≡ None
+was_free old page new t = elim (cases_lt page (length old)) [
+  | inl lt ↦ (t.reused lt).0
+  | inr le ↦ get_or_past old page None le
+]
+
+grown_same : (old : Frames) (page p : ℕ) → page ≡ length old → p ≢ page → page_at (old ++ Some (empty_page page) ∷ []) p ≡ page_at old p
+grown_same old page p e n = elim (cases_lt p (length old)) [
+  | inl lt ↦ get_or_append_left old (Some (empty_page page) ∷ []) None p lt
+  | inr le ↦ get_or_past (old ++ Some (empty_page page) ∷ []) p None (omega (arith, length_push old (Some (empty_page page)))) ∙ sym (get_or_past old p None le)
+]
+
+same_page : (old : Frames) (page : ℕ) (new : Frames) → Takes old page new → (p : ℕ) → p ≢ page → page_at new p ≡ page_at old p
+same_page old page new t p n = elim (cases_lt page (length old)) [
+  | inl lt ↦ ap (λ (f : Frames). page_at f p) (t.reused lt).1 ∙ get_or-set_other old page p (Some (empty_page page)) None n
+  | inr le ↦ ap (λ (f : Frames). page_at f p) (t.grown le).2 ∙ grown_same old page p (t.grown le).0 n
+]
+
+pub takes_one : (old : Frames) (page : ℕ) (new : Frames) → Takes old page new → Exchanges old new [] (page ∷ [])
+takes_one old page new t = record {
+  taken = λ p there. inr (subst (λ q. page_at old q ≡ None) (only_page page p there.0 there.1 there.2) (was_free old page new t));
+  given_back = λ p there not. absurd (omega (arith, there.1));
+  others = λ p none not. same_page old page new t p (λ e. not (0, omega arith, sym e));
+}

@@ -1,0 +1,9 @@
+pub mod Keys
+pub mod Nodes
+pub mod ChunkNodes
+pub mod Maps
+pub mod Changes
+pub mod Held
+pub mod Reading
+pub mod Putting
+pub mod AfterChanges

@@ -1,0 +1,13 @@
+//! Values of more than 255 bytes, kept apart from their rows: each in chunks in a tree, with a count of
+//! the references to it.
+#![tactic(auto)]
+
+mod chunks;
+mod laws;
+mod values;
+
+pub use laws::{identifiers_differ, values_after_a_change};
+pub use values::{LongId, LongValues, long_values_stay};
+
+#[cfg(test)]
+mod tests;

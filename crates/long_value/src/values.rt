@@ -1,0 +1,193 @@
+//! Long values in a tree of a space that it shares with other trees.
+
+ghost use Rattle.std.specs.Prelude.{◌≡◌, ◌≤◌, ◌<◌, ◌*◌, suc, true, false, Some, is_some, [], length, take, nat_lt, if◌then◌else◌, IfOk, OnErr, OnOk};
+ghost use Rattle.page_space.specs.Frames.{Frames, Takes};
+ghost use Rattle.btree_inplace.specs.Trees.{Exchanges, Stay};
+ghost use Rattle.long_value.specs.Values.{LongValue, Values, chunk_of, head_data, put_value, released, value_of, without_value};
+ghost use Rattle.long_value.specs.Stores.{HasNoValue, HasValues, HoldsValue, IsLongStore, id_bytes, own_pages, read_upto};
+ghost use Rattle.long_value.specs.declared.values.LongValues.{LongValues};
+
+use crate::chunks::{
+    CHUNK_BYTES, chunk_count, chunk_key, copy_chunk, head_bytes, put_value, take_chunks,
+};
+use btree_inplace::{Tree, tree_stays};
+use byteorder::{ByteOrder, LittleEndian};
+use jet_base::OutOfMemory;
+use page_space::Space;
+
+/// What names a long value: the number of the log entry that made it, and a place in that entry.
+#[derive(Clone, Copy, Debug, PartialEq, Eq)]
+pub struct LongId {
+    pub entry: u64,
+    pub place: u32,
+}
+
+/// Long values, each with a count of the references to it. Every call is lent the space that has their
+/// pages, and leaves all pages of other trees as they are.
+#[derive(Drop)]
+pub struct LongValues {
+    tree: Tree,
+}
+
+impl LongValues {
+    /// No value.
+    pub fn new(space: &mut Space) -> Result<LongValues, OutOfMemory>
+        ensures empty { IfOk result (λ made. HasValues space.new made []) }
+        ensures pages { IfOk result (λ made. Exchanges space.old space.new [] (own_pages space.new made)) }
+        ensures err { OnErr result (space.new ≡ space.old) }
+    {
+        match Tree::new(space) {
+            Ok(tree) => Ok(LongValues { tree }),
+            Err(fault) => Err(fault),
+        }
+    }
+
+    /// Whether a value is there.
+    pub fn has(&self, space: &Space, id: LongId) -> bool
+        requires { IsLongStore space.now self.now }
+        ensures value { (values : Values) → HasValues space.now self.now values → result ≡ is_some (value_of (id_bytes id) values) }
+        ensures there { result ≡ true → (value : LongValue) × HoldsValue space.now self.now id value }
+        ensures absent { result ≡ false → HasNoValue space.now self.now id }
+    {
+        self.tree.get(space, chunk_key(id, 0).as_slice()).is_some()
+    }
+
+    /// Puts a value that is not there, with one reference to it. After a refusal the values are the
+    /// same.
+    pub fn put(&mut self, space: &mut Space, id: LongId, bytes: &[u8]) -> Result<(), OutOfMemory>
+        requires absent { HasNoValue space.old self.old id }
+        requires long { 256 ≤ length bytes.now }
+        requires short { length bytes.now ≤ 1048576 }
+        ensures store { IsLongStore space.new self.new }
+        ensures ok { OnOk result ((values : Values) → HasValues space.old self.old values → HasValues space.new self.new (put_value (id_bytes id) (record { count = 1; bytes = bytes.now }) values)) }
+        ensures err { OnErr result ((values : Values) → HasValues space.old self.old values → HasValues space.new self.new values) }
+        ensures pages { Exchanges space.old space.new (own_pages space.old self.old) (own_pages space.new self.new) }
+    {
+        put_value(&mut self.tree, space, id, bytes)
+    }
+
+    /// One reference more. It takes no memory.
+    pub fn share(&mut self, space: &mut Space, id: LongId)
+        requires { (value : LongValue) × HoldsValue space.old self.old id value × (value.count < 4294967295) }
+        ensures store { IsLongStore space.new self.new }
+        ensures values { (values : Values) (value : LongValue) → HasValues space.old self.old values → value_of (id_bytes id) values ≡ Some value → HasValues space.new self.new (put_value (id_bytes id) (record value { count = suc value.count }) values) }
+        ensures pages { Exchanges space.old space.new (own_pages space.old self.old) (own_pages space.new self.new) }
+    {
+        let count = self.count(space, id);
+        self.set_count(space, id, count + 1);
+    }
+
+    /// One reference less; with the last one the value is gone. It takes no memory.
+    pub fn release(&mut self, space: &mut Space, id: LongId)
+        requires { (value : LongValue) × HoldsValue space.old self.old id value }
+        ensures store { IsLongStore space.new self.new }
+        ensures values { (values : Values) (value : LongValue) → HasValues space.old self.old values → value_of (id_bytes id) values ≡ Some value → HasValues space.new self.new (released (id_bytes id) value values) }
+        ensures pages { Exchanges space.old space.new (own_pages space.old self.old) (own_pages space.new self.new) }
+    {
+        let count = self.count(space, id);
+        if count == 1 {
+            self.take_out(space, id);
+        } else {
+            self.set_count(space, id, count - 1);
+        }
+    }
+
+    /// How many references a value has.
+    pub fn count(&self, space: &Space, id: LongId) -> u32
+        requires { (value : LongValue) × HoldsValue space.now self.now id value }
+        ensures { (value : LongValue) → HoldsValue space.now self.now id value → result ≡ value.count }
+    {
+        LittleEndian::read_u32(self.head(space, id))
+    }
+
+    /// How many bytes a value has.
+    pub fn length(&self, space: &Space, id: LongId) -> u32
+        requires { (value : LongValue) × HoldsValue space.now self.now id value }
+        ensures { (value : LongValue) → HoldsValue space.now self.now id value → result ≡ length value.bytes }
+    {
+        LittleEndian::read_u32(&self.head(space, id)[4..])
+    }
+
+    /// The first bytes of a value, at most 1,024: a part of its page.
+    pub fn first_part<'a>(&self, space: &'a Space, id: LongId) -> &'a [u8]
+        requires { (value : LongValue) × HoldsValue space.now self.now id value }
+        ensures { (value : LongValue) → HoldsValue space.now self.now id value → result.now ≡ take 1024 value.bytes }
+    {
+        self.chunk(space, id, 0)
+    }
+
+    /// Reads the first bytes of a value, as many as there is room for, and says how many. What is
+    /// behind them in the slice stays.
+    pub fn read(&self, space: &Space, id: LongId, into: &mut [u8]) -> usize
+        requires { (value : LongValue) × HoldsValue space.now self.now id value }
+        ensures bytes { (value : LongValue) → HoldsValue space.now self.now id value → into.new ≡ read_upto result value.bytes into.old }
+        ensures count { (value : LongValue) → HoldsValue space.now self.now id value → result ≡ (if nat_lt (length into.old) (length value.bytes) then length into.old else length value.bytes) }
+    {
+        let size = self.length(space, id) as usize;
+        let wanted = if into.len() < size { into.len() } else { size };
+        for k in 0..chunk_count(wanted) {
+            let chunk = self.chunk(space, id, k);
+            let start = k as usize * CHUNK_BYTES;
+            let end = if wanted - start < CHUNK_BYTES {
+                wanted
+            } else {
+                start + CHUNK_BYTES
+            };
+            copy_chunk(into, start, end, chunk);
+        }
+        wanted
+    }
+
+    /// The head of a value.
+    fn head<'a>(&self, space: &'a Space, id: LongId) -> &'a [u8]
+        requires { (value : LongValue) × HoldsValue space.now self.now id value }
+        ensures head { (value : LongValue) → HoldsValue space.now self.now id value → result.now ≡ head_data value }
+        ensures size { length result.now ≡ 8 }
+    {
+        match self.tree.get(space, chunk_key(id, 0).as_slice()) {
+            Some(head) => head,
+            None => &[],
+        }
+    }
+
+    /// A chunk of a value, counted from 0.
+    fn chunk<'a>(&self, space: &'a Space, id: LongId, k: u32) -> &'a [u8]
+        requires { (value : LongValue) × HoldsValue space.now self.now id value × (1024 * k < length value.bytes) }
+        ensures { (value : LongValue) → HoldsValue space.now self.now id value → result.now ≡ chunk_of value.bytes k }
+    {
+        match self.tree.get(space, chunk_key(id, k + 1).as_slice()) {
+            Some(chunk) => chunk,
+            None => &[],
+        }
+    }
+
+    /// Gives a value another count.
+    fn set_count(&mut self, space: &mut Space, id: LongId, count: u32)
+        requires there { (value : LongValue) × HoldsValue space.old self.old id value }
+        requires some { 1 ≤ count }
+        ensures values { (values : Values) (value : LongValue) → HasValues space.old self.old values → value_of (id_bytes id) values ≡ Some value → HasValues space.new self.new (put_value (id_bytes id) (record value { count = count }) values) }
+        ensures pages { Exchanges space.old space.new (own_pages space.old self.old) (own_pages space.new self.new) }
+    {
+        let head = head_bytes(count, self.length(space, id));
+        self.tree
+            .replace(space, chunk_key(id, 0).as_slice(), head.as_slice());
+    }
+
+    /// Takes all chunks of a value out.
+    fn take_out(&mut self, space: &mut Space, id: LongId)
+        requires { (value : LongValue) × HoldsValue space.old self.old id value }
+        ensures values { (values : Values) (value : LongValue) → HasValues space.old self.old values → value_of (id_bytes id) values ≡ Some value → HasValues space.new self.new (without_value (id_bytes id) values) }
+        ensures pages { Exchanges space.old space.new (own_pages space.old self.old) (own_pages space.new self.new) }
+    {
+        let count = chunk_count(self.length(space, id) as usize);
+        take_chunks(&mut self.tree, space, id, count);
+        self.tree.remove(space, chunk_key(id, 0).as_slice());
+    }
+}
+
+/// A change of other pages leaves the values as they are.
+pub fn long_values_stay()
+    ensures { (old new : Frames) (store : LongValues) (values : Values) → HasValues old store values → Stay old new (own_pages old store) → HasValues new store values × (own_pages new store ≡ own_pages old store) }
+{
+    tree_stays();
+}
