@@ -1,0 +1,114 @@
+-- What shows the key and the bookmark of the entry at a cursor.
+use Rattle.std.proofs.Common.{◌≡◌, ℕ, Bool, true, false, List, [], ◌∷◌, Option, Some, None, Result, Ok, Err, refl, ap, ◌∙◌, is_some, is_none, if◌then◌else◌}
+use Rattle.std.specs.Prelude.{IfSome}
+use Rattle.jet_base.specs.declared.ids.CursorId.{CursorId}
+use Rattle.jet_base.specs.declared.replies.Jet.{Jet}
+use Rattle.jet_base.specs.declared.replies.Jet.TheVariants as jet
+use Rattle.column_set.specs.RecordValues.{RecordFields, lookup_by_key}
+use Rattle.index_derive.specs.declared.entries.Place.{Place}
+use Rattle.index_derive.specs.declared.entries.Place.TheVariants.{Before, After, On, Gap}
+use Rattle.cursor_nav.specs.Places.{Pair}
+use Rattle.database_state.specs.Table.{Rows, row_at}
+use Rattle.database_state.specs.State.{DatabaseState}
+use Rattle.session_local.specs.declared.decision.Decision.{Decision}
+use Rattle.session_local.specs.declared.request.Request.{Request}
+use Rattle.session_local.specs.declared.request.Request.TheVariants as call
+use Rattle.session_local.specs.SessionSide.{SessionSide}
+use Rattle.session_local.specs.Answer.{Answered, Nothing, answered_by}
+use Rattle.session_local.specs.Local.{OpenCursor, cursor_labelled, place_key, place_bookmark}
+use Rattle.session_local.specs.Outcome.{Asked, Outcome, said, unless, on_cursor, rows_seen, current_refusals}
+use Rattle.session_local.specs.Calls.{answer, answer_begun}
+use Rattle.session_local.specs.CursorCalls.{whole, retrieve_key, get_bookmark}
+use Rattle.session_local.specs.LocalCalls.{is_answered_locally}
+use Rattle.session_local.specs.Finishing.{finished}
+use Rattle.session_local.specs.Deciding.{decided_in}
+use Rattle.table_store.specs.StoredRows.{StoredRows, stored_rows}
+use Rattle.engine_state.specs.EngineState.{EngineState}
+use Rattle.engine_state.specs.Represents.{Represents}
+use Rattle.engine_session.specs.Beside.{asked_of}
+use Rattle.engine_core.specs.Deciding.{Decides}
+use Rattle.engine_core.specs.Reading.{CurrentEntry, entry_at}
+use Rattle.engine_core.proofs.Refusing.{answer-is}
+use Rattle.engine_core.proofs.CursorSeen.{records-seen}
+
+-- ---- a call that is decided on the shared state
+
+pub at_if : (b : Bool) (found : Option OpenCursor) → elim b [ true ↦ is_none found | false ↦ true ] ≡ false → (b ≡ true) × (is_none found ≡ false)
+at_if true found e = (refl, e)
+at_if false found e = absurd (cc)
+
+pub answer-begun : (asked : Asked) (request : Request) → asked.local.begun ≡ true → answer asked request ≡ answer_begun asked request
+unfolding answer
+answer-begun asked request begun = rw begun refl
+
+-- ---- the entry at a place
+
+-- a part of the entry is shown
+abbrev pub shown_of : (Pair → List ℕ) → Result Pair Jet → Answered
+shown_of part (Ok entry) = record { jet = jet.Success; shown = whole (part entry) }
+shown_of part (Err reply) = record { jet = reply; shown = Nothing }
+
+abbrev pub shown_as : Asked → Answered → Outcome
+shown_as asked answered = record { answered = answered; local = asked.local; step = None }
+
+on_entry : (asked : Asked) (part : Pair → List ℕ) (entry : Pair) (row : Option RecordFields) (there : Bool) → there ≡ is_some row
+    → unless asked ((is_none row, jet.RecordDeleted) ∷ []) (λ _. said asked jet.Success (whole (part entry))) ≡ shown_as asked (shown_of part (if there then Ok entry else Err jet.RecordDeleted))
+on_entry asked part entry None false e = refl
+on_entry asked part entry (Some row) true e = refl
+on_entry asked part entry None true e = absurd (cc)
+on_entry asked part entry (Some row) false e = absurd (cc)
+
+shown_at : (asked : Asked) (part : Pair → List ℕ) (stores : List (ℕ × StoredRows)) (table : ℕ) (rows : Rows) (place : Place)
+    → ((bookmark : List ℕ) → is_some (lookup_by_key bookmark (stored_rows stores table)) ≡ is_some (row_at rows bookmark))
+    → unless asked (current_refusals rows place) (λ _. said asked jet.Success (whole (part (place_key place, place_bookmark place)))) ≡ shown_as asked (shown_of part (entry_at stores table place))
+shown_at asked part stores table rows Before seen = refl
+shown_at asked part stores table rows After seen = refl
+shown_at asked part stores table rows (Gap key above) seen = refl
+shown_at asked part stores table rows (On key bookmark) seen = on_entry asked part (key, bookmark) (row_at rows bookmark) (is_some (lookup_by_key bookmark (stored_rows stores table))) (seen bookmark)
+
+-- ---- RetrieveKey and GetBookmark
+
+retrieve_key-is : (engine : EngineState) (state : DatabaseState) (side : SessionSide) (cursor : CursorId) (c : OpenCursor) → Represents side.session engine state → side.state.begun ≡ true → cursor_labelled side.state cursor.0 ≡ Some c
+    → answer (asked_of engine state side) (call.RetrieveKey cursor) ≡ shown_as (asked_of engine state side) (shown_of (λ entry. entry.0) (entry_at engine.stores c.cursor.table c.cursor.place))
+retrieve_key-is engine state side cursor c r begun found =
+    let asked = asked_of engine state side in
+    answer-begun asked (call.RetrieveKey cursor) begun ∙ ap (λ o. on_cursor asked o (retrieve_key asked)) found
+    ∙ shown_at asked (λ entry. entry.0) engine.stores c.cursor.table (rows_seen asked c) c.cursor.place (records-seen engine state side c r)
+
+get_bookmark-is : (engine : EngineState) (state : DatabaseState) (side : SessionSide) (cursor : CursorId) (c : OpenCursor) → Represents side.session engine state → side.state.begun ≡ true → cursor_labelled side.state cursor.0 ≡ Some c
+    → answer (asked_of engine state side) (call.GetBookmark cursor) ≡ shown_as (asked_of engine state side) (shown_of (λ entry. entry.1) (entry_at engine.stores c.cursor.table c.cursor.place))
+get_bookmark-is engine state side cursor c r begun found =
+    let asked = asked_of engine state side in
+    answer-begun asked (call.GetBookmark cursor) begun ∙ ap (λ o. on_cursor asked o (get_bookmark asked)) found
+    ∙ shown_at asked (λ entry. entry.1) engine.stores c.cursor.table (rows_seen asked c) c.cursor.place (records-seen engine state side c r)
+
+-- what the code does: it shows a part of the entry, and changes nothing but the reply buffer
+pub record Shows (side new : SessionSide) (decision : Decision) (answered : Answered) : Type 0 where
+  pub reply : answered_by decision.reply new.reply ≡ answered
+  pub step : decision.step ≡ None
+  pub state : new.state ≡ side.state
+
+-- a call at a cursor that answers with a part of the entry there
+abbrev IsShownAs : EngineState → SessionSide → Request → CursorId → (Pair → List ℕ) → Type 0
+IsShownAs engine side request cursor part = (state : DatabaseState) (c : OpenCursor) → Represents side.session engine state → cursor_labelled side.state cursor.0 ≡ Some c
+    → answer (asked_of engine state side) request ≡ shown_as (asked_of engine state side) (shown_of part (entry_at engine.stores c.cursor.table c.cursor.place))
+
+decides_at : (engine : EngineState) (side new : SessionSide) (request : Request) (cursor : CursorId) (part : Pair → List ℕ) (decision : Decision) (entry : Result Pair Jet) (found : Option OpenCursor)
+    → IsShownAs engine side request cursor part → finished new.state request (decided_in decision) ≡ new.state → cursor_labelled side.state cursor.0 ≡ found → is_none found ≡ false
+    → IfSome found (λ c. CurrentEntry engine.stores c.cursor.table c.cursor.place entry) → Shows side new decision (shown_of part entry) → Decides engine side request new decision
+decides_at engine side new request cursor part decision entry None shown left is known told shows = absurd (cc)
+decides_at engine side new request cursor part decision entry (Some c) shown left is known told shows = λ state r.
+    answer-is (asked_of engine state side) request new decision (shown_as (asked_of engine state side) (shown_of part (entry_at engine.stores c.cursor.table c.cursor.place))) (shown state c r is)
+    (shows.reply ∙ ap (shown_of part) told) shows.step (left ∙ shows.state)
+
+pub retrieve_key-decides : (engine : EngineState) (side new : SessionSide) (cursor : CursorId) (decision : Decision) (entry : Result Pair Jet) → is_answered_locally side.state (call.RetrieveKey cursor) ≡ false
+    → IfSome (cursor_labelled side.state cursor.0) (λ c. CurrentEntry engine.stores c.cursor.table c.cursor.place entry) → Shows side new decision (shown_of (λ e. e.0) entry) → Decides engine side (call.RetrieveKey cursor) new decision
+retrieve_key-decides engine side new cursor decision entry shared told shows =
+    let known = at_if side.state.begun (cursor_labelled side.state cursor.0) shared in
+    decides_at engine side new (call.RetrieveKey cursor) cursor (λ e. e.0) decision entry (cursor_labelled side.state cursor.0) (λ state c r is. retrieve_key-is engine state side cursor c r known.0 is) refl refl known.1 told shows
+
+pub get_bookmark-decides : (engine : EngineState) (side new : SessionSide) (cursor : CursorId) (decision : Decision) (entry : Result Pair Jet) → is_answered_locally side.state (call.GetBookmark cursor) ≡ false
+    → IfSome (cursor_labelled side.state cursor.0) (λ c. CurrentEntry engine.stores c.cursor.table c.cursor.place entry) → Shows side new decision (shown_of (λ e. e.1) entry) → Decides engine side (call.GetBookmark cursor) new decision
+get_bookmark-decides engine side new cursor decision entry shared told shows =
+    let known = at_if side.state.begun (cursor_labelled side.state cursor.0) shared in
+    decides_at engine side new (call.GetBookmark cursor) cursor (λ e. e.1) decision entry (cursor_labelled side.state cursor.0) (λ state c r is. get_bookmark-is engine state side cursor c r known.0 is) refl refl known.1 told shows

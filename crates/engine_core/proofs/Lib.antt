@@ -1,0 +1,17 @@
+pub mod SessionCalls
+pub mod Effects
+pub mod SchemaCallsLawful
+pub mod SchemaCalls
+pub mod Views
+pub mod CursorSeen
+pub mod CursorCallsShown
+pub mod Refusing
+pub mod Retrieving
+pub mod Retrieved
+pub mod CursorNavigates
+pub mod CursorCallsNavigated
+pub mod CursorCallsOpened
+pub mod InsertRefusals
+pub mod InsertDecided
+pub mod InsertLawful
+pub mod InsertStored
