@@ -3,9 +3,9 @@ use Rattle.std.proofs.Common.{◌≡◌, sym, subst, subst₂}
 use Rattle.std.specs.Prelude.{ℕ, true, false, ◌&&◌, ◌||◌, not, List, ℤ, Option, Some, None, is_some, is_none, bytes_eq}
 use Rattle.std.specs.List.{list_all}
 use Rattle.session_local.specs.declared.request.Request.{Request}
-use Rattle.script_text.specs.declared.first_path.Stage.{Stage}
-use Rattle.script_text.specs.declared.first_path.Stage.TheVariants.{Fresh, Begun, TableMade, KeyAdded, ValueAdded, Indexed, Opened, Filling, Prepared, KeySet, ValueSet, Walking}
-use Rattle.script_text.specs.FirstPath.{stage_after}
+use Rattle.list_engine.specs.declared.first_path.Stage.{Stage}
+use Rattle.list_engine.specs.declared.first_path.Stage.TheVariants.{Fresh, Begun, TableMade, KeyAdded, ValueAdded, Indexed, Opened, Filling, Prepared, KeySet, ValueSet, Walking}
+use Rattle.list_engine.specs.FirstPath.{stage_after}
 use Rattle.list_engine.specs.Path.{Path, Names, PathRecord, PathPrepared, fresh, begun, table_made, key_added, value_added, indexed, opened, filling, walking, is_numbered, is_at_stage, is_sound, is_storable, is_preparable}
 use Rattle.list_engine.proofs.Tests.{impossible, and_left, and_right, not_true, same_bytes}
 use Rattle.list_engine.proofs.Steps.{IsStep, from_fresh, from_begun, from_table, from_key, from_value, from_indexed, from_opened}

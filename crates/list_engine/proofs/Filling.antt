@@ -12,7 +12,7 @@ use Rattle.session_local.specs.declared.request.Request.TheVariants as call
 use Rattle.session_local.specs.Calls.{answer}
 use Rattle.database_state.specs.State.{uncommitted}
 use Rattle.database_state.specs.Step.{state_after}
-use Rattle.script_text.specs.FirstPath.{is_long}
+use Rattle.list_engine.specs.FirstPath.{is_long}
 use Rattle.list_engine.specs.Path.{Path, Names, PathRecord, PathPrepared, filling, record_fields, number_field, text_field, number_key, sorted_rows}
 use Rattle.list_engine.proofs.Tests.{cursor_one}
 use Rattle.list_engine.proofs.Opening.{IsAsDefined}

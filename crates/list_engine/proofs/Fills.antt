@@ -13,9 +13,9 @@ use Rattle.column_set.specs.RecordValues.{RecordFields}
 use Rattle.database_state.specs.Table.{row_at}
 use Rattle.session_local.specs.declared.request.Request.{Request}
 use Rattle.session_local.specs.declared.request.Request.TheVariants as call
-use Rattle.script_text.specs.declared.first_path.Stage.{Stage}
-use Rattle.script_text.specs.declared.first_path.Stage.TheVariants.{Filling, Prepared, KeySet, ValueSet, Walking}
-use Rattle.script_text.specs.FirstPath.{stage_after, is_cursor_one, is_long}
+use Rattle.list_engine.specs.declared.first_path.Stage.{Stage}
+use Rattle.list_engine.specs.declared.first_path.Stage.TheVariants.{Filling, Prepared, KeySet, ValueSet, Walking}
+use Rattle.list_engine.specs.FirstPath.{stage_after, is_cursor_one, is_long}
 use Rattle.list_engine.specs.Path.{Path, Names, PathRecord, PathPrepared, filling, walking, begun_record, path_after_put, put_refusal, number_key, sorted_rows, is_at_stage, is_sound, is_storable, is_preparable, is_short_text}
 use Rattle.list_engine.proofs.Tests.{none_is_some, some_same, and_left, and_right, and_both, same_bytes, bytes_eq-self, bytes_differ, same_number, where_passed, where_after, cursor_one, is_one}
 use Rattle.list_engine.proofs.Opening.{IsAsDefined}

@@ -11,10 +11,10 @@ use Rattle.session_local.specs.declared.reply.Value.{Value}
 use Rattle.session_local.specs.declared.reply.Value.TheVariants as value
 use Rattle.session_local.specs.Answer.{Answered, Row, answered_by, shown_by}
 use Rattle.session_local.specs.Run.{RunState, Line, LineOutcome, served, no_memory}
-use Rattle.script_text.specs.declared.first_path.Stage.{Stage}
-use Rattle.script_text.specs.declared.first_path.Stage.TheVariants.{Filling, KeySet, ValueSet}
-use Rattle.script_text.specs.FirstPath.{stage_after, is_cursor_one}
-use Rattle.script_text.specs.FirstPath.{may_follow}
+use Rattle.list_engine.specs.declared.first_path.Stage.{Stage}
+use Rattle.list_engine.specs.declared.first_path.Stage.TheVariants.{Filling, KeySet, ValueSet}
+use Rattle.list_engine.specs.FirstPath.{stage_after, is_cursor_one}
+use Rattle.list_engine.specs.FirstPath.{may_follow}
 use Rattle.script_transcript.specs.TranscriptLine.{NamesNoMore, names_at_most}
 use Rattle.list_engine.specs.declared.engine.ListEngine.{ListEngine}
 use Rattle.list_engine.specs.Path.{Path, Names, PathRecord, PathPrepared, path_run, path_reply, path_next, path_number, reply_of, filling, is_numbered, is_at_stage, is_sound}
@@ -33,7 +33,7 @@ record First (stage : Stage) (line : Line) (rest : List Line) : Type 0 where
   after : Stage
   goes_on : stage_after stage line.1 ≡ Some after
   by_one : line.0 ≡ 1
-  built : may_follow after rest ≡ true
+  follows : may_follow after rest ≡ true
 
 first_with : (stage : Stage) (line : Line) (rest : List Line) (next : Option Stage) → stage_after stage line.1 ≡ next
     → elim next [ None ↦ false | Some after ↦ (line.0 == 1) && may_follow after rest ] ≡ true → First stage line rest
@@ -42,7 +42,7 @@ first_with stage line rest (Some after) goes h = record {
   after = after;
   goes_on = goes;
   by_one = (Decides-eqb line.0 1).0 (and_left (line.0 == 1) (may_follow after rest) h);
-  built = and_right (line.0 == 1) (may_follow after rest) h;
+  follows = and_right (line.0 == 1) (may_follow after rest) h;
 }
 
 first_of : (stage : Stage) (line : Line) (rest : List Line) → may_follow stage (line ∷ rest) ≡ true → First stage line rest
@@ -91,7 +91,7 @@ answered_plainly : (reply : Reply) (buffer : List ℕ) → reply.jet ≡ jet.Out
 answered_plainly reply buffer e f = λ i. record { jet = e i; shown = shown_by (f i) buffer }
 
 module _ (engine after : ListEngine) (request : Request) (rest : List Line) (n : ℕ) (reply : Reply) (path : Path) (stage next : Stage)
-    (at : is_at_stage path stage ≡ true) (sound : is_sound path ≡ true) (goes : stage_after stage request ≡ Some next) (built : may_follow next rest ≡ true) (number : n ≡ path_number path) where
+    (at : is_at_stage path stage ≡ true) (sound : is_sound path ≡ true) (goes : stage_after stage request ≡ Some next) (follows : may_follow next rest ≡ true) (number : n ≡ path_number path) where
   when_served : IsAnswered path request reply after → IsRun after (path_run path) (1, request) rest served (row_of n 1 request (answered_by reply (reply_buffer after)))
   unfolding row_of
   when_served answer =
@@ -99,7 +99,7 @@ module _ (engine after : ListEngine) (request : Request) (rest : List Line) (n :
       record {
         row_is = ap (λ row. row ∷ []) (steps.served.row ∙ sym (same_row n (path_number path) request (answered_by reply (reply_buffer after)) (path_reply path request) number answer.answer));
         may_be = refl;
-        ready = record { path = path_next path request; stage = next; shows = answer.goes_on; run_is = sym steps.served.run; at_stage = steps.stage; sound = steps.sound; built = built };
+        ready = record { path = path_next path request; stage = next; shows = answer.goes_on; run_is = sym steps.served.run; at_stage = steps.stage; sound = steps.sound; follows = follows };
       }
 
   when_unserved : reply.jet ≡ jet.OutOfMemory → IsUnserved path request reply after
@@ -108,7 +108,7 @@ module _ (engine after : ListEngine) (request : Request) (rest : List Line) (n :
   when_unserved wants unserved = record {
     row_is = ap (λ row. row ∷ []) (without_memory path request ∙ sym (same_row n (path_number path) request (answered_by reply (reply_buffer after)) (reply_of jet.OutOfMemory) number (answered_plainly reply (reply_buffer after) wants unserved.no_value)));
     may_be = ap not unserved.takes_memory;
-    ready = record { path = path; stage = next; shows = unserved.stays; run_is = refl; at_stage = stays path stage next request unserved.updates at goes; sound = sound; built = built };
+    ready = record { path = path; stage = next; shows = unserved.stays; run_is = refl; at_stage = stays path stage next request unserved.updates at goes; sound = sound; follows = follows };
   }
 
   by_reply : IsServed path request reply after → (reply.jet ≡ jet.OutOfMemory) ⊎ ((outcome_of_jet reply.jet ≡ served) × (reply.jet ≢ jet.OutOfMemory))
@@ -122,17 +122,17 @@ pub line_is_run : (engine after : ListEngine) (run : RunState) (session : ℕ) (
     → IsRun after run (session, request) rest (outcome_of_jet reply.jet) (record { n = n; session = session; request = request; answered = answered_by reply (reply_buffer after) })
 unfolding row_of
 line_is_run engine after run session request rest n reply kept serves ready =
-    let first = first_of ready.stage (session, request) rest ready.built in
+    let first = first_of ready.stage (session, request) rest ready.follows in
     let may : MayCome ready.path request = record { stage = ready.stage; after = first.after; at_stage = ready.at_stage; goes_on = first.goes_on } in
     subst (λ (s : ℕ). IsRun after run (s, request) rest (outcome_of_jet reply.jet) (row_of n s request (answered_by reply (reply_buffer after)))) (sym first.by_one)
     (subst (λ (r : RunState). IsRun after r (1, request) rest (outcome_of_jet reply.jet) (row_of n 1 request (answered_by reply (reply_buffer after)))) ready.run_is
-    (by_reply engine after request rest n reply ready.path ready.stage first.after ready.at_stage ready.sound first.goes_on first.built (kept ready.path ready.shows)
+    (by_reply engine after request rest n reply ready.path ready.stage first.after ready.at_stage ready.sound first.goes_on first.follows (kept ready.path ready.shows)
     (serves ready.path ready.shows may) (told reply.jet)))
 
 -- the engine can serve the first of the lines that it is ready for
 pub can_serve_first : (engine : ListEngine) (run : RunState) (session : ℕ) (request : Request) (rest : List Line) → IsReady engine run ((session, request) ∷ rest) → CanServe engine request
 can_serve_first engine run session request rest ready =
-    let first = first_of ready.stage (session, request) rest ready.built in
+    let first = first_of ready.stage (session, request) rest ready.follows in
     record { path = ready.path; shows = ready.shows; may_come = record { stage = ready.stage; after = first.after; at_stage = ready.at_stage; goes_on = first.goes_on } }
 
 -- ---- the bytes that a reply names
@@ -155,6 +155,6 @@ names_by path request reply after is (inr other) = names_within reply.jet reply.
 pub names_no_more : (engine after : ListEngine) (run : RunState) (session : ℕ) (request : Request) (rest : List Line) (reply : Reply)
     → Serves engine request reply after → IsReady engine run ((session, request) ∷ rest) → NamesNoMore reply (length (reply_buffer after))
 names_no_more engine after run session request rest reply serves ready =
-    let first = first_of ready.stage (session, request) rest ready.built in
+    let first = first_of ready.stage (session, request) rest ready.follows in
     let may : MayCome ready.path request = record { stage = ready.stage; after = first.after; at_stage = ready.at_stage; goes_on = first.goes_on } in
     names_by ready.path request reply after (serves ready.path ready.shows may) (told reply.jet)

@@ -17,9 +17,9 @@ use Rattle.jet_base.specs.declared.words.Given.TheVariants as given
 use Rattle.index_derive.specs.declared.entries.Place.{Place}
 use Rattle.session_local.specs.declared.request.Request.{Request}
 use Rattle.session_local.specs.declared.request.Request.TheVariants as call
-use Rattle.script_text.specs.declared.first_path.Stage.{Stage}
-use Rattle.script_text.specs.declared.first_path.Stage.TheVariants.{Fresh, Begun, TableMade, KeyAdded, ValueAdded, Indexed, Opened, Filling, Prepared, KeySet, ValueSet, Walking}
-use Rattle.script_text.specs.FirstPath.{stage_after, stage_where, is_long, is_cursor_one}
+use Rattle.list_engine.specs.declared.first_path.Stage.{Stage}
+use Rattle.list_engine.specs.declared.first_path.Stage.TheVariants.{Fresh, Begun, TableMade, KeyAdded, ValueAdded, Indexed, Opened, Filling, Prepared, KeySet, ValueSet, Walking}
+use Rattle.list_engine.specs.FirstPath.{stage_after, stage_where, is_long, is_cursor_one}
 use Rattle.list_engine.specs.Path.{Path, fresh, begun, table_made, key_added, value_added, indexed, opened, filling, walking, Names, PathRecord, PathPrepared, is_at_stage}
 use Rattle.list_engine.specs.Serving.{IsStorable}
 

@@ -9,10 +9,10 @@ use Rattle.index_derive.specs.declared.schema_calls.NamedSegment.{NamedSegment}
 use Rattle.index_derive.specs.declared.schema_calls.NamedCondition.{NamedCondition}
 use Rattle.session_local.specs.declared.request.Request.{Request}
 use Rattle.session_local.specs.declared.request.Request.TheVariants as call
-use Rattle.script_text.specs.declared.first_path.Stage.{Stage}
-use Rattle.script_text.specs.declared.first_path.Stage.TheVariants.{Fresh, Begun, TableMade, KeyAdded, ValueAdded, Indexed, Opened, Filling}
+use Rattle.list_engine.specs.declared.first_path.Stage.{Stage}
+use Rattle.list_engine.specs.declared.first_path.Stage.TheVariants.{Fresh, Begun, TableMade, KeyAdded, ValueAdded, Indexed, Opened, Filling}
 use Rattle.script_words.specs.Words.{is_empty_list}
-use Rattle.script_text.specs.FirstPath.{stage_after, is_cursor_one, is_plain_column, is_only_primary, is_ascending_on}
+use Rattle.list_engine.specs.FirstPath.{stage_after, is_cursor_one, is_plain_column, is_only_primary, is_ascending_on}
 use Rattle.list_engine.specs.Path.{Path, Names, PathRecord, fresh, begun, table_made, key_added, value_added, indexed, opened, filling, path_next, is_at_stage, is_sound}
 use Rattle.list_engine.proofs.Tests.{none_is_some, some_same, and_left, and_right, and_both, not_true, same_bytes, bytes_eq-self, bytes_differ, same_number, where_passed, where_after, cursor_one, is_one, plain_flags, is_plain, primary_flags, is_primary, key_segments, is_ascending, is_empty}
 use Rattle.list_engine.proofs.Opening.{IsAsDefined, serves_fresh, serves_begun, serves_table, serves_key, serves_value, serves_indexed, serves_opened}

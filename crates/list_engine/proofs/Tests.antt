@@ -8,9 +8,9 @@ use Rattle.jet_base.specs.declared.ids.CursorId.{CursorId}
 use Rattle.jet_base.specs.declared.words.ColumnFlags.{ColumnFlags}
 use Rattle.index_derive.specs.declared.rules.IndexFlags.{IndexFlags}
 use Rattle.index_derive.specs.declared.schema_calls.NamedSegment.{NamedSegment}
-use Rattle.script_text.specs.declared.first_path.Stage.{Stage}
+use Rattle.list_engine.specs.declared.first_path.Stage.{Stage}
 use Rattle.script_words.specs.Words.{is_empty_list}
-use Rattle.script_text.specs.FirstPath.{stage_where, is_cursor_one, is_plain_column, is_only_primary, is_ascending_on}
+use Rattle.list_engine.specs.FirstPath.{stage_where, is_cursor_one, is_plain_column, is_only_primary, is_ascending_on}
 
 pub impossible : {A : Type 0} → false ≡ true → A
 impossible h = absurd (true≢false (sym h))

@@ -12,9 +12,9 @@ use Rattle.cursor_nav.specs.Places.{entry_after, entry_before}
 use Rattle.database_state.specs.Table.{row_at}
 use Rattle.session_local.specs.declared.request.Request.{Request}
 use Rattle.session_local.specs.declared.request.Request.TheVariants as call
-use Rattle.script_text.specs.declared.first_path.Stage.{Stage}
-use Rattle.script_text.specs.declared.first_path.Stage.TheVariants.{Walking}
-use Rattle.script_text.specs.FirstPath.{stage_after, is_cursor_one, is_long}
+use Rattle.list_engine.specs.declared.first_path.Stage.{Stage}
+use Rattle.list_engine.specs.declared.first_path.Stage.TheVariants.{Walking}
+use Rattle.list_engine.specs.FirstPath.{stage_after, is_cursor_one, is_long}
 use Rattle.list_engine.specs.Path.{Path, Names, PathRecord, walking, place_found, entry_towards, path_entries, sorted_rows, record_fields, is_at_stage, is_storable, is_short_text, is_walked_to}
 use Rattle.list_engine.proofs.Tests.{impossible, none_is_some, and_left, and_right, and_both, not_true, same_bytes, bytes_eq-self, bytes_differ, same_number, where_passed, where_after, cursor_one, is_one}
 use Rattle.list_engine.proofs.Opening.{IsAsDefined}

@@ -1,3 +1,4 @@
+pub mod FirstPath
 pub mod Path
 pub mod Rows
 pub mod Serving

@@ -7,8 +7,8 @@ use Rattle.session_local.specs.declared.request.Request.{Request}
 use Rattle.session_local.specs.declared.reply.Reply.{Reply}
 use Rattle.session_local.specs.Answer.{Answered, Row}
 use Rattle.session_local.specs.Run.{RunState, Line, LineOutcome, served, no_memory, rows_of_line, run_after, may_come}
-use Rattle.script_text.specs.declared.first_path.Stage.{Stage}
-use Rattle.script_text.specs.FirstPath.{may_follow}
+use Rattle.list_engine.specs.declared.first_path.Stage.{Stage}
+use Rattle.list_engine.specs.FirstPath.{may_follow}
 use Rattle.list_engine.specs.declared.engine.ListEngine.{ListEngine}
 use Rattle.list_engine.specs.Path.{Path, path_run, is_at_stage, is_sound}
 use Rattle.list_engine.specs.Serving.{Shows}
@@ -36,7 +36,7 @@ pub record IsReady (engine : ListEngine) (run : RunState) (lines : List Line) : 
   pub run_is : path_run path ≡ run
   pub at_stage : is_at_stage path stage ≡ true
   pub sound : is_sound path ≡ true
-  pub built : may_follow stage lines ≡ true
+  pub follows : may_follow stage lines ≡ true
 
 -- A line had the outcome that the reply tells, and its row is this one. The engine is ready for the lines behind it.
 pub record IsRun (after : ListEngine) (run : RunState) (line : Line) (rest : List Line) (outcome : LineOutcome) (row : Row) : Type 0 where

@@ -29,9 +29,9 @@ use Rattle.session_local.specs.declared.request.Request.TheVariants as call
 use Rattle.session_local.specs.Answer.{Answered, Nothing, Number, Bytes, Row}
 use Rattle.session_local.specs.Local.{OpenCursor, PreparedUpdate, inserting}
 use Rattle.session_local.specs.Run.{RunState, run_from}
-use Rattle.script_text.specs.declared.first_path.Stage.{Stage}
-use Rattle.script_text.specs.declared.first_path.Stage.TheVariants.{Fresh, Begun, TableMade, KeyAdded, ValueAdded, Indexed, Opened, Filling, Prepared, KeySet, ValueSet, Walking}
-use Rattle.script_text.specs.FirstPath.{is_long}
+use Rattle.list_engine.specs.declared.first_path.Stage.{Stage}
+use Rattle.list_engine.specs.declared.first_path.Stage.TheVariants.{Fresh, Begun, TableMade, KeyAdded, ValueAdded, Indexed, Opened, Filling, Prepared, KeySet, ValueSet, Walking}
+use Rattle.list_engine.specs.FirstPath.{is_long}
 
 -- the names that a script gives: its table, its key column, its value column and its primary index
 pub record Names : Type 0 where
@@ -318,7 +318,7 @@ abbrev pub is_numbered : Option PathPrepared → Bool
 is_numbered None = false
 is_numbered (Some prepared) = is_some prepared.number
 
--- Whether the run is at this stage of the scripts that are built.
+-- Whether the run is at this stage of a script.
 abbrev pub is_at_stage : Path → Stage → Bool
 is_at_stage fresh Fresh = true
 is_at_stage begun Begun = true

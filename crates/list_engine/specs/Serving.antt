@@ -14,8 +14,8 @@ use Rattle.session_local.specs.declared.reply.Reply.{Reply}
 use Rattle.session_local.specs.declared.reply.Value.TheVariants as value
 use Rattle.session_local.specs.Answer.{Answered, answered_by}
 use Rattle.session_local.specs.Run.{takes_no_memory}
-use Rattle.script_text.specs.declared.first_path.Stage.{Stage}
-use Rattle.script_text.specs.FirstPath.{stage_after}
+use Rattle.list_engine.specs.declared.first_path.Stage.{Stage}
+use Rattle.list_engine.specs.FirstPath.{stage_after}
 use Rattle.list_engine.specs.declared.engine.ListEngine.{ListEngine}
 use Rattle.list_engine.specs.declared.engine.Shown.{Shown}
 use Rattle.list_engine.specs.declared.engine.Shown.TheVariants as shown
@@ -87,7 +87,7 @@ pub record Shows (engine : ListEngine) (path : Path) : Type 0 where
 
 -- ---- serving a call
 
--- the run is at a stage of a script that is built, at which the request may come
+-- the run is at a stage of a script at which the request may come
 pub record MayCome (path : Path) (request : Request) : Type 0 where
   pub stage : Stage
   pub after : Stage

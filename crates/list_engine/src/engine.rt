@@ -6,8 +6,8 @@ ghost use Rattle.session_local.specs.Answer.{answered_by};
 ghost use Rattle.list_engine.specs.Path.{Path, fresh, path_number, path_next, path_reply, begun_record, whole_record, entry_towards, place_found, move_reply, key_reply, column_reply, text_reply, number_key};
 ghost use Rattle.database_state.specs.State.{empty_state};
 ghost use Rattle.session_local.specs.Run.{RunState, Line, run_from};
-ghost use Rattle.script_text.specs.declared.first_path.Stage.TheVariants.{Fresh};
-ghost use Rattle.script_text.specs.FirstPath.{may_follow};
+ghost use Rattle.list_engine.specs.declared.first_path.Stage.TheVariants.{Fresh};
+ghost use Rattle.list_engine.specs.FirstPath.{may_follow};
 ghost use Rattle.script_transcript.specs.TranscriptLine.{NamesNoMore};
 ghost use Rattle.list_engine.specs.Lines.{IsReady, IsRun, outcome_told, row_told};
 ghost use Rattle.list_engine.specs.Rows.{IsPositionIn, place_at, fields_in};
@@ -58,7 +58,7 @@ impl<'a> ListEngine<'a> {
     /// An engine over an empty database. It takes no memory.
     pub fn new(alloc: Global) -> ListEngine<'a>
         ensures fresh { Shows result fresh }
-        // It is ready for the lines of every script that is built.
+        // It is ready for the lines of every script that follows the first path.
         ensures ready { (lines : List Line) → may_follow Fresh lines ≡ true → IsReady result (run_from empty_state) lines }
     {
         ListEngine {
@@ -71,7 +71,7 @@ impl<'a> ListEngine<'a> {
         }
     }
 
-    /// Serves the next line of a script that is built, all of whose lines are session 1's. The reply is `OutOfMemory` only
+    /// Serves the next line of a script that follows the first path, all of it session 1's. The reply is `OutOfMemory` only
     /// at an `Update`, and then nothing changed.
     pub fn serve(&mut self, session: Session, request: &'a Request) -> Served
         requires { (run : RunState) × (rest : List Line) × IsReady self.old run ((session.0, request.now) ∷ rest) }

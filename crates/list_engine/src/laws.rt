@@ -4,9 +4,9 @@ ghost use Rattle.std.specs.Prelude.{◌≡◌, true, Some};
 ghost use Rattle.jet_base.specs.declared.replies.Jet.TheVariants as jet;
 ghost use Rattle.session_local.specs.declared.request.Request.{Request};
 ghost use Rattle.session_local.specs.Run.{served_row, after_served, no_memory_row};
-ghost use Rattle.script_text.specs.declared.first_path.Stage.{Stage};
-ghost use Rattle.script_text.specs.declared.first_path.Stage.TheVariants.{Fresh};
-ghost use Rattle.script_text.specs.FirstPath.{stage_after};
+ghost use Rattle.list_engine.specs.declared.first_path.Stage.{Stage};
+ghost use Rattle.list_engine.specs.declared.first_path.Stage.TheVariants.{Fresh};
+ghost use Rattle.list_engine.specs.FirstPath.{stage_after};
 ghost use Rattle.list_engine.specs.Path.{Path, fresh, reply_of, path_number, path_run, path_row, path_next, is_at_stage, is_sound};
 
 /// A run begins soundly, at the first stage.

@@ -3,9 +3,11 @@
 #![tactic(auto)]
 
 mod engine;
+mod first_path;
 pub mod laws;
 mod position;
 mod record;
 mod records;
 
 pub use engine::{ListEngine, Served};
+pub use first_path::follows_first_path;

@@ -1,5 +1,5 @@
 -- A script of one session that makes a table, puts two records and walks over them, and its calls.
-use Rattle.std.specs.Prelude.{ℕ, pos, negsuc, true, false, List, [], ◌∷◌, ◌++◌, take, codes}
+use Rattle.std.specs.Prelude.{ℕ, pos, negsuc, true, false, List, [], ◌∷◌, ◌++◌, codes}
 use Rattle.jet_base.specs.Ids.{cursor_id}
 use Rattle.jet_base.specs.declared.words.ColType.TheVariants as kind
 use Rattle.jet_base.specs.declared.words.ColumnFlags.{ColumnFlags}
@@ -28,10 +28,6 @@ filling_lines =
     codes "1 SetColumn 1 id 1 n:-3" ∷
     codes "1 Update 1" ∷
     codes "1 CommitTransaction" ∷ []
-
--- the first nine of them, in which the key of a record is set
-abbrev pub filling_lines_up_to_key : List (List ℕ)
-filling_lines_up_to_key = take 9 filling_lines
 
 -- the lines behind the first move
 abbrev pub walking_lines : List (List ℕ)

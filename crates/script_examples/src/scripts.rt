@@ -1,12 +1,15 @@
 //! Whole scripts: their calls, their first bad line, and the first line that is not built.
 #![tactic(auto, unfolding(script_text::specs::Computing::computing))]
 
-ghost use Rattle.std.specs.Prelude.{◌≡◌, [], ◌∷◌, ◌++◌, Ok, Err, codes};
+ghost use Rattle.std.specs.Prelude.{◌≡◌, [], ◌∷◌, ◌++◌, true, false, Ok, Err, codes};
+ghost use Rattle.jet_base.specs.Ids.{cursor_id};
+ghost use Rattle.jet_base.specs.declared.words.ColType.TheVariants as kind;
+ghost use Rattle.jet_base.specs.declared.words.Given.TheVariants as given;
 ghost use Rattle.session_local.specs.declared.request.Request.TheVariants as call;
 ghost use Rattle.script_words.specs.Words.{text_of_lines};
 ghost use Rattle.script_text.specs.Grammar.{script_lines};
-ghost use Rattle.script_text.specs.FirstPath.{built_lines};
-ghost use Rattle.script_examples.specs.OrdinaryRun.{filling_lines, filling_lines_up_to_key, walking_lines, ordinary_lines, ordinary_calls};
+ghost use Rattle.script_text.specs.Built.{built_lines};
+ghost use Rattle.script_examples.specs.OrdinaryRun.{plain_column, only_primary, filling_lines, walking_lines, ordinary_lines, ordinary_calls};
 
 /// The ordinary run is read as its calls.
 pub fn ordinary_run_is_read()
@@ -47,17 +50,24 @@ pub fn seek_is_not_built()
     ensures { built_lines (text_of_lines (filling_lines ++ codes "1 Seek 1 EQ" ∷ walking_lines)) ≡ Err 16 }
 {}
 
-/// The second column has another name than the first, and the lines stand in their order.
-pub fn built_scripts_have_one_shape()
-    ensures same_name { built_lines (text_of_lines (codes "1 BeginSession" ∷ codes "1 CreateTable T" ∷ codes "1 AddColumn T a Long" ∷ codes "1 AddColumn T a Text" ∷ [])) ≡ Err 4 }
-    ensures order { built_lines (text_of_lines (codes "1 BeginSession" ∷ codes "1 AddColumn T a Long" ∷ [])) ≡ Err 2 }
-    ensures session { built_lines (text_of_lines (codes "2 BeginSession" ∷ [])) ≡ Err 1 }
+/// A line is built by itself, in any order and any number of times, whatever an engine answers.
+pub fn lines_are_built_by_themselves()
+    ensures same_name { built_lines (text_of_lines (codes "1 AddColumn T a Long" ∷ codes "1 AddColumn T a Long" ∷ [])) ≡ Ok ((1, call.AddColumn (codes "T") (codes "a") kind.Long plain_column) ∷ (1, call.AddColumn (codes "T") (codes "a") kind.Long plain_column) ∷ []) }
+    ensures order { built_lines (text_of_lines (codes "1 CommitTransaction lazy" ∷ codes "1 BeginSession" ∷ [])) ≡ Ok ((1, call.CommitTransaction true) ∷ (1, call.BeginSession) ∷ []) }
     ensures prefix { built_lines (text_of_lines (codes "1 BeginSession" ∷ [])) ≡ Ok ((1, call.BeginSession) ∷ []) }
 {}
 
-/// Where the grammar has several forms of one call, one of them is built.
-pub fn one_form_of_a_call_is_built()
-    ensures flag_first { built_lines (text_of_lines (codes "1 BeginSession" ∷ codes "1 CreateTable T" ∷ codes "1 AddColumn T k Long" ∷ codes "1 AddColumn T v Text" ∷ codes "1 CreateIndex T i +k primary" ∷ [])) ≡ Err 5 }
-    ensures no_hex { built_lines (text_of_lines (filling_lines_up_to_key ++ codes "1 SetColumn 1 name 1 x:626f62" ∷ [])) ≡ Err 10 }
-    ensures no_max { built_lines (text_of_lines (filling_lines ++ codes "1 RetrieveColumn 1 id 1 max 255" ∷ [])) ≡ Err 16 }
+/// A call is built in every form that the grammar has for it.
+pub fn every_form_of_a_call_is_built()
+    ensures flag_last { built_lines (text_of_lines (codes "1 CreateIndex T i +k primary" ∷ [])) ≡ Ok ((1, call.CreateIndex (codes "T") (codes "i") only_primary 255 (record { column = codes "k"; descending = false } ∷ []) []) ∷ []) }
+    ensures hex { built_lines (text_of_lines (codes "1 SetColumn 1 name 1 x:626f62" ∷ [])) ≡ Ok ((1, call.SetColumn (cursor_id 1) (codes "name") 1 (given.Bytes (codes "bob"))) ∷ []) }
+    ensures most { built_lines (text_of_lines (codes "1 RetrieveColumn 1 id 1 max 3" ∷ [])) ≡ Ok ((1, call.RetrieveColumn (cursor_id 1) (codes "id") 1 false 3) ∷ []) }
+{}
+
+/// Lines of another session, an index that is not primary, a long column and an escrow column are not built.
+pub fn other_lines_are_not_built()
+    ensures session { built_lines (text_of_lines (codes "2 BeginSession" ∷ [])) ≡ Err 1 }
+    ensures secondary { built_lines (text_of_lines (codes "1 CreateTable T" ∷ codes "1 CreateIndex T i +a" ∷ [])) ≡ Err 2 }
+    ensures long { built_lines (text_of_lines (codes "1 AddColumn T a LongText" ∷ [])) ≡ Err 1 }
+    ensures escrow { built_lines (text_of_lines (codes "1 AddColumn T a Long escrow" ∷ [])) ≡ Err 1 }
 {}

@@ -3,11 +3,9 @@ use Rattle.std.proofs.Common.{◌≡◌, ℕ, ◌+◌, ◌≤◌, Ok, Err, List,
 use Rattle.std.specs.Prelude.{◌==◌}
 use Rattle.jet_base.specs.declared.ids.Session.{Session}
 use Rattle.session_local.specs.declared.request.Request.{Request}
-use Rattle.script_text.specs.declared.first_path.Stage.{Stage}
 use Rattle.script_text.specs.Grammar.{ScriptResult, numbered_from}
-use Rattle.script_text.specs.declared.first_path.Stage.TheVariants.{Fresh}
 use Rattle.script_words.specs.Words.{lines_of}
-use Rattle.script_text.specs.FirstPath.{built_from, built_lines}
+use Rattle.script_text.specs.Built.{built_from, built_lines}
 use Rattle.std.proofs.lemmas.List.Splits.{length-slice_split}
 use Rattle.std.proofs.lemmas.List.Sums.{count_by-le-length}
 use Rattle.script_text.specs.Parsed.{calls_of}
@@ -21,17 +19,17 @@ pub with_calls-nil : (rest : ScriptResult) → with_calls [] rest ≡ rest
 with_calls-nil (Ok rest) = refl
 with_calls-nil (Err number) = refl
 
--- what is left of a script, from a stage on
-abbrev pub left_from : Stage → ℕ → List (List ℕ) → ScriptResult
-left_from stage number lines = built_from stage (numbered_from (number + 1) lines)
+-- what is left of a script behind so many lines
+abbrev pub left_from : ℕ → List (List ℕ) → ScriptResult
+left_from number lines = built_from (numbered_from (number + 1) lines)
 
 -- at the begin nothing is read
 pub begun : (calls : List (Session × Request)) (lines : List (List ℕ)) (bytes : List ℕ) → calls ≡ [] → lines ≡ lines_of bytes
-    → with_calls (calls_of calls) (left_from Fresh 0 lines) ≡ built_lines bytes
+    → with_calls (calls_of calls) (left_from 0 lines) ≡ built_lines bytes
 begun calls lines bytes none cut =
-    ap (λ (cs : List (Session × Request)). with_calls (calls_of cs) (left_from Fresh 0 lines)) none
-    ∙ with_calls-nil (left_from Fresh 0 lines)
-    ∙ ap (left_from Fresh 0) cut
+    ap (λ (cs : List (Session × Request)). with_calls (calls_of cs) (left_from 0 lines)) none
+    ∙ with_calls-nil (left_from 0 lines)
+    ∙ ap (left_from 0) cut
 
 -- a script has at most one line more than bytes
 pub length-lines_of : (lines : List (List ℕ)) (bytes : List ℕ) → lines ≡ lines_of bytes → length lines ≤ length bytes + 1

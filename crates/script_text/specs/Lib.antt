@@ -1,6 +1,6 @@
 pub mod Calls
 pub mod Grammar
-pub mod FirstPath
+pub mod Built
 pub mod Computing
 pub mod ScriptRun
 pub mod Parsed

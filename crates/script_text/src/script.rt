@@ -1,12 +1,11 @@
 //! A whole script.
 
-ghost use Rattle.std.specs.Prelude.{◌≡◌, ℕ, Ok, Err, IfOk, IsTrue};
-ghost use Rattle.script_text.specs.FirstPath.{built_lines, may_follow};
+ghost use Rattle.std.specs.Prelude.{◌≡◌, ℕ, true, Ok, Err, IfOk};
+ghost use Rattle.script_text.specs.Built.{are_built, built_lines};
 ghost use Rattle.script_text.specs.Grammar.{script_lines};
-ghost use Rattle.script_text.specs.declared.first_path.Stage.TheVariants as stages;
 ghost use Rattle.script_text.specs.Parsed.{calls_of};
 
-use crate::first_path::{Stage, built_call};
+use crate::built::built_call;
 use crate::grammar::is_skipped;
 use jet_base::Session;
 use script_words::{Parts, Refusal};
@@ -31,7 +30,6 @@ fn built_calls(alloc: Global, bytes: &[u8]) -> Result<Vec<(Session, Request)>, S
     ensures not_built { (line : ℕ) → result ≡ Err (ScriptFault.NotBuilt line) → built_lines bytes.now ≡ Err line }
 {
     let mut calls = Vec::new(alloc);
-    let mut stage = Stage::Fresh;
     let mut number: u64 = 0;
     let mut lines = Parts::of(bytes, b'\n');
     while let Some(line) = lines.next() {
@@ -39,14 +37,11 @@ fn built_calls(alloc: Global, bytes: &[u8]) -> Result<Vec<(Session, Request)>, S
         if is_skipped(line) {
             continue;
         }
-        match built_call(alloc, stage, line) {
-            Ok((call, after)) => {
-                match calls.push(call) {
-                    Ok(()) => {}
-                    Err(_) => return Err(ScriptFault::OutOfMemory),
-                }
-                stage = after;
-            }
+        match built_call(alloc, line) {
+            Ok(call) => match calls.push(call) {
+                Ok(()) => {}
+                Err(_) => return Err(ScriptFault::OutOfMemory),
+            },
             Err(Refusal::Bad) => return Err(ScriptFault::NotBuilt(number)),
             Err(Refusal::Memory) => return Err(ScriptFault::OutOfMemory),
         }
@@ -58,12 +53,12 @@ fn built_calls(alloc: Global, bytes: &[u8]) -> Result<Vec<(Session, Request)>, S
 ///
 /// Names and values are copied; lines and words are read in place. The fault `NotBuilt` comes exactly where some line is
 /// not built, and names the first such line.
-#[tactic(auto, using(crate::proofs::BuiltLines::built))]
+#[tactic(auto, using(crate::proofs::BuiltCalls::built))]
 pub fn parse(alloc: Global, bytes: &[u8]) -> Result<Vec<(Session, Request)>, ScriptFault>
     ensures built { IfOk result (λ calls. built_lines bytes.now ≡ Ok (calls_of calls.items)) }
-    // They are what the grammar reads, and they follow one another as the stages of a built script say.
+    // They are what the grammar reads, and each of them is of session 1 and built.
     ensures read { IfOk result (λ calls. script_lines bytes.now ≡ Ok (calls_of calls.items)) }
-    ensures staged { IfOk result (λ calls. IsTrue (may_follow stages.Fresh (calls_of calls.items))) }
+    ensures served { IfOk result (λ calls. are_built (calls_of calls.items) ≡ true) }
     ensures not_built { (line : ℕ) → result ≡ Err (ScriptFault.NotBuilt line) → built_lines bytes.now ≡ Err line }
 {
     let calls = built_calls(alloc, bytes)?;

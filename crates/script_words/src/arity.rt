@@ -91,12 +91,3 @@ pub fn optional_word(words: &mut Parts<'_>, expected: &[u8]) -> Result<bool, Ref
     }
     Ok(true)
 }
-
-/// Passes over so many words, or all where there are fewer.
-pub fn skip_words(words: &mut Parts<'_>, count: usize)
-    ensures { words.new ≡ drop count words.old }
-{
-    for _ in 0..count {
-        let _ = words.next();
-    }
-}

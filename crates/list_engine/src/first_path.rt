@@ -1,19 +1,15 @@
-//! The scripts that are built: one session that makes one table, fills it in one transaction, and reads it.
+//! The scripts that the engine serves: one session that makes one table, fills it in one transaction, and reads it.
 
-ghost use Rattle.std.specs.Prelude.{◌≡◌};
+ghost use Rattle.std.specs.Prelude.{◌≡◌, IfOk};
 ghost use Rattle.script_words.specs.Reading.{Reads};
-ghost use Rattle.script_text.specs.FirstPath.{stage_after, is_cursor_one, is_long, is_plain_column, is_only_primary, is_ascending_on, begins_with_hex, is_built_form, built_call};
-ghost use Rattle.script_words.specs.Words.{words_of};
-ghost use Rattle.script_text.specs.declared.first_path.Stage.TheVariants as stages;
+ghost use Rattle.list_engine.specs.FirstPath.{stage_after, is_cursor_one, is_long, is_plain_column, is_only_primary, is_ascending_on, may_follow};
+ghost use Rattle.script_text.specs.Parsed.{calls_of};
+ghost use Rattle.list_engine.specs.declared.first_path.Stage.TheVariants as stages;
 
-use crate::grammar::line_request;
 use index_derive::{IndexFlags, NamedSegment};
-use jet_base::{ColType, ColumnFlags, CursorId, Given, Name, Prepare, Session};
-use script_words::arity::{skip_words, takes_word};
-use script_words::texts::{is_word, split_form};
-use script_words::{Parts, Refusal};
+use jet_base::{ColType, ColumnFlags, CursorId, Given, Name, OutOfMemory, Prepare, Session};
+use script_words::Refusal;
 use session_local::Request;
-use std::alloc::Global;
 
 /// How far a script has come, with the names that it has given so far.
 #[derive(Debug, Drop)]
@@ -368,7 +364,7 @@ fn after_walking(key: Name, value: Name, request: &Request) -> Result<Stage, Ref
 }
 
 /// What a script that has come to a stage has come to behind one more call, where the call may stand there.
-pub fn stage_after(stage: Stage, request: &Request) -> Result<Stage, Refusal>
+fn stage_after(stage: Stage, request: &Request) -> Result<Stage, Refusal>
     ensures { Reads (λ stage. stage) result (stage_after stage request.now) }
 {
     match stage {
@@ -387,56 +383,25 @@ pub fn stage_after(stage: Stage, request: &Request) -> Result<Stage, Refusal>
     }
 }
 
-/// Whether the next word is a value in hexadecimal digits.
-fn begins_with_hex(words: &mut Parts<'_>) -> bool
-    ensures { result ≡ begins_with_hex words.old }
+/// Whether the lines are a script that the engine serves, or the front of one. It copies the names that a script gives.
+pub fn follows_first_path(lines: &[(Session, Request)]) -> Result<bool, OutOfMemory>
+    ensures { IfOk result (λ follows. follows ≡ may_follow stages.Fresh (calls_of lines.now)) }
 {
-    match words.next() {
-        None => false,
-        Some(word) => {
-            let (form, _) = split_form(word);
-            is_word(form, b"x:")
+    let mut stage = Stage::Fresh;
+    let mut ahead = lines;
+    while let [(session, request), rest @ ..] = ahead {
+        if session.0 != 1 {
+            return Ok(false);
         }
+        match stage_after(stage, request) {
+            Ok(after) => stage = after,
+            Err(Refusal::Bad) => return Ok(false),
+            Err(Refusal::Memory) => return Err(OutOfMemory),
+        }
+        ahead = rest;
     }
+    Ok(true)
 }
 
-/// Whether a line writes its call in the form that is built, where the grammar has others for the same call.
-#[tactic(auto, unfolding(crate::specs::FirstPath::is_built_form))]
-fn is_built_form(request: &Request, line: &[u8]) -> bool
-    ensures { result ≡ is_built_form request.now (words_of line.now) }
-{
-    let mut words = Parts::of(line, b' ');
-    match request {
-        Request::CreateIndex { .. } => {
-            skip_words(&mut words, 4);
-            takes_word(&mut words, b"primary")
-        }
-        Request::SetColumn { .. } => {
-            skip_words(&mut words, 5);
-            !begins_with_hex(&mut words)
-        }
-        Request::RetrieveColumn { .. } => {
-            skip_words(&mut words, 5);
-            words.is_empty()
-        }
-        _ => true,
-    }
-}
-
-/// The call of a line and the stage behind it, where the line is of session 1 and may come at this stage.
-#[tactic(auto, unfolding(crate::specs::FirstPath::built_call))]
-pub fn built_call(
-    alloc: Global,
-    stage: Stage,
-    line: &[u8],
-) -> Result<((Session, Request), Stage), Refusal>
-    ensures { Reads (λ built. ((built.0.0.0, built.0.1), built.1)) result (built_call stage line.now) }
-{
-    let (session, request) = line_request(alloc, line)?;
-    let after = stage_after(stage, &request)?;
-    if session.0 == 1 && is_built_form(&request, line) {
-        Ok(((session, request), after))
-    } else {
-        Err(Refusal::Bad)
-    }
-}
+#[cfg(test)]
+mod tests;

@@ -1,5 +1,5 @@
--- The scripts that are built: one session that makes one table, fills it in one transaction, and reads it.
-use Rattle.std.specs.Prelude.{drop, ℕ, ◌^◌, take, codes, Bool, true, false, ◌&&◌, ◌||◌, not, ◌==◌, nat_le, nat_lt, if◌then◌else◌, List, [], ◌∷◌, length, Option, Some, None, Ok, Err, ℤ, pos, negsuc}
+-- The scripts that the engine serves: one session that makes one table, fills it in one transaction, and reads it.
+use Rattle.std.specs.Prelude.{ℕ, ◌^◌, Bool, true, false, ◌&&◌, ◌||◌, not, ◌==◌, nat_le, nat_lt, if◌then◌else◌, List, [], ◌∷◌, length, Option, Some, None, ℤ, pos, negsuc}
 use Rattle.std.specs.Str.{bytes_eq}
 use Rattle.jet_base.specs.declared.ids.CursorId.{CursorId}
 use Rattle.jet_base.specs.declared.words.ColType.TheVariants as kind
@@ -10,10 +10,9 @@ use Rattle.index_derive.specs.declared.rules.IndexFlags.{IndexFlags}
 use Rattle.index_derive.specs.declared.schema_calls.NamedSegment.{NamedSegment}
 use Rattle.session_local.specs.declared.request.Request.{Request}
 use Rattle.session_local.specs.declared.request.Request.TheVariants as call
-use Rattle.script_text.specs.declared.first_path.Stage.{Stage}
-use Rattle.script_text.specs.declared.first_path.Stage.TheVariants.{Fresh, Begun, TableMade, KeyAdded, ValueAdded, Indexed, Opened, Filling, Prepared, KeySet, ValueSet, Walking}
-use Rattle.script_words.specs.Words.{◌>>=◌, begins_with_word, is_empty_list, words_of}
-use Rattle.script_text.specs.Grammar.{ScriptResult, with_front, said_lines, line_request}
+use Rattle.list_engine.specs.declared.first_path.Stage.{Stage}
+use Rattle.list_engine.specs.declared.first_path.Stage.TheVariants.{Fresh, Begun, TableMade, KeyAdded, ValueAdded, Indexed, Opened, Filling, Prepared, KeySet, ValueSet, Walking}
+use Rattle.script_words.specs.Words.{is_empty_list}
 
 -- whether the cursor has the label 1, the only one of these scripts
 abbrev pub is_cursor_one : CursorId → Bool
@@ -69,38 +68,6 @@ stage_after (Walking key value) (call.RetrieveColumn cursor column sequence copy
     stage_where (is_cursor_one cursor && ((bytes_eq column key || bytes_eq column value) && (sequence == 1 && (not copy && most == 255)))) (Walking key value)
 stage_after (Walking key value) (call.RetrieveKey cursor) = stage_where (is_cursor_one cursor) (Walking key value)
 stage_after _ _ = None
-
--- whether the first of some words is a value in hexadecimal digits
-abbrev pub begins_with_hex : List (List ℕ) → Bool
-begins_with_hex [] = false
-begins_with_hex (word ∷ words) = bytes_eq (take 2 word) (codes "x:")
-
--- whether the words of a line write their call in the form that is built, where the grammar has others for the same call:
--- `primary` before the key column, bytes as `t:` and not as `x:`, and RetrieveColumn with no word behind the sequence
-unfoldable pub is_built_form : Request → List (List ℕ) → Bool
-is_built_form (call.CreateIndex table index flags most segments conditions) words = begins_with_word (codes "primary") (drop 4 words)
-is_built_form (call.SetColumn cursor column sequence value) words = not (begins_with_hex (drop 5 words))
-is_built_form (call.RetrieveColumn cursor column sequence copy most) words = is_empty_list (drop 5 words)
-is_built_form _ words = true
-
--- the call of a line and the stage behind it, where the line is of session 1 and may come at this stage
-unfoldable pub built_call : Stage → List ℕ → Option ((ℕ × Request) × Stage)
-built_call stage line = do
-  said ← line_request line
-  after ← stage_after stage said.1
-  if said.0 == 1 && is_built_form said.1 (words_of line) then Some (said, after) else None
-
--- the calls of numbered lines from a stage on, or the first of their numbers whose line is not built there
-abbrev pub built_from : Stage → List (ℕ × List ℕ) → ScriptResult
-built_from stage [] = Ok []
-built_from stage ((number, line) ∷ lines) = elim (built_call stage line) [
-  | None ↦ Err number
-  | Some (request, after) ↦ with_front request (built_from after lines)
-]
-
--- the calls of a script in order, or the number of its first line that is not built
-abbrev pub built_lines : List ℕ → ScriptResult
-built_lines bytes = built_from Fresh (said_lines bytes)
 
 -- whether calls may follow a stage, one after another, all of session 1
 abbrev pub may_follow : Stage → List (ℕ × Request) → Bool
