@@ -3,7 +3,7 @@ use Rattle.std.proofs.Common.{◌≡◌, ◌<◌, ◌≤◌, ◌⊎◌, inl, inr
 use Rattle.std.specs.Prelude.{IfSome, IsOk, unwrap_or}
 use Rattle.std.proofs.lemmas.List.{append-nil}
 use Rattle.std.specs.Io.KnownBytes.{prepend_known}
-use Rattle.script_text.specs.FirstPath.{built_lines}
+use Rattle.script_text.specs.Built.{built_lines}
 use Rattle.script_text.specs.Grammar.{ScriptResult}
 use Rattle.esentutl.specs.TopCall.{Outside, Ending, done, bad_words, too_long, source_failed, sink_failed, want_of_memory, not_built, script_limit, EndsBy, status_of, accepts}
 

@@ -2,3 +2,6 @@ pub mod LineText
 pub mod RunLaws
 pub mod Endings
 pub mod Completeness
+pub mod SessionRuns
+pub mod SessionCalls
+pub mod SessionServes

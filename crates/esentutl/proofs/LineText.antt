@@ -10,7 +10,7 @@ use Rattle.session_local.specs.Answer.{Row, answered_by}
 use Rattle.session_local.specs.Run.{RunState, Line, LineOutcome, rows_of_line}
 use Rattle.script_transcript.specs.TranscriptLine.{transcript_of, transcript_line, row_line}
 use Rattle.esentutl.specs.TopCall.{span_limit, is_plain}
-use Rattle.list_engine.specs.Lines.{outcome_of_jet, row_told}
+use Rattle.esentutl.specs.SessionRun.{outcome_of_jet, row_told}
 use Rattle.esentutl.specs.Lines.{line_text}
 
 pub line_text-row : (run : RunState) (line : Line) (outcome : LineOutcome) (row : Row) → rows_of_line span_limit run line outcome ≡ row ∷ [] → line_text run line outcome ≡ row_line row

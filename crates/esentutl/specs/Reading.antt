@@ -2,7 +2,7 @@
 use Rattle.std.specs.Prelude.{◌≡◌, ℕ, ◌<◌, ◌≤◌, List, [], codes, length, Option, Result, Ok, Err, IfSome}
 use Rattle.jet_base.specs.declared.ids.Session.{Session}
 use Rattle.session_local.specs.declared.request.Request.{Request}
-use Rattle.script_text.specs.FirstPath.{built_lines}
+use Rattle.script_text.specs.Built.{built_lines}
 use Rattle.script_text.specs.Parsed.{calls_of}
 use Rattle.esentutl.specs.declared.reading.ReadScriptFault.{ReadScriptFault}
 use Rattle.esentutl.specs.declared.reading.ReadScriptFault.TheVariants as fault

@@ -4,7 +4,7 @@ use Rattle.std.specs.List.{list_all}
 use Rattle.std.specs.Io.KnownBytes.{append_known}
 use Rattle.database_state.specs.State.{empty_state}
 use Rattle.session_local.specs.Run.{Line, LineOutcome, served, no_memory, flush_failed, unserved, run_from, rows_from, outcomes_may_come}
-use Rattle.script_text.specs.FirstPath.{built_lines}
+use Rattle.script_text.specs.Built.{built_lines}
 use Rattle.script_transcript.specs.TranscriptLine.{transcript_of}
 use Rattle.esentutl.specs.Words.{last_line, not_built_line}
 

@@ -5,12 +5,17 @@ ghost use Rattle.session_local.specs.Run.{RunState, Line, rows_of_line, run_afte
 ghost use Rattle.session_local.specs.Answer.{answered_by};
 ghost use Rattle.script_transcript.specs.TranscriptLine.{NamesNoMore};
 ghost use Rattle.esentutl.specs.TopCall.{span_limit};
-ghost use Rattle.list_engine.specs.Lines.{outcome_told, row_told, IsReady};
-ghost use Rattle.list_engine.specs.Serving.{reply_buffer};
+ghost use Rattle.esentutl.specs.SessionRun.{outcome_told, row_told};
 
 use jet_base::Session;
-use list_engine::{ListEngine, Served};
-use session_local::Request;
+use session_local::{Reply, Request};
+
+/// The number of a call's line, and what the call is answered.
+#[derive(Clone, Copy, Debug, PartialEq, Eq)]
+pub struct Served {
+    pub n: u64,
+    pub reply: Reply,
+}
 
 /// An engine that serves the calls of a script in their order. It may keep parts of the calls, which live for `'a`.
 pub trait ScriptEngine<'a> {
@@ -36,18 +41,4 @@ pub trait ScriptEngine<'a> {
     fn reply(&self) -> &[u8]
         ensures bytes { result.now ≡ reply_bytes self.now }
         ensures short { length (reply_bytes self.now) ≤ 1048576 };
-}
-
-impl<'a> ScriptEngine<'a> for ListEngine<'a> {
-    ghost serves = { λ engine run lines. IsReady engine run lines };
-
-    ghost reply_bytes = { λ engine. reply_buffer engine };
-
-    fn serve(&mut self, session: Session, request: &'a Request) -> Served {
-        ListEngine::serve(self, session, request)
-    }
-
-    fn reply(&self) -> &[u8] {
-        ListEngine::reply(self)
-    }
 }

@@ -1,14 +1,19 @@
 //! The tool: reads a script of session calls, runs it and prints the reply of each.
 #![tactic(auto)]
 
+#[cfg(test)]
+mod both_engines;
 mod ends;
 mod engine;
 mod reading;
 mod report;
 mod run;
+mod session_engine;
 #[cfg(test)]
 mod tests;
 mod top;
+#[cfg(test)]
+mod type_limits;
 mod words;
 
 use jet_io::{StdSink, StdSource};

@@ -2,8 +2,7 @@
 
 ghost use Rattle.std.specs.Prelude.{◌≡◌, true, ℕ, List, MatchResult, IfOk, Ok, Err};
 ghost use Rattle.std.specs.Io.KnownBytes.{prepend_known};
-ghost use Rattle.script_text.specs.declared.first_path.Stage.TheVariants.{Fresh};
-ghost use Rattle.script_text.specs.FirstPath.{may_follow};
+ghost use Rattle.script_text.specs.Built.{are_built};
 ghost use Rattle.script_text.specs.Parsed.{calls_of};
 ghost use Rattle.esentutl.specs.Reading.{ReadsAs};
 
@@ -43,8 +42,8 @@ pub fn read_script<S: Source>(
         × MatchResult result
         (λ lines. ReadsAs (record { left_before = S.left script.old; left_after = S.left script.new; faults_before = S.faults script.old; faults_after = S.faults script.new }) text (Ok lines.items))
         (λ e. ReadsAs (record { left_before = S.left script.old; left_after = S.left script.new; faults_before = S.faults script.old; faults_after = S.faults script.new }) text (Err e)) }
-    // The calls may be made in turn, all by session 1.
-    ensures staged { IfOk result (λ lines. may_follow Fresh (calls_of lines.items) ≡ true) }
+    // Each line is built, whatever stands before it.
+    ensures built { IfOk result (λ lines. are_built (calls_of lines.items) ≡ true) }
 {
     match read_to_limit(alloc, script, SCRIPT_LIMIT) {
         Ok(text) => match parse(alloc, &text) {

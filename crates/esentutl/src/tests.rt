@@ -5,17 +5,29 @@ use jet_io::{MemSink, MemSource};
 use std::alloc::{AllocError, Global};
 use std::test::Fail;
 
-const ORDINARY: &[u8] =
+pub const ORDINARY: &[u8] =
     b"1 BeginSession\n1 CreateTable T\n1 AddColumn T id Long\n1 AddColumn T name Text\n1 CreateIndex T pk primary +id\n1 OpenTable 1 T\n1 BeginTransaction\n1 PrepareUpdate 1 insert\n1 SetColumn 1 id 1 n:2\n1 SetColumn 1 name 1 t:bob\n1 Update 1\n1 PrepareUpdate 1 insert\n1 SetColumn 1 id 1 n:-3\n1 Update 1\n1 CommitTransaction\n1 Move 1 First\n1 RetrieveColumn 1 id 1\n1 Move 1 Next\n1 RetrieveColumn 1 name 1\n1 Move 1 Next\n1 Move 1 Previous\n1 RetrieveKey 1\n";
 
 const ORDINARY_OUTPUT: &[u8] =
     b"0 1 BeginSession JET_errSuccess\n1 1 CreateTable JET_errSuccess\n2 1 AddColumn JET_errSuccess\n3 1 AddColumn JET_errSuccess\n4 1 CreateIndex JET_errSuccess\n5 1 OpenTable JET_errSuccess\n6 1 BeginTransaction JET_errSuccess\n7 1 PrepareUpdate JET_errSuccess\n7 1 SetColumn JET_errSuccess\n7 1 SetColumn JET_errSuccess\n7 1 Update JET_errSuccess x:7f80000002\n8 1 PrepareUpdate JET_errSuccess\n8 1 SetColumn JET_errSuccess\n8 1 Update JET_errSuccess x:7f7ffffffd\n9 1 CommitTransaction JET_errSuccess\n10 1 Move JET_errSuccess\n10 1 RetrieveColumn JET_errSuccess n:-3\n10 1 Move JET_errSuccess\n10 1 RetrieveColumn JET_errSuccess x:626f62\n10 1 Move JET_errNoCurrentRecord\n10 1 Move JET_errSuccess\n10 1 RetrieveKey JET_errSuccess x:7f80000002\n";
 
-const DOUBLE_KEY: &[u8] =
+pub const DOUBLE_KEY: &[u8] =
     b"1 BeginSession\n1 CreateTable T\n1 AddColumn T K Long\n1 AddColumn T V Text\n1 CreateIndex T I primary +K\n1 OpenTable 1 T\n1 BeginTransaction\n1 PrepareUpdate 1 insert\n1 SetColumn 1 K 1 n:2\n1 Update 1\n1 PrepareUpdate 1 insert\n1 SetColumn 1 K 1 n:2\n1 Update 1\n1 PrepareUpdate 1 insert\n1 SetColumn 1 K 1 n:3\n1 Update 1\n";
 
 const DOUBLE_KEY_OUTPUT: &[u8] =
     b"0 1 BeginSession JET_errSuccess\n1 1 CreateTable JET_errSuccess\n2 1 AddColumn JET_errSuccess\n3 1 AddColumn JET_errSuccess\n4 1 CreateIndex JET_errSuccess\n5 1 OpenTable JET_errSuccess\n6 1 BeginTransaction JET_errSuccess\n7 1 PrepareUpdate JET_errSuccess\n7 1 SetColumn JET_errSuccess\n7 1 Update JET_errSuccess x:7f80000002\n8 1 PrepareUpdate JET_errSuccess\n8 1 SetColumn JET_errSuccess\n8 1 Update JET_errKeyDuplicate\n8 1 PrepareUpdate JET_errAlreadyPrepared\n8 1 SetColumn JET_errSuccess\n8 1 Update JET_errSuccess x:7f80000003\n";
+
+const MAIL: &[u8] =
+    b"1 BeginSession\n1 CreateTable Mail\n1 AddColumn Mail Sent Long notnull\n1 AddColumn Mail Seen Bit\n1 AddColumn Mail Size UnsignedLong\n1 AddColumn Mail Subject Text\n1 AddColumn Mail Receiver Text tagged multi\n1 CreateIndex Mail Newest primary -Sent\n1 OpenTable 1 Mail\n1 PrepareUpdate 1 insert\n1 SetColumn 1 Sent 1 n:1000\n1 SetColumn 1 Seen 1 x:01\n1 SetColumn 1 Subject 1 t:hello\n1 SetColumn 1 Receiver 0 t:ann\n1 SetColumn 1 Receiver 0 t:bob\n1 Update 1\n1 PrepareUpdate 1 insert\n1 SetColumn 1 Size 1 n:4000000000\n1 Update 1\n1 SetColumn 1 Sent 1 n:1060\n1 Update 1\n1 Move 1 First\n1 RetrieveColumn 1 Sent 1\n1 RetrieveColumn 1 Size 1\n1 RetrieveColumn 1 Subject 1\n1 Move 1 Next\n1 RetrieveColumn 1 Sent 1\n1 RetrieveColumn 1 Seen 1\n1 RetrieveColumn 1 Receiver 0\n1 RetrieveColumn 1 Receiver 2\n1 RetrieveColumn 1 Subject 1 max 4\n";
+
+const MAIL_OUTPUT: &[u8] =
+    b"0 1 BeginSession JET_errSuccess\n1 1 CreateTable JET_errSuccess\n2 1 AddColumn JET_errSuccess\n3 1 AddColumn JET_errSuccess\n4 1 AddColumn JET_errSuccess\n5 1 AddColumn JET_errSuccess\n6 1 AddColumn JET_errSuccess\n7 1 CreateIndex JET_errSuccess\n8 1 OpenTable JET_errSuccess\n9 1 PrepareUpdate JET_errSuccess\n9 1 SetColumn JET_errSuccess\n9 1 SetColumn JET_errSuccess\n9 1 SetColumn JET_errSuccess\n9 1 SetColumn JET_errSuccess\n9 1 SetColumn JET_errSuccess\n9 1 Update JET_errSuccess x:807ffffc17\n12 1 PrepareUpdate JET_errSuccess\n12 1 SetColumn JET_errSuccess\n12 1 Update JET_errNullInvalid\n12 1 SetColumn JET_errSuccess\n12 1 Update JET_errSuccess x:807ffffbdb\n15 1 Move JET_errSuccess\n15 1 RetrieveColumn JET_errSuccess n:1060\n15 1 RetrieveColumn JET_errSuccess n:4000000000\n15 1 RetrieveColumn JET_wrnColumnNull\n15 1 Move JET_errSuccess\n15 1 RetrieveColumn JET_errSuccess n:1000\n15 1 RetrieveColumn JET_errSuccess n:1\n15 1 RetrieveColumn JET_errSuccess n:2\n15 1 RetrieveColumn JET_errSuccess x:626f62\n15 1 RetrieveColumn JET_wrnBufferTruncated 5 x:68656c6c\n";
+
+const NOTES: &[u8] =
+    b"1 BeginSession\n1 CreateTable Note\n1 AddColumn Note Line Text\n1 OpenTable 1 Note\n1 PrepareUpdate 1 insert\n1 SetColumn 1 Line 1 t:zinc\n1 Update 1\n1 BeginTransaction\n1 PrepareUpdate 1 insert\n1 SetColumn 1 Line 1 t:amber\n1 Update 1\n1 CommitTransaction\n1 Move 1 Last\n1 RetrieveColumn 1 Line 1\n1 Move 1 Previous\n1 RetrieveColumn 1 Line 1\n1 RetrieveKey 1\n";
+
+const NOTES_OUTPUT: &[u8] =
+    b"0 1 BeginSession JET_errSuccess\n1 1 CreateTable JET_errSuccess\n2 1 AddColumn JET_errSuccess\n3 1 OpenTable JET_errSuccess\n4 1 PrepareUpdate JET_errSuccess\n4 1 SetColumn JET_errSuccess\n4 1 Update JET_errSuccess x:0000000000000006\n7 1 BeginTransaction JET_errSuccess\n8 1 PrepareUpdate JET_errSuccess\n8 1 SetColumn JET_errSuccess\n8 1 Update JET_errSuccess x:0000000000000009\n9 1 CommitTransaction JET_errSuccess\n10 1 Move JET_errSuccess\n10 1 RetrieveColumn JET_errSuccess x:616d626572\n10 1 Move JET_errSuccess\n10 1 RetrieveColumn JET_errSuccess x:7a696e63\n10 1 RetrieveKey JET_errSuccess x:0000000000000006\n";
 
 /// The words `- run ordered`.
 fn run_words(alloc: Global) -> Result<Vec<String>, AllocError> {
@@ -35,7 +47,7 @@ fn source(alloc: Global, script: &[u8], failing: &[u64]) -> Result<MemSource, Al
 }
 
 /// The status of a call with the words of a run, and whether the output is this one.
-fn runs_as(alloc: Global, script: &[u8], status: u8, output: &[u8]) -> Result<bool, Fail> {
+pub fn runs_as(alloc: Global, script: &[u8], status: u8, output: &[u8]) -> Result<bool, Fail> {
     let words = run_words(alloc)?;
     let mut source = source(alloc, script, &[])?;
     let mut out = MemSink::new(alloc, 100_000, Vec::new(alloc))?;
@@ -56,6 +68,13 @@ fn runs_that_succeed(rt: HostRuntime) -> Result<(), Fail> {
             b"0 1 BeginSession JET_errSuccess\n"
         )?
     );
+    Ok(())
+}
+
+#[test]
+fn tables_of_other_shapes(rt: HostRuntime) -> Result<(), Fail> {
+    assert!(rt; runs_as(rt.alloc(), MAIL, 0, MAIL_OUTPUT)?);
+    assert!(rt; runs_as(rt.alloc(), NOTES, 0, NOTES_OUTPUT)?);
     Ok(())
 }
 

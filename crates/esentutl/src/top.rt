@@ -2,16 +2,16 @@
 
 ghost use Rattle.std.specs.Prelude.{◌≡◌, ◌≤◌, ◌⊎◌, ℕ, List, true, length, IfSome, IsOk};
 ghost use Rattle.std.specs.Io.KnownBytes.{prepend_known};
-ghost use Rattle.script_text.specs.FirstPath.{built_lines};
+ghost use Rattle.script_text.specs.Built.{built_lines};
 ghost use Rattle.esentutl.specs.Words.{is_ordered_run, words_of};
 ghost use Rattle.esentutl.specs.TopCall.{Ending, EndsBy, status_of, accepts, script_limit};
 
 use crate::ends::{run_script, tell};
 use crate::reading::read_script;
 use crate::report::{make_last_line, say_only};
+use crate::session_engine::SessionEngine;
 use crate::words::asks_for_ordered_run;
 use jet_io::{Sink, Source};
-use list_engine::ListEngine;
 use std::alloc::Global;
 
 /// Does what the words ask for, and answers the exit status.
@@ -66,7 +66,7 @@ fn run_words<S: Source, K: Sink>(alloc: Global, words: &[String], script: &mut S
         return 1;
     }
     match read_script(alloc, script) {
-        Ok(lines) => run_script(alloc, &mut ListEngine::new(alloc), &lines, out),
+        Ok(lines) => run_script(alloc, &mut SessionEngine::new(alloc), &lines, out),
         Err(fault) => tell(fault, out),
     }
 }

@@ -1,6 +1,6 @@
 use Rattle.std.proofs.Common.{◌<◌, ℕ, List, length, take, ap, subst, ◌∙◌}
 use Rattle.std.specs.Io.KnownBytes.{append_known}
-use Rattle.list_engine.specs.Lines.{outcome_told, row_told}
+use Rattle.esentutl.specs.SessionRun.{outcome_told, row_told}
 use Rattle.session_local.specs.Answer.{answered_by}
 use Rattle.esentutl.proofs.LineText.{piece-row, piece-line_text, is_plain-told}
 use Rattle.esentutl.proofs.run.run_line.Goals as goal

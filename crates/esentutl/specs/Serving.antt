@@ -1,0 +1,21 @@
+-- The engine of a script's session among the lines of a run.
+use Rattle.std.specs.Prelude.{◌≡◌, true, List}
+use Rattle.session_local.specs.declared.request.Request.{Request}
+use Rattle.session_local.specs.Run.{RunState, Line}
+use Rattle.script_text.specs.Built.{are_built}
+use Rattle.esentutl.specs.declared.engine.Served.{Served}
+use Rattle.esentutl.specs.declared.session_engine.SessionEngine.{SessionEngine}
+use Rattle.esentutl.specs.SessionRun.{outcome_told, IsInRun, GoesOn}
+
+-- it is in the state that the run has come to
+abbrev pub IsAt : SessionEngine → RunState → Type 0
+IsAt engine run = IsInRun engine.engine engine.local engine.last run
+
+-- it served a call of the run and has gone on with it
+abbrev pub Goes : SessionEngine → RunState → Request → Served → Type 0
+Goes engine run request line = GoesOn engine.engine engine.local engine.last run request line.n line.reply (outcome_told line.reply)
+
+-- It can serve lines that are built, in whatever order they come.
+pub record IsReady (engine : SessionEngine) (run : RunState) (lines : List Line) : Type 0 where
+  pub in_run : IsAt engine run
+  pub built : are_built lines ≡ true
