@@ -6,4 +6,5 @@ pub mod Changes
 pub mod Held
 pub mod Reading
 pub mod Putting
+pub mod Sharing
 pub mod AfterChanges
