@@ -21,7 +21,7 @@ decides list p = elim (cases_lt 0 (copies p list)) [
   | inr none ↦ inr (λ h. absurd (omega (arith, copies-Contains list p h)))
 ]
 
-own_is_taken : (frames : Frames) (tree : Tree) (p : ℕ) → IsTree frames tree → Contains (pages_of frames tree) p → IsTaken frames p
+pub own_is_taken : (frames : Frames) (tree : Tree) (p : ℕ) → IsTree frames tree → Contains (pages_of frames tree) p → IsTaken frames p
 own_is_taken frames tree p is there = pages_taken tree.depth frames tree.root is.shape p (copies-Contains (pages_of frames tree) p there)
 
 pub still_apart : (old new : Frames) (before after : List ℕ) (tree : Tree) → Exchanges old new before after → IsTree old tree → ((p : ℕ) → Contains (pages_of old tree) p → ¬ Contains before p) → (p : ℕ) → Contains (pages_of old tree) p → ¬ Contains after p

@@ -4,6 +4,7 @@ pub mod Below
 pub mod Changing
 pub mod Counting
 pub mod Cuts
+pub mod Discarding
 pub mod Entering
 pub mod Laws
 pub mod Leaves
