@@ -1,11 +1,12 @@
 -- A store whose one table takes a row, and one that takes a table.
-use Rattle.std.proofs.Common.{◌≡◌, ℕ, ◌<◌, Some, Result, Ok, Err, List, [], ◌∷◌, ◌++◌, length, get_or, set, ap, subst, ◌∙◌, arith}
+use Rattle.std.proofs.Common.{◌≡◌, ℕ, ◌<◌, false, Some, Result, Ok, Err, List, [], ◌∷◌, ◌++◌, length, get_or, set, ap, subst, ◌∙◌, arith}
 use Rattle.std.specs.Prelude.{OnOk, OnErr}
 use Rattle.std.specs.List.{position_from}
 use Rattle.std.proofs.lemmas.List.{length-set, length_push}
+use Rattle.btree_inplace.specs.Trees.{Exchanges}
 use Rattle.page_space.specs.Frames.{Frames}
 use Rattle.column_set.specs.RecordValues.{put_by_key}
-use Rattle.table_store.specs.StoredRows.{StoredRows, stored_rows, with_rows}
+use Rattle.table_store.specs.StoredRows.{StoredRows, has_table, stored_rows, with_rows}
 use Rattle.table_store.specs.TableTrees.{IsTableTree, LeavesOthers, own_pages, rows_of}
 use Rattle.table_store.specs.StoreView.{AreTables, stores_of, table_at}
 use Rattle.table_store.specs.declared.table_tree.TableTree.{TableTree}
@@ -27,10 +28,12 @@ pub record Changes (old : Frames) (tables : List TableTree) (new : Frames) (numb
   pub tree : IsTableTree new changed
   pub name : changed.table ≡ found.table
   pub leaves : LeavesOthers old new (own_pages old found) (own_pages new changed)
+  pub pages : Exchanges old new (own_pages old found) (own_pages new changed)
 
 pub change_of : (old : Frames) (tables given : List TableTree) (new : Frames) (number k : ℕ) (found changed : TableTree) → given ≡ tables → Some k ≡ position_from (is_named number) 0 given → found ≡ get_or tables k found
-    → AreTables old tables → IsTableTree new changed → changed.table ≡ found.table → LeavesOthers old new (own_pages old found) (own_pages new changed) → Changes old tables new number k found changed
-change_of old tables given new number k found changed same place is are tree name leaves = record {
+    → AreTables old tables → IsTableTree new changed → changed.table ≡ found.table → LeavesOthers old new (own_pages old found) (own_pages new changed) → Exchanges old new (own_pages old found) (own_pages new changed) → Changes old tables new number k found changed
+change_of old tables given new number k found changed same place is are tree name leaves pages = record {
+  pages = pages;
   are = are;
   first = place_within tables given number k same place;
   is = is;
@@ -42,8 +45,9 @@ change_of old tables given new number k found changed same place is are tree nam
 changes_one : (old : Frames) (tables : List TableTree) (new : Frames) (number k : ℕ) (found changed : TableTree) → Changes old tables new number k found changed
     → ChangesOne old tables new (set tables k changed) k (own_pages old (table_at tables k)) changed
 changes_one old tables new number k found changed c =
-    kept_set old new tables k changed (first_within (is_named number) tables k c.first) c.are c.tree
+    kept_set old new tables k changed (first_within (is_named number) tables k c.first) (c.name ∙ ap (λ (x : TableTree). x.table) (found_table tables number k found c.first c.is)) c.are c.tree
     (subst (λ (x : TableTree). LeavesOthers old new (own_pages old x) (own_pages new changed)) (found_table tables number k found c.first c.is) c.leaves)
+    (subst (λ (x : TableTree). Exchanges old new (own_pages old x) (own_pages new changed)) (found_table tables number k found c.first c.is) c.pages)
 
 pub kept_changed : (old : Frames) (tables : List TableTree) (new : Frames) (number k : ℕ) (found changed : TableTree) → Changes old tables new number k found changed → AreTables new (set tables k changed)
 kept_changed old tables new number k found changed c =
@@ -71,12 +75,12 @@ kept_stores old tables new number k found changed stores c view kept =
 
 -- ---- one table more
 
-pub kept_added : (old new : Frames) (tables : List TableTree) (made : TableTree) → AreTables old tables → IsTableTree new made → LeavesOthers old new [] (own_pages new made) → AreTables new (tables ++ made ∷ [])
-kept_added old new tables made are is leaves = kept_with old new tables (tables ++ made ∷ []) (length tables) [] made are (kept_push old new tables made are is leaves)
+pub kept_added : (old new : Frames) (tables : List TableTree) (made : TableTree) → AreTables old tables → has_table (stores_of old tables) made.table.0 ≡ false → IsTableTree new made → LeavesOthers old new [] (own_pages new made) → Exchanges old new [] (own_pages new made) → AreTables new (tables ++ made ∷ [])
+kept_added old new tables made are absent is leaves pages = kept_with old new tables (tables ++ made ∷ []) (length tables) [] made are (kept_push old new tables made are absent is leaves pages)
 
-pub stores_added : (old new : Frames) (tables : List TableTree) (made : TableTree) → AreTables old tables → IsTableTree new made → LeavesOthers old new [] (own_pages new made) → rows_of new made ≡ []
+pub stores_added : (old new : Frames) (tables : List TableTree) (made : TableTree) → AreTables old tables → has_table (stores_of old tables) made.table.0 ≡ false → IsTableTree new made → LeavesOthers old new [] (own_pages new made) → Exchanges old new [] (own_pages new made) → rows_of new made ≡ []
     → stores_of new (tables ++ made ∷ []) ≡ stores_of old tables ++ (made.table.0, []) ∷ []
-stores_added old new tables made are is leaves none =
+stores_added old new tables made are absent is leaves pages none =
     added_stores old new tables made
-    (λ i lt. same_rows old new tables (tables ++ made ∷ []) (length tables) [] made are (kept_push old new tables made are is leaves) (omega (arith, length_push tables made)) i lt (omega arith))
+    (λ i lt. same_rows old new tables (tables ++ made ∷ []) (length tables) [] made are (kept_push old new tables made are absent is leaves pages) (omega (arith, length_push tables made)) i lt (omega arith))
     ∙ ap (λ (rows : StoredRows). stores_of old tables ++ (made.table.0, rows) ∷ []) none

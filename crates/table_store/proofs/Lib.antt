@@ -5,3 +5,4 @@ pub mod Sharing
 pub mod TableLists
 pub mod Inserting
 pub mod RowsAfter
+pub mod Removing

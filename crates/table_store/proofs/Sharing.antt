@@ -1,9 +1,10 @@
 -- A change of one tree, and the others of its space.
-use Rattle.std.proofs.Common.{◌≡◌, ◌≢◌, ℕ, zero, suc, ◌<◌, inl, inr, Some, None, List, [], ◌∷◌, ◌++◌, length, get_or, map, sym, ap, subst, ◌∙◌, arith}
-use Rattle.std.specs.Prelude.{Contains}
-use Rattle.std.proofs.lemmas.Bool.{cases_lt}
+use Rattle.std.proofs.Common.{◌≡◌, ◌≢◌, ℕ, zero, suc, ◌<◌, ◌⊎◌, inl, inr, true, false, Option, Some, None, List, [], ◌∷◌, ◌++◌, length, get_or, map, sym, ap, subst, ◌∙◌, arith}
+use Rattle.std.specs.Prelude.{Contains, IsSome}
+use Rattle.std.proofs.lemmas.Bool.{cases_eq, cases_lt}
 use Rattle.std.proofs.lemmas.List.{get_or-set_other, get_or_append_left, get_or_past, length_push}
-use Rattle.page_space.specs.Frames.{Frames, Takes, empty_page, page_at}
+use Rattle.page_image.specs.Page.{PageContents}
+use Rattle.page_space.specs.Frames.{Frames, IsTaken, Takes, empty_page, page_at}
 use Rattle.btree_inplace.specs.Order.{key_and_data}
 use Rattle.btree_inplace.specs.Trees.{Exchanges, IsTree, Stay, nodes_of, pages_of}
 use Rattle.btree_inplace.specs.declared.Tree.{Tree}
@@ -64,3 +65,35 @@ takes_one old page new t = record {
   given_back = λ p there not. absurd (omega (arith, there.1));
   others = λ p none not. same_page old page new t p (λ e. not (0, omega arith, sym e));
 }
+
+-- ---- the pages that are taken after a change
+
+not_there : (x : ℕ) (xs : List ℕ) (p : ℕ) → x ≢ p → ¬ Contains xs p → ¬ Contains (x ∷ xs) p
+not_there x xs p n none (zero, lt, is) = n is
+not_there x xs p n none (suc k, lt, is) = none (k, omega arith, is)
+
+contains_or_not : (xs : List ℕ) (p : ℕ) → Contains xs p ⊎ (¬ Contains xs p)
+contains_or_not [] p = inr (λ h. absurd (omega (arith, h.1)))
+contains_or_not (x ∷ xs) p = elim (cases_eq x p) [
+  | inl e ↦ inl (0, omega arith, e)
+  | inr n ↦ elim (contains_or_not xs p) [
+    | inl h ↦ inl (suc h.0, omega (arith, h.1), h.2)
+    | inr none ↦ inr (not_there x xs p n none)
+  ]
+]
+
+not_free : (frames : Frames) (p : ℕ) → IsTaken frames p → page_at frames p ≡ None → ⊥
+not_free frames p taken free = never (subst (λ (o : Option PageContents). IsSome o) free taken)
+  where
+    never : false ≡ true → ⊥
+    never e = cc
+
+-- Such a page is one that the changed tree has now, or was taken and is none that it had.
+pub still_taken : (old new : Frames) (before after : List ℕ) → Exchanges old new before after → (p : ℕ) → IsTaken new p → Contains after p ⊎ (IsTaken old p × (¬ Contains before p))
+still_taken old new before after e p taken = elim (contains_or_not after p) [
+  | inl own ↦ inl own
+  | inr not ↦ elim (contains_or_not before p) [
+    | inl was ↦ absurd (not_free new p taken (e.given_back p was not))
+    | inr other ↦ inr (subst (λ (o : Option PageContents). IsSome o) (e.others p other not) taken, other)
+  ]
+]

@@ -1,15 +1,18 @@
 -- A list of tables, and one of them that changes.
-use Rattle.std.proofs.Common.{◌≡◌, ◌≢◌, ℕ, zero, suc, ◌+◌, ◌-◌, ◌<◌, ◌≤◌, ◌==◌, inl, inr, Bool, true, false, Some, None, List, [], ◌∷◌, ◌++◌, length, get_or, set, refl, sym, ap, subst, ◌∙◌, arith}
-use Rattle.std.specs.Prelude.{Contains, is_some}
+use Rattle.std.proofs.Common.{◌≡◌, ◌≢◌, ℕ, zero, suc, ◌+◌, ◌-◌, ◌<◌, ◌≤◌, ◌==◌, inl, inr, Bool, true, false, Some, None, List, [], ◌∷◌, ◌++◌, length, get_or, set, refl, sym, ap, subst, ◌∙◌, arith, eq-eqb, true≢false}
+use Rattle.std.specs.Prelude.{AllPairs, Contains, is_some}
 use Rattle.std.specs.List.{position_from}
 use Rattle.std.proofs.lemmas.Bool.{cases_eq}
 use Rattle.std.proofs.lemmas.List.{get_or-set_same, get_or-set_other, get_or_append_left, get_or_at, get_or_default, length-set, length_push, map_push}
+use Rattle.std.proofs.lemmas.List.Quantifiers.{all_pairs_push}
 use Rattle.page_space.specs.Frames.{Frames}
+use Rattle.btree_inplace.specs.Trees.{Exchanges}
 use Rattle.table_store.specs.StoredRows.{StoredRows, has_table, stored_rows, with_rows}
 use Rattle.table_store.specs.TableTrees.{AreApart, IsTableTree, LeavesOthers, Stays, own_pages, rows_of}
 use Rattle.table_store.specs.StoreView.{AreTables, no_table, stores_of, table_at}
 use Rattle.table_store.specs.declared.table_tree.TableTree.{TableTree}
 use Rattle.table_store.proofs.Finding.{by_test}
+use Rattle.table_store.proofs.Sharing.{still_taken}
 
 -- ---- the place of a table
 
@@ -110,6 +113,11 @@ pub record ChangesOne (old : Frames) (tables : List TableTree) (new : Frames) (a
   pub apart : (i : ℕ) → i < length tables → i ≢ k → AreApart (own_pages old (table_at tables i)) before
   pub tree : IsTableTree new changed
   pub leaves : LeavesOthers old new before (own_pages new changed)
+  pub once : AllPairs (λ a b. a.table.0 ≢ b.table.0) after
+  pub pages : Exchanges old new before (own_pages new changed)
+  pub place : k < length after
+  pub kept : (i : ℕ) → i < length tables → i ≢ k → (i < length after) × (table_at after i ≡ table_at tables i)
+  pub gone : (i : ℕ) → i < length tables → i ≡ k → before ≡ own_pages old (table_at tables i)
 
 other_stays : (old new : Frames) (tables after : List TableTree) (k : ℕ) (before : List ℕ) (changed : TableTree) → AreTables old tables → ChangesOne old tables new after k before changed
     → (i : ℕ) → i < length after → i ≢ k → Stays old new (table_at tables i) × AreApart (own_pages new (table_at tables i)) (own_pages new changed)
@@ -117,7 +125,7 @@ other_stays old new tables after k before changed are is i lt n =
     let within = (is.others i lt n).0 in
     is.leaves (table_at tables i) (are.trees i within) (is.apart i within n)
 
-both_apart : (new : Frames) (x y x' y' : TableTree) → x ≡ x' → y ≡ y' → AreApart (own_pages new x') (own_pages new y') → AreApart (own_pages new x) (own_pages new y)
+pub both_apart : (new : Frames) (x y x' y' : TableTree) → x ≡ x' → y ≡ y' → AreApart (own_pages new x') (own_pages new y') → AreApart (own_pages new x) (own_pages new y)
 both_apart new x y x' y' e f h = subst (λ (z : TableTree). AreApart (own_pages new z) (own_pages new y)) (sym e) (subst (λ (z : TableTree). AreApart (own_pages new x') (own_pages new z)) (sym f) h)
 
 pub kept_with : (old new : Frames) (tables after : List TableTree) (k : ℕ) (before : List ℕ) (changed : TableTree) → AreTables old tables → ChangesOne old tables new after k before changed → AreTables new after
@@ -141,26 +149,67 @@ kept_with old new tables after k before changed are is =
               (subst (λ (l : List ℕ). Contains l p) (other i lt m).0.pages a) (subst (λ (l : List ℕ). Contains l p) (other j lt' o).0.pages b))
         ]
       ];
+      owned = λ p taken. elim (still_taken old new before (own_pages new changed) is.pages p taken) [
+        | inl own ↦ (k, is.place, subst (λ (x : TableTree). Contains (own_pages new x) p) (sym is.here) own)
+        | inr was ↦
+            let o = are.owned p was.0 in
+            elim (cases_eq o.0 k) [
+              | inl e ↦ absurd (was.1 (subst (λ (l : List ℕ). Contains l p) (sym (is.gone o.0 o.1 e)) o.2))
+              | inr n ↦
+                  let s = is.kept o.0 o.1 n in
+                  (o.0, s.0, subst (λ (x : TableTree). Contains (own_pages new x) p) (sym s.1) (subst (λ (l : List ℕ). Contains l p) (sym (other o.0 s.0 n).0.pages) o.2))
+            ]
+      ];
+      once = is.once;
     }
 
-pub kept_set : (old new : Frames) (tables : List TableTree) (k : ℕ) (changed : TableTree) → k < length tables → AreTables old tables → IsTableTree new changed
-    → LeavesOthers old new (own_pages old (table_at tables k)) (own_pages new changed) → ChangesOne old tables new (set tables k changed) k (own_pages old (table_at tables k)) changed
-kept_set old new tables k changed lt are is leaves = record {
+-- the tables' numbers are the same
+same_number : (tables : List TableTree) (k : ℕ) (changed : TableTree) → changed.table ≡ (table_at tables k).table → (i : ℕ) (d : TableTree) → (get_or (set tables k changed) i d).table.0 ≡ (get_or tables i d).table.0
+same_number [] k changed name i d = refl
+same_number (x ∷ xs) zero changed name zero d = ap (λ t. t.0) name
+same_number (x ∷ xs) zero changed name (suc i) d = refl
+same_number (x ∷ xs) (suc k) changed name zero d = refl
+same_number (x ∷ xs) (suc k) changed name (suc i) d = same_number xs k changed name i d
+
+pub kept_set : (old new : Frames) (tables : List TableTree) (k : ℕ) (changed : TableTree) → k < length tables → changed.table ≡ (table_at tables k).table → AreTables old tables → IsTableTree new changed
+    → LeavesOthers old new (own_pages old (table_at tables k)) (own_pages new changed) → Exchanges old new (own_pages old (table_at tables k)) (own_pages new changed) → ChangesOne old tables new (set tables k changed) k (own_pages old (table_at tables k)) changed
+kept_set old new tables k changed lt name are is leaves pages = record {
+  pages = pages;
+  place = omega (arith, length-set tables k changed, lt);
+  kept = λ i h n. (omega (arith, length-set tables k changed), get_or-set_other tables k i changed no_table n);
+  gone = λ i h e. ap (λ j. own_pages old (table_at tables j)) (sym e);
   here = get_or-set_same tables k changed no_table lt;
   others = λ i h n. (omega (arith, length-set tables k changed), get_or-set_other tables k i changed no_table n);
   apart = λ i h n. are.apart i k h lt n;
   tree = is;
   leaves = leaves;
+  once = λ i j d before h same. are.once i j d before (omega (arith, length-set tables k changed)) (sym (same_number tables k changed name i d) ∙ same ∙ same_number tables k changed name j d);
 }
 
-pub kept_push : (old new : Frames) (tables : List TableTree) (changed : TableTree) → AreTables old tables → IsTableTree new changed → LeavesOthers old new [] (own_pages new changed)
+-- a number that no table has
+other_number : (frames : Frames) (tables : List TableTree) (number : ℕ) → has_table (stores_of frames tables) number ≡ false → (i : ℕ) (d : TableTree) → i < length tables → (get_or tables i d).table.0 ≢ number
+other_number frames [] number absent i d h = absurd (omega arith)
+other_number frames (x ∷ xs) number absent zero d h = λ e.
+    let here : is_named number x ≡ true = eq-eqb x.table.0 number e in
+    true≢false (rw here at absent)
+other_number frames (x ∷ xs) number absent (suc i) d h =
+    by_test (is_named number x)
+    (λ t. absurd (true≢false (rw t at absent)))
+    (λ t. other_number frames xs number (rw t at absent) i d (omega arith))
+
+pub kept_push : (old new : Frames) (tables : List TableTree) (changed : TableTree) → AreTables old tables → has_table (stores_of old tables) changed.table.0 ≡ false → IsTableTree new changed → LeavesOthers old new [] (own_pages new changed) → Exchanges old new [] (own_pages new changed)
     → ChangesOne old tables new (tables ++ changed ∷ []) (length tables) [] changed
-kept_push old new tables changed are is leaves = record {
+kept_push old new tables changed are absent is leaves pages = record {
+  pages = pages;
+  place = omega (arith, length_push tables changed);
+  kept = λ i h n. (omega (arith, length_push tables changed), get_or_append_left tables (changed ∷ []) no_table i h);
+  gone = λ i h e. absurd (omega (arith, e, h));
   here = get_or_at tables changed [] no_table (length tables) refl;
   others = λ i h n. let lt : i < length tables = omega (arith, length_push tables changed) in (lt, get_or_append_left tables (changed ∷ []) no_table i lt);
   apart = λ i h n p there none. absurd (omega (arith, none.1));
   tree = is;
   leaves = leaves;
+  once = all_pairs_push (λ a b. a.table.0 ≢ b.table.0) tables changed are.once (other_number old tables changed.table.0 absent);
 }
 
 pub same_rows : (old new : Frames) (tables after : List TableTree) (k : ℕ) (before : List ℕ) (changed : TableTree) → AreTables old tables → ChangesOne old tables new after k before changed → length tables ≤ length after

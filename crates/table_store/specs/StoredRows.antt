@@ -1,5 +1,5 @@
 -- The rows of each table, as a store has them.
-use Rattle.std.specs.Prelude.{ℕ, ◌≤◌, ◌==◌, Bool, List, [], ◌∷◌, length, if◌then◌else◌, All}
+use Rattle.std.specs.Prelude.{ℕ, ◌≤◌, ◌==◌, Bool, List, [], ◌∷◌, length, if◌then◌else◌, All, filter, not}
 use Rattle.std.specs.List.{list_any}
 
 -- the rows of a table, each under its bookmark, by which they rise
@@ -22,3 +22,7 @@ stored_rows (store ∷ stores) table = if store.0 == table then store.1 else sto
 abbrev pub with_rows : ℕ → StoredRows → List (ℕ × StoredRows) → List (ℕ × StoredRows)
 with_rows table rows [] = []
 with_rows table rows (store ∷ stores) = if store.0 == table then (store.0, rows) ∷ stores else store ∷ with_rows table rows stores
+
+-- the tables without one of them
+abbrev pub without_table : ℕ → List (ℕ × StoredRows) → List (ℕ × StoredRows)
+without_table table stores = filter (λ store. not (store.0 == table)) stores

@@ -6,7 +6,7 @@ ghost use Rattle.std.specs.Option.{option_copied, option_map};
 ghost use Rattle.column_set.specs.RecordValues.{lookup_by_key, put_by_key};
 ghost use Rattle.index_derive.specs.Entries.{own_order};
 ghost use Rattle.cursor_nav.specs.Places.{are_sorted, entry_after, entry_before};
-ghost use Rattle.table_store.specs.StoredRows.{HaveShortBookmarks, has_table, stored_rows, with_rows};
+ghost use Rattle.table_store.specs.StoredRows.{HaveShortBookmarks, has_table, stored_rows, with_rows, without_table};
 
 use crate::table_tree::TableTree;
 use index_derive::Place;
@@ -96,6 +96,21 @@ impl RecordStore {
                 named.insert(&mut self.space, bookmark, row)
             }
             None => Ok(()),
+        }
+    }
+
+    /// Takes out a table with its rows. The other tables keep their order, and it takes no memory: the table's pages
+    /// are free for other rows.
+    pub fn remove_table(&mut self, table: TableId)
+        requires { has_table self.old table.0 ≡ true }
+        ensures { self.new ≡ without_table table.0 self.old }
+    {
+        match place_of(self.tables.as_slice(), table) {
+            Some(i) => {
+                let removed = self.tables.remove(i);
+                removed.give_back(&mut self.space);
+            }
+            None => {}
         }
     }
 

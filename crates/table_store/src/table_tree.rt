@@ -5,6 +5,7 @@ ghost use Rattle.std.specs.Option.{option_copied, option_map};
 ghost use Rattle.column_set.specs.RecordValues.{lookup_by_key, put_by_key};
 ghost use Rattle.index_derive.specs.Entries.{own_order};
 ghost use Rattle.cursor_nav.specs.Places.{entry_after, entry_before};
+ghost use Rattle.btree_inplace.specs.Trees.{Exchanges};
 ghost use Rattle.table_store.specs.TableTrees.{IsTableTree, LeavesOthers, own_pages, rows_of};
 
 use btree_inplace::{Tree, other_tree_stays, tree_stays};
@@ -23,6 +24,7 @@ impl TableTree {
     /// A table without a row.
     pub fn new(space: &mut Space, table: TableId) -> Result<TableTree, OutOfMemory>
         ensures tree { IfOk result (λ made. IsTableTree space.new made × (made.table ≡ table) × (rows_of space.new made ≡ [])) }
+        ensures pages { IfOk result (λ made. Exchanges space.old space.new [] (own_pages space.new made)) }
         ensures others { IfOk result (λ made. LeavesOthers space.old space.new [] (own_pages space.new made)) }
         ensures err { OnErr result (space.new ≡ space.old) }
     {
@@ -57,6 +59,7 @@ impl TableTree {
         ensures table { self.new.table ≡ self.old.table }
         ensures ok { OnOk result (rows_of space.new self.new ≡ put_by_key bookmark.now row.now (rows_of space.old self.old)) }
         ensures err { OnErr result (rows_of space.new self.new ≡ rows_of space.old self.old) }
+        ensures pages { Exchanges space.old space.new (own_pages space.old self.old) (own_pages space.new self.new) }
         ensures others { LeavesOthers space.old space.new (own_pages space.old self.old) (own_pages space.new self.new) }
     {
         other_tree_stays();
@@ -65,6 +68,17 @@ impl TableTree {
             Ok(()) => Ok(()),
             Err(fault) => Err(fault),
         }
+    }
+
+    /// Gives the pages of the table to the space. It takes no memory.
+    pub fn give_back(self, space: &mut Space)
+        requires { IsTableTree space.old self }
+        ensures pages { Exchanges space.old space.new (own_pages space.old self) [] }
+        ensures others { LeavesOthers space.old space.new (own_pages space.old self) [] }
+    {
+        other_tree_stays();
+        tree_stays();
+        self.tree.give_back(space);
     }
 
     /// The least bookmark beyond a place.

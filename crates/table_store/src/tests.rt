@@ -5,7 +5,7 @@ ghost use Rattle.index_derive.specs.Entries.{own_order};
 ghost use Rattle.cursor_nav.specs.Places.{are_sorted};
 ghost use Rattle.table_store.specs.StoredRows.{stored_rows};
 
-use crate::{RecordStore, rows_after_a_change, rows_beside_a_new_table};
+use crate::{RecordStore, rows_after_a_change, rows_beside_a_new_table, rows_without_a_table};
 use index_derive::Place;
 use jet_base::TableId;
 use key_normal::Key;
@@ -58,6 +58,15 @@ fn add(store: &mut RecordStore, table: TableId) -> bool {
     store.add_table(table).is_ok()
 }
 
+/// Removes a table, if it is there, and says whether it did.
+fn remove(store: &mut RecordStore, table: TableId) -> bool {
+    if !store.has_table(table) {
+        return false;
+    }
+    store.remove_table(table);
+    true
+}
+
 /// A view of a store that keeps what a cursor asks of one: that the rows are in order.
 #[derive(Drop)]
 struct OrderedView<'a> {
@@ -75,6 +84,7 @@ fn an_empty_store_has_no_row(rt: HostRuntime) {
     let store = RecordStore::new(rt.alloc());
     rows_beside_a_new_table();
     rows_after_a_change();
+    rows_without_a_table();
     assert!(&rt; !store.has_table(TableId(1)));
     assert!(&rt; !store.has_rows(TableId(1)));
     assert!(&rt; store.get(TableId(1), b"a").is_none());
@@ -166,4 +176,45 @@ fn two_tables_are_their_sorted_lists(rt: HostRuntime) {
                 .is_none()
         );
     }
+}
+
+#[test]
+fn a_removed_table_leaves_the_others(rt: HostRuntime) {
+    let mut store = RecordStore::new(rt.alloc());
+    let mut sorted = Vec::new(rt.alloc());
+    assert!(&rt; add(&mut store, TableId(1)));
+    assert!(&rt; add(&mut store, TableId(2)));
+    assert!(&rt; add(&mut store, TableId(3)));
+    for i in 0..COUNT {
+        let number = shuffled(149, i);
+        let row = row_of(rt.alloc(), number);
+        let bookmark = bookmark_of(number);
+        for table in 1..4 {
+            assert!(&rt;
+                put(
+                    &mut store,
+                    TableId(table),
+                    bookmark.as_slice(),
+                    row.as_slice()
+                )
+            );
+        }
+        assert!(&rt; sorted.push(2 * i).is_ok());
+    }
+    assert!(&rt; remove(&mut store, TableId(2)));
+    assert!(&rt; !remove(&mut store, TableId(2)));
+    assert!(&rt; !store.has_table(TableId(2)));
+    assert!(&rt; !store.has_rows(TableId(2)));
+    assert!(&rt; add(&mut store, TableId(2)));
+    assert!(&rt; !store.has_rows(TableId(2)));
+    assert!(&rt; put(&mut store, TableId(2), b"again", b"row"));
+    for table in [1, 3] {
+        compare(&rt, &store, TableId(table), sorted.as_slice());
+        for number in sorted.iter() {
+            let row = row_of(rt.alloc(), *number);
+            let bookmark = bookmark_of(*number);
+            assert!(&rt; store.get(TableId(table), bookmark.as_slice()) == Some(row.as_slice()));
+        }
+    }
+    assert!(&rt; number_of(store.after(TableId(2), &Place::Before)).is_none());
 }

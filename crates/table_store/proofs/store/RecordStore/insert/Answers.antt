@@ -21,18 +21,18 @@ insert-requires-clause-absent c =
     ∙ ap (λ (stores : List (ℕ × StoredRows)). lookup_by_key c.args.bookmark.now (stored_rows stores c.args.table.0)) c.self.view_is ∙ c.requires.absent
 
 pub invariant_of-self : goal.invariant_of-self
-invariant_of-self c = kept_changed c.self.inside.space c.self.inside.tables.items c.insert.new.space c.args.table.0 c.in-Some.i c.index_mut-named.result.now c.insert.new.self (change_of c.self.inside.space c.self.inside.tables.items c.as_slice.result.now c.insert.new.space c.args.table.0 c.in-Some.i c.index_mut-named.result.now c.insert.new.self c.as_slice.ensures.value c.in-Some.ensures c.index_mut-named.ensures.value c.self.invariant c.insert.ensures.tree c.insert.ensures.table c.insert.ensures.others)
+invariant_of-self c = kept_changed c.self.inside.space c.self.inside.tables.items c.insert.new.space c.args.table.0 c.in-Some.i c.index_mut-named.result.now c.insert.new.self (change_of c.self.inside.space c.self.inside.tables.items c.as_slice.result.now c.insert.new.space c.args.table.0 c.in-Some.i c.index_mut-named.result.now c.insert.new.self c.as_slice.ensures.value c.in-Some.ensures c.index_mut-named.ensures.value c.self.invariant c.insert.ensures.tree c.insert.ensures.table c.insert.ensures.others c.insert.ensures.pages)
 
 pub returns-in-Some-clause-ok : goal.returns-in-Some-clause-ok
 returns-in-Some-clause-ok c =
     on_ok c.insert.result
-    (put_stores c.self.inside.space c.self.inside.tables.items c.insert.new.space c.args.table.0 c.in-Some.i c.index_mut-named.result.now c.insert.new.self c.args.bookmark.now c.args.row.now c.args.self.now (change_of c.self.inside.space c.self.inside.tables.items c.as_slice.result.now c.insert.new.space c.args.table.0 c.in-Some.i c.index_mut-named.result.now c.insert.new.self c.as_slice.ensures.value c.in-Some.ensures c.index_mut-named.ensures.value c.self.invariant c.insert.ensures.tree c.insert.ensures.table c.insert.ensures.others) c.self.view_is)
+    (put_stores c.self.inside.space c.self.inside.tables.items c.insert.new.space c.args.table.0 c.in-Some.i c.index_mut-named.result.now c.insert.new.self c.args.bookmark.now c.args.row.now c.args.self.now (change_of c.self.inside.space c.self.inside.tables.items c.as_slice.result.now c.insert.new.space c.args.table.0 c.in-Some.i c.index_mut-named.result.now c.insert.new.self c.as_slice.ensures.value c.in-Some.ensures c.index_mut-named.ensures.value c.self.invariant c.insert.ensures.tree c.insert.ensures.table c.insert.ensures.others c.insert.ensures.pages) c.self.view_is)
     c.insert.ensures.ok
 
 pub returns-in-Some-clause-err : goal.returns-in-Some-clause-err
 returns-in-Some-clause-err c =
     on_err c.insert.result
-    (kept_stores c.self.inside.space c.self.inside.tables.items c.insert.new.space c.args.table.0 c.in-Some.i c.index_mut-named.result.now c.insert.new.self c.args.self.now (change_of c.self.inside.space c.self.inside.tables.items c.as_slice.result.now c.insert.new.space c.args.table.0 c.in-Some.i c.index_mut-named.result.now c.insert.new.self c.as_slice.ensures.value c.in-Some.ensures c.index_mut-named.ensures.value c.self.invariant c.insert.ensures.tree c.insert.ensures.table c.insert.ensures.others) c.self.view_is)
+    (kept_stores c.self.inside.space c.self.inside.tables.items c.insert.new.space c.args.table.0 c.in-Some.i c.index_mut-named.result.now c.insert.new.self c.args.self.now (change_of c.self.inside.space c.self.inside.tables.items c.as_slice.result.now c.insert.new.space c.args.table.0 c.in-Some.i c.index_mut-named.result.now c.insert.new.self c.as_slice.ensures.value c.in-Some.ensures c.index_mut-named.ensures.value c.self.invariant c.insert.ensures.tree c.insert.ensures.table c.insert.ensures.others c.insert.ensures.pages) c.self.view_is)
     c.insert.ensures.err
 
 pub returns-in-None-clause-ok : goal.returns-in-None-clause-ok

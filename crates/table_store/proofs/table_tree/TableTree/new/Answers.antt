@@ -22,3 +22,10 @@ returns-in-Ok-clause-others c =
     let tree = c.in-Ok.tree in
     let one : Exchanges old new [] (tree.root ∷ []) = takes_one old tree.root new c.in-Ok.ensures.taken in
     leaves_others c.tree_stays.ensures c.other_tree_stays.ensures old new [] (pages_of new tree) (subst (Exchanges old new []) (sym c.in-Ok.ensures.tree.2) one)
+
+pub returns-in-Ok-clause-pages : goal.returns-in-Ok-clause-pages
+returns-in-Ok-clause-pages c =
+    let old = c.args.space.now in
+    let new = c.new.new.space in
+    let tree = c.in-Ok.tree in
+    subst (Exchanges old new []) (sym c.in-Ok.ensures.tree.2) (takes_one old tree.root new c.in-Ok.ensures.taken)
