@@ -14,4 +14,5 @@ pub mod SteppingStored
 pub mod SteppingSessions
 pub mod SteppingColumns
 pub mod SteppingTables
+pub mod Primary
 pub mod Stepping

@@ -55,7 +55,7 @@ is_alone-entered session sessions e = rw e (self_equal session)
 abbrev pub opens : ℕ → LiveSession → LiveSession
 opens id s = record s { open_tables = id ∷ s.open_tables }
 
-abbrev shuts : ℕ → LiveSession → LiveSession
+abbrev pub shuts : ℕ → LiveSession → LiveSession
 shuts id s = record s { open_tables = without_one id s.open_tables }
 
 abbrev pub puts_in : Option Transaction → LiveSession → LiveSession

@@ -21,19 +21,19 @@ use Rattle.database_state.specs.Step.{state_after, state_after_all}
 use Rattle.jet_catalog.specs.Catalog.{CatalogState, IsNumbered, catalog_of, catalog_after, ids_rise}
 use Rattle.engine_state.specs.SingleSession.{entry_by, is_single_step, is_new_record, newest_after, defined_after, without_rows, with_change, greatest_after, open_count_after}
 use Rattle.table_store.specs.StoredRows.{stored_rows, with_rows, has_table}
-use Rattle.engine_state.specs.EngineState.{EngineState, record_bytes, stored_record, live_of, levels_in}
-use Rattle.engine_state.specs.EngineSteps.{at_levels, with_open_table, effect_on, engine_after, engine_after_all, is_live_in, catalog_table, may_stand_under, may_put, may_change, may_index, may_make, may_take, may_take_all}
+use Rattle.engine_state.specs.EngineState.{EngineState, record_bytes, stored_record, live_of, levels_in, has_open}
+use Rattle.engine_state.specs.EngineSteps.{at_levels, with_open_table, without_open_table, effect_on, engine_after, engine_after_all, is_live_in, catalog_table, may_stand_under, may_put, may_change, may_index, may_make, may_take, may_take_all}
 use Rattle.engine_state.specs.Represents.{Represents, is_built_record, is_hidden_key, is_built_table}
 use Rattle.engine_state.proofs.Tests.{and_left, and_right, and_both, same_number, all-append}
-use Rattle.engine_state.proofs.Sessions.{no_session, opens, puts_in, new_transaction}
+use Rattle.engine_state.proofs.Sessions.{no_session, opens, shuts, puts_in, new_transaction}
 use Rattle.engine_state.proofs.Kept.{single-after}
 use Rattle.engine_state.proofs.Followed.{number-after, greatest_table-after, open_count-after, newest-after, without_rows-after}
 use Rattle.engine_state.proofs.Records.{table_with_id-changed, table_with_id-unchanged}
-use Rattle.engine_state.proofs.Stored.{put-stored_record, stored_rows-with_rows, has_table-with_rows, stored_rows-new, has_table-new}
+use Rattle.engine_state.proofs.Stored.{put-stored_record, stored_rows-with_rows, has_table-with_rows, stored_rows-new, has_table-new, stored_rows-without, has_table-without}
 use Rattle.engine_state.proofs.Told.{levels-told, is_live-told, record_in-told}
 use Rattle.engine_state.proofs.ToldTables.{catalog_tables}
 use Rattle.engine_state.proofs.SteppingSessions.{not_live, live_of-entered, live_of-with_label, live_of-saved, live_of-released}
-use Rattle.engine_state.proofs.SteppingTables.{table_with_id-without_rows, rows_of-with_table, is_some-with_table, rows_of-new, is_some-new, without_rows-new, without_rows-with_column, without_rows-with_index, ids_rise-without_rows, ids_rise-with_table, ids_rise-new, all-with_table, is_built_table-later, is_built_table-with_column, is_built_table-with_row, is_built_table-with_index}
+use Rattle.engine_state.proofs.SteppingTables.{table_with_id-without_rows, rows_of-with_table, is_some-with_table, rows_of-new, is_some-new, rows_of-gone, is_some-gone, all-gone, without_rows-gone, ids_rise-gone, without_rows-new, without_rows-with_column, without_rows-with_index, ids_rise-without_rows, ids_rise-with_table, ids_rise-new, all-with_table, is_built_table-later, is_built_table-with_column, is_built_table-with_row, is_built_table-with_index}
 use Rattle.engine_state.proofs.SteppingColumns.{all_mono}
 
 -- ---- what may be taken
@@ -90,7 +90,7 @@ pub is_single_step-may_take : (session : ℕ) (engine : EngineState) (state : Da
 is_single_step-may_take session engine state entry.Enter r h = ap not (is_live-told session engine state r) ∙ not_live engine.live session (and_left _ _ h)
 is_single_step-may_take session engine state entry.Leave r h = cc
 is_single_step-may_take session engine state (entry.Open table) r h = is_live-told session engine state r ∙ and_left _ _ h
-is_single_step-may_take session engine state (entry.Shut table) r h = cc
+is_single_step-may_take session engine state (entry.Shut table) r h = is_live-told session engine state r ∙ and_left (is_live_in engine.live session) (has_open engine.live table.0) h
 is_single_step-may_take session engine state entry.Begin r h =
     let both = and_left (is_live_in engine.live session && (levels_in engine.live session == 0)) _ h in
     and_both _ _ (is_live-told session engine state r ∙ and_left _ _ both) (ap (λ n. n == 0) (levels-told session engine state r) ∙ and_right (is_live_in engine.live session) _ both)
@@ -144,7 +144,7 @@ unfolding state_after
 live-after session engine state entry.Enter r h = live_of-entered session state.sessions (no_session session state.sessions r.single.alone (is_single_step-may_take session engine state entry.Enter r h))
 live-after session engine state entry.Leave r h = cc
 live-after session engine state (entry.Open table) r h = live_of-with_label session (opens table.0) (with_open_table table.0) refl (λ s. refl) state.sessions r.single.alone ∙ ap (with_open_table table.0) r.live
-live-after session engine state (entry.Shut table) r h = cc
+live-after session engine state (entry.Shut table) r h = live_of-with_label session (shuts table.0) (without_open_table table.0) refl (λ s. refl) state.sessions r.single.alone ∙ ap (without_open_table table.0) r.live
 live-after session engine state entry.Begin r h =
     live_of-with_label session (puts_in (Some (new_transaction (state.number + 1) state.tables))) (at_levels (λ n. 1)) refl (λ s. refl) state.sessions r.single.alone
     ∙ ap (at_levels (λ n. 1)) r.live
@@ -165,7 +165,7 @@ catalog greatest tables = record { greatest_table = greatest; tables = tables }
 
 without_rows-step : (engine : EngineState) (tables : List Table) (made : SchemaStep) → may_make engine made ≡ true → tables_after_step (map without_rows tables) made ≡ map without_rows (tables_after_step tables made)
 without_rows-step engine tables (step.CreateTable table name) h = without_rows-new tables table.0 name
-without_rows-step engine tables (step.DeleteTable table) h = cc
+without_rows-step engine tables (step.DeleteTable table) h = without_rows-gone tables table.0
 without_rows-step engine tables (step.AddColumn table column) h = without_rows-with_column tables table.0 column
 without_rows-step engine tables (step.DeleteColumn table column) h = cc
 without_rows-step engine tables (step.CreateIndex table rule) h = without_rows-with_index tables table.0 rule
@@ -256,7 +256,11 @@ stores-step : (session : ℕ) (engine : EngineState) (state : DatabaseState) (ma
     → stored_rows (effect_on engine session (entry.Schema made)).stores other ≡ map stored_record (rows_of (table_with_id (tables_after_step (newest state) made) other))
 stores-step session engine state (step.CreateTable table name) other r h =
     stored_rows-new engine.stores table.0 other ∙ r.stores other ∙ ap (map stored_record) (sym (rows_of-new (newest state) table.0 name other))
-stores-step session engine state (step.DeleteTable table) other r h = cc
+stores-step session engine state (step.DeleteTable table) other r h =
+    stored_rows-without engine.stores table.0 other
+    ∙ ap (cond (table.0 == other) []) (r.stores other)
+    ∙ (elim (table.0 == other) as (λ b. cond b [] (map stored_record (rows_of (table_with_id (newest state) other))) ≡ map stored_record (cond b [] (rows_of (table_with_id (newest state) other)))) [ true ↦ refl | false ↦ refl ])
+    ∙ ap (map stored_record) (sym (rows_of-gone (newest state) table.0 other))
 stores-step session engine state (step.AddColumn table column) other r h =
     r.stores other ∙ ap (map stored_record) (sym (rows_of-with_table table.0 (with_column column) (λ t. refl) (λ t. refl) (newest state) other))
 stores-step session engine state (step.DeleteColumn table column) other r h = cc
@@ -298,7 +302,8 @@ listed-step : (engine : EngineState) (session : ℕ) (made : SchemaStep) (other 
     → has_table (effect_on engine session (entry.Schema made)).stores other ≡ is_some (table_with_id (tables_after_step engine.catalog.tables made) other)
 listed-step engine session (step.CreateTable table name) other h e =
     has_table-new engine.stores table.0 other ∙ ap (λ b. b || (table.0 == other)) e ∙ sym (is_some-new engine.catalog.tables table.0 name other)
-listed-step engine session (step.DeleteTable table) other h e = cc
+listed-step engine session (step.DeleteTable table) other h e =
+    has_table-without engine.stores table.0 other ∙ ap (λ b. b && not (table.0 == other)) e ∙ sym (is_some-gone engine.catalog.tables table.0 other)
 listed-step engine session (step.AddColumn table column) other h e = e ∙ sym (is_some-with_table table.0 (with_column column) (λ t. refl) engine.catalog.tables other)
 listed-step engine session (step.DeleteColumn table column) other h e = cc
 listed-step engine session (step.CreateIndex table rule) other h e = e ∙ sym (is_some-with_table table.0 (with_index rule) (λ t. refl) engine.catalog.tables other)
@@ -348,7 +353,8 @@ built-put session engine state table bookmark copied values r numbered parts =
 built-step : (session : ℕ) (engine : EngineState) (state : DatabaseState) (made : SchemaStep) → Represents session engine state → IsNumbered engine.catalog → may_make engine made ≡ true
     → list_all (is_built_table (state.number + 1)) (tables_after_step (newest state) made) ≡ true
 built-step session engine state (step.CreateTable table name) r numbered h = all-append (is_built_table (state.number + 1)) (newest state) (new_table table.0 name) (later state.number (newest state) r.tables) refl
-built-step session engine state (step.DeleteTable table) r numbered h = cc
+built-step session engine state (step.DeleteTable table) r numbered h =
+    all-gone (is_built_table (state.number + 1)) (λ t. not (t.id == table.0)) (newest state) (later state.number (newest state) r.tables)
 built-step session engine state (step.AddColumn table column) r numbered h =
     all-with_table (is_built_table state.number) (is_built_table (state.number + 1)) table.0 (with_column column) (is_built_table-later state.number)
     0 engine.catalog.greatest_table (newest state) (numbered-newest session engine state r numbered) r.tables
@@ -403,7 +409,7 @@ represents-after session engine state kind r numbered h =
 
 numbered-step : (engine : EngineState) (made : SchemaStep) → IsNumbered engine.catalog → may_make engine made ≡ true → IsNumbered (catalog_after engine.catalog made)
 numbered-step engine (step.CreateTable table name) numbered h = ids_rise-new table.0 name 0 engine.catalog.greatest_table engine.catalog.tables h numbered
-numbered-step engine (step.DeleteTable table) numbered h = cc
+numbered-step engine (step.DeleteTable table) numbered h = ids_rise-gone table.0 0 engine.catalog.greatest_table engine.catalog.tables numbered
 numbered-step engine (step.AddColumn table column) numbered h = ids_rise-with_table table.0 (with_column column) (λ t. refl) 0 engine.catalog.greatest_table engine.catalog.tables ∙ numbered
 numbered-step engine (step.DeleteColumn table column) numbered h = cc
 numbered-step engine (step.CreateIndex table rule) numbered h = ids_rise-with_table table.0 (with_index rule) (λ t. refl) 0 engine.catalog.greatest_table engine.catalog.tables ∙ numbered

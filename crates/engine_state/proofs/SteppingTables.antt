@@ -14,7 +14,7 @@ use Rattle.database_state.specs.SchemaChanges.{new_table, with_column, with_inde
 use Rattle.jet_catalog.specs.Catalog.{ids_rise}
 use Rattle.engine_state.specs.SingleSession.{without_rows}
 use Rattle.engine_state.specs.Represents.{is_built_record, is_built_column, is_built_rule, is_built_schema, is_hidden_key, has_built_keys, is_built_table}
-use Rattle.engine_state.proofs.Tests.{and_left, and_right, and_both, le_self, le_later}
+use Rattle.engine_state.proofs.Tests.{and_left, and_right, and_both, same_number, le_self, le_later}
 use Rattle.engine_state.proofs.SteppingStored.{all_keys-put, all_records-put}
 use Rattle.engine_state.proofs.SteppingColumns.{all_mono, is_built_schema-with_one_more}
 
@@ -80,7 +80,66 @@ is_some-new (t ∷ tables) id name other =
       | false ↦ is_some-new tables id name other
     ]
 
+-- a table that goes
+abbrev is_other : ℕ → Table → Bool
+is_other id t = not (t.id == id)
+
+found_gone : (b q : Bool) (t : Table) (tables : List Table) (id other : ℕ) → (t.id == id) ≡ b → (id == other) ≡ q
+    → table_with_id (filter (is_other id) tables) other ≡ cond q None (table_with_id tables other)
+    → table_with_id (cond (not b) (t ∷ filter (is_other id) tables) (filter (is_other id) tables)) other ≡ cond q None (cond (t.id == other) (Some t) (table_with_id tables other))
+found_gone true true t tables id other e f rest = rest
+found_gone true false t tables id other e f rest =
+    rest ∙ ap (λ b. cond b (Some t) (table_with_id tables other)) (sym (ap (λ n. n == other) (same_number t.id id e) ∙ f))
+found_gone false true t tables id other e f rest =
+    ap (λ b. cond b (Some t) (table_with_id (filter (is_other id) tables) other)) (ap (λ n. t.id == n) (sym (same_number id other f)) ∙ e) ∙ rest
+found_gone false false t tables id other e f rest = ap (λ found. cond (t.id == other) (Some t) found) rest
+
+abbrev no_table : Option Table
+no_table = None
+
+pub table_with_id-gone : (tables : List Table) (id other : ℕ) → table_with_id (filter (λ t. not (t.id == id)) tables) other ≡ cond (id == other) None (table_with_id tables other)
+table_with_id-gone [] id other = elim (id == other) as (λ b. no_table ≡ cond b no_table no_table) [ true ↦ refl | false ↦ refl ]
+table_with_id-gone (t ∷ tables) id other = found_gone (t.id == id) (id == other) t tables id other refl refl (table_with_id-gone tables id other)
+
+pub rows_of-gone : (tables : List Table) (id other : ℕ) → rows_of (table_with_id (filter (λ t. not (t.id == id)) tables) other) ≡ cond (id == other) [] (rows_of (table_with_id tables other))
+rows_of-gone tables id other =
+    ap rows_of (table_with_id-gone tables id other)
+    ∙ (elim (id == other) as (λ b. rows_of (cond b None (table_with_id tables other)) ≡ cond b [] (rows_of (table_with_id tables other))) [ true ↦ refl | false ↦ refl ])
+
+none_and : (there : Bool) → (there && false) ≡ false
+none_and true = refl
+none_and false = refl
+
+all_and : (there : Bool) → (there && true) ≡ there
+all_and true = refl
+all_and false = refl
+
+pub is_some-gone : (tables : List Table) (id other : ℕ) → is_some (table_with_id (filter (λ t. not (t.id == id)) tables) other) ≡ (is_some (table_with_id tables other) && not (id == other))
+is_some-gone tables id other =
+    ap (λ found. is_some found) (table_with_id-gone tables id other)
+    ∙ (elim (id == other) as (λ b. is_some (cond b None (table_with_id tables other)) ≡ (is_some (table_with_id tables other) && not b)) [
+      | true ↦ sym (none_and (is_some (table_with_id tables other)))
+      | false ↦ sym (all_and (is_some (table_with_id tables other)))
+    ])
+
+pub all-gone : {X : Type 0} (p q : X → Bool) (xs : List X) → list_all p xs ≡ true → list_all p (filter q xs) ≡ true
+all-gone p q [] h = refl
+all-gone p q (x ∷ xs) h =
+    let rest = all-gone p q xs (and_right (p x) (list_all p xs) h) in
+    elim (q x) as (λ b. list_all p (cond b (x ∷ filter q xs) (filter q xs)) ≡ true) [
+      | true ↦ and_both (p x) (list_all p (filter q xs)) (and_left (p x) (list_all p xs) h) rest
+      | false ↦ rest
+    ]
+
 -- a step does to tables without records what it does to them
+pub without_rows-gone : (tables : List Table) (id : ℕ) → filter (λ t. not (t.id == id)) (map without_rows tables) ≡ map without_rows (filter (λ t. not (t.id == id)) tables)
+without_rows-gone [] id = refl
+without_rows-gone (t ∷ tables) id =
+    elim (t.id == id) as (λ b. cond (not b) (without_rows t ∷ filter (is_other id) (map without_rows tables)) (filter (is_other id) (map without_rows tables)) ≡ map without_rows (cond (not b) (t ∷ filter (is_other id) tables) (filter (is_other id) tables))) [
+      | true ↦ without_rows-gone tables id
+      | false ↦ ap (λ rest. without_rows t ∷ rest) (without_rows-gone tables id)
+    ]
+
 with_table-without_rows : (id : ℕ) (change : Table → Table) → ((t : Table) → change (without_rows t) ≡ without_rows (change t)) → (tables : List Table) → with_table id change (map without_rows tables) ≡ map without_rows (with_table id change tables)
 with_table-without_rows id change same [] = refl
 with_table-without_rows id change same (t ∷ tables) =
@@ -111,6 +170,29 @@ pub ids_rise-with_table : (id : ℕ) (change : Table → Table) → ((t : Table)
 ids_rise-with_table id change same low high [] = refl
 ids_rise-with_table id change same low high (t ∷ tables) =
     rw (same_id change same t (t.id == id)) (ap (λ b. nat_lt low t.id && b) (ids_rise-with_table id change same t.id high tables))
+
+-- a lower start leaves them rising
+from_below : (low id high : ℕ) (tables : List Table) → nat_lt low id ≡ true → ids_rise id high tables ≡ true → ids_rise low high tables ≡ true
+from_below low id high [] h rise = lower low id high h rise
+  where
+    lower : (low id high : ℕ) → nat_lt low id ≡ true → nat_le id high ≡ true → nat_le low high ≡ true
+    lower low id high h g = grind (arith, nat_tests)
+from_below low id high (t ∷ tables) h rise =
+    and_both (nat_lt low t.id) (ids_rise t.id high tables) (lower low id t.id h (and_left (nat_lt id t.id) (ids_rise t.id high tables) rise)) (and_right (nat_lt id t.id) (ids_rise t.id high tables) rise)
+  where
+    lower : (low id other : ℕ) → nat_lt low id ≡ true → nat_lt id other ≡ true → nat_lt low other ≡ true
+    lower low id other h g = grind (arith, nat_tests)
+
+-- and so does a table that goes
+pub ids_rise-gone : (id low high : ℕ) (tables : List Table) → ids_rise low high tables ≡ true → ids_rise low high (filter (λ t. not (t.id == id)) tables) ≡ true
+ids_rise-gone id low high [] rise = rise
+ids_rise-gone id low high (t ∷ tables) rise =
+    let first = and_left (nat_lt low t.id) (ids_rise t.id high tables) rise in
+    let rest = ids_rise-gone id t.id high tables (and_right (nat_lt low t.id) (ids_rise t.id high tables) rise) in
+    elim (t.id == id) as (λ b. ids_rise low high (cond (not b) (t ∷ filter (is_other id) tables) (filter (is_other id) tables)) ≡ true) [
+      | true ↦ from_below low t.id high (filter (is_other id) tables) first rest
+      | false ↦ and_both (nat_lt low t.id) (ids_rise t.id high (filter (is_other id) tables)) first rest
+    ]
 
 below : (low high id : ℕ) → nat_le low high ≡ true → nat_lt high id ≡ true → nat_lt low id ≡ true
 below low high id h g = grind (arith, nat_tests)

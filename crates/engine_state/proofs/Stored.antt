@@ -1,5 +1,5 @@
 -- Records as bytes, beside the records that they stand for.
-use Rattle.std.proofs.Common.{◌≡◌, ℕ, Bool, true, false, ◌||◌, cond, List, [], ◌∷◌, ◌++◌, length, map, Some, refl, ap, arith}
+use Rattle.std.proofs.Common.{◌≡◌, ℕ, Bool, true, false, not, ◌&&◌, ◌||◌, cond, List, [], ◌∷◌, ◌++◌, length, map, Some, refl, sym, ap, ◌∙◌, arith}
 use Rattle.std.specs.Prelude.{◌==◌, option_map}
 use Rattle.std.specs.Ordering.{nat_cmp, eq_by_cmp}
 use Rattle.std.specs.Cmp.Lexicographic.{slice_cmp}
@@ -9,7 +9,7 @@ use Rattle.std.proofs.lemmas.Bool.Decides.{nat_tests}
 use Rattle.column_set.specs.RecordValues.{RecordFields, lookup_by_key, put_by_key}
 use Rattle.index_derive.specs.Entries.{own_order}
 use Rattle.database_state.specs.Table.{Rows}
-use Rattle.table_store.specs.StoredRows.{StoredRows, stored_rows, with_rows, has_table}
+use Rattle.table_store.specs.StoredRows.{StoredRows, stored_rows, with_rows, without_table, has_table}
 use Rattle.engine_state.specs.EngineState.{record_bytes, stored_record}
 use Rattle.engine_state.proofs.Tests.{same_number}
 
@@ -93,3 +93,51 @@ has_table-new (store ∷ stores) table other =
       | true ↦ refl
       | false ↦ has_table-new stores table other
     ]
+
+-- ---- the tables without one
+
+-- the number is that of the table that goes, or of another
+abbrev stays : ℕ → ℕ × StoredRows → Bool
+stays table store = not (store.0 == table)
+
+rows_gone : (b q : Bool) (own rest : StoredRows) (store : ℕ × StoredRows) (stores : List (ℕ × StoredRows)) (table other : ℕ) → (store.0 == table) ≡ b → (table == other) ≡ q
+    → stored_rows (without_table table stores) other ≡ cond q [] rest
+    → stored_rows (cond (not b) (store ∷ without_table table stores) (without_table table stores)) other ≡ cond q [] (cond (store.0 == other) store.1 rest)
+rows_gone true true own rest store stores table other e f rows = rows
+rows_gone true false own rest store stores table other e f rows =
+    rows ∙ ap (λ b. cond b store.1 rest) (sym (ap (λ n. n == other) (same_number store.0 table e) ∙ f))
+rows_gone false true own rest store stores table other e f rows =
+    ap (λ b. cond b store.1 (stored_rows (without_table table stores) other)) (ap (λ n. store.0 == n) (sym (same_number table other f)) ∙ e) ∙ rows
+rows_gone false false own rest store stores table other e f rows = ap (λ left. cond (store.0 == other) store.1 left) rows
+
+pub stored_rows-without : (stores : List (ℕ × StoredRows)) (table other : ℕ) → stored_rows (without_table table stores) other ≡ cond (table == other) [] (stored_rows stores other)
+stored_rows-without [] table other = elim (table == other) as (λ b. no_rows ≡ cond b no_rows no_rows) [ true ↦ refl | false ↦ refl ]
+stored_rows-without (store ∷ stores) table other =
+    rows_gone (store.0 == table) (table == other) store.1 (stored_rows stores other) store stores table other refl refl (stored_rows-without stores table other)
+
+table_gone : (a b q left there : Bool) (n table other : ℕ) → (n == table) ≡ b → (table == other) ≡ q → (n == other) ≡ a → left ≡ (there && not q) → cond (not b) (a || left) left ≡ ((a || there) && not q)
+table_gone a true true left there n table other e f g h = rw h (none (a || there) there)
+  where
+    none : (x y : Bool) → (y && false) ≡ (x && false)
+    none true true = refl
+    none true false = refl
+    none false true = refl
+    none false false = refl
+table_gone a true false left there n table other e f g h =
+    let off : a ≡ false = sym g ∙ ap (λ m. m == other) (same_number n table e) ∙ f in
+    rw (h, off) refl
+table_gone a false true left there n table other e f g h =
+    let off : a ≡ false = sym g ∙ ap (λ m. n == m) (sym (same_number table other f)) ∙ e in
+    rw (h, off) refl
+table_gone true false false left there n table other e f g h = refl
+table_gone false false false left there n table other e f g h = h
+
+has_table-if : (b : Bool) (store : ℕ × StoredRows) (stores : List (ℕ × StoredRows)) (other : ℕ) → has_table (cond b (store ∷ stores) stores) other ≡ cond b ((store.0 == other) || has_table stores other) (has_table stores other)
+has_table-if true store stores other = refl
+has_table-if false store stores other = refl
+
+pub has_table-without : (stores : List (ℕ × StoredRows)) (table other : ℕ) → has_table (without_table table stores) other ≡ (has_table stores other && not (table == other))
+has_table-without [] table other = refl
+has_table-without (store ∷ stores) table other =
+    has_table-if (not (store.0 == table)) store (without_table table stores) other
+    ∙ table_gone (store.0 == other) (store.0 == table) (table == other) (has_table (without_table table stores) other) (has_table stores other) store.0 table other refl refl refl (has_table-without stores table other)

@@ -47,6 +47,11 @@ abbrev pub levels_in : Option LiveState → ℕ → ℕ
 levels_in None session = 0
 levels_in (Some live) session = if live.label == session then live.levels else 0
 
+-- the table of each open cursor, the last opened first
+abbrev pub open_tables_in : Option LiveState → List ℕ
+open_tables_in None = []
+open_tables_in (Some live) = live.open_tables
+
 -- whether a cursor is open on the table
 abbrev pub has_open : Option LiveState → ℕ → Bool
 has_open None table = false
