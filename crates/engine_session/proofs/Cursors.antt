@@ -1,5 +1,5 @@
 -- What a session's cursors keep beside the engine, cursor by cursor.
-use Rattle.std.proofs.Common.{◌≡◌, ℕ, ◌==◌, Bool, true, false, cond, not, ◌&&◌, ◌||◌, List, [], ◌∷◌, ◌++◌, length, map, find, Option, Some, None, refl, sym, ap, ◌∙◌, subst, is_some, nat_le, if◌then◌else◌}
+use Rattle.std.proofs.Common.{◌≡◌, ℕ, ◌==◌, Bool, true, false, cond, not, ◌&&◌, ◌||◌, List, [], ◌∷◌, ◌++◌, length, map, filter, find, Option, Some, None, refl, sym, ap, ◌∙◌, subst, is_some, nat_le, if◌then◌else◌}
 use Rattle.std.specs.Prelude.{IsTrue}
 use Rattle.std.specs.List.{list_all, AllByRecursion}
 use Rattle.column_set.specs.declared.columns.Column.{Column}
@@ -17,6 +17,7 @@ use Rattle.engine_state.specs.EngineState.{EngineState, has_open}
 use Rattle.engine_state.specs.EngineSteps.{catalog_table}
 use Rattle.engine_state.specs.Represents.{is_built_column, is_built_rule, is_built_schema}
 use Rattle.engine_session.specs.Beside.{IsBeside, is_insert_of_new, is_built_insert}
+use Rattle.engine_session.proofs.Counting.{opened-each}
 
 -- The cursor has the schema of its table, which is in use, and of its updates only inserts are prepared.
 pub record StandsOn (engine : EngineState) (c : OpenCursor) : Type 0 where
@@ -46,6 +47,25 @@ found-tested test picks (x ∷ xs) c all e =
       | true ↦ λ h. let same : x ≡ c = cc in subst (λ y. test y ≡ true) same parts.0
       | false ↦ λ h. found-tested test picks xs c parts.1 h
     ] e
+
+-- ---- some of the cursors
+
+pub filtered-each : (P : OpenCursor → Type 0) (test : OpenCursor → Bool) (cursors : List OpenCursor) → AllByRecursion P cursors → AllByRecursion P (filter test cursors)
+filtered-each P test [] all = tt
+filtered-each P test (x ∷ xs) all =
+    elim (test x) as (λ b. AllByRecursion P (cond b (x ∷ filter test xs) (filter test xs))) [
+      | true ↦ (all.0, filtered-each P test xs all.1)
+      | false ↦ filtered-each P test xs all.1
+    ]
+
+pub filtered-tested : (test keeps : OpenCursor → Bool) (cursors : List OpenCursor) → list_all test cursors ≡ true → list_all test (filter keeps cursors) ≡ true
+filtered-tested test keeps [] all = refl
+filtered-tested test keeps (x ∷ xs) all =
+    let parts : (test x ≡ true) × (list_all test xs ≡ true) = both (test x) (list_all test xs) all in
+    elim (keeps x) as (λ b. list_all test (cond b (x ∷ filter keeps xs) (filter keeps xs)) ≡ true) [
+      | true ↦ joined (test x) (list_all test (filter keeps xs)) parts.0 (filtered-tested test keeps xs parts.1)
+      | false ↦ filtered-tested test keeps xs parts.1
+    ]
 
 -- ---- a cursor in the place of those with its label
 
@@ -99,10 +119,6 @@ tested-each test (x ∷ xs) all =
     let parts : (test x ≡ true) × (list_all test xs ≡ true) = both (test x) (list_all test xs) all in
     (parts.0, tested-each test xs parts.1)
 
-pub each-tested : (P : OpenCursor → Type 0) (test : OpenCursor → Bool) → ((c : OpenCursor) → P c → test c ≡ true) → (cursors : List OpenCursor) → AllByRecursion P cursors → list_all test cursors ≡ true
-each-tested P test also [] all = refl
-each-tested P test also (x ∷ xs) all = joined (test x) (list_all test xs) (also x all.0) (each-tested P test also xs all.1)
-
 -- ---- what is prepared
 
 is_insert-built : (c : OpenCursor) (prepared : Option PreparedUpdate) → is_built_insert c prepared ≡ true → is_insert_of_new prepared ≡ true
@@ -150,13 +166,10 @@ stood engine (c ∷ cs) schemas opened prepared =
     (record { schema = schemas.0; opened = open_parts.0; prepared = is_insert-built c c.prepared prepared_parts.0 }, stood engine cs schemas.1 open_parts.1 prepared_parts.1)
 
 pub stands-beside : (engine : EngineState) (side : SessionSide) → IsBeside engine side → AllByRecursion (StandsOn engine) side.state.cursors
-stands-beside engine side beside = stood engine side.state.cursors beside.schemas beside.opened beside.prepared
+stands-beside engine side beside = stood engine side.state.cursors beside.schemas (opened-each engine.live side.state.cursors beside.opened) beside.prepared
 
 pub schemas-stand : (engine : EngineState) (cursors : List OpenCursor) → AllByRecursion (StandsOn engine) cursors → AllByRecursion (λ c. HasSchemaOf c (catalog_table engine c.cursor.table)) cursors
 schemas-stand engine cursors all = each-also (StandsOn engine) (λ c. HasSchemaOf c (catalog_table engine c.cursor.table)) (λ c stands. stands.schema) cursors all
-
-pub opened-stand : (engine : EngineState) (cursors : List OpenCursor) → AllByRecursion (StandsOn engine) cursors → list_all (λ c. has_open engine.live c.cursor.table) cursors ≡ true
-opened-stand engine cursors all = each-tested (StandsOn engine) (λ c. has_open engine.live c.cursor.table) (λ c stands. stands.opened) cursors all
 
 abbrev pub AreBuilt : EngineState → Type 0
 AreBuilt engine = (id : ℕ) (table : Table) → catalog_table engine id ≡ Some table → IsTrue (is_built_schema (schema_of table))

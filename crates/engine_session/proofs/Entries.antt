@@ -1,7 +1,7 @@
 -- The entries of a session, one after the other: what they make of the engine's session and of the newest state, and when the
 -- session stands beside the engine once they are made.
 use Rattle.std.proofs.Common.{◌≡◌, ℕ, Bool, true, false, ◌||◌, List, [], ◌∷◌, length, map, Option, Some, None, refl, sym, ap, subst, ◌∙◌}
-use Rattle.std.specs.Prelude.{◌==◌, is_none, IsTrue}
+use Rattle.std.specs.Prelude.{is_none, IsTrue}
 use Rattle.std.specs.List.{list_all, AllByRecursion}
 use Rattle.index_derive.specs.declared.log.Entry.{Entry}
 use Rattle.index_derive.specs.declared.log.EntryKind.{EntryKind}
@@ -16,13 +16,13 @@ use Rattle.jet_catalog.specs.Catalog.{CatalogState, IsNumbered}
 use Rattle.session_local.specs.SessionSide.{SessionSide, label_of, are_distinct}
 use Rattle.session_local.specs.Local.{LocalState}
 use Rattle.session_local.specs.Outcome.{Asked, Outcome, entries_of_step, entry_of, one}
-use Rattle.session_local.specs.Agreement.{HasSchemaOf}
+use Rattle.session_local.specs.Agreement.{HasSchemaOf, SameCounts, cursor_table}
 use Rattle.session_local.specs.WellFormed.{IsWellFormed}
 use Rattle.engine_state.specs.SingleSession.{entry_by, newest_after}
-use Rattle.engine_state.specs.EngineState.{EngineState, LiveState, has_open}
-use Rattle.engine_state.specs.EngineSteps.{at_levels, with_open_table, engine_after, engine_after_all, is_live_in, may_take, may_take_all}
+use Rattle.engine_state.specs.EngineState.{EngineState, LiveState, open_tables_in}
+use Rattle.engine_state.specs.EngineSteps.{at_levels, with_open_table, without_open_table, engine_after, engine_after_all, is_live_in, may_take, may_take_all}
 use Rattle.engine_state.specs.Represents.{Represents}
-use Rattle.engine_state.proofs.Tests.{and_left, and_right, self_equal}
+use Rattle.engine_state.proofs.Tests.{and_left, and_right}
 use Rattle.engine_state.proofs.Followed.{newest-after}
 use Rattle.engine_state.proofs.Stepping.{is_single_step-may_take, represents-after, represents-after_all, numbered-after, numbered-after_all}
 use Rattle.engine_state.proofs.ToldTables.{is_built_schema-told}
@@ -46,10 +46,6 @@ pub is_none-at_levels : (change : ℕ → ℕ) (live : Option LiveState) → is_
 is_none-at_levels change None = refl
 is_none-at_levels change (Some live) = refl
 
-pub has_open-at_levels : (change : ℕ → ℕ) (live : Option LiveState) (table : ℕ) → has_open (at_levels change live) table ≡ has_open live table
-has_open-at_levels change None table = refl
-has_open-at_levels change (Some live) table = refl
-
 pub is_live_in-opened : (table : ℕ) (live : Option LiveState) (session : ℕ) → is_live_in (with_open_table table live) session ≡ is_live_in live session
 is_live_in-opened table None session = refl
 is_live_in-opened table (Some live) session = refl
@@ -58,18 +54,17 @@ pub is_none-opened : (table : ℕ) (live : Option LiveState) → is_none (with_o
 is_none-opened table None = refl
 is_none-opened table (Some live) = refl
 
+pub is_live_in-closed : (table : ℕ) (live : Option LiveState) (session : ℕ) → is_live_in (without_open_table table live) session ≡ is_live_in live session
+is_live_in-closed table None session = refl
+is_live_in-closed table (Some live) session = refl
+
+pub is_none-closed : (table : ℕ) (live : Option LiveState) → is_none (without_open_table table live) ≡ is_none live
+is_none-closed table None = refl
+is_none-closed table (Some live) = refl
+
 pub or_right : (a b : Bool) → b ≡ true → (a || b) ≡ true
 or_right true b h = refl
 or_right false b h = h
-
--- the table that was opened is open, and so is each that was
-pub has_open-opened : (table : ℕ) (live : Option LiveState) (session : ℕ) → is_live_in live session ≡ true → has_open (with_open_table table live) table ≡ true
-has_open-opened table None session h = cc
-has_open-opened table (Some live) session h = rw (self_equal table) refl
-
-pub has_open-still : (table other : ℕ) (live : Option LiveState) → has_open live other ≡ true → has_open (with_open_table table live) other ≡ true
-has_open-still table other None h = cc
-has_open-still table other (Some live) h = or_right (table == other) (has_open (Some live) other) h
 
 -- ---- the newest state
 
@@ -94,7 +89,7 @@ pub record Stands (catalog : CatalogState) (live : Option LiveState) (session : 
   pub alone : IsTrue (is_none live || is_live_in live session)
   pub numbers : IsTrue (list_all has_own_numbers catalog.tables)
   pub schemas : AllByRecursion (λ c. HasSchemaOf c (table_with_id catalog.tables c.cursor.table)) local.cursors
-  pub opened : IsTrue (list_all (λ c. has_open live c.cursor.table) local.cursors)
+  pub opened : SameCounts (map cursor_table local.cursors) (open_tables_in live)
   pub prepared : IsTrue (list_all (λ c. is_built_insert c c.prepared) local.cursors)
   pub distinct : are_distinct (map label_of local.cursors) ≡ true
   pub formed : IsWellFormed local

@@ -1,6 +1,7 @@
 pub mod ColumnNumbers
 pub mod SchemaTables
 pub mod SchemaSteps
+pub mod Counting
 pub mod Cursors
 pub mod Moves
 pub mod Leaves

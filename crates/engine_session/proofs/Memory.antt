@@ -16,7 +16,7 @@ use Rattle.cursor_nav.specs.Navigation.{MadeKey, new_cursor}
 use Rattle.cursor_nav.specs.MakingKeys.{begun_key, segment_kind, with_segment}
 use Rattle.cursor_nav.specs.Places.{Pair, least_entry_of}
 use Rattle.database_state.specs.Puts.{put_refusals}
-use Rattle.database_state.specs.SchemaSteps.{table_step, column_step, index_step}
+use Rattle.database_state.specs.SchemaSteps.{table_step, deleted_table_step, column_step, index_step, deleted_index_step}
 use Rattle.database_state.specs.State.{levels}
 use Rattle.database_state.specs.Table.{Table, row_at, rule_with_id, table_named, schema_of, primary_order}
 use Rattle.session_local.specs.declared.request.Request.{Request}
@@ -27,7 +27,7 @@ use Rattle.session_local.specs.Outcome.{Asked, Outcome, said, refused, done, unl
 use Rattle.session_local.specs.Calls.{answer, answer_begun, answer_not_begun}
 use Rattle.session_local.specs.SessionCalls.{begin_session}
 use Rattle.session_local.specs.SchemaCalls.{schema_changed}
-use Rattle.session_local.specs.CursorCalls.{whole, opened, index_chosen_by, set_current_index, current_entries, move_cursor, seek_key, set_index_range, remove_index_range, segment_made, key_made_in, make_key, retrieve_key, get_bookmark, gone_to, goto_bookmark}
+use Rattle.session_local.specs.CursorCalls.{whole, opened, close_table, index_chosen_by, set_current_index, current_entries, move_cursor, seek_key, set_index_range, remove_index_range, segment_made, key_made_in, make_key, retrieve_key, get_bookmark, gone_to, goto_bookmark}
 use Rattle.session_local.specs.RecordCalls.{record_at, current, with_prepared, prepared_refusals, with_sums_at_zero, prepare_insert, cancel_update, on_prepared, on_column, set_column_in, set_column, value_shown, column_shown, retrieve_column, retrieve_copy, bookmark_for, replaced_by, is_primary_changed, put_of, update_with, update}
 use Rattle.session_local.specs.Run.{takes_no_memory}
 use Rattle.engine_session.specs.Built.{is_built_call}
@@ -156,6 +156,8 @@ without P asked (call.CommitTransaction lazy) each built none =
       | true ↦ each _ refl refl
       | false ↦ each _ refl refl
     ])
+without P asked (call.CloseTable cursor) each built none =
+    at_cursor-each P asked (cursor_labelled asked.local cursor.0) (close_table asked) (each _ refl refl) (λ c. each _ refl refl)
 without P asked (call.SetCurrentIndex cursor index) each built none =
     at_cursor-each P asked (cursor_labelled asked.local cursor.0) (λ c. set_current_index asked c index) (each _ refl refl) (λ c. index-each P asked c index each)
 without P asked (call.Move cursor to) each built none =
@@ -257,8 +259,10 @@ taking asked call.BeginTransaction built some =
     (λ reply other. other)
     refl
 taking asked (call.CreateTable table) built some = schema_changed-other asked (table_step asked.state table)
+taking asked (call.DeleteTable table) built some = schema_changed-other asked (deleted_table_step asked.state table)
 taking asked (call.AddColumn table column kind flags) built some = schema_changed-other asked (column_step asked.state table column kind flags)
 taking asked (call.CreateIndex table index flags key_most segments conditions) built some = schema_changed-other asked (index_step asked.state table index flags key_most segments conditions)
+taking asked (call.DeleteIndex table index) built some = schema_changed-other asked (deleted_index_step asked.state table index)
 taking asked (call.OpenTable cursor table) built some =
     unless-other IsOther asked
     ((is_some (cursor_labelled asked.local cursor.0), jet.InvalidTableId) ∷ (nat_le 16 (length asked.local.cursors), jet.OutOfCursors) ∷ [])

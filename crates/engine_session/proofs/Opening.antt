@@ -18,14 +18,15 @@ use Rattle.session_local.specs.Agreement.{HasSchemaOf}
 use Rattle.session_local.specs.Finishing.{opened_cursor}
 use Rattle.session_local.specs.WellFormed.{has_short_keys, is_long_if_sum, is_sum, is_well_formed_cursor, is_well_formed_schema, number_of_column}
 use Rattle.session_local.proofs.Distinct.{are_distinct-push}
-use Rattle.engine_state.specs.EngineState.{EngineState, has_open}
+use Rattle.engine_state.specs.EngineState.{EngineState}
 use Rattle.engine_state.specs.EngineSteps.{is_live_in, with_open_table}
 use Rattle.engine_state.specs.Represents.{Represents, is_built_column, is_built_rule, is_built_schema}
 use Rattle.engine_state.proofs.Tests.{and_left, and_right, and_both, all-append, self_equal}
 use Rattle.engine_state.proofs.SteppingColumns.{all_mono}
 use Rattle.engine_state.proofs.ToldTables.{found-all, found_again, is_built_schema-told}
 use Rattle.engine_session.specs.Beside.{IsBeside, are_in_range, has_own_numbers, is_built_insert, is_given_number}
-use Rattle.engine_session.proofs.Entries.{Stands, has_open-opened, has_open-still, is_live_in-opened, or_right}
+use Rattle.engine_session.proofs.Entries.{Stands, is_live_in-opened, or_right}
+use Rattle.engine_session.proofs.Counting.{counts-opened}
 use Rattle.engine_session.proofs.Cursors.{push-each}
 
 -- ---- a built schema, whose columns have numbers of their own, is well formed
@@ -123,9 +124,7 @@ stands-opened engine state side label name t beside r begun free found =
       alone = or_right (is_none (with_open_table t.id engine.live)) (is_live_in (with_open_table t.id engine.live) side.session) (is_live_in-opened t.id engine.live side.session ∙ live);
       numbers = beside.numbers;
       schemas = push-each (λ c. HasSchemaOf c (table_with_id engine.catalog.tables c.cursor.table)) side.state.cursors new beside.schemas shown;
-      opened = all-append (λ c. has_open (with_open_table t.id engine.live) c.cursor.table) side.state.cursors new
-          (all_mono (λ c. has_open engine.live c.cursor.table) (λ c. has_open (with_open_table t.id engine.live) c.cursor.table) (λ c. has_open-still t.id c.cursor.table engine.live) side.state.cursors beside.opened)
-          (has_open-opened t.id engine.live side.session live);
+      opened = counts-opened engine.live side.session side.state.cursors new live beside.opened;
       prepared = all-append (λ c. is_built_insert c c.prepared) side.state.cursors new beside.prepared refl;
       distinct = are_distinct-push side.state.cursors new beside.distinct (none_of (cursor_labelled side.state label) free);
       formed = all-append is_well_formed_cursor side.state.cursors new beside.formed formed;

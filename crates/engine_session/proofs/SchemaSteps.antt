@@ -1,8 +1,9 @@
--- A call that makes a table, a column or an index leaves the session beside the engine, whatever it is answered.
+-- A schema call that is built leaves the session beside the engine, whatever it is answered.
 use Rattle.std.proofs.Common.{◌≡◌, ℕ, Bool, true, false, not, ◌&&◌, cond, List, [], ◌∷◌, length, Option, Some, None, refl, sym, ap, subst, ◌∙◌, arith}
 use Rattle.std.specs.Prelude.{◌==◌, is_none, option_map, unwrap_or, nat_le, nat_lt, bytes_eq, IsTrue}
-use Rattle.std.specs.List.{list_all}
+use Rattle.std.specs.List.{list_all, list_any}
 use Rattle.std.proofs.lemmas.Bool.Decides.{nat_tests}
+use Rattle.jet_base.specs.declared.ids.IndexId.{IndexId}
 use Rattle.jet_base.specs.declared.replies.Jet.{Jet}
 use Rattle.jet_base.specs.declared.replies.Jet.TheVariants as jet
 use Rattle.jet_base.specs.declared.words.ColType.{ColType}
@@ -20,7 +21,7 @@ use Rattle.database_state.specs.Lawful.{is_live, log_limit}
 use Rattle.database_state.specs.Refusals.{Refusals, first_refusal}
 use Rattle.database_state.specs.SchemaChanges.{new_table, is_in_use, schema_refusal, step_refusals, next_column_id, has_column_id}
 use Rattle.database_state.specs.Step.{state_after}
-use Rattle.database_state.specs.SchemaSteps.{table_step, column_step, index_step, table_or_none, asked_column, asked_index}
+use Rattle.database_state.specs.SchemaSteps.{table_step, deleted_table_step, column_step, index_step, index_id_named, deleted_index_step, table_or_none, asked_column, asked_index}
 use Rattle.jet_catalog.specs.Catalog.{CatalogState, IsNumbered, without_rows, ids_rise}
 use Rattle.session_local.specs.declared.request.Request.{Request}
 use Rattle.session_local.specs.declared.request.Request.TheVariants as call
@@ -37,8 +38,10 @@ use Rattle.engine_state.specs.Represents.{Represents, is_built_schema}
 use Rattle.engine_state.proofs.Tests.{and_left, and_right, and_both}
 use Rattle.engine_state.proofs.ToldTables.{found_again}
 use Rattle.engine_state.proofs.SteppingTables.{table_with_id-without_rows, ids_rise-without_rows}
+use Rattle.engine_state.proofs.Primary.{index_is_primary}
 use Rattle.engine_session.specs.Beside.{IsBeside, StaysBeside, are_fitting, has_fitting_records, asked_of}
 use Rattle.engine_session.proofs.ColumnNumbers.{HasNextNumber}
+use Rattle.engine_session.proofs.Counting.{opened-each}
 use Rattle.engine_session.proofs.SchemaTables.{IsNextStep, numbers-after, fitting-after, schemas-after}
 
 -- What the laws of the engine's state tell of a session, of its tables, and of an entry.
@@ -52,11 +55,13 @@ pub record EngineLaws : Type 0 where
       → Represents session (engine_after engine (entry_by session kind)) (state_after state (entry_by session kind))
   pub numbered : (session : ℕ) (engine : EngineState) (kind : EntryKind) → IsNumbered engine.catalog → IsTrue (may_take engine session kind) → IsNumbered (engine_after engine (entry_by session kind)).catalog
 
--- whether the call makes a table, a column or an index
+-- whether it is a schema call that is built
 abbrev pub makes_schema : Request → Bool
 makes_schema (call.CreateTable table) = true
+makes_schema (call.DeleteTable table) = true
 makes_schema (call.AddColumn table column kind flags) = true
 makes_schema (call.CreateIndex table index flags key_most segments conditions) = true
+makes_schema (call.DeleteIndex table index) = true
 makes_schema _ = false
 
 -- a session that stands beside the engine, of a state whose records fit
@@ -122,7 +127,7 @@ stays_stepped laws engine state side reply made s next may full =
         ids = laws.numbered side.session engine (entry.Schema made) b.ids may;
         numbers = numbers-after engine made b.ids next b.numbers;
         built = λ id table. laws.built side.session after new id table represents;
-        schemas = schemas-after engine made next side.state.cursors b.opened b.schemas;
+        schemas = schemas-after engine made next side.state.cursors (opened-each engine.live side.state.cursors b.opened) b.schemas;
         opened = b.opened;
         prepared = b.prepared;
         reply = full;
@@ -187,6 +192,28 @@ index_passed state session t rule h =
     let found = table_with_id state.tables t.id in
     let passed = passed_three (not (levels state session == 0)) (is_none found) (is_in_use state session found) (step_refusals state (unwrap_or found (new_table 0 [])) (step.CreateIndex (record { 0 = t.id }) rule)) h in
     record { there = passed.0; unused = passed.1; rest = passed.2 }
+
+deleted_table_passed : (state : DatabaseState) (session : ℕ) (t : Table) → schema_refusal state session (step.DeleteTable (record { 0 = t.id })) ≡ None
+    → NotRefused state session (table_with_id state.tables t.id) (step_refusals state (unwrap_or (table_with_id state.tables t.id) (new_table 0 [])) (step.DeleteTable (record { 0 = t.id })))
+unfolding schema_refusal
+deleted_table_passed state session t h =
+    let found = table_with_id state.tables t.id in
+    let passed = passed_three (not (levels state session == 0)) (is_none found) (is_in_use state session found) (step_refusals state (unwrap_or found (new_table 0 [])) (step.DeleteTable (record { 0 = t.id }))) h in
+    record { there = passed.0; unused = passed.1; rest = passed.2 }
+
+deleted_index_passed : (state : DatabaseState) (session : ℕ) (t : Table) (index : IndexId) → schema_refusal state session (step.DeleteIndex (record { 0 = t.id }) index) ≡ None
+    → NotRefused state session (table_with_id state.tables t.id) (step_refusals state (unwrap_or (table_with_id state.tables t.id) (new_table 0 [])) (step.DeleteIndex (record { 0 = t.id }) index))
+unfolding schema_refusal
+deleted_index_passed state session t index h =
+    let found = table_with_id state.tables t.id in
+    let passed = passed_three (not (levels state session == 0)) (is_none found) (is_in_use state session found) (step_refusals state (unwrap_or found (new_table 0 [])) (step.DeleteIndex (record { 0 = t.id }) index)) h in
+    record { there = passed.0; unused = passed.1; rest = passed.2 }
+
+-- an index that is there and primary is refused
+never_passed : (there primary : Bool) → primary ≡ there → first_refusal ((not there, jet.IndexNotFound) ∷ (primary, jet.IndexMustStay) ∷ []) ≡ None → ⊥
+never_passed true true same h = cc
+never_passed true false same h = cc
+never_passed false primary same h = cc
 
 -- the last of five refusals
 passed_last : (a b c d has : Bool)
@@ -268,6 +295,27 @@ next-index laws engine state side table rule s h =
     let passed = index_passed state side.session t (rule t) h in
     closed laws side.session engine state t s.represents (again side.session engine state table s.represents s.beside.ids passed.there) passed.unused
 
+next-deleted_table : EngineLaws → (engine : EngineState) (state : DatabaseState) (side : SessionSide) (table : List ℕ) → Stands engine state side
+    → schema_refusal state side.session (deleted_table_step state table) ≡ None → IsNextStep engine (deleted_table_step state table)
+next-deleted_table laws engine state side table s h =
+    let t = table_or_none state table in
+    let passed = deleted_table_passed state side.session t h in
+    closed laws side.session engine state t s.represents (again side.session engine state table s.represents s.beside.ids passed.there) passed.unused
+
+-- each index is the primary one, and stays
+next-deleted_index : EngineLaws → (engine : EngineState) (state : DatabaseState) (side : SessionSide) (table index : List ℕ) → Stands engine state side
+    → schema_refusal state side.session (deleted_index_step state table index) ≡ None → IsNextStep engine (deleted_index_step state table index)
+next-deleted_index laws engine state side table index s h =
+    let t = table_or_none state table in
+    let id : IndexId = record { 0 = index_id_named t.indexes index } in
+    let passed = deleted_index_passed state side.session t id h in
+    let found = again side.session engine state table s.represents s.beside.ids passed.there in
+    let rest : first_refusal (step_refusals state t (step.DeleteIndex (record { 0 = t.id }) id)) ≡ None =
+    ap (λ (o : Option Table). first_refusal (step_refusals state (unwrap_or o (new_table 0 [])) (step.DeleteIndex (record { 0 = t.id }) id))) (sym found) ∙ passed.rest
+    in
+    let built : is_built_schema (schema_of t) ≡ true = laws.built side.session engine state t.id (without_rows t) s.represents (in_catalog side.session engine state t s.represents found) in
+    never_passed (list_any (λ rule. rule.id.0 == id.0) t.indexes) (list_any (λ rule. (rule.id.0 == id.0) && rule.flags.primary) t.indexes) (index_is_primary t id.0 built) rest
+
 -- ---- the calls
 
 answer-begun : (asked : Asked) (request : Request) → asked.local.begun ≡ true → answer asked request ≡ answer_begun asked request
@@ -278,7 +326,7 @@ begun_by : (b local : Bool) → elim b [ true ↦ local | false ↦ true ] ≡ f
 begun_by true local h = refl
 begun_by false local h = cc
 
--- A call that makes a table, a column or an index, and that the session does not answer by itself, leaves it beside the engine.
+-- A schema call that is built, and that the session does not answer by itself, leaves it beside the engine.
 pub schema_calls_stay : EngineLaws → (engine : EngineState) (state : DatabaseState) (side : SessionSide) (request : Request) (reply : List ℕ)
     → IsBeside engine side → Represents side.session engine state → IsTrue (are_fitting state)
     → makes_schema request ≡ true → is_answered_locally side.state request ≡ false
@@ -287,6 +335,10 @@ pub schema_calls_stay : EngineLaws → (engine : EngineState) (state : DatabaseS
     → StaysBeside engine state side (answer (asked_of engine state side) request) reply
 schema_calls_stay laws engine state side (call.CreateTable table) reply b r f makes local =
     stays_changed laws engine state side reply (table_step state table) _ (answer-begun (asked_of engine state side) _ (begun_by side.state.begun false local)) (record { beside = b; represents = r; fitting = f }) (λ h. tt)
+schema_calls_stay laws engine state side (call.DeleteTable table) reply b r f makes local =
+    let s : Stands engine state side = record { beside = b; represents = r; fitting = f } in
+    stays_changed laws engine state side reply (deleted_table_step state table) _ (answer-begun (asked_of engine state side) _ (begun_by side.state.begun false local)) s
+    (next-deleted_table laws engine state side table s)
 schema_calls_stay laws engine state side (call.AddColumn table column kind flags) reply b r f makes local =
     let s : Stands engine state side = record { beside = b; represents = r; fitting = f } in
     stays_changed laws engine state side reply (column_step state table column kind flags) _ (answer-begun (asked_of engine state side) _ (begun_by side.state.begun false local)) s
@@ -295,4 +347,8 @@ schema_calls_stay laws engine state side (call.CreateIndex table index flags key
     let s : Stands engine state side = record { beside = b; represents = r; fitting = f } in
     stays_changed laws engine state side reply (index_step state table index flags key_most segments conditions) _ (answer-begun (asked_of engine state side) _ (begun_by side.state.begun false local)) s
     (next-index laws engine state side table (λ t. asked_index t index flags key_most segments conditions) s)
+schema_calls_stay laws engine state side (call.DeleteIndex table index) reply b r f makes local =
+    let s : Stands engine state side = record { beside = b; represents = r; fitting = f } in
+    stays_changed laws engine state side reply (deleted_index_step state table index) _ (answer-begun (asked_of engine state side) _ (begun_by side.state.begun false local)) s
+    (next-deleted_index laws engine state side table index s)
 schema_calls_stay laws engine state side _ reply b r f makes local = cc

@@ -1,5 +1,5 @@
 -- The tables after a schema step: columns have numbers of their own, records fit, and what is open stays as it is.
-use Rattle.std.proofs.Common.{◌≡◌, ℕ, Bool, true, false, not, ◌||◌, cond, List, [], ◌∷◌, ◌++◌, Option, Some, None, refl, ap, subst, ◌∙◌, arith}
+use Rattle.std.proofs.Common.{◌≡◌, ℕ, Bool, true, false, not, ◌||◌, cond, List, [], ◌∷◌, ◌++◌, Option, Some, None, refl, sym, ap, subst, ◌∙◌, arith}
 use Rattle.std.specs.Prelude.{◌==◌, if◌then◌else◌}
 use Rattle.std.specs.List.{list_all, AllByRecursion}
 use Rattle.std.proofs.lemmas.Bool.Decides.{nat_tests}
@@ -17,17 +17,17 @@ use Rattle.engine_state.specs.EngineSteps.{catalog_table, may_make}
 use Rattle.engine_state.specs.Represents.{is_built_column}
 use Rattle.engine_state.proofs.Tests.{and_left, and_right, and_both, same_number, all-append}
 use Rattle.engine_state.proofs.SteppingColumns.{all_mono}
-use Rattle.engine_state.proofs.SteppingTables.{all-with_table}
+use Rattle.engine_state.proofs.SteppingTables.{all-with_table, all-gone, table_with_id-gone}
 use Rattle.engine_session.specs.Beside.{has_own_numbers, has_fitting_records}
 use Rattle.engine_session.proofs.ColumnNumbers.{HasNextNumber, has_own_numbers-with_column}
 
--- What no refusal tells of a step: its table is not open, and a new column has the next number.
+-- What no refusal tells of a step: its table is not open, and a new column has the next number. A built index is never deleted.
 abbrev pub IsNextStep : EngineState → SchemaStep → Type 0
 IsNextStep engine (step.CreateTable table name) = Unit {0}
 IsNextStep engine (step.AddColumn table column) =
     (has_open engine.live table.0 ≡ false) × ((t : Table) → catalog_table engine table.0 ≡ Some t → HasNextNumber t.greatest column)
 IsNextStep engine (step.CreateIndex table rule) = has_open engine.live table.0 ≡ false
-IsNextStep engine (step.DeleteTable table) = ⊥
+IsNextStep engine (step.DeleteTable table) = has_open engine.live table.0 ≡ false
 IsNextStep engine (step.DeleteColumn table column) = ⊥
 IsNextStep engine (step.DeleteIndex table index) = ⊥
 
@@ -53,7 +53,7 @@ numbers-after engine (step.AddColumn table column) ids next h =
     all-with_table has_own_numbers has_own_numbers table.0 (with_column column) (λ t own. own) 0 engine.catalog.greatest_table engine.catalog.tables ids h
     (λ t found own. has_own_numbers-with_column t column (next.1 t found) own)
 numbers-after engine (step.CreateIndex table rule) ids next h = all-changed has_own_numbers table.0 (with_index rule) (λ t own. own) engine.catalog.tables h
-numbers-after engine (step.DeleteTable table) ids next h = absurd next
+numbers-after engine (step.DeleteTable table) ids next h = all-gone has_own_numbers (λ t. not (t.id == table.0)) engine.catalog.tables h
 numbers-after engine (step.DeleteColumn table column) ids next h = absurd next
 numbers-after engine (step.DeleteIndex table index) ids next h = absurd next
 
@@ -101,7 +101,7 @@ pub fitting-after : (engine : EngineState) (made : SchemaStep) → may_make engi
 fitting-after engine (step.CreateTable table name) may tables h = all-append has_fitting_records tables (new_table table.0 name) h refl
 fitting-after engine (step.AddColumn table column) may tables h = all-changed has_fitting_records table.0 (with_column column) (fitting-with_column column may) tables h
 fitting-after engine (step.CreateIndex table rule) may tables h = all-changed has_fitting_records table.0 (with_index rule) (λ t own. own) tables h
-fitting-after engine (step.DeleteTable table) may tables h = cc
+fitting-after engine (step.DeleteTable table) may tables h = all-gone has_fitting_records (λ t. not (t.id == table.0)) tables h
 fitting-after engine (step.DeleteColumn table column) may tables h = cc
 fitting-after engine (step.DeleteIndex table index) may tables h = cc
 
@@ -146,7 +146,11 @@ schema-after engine (step.AddColumn table column) c next opened h =
     subst (HasSchemaOf c) (same_beside table.0 (with_column column) (λ t. refl) c.cursor.table (open_apart engine.live table.0 c.cursor.table next.0 opened) engine.catalog.tables) h
 schema-after engine (step.CreateIndex table rule) c next opened h =
     subst (HasSchemaOf c) (same_beside table.0 (with_index rule) (λ t. refl) c.cursor.table (open_apart engine.live table.0 c.cursor.table next opened) engine.catalog.tables) h
-schema-after engine (step.DeleteTable table) c next opened h = absurd next
+schema-after engine (step.DeleteTable table) c next opened h =
+    let still : table_with_id engine.catalog.tables c.cursor.table ≡ table_with_id (tables_after_step engine.catalog.tables (step.DeleteTable table)) c.cursor.table =
+    sym (table_with_id-gone engine.catalog.tables table.0 c.cursor.table
+    ∙ ap (λ b. cond b None (table_with_id engine.catalog.tables c.cursor.table)) (open_apart engine.live table.0 c.cursor.table next opened)) in
+    subst (HasSchemaOf c) still h
 schema-after engine (step.DeleteColumn table column) c next opened h = absurd next
 schema-after engine (step.DeleteIndex table index) c next opened h = absurd next
 

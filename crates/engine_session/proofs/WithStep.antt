@@ -1,5 +1,5 @@
 -- A call that makes a step, and that is no schema call, leaves the session beside the engine.
-use Rattle.std.proofs.Common.{◌≡◌, ℕ, ◌+◌, ◌-◌, true, false, ◌&&◌, List, [], ◌∷◌, ◌++◌, length, Option, Some, None, is_some, refl, sym, ap, ◌∙◌, if◌then◌else◌}
+use Rattle.std.proofs.Common.{◌≡◌, ℕ, ◌+◌, ◌-◌, true, false, ◌&&◌, List, [], ◌∷◌, ◌++◌, length, Option, Some, None, is_some, refl, sym, ap, subst, ◌∙◌, if◌then◌else◌}
 use Rattle.std.specs.Prelude.{◌==◌, not, nat_le, nat_lt, IsTrue}
 use Rattle.jet_base.specs.declared.replies.Jet.{Jet}
 use Rattle.jet_base.specs.declared.replies.Jet.TheVariants as jet
@@ -21,11 +21,12 @@ use Rattle.session_local.specs.Agreement.{HasSchemaOf}
 use Rattle.session_local.specs.Local.{OpenCursor, PreparedUpdate, cursor_labelled, with_new_cursor, without_prepared}
 use Rattle.session_local.specs.Outcome.{Asked, Outcome, done, entries_of_step, entry_of, is_outside, number_refusals, on_cursor, one, refused, rows_seen, span_refusals, step_of_change}
 use Rattle.session_local.specs.SessionCalls.{begin_session, begin_transaction, commit_transaction}
-use Rattle.session_local.specs.CursorCalls.{get_bookmark, goto_bookmark, move_cursor, open_table, opened, retrieve_key, seek_key, set_current_index, set_index_range, whole}
+use Rattle.session_local.specs.CursorCalls.{close_table, get_bookmark, goto_bookmark, move_cursor, open_table, opened, retrieve_key, seek_key, set_current_index, set_index_range, whole}
 use Rattle.session_local.specs.RecordCalls.{bookmark_for, copied_in, is_primary_changed, on_prepared, put_of, replaced_by, retrieve_column, update, update_with, with_prepared}
 use Rattle.session_local.specs.Calls.{answer, answer_begun, answer_not_begun}
 use Rattle.session_local.specs.LocalCalls.{is_answered_begun, is_answered_locally, is_begin}
 use Rattle.session_local.specs.Finishing.{opened_cursor}
+use Rattle.session_local.proofs.Labels.{labelled}
 use Rattle.session_local.proofs.Outcomes.{on_cursor-all, unless-all}
 use Rattle.engine_state.specs.EngineState.{EngineState, has_open}
 use Rattle.engine_state.specs.EngineSteps.{at_levels, catalog_table, may_take_all}
@@ -37,8 +38,9 @@ use Rattle.engine_session.specs.Beside.{IsBeside, StaysBeside, are_fitting, aske
 use Rattle.engine_session.proofs.SchemaSteps.{makes_schema}
 use Rattle.engine_session.proofs.Entries.{stays_by}
 use Rattle.engine_session.proofs.Cursors.{found-each}
+use Rattle.engine_session.proofs.Counting.{opened-each}
 use Rattle.engine_session.proofs.Opening.{stands-opened}
-use Rattle.engine_session.proofs.Standing.{stands-at_levels, stands-begun, stands-now, stands-with_cursor, stands-without_prepared}
+use Rattle.engine_session.proofs.Standing.{stands-at_levels, stands-begun, stands-closed, stands-now, stands-with_cursor, stands-without_prepared}
 use Rattle.engine_session.proofs.Putting.{fitting-put}
 use Rattle.engine_session.proofs.NoStep.{MakesNone, get_bookmark-none, goto_bookmark-none, retrieve_column-none, retrieve_key-none, set_current_index-none}
 
@@ -120,6 +122,20 @@ open_table-stays engine state side reply label name beside r fits begun free =
     (λ _. opened asked label (table_named state.tables name)) (refusal engine state side reply)
     (opened-stays engine state side reply label name (table_named state.tables name) beside r fits begun free refl)
 
+-- ---- CloseTable
+
+close_table-stays : (engine : EngineState) (state : DatabaseState) (side : SessionSide) (reply : List ℕ) (cursor : CursorId) → IsBeside engine side → Represents side.session engine state → IsTrue (are_fitting state)
+    → Stays engine state side reply (on_cursor (asked_of engine state side) (cursor_labelled side.state cursor.0) (close_table (asked_of engine state side)))
+close_table-stays engine state side reply cursor beside r fits =
+    let asked = asked_of engine state side in
+    on_cursor-all (Stays engine state side reply) asked (cursor_labelled side.state cursor.0) (close_table asked) (refusal engine state side reply jet.InvalidTableId)
+    (λ c found some may bytes.
+    let own : cursor_labelled side.state c.label ≡ Some c = subst (λ l. cursor_labelled side.state l ≡ Some c) (sym (labelled cursor.0 side.state.cursors c found)) found in
+    let is_open : has_open engine.live c.cursor.table ≡ true =
+    found-all (λ o. o.label == cursor.0) (λ c. has_open engine.live c.cursor.table) side.state.cursors c (opened-each engine.live side.state.cursors beside.opened) found in
+    stays_by engine state side (close_table asked c) reply (entry.Shut (record { 0 = c.cursor.table }) ∷ []) beside r refl may
+    (stands-closed engine.catalog engine.live side.session side.state c.label c own is_open (stands-now engine side beside)) fits bytes)
+
 -- ---- Update
 
 on_prepared-at : (P : Outcome → Type 0) (asked : Asked) (prepared : Option PreparedUpdate) (next : PreparedUpdate → Outcome) → ((reply : Jet) → P (refused asked reply)) → ((p : PreparedUpdate) → prepared ≡ Some p → P (next p)) → P (on_prepared asked prepared next)
@@ -139,9 +155,8 @@ update_with-stays engine state side reply label c p beside r fits found prepared
     let put : Change = put_of asked c p bookmark in
     let own : is_built_insert c (Some p) ≡ true = sym (ap (is_built_insert c) prepared) ∙ found-all (λ o. o.label == label) (λ c. is_built_insert c c.prepared) side.state.cursors c beside.prepared found in
     let has : HasSchemaOf c (catalog_table engine c.cursor.table) = found-each (λ c. HasSchemaOf c (catalog_table engine c.cursor.table)) (λ o. o.label == label) side.state.cursors c beside.schemas found in
-    let is_open : has_open engine.live c.cursor.table ≡ true = found-all (λ o. o.label == label) (λ c. has_open engine.live c.cursor.table) side.state.cursors c beside.opened found in
     let fitting = fitting-put side.session engine state c bookmark (copied_in (rows_seen asked c) p.for) p.values r beside.ids has fits (fits_of c p own) in
-    let ended = stands-with_cursor engine.catalog engine.live side.session side.state label c found is_open (stands-now engine side beside) in
+    let ended = stands-with_cursor engine.catalog engine.live side.session side.state label c found (stands-now engine side beside) in
     unless-all (Stays engine state side reply) asked
     ((is_missing_a_value c.schema.columns p.values, jet.NullInvalid)
     ∷ (is_primary_changed c.schema p.for p.values, jet.RecordPrimaryChanged)
@@ -181,6 +196,7 @@ begun-stays engine state side reply call.BeginSession beside r fits built other 
 begun-stays engine state side reply call.BeginTransaction beside r fits built other begun shared = begin_transaction-stays engine state side reply beside r fits
 begun-stays engine state side reply (call.CommitTransaction lazy) beside r fits built other begun shared = commit_transaction-stays engine state side reply beside r fits
 begun-stays engine state side reply (call.OpenTable cursor table) beside r fits built other begun shared = open_table-stays engine state side reply cursor.0 table beside r fits begun shared
+begun-stays engine state side reply (call.CloseTable cursor) beside r fits built other begun shared = close_table-stays engine state side reply cursor beside r fits
 begun-stays engine state side reply (call.Update cursor) beside r fits built other begun shared = update-stays engine state side reply cursor beside r fits
 begun-stays engine state side reply (call.Move cursor way) beside r fits built other begun shared = at_cursor-no_step engine state side reply cursor (λ c. move_cursor (asked_of engine state side) c way) (λ c. refl)
 begun-stays engine state side reply (call.Seek cursor by) beside r fits built other begun shared = at_cursor-no_step engine state side reply cursor (λ c. seek_key (asked_of engine state side) c by) (λ c. refl)
@@ -198,8 +214,10 @@ begun-stays engine state side reply (call.SetColumn cursor column sequence value
 begun-stays engine state side reply (call.MakeKey cursor fresh value) beside r fits built other begun shared = absurd (cc)
 begun-stays engine state side reply (call.RemoveIndexRange cursor) beside r fits built other begun shared = absurd (cc)
 begun-stays engine state side reply (call.CreateTable table) beside r fits built other begun shared = absurd (cc)
+begun-stays engine state side reply (call.DeleteTable table) beside r fits built other begun shared = absurd (cc)
 begun-stays engine state side reply (call.AddColumn table column kind flags) beside r fits built other begun shared = absurd (cc)
 begun-stays engine state side reply (call.CreateIndex table index flags key_most segments conditions) beside r fits built other begun shared = absurd (cc)
+begun-stays engine state side reply (call.DeleteIndex table index) beside r fits built other begun shared = absurd (cc)
 begun-stays engine state side reply _ beside r fits built other begun shared = absurd (cc)
 
 not_begun-stays : (engine : EngineState) (state : DatabaseState) (side : SessionSide) (reply : List ℕ) (request : Request) → IsBeside engine side → Represents side.session engine state → IsTrue (are_fitting state)

@@ -1,5 +1,5 @@
 -- A built call without a step leaves the session's own state beside the engine.
-use Rattle.std.proofs.Common.{◌≡◌, ℕ, ◌==◌, ◌++◌, Bool, true, false, not, ◌&&◌, ◌||◌, nat_le, nat_lt, List, [], ◌∷◌, length, find, slice_get, Option, Some, None, refl, sym, ap, ◌∙◌, subst, is_some, is_none, if◌then◌else◌}
+use Rattle.std.proofs.Common.{◌≡◌, ℕ, ◌==◌, ◌++◌, Bool, true, false, not, ◌&&◌, ◌||◌, nat_le, nat_lt, List, [], ◌∷◌, length, map, find, slice_get, Option, Some, None, refl, sym, ap, ◌∙◌, subst, is_some, is_none, if◌then◌else◌}
 use Rattle.std.specs.Prelude.{IsTrue, bytes_eq}
 use Rattle.std.specs.List.{AllByRecursion}
 use Rattle.jet_base.specs.declared.replies.Jet.{Jet}
@@ -23,17 +23,17 @@ use Rattle.record_edit.specs.SetColumn.{set_refusals, size_refusals, fields_afte
 use Rattle.database_state.specs.Table.{Table, row_at, schema_of, primary_order, rule_with_id, table_named}
 use Rattle.database_state.specs.State.{DatabaseState, levels}
 use Rattle.database_state.specs.SchemaChanges.{schema_refusal}
-use Rattle.database_state.specs.SchemaSteps.{table_step, column_step, index_step}
+use Rattle.database_state.specs.SchemaSteps.{table_step, deleted_table_step, column_step, index_step, deleted_index_step}
 use Rattle.database_state.specs.Puts.{put_refusals}
 use Rattle.session_local.specs.declared.request.Request.{Request}
 use Rattle.session_local.specs.declared.request.Request.TheVariants as call
-use Rattle.session_local.specs.SessionSide.{SessionSide}
+use Rattle.session_local.specs.SessionSide.{SessionSide, label_of, are_distinct}
 use Rattle.session_local.specs.Answer.{ShownValue, Nothing}
-use Rattle.session_local.specs.Local.{LocalState, OpenCursor, PreparedUpdate, inserting, cursor_labelled, with_cursor, with_new_cursor, without_prepared, place_key, place_bookmark}
+use Rattle.session_local.specs.Local.{LocalState, OpenCursor, PreparedUpdate, inserting, cursor_labelled, with_cursor, with_new_cursor, without_cursor, without_prepared, place_key, place_bookmark}
 use Rattle.session_local.specs.Outcome.{Asked, Outcome, said, refused, done, navigated, unless, on_cursor, one, entry_of, step_of_change, rows_seen, entries_seen, is_outside, number_refusals, current_refusals, span_refusals}
 use Rattle.session_local.specs.SessionCalls.{begin_session, begin_transaction, commit_transaction}
 use Rattle.session_local.specs.SchemaCalls.{schema_changed}
-use Rattle.session_local.specs.CursorCalls.{whole, opened, open_table, index_chosen, index_chosen_by, set_current_index, current_entries, move_cursor, seek_key, set_index_range, remove_index_range, segment_made, key_made_in, make_key, retrieve_key, get_bookmark, gone_to, goto_bookmark}
+use Rattle.session_local.specs.CursorCalls.{whole, opened, open_table, close_table, index_chosen, index_chosen_by, set_current_index, current_entries, move_cursor, seek_key, set_index_range, remove_index_range, segment_made, key_made_in, make_key, retrieve_key, get_bookmark, gone_to, goto_bookmark}
 use Rattle.session_local.specs.RecordCalls.{record_at, current, with_prepared, prepared_refusals, with_sums_at_zero, prepare_insert, cancel_update, on_prepared, on_column, set_column_in, set_column, column_shown, retrieve_column, retrieve_copy, bookmark_for, is_primary_changed, put_of, replaced_by, update_with, update}
 use Rattle.session_local.specs.Calls.{answer, answer_begun, answer_not_begun, is_always_local}
 use Rattle.session_local.specs.LocalCalls.{is_answered_locally}
@@ -52,6 +52,7 @@ use Rattle.engine_session.proofs.Leaves.{LeavesStill, Leaves, leaves-itself, lea
 record Standing (engine : EngineState) (asked : Asked) : Type 0 where
   each : AllByRecursion (StandsOn engine) asked.local.cursors
   formed : IsWellFormed asked.local
+  distinct : are_distinct (map label_of asked.local.cursors) ≡ true
 
 -- ---- outcomes that leave all as it is, and outcomes with a step
 
@@ -74,19 +75,19 @@ changed-left engine formed old new shown false x y none = absurd (cc)
 moved-left : (engine : EngineState) (formed : Bool) (asked : Asked) (label : ℕ) (c : OpenCursor) (new : CursorState) (reply : Jet) → Standing engine asked → cursor_labelled asked.local label ≡ Some c → StaysIn c.cursor new
     → LeavesStill engine formed asked.local (navigated asked c (record { jet = reply; cursor = new }))
 moved-left engine formed asked label c new reply s found stays none =
-    leaves-cursor engine formed asked.local label c (record c { cursor = new }) s.each s.formed found (follows-moved c new stays) (λ e h. h)
+    leaves-cursor engine formed asked.local label c (record c { cursor = new }) s.each s.formed s.distinct found (follows-moved c new stays) (λ e h. h)
 
 chosen-left : (engine : EngineState) (formed : Bool) (asked : Asked) (label : ℕ) (c : OpenCursor) (index : ℕ) → Standing engine asked → cursor_labelled asked.local label ≡ Some c → has_index c.schema index ≡ true
     → LeavesStill engine formed asked.local (index_chosen asked c index)
 chosen-left engine formed asked label c index s found there none =
     let entries = entries_seen asked c index in
-    leaves-cursor engine formed asked.local label c (record c { cursor = index_set c.cursor entries index }) s.each s.formed found (follows-index_set c entries index there) (λ e h. h)
+    leaves-cursor engine formed asked.local label c (record c { cursor = index_set c.cursor entries index }) s.each s.formed s.distinct found (follows-index_set c entries index there) (λ e h. h)
 
 -- what is prepared on it is an insert, or nothing
 prepared-left : (engine : EngineState) (asked : Asked) (label : ℕ) (c : OpenCursor) (prepared : Option PreparedUpdate) (shown : ShownValue) → Standing engine asked → cursor_labelled asked.local label ≡ Some c
     → (is_insert_of_new c.prepared ≡ true → is_insert_of_new prepared ≡ true) → LeavesStill engine false asked.local (done (with_prepared asked c prepared) shown None)
 prepared-left engine asked label c prepared shown s found new none =
-    leaves-cursor engine false asked.local label c (record c { prepared = prepared }) s.each s.formed found
+    leaves-cursor engine false asked.local label c (record c { prepared = prepared }) s.each s.formed s.distinct found
     (record { label = refl; schema = refl; table = refl; index = λ h. h; prepared = new })
     (λ e h. absurd (cc))
 
@@ -157,6 +158,9 @@ open-left engine formed asked label name s =
     (λ _. opened asked label (table_named asked.state.tables name))
     (refused-left engine formed asked s)
     (opened-left engine formed asked label (table_named asked.state.tables name) s)
+
+closed-left : (engine : EngineState) (formed : Bool) (asked : Asked) (c : OpenCursor) → LeavesStill engine formed asked.local (close_table asked c)
+closed-left engine formed asked c = stepped-left engine formed asked.local (without_cursor asked.local c.label) Nothing (One (entry_of asked (entry.Shut (record { 0 = c.cursor.table }))))
 
 chosen_by-left : (engine : EngineState) (formed : Bool) (asked : Asked) (label : ℕ) (c : OpenCursor) (test : IndexRule → Bool) (rule : Option IndexRule) → Standing engine asked → cursor_labelled asked.local label ≡ Some c → find test c.schema.indexes ≡ rule
     → LeavesStill engine formed asked.local (index_chosen_by asked c rule)
@@ -306,9 +310,12 @@ begun-left engine asked call.BeginSession s h = begin-left engine true asked s
 begun-left engine asked call.BeginTransaction s h = transaction-left engine true asked s
 begun-left engine asked (call.CommitTransaction lazy) s h = commit-left engine true asked s
 begun-left engine asked (call.CreateTable table) s h = schema-left engine true asked (table_step asked.state table) s
+begun-left engine asked (call.DeleteTable table) s h = schema-left engine true asked (deleted_table_step asked.state table) s
 begun-left engine asked (call.AddColumn table column kind flags) s h = schema-left engine true asked (column_step asked.state table column kind flags) s
 begun-left engine asked (call.CreateIndex table index flags key_most segments conditions) s h = schema-left engine true asked (index_step asked.state table index flags key_most segments conditions) s
+begun-left engine asked (call.DeleteIndex table index) s h = schema-left engine true asked (deleted_index_step asked.state table index) s
 begun-left engine asked (call.OpenTable cursor table) s h = open-left engine true asked cursor.0 table s
+begun-left engine asked (call.CloseTable cursor) s h = at-left engine true asked cursor.0 (close_table asked) s (λ c found. closed-left engine true asked c)
 begun-left engine asked (call.SetCurrentIndex cursor index) s h = at-left engine true asked cursor.0 (λ c. set_current_index asked c index) s (λ c found. index-left engine true asked cursor.0 c index s found)
 begun-left engine asked (call.Move cursor to) s h =
     at-left engine true asked cursor.0 (λ c. move_cursor asked c to) s
@@ -353,7 +360,7 @@ answered-left engine asked request s h =
 -- ---- beside the engine
 
 standing : (engine : EngineState) (state : DatabaseState) (side : SessionSide) → IsBeside engine side → Standing engine (asked_of engine state side)
-standing engine state side beside = record { each = stands-beside engine side beside; formed = beside.formed }
+standing engine state side beside = record { each = stands-beside engine side beside; formed = beside.formed; distinct = beside.distinct }
 
 both_ways : (b : Bool) → elim b [ true ↦ true | false ↦ true ] ≡ false → ⊥
 both_ways true h = cc

@@ -11,9 +11,9 @@ use Rattle.jet_catalog.specs.Catalog.{IsNumbered}
 use Rattle.session_local.specs.SessionSide.{SessionSide, label_of, are_distinct}
 use Rattle.session_local.specs.Local.{OpenCursor, PreparedUpdate, PreparedFor, inserting, replacing}
 use Rattle.session_local.specs.Outcome.{Asked, Outcome, entries_of_step}
-use Rattle.session_local.specs.Agreement.{HasSchemaOf}
+use Rattle.session_local.specs.Agreement.{HasSchemaOf, SameCounts, cursor_table}
 use Rattle.session_local.specs.WellFormed.{IsWellFormed, number_of_column}
-use Rattle.engine_state.specs.EngineState.{EngineState, has_open}
+use Rattle.engine_state.specs.EngineState.{EngineState, open_tables_in}
 use Rattle.engine_state.specs.EngineSteps.{engine_after_all, is_live_in, catalog_table}
 use Rattle.engine_state.specs.Represents.{Represents, is_built_schema}
 
@@ -73,7 +73,8 @@ pub record HoldsState (session : ℕ) (engine : EngineState) : Type 0 where
   pub represents : Represents session engine state
   pub fitting : IsTrue (are_fitting state)
 
--- The session's own state agrees with what the engine holds, whose tables are built and numbered.
+-- The session's own state agrees with what the engine holds, whose tables are built and numbered. Each table is open as often
+-- as the session has a cursor on it.
 pub record IsBeside (engine : EngineState) (side : SessionSide) : Type 0 where
   pub begun : side.state.begun ≡ is_live_in engine.live side.session
   pub alone : IsTrue (is_none engine.live || is_live_in engine.live side.session)
@@ -81,7 +82,7 @@ pub record IsBeside (engine : EngineState) (side : SessionSide) : Type 0 where
   pub numbers : IsTrue (list_all has_own_numbers engine.catalog.tables)
   pub built : (id : ℕ) (table : Table) → catalog_table engine id ≡ Some table → IsTrue (is_built_schema (schema_of table))
   pub schemas : AllByRecursion (λ c. HasSchemaOf c (catalog_table engine c.cursor.table)) side.state.cursors
-  pub opened : IsTrue (list_all (λ c. has_open engine.live c.cursor.table) side.state.cursors)
+  pub opened : SameCounts (map cursor_table side.state.cursors) (open_tables_in engine.live)
   pub prepared : IsTrue (list_all (λ c. is_built_insert c c.prepared) side.state.cursors)
   pub reply : side.state.begun ≡ true → length side.reply ≡ 1048576
   pub distinct : are_distinct (map label_of side.state.cursors) ≡ true

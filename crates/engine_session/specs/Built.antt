@@ -6,15 +6,19 @@ use Rattle.session_local.specs.declared.request.Request.{Request}
 use Rattle.session_local.specs.declared.request.Request.TheVariants as call
 
 -- Of the schema calls, those that make a table, a column whose values stand in the row, or a primary index, whatever else
--- its rule says; inserts; and every call that moves a cursor, reads at it or makes a key for it.
+-- its rule says, and those that delete a table or an index; inserts; and every call that opens or closes a cursor, moves it,
+-- reads at it or makes a key for it.
 abbrev pub is_built_call : Request → Bool
 is_built_call call.BeginSession = true
 is_built_call call.BeginTransaction = true
 is_built_call (call.CommitTransaction lazy) = true
 is_built_call (call.CreateTable table) = true
+is_built_call (call.DeleteTable table) = true
 is_built_call (call.AddColumn table column kind flags) = not (is_long_type kind) && not (flags.escrow || flags.version || flags.auto)
 is_built_call (call.CreateIndex table index flags key_most segments conditions) = flags.primary && nat_le key_most 255
+is_built_call (call.DeleteIndex table index) = true
 is_built_call (call.OpenTable cursor table) = true
+is_built_call (call.CloseTable cursor) = true
 is_built_call (call.Move cursor way) = true
 is_built_call (call.RetrieveKey cursor) = true
 is_built_call (call.GetBookmark cursor) = true

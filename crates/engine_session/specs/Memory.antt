@@ -5,7 +5,8 @@ use Rattle.index_derive.specs.declared.log.EntryKind.TheVariants as entry
 use Rattle.index_derive.specs.declared.log.Step.{Step}
 use Rattle.index_derive.specs.declared.log.Step.TheVariants.{One, Alone}
 
--- A cursor, a change of a record and a schema step take some; what begins or ends a session or a level takes none.
+-- A cursor that opens, a change of a record and a schema step take some; what begins or ends a session or a level, or closes a
+-- cursor, takes none.
 abbrev pub kind_takes_memory : EntryKind → Bool
 kind_takes_memory (entry.Open table) = true
 kind_takes_memory (entry.Change change) = true

@@ -1,16 +1,16 @@
 //! Laws of a session beside the engine.
 
-ghost use Rattle.std.specs.Prelude.{◌≡◌, ◌≢◌, ℕ, List, [], length, true, false, IsTrue};
+ghost use Rattle.std.specs.Prelude.{◌≡◌, ◌≢◌, ℕ, List, [], length, true, false, Some, IsTrue};
 ghost use Rattle.database_state.specs.State.{DatabaseState, empty_state};
 ghost use Rattle.jet_base.specs.declared.replies.Jet.TheVariants.{OutOfMemory};
 ghost use Rattle.session_local.specs.declared.request.Request.{Request};
 ghost use Rattle.session_local.specs.SessionSide.{SessionSide};
-ghost use Rattle.session_local.specs.Local.{no_session};
+ghost use Rattle.session_local.specs.Local.{OpenCursor, cursor_labelled, no_session};
 ghost use Rattle.session_local.specs.LocalCalls.{is_answered_locally};
 ghost use Rattle.session_local.specs.Outcome.{Asked, entries_of_step};
 ghost use Rattle.session_local.specs.Calls.{answer};
 ghost use Rattle.session_local.specs.Run.{takes_no_memory};
-ghost use Rattle.engine_state.specs.EngineState.{EngineState, empty_engine};
+ghost use Rattle.engine_state.specs.EngineState.{EngineState, empty_engine, has_open};
 ghost use Rattle.engine_state.specs.EngineSteps.{may_take_all};
 ghost use Rattle.engine_state.specs.Represents.{Represents};
 ghost use Rattle.engine_session.specs.Built.{is_built_call};
@@ -59,6 +59,13 @@ pub fn decided_calls_stay_beside()
     steps_are_represented();
     catalogs_stay_numbered();
 }
+
+/// The table of each cursor is open.
+pub fn tables_of_cursors_are_open()
+    ensures { (engine : EngineState) (side : SessionSide) (label : ℕ) (cursor : OpenCursor)
+        → IsBeside engine side → cursor_labelled side.state label ≡ Some cursor
+        → has_open engine.live cursor.cursor.table ≡ true }
+{}
 
 /// The definitions answer no built call with want of memory: that reply is of the code alone.
 pub fn no_answer_is_want_of_memory()
