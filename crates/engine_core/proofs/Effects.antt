@@ -1,6 +1,6 @@
 -- What the entries that may come tell of the engine, and what they do to it.
 use Rattle.std.proofs.Common.{◌≡◌, ℕ, ◌+◌, ◌<◌, ◌≤◌, true, false, ◌&&◌, ◌||◌, List, [], ◌∷◌, length, map, ◌^◌, Option, Some, None, refl, sym, ap, ◌∙◌, arith}
-use Rattle.std.specs.Prelude.{◌==◌, is_some, is_none, nat_le, nat_lt}
+use Rattle.std.specs.Prelude.{◌==◌, not, is_some, is_none, nat_le, nat_lt}
 use Rattle.std.specs.List.{list_all, flat_map}
 use Rattle.std.specs.Int.{w16, to_le_bytes}
 use Rattle.std.proofs.lemmas.List.{length-append}
@@ -30,9 +30,9 @@ use Rattle.engine_state.specs.EngineState.{EngineState, LiveState, levels_in, re
 use Rattle.engine_state.specs.EngineSteps.{at_levels, engine_after, is_live_in, may_make, may_take, may_take_all, stores_after, stores_after_step}
 use Rattle.engine_state.specs.Represents.{is_built_record}
 use Rattle.engine_state.proofs.Tests.{and_left, and_right, and_both, same_number, le_from_true}
-use Rattle.engine_state.proofs.Stored.{has_table-with_rows, has_table-new}
-use Rattle.engine_state.proofs.SteppingTables.{is_some-with_table, is_some-new}
-use Rattle.engine_core.specs.Holding.{may_store, open_levels}
+use Rattle.engine_state.proofs.Stored.{has_table-with_rows, has_table-new, has_table-without}
+use Rattle.engine_state.proofs.SteppingTables.{is_some-with_table, is_some-new, is_some-gone}
+use Rattle.engine_core.specs.Holding.{may_store, open_sessions, open_levels}
 
 lt_from_true : (a b : ℕ) → nat_lt a b ≡ true → a < b
 lt_from_true a b h = grind (arith, nat_tests)
@@ -43,6 +43,10 @@ lt_from_true a b h = grind (arith, nat_tests)
 open_levels-live : (live : Option LiveState) (session : ℕ) → is_live_in live session ≡ true → open_levels live ≡ levels_in live session
 open_levels-live None session h = refl
 open_levels-live (Some live) session h = rw h refl
+
+pub one_session : (live : Option LiveState) → open_sessions live ≤ 1
+one_session None = omega arith
+one_session (Some live) = omega arith
 
 -- one level more than none
 at_levels-first : (live : Option LiveState) → open_levels live ≡ 0 → at_levels (λ n. n + 1) live ≡ at_levels (λ n. 1) live
@@ -113,7 +117,8 @@ pub listed-step : (engine : EngineState) (made : SchemaStep) (other : ℕ) → m
     → has_table (stores_after_step engine.stores made) other ≡ is_some (table_with_id (tables_after_step engine.catalog.tables made) other)
 listed-step engine (step.CreateTable table name) other h e =
     has_table-new engine.stores table.0 other ∙ ap (λ b. b || (table.0 == other)) e ∙ sym (is_some-new engine.catalog.tables table.0 name other)
-listed-step engine (step.DeleteTable table) other h e = cc
+listed-step engine (step.DeleteTable table) other h e =
+    has_table-without engine.stores table.0 other ∙ ap (λ b. b && not (table.0 == other)) e ∙ sym (is_some-gone engine.catalog.tables table.0 other)
 listed-step engine (step.AddColumn table column) other h e = e ∙ sym (is_some-with_table table.0 (with_column column) (λ t. refl) engine.catalog.tables other)
 listed-step engine (step.DeleteColumn table column) other h e = cc
 listed-step engine (step.CreateIndex table rule) other h e = e ∙ sym (is_some-with_table table.0 (with_index rule) (λ t. refl) engine.catalog.tables other)

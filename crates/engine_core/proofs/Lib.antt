@@ -11,6 +11,8 @@ pub mod Retrieved
 pub mod CursorNavigates
 pub mod CursorCallsNavigated
 pub mod CursorCallsOpened
+pub mod CursorCallsClosed
+pub mod OpenTables
 pub mod InsertRefusals
 pub mod InsertDecided
 pub mod InsertLawful

@@ -1,4 +1,4 @@
--- What decides the calls that make a table, a column or an index.
+-- What decides the schema calls that are built.
 use Rattle.std.proofs.Common.{◌≡◌, ℕ, Bool, true, false, ◌&&◌, List, [], ◌∷◌, Option, Some, None, Result, Ok, Err, refl, sym, ap, subst, ◌∙◌, arith}
 use Rattle.std.specs.Prelude.{◌==◌, nat_le, nat_lt, not, is_none, option_map, unwrap_or, IfOk}
 use Rattle.std.specs.Option.{option_or}
@@ -46,10 +46,12 @@ use Rattle.engine_core.proofs.SchemaCallsLawful.{is_built_made, made-decided, ma
 
 built_made : (request : Request) (called : SchemaCall) → Some called ≡ schema_call_of request → is_built_call request ≡ true → is_built_made called ≡ true
 built_made (call.CreateTable table) called same built = let e : schema.CreateTable table ≡ called = cc in subst (λ called. is_built_made called ≡ true) e refl
+built_made (call.DeleteTable table) called same built = let e : schema.DeleteTable table ≡ called = cc in subst (λ called. is_built_made called ≡ true) e refl
 built_made (call.AddColumn table column kind flags) called same built =
     let e : schema.AddColumn table column kind flags ≡ called = cc in subst (λ called. is_built_made called ≡ true) e built
 built_made (call.CreateIndex table index flags key_most segments conditions) called same built =
     let e : schema.CreateIndex table index flags key_most segments conditions ≡ called = cc in subst (λ called. is_built_made called ≡ true) e built
+built_made (call.DeleteIndex table index) called same built = let e : schema.DeleteIndex table index ≡ called = cc in subst (λ called. is_built_made called ≡ true) e refl
 built_made _ called same built = cc
 
 not_lazy : (request : Request) (called : SchemaCall) → Some called ≡ schema_call_of request → is_lazy request ≡ false
@@ -59,17 +61,23 @@ not_lazy _ called same = refl
 finished-schema : (local : LocalState) (request : Request) (called : SchemaCall) (session : ℕ) (made : SchemaStep) → Some called ≡ schema_call_of request
     → finished local request (decided_in (stepped_with (one_by session (entry.Schema made)) None true)) ≡ local
 finished-schema local (call.CreateTable table) called session made same = refl
+finished-schema local (call.DeleteTable table) called session made same = refl
 finished-schema local (call.AddColumn table column kind flags) called session made same = refl
 finished-schema local (call.CreateIndex table index flags key_most segments conditions) called session made same = refl
+finished-schema local (call.DeleteIndex table index) called session made same = refl
 finished-schema local _ called session made same = cc
 
 answer-schema : (asked : Asked) (request : Request) (called : SchemaCall) → asked.local.begun ≡ true → Some called ≡ schema_call_of request → answer asked request ≡ schema_changed asked (step_of_call asked.state called)
 answer-schema asked (call.CreateTable table) called begun same =
     let e : schema.CreateTable table ≡ called = cc in answer-begun asked _ begun ∙ ap (λ called. schema_changed asked (step_of_call asked.state called)) e
+answer-schema asked (call.DeleteTable table) called begun same =
+    let e : schema.DeleteTable table ≡ called = cc in answer-begun asked _ begun ∙ ap (λ called. schema_changed asked (step_of_call asked.state called)) e
 answer-schema asked (call.AddColumn table column kind flags) called begun same =
     let e : schema.AddColumn table column kind flags ≡ called = cc in answer-begun asked _ begun ∙ ap (λ called. schema_changed asked (step_of_call asked.state called)) e
 answer-schema asked (call.CreateIndex table index flags key_most segments conditions) called begun same =
     let e : schema.CreateIndex table index flags key_most segments conditions ≡ called = cc in answer-begun asked _ begun ∙ ap (λ called. schema_changed asked (step_of_call asked.state called)) e
+answer-schema asked (call.DeleteIndex table index) called begun same =
+    let e : schema.DeleteIndex table index ≡ called = cc in answer-begun asked _ begun ∙ ap (λ called. schema_changed asked (step_of_call asked.state called)) e
 answer-schema asked _ called begun same = cc
 
 -- ---- what sessions do
@@ -213,9 +221,11 @@ inside_transaction engine side request called same begun inside = λ state r.
 pub schema-inside : (engine : EngineState) (side : SessionSide) (request : Request) → is_schema_request request ≡ true → side.state.begun ≡ true → (levels_in engine.live side.session == 0) ≡ false
     → Decides engine side request side (refused_with jet.InTransaction)
 schema-inside engine side (call.CreateTable table) is_schema begun inside = inside_transaction engine side _ (schema.CreateTable table) refl begun inside
+schema-inside engine side (call.DeleteTable table) is_schema begun inside = inside_transaction engine side _ (schema.DeleteTable table) refl begun inside
 schema-inside engine side (call.AddColumn table column kind flags) is_schema begun inside = inside_transaction engine side _ (schema.AddColumn table column kind flags) refl begun inside
 schema-inside engine side (call.CreateIndex table index flags key_most segments conditions) is_schema begun inside =
     inside_transaction engine side _ (schema.CreateIndex table index flags key_most segments conditions) refl begun inside
+schema-inside engine side (call.DeleteIndex table index) is_schema begun inside = inside_transaction engine side _ (schema.DeleteIndex table index) refl begun inside
 schema-inside engine side _ is_schema begun inside = cc
 
 absent_table : (outside new absent used : Bool) → outside ≡ true → (not new && absent) ≡ true → of_sessions outside new absent used ≡ Some jet.ObjectNotFound
@@ -312,6 +322,6 @@ schema-lawful engine side request called made beside asked free is new room = re
     sym beside.begun ∙ asked.begun,
     free.outside,
     below engine.number log_limit room,
-    may_make-decided engine (has_rows_in engine.stores (engine_table engine called)) called made asked.numbered beside.built (built_made request called asked.same asked.built) new is,
+    may_make-decided engine (has_rows_in engine.stores (engine_table engine called)) called made asked.numbered beside.built (built_made request called asked.same asked.built) new free.unused is,
   ) refl;
 }

@@ -20,22 +20,26 @@ use Rattle.index_derive.specs.Entries.{is_legal, is_escrow_column, has_double_ke
 use Rattle.database_state.specs.Table.{Table, schema_of, primary_first, table_named}
 use Rattle.database_state.specs.State.{DatabaseState}
 use Rattle.database_state.specs.Refusals.{Refusals, first_refusal}
-use Rattle.database_state.specs.SchemaChanges.{new_table, with_index, rule_columns, has_column, has_records, record_refusals, is_long_type, greatest_order}
-use Rattle.database_state.specs.SchemaSteps.{step_of_call, asked_index}
+use Rattle.database_state.specs.SchemaChanges.{new_table, with_index, rule_columns, has_column, has_records, deleted_index_refusals, record_refusals, is_long_type, greatest_order}
+use Rattle.database_state.specs.SchemaSteps.{step_of_call, called_name, asked_index, index_id_named}
 use Rattle.jet_catalog.specs.Catalog.{IsNumbered, database_of, has_new_id}
 use Rattle.jet_catalog.specs.Decisions.{refused_or, decided, call_refusals, called_table, table_or_new}
-use Rattle.engine_state.specs.EngineState.{EngineState}
+use Rattle.engine_state.specs.EngineState.{EngineState, has_open}
 use Rattle.engine_state.specs.EngineSteps.{catalog_table, may_index, may_make}
 use Rattle.engine_state.specs.Represents.{is_built_column, is_built_rule, is_built_schema}
 use Rattle.engine_state.proofs.Tests.{and_left, and_right, and_both}
 use Rattle.engine_state.proofs.ToldTables.{found_again}
+use Rattle.engine_state.proofs.Primary.{index_is_primary}
+use Rattle.engine_core.specs.SchemaRequests.{is_open_on}
 
 -- ---- which calls are built
 
 abbrev pub is_built_made : SchemaCall → Bool
 is_built_made (schema.CreateTable table) = true
+is_built_made (schema.DeleteTable table) = true
 is_built_made (schema.AddColumn table column kind flags) = not (is_long_type kind) && not (flags.escrow || flags.version || flags.auto)
 is_built_made (schema.CreateIndex table index flags key_most segments conditions) = flags.primary && nat_le key_most 255
+is_built_made (schema.DeleteIndex table index) = true
 is_built_made _ = false
 
 -- ---- what was decided
@@ -186,22 +190,48 @@ index_on engine table (Some t) holds rule numbered tables e primary short h =
     ap (λ found. may_index found (rule t)) again
     ∙ built-with_index t (rule t) (tables t.id t again) (primary t) (short t) passed.1 passed.3 passed.4
 
+-- a table that is found, and on which no cursor is open, may be deleted
+deleted_on : (engine : EngineState) (table : List ℕ) (found : Option Table) → IsNumbered engine.catalog → table_named engine.catalog.tables table ≡ found → is_open_on engine.live found ≡ false
+    → first_refusal ((is_none found, jet.ObjectNotFound) ∷ []) ≡ None
+    → may_make engine (step.DeleteTable (record { 0 = (unwrap_or found (new_table 0 [])).id })) ≡ true
+deleted_on engine table None numbered e unused h = cc
+deleted_on engine table (Some t) numbered e unused h =
+    let again : catalog_table engine t.id ≡ Some t = found_again (λ t. bytes_eq t.name table) 0 engine.catalog.greatest_table engine.catalog.tables t numbered e in
+    and_both (is_some (catalog_table engine t.id)) (not (has_open engine.live t.id)) (ap (λ found. is_some found) again) (ap not unused)
+
+-- each index of a built table stays
+never_deleted : (engine : EngineState) (table : List ℕ) (found : Option Table) (index : Table → ℕ) → IsNumbered engine.catalog → HasBuiltTables engine → table_named engine.catalog.tables table ≡ found
+    → first_refusal ((is_none found, jet.ObjectNotFound) ∷ deleted_index_refusals (unwrap_or found (new_table 0 [])) (index (unwrap_or found (new_table 0 [])))) ≡ None → ⊥
+never_deleted engine table None index numbered tables e h = cc
+never_deleted engine table (Some t) index numbered tables e h =
+    let again : catalog_table engine t.id ≡ Some t = found_again (λ t. bytes_eq t.name table) 0 engine.catalog.greatest_table engine.catalog.tables t numbered e in
+    never_passed (list_any (λ rule. rule.id.0 == index t) t.indexes) (list_any (λ rule. (rule.id.0 == index t) && rule.flags.primary) t.indexes) (index_is_primary t (index t) (tables t.id t again)) h
+  where
+    never_passed : (there primary : Bool) → primary ≡ there → first_refusal ((not there, jet.IndexNotFound) ∷ (primary, jet.IndexMustStay) ∷ []) ≡ None → ⊥
+    never_passed true true same h = cc
+    never_passed true false same h = cc
+    never_passed false primary same h = cc
+
 pub may_make-decided : (engine : EngineState) (holds : Bool) (called : SchemaCall) (made : SchemaStep) → IsNumbered engine.catalog → HasBuiltTables engine → is_built_made called ≡ true → has_new_id engine.catalog made ≡ true
-    → decided (database_of engine.catalog) holds called ≡ Ok made → may_make engine made ≡ true
-may_make-decided engine holds (schema.CreateTable table) made numbered tables built new h =
+    → is_open_on engine.live (table_named engine.catalog.tables (called_name called)) ≡ false → decided (database_of engine.catalog) holds called ≡ Ok made → may_make engine made ≡ true
+may_make-decided engine holds (schema.CreateTable table) made numbered tables built new unused h =
     let same = (made-decided (database_of engine.catalog) holds (schema.CreateTable table) made h).1 in
     subst (λ made. has_new_id engine.catalog made ≡ true → may_make engine made ≡ true) same (λ new. new) new
-may_make-decided engine holds (schema.AddColumn table column kind flags) made numbered tables built new h =
+may_make-decided engine holds (schema.AddColumn table column kind flags) made numbered tables built new unused h =
     let same = (made-decided (database_of engine.catalog) holds (schema.AddColumn table column kind flags) made h).1 in
     subst (λ made. may_make engine made ≡ true) same built
-may_make-decided engine holds (schema.CreateIndex table index flags key_most segments conditions) made numbered tables built new h =
+may_make-decided engine holds (schema.CreateIndex table index flags key_most segments conditions) made numbered tables built new unused h =
     let told = made-decided (database_of engine.catalog) holds (schema.CreateIndex table index flags key_most segments conditions) made h in
     subst (λ made. may_make engine made ≡ true) told.1
     (index_on engine table (table_named engine.catalog.tables table) holds (λ t. asked_index t index flags key_most segments conditions) numbered tables refl
     (λ t. and_left flags.primary (nat_le key_most 255) built) (λ t. and_right flags.primary (nat_le key_most 255) built) told.0)
-may_make-decided engine holds (schema.DeleteTable table) made numbered tables built new h = cc
-may_make-decided engine holds (schema.DeleteColumn table column) made numbered tables built new h = cc
-may_make-decided engine holds (schema.DeleteIndex table index) made numbered tables built new h = cc
+may_make-decided engine holds (schema.DeleteTable table) made numbered tables built new unused h =
+    let told = made-decided (database_of engine.catalog) holds (schema.DeleteTable table) made h in
+    subst (λ made. may_make engine made ≡ true) told.1 (deleted_on engine table (table_named engine.catalog.tables table) numbered refl unused told.0)
+may_make-decided engine holds (schema.DeleteColumn table column) made numbered tables built new unused h = cc
+may_make-decided engine holds (schema.DeleteIndex table index) made numbered tables built new unused h =
+    let told = made-decided (database_of engine.catalog) holds (schema.DeleteIndex table index) made h in
+    absurd (never_deleted engine table (table_named engine.catalog.tables table) (λ t. index_id_named t.indexes index) numbered tables refl told.0)
 
 -- ---- the records of the table
 
@@ -229,6 +259,8 @@ records-decided state (schema.CreateIndex table index flags key_most segments co
     let passed = tests_passed (called_table state called) (has_records t) t rule told.0 in
     let none : has_records t ≡ false = subst (λ b. (b && has_records t) ≡ false) primary passed.2 in
     subst (λ made. first_refusal (record_refusals t made) ≡ None) told.1 (index_records t (record { 0 = t.id }) rule (no_rows t.rows none) primary)
-records-decided state (schema.DeleteTable table) made built h = cc
+records-decided state (schema.DeleteTable table) made built h =
+    subst (λ made. first_refusal (record_refusals (table_or_new state (schema.DeleteTable table)) made) ≡ None) (made-decided state _ (schema.DeleteTable table) made h).1 refl
 records-decided state (schema.DeleteColumn table column) made built h = cc
-records-decided state (schema.DeleteIndex table index) made built h = cc
+records-decided state (schema.DeleteIndex table index) made built h =
+    subst (λ made. first_refusal (record_refusals (table_or_new state (schema.DeleteIndex table index)) made) ≡ None) (made-decided state _ (schema.DeleteIndex table index) made h).1 refl

@@ -8,17 +8,21 @@ use Rattle.engine_state.specs.EngineState.{LiveState, has_open}
 use Rattle.session_local.specs.declared.request.Request.{Request}
 use Rattle.session_local.specs.declared.request.Request.TheVariants as call
 
--- the calls that make a table, a column or an index
+-- the calls that make a table, a column or an index, or delete a table or an index
 abbrev pub is_schema_request : Request → Bool
 is_schema_request (call.CreateTable table) = true
+is_schema_request (call.DeleteTable table) = true
 is_schema_request (call.AddColumn table column kind flags) = true
 is_schema_request (call.CreateIndex table index flags key_most segments conditions) = true
+is_schema_request (call.DeleteIndex table index) = true
 is_schema_request _ = false
 
 abbrev pub schema_call_of : Request → Option SchemaCall
 schema_call_of (call.CreateTable table) = Some (schema.CreateTable table)
+schema_call_of (call.DeleteTable table) = Some (schema.DeleteTable table)
 schema_call_of (call.AddColumn table column kind flags) = Some (schema.AddColumn table column kind flags)
 schema_call_of (call.CreateIndex table index flags key_most segments conditions) = Some (schema.CreateIndex table index flags key_most segments conditions)
+schema_call_of (call.DeleteIndex table index) = Some (schema.DeleteIndex table index)
 schema_call_of _ = None
 
 -- whether the call makes a table, and so needs none

@@ -8,9 +8,10 @@ ghost use Rattle.database_state.specs.Lawful.{log_limit};
 ghost use Rattle.jet_catalog.specs.Catalog.{catalog_after, has_new_id};
 ghost use Rattle.table_store.specs.StoredRows.{has_table};
 ghost use Rattle.engine_state.specs.SingleSession.{entry_by};
-ghost use Rattle.engine_state.specs.EngineSteps.{at_levels, engine_after, engine_after_all, may_change, may_make, may_take, may_take_all, stores_after, stores_after_step, with_open_table};
+ghost use Rattle.engine_state.specs.EngineState.{has_open};
+ghost use Rattle.engine_state.specs.EngineSteps.{at_levels, engine_after, engine_after_all, may_change, may_make, may_take, may_take_all, stores_after, stores_after_step, with_open_table, without_open_table};
 ghost use Rattle.engine_session.specs.Memory.{kind_takes_memory, step_takes_memory};
-ghost use Rattle.engine_core.specs.Holding.{may_store, open_levels};
+ghost use Rattle.engine_core.specs.Holding.{has_deleted, may_store, open_cursors, open_levels};
 
 use crate::engine::Engine;
 use crate::live::LiveSession;
@@ -28,7 +29,7 @@ impl Engine {
         requires { IsTrue (may_take_all self.old (entries_of_step (Some step.now))) }
         ensures done { OnOk result (self.new ≡ engine_after_all self.old (entries_of_step (Some step.now))) }
         ensures kept { OnErr result (self.new ≡ self.old) }
-        // What begins or ends a session or a level takes no memory.
+        // What begins or ends a session or a level, or closes a cursor, takes no memory.
         ensures memory { OnErr result (step_takes_memory (Some step.now) ≡ true) }
     {
         match step {
@@ -50,6 +51,10 @@ impl Engine {
                 Ok(())
             }
             EntryKind::Open(table) => self.add_cursor(*table),
+            EntryKind::Shut(table) => {
+                self.remove_cursor(*table);
+                Ok(())
+            }
             EntryKind::Begin => {
                 self.begin_level();
                 Ok(())
@@ -68,7 +73,7 @@ impl Engine {
                 Ok(())
             }
             EntryKind::Schema(made) => self.make_schema_step(made),
-            EntryKind::Leave | EntryKind::Shut(_) | EntryKind::Undo | EntryKind::UndoAll => Ok(()),
+            EntryKind::Leave | EntryKind::Undo | EntryKind::UndoAll => Ok(()),
         }
     }
 
@@ -112,12 +117,21 @@ impl Engine {
         Ok(())
     }
 
+    // A cursor on the table is closed.
+    fn remove_cursor(&mut self, table: TableId)
+        requires { has_open self.old.live table.0 ≡ true }
+        ensures { self.new ≡ record self.old { number = self.old.number + 1; live = without_open_table table.0 self.old.live } }
+    {
+        close_table_of(&mut self.live, table);
+        self.number += 1;
+    }
+
     // A transaction begins, or one more level of it.
     fn begin_level(&mut self)
         requires number { self.old.number < log_limit }
         requires few { open_levels self.old.live ≤ 6 }
         ensures level { self.new ≡ record self.old { number = self.old.number + 1; live = at_levels (λ n. n + 1) self.old.live } }
-        ensures fewer { self.new.open_count < self.new.number }
+        ensures fewer { self.new.open_count + open_cursors self.new.live < self.new.number }
     {
         let levels = levels_of(&self.live);
         set_levels(&mut self.live, levels + 1);
@@ -127,7 +141,7 @@ impl Engine {
     // The level that has just begun is as if it had not.
     fn take_back_level(&mut self)
         requires level { 1 ≤ open_levels self.old.live }
-        requires fewer { self.old.open_count < self.old.number }
+        requires fewer { self.old.open_count + open_cursors self.old.live < self.old.number }
         ensures { self.new ≡ record self.old { number = self.old.number - 1; live = at_levels (λ n. n - 1) self.old.live } }
     {
         let levels = levels_of(&self.live);
@@ -213,6 +227,15 @@ fn open_table_of(live: &mut Option<LiveSession>, table: TableId) -> Result<(), O
     }
 }
 
+// The live session closes a cursor on the table.
+fn close_table_of(live: &mut Option<LiveSession>, table: TableId)
+    ensures { live.new ≡ without_open_table table.0 live.old }
+{
+    if let Some(live) = live {
+        live.close_table(table);
+    }
+}
+
 // Makes a change of a record.
 fn make_change(alloc: Global, records: &mut RecordStore, change: &Change) -> Result<(), OutOfMemory>
     requires { IsTrue (may_store records.old change.now) }
@@ -235,13 +258,14 @@ fn make_change(alloc: Global, records: &mut RecordStore, change: &Change) -> Res
     }
 }
 
-// Makes a step of the catalog, and a tree for the records of a new table.
+// Makes a step of the catalog, and a tree for the records of a new table; that of a deleted one goes.
 fn make_step(
     catalog: &mut Catalog,
     records: &mut RecordStore,
     made: &SchemaStep,
 ) -> Result<(), OutOfMemory>
     requires new_id { IsTrue (has_new_id catalog.old made.now) }
+    requires deleted { IsTrue (has_deleted catalog.old made.now) }
     requires listed { (table : ℕ) → has_table records.old table ≡ is_some (table_with_id catalog.old.tables table) }
     ensures catalog { OnOk result (catalog.new ≡ catalog_after catalog.old made.now) }
     ensures records { OnOk result (records.new ≡ stores_after_step records.old made.now) }
@@ -251,11 +275,15 @@ fn make_step(
     let count = catalog.tables().len();
     let greatest = catalog.greatest();
     catalog.make(made)?;
-    if let SchemaStep::CreateTable { table, .. } = made {
-        if let Err(fault) = records.add_table(*table) {
-            catalog.go_back(count, greatest);
-            return Err(fault);
+    match made {
+        SchemaStep::CreateTable { table, .. } => {
+            if let Err(fault) = records.add_table(*table) {
+                catalog.go_back(count, greatest);
+                return Err(fault);
+            }
         }
+        SchemaStep::DeleteTable { table } => records.remove_table(*table),
+        _ => {}
     }
     Ok(())
 }

@@ -15,6 +15,7 @@ use crate::answers::{done, one, refused, said};
 use crate::engine::{Engine, LOG_LIMIT};
 use crate::record_calls::show_bytes;
 use crate::view::EngineView;
+use engine_session::tables_of_cursors_are_open;
 use index_derive::{EntryKind, Place};
 use jet_base::{CursorId, Jet, Name, OutOfMemory};
 use key_normal::Key;
@@ -48,6 +49,21 @@ impl Engine {
         let mut decision = done(one(local.session(), EntryKind::Open(found.id())), false);
         decision.table = Some((found.id(), found.schema()?));
         Ok(decision)
+    }
+
+    /// CloseTable: the label is free again. It is made at any number of the log.
+    pub(crate) fn close_cursor(&self, local: &Local, cursor: CursorId) -> Decision
+        requires beside { IsBeside self.now local.now }
+        requires shared { is_answered_locally local.now.state (call.CloseTable cursor) ≡ false }
+        ensures answer { Decides self.now local.now (call.CloseTable cursor) local.now result }
+        ensures decided { IsDecision self.now local.now (call.CloseTable cursor) local.now result }
+    {
+        tables_of_cursors_are_open();
+        let Some(found) = local.cursor(cursor) else {
+            unreachable!()
+        };
+        let table = found.cursor().table();
+        done(one(local.session(), EntryKind::Shut(table)), false)
     }
 
     /// A call that moves a cursor: the cursor has moved when it is decided.

@@ -31,9 +31,13 @@ impl Engine {
             Request::BeginSession => self.begin_session(local),
             Request::BeginTransaction => Ok(self.begin_transaction(local)),
             Request::CommitTransaction { lazy } => Ok(self.commit_transaction(local, *lazy)),
-            Request::CreateTable { .. } | Request::AddColumn { .. } | Request::CreateIndex { .. } =>
-                { self.change_schema(local, request) }
+            Request::CreateTable { .. }
+            | Request::DeleteTable { .. }
+            | Request::AddColumn { .. }
+            | Request::CreateIndex { .. }
+            | Request::DeleteIndex { .. } => self.change_schema(local, request),
             Request::OpenTable { cursor, table } => self.open_cursor(local, *cursor, table),
+            Request::CloseTable { cursor } => Ok(self.close_cursor(local, *cursor)),
             Request::Move { cursor, .. }
             | Request::Seek { cursor, .. }
             | Request::SetIndexRange { cursor, .. }

@@ -2,6 +2,7 @@
 
 ghost use Rattle.std.specs.Prelude.{◌≡◌, ◌+◌, ◌-◌, ◌≤◌, ◌==◌, ◌∷◌, [], OnOk, OnErr};
 ghost use Rattle.std.specs.List.{list_any};
+ghost use Rattle.database_state.specs.Step.{without_one};
 
 use jet_base::{OutOfMemory, Session, TableId};
 use std::alloc::Global;
@@ -70,6 +71,15 @@ impl LiveSession {
     {
         self.open_tables.push(table)?;
         Ok(())
+    }
+
+    /// The last opened of the cursors on the table is closed. Where none is open on it nothing changes.
+    pub(crate) fn close_table(&mut self, table: TableId)
+        ensures { self.new ≡ record self.old { open_tables = without_one table.0 self.old.open_tables } }
+    {
+        if let Some(place) = self.open_tables.iter().rposition(|id| *id == table) {
+            self.open_tables.remove(place);
+        }
     }
 
     /// Whether a cursor is open on the table.

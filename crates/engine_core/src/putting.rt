@@ -131,7 +131,7 @@ impl Engine {
     // The version store's span: no record was there before an open change.
     fn span(&self) -> u64
         ensures value { result ≡ 64 * self.now.open_count }
-        ensures small { result ≤ 1099511628288 }
+        ensures small { result ≤ 2199023256128 }
     {
         self.open_count * INSERT_COST
     }

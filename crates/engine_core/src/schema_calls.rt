@@ -19,7 +19,7 @@ use session_local::{Decision, Local, Request};
 use std::alloc::Global;
 
 impl Engine {
-    /// CreateTable, AddColumn or CreateIndex.
+    /// CreateTable, DeleteTable, AddColumn, CreateIndex or DeleteIndex.
     pub(crate) fn change_schema(
         &self,
         local: &Local,
@@ -103,6 +103,9 @@ fn schema_call(alloc: Global, request: &Request) -> Result<SchemaCall, OutOfMemo
         Request::CreateTable { table } => Ok(SchemaCall::CreateTable {
             table: table.copy()?,
         }),
+        Request::DeleteTable { table } => Ok(SchemaCall::DeleteTable {
+            table: table.copy()?,
+        }),
         Request::AddColumn {
             table,
             column,
@@ -128,6 +131,10 @@ fn schema_call(alloc: Global, request: &Request) -> Result<SchemaCall, OutOfMemo
             key_most: *key_most,
             segments: copied_segments(alloc, segments)?,
             conditions: copied_conditions(alloc, conditions)?,
+        }),
+        Request::DeleteIndex { table, index } => Ok(SchemaCall::DeleteIndex {
+            table: table.copy()?,
+            index: index.copy()?,
         }),
         _ => unreachable!(),
     }
