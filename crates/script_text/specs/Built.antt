@@ -9,15 +9,18 @@ use Rattle.script_words.specs.Words.{◌>>=◌}
 use Rattle.script_text.specs.Grammar.{ScriptResult, with_front, said_lines, line_request}
 
 -- Whether a call is built: a session and its transactions, tables of columns whose values stand in their rows, primary
--- indexes, inserts, moves and reads.
+-- indexes, tables and indexes deleted, cursors opened and closed, inserts, moves and reads.
 abbrev pub is_built_request : Request → Bool
 is_built_request call.BeginSession = true
 is_built_request call.BeginTransaction = true
 is_built_request (call.CommitTransaction lazy) = true
 is_built_request (call.CreateTable table) = true
+is_built_request (call.DeleteTable table) = true
 is_built_request (call.AddColumn table column kind flags) = not (is_long_type kind) && not (flags.escrow || flags.version || flags.auto)
 is_built_request (call.CreateIndex table index flags key_most segments conditions) = flags.primary && nat_le key_most 255
+is_built_request (call.DeleteIndex table index) = true
 is_built_request (call.OpenTable cursor table) = true
+is_built_request (call.CloseTable cursor) = true
 is_built_request (call.SetCurrentIndex cursor index) = true
 is_built_request (call.Move cursor way) = true
 is_built_request (call.RetrieveKey cursor) = true

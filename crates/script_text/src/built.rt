@@ -27,7 +27,10 @@ fn is_built_request(request: &Request) -> bool
         | Request::BeginTransaction
         | Request::CommitTransaction { .. }
         | Request::CreateTable { .. }
+        | Request::DeleteTable { .. }
+        | Request::DeleteIndex { .. }
         | Request::OpenTable { .. }
+        | Request::CloseTable { .. }
         | Request::SetCurrentIndex { .. }
         | Request::Move { .. }
         | Request::RetrieveKey { .. }

@@ -16,6 +16,9 @@ const SCRIPT: &[u8] = b"1 BeginSession
 1 CreateIndex Staff pk +id primary -name disallownull ifnotnull:id
 1 CreateIndex Staff other primary unique +name
 1 OpenTable 99 Staff
+1 CloseTable 99
+1 DeleteIndex Staff pk
+1 DeleteTable Staff
 1 SetCurrentIndex 99
 1 SetCurrentIndex 99 pk
 1 BeginTransaction
@@ -43,12 +46,12 @@ const SCRIPT: &[u8] = b"1 BeginSession
 #[test]
 fn a_built_script_gives_its_calls(rt: HostRuntime) -> Result<(), Fail> {
     let calls = parse(rt.alloc(), SCRIPT).ok().ok_or("the script is built")?;
-    assert_eq!(rt; calls.len(), 31);
+    assert_eq!(rt; calls.len(), 34);
     assert!(rt; calls[0] == (Session(1), Request::BeginSession));
     let last = Request::RetrieveKey {
         cursor: CursorId(2),
     };
-    assert!(rt; calls[30] == (Session(1), last));
+    assert!(rt; calls[33] == (Session(1), last));
     Ok(())
 }
 
