@@ -29,6 +29,13 @@ const NOTES: &[u8] =
 const NOTES_OUTPUT: &[u8] =
     b"0 1 BeginSession JET_errSuccess\n1 1 CreateTable JET_errSuccess\n2 1 AddColumn JET_errSuccess\n3 1 OpenTable JET_errSuccess\n4 1 PrepareUpdate JET_errSuccess\n4 1 SetColumn JET_errSuccess\n4 1 Update JET_errSuccess x:0000000000000006\n7 1 BeginTransaction JET_errSuccess\n8 1 PrepareUpdate JET_errSuccess\n8 1 SetColumn JET_errSuccess\n8 1 Update JET_errSuccess x:0000000000000009\n9 1 CommitTransaction JET_errSuccess\n10 1 Move JET_errSuccess\n10 1 RetrieveColumn JET_errSuccess x:616d626572\n10 1 Move JET_errSuccess\n10 1 RetrieveColumn JET_errSuccess x:7a696e63\n10 1 RetrieveKey JET_errSuccess x:0000000000000006\n";
 
+/// Two cursors on one table, closed one after the other; what is deleted, and why other things are not.
+const CLOSED: &[u8] =
+    b"1 BeginSession\n1 CreateTable T\n1 AddColumn T id Long\n1 CreateIndex T pk primary +id\n1 OpenTable 1 T\n1 PrepareUpdate 1 insert\n1 SetColumn 1 id 1 n:7\n1 Update 1\n1 OpenTable 2 T\n1 DeleteTable T\n1 CloseTable 1\n1 Move 1 First\n1 Move 2 First\n1 RetrieveColumn 2 id 1\n1 DeleteIndex T pk\n1 OpenTable 1 T\n1 CloseTable 1\n1 CloseTable 2\n1 CloseTable 2\n1 DeleteIndex T pk\n1 DeleteIndex T other\n1 DeleteIndex U pk\n1 DeleteTable U\n1 DeleteTable T\n1 OpenTable 1 T\n1 CreateTable T\n1 AddColumn T id Long\n1 OpenTable 1 T\n1 Move 1 First\n1 BeginTransaction\n1 DeleteTable T\n1 CloseTable 1\n";
+
+const CLOSED_OUTPUT: &[u8] =
+    b"0 1 BeginSession JET_errSuccess\n1 1 CreateTable JET_errSuccess\n2 1 AddColumn JET_errSuccess\n3 1 CreateIndex JET_errSuccess\n4 1 OpenTable JET_errSuccess\n5 1 PrepareUpdate JET_errSuccess\n5 1 SetColumn JET_errSuccess\n5 1 Update JET_errSuccess x:7f80000007\n8 1 OpenTable JET_errSuccess\n9 1 DeleteTable JET_errTableInUse\n9 1 CloseTable JET_errSuccess\n10 1 Move JET_errInvalidTableId\n10 1 Move JET_errSuccess\n10 1 RetrieveColumn JET_errSuccess n:7\n10 1 DeleteIndex JET_errTableInUse\n10 1 OpenTable JET_errSuccess\n11 1 CloseTable JET_errSuccess\n12 1 CloseTable JET_errSuccess\n13 1 CloseTable JET_errInvalidTableId\n13 1 DeleteIndex JET_errIndexMustStay\n13 1 DeleteIndex JET_errIndexNotFound\n13 1 DeleteIndex JET_errObjectNotFound\n13 1 DeleteTable JET_errObjectNotFound\n13 1 DeleteTable JET_errSuccess\n14 1 OpenTable JET_errObjectNotFound\n14 1 CreateTable JET_errSuccess\n15 1 AddColumn JET_errSuccess\n16 1 OpenTable JET_errSuccess\n17 1 Move JET_errNoCurrentRecord\n17 1 BeginTransaction JET_errSuccess\n18 1 DeleteTable JET_errInTransaction\n18 1 CloseTable JET_errSuccess\n";
+
 /// The words `- run ordered`.
 fn run_words(alloc: Global) -> Result<Vec<String>, AllocError> {
     let mut words = Vec::new(alloc);
@@ -75,6 +82,12 @@ fn runs_that_succeed(rt: HostRuntime) -> Result<(), Fail> {
 fn tables_of_other_shapes(rt: HostRuntime) -> Result<(), Fail> {
     assert!(rt; runs_as(rt.alloc(), MAIL, 0, MAIL_OUTPUT)?);
     assert!(rt; runs_as(rt.alloc(), NOTES, 0, NOTES_OUTPUT)?);
+    Ok(())
+}
+
+#[test]
+fn tables_that_are_closed_and_deleted(rt: HostRuntime) -> Result<(), Fail> {
+    assert!(rt; runs_as(rt.alloc(), CLOSED, 0, CLOSED_OUTPUT)?);
     Ok(())
 }
 
