@@ -1,0 +1,48 @@
+-- What each kind of place asks of the tree.
+use Rattle.std.proofs.Common.{◌≡◌, true, not, ◌++◌, ◌∷◌, [], List, ℕ, find, sym, ap, ◌∙◌}
+use Rattle.btree_inplace.specs.Trees.{nodes_of}
+use Rattle.index_derive.specs.declared.entries.Place.{Place}
+use Rattle.cursor_nav.specs.Places.{entry_after, pair_lt}
+use Rattle.index_tree.specs.Entries.{IsShort}
+use Rattle.index_tree.specs.IndexTrees.{entries_of}
+use Rattle.index_tree.proofs.Cutting.{after_gap, after_pair}
+use Rattle.index_tree.proofs.Lists.{find_all, find_nothing}
+use Rattle.index_tree.proofs.NodeEntries.{node_from}
+use Rattle.index_tree.proofs.index.IndexTree.after.Goals as goal
+
+pub entry_of-requires : goal.entry_of-requires
+entry_of-requires c =
+    let es = entries_of c.args.space.now c.args.self.now in (
+      find (λ _. true) es,
+      find_all IsShort (λ _. true) es c.requires.short,
+      c.first.ensures ∙ node_from (nodes_of c.args.space.now c.args.self.now.tree) es (λ _. true) c.requires.nodes,
+    )
+
+pub returns-in-Before : goal.returns-in-Before
+returns-in-Before c =
+    let es = entries_of c.args.space.now c.args.self.now in
+    c.entry_of.ensures (find (λ _. true) es) (find_all IsShort (λ _. true) es c.requires.short)
+    (c.first.ensures ∙ node_from (nodes_of c.args.space.now c.args.self.now.tree) es (λ _. true) c.requires.nodes)
+    ∙ ap (λ (p : Place). entry_after p es) (sym c.in-Before.is)
+
+pub returns-in-After : goal.returns-in-After
+returns-in-After c =
+    let es = entries_of c.args.space.now c.args.self.now in
+    find_nothing es ∙ ap (λ (p : Place). entry_after p es) (sym c.in-After.is)
+
+pub returns-in-On : goal.returns-in-On
+returns-in-On c =
+    let es = entries_of c.args.space.now c.args.self.now in
+    let above : c.as_slice.result.now ≡ c.in-On.bookmark ++ 0 ∷ [] = c.as_slice.ensures.value ∙ c.joined-above.ensures ∙ ap (λ (b : List ℕ). b ++ 0 ∷ []) c.as_bytes.ensures.value in
+    c.from.ensures
+    ∙ (λ i. find (λ entry. not (pair_lt entry (c.as_bytes-in-On.ensures.value i, above i))) es)
+    ∙ after_pair c.in-On.key c.in-On.bookmark es
+    ∙ ap (λ (p : Place). entry_after p es) (sym c.in-On.is)
+
+pub returns-in-Gap : goal.returns-in-Gap
+returns-in-Gap c =
+    let es = entries_of c.args.space.now c.args.self.now in
+    c.from-in-Gap.ensures
+    ∙ (λ i. find (λ entry. not (pair_lt entry (c.as_bytes-in-Gap.ensures.value i, c.gap_bookmark.ensures.bytes i))) es)
+    ∙ after_gap c.in-Gap.key c.in-Gap.above es c.requires.short
+    ∙ ap (λ (p : Place). entry_after p es) (sym c.in-Gap.is)

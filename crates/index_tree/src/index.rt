@@ -1,0 +1,189 @@
+//! An index: its entries, in rising order.
+
+ghost use Rattle.std.specs.Prelude.{◌≡◌, ◌≤◌, false, true, not, [], length, find, filter, IfOk, OnErr, OnOk};
+ghost use Rattle.std.specs.List.{last_or};
+ghost use Rattle.std.specs.Option.{option_map};
+ghost use Rattle.page_space.specs.Frames.{Frames};
+ghost use Rattle.btree_inplace.specs.Trees.{Exchanges, Stay};
+ghost use Rattle.index_derive.specs.Entries.{insert_entry};
+ghost use Rattle.cursor_nav.specs.Places.{entry_after, entry_before, found_pair, pair_lt};
+ghost use Rattle.derived_index.specs.KeptEntries.{has_entry, has_key, without_entry};
+ghost use Rattle.index_tree.specs.Entries.{CutsAt, IsApartFromAll};
+ghost use Rattle.index_tree.specs.IndexTrees.{IsIndexTree, entries_of, own_pages};
+ghost use Rattle.index_tree.specs.declared.index.IndexTree.{IndexTree};
+
+use crate::parts::{NodeKey, entry_of, gap_bookmark, joined, parts};
+use btree_inplace::{Tree, tree_stays};
+use byteorder::{ByteOrder, LittleEndian};
+use index_derive::{IndexEntry, Place};
+use jet_base::OutOfMemory;
+use page_space::Space;
+use std::cmp::Ordering;
+
+/// The entries of an index, each a key with a bookmark. The key of no entry begins the key of another.
+/// Every call is lent the space that has the index's pages, and leaves all pages of other trees as they
+/// are. None but `new` and `insert` takes memory.
+#[derive(Drop)]
+pub struct IndexTree {
+    tree: Tree,
+}
+
+impl IndexTree {
+    /// No entry.
+    pub fn new(space: &mut Space) -> Result<IndexTree, OutOfMemory>
+        ensures empty { IfOk result (λ made. IsIndexTree space.new made × (entries_of space.new made ≡ [])) }
+        ensures pages { IfOk result (λ made. Exchanges space.old space.new [] (own_pages space.new made)) }
+        ensures err { OnErr result (space.new ≡ space.old) }
+    {
+        match Tree::new(space) {
+            Ok(tree) => Ok(IndexTree { tree }),
+            Err(fault) => Err(fault),
+        }
+    }
+
+    /// Puts an entry that is not there in its place. After a refusal the entries are the same.
+    pub fn insert(
+        &mut self,
+        space: &mut Space,
+        key: &[u8],
+        bookmark: &[u8],
+    ) -> Result<(), OutOfMemory>
+        requires index { IsIndexTree space.old self.old }
+        requires absent { has_entry key.now bookmark.now (entries_of space.old self.old) ≡ false }
+        requires apart { IsApartFromAll key.now (entries_of space.old self.old) }
+        requires key { length key.now ≤ 255 }
+        requires bookmark { length bookmark.now ≤ 255 }
+        ensures index { IsIndexTree space.new self.new }
+        ensures ok { OnOk result (entries_of space.new self.new ≡ insert_entry (key.now, bookmark.now) (entries_of space.old self.old)) }
+        ensures err { OnErr result (entries_of space.new self.new ≡ entries_of space.old self.old) }
+        ensures pages { Exchanges space.old space.new (own_pages space.old self.old) (own_pages space.new self.new) }
+    {
+        let mut size = [0; 2];
+        LittleEndian::write_u16(&mut size, key.len() as u16);
+        let node_key = joined(key, bookmark);
+        self.tree
+            .insert(space, node_key.as_slice(), size.as_slice(), 2)
+    }
+
+    /// Takes out an entry that is there.
+    pub fn remove(&mut self, space: &mut Space, key: &[u8], bookmark: &[u8])
+        requires index { IsIndexTree space.old self.old }
+        requires there { has_entry key.now bookmark.now (entries_of space.old self.old) ≡ true }
+        ensures index { IsIndexTree space.new self.new }
+        ensures entries { entries_of space.new self.new ≡ without_entry key.now bookmark.now (entries_of space.old self.old) }
+        ensures pages { Exchanges space.old space.new (own_pages space.old self.old) (own_pages space.new self.new) }
+    {
+        let node_key = joined(key, bookmark);
+        self.tree.remove(space, node_key.as_slice());
+    }
+
+    /// Gives all pages of the index to the space. It takes no memory.
+    pub fn give_back(self, space: &mut Space)
+        requires { IsIndexTree space.old self }
+        ensures { Exchanges space.old space.new (own_pages space.old self) [] }
+    {
+        self.tree.give_back(space);
+    }
+
+    /// Whether an entry is there.
+    pub fn has(&self, space: &Space, key: &[u8], bookmark: &[u8]) -> bool
+        requires index { IsIndexTree space.now self.now }
+        requires key { length key.now ≤ 255 }
+        requires bookmark { length bookmark.now ≤ 255 }
+        ensures { result ≡ has_entry key.now bookmark.now (entries_of space.now self.now) }
+    {
+        let node_key = joined(key, bookmark);
+        match self.tree.get(space, node_key.as_slice()) {
+            Some(size) => usize::from(LittleEndian::read_u16(size)) == key.len(),
+            None => false,
+        }
+    }
+
+    /// Whether an entry with a key is there.
+    pub fn has_key(&self, space: &Space, key: &[u8]) -> bool
+        requires index { IsIndexTree space.now self.now }
+        ensures { result ≡ has_key key.now (entries_of space.now self.now) }
+    {
+        match parts(self.tree.at_or_after(space, key)) {
+            Some((found, _)) => found == key,
+            None => false,
+        }
+    }
+
+    /// The least entry beyond a place.
+    pub fn after(&self, space: &Space, place: &Place) -> Option<IndexEntry>
+        requires { IsIndexTree space.now self.now }
+        ensures { found_pair result ≡ entry_after place.now (entries_of space.now self.now) }
+    {
+        match place {
+            Place::Before => entry_of(self.tree.first(space)),
+            Place::After => None,
+            Place::On(key, bookmark) => {
+                let above = joined(bookmark.as_bytes(), &[0]);
+                self.from(space, key.as_bytes(), above.as_slice())
+            }
+            Place::Gap(key, above) => self.from(space, key.as_bytes(), gap_bookmark(*above)),
+        }
+    }
+
+    /// The greatest entry before a place.
+    pub fn before(&self, space: &Space, place: &Place) -> Option<IndexEntry>
+        requires { IsIndexTree space.now self.now }
+        ensures { found_pair result ≡ entry_before place.now (entries_of space.now self.now) }
+    {
+        match place {
+            Place::Before => None,
+            Place::After => entry_of(self.tree.last(space)),
+            Place::On(key, bookmark) => self.below(space, key.as_bytes(), bookmark.as_bytes()),
+            Place::Gap(key, above) => self.below(space, key.as_bytes(), gap_bookmark(*above)),
+        }
+    }
+
+    /// The least entry that is not below a key with a bookmark, which may have 256 bytes.
+    fn from(&self, space: &Space, key: &[u8], bookmark: &[u8]) -> Option<IndexEntry>
+        requires index { IsIndexTree space.now self.now }
+        requires key { length key.now ≤ 255 }
+        requires bookmark { length bookmark.now ≤ 256 }
+        ensures { found_pair result ≡ find (λ entry. not (pair_lt entry (key.now, bookmark.now))) (entries_of space.now self.now) }
+    {
+        let cut = self.cut(space, key, bookmark);
+        entry_of(self.tree.at_or_after(space, cut.as_slice()))
+    }
+
+    /// The greatest entry below a key with a bookmark, which may have 256 bytes.
+    fn below(&self, space: &Space, key: &[u8], bookmark: &[u8]) -> Option<IndexEntry>
+        requires index { IsIndexTree space.now self.now }
+        requires key { length key.now ≤ 255 }
+        requires bookmark { length bookmark.now ≤ 256 }
+        ensures { found_pair result ≡ last_or None (filter (λ entry. pair_lt entry (key.now, bookmark.now)) (entries_of space.now self.now)) }
+    {
+        let cut = self.cut(space, key, bookmark);
+        entry_of(self.tree.before(space, cut.as_slice()))
+    }
+
+    /// A node's key that parts the nodes as a key with a bookmark parts the entries. The key need not be
+    /// apart from the entries' keys: the nodes of one that begins it may lie on both sides of it, though
+    /// all their entries are below.
+    fn cut(&self, space: &Space, key: &[u8], bookmark: &[u8]) -> NodeKey
+        requires index { IsIndexTree space.now self.now }
+        requires key { length key.now ≤ 255 }
+        requires bookmark { length bookmark.now ≤ 256 }
+        ensures { CutsAt result.items (key.now, bookmark.now) (entries_of space.now self.now) }
+    {
+        match parts(self.tree.at_or_after(space, key)) {
+            Some((found, _)) => match found.cmp(key) {
+                Ordering::Less => joined(found, gap_bookmark(true)),
+                Ordering::Equal => joined(key, bookmark),
+                Ordering::Greater => joined(key, &[]),
+            },
+            None => joined(key, &[]),
+        }
+    }
+}
+
+/// A change of other pages leaves the entries as they are.
+pub fn index_entries_stay()
+    ensures { (old new : Frames) (index : IndexTree) → IsIndexTree old index → Stay old new (own_pages old index) → IsIndexTree new index × (entries_of new index ≡ entries_of old index) × (own_pages new index ≡ own_pages old index) }
+{
+    tree_stays();
+}

@@ -1,0 +1,68 @@
+//! Keys of nodes, put together of an entry's key and bookmark, and cut apart again.
+
+ghost use Rattle.std.specs.Prelude.{◌≡◌, ◌≤◌, ◌++◌, Option, length, IfSome};
+ghost use Rattle.std.specs.Option.{option_map};
+ghost use Rattle.btree_inplace.specs.Order.{key_and_data};
+ghost use Rattle.cursor_nav.specs.Places.{Pair, found_pair};
+ghost use Rattle.index_tree.specs.Entries.{IsShort, gap_bookmark, node_of_entry};
+
+use arrayvec::ArrayVec;
+use byteorder::{ByteOrder, LittleEndian};
+use index_derive::IndexEntry;
+use key_normal::Key;
+
+/// The key of a node: a key of at most 255 bytes and what stands behind it, one byte more than a
+/// bookmark has at most.
+pub type NodeKey = ArrayVec<u8, 511>;
+
+/// What stands above each bookmark.
+const TOP: [u8; 256] = [0xff; 256];
+
+/// A key and a bookmark, one behind the other.
+pub fn joined(key: &[u8], bookmark: &[u8]) -> NodeKey
+    requires key { length key.now ≤ 255 }
+    requires bookmark { length bookmark.now ≤ 256 }
+    ensures { result.items ≡ key.now ++ bookmark.now }
+{
+    let mut bytes = ArrayVec::new();
+    if bytes.try_extend_from_slice(key).is_err() {
+        unreachable!()
+    }
+    if bytes.try_extend_from_slice(bookmark).is_err() {
+        unreachable!()
+    }
+    bytes
+}
+
+/// The key and the bookmark of a node that was found.
+pub fn parts<'a>(found: Option<(&'a [u8], &'a [u8])>) -> Option<(&'a [u8], &'a [u8])>
+    requires { (entry : Option Pair) × IfSome entry IsShort × (option_map (λ node. (node.0.now, node.1.now)) found ≡ option_map (λ e. key_and_data (node_of_entry e)) entry) }
+    ensures { (entry : Option Pair) → IfSome entry IsShort → option_map (λ node. (node.0.now, node.1.now)) found.entry ≡ option_map (λ e. key_and_data (node_of_entry e)) entry → option_map (λ pair. (pair.0.now, pair.1.now)) result ≡ entry }
+{
+    match found {
+        Some((key, length)) => Some(key.split_at(usize::from(LittleEndian::read_u16(length)))),
+        None => None,
+    }
+}
+
+/// A bookmark above those of all entries with a key, or below them.
+pub fn gap_bookmark(above: bool) -> &'static [u8]
+    ensures bytes { result.now ≡ gap_bookmark above }
+    ensures short { length result.now ≤ 256 }
+{
+    if above { &TOP } else { &[] }
+}
+
+/// The entry of a node that was found.
+pub fn entry_of(found: Option<(&[u8], &[u8])>) -> Option<IndexEntry>
+    requires { (entry : Option Pair) × IfSome entry IsShort × (option_map (λ node. (node.0.now, node.1.now)) found ≡ option_map (λ e. key_and_data (node_of_entry e)) entry) }
+    ensures { (entry : Option Pair) → IfSome entry IsShort → option_map (λ node. (node.0.now, node.1.now)) found.entry ≡ option_map (λ e. key_and_data (node_of_entry e)) entry → found_pair result ≡ entry }
+{
+    match parts(found) {
+        Some((key, bookmark)) => Some(IndexEntry {
+            key: Key::from_slice(key),
+            bookmark: Key::from_slice(bookmark),
+        }),
+        None => None,
+    }
+}
