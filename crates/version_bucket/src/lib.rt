@@ -69,7 +69,8 @@ impl Buckets {
 
     /// The number of the first kept piece, or of the next one where none is kept.
     pub fn first(&self) -> u64
-        ensures { result ≡ self.now.first }
+        ensures value { result ≡ self.now.first }
+        ensures limit { self.now.first + length self.now.pieces < 2 ^ 64 }
     {
         self.first
     }

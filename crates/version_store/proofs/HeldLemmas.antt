@@ -1,0 +1,88 @@
+-- Items with their rows as held changes, after each step.
+use Rattle.std.proofs.Common.{◌≡◌, ℕ, zero, suc, ◌<◌, List, [], ◌∷◌, ◌++◌, Option, Some, None, map, length, get_or, set, drop, refl, sym, ap, ◌∙◌, arith}
+use Rattle.std.specs.Prelude.{slice_get, option_map}
+use Rattle.std.proofs.lemmas.List.{map-append}
+use Rattle.version_store.specs.declared.item.Item.{Item}
+use Rattle.version_store.specs.declared.item.Status.TheVariants as status
+use Rattle.version_store.specs.HeldChanges.{HeldChange, undone_at}
+use Rattle.version_store.specs.Items.{held_change, held_changes, item_slot}
+use Rattle.version_store.specs.Kept.{slots_of}
+use Rattle.version_store.specs.Slots.{slot_of}
+
+-- the slot of a held change's record
+abbrev pub held_slot : HeldChange → ℕ
+held_slot held = slot_of held.table held.bookmark
+
+pub length-held : (items : List Item) (rows : List (List ℕ)) → length rows ≡ length items → length (held_changes items rows) ≡ length items
+length-held [] rows same = refl
+length-held (item ∷ items) [] same = absurd (omega arith)
+length-held (item ∷ items) (row ∷ rows) same = omega (arith, length-held items rows (omega arith))
+
+pub held-push : (items : List Item) (rows : List (List ℕ)) (item : Item) (row : List ℕ) → length rows ≡ length items → held_changes (items ++ item ∷ []) (rows ++ row ∷ []) ≡ held_changes items rows ++ held_change item row ∷ []
+held-push [] [] item row same = refl
+held-push [] (r ∷ rows) item row same = absurd (omega arith)
+held-push (i ∷ items) [] item row same = absurd (omega arith)
+held-push (i ∷ items) (r ∷ rows) item row same = ap (λ (l : List HeldChange). held_change i r ∷ l) (held-push items rows item row (omega arith))
+
+pub held-at : (items : List Item) (rows : List (List ℕ)) (at : ℕ) (d : Item) → length rows ≡ length items → at < length items → slice_get (held_changes items rows) at ≡ Some (held_change (get_or items at d) (get_or rows at []))
+held-at [] rows at d same within = absurd (omega arith)
+held-at (i ∷ items) [] at d same within = absurd (omega arith)
+held-at (i ∷ items) (r ∷ rows) zero d same within = refl
+held-at (i ∷ items) (r ∷ rows) (suc at) d same within = held-at items rows at d (omega arith) (omega arith)
+
+pub held-get : (items : List Item) (rows : List (List ℕ)) (at : ℕ) (d : Item) (e : HeldChange) → length rows ≡ length items → at < length items → get_or (held_changes items rows) at e ≡ held_change (get_or items at d) (get_or rows at [])
+held-get [] rows at d e same within = absurd (omega arith)
+held-get (i ∷ items) [] at d e same within = absurd (omega arith)
+held-get (i ∷ items) (r ∷ rows) zero d e same within = refl
+held-get (i ∷ items) (r ∷ rows) (suc at) d e same within = held-get items rows at d e (omega arith) (omega arith)
+
+pub held-drop : (items : List Item) (rows : List (List ℕ)) → length rows ≡ length items → held_changes (drop 1 items) (drop 1 rows) ≡ drop 1 (held_changes items rows)
+held-drop [] rows same = refl
+held-drop (i ∷ items) [] same = absurd (omega arith)
+held-drop (i ∷ items) (r ∷ rows) same = refl
+
+pub held-undone : (items : List Item) (rows : List (List ℕ)) (at : ℕ) (old : Item) → old ≡ get_or items at old → at < length items → held_changes (set items at (record old { status = status.Undone })) rows ≡ undone_at (Some at) (held_changes items rows)
+held-undone [] rows at old is within = absurd (omega arith)
+held-undone (i ∷ items) [] zero old is within = refl
+held-undone (i ∷ items) [] (suc at) old is within = refl
+held-undone (i ∷ items) (r ∷ rows) zero old is within = ap (λ (x : Item). held_change (record x { status = status.Undone }) r ∷ held_changes items rows) is
+held-undone (i ∷ items) (r ∷ rows) (suc at) old is within = ap (λ (l : List HeldChange). held_change i r ∷ l) (held-undone items rows at old is (omega arith))
+
+pub held-map : (g : Item → Item) (f : HeldChange → HeldChange) (items : List Item) (rows : List (List ℕ)) → ((item : Item) (row : List ℕ) → held_change (g item) row ≡ f (held_change item row)) → held_changes (map g items) rows ≡ map f (held_changes items rows)
+held-map g f [] rows each = refl
+held-map g f (i ∷ items) [] each = refl
+held-map g f (i ∷ items) (r ∷ rows) each = λ k. each i r k ∷ held-map g f items rows each k
+
+pub slots-held : (items : List Item) (rows : List (List ℕ)) → length rows ≡ length items → slots_of items ≡ map held_slot (held_changes items rows)
+slots-held [] rows same = refl
+slots-held (i ∷ items) [] same = absurd (omega arith)
+slots-held (i ∷ items) (r ∷ rows) same = ap (λ (l : List ℕ). item_slot i ∷ l) (slots-held items rows (omega arith))
+
+-- the change of the item that was read
+pub held-item : (items : List Item) (rows : List (List ℕ)) (at : ℕ) (x : Item) → length rows ≡ length items → at < length items → x ≡ get_or items at x → slice_get (held_changes items rows) at ≡ Some (held_change x (get_or rows at []))
+held-item items rows at x same within is = held-at items rows at x same within ∙ ap (λ (y : Item). Some (held_change y (get_or rows at []))) (sym is)
+
+pub held-item-get : (items : List Item) (rows : List (List ℕ)) (at : ℕ) (x : Item) (e : HeldChange) → length rows ≡ length items → at < length items → x ≡ get_or items at x → get_or (held_changes items rows) at e ≡ held_change x (get_or rows at [])
+held-item-get items rows at x e same within is = held-get items rows at x e same within ∙ ap (λ (y : Item). held_change y (get_or rows at [])) (sym is)
+
+pub get-map : {B : Type 0} (f : HeldChange → B) (changes : List HeldChange) (at : ℕ) (h : HeldChange) → slice_get changes at ≡ Some h → slice_get (map f changes) at ≡ Some (f h)
+get-map f [] at h e = cc
+get-map f (x ∷ changes) zero h e = ap (λ (o : Option HeldChange). option_map f o) e
+get-map f (x ∷ changes) (suc at) h e = get-map f changes at h e
+
+pub slots-items : (items : List Item) (item : Item) → slots_of (items ++ item ∷ []) ≡ slots_of items ++ item_slot item ∷ []
+slots-items items item = map-append item_slot items (item ∷ [])
+
+pub slots-drop : (items : List Item) → slots_of (drop 1 items) ≡ drop 1 (slots_of items)
+slots-drop [] = refl
+slots-drop (item ∷ items) = refl
+
+pub length-drop_one : {X Y : Type 0} (xs : List X) (ys : List Y) → length xs ≡ length ys → length (drop 1 xs) ≡ length (drop 1 ys)
+length-drop_one [] [] e = refl
+length-drop_one [] (y ∷ ys) e = absurd (omega arith)
+length-drop_one (x ∷ xs) [] e = absurd (omega arith)
+length-drop_one (x ∷ xs) (y ∷ ys) e = omega arith
+
+pub undone-none : (changes : List HeldChange) → undone_at None changes ≡ changes
+undone-none [] = refl
+undone-none (h ∷ changes) = refl

@@ -1,0 +1,190 @@
+-- A walk along a chain passes over no change that has the slot.
+use Rattle.std.proofs.Common.{◌≡◌, ℕ, zero, suc, ◌+◌, ◌-◌, ◌<◌, ◌≤◌, ◌==◌, Bool, true, false, ◌||◌, List, [], ◌∷◌, ◌++◌, Option, Some, None, map, length, get_or, take, refl, sym, ap, ◌∙◌, arith}
+use Rattle.std.specs.Prelude.{find, if◌then◌else◌, IfSome}
+use Rattle.std.specs.List.{list_any}
+use Rattle.std.specs.Bool.{then_some}
+use Rattle.std.specs.Option.{option_or}
+use Rattle.std.proofs.lemmas.Bool.{eqb-false, eqb-true}
+use Rattle.std.proofs.lemmas.List.{get_or-take, length-map, length-take-le, take-map, take_more}
+use Rattle.std.proofs.lemmas.List.Folds.{find-append, list_any-append}
+use Rattle.std.proofs.lemmas.Option.{slice_get-get_or}
+use Rattle.version_store.specs.Answers.{change_at}
+use Rattle.version_store.specs.Chained.{one_later, latest}
+use Rattle.version_store.specs.HeldChanges.{HeldChange, later_place, last_place}
+use Rattle.version_store.proofs.ChainLemmas.{latest-bound}
+use Rattle.version_store.proofs.HeldLemmas.{held_slot}
+
+-- The walk stands behind an item of the slot, or at the start.
+pub record Walk (slot : ℕ) (slots : List ℕ) (end : ℕ) : Type 0 where
+  pub within : end ≤ length slots
+  pub on_slot : 0 < end → get_or slots (end - 1) 0 ≡ slot
+
+latest-on : (slot : ℕ) (xs : List ℕ) → 0 < latest slot xs → get_or xs (latest slot xs - 1) 0 ≡ slot
+latest-on slot [] some = absurd (omega arith)
+latest-on slot (x ∷ xs) some = on (latest-on slot xs) (latest slot xs) refl some
+  where
+    on_first : (b : Bool) → (x == slot) ≡ b → 0 < one_later b 0 → get_or (x ∷ xs) (one_later b 0 - 1) 0 ≡ slot
+    on_first true e h = eqb-true x slot e
+    on_first false e h = absurd (omega arith)
+
+    on : (0 < latest slot xs → get_or xs (latest slot xs - 1) 0 ≡ slot) → (n : ℕ) → latest slot xs ≡ n → 0 < one_later (x == slot) n → get_or (x ∷ xs) (one_later (x == slot) n - 1) 0 ≡ slot
+    on rest zero e h = on_first (x == slot) refl h
+    on rest (suc n) e h =
+        ap (λ (k : ℕ). get_or (x ∷ xs) k 0) (let q : suc (suc n) - 1 ≡ suc n = omega arith in q)
+        ∙ ap (λ (k : ℕ). get_or xs k 0) (let q : n ≡ latest slot xs - 1 = omega arith in q) ∙ rest (omega arith)
+
+pub walk-start : (slot : ℕ) (slots : List ℕ) → Walk slot slots (latest slot slots)
+walk-start slot slots = record { within = latest-bound slot slots; on_slot = latest-on slot slots }
+
+pub walk-step : (slot : ℕ) (slots : List ℕ) (end next : ℕ) → Walk slot slots end → 0 < end → next ≡ latest (get_or slots (end - 1) 0) (take (end - 1) slots) → Walk slot slots next
+walk-step slot slots end next walk some is =
+    let before : List ℕ = take (end - 1) slots in
+    let is_slot : next ≡ latest slot before = is ∙ ap (λ (k : ℕ). latest k before) (walk.on_slot some) in
+    let bound : next ≤ end - 1 = omega (arith, is_slot, latest-bound slot before, length-take-le (end - 1) slots (omega (arith, walk.within))) in
+    record {
+      within = omega (arith, bound, walk.within);
+      on_slot = λ (h : 0 < next).
+          sym (get_or-take (end - 1) slots (next - 1) 0 (omega arith)) ∙ ap (λ (k : ℕ). get_or before (k - 1) 0) is_slot ∙ latest-on slot before (omega (arith, is_slot, h));
+    }
+
+pub walk-falls : (slot : ℕ) (slots : List ℕ) (end next : ℕ) → Walk slot slots end → 0 < end → next ≡ latest (get_or slots (end - 1) 0) (take (end - 1) slots) → next < end
+walk-falls slot slots end next walk some is =
+    omega (arith, is, latest-bound (get_or slots (end - 1) 0) (take (end - 1) slots), length-take-le (end - 1) slots (omega (arith, walk.within)))
+
+-- ---- what passes a test that only changes of the slot pass
+
+abbrev pub HasSlot : (HeldChange → Bool) → ℕ → Type 0
+HasSlot test slot = (held : HeldChange) → test held ≡ true → held_slot held ≡ slot
+
+off : (test : HeldChange → Bool) (slot : ℕ) (held : HeldChange) → HasSlot test slot → (held_slot held == slot) ≡ false → test held ≡ false
+off test slot held only e = not_here (test held) refl
+  where
+    not_here : (b : Bool) → test held ≡ b → b ≡ false
+    not_here true t = absurd (eqb-false (held_slot held) slot e (only held t))
+    not_here false t = refl
+
+any-latest : (test : HeldChange → Bool) (slot : ℕ) (changes : List HeldChange) → HasSlot test slot → list_any test (take (latest slot (map held_slot changes)) changes) ≡ list_any test changes
+any-latest test slot [] only = refl
+any-latest test slot (h ∷ changes) only = at (any-latest test slot changes only) (latest slot (map held_slot changes)) refl
+  where
+    first : (b : Bool) → (held_slot h == slot) ≡ b → list_any test changes ≡ false → list_any test (take (one_later b 0) (h ∷ changes)) ≡ (test h || list_any test changes)
+    first true e none = ap (λ (b : Bool). test h || b) (sym none)
+    first false e none = sym (ap (λ (b : Bool). b || list_any test changes) (off test slot h only e) ∙ none)
+
+    at : list_any test (take (latest slot (map held_slot changes)) changes) ≡ list_any test changes → (n : ℕ) → latest slot (map held_slot changes) ≡ n → list_any test (take (one_later (held_slot h == slot) n) (h ∷ changes)) ≡ (test h || list_any test changes)
+    at rest zero e = first (held_slot h == slot) refl (sym rest ∙ ap (λ (k : ℕ). list_any test (take k changes)) e)
+    at rest (suc n) e = ap (λ (b : Bool). test h || b) (ap (λ (k : ℕ). list_any test (take k changes)) (sym e) ∙ rest)
+
+find-latest : (test : HeldChange → Bool) (slot : ℕ) (changes : List HeldChange) → HasSlot test slot → find test (take (latest slot (map held_slot changes)) changes) ≡ find test changes
+find-latest test slot [] only = refl
+find-latest test slot (h ∷ changes) only = at (find-latest test slot changes only) (latest slot (map held_slot changes)) refl
+  where
+    first : (b : Bool) → (held_slot h == slot) ≡ b → find test changes ≡ None → find test (take (one_later b 0) (h ∷ changes)) ≡ (if test h then Some h else find test changes)
+    first true e none = ap (λ (o : Option HeldChange). if test h then Some h else o) (sym none)
+    first false e none = sym (ap (λ (b : Bool). if b then Some h else find test changes) (off test slot h only e) ∙ none)
+
+    at : find test (take (latest slot (map held_slot changes)) changes) ≡ find test changes → (n : ℕ) → latest slot (map held_slot changes) ≡ n → find test (take (one_later (held_slot h == slot) n) (h ∷ changes)) ≡ (if test h then Some h else find test changes)
+    at rest zero e = first (held_slot h == slot) refl (sym rest ∙ ap (λ (k : ℕ). find test (take k changes)) e)
+    at rest (suc n) e = ap (λ (o : Option HeldChange). if test h then Some h else o) (ap (λ (k : ℕ). find test (take k changes)) (sym e) ∙ rest)
+
+take-take : {X : Type 0} (n m : ℕ) (xs : List X) → n ≤ m → take n (take m xs) ≡ take n xs
+take-take zero m xs le = refl
+take-take (suc n) zero xs le = absurd (omega arith)
+take-take (suc n) (suc m) [] le = refl
+take-take (suc n) (suc m) (x ∷ xs) le = ap (λ (l : List _). x ∷ l) (take-take n m xs (omega arith))
+
+pub any-start : (test : HeldChange → Bool) (slot : ℕ) (changes : List HeldChange) (slots : List ℕ) → HasSlot test slot → slots ≡ map held_slot changes → list_any test (take (latest slot slots) changes) ≡ list_any test changes
+any-start test slot changes slots only are = ap (λ (l : List ℕ). list_any test (take (latest slot l) changes)) are ∙ any-latest test slot changes only
+
+pub find-start : (test : HeldChange → Bool) (slot : ℕ) (changes : List HeldChange) (slots : List ℕ) → HasSlot test slot → slots ≡ map held_slot changes → find test (take (latest slot slots) changes) ≡ find test changes
+find-start test slot changes slots only are = ap (λ (l : List ℕ). find test (take (latest slot l) changes)) are ∙ find-latest test slot changes only
+
+-- the front of a walk's next place is a front of the changes before the one just passed
+record Front (slot : ℕ) (changes : List HeldChange) (end next : ℕ) : Type 0 where
+  within : end - 1 < length changes
+  front : take next changes ≡ take (latest slot (map held_slot (take (end - 1) changes))) (take (end - 1) changes)
+
+front-at : (slot : ℕ) (changes : List HeldChange) (slots : List ℕ) (end next : ℕ) → slots ≡ map held_slot changes → Walk slot slots end → 0 < end → next ≡ latest (get_or slots (end - 1) 0) (take (end - 1) slots) → Front slot changes end next
+front-at slot changes slots end next are walk some is =
+    let cut : take (end - 1) slots ≡ map held_slot (take (end - 1) changes) = ap (take (end - 1)) are ∙ take-map held_slot (end - 1) changes in
+    let next_is : next ≡ latest slot (map held_slot (take (end - 1) changes)) = is ∙ ap (λ (k : ℕ). latest k (take (end - 1) slots)) (walk.on_slot some) ∙ ap (latest slot) cut in
+    let len : length slots ≡ length changes = ap length are ∙ length-map changes held_slot in
+    let below : next ≤ end - 1 = omega (arith, walk-falls slot slots end next walk some is) in
+    record {
+      within = omega (arith, walk.within);
+      front = sym (take-take next (end - 1) changes below) ∙ ap (λ (k : ℕ). take k (take (end - 1) changes)) next_is;
+    }
+
+take_last : (changes : List HeldChange) (end : ℕ) (d : HeldChange) → 0 < end → end - 1 < length changes → take end changes ≡ take (end - 1) changes ++ get_or changes (end - 1) d ∷ []
+take_last changes end d some within = ap (λ (k : ℕ). take k changes) (let e : end ≡ end - 1 + 1 = omega arith in e) ∙ take_more changes (end - 1) d within
+
+any_last : (a b c : Bool) → c ≡ (a || (b || false)) → b ≡ false → a ≡ c
+any_last true b c e f = sym e
+any_last false true c e f = absurd (never f)
+  where
+    never : true ≡ false → ⊥
+    never h = cc
+any_last false false c e f = sym e
+
+pub any-step : (test : HeldChange → Bool) (slot : ℕ) (changes : List HeldChange) (slots : List ℕ) (end next : ℕ) (d : HeldChange) → HasSlot test slot → slots ≡ map held_slot changes → Walk slot slots end → 0 < end → next ≡ latest (get_or slots (end - 1) 0) (take (end - 1) slots) → test (get_or changes (end - 1) d) ≡ false → list_any test (take next changes) ≡ list_any test (take end changes)
+any-step test slot changes slots end next d only are walk some is fails =
+    let f = front-at slot changes slots end next are walk some is in
+    ap (list_any test) f.front ∙ any-latest test slot (take (end - 1) changes) only
+    ∙ any_last (list_any test (take (end - 1) changes)) (test (get_or changes (end - 1) d)) (list_any test (take end changes))
+    (ap (list_any test) (take_last changes end d some f.within) ∙ list_any-append test (take (end - 1) changes) (get_or changes (end - 1) d ∷ [])) fails
+
+-- the last of the front passes, so some change does
+pub any-here : (test : HeldChange → Bool) (changes : List HeldChange) (end : ℕ) (d : HeldChange) → 0 < end → end - 1 < length changes → test (get_or changes (end - 1) d) ≡ true → list_any test (take end changes) ≡ true
+any-here test changes end d some within passes =
+    ap (list_any test) (take_last changes end d some within) ∙ list_any-append test (take (end - 1) changes) (get_or changes (end - 1) d ∷ [])
+    ∙ or_last (list_any test (take (end - 1) changes)) (test (get_or changes (end - 1) d)) passes
+  where
+    or_last : (a b : Bool) → b ≡ true → (a || (b || false)) ≡ true
+    or_last true b e = refl
+    or_last false true e = refl
+    or_last false false e = e
+
+pub or-none : (a : Option HeldChange) → option_or a None ≡ a
+or-none (Some x) = refl
+or-none None = refl
+
+or-assoc : (a b c : Option HeldChange) → option_or (option_or a b) c ≡ option_or a (option_or b c)
+or-assoc (Some x) b c = refl
+or-assoc None b c = refl
+
+pub find-step : (test : HeldChange → Bool) (slot : ℕ) (changes : List HeldChange) (slots : List ℕ) (end next : ℕ) (d : HeldChange) (found : Option HeldChange) → HasSlot test slot → slots ≡ map held_slot changes → Walk slot slots end → 0 < end → next ≡ latest (get_or slots (end - 1) 0) (take (end - 1) slots)
+    → option_or (find test (take next changes)) (option_or (if test (get_or changes (end - 1) d) then Some (get_or changes (end - 1) d) else None) found) ≡ option_or (find test (take end changes)) found
+find-step test slot changes slots end next d found only are walk some is =
+    let f = front-at slot changes slots end next are walk some is in
+    let h : HeldChange = get_or changes (end - 1) d in
+    ap (λ (o : Option HeldChange). option_or o (option_or (if test h then Some h else None) found)) (ap (find test) f.front ∙ find-latest test slot (take (end - 1) changes) only)
+    ∙ sym (or-assoc (find test (take (end - 1) changes)) (if test h then Some h else None) found)
+    ∙ ap (λ (o : Option HeldChange). option_or o found) (sym (ap (find test) (take_last changes end d some f.within) ∙ find-append test (take (end - 1) changes) (h ∷ [])))
+
+-- the place of the item just passed, where it passes the test, and else the one that was found
+pub later-at : (changes : List HeldChange) (place : ℕ) (d : HeldChange) (b : Bool) (o : Option ℕ) → place < length changes → change_at changes (option_or (if b then Some place else None) o) ≡ option_or (if b then Some (get_or changes place d) else None) (change_at changes o)
+later-at changes place d true o within = slice_get-get_or changes place d within
+later-at changes place d false o within = refl
+
+pub then_some-if : (b : Bool) (place : ℕ) → then_some b place ≡ (if b then Some place else None)
+then_some-if true place = refl
+then_some-if false place = refl
+
+pub later-within : (n place : ℕ) (b : Bool) (o : Option ℕ) → place < n → IfSome o (λ k. k < n) → IfSome (option_or (if b then Some place else None) o) (λ k. k < n)
+later-within n place true o within is = within
+later-within n place false o within is = is
+
+-- ---- the last place
+
+later-push : (a b : Bool) (o : Option ℕ) (n : ℕ) → later_place a (if b then Some n else o) ≡ (if b then Some (suc n) else later_place a o)
+later-push a true o n = refl
+later-push a false o n = refl
+
+last_place-push : (test : HeldChange → Bool) (changes : List HeldChange) (h : HeldChange) → last_place test (changes ++ h ∷ []) ≡ (if test h then Some (length changes) else last_place test changes)
+last_place-push test [] h = refl
+last_place-push test (x ∷ changes) h = ap (later_place (test x)) (last_place-push test changes h) ∙ later-push (test x) (test h) (last_place test changes) (length changes)
+
+pub last_place-step : (test : HeldChange → Bool) (changes : List HeldChange) (end : ℕ) (d : HeldChange) → 0 < end → end ≤ length changes → last_place test (take end changes) ≡ (if test (get_or changes (end - 1) d) then Some (end - 1) else last_place test (take (end - 1) changes))
+last_place-step test changes end d some within =
+    ap (last_place test) (take_last changes end d some (omega arith)) ∙ last_place-push test (take (end - 1) changes) (get_or changes (end - 1) d)
+    ∙ ap (λ (n : ℕ). if test (get_or changes (end - 1) d) then Some n else last_place test (take (end - 1) changes)) (length-take-le (end - 1) changes (omega arith))

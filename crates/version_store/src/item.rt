@@ -1,0 +1,213 @@
+//! A held change but for its row.
+
+ghost use Rattle.std.specs.Prelude.{◌≡◌, ◌≤◌, [], option_copied, length, unwrap_or};
+ghost use Rattle.version_store.specs.HeldChanges.{kind_of, is_add, is_rewrite, cost, is_after, is_record, is_unseen, hides, conflicts, is_kept, is_open_of, is_open_at};
+ghost use Rattle.database_state.specs.Changes.{changed_table, changed_bookmark};
+ghost use Rattle.version_store.specs.Items.{held_change, row_of, released_item, committed_item};
+
+use crate::calls::{By, ChangeKind, Reader};
+use column_set::{Bookmark, Change};
+use jet_base::{Session, TableId};
+
+/// The bytes that a change costs without its row.
+const COST: u64 = 64;
+
+/// Where a change stands: its transaction is open, or was committed by the entry of this number, or it was undone.
+#[derive(Clone, Copy)]
+pub(crate) enum Status {
+    Uncommitted,
+    Committed(u64),
+    Undone,
+}
+
+/// A held change but for its row.
+#[derive(Drop)]
+pub(crate) struct Item {
+    pub(crate) number: u64,
+    pub(crate) session: Session,
+    pub(crate) begin: u64,
+    pub(crate) level: u8,
+    pub(crate) kind: ChangeKind,
+    pub(crate) table: TableId,
+    pub(crate) bookmark: Bookmark,
+    /// Whether there was a row before.
+    pub(crate) had_row: bool,
+    pub(crate) status: Status,
+    /// What all changes before it have cost.
+    pub(crate) spent: u64,
+}
+
+/// The table that the change touches.
+pub(crate) fn table_of(change: &Change) -> TableId
+    ensures { result.0 ≡ changed_table change.now }
+{
+    match change {
+        Change::Put { table, .. } => *table,
+        Change::Drop { table, .. } => *table,
+        Change::Hold { table, .. } => *table,
+        Change::Add { table, .. } => *table,
+    }
+}
+
+/// The bookmark of the record that the change touches.
+pub(crate) fn bookmark_of(change: &Change) -> &Bookmark
+    ensures { result.now ≡ changed_bookmark change.now }
+{
+    match change {
+        Change::Put { bookmark, .. } => bookmark,
+        Change::Drop { bookmark, .. } => bookmark,
+        Change::Hold { bookmark, .. } => bookmark,
+        Change::Add { bookmark, .. } => bookmark,
+    }
+}
+
+/// What the change does to its record.
+pub(crate) fn what(change: &Change) -> ChangeKind
+    ensures { result ≡ kind_of change.now }
+{
+    match change {
+        Change::Put { .. } => ChangeKind::Put,
+        Change::Drop { .. } => ChangeKind::Drop,
+        Change::Hold { .. } => ChangeKind::Hold,
+        Change::Add { column, amount, .. } => ChangeKind::Add(*column, *amount),
+    }
+}
+
+// Whether it adds to an escrow column.
+fn adds(kind: ChangeKind) -> bool
+    ensures { result ≡ is_add kind }
+{
+    match kind {
+        ChangeKind::Put | ChangeKind::Drop | ChangeKind::Hold => false,
+        ChangeKind::Add(..) => true,
+    }
+}
+
+// Whether it sets or removes the row.
+fn rewrites(kind: ChangeKind) -> bool
+    ensures { result ≡ is_rewrite kind }
+{
+    match kind {
+        ChangeKind::Put | ChangeKind::Drop => true,
+        ChangeKind::Hold | ChangeKind::Add(..) => false,
+    }
+}
+
+/// The bytes that a change costs.
+pub(crate) fn cost_of(change: &Change, before: Option<&[u8]>) -> u64
+    requires { length (unwrap_or (option_copied before) []) ≤ 4096 }
+    ensures value { result ≡ cost (kind_of change.now) (option_copied before.entry) }
+    ensures limit { result ≤ 4160 }
+{
+    let size = match before {
+        Some(row) if rewrites(what(change)) => row.len().next_multiple_of(8),
+        _ => 0,
+    };
+    COST + size as u64
+}
+
+/// Whether there is a row, and its bytes, which are none where there is none.
+pub(crate) fn row_parts(before: Option<&[u8]>) -> (bool, &[u8])
+    requires { length (unwrap_or (option_copied before) []) ≤ 4096 }
+    ensures row { row_of result.0 result.1.now ≡ option_copied before.entry }
+    ensures limit { length result.1.now ≤ 4096 }
+{
+    match before {
+        Some(row) => (true, row),
+        None => (false, &[]),
+    }
+}
+
+// Whether a commit at the number came after the begin.
+fn is_later(begin: Option<u64>, number: u64) -> bool
+    ensures { result ≡ is_after begin number }
+{
+    match begin {
+        Some(begin) => begin < number,
+        None => false,
+    }
+}
+
+impl Item {
+    /// The slot's record.
+    fn is_record(&self, table: TableId, bookmark: &[u8]) -> bool
+        ensures { result ≡ is_record table.0 bookmark.now (held_change self.now []) }
+    {
+        self.table.0 == table.0 && self.bookmark.as_bytes() == bookmark
+    }
+
+    // Whether it is open in another session, or was committed after the reader's begin.
+    fn is_unseen(&self, reader: Reader) -> bool
+        ensures { result ≡ is_unseen reader (held_change self.now []) }
+    {
+        match self.status {
+            Status::Uncommitted => self.session.0 != reader.session.0,
+            Status::Committed(number) => is_later(reader.begin, number),
+            Status::Undone => false,
+        }
+    }
+
+    /// Whether it is a put or a drop of the record that the reader does not see.
+    pub(crate) fn hides(&self, table: TableId, bookmark: &[u8], reader: Reader) -> bool
+        ensures { result ≡ hides table.0 bookmark.now reader (held_change self.now []) }
+    {
+        self.is_record(table, bookmark) && rewrites(self.kind) && self.is_unseen(reader)
+    }
+
+    /// Whether it stands against the change of this reader.
+    pub(crate) fn conflicts(&self, reader: Reader, change: &Change) -> bool
+        ensures { result ≡ conflicts reader change.now (held_change self.now []) }
+    {
+        self.session.0 != reader.session.0
+            && self.is_unseen(reader)
+            && self.is_record(table_of(change), bookmark_of(change).as_bytes())
+            && !(adds(self.kind) && adds(what(change)))
+    }
+
+    /// Whether it is open, or was committed after the oldest open transaction began.
+    pub(crate) fn is_kept(&self, oldest: Option<u64>) -> bool
+        ensures { result ≡ is_kept oldest (held_change self.now []) }
+    {
+        match self.status {
+            Status::Uncommitted => true,
+            Status::Committed(number) => is_later(oldest, number),
+            Status::Undone => false,
+        }
+    }
+
+    /// Whether it is an open change of the session.
+    pub(crate) fn is_open_of(&self, session: Session) -> bool
+        ensures { result ≡ is_open_of session.0 (held_change self.now []) }
+    {
+        match self.status {
+            Status::Uncommitted => self.session.0 == session.0,
+            Status::Committed(_) | Status::Undone => false,
+        }
+    }
+
+    /// Whether it is an open change of the session at the level.
+    pub(crate) fn is_open_at(&self, session: Session, level: u8) -> bool
+        ensures { result ≡ is_open_at session.0 level (held_change self.now []) }
+    {
+        self.is_open_of(session) && self.level == level
+    }
+
+    /// The change goes to the level below where it is an open one of the session at this level, from 2 on.
+    pub(crate) fn release(&mut self, session: Session, level: u8)
+        requires { 2 ≤ level }
+        ensures { self.new ≡ released_item session.0 level self.old }
+    {
+        if self.is_open_at(session, level) {
+            self.level = level - 1;
+        }
+    }
+
+    /// The change is committed at the number where it is an open one of the session.
+    pub(crate) fn commit(&mut self, session: Session, number: u64)
+        ensures { self.new ≡ committed_item session.0 number self.old }
+    {
+        if self.is_open_of(session) {
+            self.status = Status::Committed(number);
+        }
+    }
+}

@@ -1,0 +1,18 @@
+//! The changes of the past that the engine still holds, each with the row before it.
+#![tactic(auto)]
+
+mod calls;
+mod chains;
+mod ends;
+pub mod examples;
+mod fault;
+mod item;
+mod slot;
+mod versions;
+
+pub use calls::{By, ChangeKind, Reader, Undone, Variant};
+pub use fault::VersionFault;
+pub use versions::Versions;
+
+#[cfg(test)]
+mod tests;

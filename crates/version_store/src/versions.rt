@@ -1,0 +1,285 @@
+//! The held changes, and the calls on them.
+
+ghost use Rattle.std.specs.Prelude.{◌≡◌, ℕ, ◌≤◌, ◌<◌, ◌↔◌, true, false, Option, Some, None, [], ◌∷◌, ◌++◌, length, map, drop, find, slice_get, option_copied, option_map, unwrap_or, IfSome, IsErrOf, OnOk, OnErr};
+ghost use Rattle.version_store.specs.declared.fault.VersionFault.TheVariants as fault;
+ghost use Rattle.version_store.specs.Answers.{change_at};
+ghost use Rattle.version_store.specs.HeldChanges.{new_change, has_conflict, has_room, span as the_span, seen_row, shown, hides, conflicts, last_place, is_open_at, newest_undone, released_change, committed_change};
+
+use crate::calls::{By, Reader, Undone, Variant};
+use crate::chains::Chains;
+use crate::ends::{commit_all, release_all};
+use crate::fault::VersionFault;
+use crate::item::{Item, Status, bookmark_of, cost_of, row_parts, table_of, what};
+use crate::slot::slot_of;
+use column_set::{Bookmark, Change};
+use jet_base::{OutOfMemory, Session, TableId};
+use std::alloc::Global;
+use std::collections::VecDeque;
+use std::marker::Model;
+use version_bucket::Buckets;
+
+/// The changes of the past that are still held, oldest first, each with the row before it. One stands for the whole engine.
+///
+/// Finding the changes of a record walks those that share its slot, of 65,536. Reading takes no memory.
+#[derive(Drop)]
+pub struct Versions {
+    items: VecDeque<Item>,
+    // The row before each item, empty where there was none.
+    rows: Buckets,
+    // The slots of the items' records.
+    chains: Chains,
+    // What all changes that were ever pushed have cost.
+    total: u64,
+}
+
+impl Model for Versions {
+    ghost use Rattle.std.specs.Prelude.{List};
+    ghost use Rattle.version_store.specs.HeldChanges.{HeldChange};
+
+    ghost Value = { List HeldChange };
+
+    ghost use Rattle.version_store.specs.Kept.{held, IsKept};
+
+    ghost view = { held };
+
+    ghost invariant = { IsKept };
+}
+
+impl Versions {
+    /// No change is held. It takes no memory.
+    pub fn new(alloc: Global) -> Versions
+        ensures { result ≡ [] }
+    {
+        Versions {
+            items: VecDeque::new(alloc),
+            rows: Buckets::new(alloc),
+            chains: Chains::new(alloc),
+            total: 0,
+        }
+    }
+
+    /// How many changes are held.
+    pub fn len(&self) -> usize
+        ensures { result ≡ length self.now }
+    {
+        self.items.len()
+    }
+
+    /// Whether the span of the version store stays within its limit with this change: it goes from the oldest kept change to
+    /// the newest, where a change is kept that is open or was committed after the oldest open transaction began. The row
+    /// before has at most 4,096 bytes. It looks at the changes before the oldest kept one, which cleaning takes away.
+    pub fn fits(&self, by: By, change: &Change, before: Option<&[u8]>) -> bool
+        requires { length (unwrap_or (option_copied before) []) ≤ 4096 }
+        ensures { result ≡ has_room by change.now (option_copied before.entry) self.now }
+    {
+        let cost = cost_of(change, before);
+        let span = self.span(by.oldest);
+        cost <= by.limit && span <= by.limit - cost
+    }
+
+    // The costs from the oldest kept change to the newest.
+    fn span(&self, oldest: Option<u64>) -> u64
+        ensures { result ≡ the_span oldest self.now }
+    {
+        let mut at = 0;
+        while at < self.items.len() {
+            let item = &self.items[at];
+            if item.is_kept(oldest) {
+                return self.total - item.spent;
+            }
+            at += 1;
+        }
+        0
+    }
+
+    /// Holds a change behind the others, with a copy of the row before it, which has at most 4,096 bytes. It is open. A change
+    /// that does not fit is refused, as `fits` says, and the held changes stay where it is refused or memory fails.
+    pub fn push(
+        &mut self,
+        by: By,
+        change: &Change,
+        before: Option<&[u8]>,
+    ) -> Result<(), VersionFault>
+        requires { length (unwrap_or (option_copied before) []) ≤ 4096 }
+        ensures over { IsErrOf result fault.OverSpan ↔ (has_room by change.now (option_copied before.entry) self.old ≡ false) }
+        ensures ok { OnOk result (self.new ≡ self.old ++ new_change by change.now (option_copied before.entry) ∷ []) }
+        ensures err { OnErr result (self.new ≡ self.old) }
+    {
+        if !self.fits(by, change, before) {
+            return Err(VersionFault::OverSpan);
+        }
+        match self.append(by, change, before) {
+            Ok(()) => Ok(()),
+            Err(_) => Err(VersionFault::OutOfMemory),
+        }
+    }
+
+    // Holds a change behind the others. What all changes have cost ends before 2^64, which no run reaches: a change past it is
+    // refused as for want of memory.
+    fn append(&mut self, by: By, change: &Change, before: Option<&[u8]>) -> Result<(), OutOfMemory>
+        requires { length (unwrap_or (option_copied before) []) ≤ 4096 }
+        ensures ok { OnOk result (self.new ≡ self.old ++ new_change by change.now (option_copied before.entry) ∷ []) }
+        ensures err { OnErr result (self.new ≡ self.old) }
+    {
+        let cost = cost_of(change, before);
+        if cost > u64::MAX - self.total {
+            return Err(OutOfMemory);
+        }
+        let (had_row, row) = row_parts(before);
+        let bookmark = bookmark_of(change).copy()?;
+        let slot = slot_of(table_of(change), bookmark.as_bytes());
+        let item = Item {
+            number: by.number,
+            session: by.session,
+            begin: by.begin,
+            level: by.level,
+            kind: what(change),
+            table: table_of(change),
+            bookmark,
+            had_row,
+            status: Status::Uncommitted,
+            spent: self.total,
+        };
+        self.items.reserve(1)?;
+        self.chains.push(slot)?;
+        match self.rows.push(row) {
+            Ok(_) => {}
+            Err(error) => {
+                self.chains.pop_back();
+                return Err(error);
+            }
+        }
+        self.items.push_back_reserved(item);
+        self.total += cost;
+        Ok(())
+    }
+
+    /// Whether a write conflict stands against the change: a change of another session that is open, or was committed after the
+    /// reader's begin, touches the same record, unless both are sums.
+    pub fn conflict(&self, reader: Reader, change: &Change) -> bool
+        ensures { result ≡ has_conflict reader change.now self.now }
+    {
+        let bookmark = bookmark_of(change).as_bytes();
+        let mut end = self.chains.newest(slot_of(table_of(change), bookmark));
+        while end > 0 {
+            if self.items[end - 1].conflicts(reader, change) {
+                return true;
+            }
+            end = self.chains.before(end - 1);
+        }
+        false
+    }
+
+    /// What the reader sees of a record as far as puts and drops go: the row before the oldest of them that it does not see,
+    /// which is open in another session or was committed after its begin.
+    pub fn variant(&self, table: TableId, bookmark: &[u8], reader: Reader) -> Variant<'_>
+        ensures { shown result ≡ seen_row table.0 bookmark.now reader self.now }
+    {
+        match self.oldest_hiding(table, bookmark, reader) {
+            Some(place) => match self.before_at(place) {
+                Some(row) => Variant::Before(row),
+                None => Variant::Absent,
+            },
+            None => Variant::Current,
+        }
+    }
+
+    // The place of the oldest put or drop of the record that the reader does not see.
+    fn oldest_hiding(&self, table: TableId, bookmark: &[u8], reader: Reader) -> Option<usize>
+        ensures found { find (hides table.0 bookmark.now reader) self.now ≡ change_at self.now result }
+        ensures within { IfSome result (λ place. place < length self.now) }
+    {
+        let mut oldest = None;
+        let mut end = self.chains.newest(slot_of(table, bookmark));
+        while end > 0 {
+            let place = end - 1;
+            let hides = self.items[place].hides(table, bookmark, reader);
+            oldest = hides.then_some(place).or(oldest);
+            end = self.chains.before(place);
+        }
+        oldest
+    }
+
+    /// The row before the change at this place, in place.
+    pub fn before_at(&self, place: usize) -> Option<&[u8]>
+        requires { place < length self.now }
+        ensures { slice_get (map (λ h. h.before) self.now) place ≡ Some (option_copied result) }
+    {
+        if self.items[place].had_row {
+            Some(self.rows.get(self.rows.first() + place as u64))
+        } else {
+            None
+        }
+    }
+
+    /// The bookmark of the record of the change at this place.
+    pub fn bookmark_at(&self, place: usize) -> &[u8]
+        requires { place < length self.now }
+        ensures { slice_get (map (λ h. h.bookmark) self.now) place ≡ Some result.now }
+    {
+        self.items[place].bookmark.as_bytes()
+    }
+
+    /// The newest open change of the session at the level becomes undone. None where there is none.
+    pub fn undo_level(&mut self, session: Session, level: u8) -> Option<Undone>
+        ensures changes { self.new ≡ newest_undone session.0 level self.old }
+        ensures place { option_map (λ undone. undone.place) result ≡ last_place (is_open_at session.0 level) self.old }
+        ensures table { option_map (λ undone. undone.table.0) result ≡ option_map (λ h. h.table) (change_at self.old (last_place (is_open_at session.0 level) self.old)) }
+    {
+        let place = self.newest_open_at(session, level)?;
+        let item = &mut self.items[place];
+        item.status = Status::Undone;
+        let table = item.table;
+        Some(Undone { table, place })
+    }
+
+    // The place of the newest open change of the session at the level.
+    fn newest_open_at(&self, session: Session, level: u8) -> Option<usize>
+        ensures place { result ≡ last_place (is_open_at session.0 level) self.now }
+        ensures within { IfSome result (λ place. place < length self.now) }
+    {
+        let mut end = self.items.len();
+        while end > 0 {
+            if self.items[end - 1].is_open_at(session, level) {
+                return Some(end - 1);
+            }
+            end -= 1;
+        }
+        None
+    }
+
+    /// The session's open changes at the level, which is at least 2, go to the level below.
+    pub fn release(&mut self, session: Session, level: u8)
+        requires { 2 ≤ level }
+        ensures { self.new ≡ map (released_change session.0 level) self.old }
+    {
+        release_all(&mut self.items, session, level);
+    }
+
+    /// The session's open changes are committed, by the entry of this number.
+    pub fn commit(&mut self, session: Session, number: u64)
+        ensures { self.new ≡ map (committed_change session.0 number) self.old }
+    {
+        commit_all(&mut self.items, session, number);
+    }
+
+    /// Gives up the oldest change.
+    pub fn pop_oldest(&mut self)
+        requires { 0 < length self.old }
+        ensures { self.new ≡ drop 1 self.old }
+    {
+        self.items.pop_front();
+        self.rows.pop_front();
+        self.chains.pop_front();
+    }
+
+    /// The table of the oldest change.
+    pub fn oldest_table(&self) -> Option<TableId>
+        ensures { option_map (λ table. table.0) result ≡ option_map (λ h. h.table) (slice_get self.now 0) }
+    {
+        match self.items.front() {
+            Some(item) => Some(item.table),
+            None => None,
+        }
+    }
+}
