@@ -22,7 +22,7 @@ use Rattle.index_derive.specs.declared.schema_calls.SchemaStep.TheVariants as st
 use Rattle.database_state.specs.Table.{Table, table_with_id}
 use Rattle.database_state.specs.Lawful.{log_limit}
 use Rattle.database_state.specs.SchemaChanges.{tables_after_step, with_column, with_index}
-use Rattle.session_local.specs.Outcome.{entries_of_step}
+use Rattle.index_derive.specs.Steps.{entries_of_step}
 use Rattle.jet_catalog.specs.Catalog.{CatalogState, ids_rise, has_new_id}
 use Rattle.table_store.specs.StoredRows.{StoredRows, stored_rows, has_table}
 use Rattle.engine_state.specs.SingleSession.{entry_by}

@@ -20,7 +20,7 @@ use Rattle.database_state.specs.Table.{Table, primary_rule, schema_of}
 use Rattle.session_local.specs.declared.request.Request.TheVariants as call
 use Rattle.session_local.specs.Agreement.{HasSchemaOf}
 use Rattle.session_local.specs.Local.{OpenCursor}
-use Rattle.session_local.specs.Outcome.{entries_of_step}
+use Rattle.index_derive.specs.Steps.{entries_of_step}
 use Rattle.session_local.specs.Run.{flushes_step}
 use Rattle.session_local.specs.SessionSide.{SessionSide}
 use Rattle.table_store.specs.StoredRows.{has_table, stored_rows}

@@ -7,7 +7,8 @@ use Rattle.session_local.specs.declared.decision.Decision.{Decision}
 use Rattle.session_local.specs.SessionSide.{SessionSide}
 use Rattle.session_local.specs.Answer.{answered_by}
 use Rattle.session_local.specs.Showing.{names_within}
-use Rattle.session_local.specs.Outcome.{Asked, entries_of_step}
+use Rattle.index_derive.specs.Steps.{entries_of_step}
+use Rattle.session_local.specs.Outcome.{Asked}
 use Rattle.session_local.specs.Calls.{answer}
 use Rattle.session_local.specs.Finishing.{finished}
 use Rattle.session_local.specs.Deciding.{decided_in, CopiedFits}

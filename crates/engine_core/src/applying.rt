@@ -2,7 +2,7 @@
 
 ghost use Rattle.std.specs.Prelude.{◌≡◌, ℕ, ◌+◌, ◌-◌, ◌<◌, ◌≤◌, [], true, Some, OnOk, OnErr, IsTrue, is_some};
 ghost use Rattle.index_derive.specs.declared.log.Step.TheVariants.{Alone};
-ghost use Rattle.session_local.specs.Outcome.{entries_of_step};
+ghost use Rattle.index_derive.specs.Steps.{entries_of_step};
 ghost use Rattle.database_state.specs.Table.{table_with_id};
 ghost use Rattle.database_state.specs.Lawful.{log_limit};
 ghost use Rattle.jet_catalog.specs.Catalog.{catalog_after, has_new_id};

@@ -40,7 +40,7 @@ impl Engine {
         if local.cursors().len() >= MOST_CURSORS {
             return Ok(refused(Jet::OutOfCursors));
         }
-        let Some(found) = self.catalog.lookup(table.as_str()) else {
+        let Some(found) = self.catalog.lookup(table.as_bytes()) else {
             return Ok(refused(Jet::ObjectNotFound));
         };
         if self.number >= LOG_LIMIT {

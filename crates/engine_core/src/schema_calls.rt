@@ -60,7 +60,7 @@ impl Engine {
         ensures numbered { IsNumbered self.now.catalog }
     {
         let _numbered = self.catalog.tables();
-        self.catalog.lookup(called_name(call).as_str())
+        self.catalog.lookup(called_name(call).as_bytes())
     }
 
     // Whether the live session has a cursor open on the table.

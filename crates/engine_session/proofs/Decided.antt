@@ -6,7 +6,7 @@ use Rattle.index_derive.specs.declared.log.Step.{Step}
 use Rattle.session_local.specs.declared.request.Request.{Request}
 use Rattle.session_local.specs.SessionSide.{SessionSide}
 use Rattle.session_local.specs.LocalCalls.{is_answered_locally}
-use Rattle.session_local.specs.Outcome.{entries_of_step}
+use Rattle.index_derive.specs.Steps.{entries_of_step}
 use Rattle.session_local.specs.Calls.{answer}
 use Rattle.engine_state.specs.EngineState.{EngineState}
 use Rattle.engine_state.specs.EngineSteps.{may_take_all}

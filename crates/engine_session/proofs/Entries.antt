@@ -15,7 +15,8 @@ use Rattle.database_state.specs.Step.{state_after, state_after_all}
 use Rattle.jet_catalog.specs.Catalog.{CatalogState, IsNumbered}
 use Rattle.session_local.specs.SessionSide.{SessionSide, label_of, are_distinct}
 use Rattle.session_local.specs.Local.{LocalState}
-use Rattle.session_local.specs.Outcome.{Asked, Outcome, entries_of_step, entry_of, one}
+use Rattle.index_derive.specs.Steps.{entries_of_step}
+use Rattle.session_local.specs.Outcome.{Asked, Outcome, entry_of, one}
 use Rattle.session_local.specs.Agreement.{HasSchemaOf, SameCounts, cursor_table}
 use Rattle.session_local.specs.WellFormed.{IsWellFormed}
 use Rattle.engine_state.specs.SingleSession.{entry_by, newest_after}

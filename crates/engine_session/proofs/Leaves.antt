@@ -6,7 +6,8 @@ use Rattle.database_state.specs.State.{DatabaseState}
 use Rattle.database_state.specs.Step.{state_after_all}
 use Rattle.session_local.specs.SessionSide.{SessionSide, label_of, are_distinct}
 use Rattle.session_local.specs.Local.{LocalState, OpenCursor, cursor_labelled, with_cursor}
-use Rattle.session_local.specs.Outcome.{Outcome, entries_of_step}
+use Rattle.index_derive.specs.Steps.{entries_of_step}
+use Rattle.session_local.specs.Outcome.{Outcome}
 use Rattle.session_local.specs.Agreement.{SameCounts, cursor_table}
 use Rattle.session_local.specs.WellFormed.{IsWellFormed, is_well_formed_cursor}
 use Rattle.engine_state.specs.EngineState.{EngineState, open_tables_in}

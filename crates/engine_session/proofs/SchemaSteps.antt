@@ -27,7 +27,8 @@ use Rattle.session_local.specs.declared.request.Request.{Request}
 use Rattle.session_local.specs.declared.request.Request.TheVariants as call
 use Rattle.session_local.specs.SessionSide.{SessionSide}
 use Rattle.session_local.specs.Answer.{Nothing}
-use Rattle.session_local.specs.Outcome.{Asked, Outcome, done, refused, unless, unless_refused, one, entries_of_step}
+use Rattle.index_derive.specs.Steps.{entries_of_step}
+use Rattle.session_local.specs.Outcome.{Asked, Outcome, done, refused, unless, unless_refused, one}
 use Rattle.session_local.specs.SchemaCalls.{schema_changed}
 use Rattle.session_local.specs.Calls.{answer, answer_begun, answer_not_begun}
 use Rattle.session_local.specs.LocalCalls.{is_answered_locally}

@@ -19,7 +19,8 @@ use Rattle.session_local.specs.SessionSide.{SessionSide}
 use Rattle.session_local.specs.Answer.{Nothing}
 use Rattle.session_local.specs.Agreement.{HasSchemaOf}
 use Rattle.session_local.specs.Local.{OpenCursor, PreparedUpdate, cursor_labelled, with_new_cursor, without_prepared}
-use Rattle.session_local.specs.Outcome.{Asked, Outcome, done, entries_of_step, entry_of, is_outside, number_refusals, on_cursor, one, refused, rows_seen, span_refusals, step_of_change}
+use Rattle.index_derive.specs.Steps.{entries_of_step}
+use Rattle.session_local.specs.Outcome.{Asked, Outcome, done, entry_of, is_outside, number_refusals, on_cursor, one, refused, rows_seen, span_refusals, step_of_change}
 use Rattle.session_local.specs.SessionCalls.{begin_session, begin_transaction, commit_transaction}
 use Rattle.session_local.specs.CursorCalls.{close_table, get_bookmark, goto_bookmark, move_cursor, open_table, opened, retrieve_key, seek_key, set_current_index, set_index_range, whole}
 use Rattle.session_local.specs.RecordCalls.{bookmark_for, copied_in, is_primary_changed, on_prepared, put_of, replaced_by, retrieve_column, update, update_with, with_prepared}

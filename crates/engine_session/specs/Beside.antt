@@ -10,7 +10,8 @@ use Rattle.database_state.specs.Step.{state_after_all}
 use Rattle.jet_catalog.specs.Catalog.{IsNumbered}
 use Rattle.session_local.specs.SessionSide.{SessionSide, label_of, are_distinct}
 use Rattle.session_local.specs.Local.{OpenCursor, PreparedUpdate, PreparedFor, inserting, replacing}
-use Rattle.session_local.specs.Outcome.{Asked, Outcome, entries_of_step}
+use Rattle.index_derive.specs.Steps.{entries_of_step}
+use Rattle.session_local.specs.Outcome.{Asked, Outcome}
 use Rattle.session_local.specs.Agreement.{HasSchemaOf, SameCounts, cursor_table}
 use Rattle.session_local.specs.WellFormed.{IsWellFormed, number_of_column}
 use Rattle.engine_state.specs.EngineState.{EngineState, open_tables_in}

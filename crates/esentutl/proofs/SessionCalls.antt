@@ -21,7 +21,8 @@ use Rattle.session_local.specs.LocalCalls.{is_answered_locally, is_begin, takes_
 use Rattle.session_local.specs.SessionCalls.{begin_session}
 use Rattle.session_local.specs.SessionSide.{SessionSide}
 use Rattle.session_local.specs.Deciding.{reply_after}
-use Rattle.session_local.specs.Outcome.{Asked, Outcome, done, one, number_refusals, unless_refused, entries_of_step}
+use Rattle.index_derive.specs.Steps.{entries_of_step}
+use Rattle.session_local.specs.Outcome.{Asked, Outcome, done, one, number_refusals, unless_refused}
 use Rattle.session_local.specs.Calls.{answer, is_local}
 use Rattle.session_local.specs.Run.{RunState, SessionRun, session_run, last_after, number_of_line, takes_no_memory}
 use Rattle.script_transcript.specs.TranscriptLine.{names_at_most}

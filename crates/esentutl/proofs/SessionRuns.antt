@@ -16,7 +16,8 @@ use Rattle.session_local.specs.declared.reply.Reply.{Reply}
 use Rattle.session_local.specs.Answer.{Answered, answered_by}
 use Rattle.session_local.specs.Local.{LocalState}
 use Rattle.session_local.specs.SessionSide.{SessionSide}
-use Rattle.session_local.specs.Outcome.{Asked, Outcome, entries_of_step}
+use Rattle.index_derive.specs.Steps.{entries_of_step}
+use Rattle.session_local.specs.Outcome.{Asked, Outcome}
 use Rattle.session_local.specs.Calls.{answer, is_local}
 use Rattle.session_local.specs.Run.{RunState, SessionRun, LineOutcome, served, no_memory, session_run, asked_in, outcome_of, number_of_line, last_after, after_outcome, takes_no_memory}
 use Rattle.engine_state.specs.EngineState.{EngineState}

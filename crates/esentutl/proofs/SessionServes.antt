@@ -11,7 +11,7 @@ use Rattle.session_local.specs.declared.request.Request.{Request}
 use Rattle.session_local.specs.declared.decision.Decision.{Decision}
 use Rattle.session_local.specs.Local.{no_session}
 use Rattle.session_local.specs.Calls.{answer, is_local}
-use Rattle.session_local.specs.Outcome.{entries_of_step}
+use Rattle.index_derive.specs.Steps.{entries_of_step}
 use Rattle.session_local.specs.Finishing.{finished}
 use Rattle.session_local.specs.Deciding.{decided_in, reply_after}
 use Rattle.engine_core.specs.Deciding.{IsAnswer, IsDecision}

@@ -4,7 +4,7 @@ ghost use Rattle.std.specs.Prelude.{◌≡◌, List, true, false, length, OnOk, 
 ghost use Rattle.database_state.specs.State.{empty_state};
 ghost use Rattle.session_local.specs.Calls.{is_local};
 ghost use Rattle.session_local.specs.LocalCalls.{is_answered_locally};
-ghost use Rattle.session_local.specs.Outcome.{entries_of_step};
+ghost use Rattle.index_derive.specs.Steps.{entries_of_step};
 ghost use Rattle.session_local.specs.Run.{RunState, Line, run_from};
 ghost use Rattle.script_text.specs.Built.{are_built};
 ghost use Rattle.script_transcript.specs.TranscriptLine.{NamesNoMore};

@@ -2,4 +2,5 @@ pub mod Columns
 pub mod Derived
 pub mod Entries
 pub mod Primary
+pub mod Steps
 pub mod Walks

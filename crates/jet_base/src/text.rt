@@ -10,42 +10,43 @@ use std::alloc::{AllocError, Global};
 use std::cmp::Ordering;
 use std::marker::Model;
 
-/// The name of a table, a column or an index. Names are equal exactly where their bytes are: case counts.
+/// The name of a table, a column or an index: any bytes, of which a script writes letters, digits and `_` alone. Names are
+/// equal exactly where their bytes are: case counts.
 #[derive(Debug, Drop)]
 pub struct Name {
-    text: String,
+    bytes: Vec<u8>,
 }
 
 impl Model for Name {
-    ghost use Rattle.std.specs.Prelude.{List, ℕ, string_bytes};
+    ghost use Rattle.std.specs.Prelude.{List, ℕ};
 
     ghost Value = { List ℕ };
 
-    ghost view = { λ a. string_bytes a.text };
+    ghost view = { λ a. a.bytes.items };
 }
 
 impl Name {
-    /// The name with this text.
+    /// The name that is this text.
     pub fn new(alloc: Global, text: &str) -> Result<Name, OutOfMemory>
         ensures { IfOk result (λ made. made ≡ text.now) }
     {
+        Name::from_slice(alloc, text.as_bytes())
+    }
+
+    /// The name of these bytes, copied.
+    pub fn from_slice(alloc: Global, bytes: &[u8]) -> Result<Name, OutOfMemory>
+        ensures { IfOk result (λ made. made ≡ bytes.now) }
+    {
         Ok(Name {
-            text: String::from_str(alloc, text)?,
+            bytes: Vec::from_slice(alloc, bytes)?,
         })
     }
 
-    /// The name's text.
-    pub fn as_str(&self) -> &str
-        ensures { result.now ≡ self.now }
-    {
-        self.text.as_str()
-    }
-
-    /// The bytes of the name's text.
+    /// The bytes.
     pub fn as_bytes(&self) -> &[u8]
         ensures { result.now ≡ self.now }
     {
-        self.text.as_bytes()
+        self.bytes.as_slice()
     }
 
     /// Another value of the same name.
@@ -61,7 +62,7 @@ impl Clone for Name {
 
     fn clone(&self) -> Result<Name, AllocError> {
         Ok(Name {
-            text: self.text.clone()?,
+            bytes: self.bytes.clone()?,
         })
     }
 }
@@ -72,7 +73,7 @@ impl PartialEq for Name {
     ghost laws = { partial_equiv_from_equiv nat_list_eq_equiv };
 
     fn eq(&self, other: &Name) -> bool {
-        self.as_str() == other.as_str()
+        self.as_bytes() == other.as_bytes()
     }
 }
 
@@ -100,7 +101,7 @@ impl Ord for Name {
     ghost matches_eq = { texts_ties };
 
     fn cmp(&self, other: &Name) -> Ordering {
-        self.as_str().cmp(other.as_str())
+        self.as_bytes().cmp(other.as_bytes())
     }
 }
 
@@ -216,7 +217,6 @@ mod tests {
     fn names_are_made_and_copied(rt: HostRuntime) -> Result<(), Fail> {
         let name = Name::new(rt.alloc(), "load")?;
         let other = Name::new(rt.alloc(), "Load")?;
-        assert_eq!(rt; name.as_str(), "load");
         assert_eq!(rt; name.as_bytes(), b"load".as_slice());
         assert!(rt; name.copy()? == name);
         assert!(rt; name.clone()? == name);

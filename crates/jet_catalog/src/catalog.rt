@@ -62,12 +62,12 @@ impl Catalog {
     }
 
     /// The table of this name.
-    pub fn lookup(&self, name: &str) -> Option<&TableDef>
+    pub fn lookup(&self, name: &[u8]) -> Option<&TableDef>
         ensures { option_copied result ≡ table_named self.now.tables name.now }
     {
         self.tables()
             .iter()
-            .find(|table| table.name().as_str() == name)
+            .find(|table| table.name().as_bytes() == name)
     }
 
     /// The table of this number.

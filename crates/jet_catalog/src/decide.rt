@@ -47,7 +47,7 @@ impl Catalog {
         ensures decided { IfOk result (λ made. made ≡ decided (database_of self.now) has_records call.now) }
         ensures new_id { IfOk result (λ made. IfOk made (λ step. IsTrue (has_new_id self.now step))) }
     {
-        self.decide_on(call, self.lookup(called_name(call).as_str()), has_records)
+        self.decide_on(call, self.lookup(called_name(call).as_bytes()), has_records)
     }
 
     // The same, given the table of the call's name.
@@ -108,7 +108,7 @@ impl Catalog {
     fn decide_table(&self, name: &Name) -> Result<Decision, OutOfMemory>
         ensures { IfOk result (λ made. made ≡ answer (table_refusals (database_of self.now) name.now) (table_step (database_of self.now) name.now)) }
     {
-        if self.lookup(name.as_str()).is_some() {
+        if self.lookup(name.as_bytes()).is_some() {
             return Ok(Err(Jet::TableDuplicate));
         }
         if self.len() >= MOST_TABLES || self.greatest() == u32::MAX {

@@ -151,21 +151,21 @@ fn a_table_is_found(rt: HostRuntime) -> Result<(), Fail> {
     assert_eq!(rt; calls.catalog.greatest(), 1);
     assert_eq!(rt; calls.catalog.tables().len(), 1);
     assert!(rt; calls.catalog.by_id(TableId(1)).is_some());
-    assert!(rt; calls.catalog.lookup("t").is_none());
+    assert!(rt; calls.catalog.lookup(b"t".as_slice()).is_none());
     Ok(())
 }
 
 #[test]
 fn a_table_is_read(rt: HostRuntime) -> Result<(), Fail> {
     let calls = Calls::on_table(rt.alloc())?;
-    let found = calls.catalog.lookup("T").ok_or("no table")?;
+    let found = calls.catalog.lookup(b"T".as_slice()).ok_or("no table")?;
     assert_eq!(rt; found.id(), TableId(1));
-    assert_eq!(rt; found.name().as_str(), "T");
+    assert_eq!(rt; found.name().as_bytes(), b"T".as_slice());
     assert_eq!(rt; found.columns().len(), 2);
     assert_eq!(rt; found.greatest().variable, 128);
     let schema = found.schema()?;
     let first = schema.indexes.as_slice().first().ok_or("no index")?;
-    assert_eq!(rt; first.name.as_str(), "pk");
+    assert_eq!(rt; first.name.as_bytes(), b"pk".as_slice());
     assert!(rt; found.primary().is_some());
     Ok(())
 }
@@ -282,7 +282,7 @@ fn deleted_indexes_leave_their_numbers(rt: HostRuntime) -> Result<(), Fail> {
     assert_eq!(rt; calls.delete_index("by_a")?, Jet::Success);
     assert_eq!(rt; calls.create_index("again", SECONDARY, "a")?, Jet::Success);
     let again = calls.name("again")?;
-    let found = calls.catalog.lookup("T").ok_or("no table")?;
+    let found = calls.catalog.lookup(b"T".as_slice()).ok_or("no table")?;
     let index = found.index_named(&again).ok_or("no index")?;
     assert_eq!(rt; index.id.0, 1);
     assert_eq!(rt; index.order, 3);

@@ -1,5 +1,4 @@
 pub mod Cuts
 pub mod WordCounts
 pub mod Decimal
-pub mod NameBytes
 pub mod HexPairs

@@ -48,18 +48,6 @@ pub fn is_name(word: &[u8]) -> bool
     }
 }
 
-/// The text of a name.
-#[tactic(auto, using(crate::proofs::NameBytes::names))]
-fn text_of_name(word: &[u8]) -> &str
-    requires { IsTrue (is_name word.now) }
-    ensures { result.now ≡ word.now }
-{
-    match str::from_utf8(word) {
-        Ok(text) => text,
-        Err(_) => unreachable!(),
-    }
-}
-
 /// A name.
 #[tactic(auto, unfolding(crate::specs::Words::name_of))]
 pub fn name(alloc: Global, word: &[u8]) -> Result<Name, Refusal>
@@ -68,7 +56,7 @@ pub fn name(alloc: Global, word: &[u8]) -> Result<Name, Refusal>
     if !is_name(word) {
         return Err(Refusal::Bad);
     }
-    Ok(Name::new(alloc, text_of_name(word))?)
+    Ok(Name::from_slice(alloc, word)?)
 }
 
 /// The value of a hexadecimal digit.

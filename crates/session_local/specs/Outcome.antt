@@ -84,11 +84,6 @@ abbrev pub step_of_change : Asked → Change → Option Step
 step_of_change asked change =
     if levels asked.state asked.session == 0 then Some (Alone (entry_of asked (entry.Change change))) else one asked (entry.Change change)
 
-abbrev pub entries_of_step : Option Step → List Entry
-entries_of_step None = []
-entries_of_step (Some (One made)) = made ∷ []
-entries_of_step (Some (Alone made)) = record { session = made.session; kind = entry.Begin } ∷ made ∷ record { session = made.session; kind = entry.Commit } ∷ []
-
 -- ---- what the session sees at a cursor
 
 abbrev pub rows_seen : Asked → OpenCursor → Rows

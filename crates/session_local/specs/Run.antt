@@ -14,7 +14,8 @@ use Rattle.session_local.specs.declared.request.Request.{Request}
 use Rattle.session_local.specs.declared.request.Request.TheVariants as call
 use Rattle.session_local.specs.Answer.{Answered, Row, Nothing}
 use Rattle.session_local.specs.Local.{LocalState, no_session}
-use Rattle.session_local.specs.Outcome.{Asked, Outcome, entries_of_step}
+use Rattle.index_derive.specs.Steps.{entries_of_step}
+use Rattle.session_local.specs.Outcome.{Asked, Outcome}
 use Rattle.session_local.specs.Calls.{answer, is_local}
 
 -- A line of a script: the label of its session, and its call.

@@ -10,7 +10,7 @@ use Rattle.index_derive.specs.declared.log.EntryKind.TheVariants as entry
 use Rattle.column_set.specs.declared.changes.Change.TheVariants.{Put}
 use Rattle.column_set.specs.Record.{is_record}
 use Rattle.column_set.specs.RecordValues.{RecordFields}
-use Rattle.session_local.specs.Outcome.{entries_of_step}
+use Rattle.index_derive.specs.Steps.{entries_of_step}
 use Rattle.session_local.specs.Run.{flushes_step}
 use Rattle.engine_state.specs.EngineSteps.{may_take_all}
 use Rattle.session_local.specs.Preparing.{update_of}
