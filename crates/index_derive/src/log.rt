@@ -1,5 +1,8 @@
 //! Entries of the log.
 
+ghost use Rattle.std.specs.Prelude.{◌≡◌};
+ghost use Rattle.index_derive.specs.Steps.{step_length};
+
 use crate::schema_calls::SchemaStep;
 use column_set::Change;
 use jet_base::{Session, TableId};
@@ -47,4 +50,16 @@ pub enum Step {
     One(Entry),
     /// Three entries of the entry's session: a begin, the entry, which is a change, and a commit.
     Alone(Entry),
+}
+
+impl Step {
+    /// How many entries it makes: one or three.
+    pub fn len(&self) -> u64
+        ensures { result ≡ step_length self.now }
+    {
+        match self {
+            Step::One(_) => 1,
+            Step::Alone(_) => 3,
+        }
+    }
 }
