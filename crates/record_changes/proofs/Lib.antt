@@ -1,0 +1,5 @@
+pub mod Tests
+pub mod Sums
+pub mod Commuting
+pub mod Projecting
+pub mod Folds
