@@ -1,10 +1,9 @@
 -- Checking values one after the other, as a loop does.
 use Rattle.std.proofs.Common.{◌≡◌, ℕ, suc, ◌-◌, ◌+◌, ◌≤◌, ◌<◌, Bool, true, false, cond, ltb, List, ◌∷◌, length, eqb, Option, Some, None, refl, sym, ap, ◌∙◌, arith}
 use Rattle.std.specs.Prelude.{◌↔◌, IsTrue}
-use Rattle.std.proofs.lemmas.Bool.{le-ltb, lt-ltb}
 use Rattle.column_set.specs.declared.rows.RowValue.{RowValue}
 use Rattle.column_set.specs.Rows.{IsRowBytes}
-use Rattle.column_set.specs.RowReading.{◌>>=◌, next_at, values_at, all_values, read_values, grouped, is_read, takes_all}
+use Rattle.column_set.specs.RowReading.{◌>>=◌, next_at, values_at, read_values, grouped, is_read, takes_all}
 use Rattle.column_set.proofs.RowFieldValues.{IsBytes}
 use Rattle.column_set.proofs.Spelling.{read_spelled, row_from_values, read_row_again}
 
@@ -44,14 +43,6 @@ read_is bytes (Some values) fits e h = let s = row_from_values bytes values (rea
 
 again_is : (bytes : List ℕ) → IsRowBytes bytes → is_read (read_values bytes) ≡ true
 again_is bytes h = ap (λ (b : List ℕ). is_read (read_values b)) h.2 ∙ ap is_read (read_row_again h.0 h.1)
-
-pub short_is_read : (bytes : List ℕ) → length bytes ≤ 1700 → is_read (read_values bytes) ≡ is_read (all_values bytes)
-unfolding read_values
-short_is_read bytes le = let test : ltb 1700 (length bytes) ≡ false = le-ltb _ _ le in rw test refl
-
-pub long_is_not_read : (bytes : List ℕ) → 1700 < length bytes → is_read (read_values bytes) ≡ false
-unfolding read_values
-long_is_not_read bytes lt = let test : ltb 1700 (length bytes) ≡ true = lt-ltb _ _ lt in rw test refl
 
 pub is_row-from_read : (bytes : List ℕ) (result : Bool) → IsBytes bytes → result ≡ is_read (read_values bytes) → IsTrue result ↔ IsRowBytes bytes
 is_row-from_read bytes result fits e = (λ h. read_is bytes (read_values bytes) fits refl (sym e ∙ h), λ h. e ∙ again_is bytes h)

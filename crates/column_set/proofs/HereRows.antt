@@ -17,7 +17,7 @@ use Rattle.column_set.specs.declared.rows.RowValue.TheVariants.{Here}
 use Rattle.column_set.specs.Record.{is_record}
 use Rattle.column_set.specs.RecordValues.{RecordFields, record_size}
 use Rattle.column_set.specs.Rows.{all_here, are_short, bytes_here, field_fits_row, here_fields, is_all_here, is_row, is_row_of, record_values_in_order, row_bytes, row_size, stands_for, value_bytes, value_fits_row, values_in_order, values_stand_for}
-use Rattle.column_set.proofs.Sizes.{is_row-from, row_size-record_size, size-length}
+use Rattle.column_set.proofs.Sizes.{few_from_size, is_row-from, row_size-record_size, size-length}
 
 -- ---- the values of the row
 
@@ -160,12 +160,15 @@ pub row : (fields : RecordFields) → is_record fields ≡ true → is_all_here 
 row fields formed short columns small =
     let parts = and_parts (is_sorted nat_cmp fields) (list_all (λ field. ltb 0 (length field.1)) fields) formed in
     is_row-from (all_here fields) (and_from (is_sorted nat_cmp (all_here fields)) (list_all field_fits_row (all_here fields)) (sorted_here fields ∙ parts.0) (fields_fit fields columns parts.1 short))
-    (subst (λ n. n ≤ 1700) (sym (size fields short)) small)
+    (few_from_size (all_here fields) (subst (λ n. n ≤ 1700) (sym (size fields short)) small))
 
 -- ---- what a loop over the fields has written
 
 small_from : (total size : ℕ) → size ≡ min total (2 ^ 64 - 1) → size ≤ 1700 → total ≤ 1700
 small_from total size is small = omega arith
+
+pub row_small : (fields : RecordFields) (given : ℕ) → is_all_here fields ≡ true → given ≡ min (record_size fields) (2 ^ 64 - 1) → given ≤ 1700 → row_size (all_here fields) ≤ 1700
+row_small fields given short given_is small = subst (λ n. n ≤ 1700) (sym (size fields short)) (small_from (record_size fields) given given_is small)
 
 pub count_fits : (seen fields : RecordFields) (size : ℕ) → seen ≡ fields → is_all_here fields ≡ true → size ≡ min (record_size fields) (2 ^ 64 - 1) → size ≤ 1700
     → sum_by (λ field. length field.1) seen ≤ 340

@@ -1,15 +1,16 @@
 -- The size of a row, and what the values of a row in order have.
-use Rattle.std.proofs.Common.{◌≡◌, ℕ, ◌+◌, ◌*◌, ◌<◌, ◌≤◌, Bool, true, false, cond, ltb, leb, eqb, ◌&&◌, List, [], ◌∷◌, ◌++◌, length, take, get_or, refl, sym, ap, ◌∙◌, arith, All}
+use Rattle.std.proofs.Common.{◌≡◌, ℕ, ◌+◌, ◌*◌, ◌^◌, ◌<◌, ◌≤◌, Bool, true, false, cond, ltb, leb, eqb, ◌&&◌, List, [], ◌∷◌, ◌++◌, length, take, get_or, refl, sym, ap, ◌∙◌, arith, All}
 use Rattle.std.specs.Prelude.{bytes_eq, map, sum_by}
 use Rattle.std.specs.List.{flat_map, AllByRecursion}
-use Rattle.std.proofs.lemmas.Bool.{and_parts, and_from, leb-true, le-leb, le-ltb}
+use Rattle.std.specs.Int.{w16, to_le_bytes}
+use Rattle.std.proofs.lemmas.Bool.{and_parts, and_from, leb-true, le-ltb, lt-ltb, ltb-true}
 use Rattle.std.proofs.lemmas.List.{length-append, take_more}
 use Rattle.std.proofs.lemmas.Slice.Eq.{bytes_eq-Decides}
 use Rattle.std.proofs.lemmas.List.Sums.{sum_by-cons, sum_by-take-le, sum_by_push}
 use Rattle.std.proofs.lemmas.List.Elements.{All-from_recursion}
 use Rattle.column_set.specs.declared.rows.RowValue.{RowValue}
 use Rattle.column_set.specs.declared.rows.RowValue.TheVariants.{Here, Apart}
-use Rattle.column_set.specs.Rows.{RowFields, values_in_order, value_fits_row, room_in_row, value_bytes, is_row, is_row_of, is_well_formed, record_values_in_order, row_size, stands_for, values_stand_for}
+use Rattle.column_set.specs.Rows.{RowFields, values_in_order, value_fits_row, room_in_row, value_bytes, is_row, is_row_of, is_well_formed, record_values_in_order, row_bytes, row_size, stands_for, values_stand_for}
 use Rattle.column_set.specs.RecordValues.{RecordFields, record_size, size_of_value}
 use Rattle.column_set.specs.RowReading.{are_in_order, size_of_values}
 use Rattle.column_set.proofs.Grouping.{in_order_parts}
@@ -43,17 +44,30 @@ length-values [] = refl
 length-values (value ∷ values) =
     omega (arith, length-values values, length-append (value_bytes value) (flat_map value_bytes values), length-value_bytes value, sum_by-cons (λ (v : ℕ × RowValue). 5 + room_in_row v.1) value values)
 
-pub is_row-from : (row : RowFields) → is_well_formed row ≡ true → row_size row ≤ 1700 → is_row row ≡ true
-is_row-from row formed small = and_from (is_well_formed row) (leb (row_size row) 1700) formed (le-leb _ _ small)
+-- the bytes of a row are as many as its size
+pub length-row_bytes : (row : RowFields) → length (row_bytes row) ≡ row_size row
+length-row_bytes row =
+    let values = values_in_order row in
+    omega (arith, length-values values, length-append (to_le_bytes w16 (length values)) (flat_map value_bytes values))
 
-pub record IsSmallRow (row : RowFields) : Type 0 where
+pub length-small : (row : RowFields) (bytes : List ℕ) → row_size row ≤ 1700 → bytes ≡ row_bytes row → length bytes ≤ 1700
+length-small row bytes small e = omega (arith, ap length e, length-row_bytes row)
+
+pub is_row-from : (row : RowFields) → is_well_formed row ≡ true → length (values_in_order row) < 2 ^ 16 → is_row row ≡ true
+is_row-from row formed few = and_from (is_well_formed row) (ltb (length (values_in_order row)) (2 ^ 16)) formed (lt-ltb _ _ few)
+
+pub record IsCountedRow (row : RowFields) : Type 0 where
   pub formed : is_well_formed row ≡ true
-  pub small : row_size row ≤ 1700
+  pub few : length (values_in_order row) < 2 ^ 16
 
-pub is_row-parts : (row : RowFields) → is_row row ≡ true → IsSmallRow row
+pub is_row-parts : (row : RowFields) → is_row row ≡ true → IsCountedRow row
 is_row-parts row h =
-    let parts = and_parts (is_well_formed row) (leb (row_size row) 1700) h in
-    record { formed = parts.0; small = leb-true _ _ parts.1 }
+    let parts = and_parts (is_well_formed row) (ltb (length (values_in_order row)) (2 ^ 16)) h in
+    record { formed = parts.0; few = ltb-true _ _ parts.1 }
+
+-- a row that fits a page has few values
+pub few_from_size : (row : RowFields) → row_size row ≤ 1700 → length (values_in_order row) < 2 ^ 16
+few_from_size row small = omega (arith, size-length (values_in_order row))
 
 -- one value more
 pub size-more : (values : List (ℕ × RowValue)) (i : ℕ) (value : ℕ × RowValue) → i < length values → value ≡ get_or values i value → size_of_values (take (i + 1) values) ≡ size_of_values (take i values) + (5 + room_in_row value.1)

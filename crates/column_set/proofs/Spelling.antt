@@ -10,10 +10,10 @@ use Rattle.column_set.specs.declared.rows.RowValue.{RowValue}
 use Rattle.column_set.specs.declared.row_fault.RowFault.{RowFault}
 use Rattle.column_set.specs.declared.row_fault.RowFault.TheVariants.{RecordTooBig, BadRecord, OutOfMemory}
 use Rattle.column_set.specs.RowSeen.{Gives}
-use Rattle.column_set.specs.Rows.{IsRowBytes, RowFields, values_in_order, value_bytes, row_bytes, is_row, value_fits_row}
-use Rattle.column_set.specs.RowReading.{◌>>=◌, number_at, value_at, next_at, values_at, all_values, read_values, read_row, row_in, grouped, are_in_order, size_of_values}
+use Rattle.column_set.specs.Rows.{IsRowBytes, RowFields, values_in_order, value_bytes, row_bytes, row_size, is_row, is_well_formed, value_fits_row}
+use Rattle.column_set.specs.RowReading.{◌>>=◌, number_at, value_at, next_at, values_at, read_values, read_row, row_in, grouped, are_in_order, size_of_values}
 use Rattle.column_set.proofs.Grouping.{in_order_parts, in_order_from, values_in_order-grouped, grouped-values_in_order, is_well_formed-grouped, values_are_in_order}
-use Rattle.column_set.proofs.Sizes.{size-length, length-values, is_row-from, is_row-parts}
+use Rattle.column_set.proofs.Sizes.{few_from_size, is_row-from, is_row-parts}
 use Rattle.column_set.proofs.RowFieldValues.{IsBytes, bind_some, guard_some, passed_some, some_is, Takes, Takes-then, wide16, number_takes, number_again, TakesValue, value_takes, value_again}
 
 pub next_takes : (least : ℕ) (bytes : List ℕ) (x : (ℕ × RowValue) × List ℕ) → IsBytes bytes → next_at least bytes ≡ Some x → TakesValue bytes x.0 x.1 × (least ≤ x.0.0)
@@ -64,24 +64,16 @@ values_again least (value ∷ values) rest h =
 abbrev pub bytes_of_values : List (ℕ × RowValue) → List ℕ
 bytes_of_values values = to_le_bytes w16 (length values) ++ flat_map value_bytes values
 
-length-bytes_of_values : (values : List (ℕ × RowValue)) → length (bytes_of_values values) ≡ size_of_values values
-length-bytes_of_values values = omega (arith, length-values values, length-append (to_le_bytes w16 (length values)) (flat_map value_bytes values))
-
 pub record SpellsValues (bytes : List ℕ) (values : List (ℕ × RowValue)) : Type 0 where
   pub spelled : bytes ≡ bytes_of_values values
   pub in_order : are_in_order 0 values ≡ true
-  pub small : size_of_values values ≤ 1700
-
-refused_some : {A : Type 0} (b : Bool) (o : Option A) (y : A) → cond b None o ≡ Some y → (b ≡ false) × (o ≡ Some y)
-refused_some true o y e = absurd cc
-refused_some false o y e = (refl, e)
+  pub few : length values < 2 ^ 16
 
 pub read_spelled : (bytes : List ℕ) (values : List (ℕ × RowValue)) → IsBytes bytes → read_values bytes ≡ Some values → SpellsValues bytes values
-unfolding read_values all_values
+unfolding read_values
 read_spelled bytes values fits e =
     let last = λ (x : List (ℕ × RowValue) × List ℕ). cond (eqb (length x.1) 0) (Some x.0) None in
-    let g = refused_some (ltb 1700 (length bytes)) (number_at w16 bytes >>= λ count. values_at 0 count.0 count.1 >>= last) values e in
-    let a = bind_some (number_at w16 bytes) (λ count. values_at 0 count.0 count.1 >>= last) values g.1 in
+    let a = bind_some (number_at w16 bytes) (λ count. values_at 0 count.0 count.1 >>= last) values e in
     let b = bind_some (values_at 0 a.0.0 a.0.1) last values a.2 in
     let p = passed_some (eqb (length b.0.1) 0) (Some b.0.0) values b.2 in
     let first = number_takes w16 (2 ^ 16) wide16 bytes a.0.0 a.0.1 fits a.1 in
@@ -89,17 +81,14 @@ read_spelled bytes values fits e =
     let nothing : b.0.1 ≡ [] = nil_from_length b.0.1 (eqb-true _ _ p.0) in
     let both = (Takes-then bytes (to_le_bytes w16 a.0.0) a.0.1 (flat_map value_bytes b.0.0) b.0.1 first.0 second.taken).parts in
     let whole : bytes ≡ bytes_of_values b.0.0 = both ∙ ap (λ (r : List ℕ). (to_le_bytes w16 a.0.0 ++ flat_map value_bytes b.0.0) ++ r) nothing ∙ append-nil (to_le_bytes w16 a.0.0 ++ flat_map value_bytes b.0.0) ∙ ap (λ (k : ℕ). to_le_bytes w16 k ++ flat_map value_bytes b.0.0) (sym second.count) in
-    let short : length bytes ≤ 1700 = ltb-false _ _ g.0 in
-    let made : SpellsValues bytes b.0.0 = record { spelled = whole; in_order = second.in_order; small = omega (arith, length-bytes_of_values b.0.0, ap length whole) } in
+    let made : SpellsValues bytes b.0.0 = record { spelled = whole; in_order = second.in_order; few = omega (arith, first.1, second.count) } in
     subst (λ (v : List (ℕ × RowValue)). SpellsValues bytes v) (some_is b.0.0 values p.1) made
 
-pub read_again : (values : List (ℕ × RowValue)) → are_in_order 0 values ≡ true → size_of_values values ≤ 1700 → read_values (bytes_of_values values) ≡ Some values
-unfolding read_values all_values
-read_again values order small =
-    let short : ltb 1700 (length (bytes_of_values values)) ≡ false = le-ltb _ _ (omega (arith, length-bytes_of_values values)) in
-    let count : length values < 2 ^ 16 = omega (arith, size-length values) in
+pub read_again : (values : List (ℕ × RowValue)) → are_in_order 0 values ≡ true → length values < 2 ^ 16 → read_values (bytes_of_values values) ≡ Some values
+unfolding read_values
+read_again values order few =
     let rest : values_at 0 (length values) (flat_map value_bytes values) ≡ Some (values, []) = ap (values_at 0 (length values)) (sym (append-nil (flat_map value_bytes values))) ∙ values_again 0 values [] order in
-    rw (short, number_again w16 (2 ^ 16) wide16 (length values) (flat_map value_bytes values) count, rest) refl
+    rw (number_again w16 (2 ^ 16) wide16 (length values) (flat_map value_bytes values) few, rest) refl
 
 -- ---- rows
 
@@ -117,14 +106,14 @@ pub row_from_values : (bytes : List ℕ) (values : List (ℕ × RowValue)) → S
 row_from_values bytes values h =
     let same = values_in_order-grouped values in
     record {
-      formed = is_row-from (grouped values) (is_well_formed-grouped values h.in_order) (rw same h.small);
+      formed = is_row-from (grouped values) (is_well_formed-grouped values h.in_order) (rw same h.few);
       spelled = h.spelled ∙ ap bytes_of_values (sym same);
     }
 
 pub read_row_again : (row : RowFields) → is_row row ≡ true → read_values (row_bytes row) ≡ Some (values_in_order row)
 read_row_again row h =
     let parts = is_row-parts row h in
-    read_again (values_in_order row) (values_are_in_order row parts.formed) parts.small
+    read_again (values_in_order row) (values_are_in_order row parts.formed) parts.few
 
 pub read_row-row_bytes : (row : RowFields) → is_row row ≡ true → read_row (row_bytes row) ≡ Some row
 unfolding read_row
@@ -178,5 +167,14 @@ bytes_behind_count bytes row s =
     let values = flat_map value_bytes (values_in_order row) in
     ap (λ (b : List ℕ). take (length b - 2) (drop 2 b)) s.spelled ∙ take_all (length (row_bytes row) - 2) values (omega (arith, length-append (to_le_bytes w16 (length (values_in_order row))) values))
 
-pub row_length : (bytes : List ℕ) (row : RowFields) → SpellsRow bytes row → length bytes ≤ 1700
-row_length bytes row s = omega (arith, ap length s.spelled, length-bytes_of_values (values_in_order row), (is_row-parts row s.formed).small)
+-- ---- what a function that writes a row has written
+
+pub written_row : (row : RowFields) (values : List (ℕ × RowValue)) (i : ℕ) (bytes : List ℕ) → values ≡ values_in_order row → is_well_formed row ≡ true → row_size row ≤ 1700 → length values ≤ i
+    → bytes ≡ to_le_bytes w16 (length values) ++ flat_map value_bytes (take i values) → IsTrue (is_row row) × (bytes ≡ row_bytes row)
+written_row row values i bytes is formed small past written = (
+  is_row-from row formed (few_from_size row small),
+  written ∙ ap (λ (xs : List (ℕ × RowValue)). to_le_bytes w16 (length values) ++ flat_map value_bytes xs) (take_all i values past) ∙ ap bytes_of_values is,
+)
+
+pub small_row : (row : RowFields) (values : List (ℕ × RowValue)) (size : ℕ) → values ≡ values_in_order row → (size ≡ size_of_values values) × (size ≤ 1700) → row_size row ≤ 1700
+small_row row values size is h = subst (λ (xs : List (ℕ × RowValue)). size_of_values xs ≤ 1700) is (omega (arith, h.0, h.1))

@@ -75,14 +75,11 @@ values_at least (suc n) bytes = do
   Some (first.0 ∷ others.0, others.1)
 
 -- the values of a row, of which the bytes are all
-unfoldable pub all_values : List ℕ → Option (List (ℕ × RowValue))
-all_values bytes = do
+unfoldable pub read_values : List ℕ → Option (List (ℕ × RowValue))
+read_values bytes = do
   count ← number_at w16 bytes
   values ← values_at 0 count.0 count.1
   cond (length values.1 == 0) (Some values.0) None
-
-unfoldable pub read_values : List ℕ → Option (List (ℕ × RowValue))
-read_values bytes = cond (nat_lt 1700 (length bytes)) None (all_values bytes)
 
 -- whether values were read
 abbrev pub is_read : Option (List (ℕ × RowValue)) → Bool

@@ -39,9 +39,13 @@ field_fits_row field = nat_lt field.0 (2 ^ 16) && nat_lt 0 (length field.1) && l
 abbrev pub is_well_formed : RowFields → Bool
 is_well_formed row = is_sorted nat_cmp row && list_all field_fits_row row
 
--- a row of a page has a size of at most 1,700
+-- a row's values are so few that two bytes count them
 abbrev pub is_row : RowFields → Bool
-is_row row = is_well_formed row && nat_le (row_size row) 1700
+is_row row = is_well_formed row && nat_lt (length (values_in_order row)) (2 ^ 16)
+
+-- The most bytes of a row that is written to a page. It is asked apart: a longer row is a row.
+abbrev pub largest_row : ℕ
+largest_row = 1700
 
 -- ---- the bytes of a row, each number lowest byte first
 

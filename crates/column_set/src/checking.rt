@@ -2,9 +2,8 @@
 
 ghost use Rattle.std.specs.Prelude.{◌≡◌, ◌↔◌, IsTrue};
 ghost use Rattle.column_set.specs.Rows.{IsRowBytes};
-ghost use Rattle.column_set.specs.RowReading.{all_values, is_read, takes_all, values_at};
+ghost use Rattle.column_set.specs.RowReading.{is_read, read_values, takes_all, values_at};
 
-use crate::encoding::MAX_ROW_SIZE;
 use crate::reading::{next, u16_at};
 
 /// Whether the bytes are so many values, whose columns do not fall.
@@ -23,10 +22,10 @@ fn are_values(bytes: &[u8], count: u16) -> bool
     rest.is_empty()
 }
 
-/// Whether the bytes are a row of any size.
-#[tactic(auto, unfolding(crate::specs::RowReading::all_values))]
-fn is_row_of_any_size(bytes: &[u8]) -> bool
-    ensures { result ≡ is_read (all_values bytes.now) }
+/// Whether the bytes are a count of values and so many values.
+#[tactic(auto, unfolding(crate::specs::RowReading::read_values))]
+fn are_counted_values(bytes: &[u8]) -> bool
+    ensures { result ≡ is_read (read_values bytes.now) }
 {
     match u16_at(bytes) {
         Some((count, rest)) => are_values(rest, count),
@@ -34,10 +33,10 @@ fn is_row_of_any_size(bytes: &[u8]) -> bool
     }
 }
 
-/// Whether the bytes are a row of at most 1,700 bytes, as `encode` writes them: where `decode` does not answer
-/// `BadRecord`. It takes no memory.
+/// Whether the bytes are a row: where `decode` does not answer `BadRecord`. A row may be longer than `encode` writes
+/// one. The call takes no memory.
 pub fn is_row(bytes: &[u8]) -> bool
     ensures { IsTrue result ↔ IsRowBytes bytes.now }
 {
-    bytes.len() <= MAX_ROW_SIZE && is_row_of_any_size(bytes)
+    are_counted_values(bytes)
 }

@@ -1,7 +1,7 @@
 //! The columns of a table.
 
 ghost use Rattle.std.specs.Prelude.{◌≡◌, IfOk, option_copied};
-ghost use Rattle.column_set.specs.RecordValues.{column_named};
+ghost use Rattle.column_set.specs.RecordValues.{column_named, column_of_id};
 
 use jet_base::{ColType, ColumnId, Items, Name, OutOfMemory};
 use std::alloc::AllocError;
@@ -67,6 +67,13 @@ pub fn column_named<'a>(columns: &'a Columns, name: &Name) -> Option<&'a Column>
         .as_slice()
         .iter()
         .find(|column| column.name == *name)
+}
+
+/// The column of this number.
+pub fn column_of_id(columns: &[Column], id: ColumnId) -> Option<&Column>
+    ensures { option_copied result ≡ column_of_id columns.now id.0 }
+{
+    columns.iter().find(|column| column.id == id)
 }
 
 #[cfg(test)]

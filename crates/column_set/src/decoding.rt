@@ -2,10 +2,10 @@
 
 ghost use Rattle.std.specs.Prelude.{◌≡◌, IfErr, IfOk, IsErrOf, IsTrue, MatchResult};
 ghost use Rattle.column_set.specs.Rows.{IsRowBytes, RowFields, is_row, row_bytes};
-ghost use Rattle.column_set.specs.RowReading.{all_values, read_row, read_values, values_at};
+ghost use Rattle.column_set.specs.RowReading.{read_row, read_values, values_at};
 ghost use Rattle.column_set.specs.RowSeen.{Gives, seen};
 
-use crate::encoding::{MAX_ROW_SIZE, VALUE_HEAD_BYTES};
+use crate::encoding::VALUE_HEAD_BYTES;
 use crate::reading::{ValueRef, next, u16_at};
 use crate::row_fault::RowFault;
 use crate::rows::{Row, RowValue};
@@ -54,10 +54,10 @@ fn values_of(
     Ok((values, rest))
 }
 
-/// The values of a row of any size.
-#[tactic(auto, unfolding(crate::specs::RowReading::all_values))]
-fn all_of(alloc: Global, bytes: &[u8]) -> Result<Vec<(u16, RowValue)>, RowFault>
-    ensures { Gives (λ values. values.items) result (all_values bytes.now) }
+/// The values of a row.
+#[tactic(auto, unfolding(crate::specs::RowReading::read_values))]
+fn read(alloc: Global, bytes: &[u8]) -> Result<Vec<(u16, RowValue)>, RowFault>
+    ensures { Gives (λ values. values.items) result (read_values bytes.now) }
 {
     let Some((count, rest)) = u16_at(bytes) else {
         return Err(RowFault::BadRecord);
@@ -67,17 +67,6 @@ fn all_of(alloc: Global, bytes: &[u8]) -> Result<Vec<(u16, RowValue)>, RowFault>
         return Err(RowFault::BadRecord);
     }
     Ok(values)
-}
-
-/// The values of a row.
-#[tactic(auto, unfolding(crate::specs::RowReading::read_values))]
-fn read(alloc: Global, bytes: &[u8]) -> Result<Vec<(u16, RowValue)>, RowFault>
-    ensures { Gives (λ values. values.items) result (read_values bytes.now) }
-{
-    if bytes.len() > MAX_ROW_SIZE {
-        return Err(RowFault::BadRecord);
-    }
-    all_of(alloc, bytes)
 }
 
 /// The row that has the bytes.
@@ -91,8 +80,8 @@ fn row_of(alloc: Global, bytes: &[u8]) -> Result<Row, RowFault>
 
 /// The row that has these bytes, in the form that `encode` writes.
 ///
-/// The call answers `BadRecord` where no row of at most 1,700 bytes has them: bytes are missing or stand behind the
-/// last value, a column falls, a form is neither 0 nor 1, or a length is not one of the form.
+/// The call answers `BadRecord` where no row has them: bytes are missing or stand behind the last value, a column
+/// falls, a form is neither 0 nor 1, or a length is not one of the form. A row may be longer than `encode` writes one.
 pub fn decode(alloc: Global, bytes: &[u8]) -> Result<Row, RowFault>
     // The row has the bytes.
     ensures found { IfOk result (λ row. IsTrue (is_row row) × (bytes.now ≡ row_bytes row)) }

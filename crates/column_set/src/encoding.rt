@@ -2,7 +2,7 @@
 
 ghost use Rattle.std.specs.Prelude.{◌≡◌, ◌<◌, ◌≤◌, ◌↔◌, ◌++◌, ◌∷◌, length, IfOk, IsErrOf, IsTrue, MatchOption, OnOk};
 ghost use Rattle.std.specs.Int.{w16, w32, w64, to_le_bytes};
-ghost use Rattle.column_set.specs.Rows.{is_row, room_in_row, row_bytes, row_size, value_bytes, value_fits_row};
+ghost use Rattle.column_set.specs.Rows.{is_row, largest_row, room_in_row, row_bytes, row_size, value_bytes, value_fits_row};
 ghost use Rattle.column_set.specs.RowReading.{are_in_order, size_of_values};
 
 use crate::row_fault::RowFault;
@@ -39,7 +39,7 @@ fn room(value: &RowValue) -> usize
 /// The size of the row that has the values, where it is at most 1,700.
 fn size_within(values: &[(u16, RowValue)]) -> Option<usize>
     requires { IsTrue (are_in_order 0 values.now) }
-    ensures { MatchOption result (1700 < size_of_values values.now) (λ size. (size ≡ size_of_values values.now) × (size ≤ 1700)) }
+    ensures { MatchOption result (largest_row < size_of_values values.now) (λ size. (size ≡ size_of_values values.now) × (size ≤ largest_row)) }
 {
     let mut size = 2;
     for (_, value) in values {
@@ -103,7 +103,8 @@ fn put_value(bytes: &mut Vec<u8>, column: u16, value: &RowValue) -> Result<(), A
 /// eight, its place there in four and its length in four. The call answers `RecordTooBig` above 1,700 bytes.
 pub fn encode(alloc: Global, row: &Row) -> Result<Vec<u8>, RowFault>
     ensures ok { IfOk result (λ bytes. IsTrue (is_row row.now) × (bytes.items ≡ row_bytes row.now)) }
-    ensures too_big { IsErrOf result RowFault.RecordTooBig ↔ (1700 < row_size row.now) }
+    ensures small { IfOk result (λ bytes. length bytes.items ≤ largest_row) }
+    ensures too_big { IsErrOf result RowFault.RecordTooBig ↔ (largest_row < row_size row.now) }
     ensures never_bad { IsErrOf result RowFault.BadRecord → ⊥ }
 {
     let values = row.values();

@@ -5,7 +5,7 @@ ghost use Rattle.std.specs.List.{flat_map, list_all};
 ghost use Rattle.column_set.specs.declared.rows.RowValue.TheVariants.{Here};
 ghost use Rattle.column_set.specs.Record.{is_record};
 ghost use Rattle.column_set.specs.RecordValues.{RecordFields, record_size};
-ghost use Rattle.column_set.specs.Rows.{all_here, are_short, here_fields, is_all_here, is_row, is_row_of, row_bytes, row_size, value_bytes};
+ghost use Rattle.column_set.specs.Rows.{all_here, are_short, here_fields, is_all_here, is_row, is_row_of, largest_row, row_bytes, row_size, value_bytes};
 
 use crate::encoding::{MAX_ROW_SIZE, put_here};
 use crate::fields::{Field, LONGEST_KEPT};
@@ -67,7 +67,8 @@ fn put_values(bytes: &mut Vec<u8>, column: u16, values: &[Octets]) -> Result<(),
 pub fn encode_record(alloc: Global, record: &Record) -> Result<Vec<u8>, RowFault>
     requires { IsTrue (is_all_here «record».now) }
     ensures ok { IfOk result (λ bytes. IsTrue (is_row (all_here «record».now)) × (bytes.items ≡ row_bytes (all_here «record».now))) }
-    ensures too_big { IsErrOf result RowFault.RecordTooBig ↔ (1700 < record_size «record».now) }
+    ensures small { IfOk result (λ bytes. length bytes.items ≤ largest_row) }
+    ensures too_big { IsErrOf result RowFault.RecordTooBig ↔ (largest_row < record_size «record».now) }
     ensures never_bad { IsErrOf result RowFault.BadRecord → ⊥ }
 {
     let size = record.size();
@@ -90,5 +91,5 @@ pub fn values_here_are_the_record()
     ensures form { (fields : RecordFields) → IsTrue (is_all_here fields) → IsTrue (is_row_of (all_here fields) fields) }
     ensures size { (fields : RecordFields) → IsTrue (is_all_here fields) → row_size (all_here fields) ≡ record_size fields }
     // A column's number has two bytes.
-    ensures row { (fields : RecordFields) → IsTrue (is_record fields) → IsTrue (is_all_here fields) → IsTrue (list_all (λ field. nat_lt field.0 (2 ^ 16)) fields) → record_size fields ≤ 1700 → IsTrue (is_row (all_here fields)) }
+    ensures row { (fields : RecordFields) → IsTrue (is_record fields) → IsTrue (is_all_here fields) → IsTrue (list_all (λ field. nat_lt field.0 (2 ^ 16)) fields) → record_size fields ≤ largest_row → IsTrue (is_row (all_here fields)) }
 {}

@@ -17,9 +17,9 @@ mod values;
 
 pub use changes::{Bookmark, Change};
 pub use checking::is_row;
-pub use columns::{Column, Columns, column_named};
+pub use columns::{Column, Columns, column_named, column_of_id};
 pub use decoding::decode;
-pub use encoding::encode;
+pub use encoding::{MAX_ROW_SIZE, encode};
 pub use encoding_records::{encode_record, is_all_here, values_here_are_the_record};
 pub use fields::{Field, VALUE_HEADER, size_of_length, size_of_values};
 pub use records::Record;

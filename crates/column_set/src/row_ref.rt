@@ -49,7 +49,6 @@ impl<'a> RowRef<'a> {
     fn values(&self) -> &'a [u8]
         ensures found { IsTrue (is_row self.now) }
         ensures spelled { result.now ≡ flat_map value_bytes (values_in_order self.now) }
-        ensures small { length result.now ≤ 1700 }
     {
         &self.bytes[COUNT_BYTES..]
     }
@@ -94,7 +93,6 @@ impl<'a> Values for RowRef<'a> {
 
 /// How many of the values are the column's.
 fn count_of(bytes: &[u8], column: u16) -> usize
-    requires { length bytes.now ≤ 1700 }
     ensures { (values : List (ℕ × RowValue)) → IsTrue (are_in_order 0 values) → bytes.now ≡ flat_map value_bytes values → result ≡ length (of_column column values) }
 {
     let mut rest = bytes;

@@ -109,13 +109,15 @@ fn a_value_is_kept_apart(rt: HostRuntime) {
 }
 
 #[test]
-fn a_row_has_at_most_1700_bytes(rt: HostRuntime) -> Result<(), Fail> {
+fn a_row_of_more_than_1700_bytes_is_read_and_not_written(rt: HostRuntime) -> Result<(), Fail> {
     let six = encode(rt.alloc(), &wide_row(rt.alloc(), 6)?)?;
     assert_eq!(rt; six, wide_bytes(rt.alloc(), 6)?);
     let seven = encode(rt.alloc(), &wide_row(rt.alloc(), 7)?);
     assert!(rt; matches!(seven, Err(RowFault::RecordTooBig)));
-    let seven = decode(rt.alloc(), &wide_bytes(rt.alloc(), 7)?);
-    assert!(rt; matches!(seven, Err(RowFault::BadRecord)));
+    let bytes = wide_bytes(rt.alloc(), 7)?;
+    assert!(rt; is_row(&bytes));
+    assert_eq!(rt; RowRef::new(&bytes).count(ColumnId(200)), 7);
+    assert_eq!(rt; decode(rt.alloc(), &bytes)?.values().len(), 7);
     Ok(())
 }
 

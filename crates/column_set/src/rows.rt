@@ -1,9 +1,9 @@
 //! Rows: how records stand in their pages.
 
-ghost use Rattle.std.specs.Prelude.{◌≡◌, [], ◌∷◌, ◌++◌, IsTrue, if◌then◌else◌, is_ok, nat_le};
+ghost use Rattle.std.specs.Prelude.{◌≡◌, [], ◌∷◌, ◌++◌, length, IsTrue, if◌then◌else◌, is_ok, nat_le};
 ghost use Rattle.std.specs.List.{list_all};
 ghost use Rattle.column_set.specs.RecordValues.{RecordFields, record_size};
-ghost use Rattle.column_set.specs.Rows.{RowFields, is_row_of, is_well_formed, row_size, value_fits_row, values_in_order};
+ghost use Rattle.column_set.specs.Rows.{RowFields, is_row_of, is_well_formed, row_bytes, row_size, value_fits_row, values_in_order};
 ghost use Rattle.column_set.specs.RowReading.{are_in_order, grouped};
 
 use jet_base::{ColumnId, Items, Octets, OutOfMemory};
@@ -90,7 +90,8 @@ impl Row {
     }
 }
 
-/// A row that keeps each value of more than 255 bytes of a record apart has the size of the record.
+/// A row that keeps each value of more than 255 bytes of a record apart has the size of the record, and as many bytes.
 pub fn size_of_a_row()
-    ensures { (row : RowFields) (fields : RecordFields) → IsTrue (is_row_of row fields) → row_size row ≡ record_size fields }
+    ensures bytes { (row : RowFields) → length (row_bytes row) ≡ row_size row }
+    ensures record_size { (row : RowFields) (fields : RecordFields) → IsTrue (is_row_of row fields) → row_size row ≡ record_size fields }
 {}

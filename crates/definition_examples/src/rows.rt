@@ -1,8 +1,8 @@
 //! Rows, their bytes and their sizes.
 
-ghost use Rattle.std.specs.Prelude.{◌≡◌, [], ◌∷◌, true, false, codes, replicate, Some, None};
+ghost use Rattle.std.specs.Prelude.{◌≡◌, [], ◌∷◌, true, false, codes, nat_le, replicate, Some, None};
 ghost use Rattle.column_set.specs.declared.rows.RowValue.TheVariants.{Here, Apart};
-ghost use Rattle.column_set.specs.Rows.{apart_at, here_fields, is_row, is_row_of, row_bytes, row_size};
+ghost use Rattle.column_set.specs.Rows.{apart_at, here_fields, is_row, is_row_of, largest_row, row_bytes, row_size};
 
 /// A count of two values, and each with its column, its form and its length.
 pub fn bytes_of_a_number_and_a_text()
@@ -33,10 +33,11 @@ pub fn what_a_row_is()
     ensures twice { is_row ((1, Here [] ∷ []) ∷ (1, Here [] ∷ []) ∷ []) ≡ false }
 {}
 
-/// The row of 1,700 bytes is the longest.
+/// A row of 1,700 bytes is the longest that is written to a page. One byte more, and it is still a row.
 pub fn the_longest_row()
-    ensures longest { let text = Here (replicate 255 97) in is_row ((200, text ∷ text ∷ text ∷ text ∷ text ∷ text ∷ Here (replicate 133 97) ∷ []) ∷ []) ≡ true }
-    ensures too_long { let text = Here (replicate 255 97) in is_row ((200, text ∷ text ∷ text ∷ text ∷ text ∷ text ∷ Here (replicate 134 97) ∷ []) ∷ []) ≡ false }
+    ensures longest { let text = Here (replicate 255 97) in row_size ((200, text ∷ text ∷ text ∷ text ∷ text ∷ text ∷ Here (replicate 133 97) ∷ []) ∷ []) ≡ largest_row }
+    ensures too_long { let text = Here (replicate 255 97) in nat_le (row_size ((200, text ∷ text ∷ text ∷ text ∷ text ∷ text ∷ Here (replicate 134 97) ∷ []) ∷ [])) largest_row ≡ false }
+    ensures row { let text = Here (replicate 255 97) in is_row ((200, text ∷ text ∷ text ∷ text ∷ text ∷ text ∷ Here (replicate 134 97) ∷ []) ∷ []) ≡ true }
 {}
 
 /// Values of up to 255 bytes of a record stand in its row, and longer ones apart with their length.

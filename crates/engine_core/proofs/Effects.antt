@@ -1,9 +1,7 @@
 -- What the entries that may come tell of the engine, and what they do to it.
 use Rattle.std.proofs.Common.{◌≡◌, ℕ, ◌+◌, ◌<◌, ◌≤◌, true, false, ◌&&◌, ◌||◌, List, [], ◌∷◌, length, map, ◌^◌, Option, Some, None, refl, sym, ap, ◌∙◌, arith}
 use Rattle.std.specs.Prelude.{◌==◌, not, is_some, is_none, nat_le, nat_lt}
-use Rattle.std.specs.List.{list_all, flat_map}
-use Rattle.std.specs.Int.{w16, to_le_bytes}
-use Rattle.std.proofs.lemmas.List.{length-append}
+use Rattle.std.specs.List.{list_all}
 use Rattle.std.specs.Ordering.{nat_cmp}
 use Rattle.std.specs.FinMap.Entries.{is_sorted}
 use Rattle.std.proofs.lemmas.Bool.Decides.{nat_tests}
@@ -11,9 +9,8 @@ use Rattle.jet_base.specs.declared.ids.TableId.{TableId}
 use Rattle.column_set.specs.declared.changes.Change.{Change}
 use Rattle.column_set.specs.declared.changes.Change.TheVariants.{Put, Drop, Hold, Add}
 use Rattle.column_set.specs.declared.rows.RowValue.TheVariants.{Here}
-use Rattle.column_set.specs.RecordValues.{RecordFields, lookup_by_key, put_by_key}
-use Rattle.column_set.specs.Rows.{RowFields, all_here, are_short, is_all_here, is_row, is_well_formed, field_fits_row, value_fits_row, row_size, row_bytes, value_bytes, values_in_order}
-use Rattle.column_set.proofs.Sizes.{length-values}
+use Rattle.column_set.specs.RecordValues.{RecordFields, lookup_by_key, put_by_key, record_size}
+use Rattle.column_set.specs.Rows.{all_here, are_short, is_all_here, is_row, is_well_formed, field_fits_row, value_fits_row, values_in_order}
 use Rattle.index_derive.specs.declared.log.Entry.{Entry}
 use Rattle.index_derive.specs.declared.log.EntryKind.TheVariants as entry
 use Rattle.index_derive.specs.declared.log.Step.TheVariants.{Alone}
@@ -162,18 +159,8 @@ short_fields (field ∷ fields) h =
 pub is_all_here-built : (values : RecordFields) → is_built_record values ≡ true → is_all_here values ≡ true
 is_all_here-built values h =
     let row = all_here values in
-    let formed = and_left (is_well_formed row) (nat_le (row_size row) 1700) h in
+    let formed = and_left (is_well_formed row) (nat_lt (length (values_in_order row)) (2 ^ 16)) (and_left (is_row row) (nat_le (record_size values) 1700) h) in
     short_fields values (and_right (is_sorted nat_cmp row) (list_all field_fits_row row) formed)
-
--- the bytes of a row are as many as its size
-length-row_bytes : (row : RowFields) → length (row_bytes row) ≡ row_size row
-length-row_bytes row =
-    omega (arith, length-append (to_le_bytes w16 (length (values_in_order row))) (flat_map value_bytes (values_in_order row)), length-values (values_in_order row))
-
-pub small_row : (bytes : List ℕ) (row : RowFields) → is_row row ≡ true → bytes ≡ row_bytes row → length bytes ≤ 1700
-small_row bytes row h e =
-    let small = le_from_true (row_size row) 1700 (and_right (is_well_formed row) (nat_le (row_size row) 1700) h) in
-    omega (arith, ap length e, length-row_bytes row)
 
 -- ---- what a variant tells
 

@@ -147,4 +147,4 @@ prepared-built engine side c p beside has insert is row =
     let are = columns_at c (catalog_table engine c.cursor.table) has (schema_built side.session engine beside.held.state c beside.held.represents has)
     (λ t found. found-all (λ t. t.id == c.cursor.table) has_own_numbers engine.catalog.tables t beside.numbers found) in
     let each = each_field are.0 c.schema.columns p.values are.1 (and_left (list_all (stands_in c.schema.columns) p.values) _ fits) in
-    row p.values is each.0 each.1 small
+    and_both (is_row (all_here p.values)) (nat_le (record_size p.values) 1700) (row p.values is each.0 each.1 small) (and_right _ (nat_le (record_size p.values) 1700) insert)

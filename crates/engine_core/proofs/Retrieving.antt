@@ -1,6 +1,6 @@
 -- What RetrieveColumn comes to.
 use Rattle.std.proofs.Common.{◌≡◌, ℕ, ◌≤◌, Bool, true, false, ◌&&◌, cond, List, [], ◌∷◌, length, map, Option, Some, None, option_map, unwrap_or, slice_get, get_or, inl, inr, refl, sym, ap, subst, ◌∙◌, arith}
-use Rattle.std.specs.Prelude.{◌==◌, ◌<◌, nat_le, bytes_eq, ◌||◌}
+use Rattle.std.specs.Prelude.{◌==◌, ◌<◌, ◌^◌, nat_le, nat_lt, bytes_eq, ◌||◌}
 use Rattle.std.specs.List.{list_all}
 use Rattle.std.specs.Ordering.{nat_cmp, eq_by_cmp}
 use Rattle.std.specs.Cmp.Lexicographic.{slice_cmp}
@@ -11,10 +11,10 @@ use Rattle.jet_base.specs.declared.words.ColType.{ColType}
 use Rattle.column_set.specs.declared.columns.Column.{Column}
 use Rattle.column_set.specs.declared.rows.RowValue.TheVariants.{Here}
 use Rattle.column_set.specs.RecordValues.{RecordFields, column_named, lookup_by_key, record_fits, record_size, value_fits, values_of}
-use Rattle.column_set.specs.Rows.{RowFields, IsRowBytes, all_here, are_short, field_fits_row, here_fields, is_all_here, is_row, is_well_formed, row_bytes, row_size, value_fits_row}
+use Rattle.column_set.specs.Rows.{RowFields, IsRowBytes, all_here, are_short, field_fits_row, here_fields, is_all_here, is_row, is_well_formed, row_bytes, value_fits_row, values_in_order}
 use Rattle.column_set.specs.Reading.{IsFront}
 use Rattle.column_set.proofs.Spelling.{one_spelling}
-use Rattle.column_set.proofs.HereRows.{shown as here_shown, size as here_size}
+use Rattle.column_set.proofs.HereRows.{shown as here_shown}
 use Rattle.index_derive.specs.declared.rules.Schema.{Schema}
 use Rattle.database_state.specs.Table.{Table, Rows, row_at, rows_of, table_with_id}
 use Rattle.database_state.specs.State.{DatabaseState}
@@ -38,11 +38,14 @@ use Rattle.engine_core.specs.Retrieving.{AreReadable, AreRows}
 
 -- ---- rows are records
 
+built_row : (values : RecordFields) → is_built_record values ≡ true → is_row (all_here values) ≡ true
+built_row values h = and_left (is_row (all_here values)) (nat_le (record_size values) 1700) h
+
 rows_of_found : (found : Option RecordFields) (bytes : List ℕ) → ((values : RecordFields) → found ≡ Some values → is_built_record values ≡ true) → option_map record_bytes found ≡ Some bytes → IsRowBytes bytes
 rows_of_found None bytes built e = cc
 rows_of_found (Some values) bytes built e =
     let same : record_bytes values ≡ bytes = cc in
-    (all_here values, built values refl, sym same)
+    (all_here values, built_row values (built values refl), sym same)
 
 pub rows_held : (session : ℕ) (engine : EngineState) (state : DatabaseState) → Represents session engine state → AreRows engine.stores
 rows_held session engine state r table bookmark bytes e =
@@ -54,7 +57,7 @@ record_of_found : (found : Option RecordFields) (row : RowFields) → ((values :
 record_of_found None row built is e = cc
 record_of_found (Some values) row built is e =
     let same : record_bytes values ≡ row_bytes row = cc in
-    let one : all_here values ≡ row = one_spelling (all_here values) row (built values refl) is same in
+    let one : all_here values ≡ row = one_spelling (all_here values) row (built_row values (built values refl)) is same in
     ap (λ (v : RecordFields). Some v) (sym (here_shown values) ∙ ap here_fields one)
 
 -- the record that the session sees is the one of the row
@@ -128,13 +131,10 @@ fields_short (field ∷ fields) h =
 
 pub built_short : (fields : RecordFields) → is_built_record fields ≡ true → is_all_here fields ≡ true
 built_short fields h =
-    fields_short fields (and_right _ (list_all field_fits_row (all_here fields)) (and_left (is_well_formed (all_here fields)) (nat_le (row_size (all_here fields)) 1700) h))
+    fields_short fields (and_right _ (list_all field_fits_row (all_here fields)) (and_left (is_well_formed (all_here fields)) (nat_lt (length (values_in_order (all_here fields))) (2 ^ 16)) (built_row fields h)))
 
 pub built_small : (fields : RecordFields) → is_built_record fields ≡ true → record_size fields ≤ 1700
-built_small fields h =
-    let small = le_from_true (row_size (all_here fields)) 1700 (and_right (is_well_formed (all_here fields)) (nat_le (row_size (all_here fields)) 1700) h) in
-    let same = here_size fields (built_short fields h) in
-    omega (arith, small, same)
+built_small fields h = le_from_true (record_size fields) 1700 (and_right (is_row (all_here fields)) (nat_le (record_size fields) 1700) h)
 
 values_of-short : (fields : RecordFields) (id : ℕ) → is_all_here fields ≡ true → are_short (values_of fields id) ≡ true
 values_of-short [] id h = refl

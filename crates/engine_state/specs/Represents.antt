@@ -3,8 +3,8 @@ use Rattle.std.specs.Prelude.{◌≡◌, ℕ, Bool, not, ◌==◌, ◌&&◌, ◌
 use Rattle.std.specs.List.{list_all}
 use Rattle.jet_base.specs.ColumnType.{from_little_endian}
 use Rattle.column_set.specs.declared.columns.Column.{Column}
-use Rattle.column_set.specs.RecordValues.{RecordFields, column_of_id, is_kept_column}
-use Rattle.column_set.specs.Rows.{is_row, all_here}
+use Rattle.column_set.specs.RecordValues.{RecordFields, column_of_id, is_kept_column, record_size}
+use Rattle.column_set.specs.Rows.{is_row, largest_row, all_here}
 use Rattle.index_derive.specs.declared.rules.IndexRule.{IndexRule}
 use Rattle.index_derive.specs.declared.rules.Schema.{Schema}
 use Rattle.index_derive.specs.Entries.{is_legal}
@@ -33,9 +33,9 @@ abbrev pub is_built_schema : Schema → Bool
 is_built_schema schema =
     list_all is_built_column schema.columns && list_all (is_built_rule schema) schema.indexes && nat_le (length schema.indexes) 1
 
--- a record all of whose values stand in its row
+-- a record all of whose values stand in its row, which fits a page
 abbrev pub is_built_record : RecordFields → Bool
-is_built_record values = is_row (all_here values)
+is_built_record values = is_row (all_here values) && nat_le (record_size values) largest_row
 
 -- Without a primary index a record has a hidden key: the number of the entry that put it, in 8 bytes big-endian.
 abbrev pub is_hidden_key : ℕ → List ℕ → Bool

@@ -13,14 +13,11 @@ ghost use Rattle.record_edit.specs.SetColumn.{buffer_after, refusal_in_column, s
 use crate::effect::Effect;
 use crate::fault::EditFault;
 use crate::new_value::NewValue;
-use column_set::{Column, Columns, Record};
+use column_set::{Column, Columns, MAX_ROW_SIZE, Record, column_of_id};
 use jet_base::{ColType, ColumnId, Given, Jet, OutOfMemory};
 use std::alloc::Global;
 use std::marker::Model;
 use stored_value::largest_value;
-
-// The most bytes of a record in a row.
-const LARGEST_RECORD: usize = 1_700;
 
 /// A record that a session prepares, with the columns of its table.
 #[derive(Debug, Drop)]
@@ -139,13 +136,6 @@ impl CopyBuffer {
     }
 }
 
-// The column of this number.
-fn column_of_id(columns: &[Column], id: ColumnId) -> Option<&Column>
-    ensures { option_copied result ≡ column_of_id columns.now id.0 }
-{
-    columns.iter().find(|column| column.id == id)
-}
-
 // What the value does to the column, or why it is refused.
 fn checked(column: &Column, sequence: u32, value: NewValue, values: &Record) -> Result<Effect, Jet>
     ensures refusals { MatchResult result (λ _. refusal_in_column column.now sequence (given_of value.entry) values.now ≡ None) (λ refusal. refusal_in_column column.now sequence (given_of value.entry) values.now ≡ Some refusal) }
@@ -168,7 +158,7 @@ fn checked(column: &Column, sequence: u32, value: NewValue, values: &Record) -> 
     if value.is_null() && column.not_null && effect.leaves_none(count) {
         return Err(Jet::NullInvalid);
     }
-    if LARGEST_RECORD < size_after(effect, value.stored_length(column.kind), column.id, values) {
+    if MAX_ROW_SIZE < size_after(effect, value.stored_length(column.kind), column.id, values) {
         return Err(Jet::RecordTooBig);
     }
     Ok(effect)

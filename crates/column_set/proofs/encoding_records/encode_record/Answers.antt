@@ -1,6 +1,8 @@
 use Rattle.std.proofs.Common.{arith, length, rules, refl}
 use Rattle.std.specs.Int.{w16, to_le_bytes}
-use Rattle.column_set.proofs.HereRows.{values_here, count_here, count_fits, field_written, columns_more, row_done, bytes_done}
+use Rattle.column_set.specs.Rows.{all_here}
+use Rattle.column_set.proofs.Sizes.{length-small}
+use Rattle.column_set.proofs.HereRows.{values_here, count_here, count_fits, field_written, columns_more, row_done, row_small, bytes_done}
 use Rattle.column_set.proofs.encoding_records.encode_record.Goals as goal
 
 pub count_of_values-count-requires : goal.count_of_values-count-requires
@@ -28,3 +30,8 @@ returns-clause-ok c = (
   row_done c.fields-fields.result.now c.args.record.now c.loop-field.field-index c.size-size.result c.fields-fields.ensures.fields c.fields-fields.ensures.formed c.requires c.size-size.ensures c.if-size-gt-MAX_ROW_SIZE.false c.loop-field-test.false c.loop-field.invariant.columns,
   bytes_done c.fields-fields.result.now c.args.record.now c.loop-field.field-index _ c.fields-fields.ensures.fields c.loop-field-test.false c.loop-field.invariant.spelled,
 )
+
+pub returns-clause-small : goal.returns-clause-small
+returns-clause-small c =
+    length-small (all_here c.args.record.now) c.loop-field.bytes.items
+    (row_small c.args.record.now c.size-size.result c.requires c.size-size.ensures c.if-size-gt-MAX_ROW_SIZE.false) ((returns-clause-ok c).1)

@@ -1,5 +1,8 @@
-use Rattle.column_set.proofs.Sizes.{row_size-record_size}
+use Rattle.column_set.proofs.Sizes.{length-row_bytes, row_size-record_size}
 use Rattle.column_set.proofs.rows.size_of_a_row.Goals as goal
 
-pub returns : goal.returns
-returns c = row_size-record_size
+pub returns-clause-bytes : goal.returns-clause-bytes
+returns-clause-bytes c = length-row_bytes
+
+pub returns-clause-record_size : goal.returns-clause-record_size
+returns-clause-record_size c = row_size-record_size

@@ -1,6 +1,5 @@
-use Rattle.std.proofs.Common.{◌∙◌}
-use Rattle.column_set.specs.Rows.{all_here}
-use Rattle.engine_core.proofs.Effects.{put-stores, is_all_here-built, small_row}
+use Rattle.std.proofs.Common.{length, ap, arith}
+use Rattle.engine_core.proofs.Effects.{put-stores, is_all_here-built}
 use Rattle.engine_core.proofs.applying.make_change.Goals as goal
 
 pub encode_record-requires : goal.encode_record-requires
@@ -9,4 +8,4 @@ encode_record-requires c =
     is_all_here-built c.in-Put.values parts.built
 
 pub insert-requires-clause-small : goal.insert-requires-clause-small
-insert-requires-clause-small c = small_row c.deref.result.now (all_here c.in-Put.values) c.in-Ok.ensures.ok.0 (c.deref.ensures.value ∙ c.in-Ok.ensures.ok.1)
+insert-requires-clause-small c = omega (arith, ap length c.deref.ensures.value, c.in-Ok.ensures.small)
