@@ -10,7 +10,7 @@ ghost use Rattle.cursor_nav.specs.CursorView.{made_key};
 use crate::cursor::{Cursor, Moved};
 use crate::parts::KeyInMaking;
 use arrayvec::ArrayVec;
-use column_set::Columns;
+use column_set::{Columns, column_of_id};
 use index_derive::{IndexRule, Schema, Segment};
 use jet_base::{ColType, Given, Jet};
 use key_normal::{Key, KeyMaker, Part};
@@ -96,12 +96,7 @@ impl Cursor {
     fn rule<'a>(&self, schema: &'a Schema) -> Option<&'a IndexRule>
         ensures { option_copied result ≡ rule_of_cursor self.now schema.now }
     {
-        let index = self.index.0;
-        schema
-            .indexes
-            .as_slice()
-            .iter()
-            .find(|rule| rule.id.0 == index)
+        schema.rule_with_id(self.index)
     }
 
     /// The segments so far, none where the key is begun anew or none is made.
@@ -125,8 +120,7 @@ impl Cursor {
 fn kind_of(columns: &Columns, segment: &Segment) -> ColType
     ensures { result ≡ segment_kind columns.now segment.now }
 {
-    let id = segment.column.0;
-    match columns.as_slice().iter().find(|column| column.id.0 == id) {
+    match column_of_id(columns.as_slice(), segment.column) {
         Some(column) => column.kind,
         None => ColType::Binary,
     }

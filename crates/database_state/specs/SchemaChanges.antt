@@ -5,6 +5,7 @@ use Rattle.jet_base.specs.declared.replies.Jet.{Jet}
 use Rattle.jet_base.specs.declared.replies.Jet.TheVariants as jet
 use Rattle.jet_base.specs.declared.words.ColType.{ColType}
 use Rattle.jet_base.specs.declared.words.ColType.TheVariants as kind
+pub use Rattle.jet_base.specs.TypeKinds.{is_long_type, is_variable_type}
 use Rattle.column_set.specs.declared.columns.Column.{Column}
 use Rattle.column_set.specs.RecordValues.{with_values}
 use Rattle.index_derive.specs.declared.rules.IndexRule.{IndexRule}
@@ -64,16 +65,6 @@ greatest_table_after greatest (step.DeleteIndex table index) = greatest
 -- ---- the next free numbers
 
 -- tagged where it is asked for or the type is long, else variable or fixed by the type
-abbrev pub is_long_type : ColType → Bool
-is_long_type kind.LongBinary = true
-is_long_type kind.LongText = true
-is_long_type _ = false
-
-abbrev pub is_variable_type : ColType → Bool
-is_variable_type kind.Binary = true
-is_variable_type kind.Text = true
-is_variable_type _ = false
-
 abbrev pub next_column_id : GreatestColumns → ColType → Bool → ℕ
 next_column_id greatest type tagged =
     if tagged || is_long_type type then greatest.tagged + 1

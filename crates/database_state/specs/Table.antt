@@ -4,6 +4,7 @@ use Rattle.column_set.specs.declared.columns.Column.{Column}
 use Rattle.index_derive.specs.declared.rules.IndexRule.{IndexRule}
 use Rattle.index_derive.specs.declared.rules.Schema.{Schema}
 use Rattle.column_set.specs.RecordValues.{RecordFields, lookup_by_key, put_by_key, remove_by_key}
+pub use Rattle.index_derive.specs.Schemas.{primary_rule, rule_with_id}
 use Rattle.index_derive.specs.Entries.{derive, own_order}
 
 -- The greatest column id of each kind that the table ever gave: 0, 127 and 255 where it gave none.
@@ -43,12 +44,6 @@ primary_first rules = filter (λ r. r.flags.primary) rules ++ filter (λ r. not 
 
 abbrev pub schema_of : Table → Schema
 schema_of table = record { columns = table.columns; indexes = primary_first table.indexes }
-
-abbrev pub primary_rule : Schema → Option IndexRule
-primary_rule schema = find (λ r. r.flags.primary) schema.indexes
-
-abbrev pub rule_with_id : Schema → ℕ → Option IndexRule
-rule_with_id schema index = find (λ r. r.id.0 == index) schema.indexes
 
 -- the number of the primary index, or 0, which stands for the order of the hidden keys
 abbrev pub primary_order : Schema → ℕ

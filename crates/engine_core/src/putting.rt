@@ -1,12 +1,10 @@
 //! Update of an insert.
 
 ghost use Rattle.std.specs.Prelude.{◌≡◌, ◌≤◌, ◌*◌, None, false, true, IfOk, IsTrue, OnErr};
-ghost use Rattle.std.specs.Option.{option_copied};
 ghost use Rattle.jet_base.specs.ColumnType.{big_endian};
 ghost use Rattle.column_set.specs.declared.changes.Change.TheVariants.{Put};
 ghost use Rattle.column_set.specs.RecordValues.{is_missing_a_value};
 ghost use Rattle.index_derive.specs.Entries.{is_legal, entries, primary_key};
-ghost use Rattle.database_state.specs.Table.{primary_rule};
 ghost use Rattle.session_local.specs.declared.request.Request.TheVariants as call;
 ghost use Rattle.session_local.specs.LocalCalls.{is_answered_locally};
 ghost use Rattle.engine_state.specs.Represents.{is_built_schema};
@@ -79,7 +77,7 @@ impl Engine {
         if is_missing_a_value(schema, values) {
             return Ok(Err(Jet::NullInvalid));
         }
-        let bookmark = match primary_rule(schema) {
+        let bookmark = match schema.primary_rule() {
             Some(rule) => match self.primary_bookmark(table, rule, schema, values)? {
                 Ok(key) => key,
                 Err(refusal) => return Ok(Err(refusal)),
@@ -166,17 +164,6 @@ fn hidden_bookmark(number: u64) -> Key
     ensures { result ≡ big_endian 8 number }
 {
     Key::from_slice(&number.to_be_bytes())
-}
-
-// The primary index.
-fn primary_rule(schema: &Schema) -> Option<&IndexRule>
-    ensures { option_copied result ≡ primary_rule schema.now }
-{
-    schema
-        .indexes
-        .as_slice()
-        .iter()
-        .find(|rule| rule.flags.primary)
 }
 
 // Whether a column that must not be NULL has no value.

@@ -4,3 +4,4 @@ pub mod Entries
 pub mod Primary
 pub mod Steps
 pub mod Walks
+pub mod Schemas

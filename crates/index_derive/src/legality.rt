@@ -1,21 +1,19 @@
 //! Which rules are legal.
 
-ghost use Rattle.std.specs.Prelude.{◌≡◌, ◌==◌, ◌++◌, map, count_by, option_copied};
+ghost use Rattle.std.specs.Prelude.{◌≡◌, ◌==◌, ◌++◌, map, count_by};
 ghost use Rattle.std.specs.List.{list_any};
-ghost use Rattle.column_set.specs.RecordValues.{column_of_id};
 ghost use Rattle.index_derive.specs.Entries.{is_legal, is_multi_column, is_escrow_column, type_of_column, is_text_type, has_double_number, has_ignore_flag, is_legal_primary, is_tuples_key, is_legal_tuples, key_columns, condition_columns};
 ghost use Rattle.index_derive.specs.Columns.{columns_of};
 
 use crate::rules::{Condition, IndexFlags, IndexRule, Schema, Segment};
-use column_set::Column;
 use jet_base::{ColType, ColumnId};
 
 /// The most columns of a key, and the most conditions of an index.
-pub(crate) const MOST_COLUMNS: usize = 12;
+pub const MOST_KEY_COLUMNS: usize = 12;
 /// The most bytes of a key where its index asks for no more.
-const USUAL_KEY: u16 = 255;
+pub const USUAL_KEY_MOST: u16 = 255;
 /// The most bytes that an index may ask for.
-const LONGEST_KEY: u16 = 500;
+pub const GREATEST_KEY_MOST: u16 = 500;
 /// The most columns with several values where there is an entry for each combination.
 const MOST_CROSSED: usize = 2;
 
@@ -30,33 +28,22 @@ pub fn legal(rule: &IndexRule, schema: &Schema) -> bool
 {
     let segments = rule.segments.as_slice();
     !segments.is_empty()
-        && segments.len() <= MOST_COLUMNS
+        && segments.len() <= MOST_KEY_COLUMNS
         && !has_double_column(segments)
-        && rule.conditions.as_slice().len() <= MOST_COLUMNS
+        && rule.conditions.as_slice().len() <= MOST_KEY_COLUMNS
         && !has_sum(rule, schema)
-        && USUAL_KEY <= rule.key_most
-        && rule.key_most <= LONGEST_KEY
+        && USUAL_KEY_MOST <= rule.key_most
+        && rule.key_most <= GREATEST_KEY_MOST
         && (!rule.flags.primary || is_legal_primary(rule, schema))
         && (!rule.flags.crossproduct || crossed_columns(segments, schema) <= MOST_CROSSED)
         && (!rule.flags.tuples || is_legal_tuples(rule, schema))
-}
-
-/// The schema's column of that number.
-pub(crate) fn column_of(schema: &Schema, id: ColumnId) -> Option<&Column>
-    ensures { option_copied result ≡ column_of_id schema.now.columns id.0 }
-{
-    schema
-        .columns
-        .as_slice()
-        .iter()
-        .find(|column| column.id == id)
 }
 
 /// Whether the column is multi-valued.
 pub(crate) fn is_multi(schema: &Schema, id: ColumnId) -> bool
     ensures { result ≡ is_multi_column schema.now id.0 }
 {
-    match column_of(schema, id) {
+    match schema.column_of_id(id) {
         Some(column) => column.multi,
         None => false,
     }
@@ -66,7 +53,7 @@ pub(crate) fn is_multi(schema: &Schema, id: ColumnId) -> bool
 pub(crate) fn kind_of(schema: &Schema, id: ColumnId) -> ColType
     ensures { result ≡ type_of_column schema.now id.0 }
 {
-    match column_of(schema, id) {
+    match schema.column_of_id(id) {
         Some(column) => column.kind,
         None => ColType::Binary,
     }
@@ -76,7 +63,7 @@ pub(crate) fn kind_of(schema: &Schema, id: ColumnId) -> ColType
 fn is_sum(schema: &Schema, id: ColumnId) -> bool
     ensures { result ≡ is_escrow_column schema.now id.0 }
 {
-    match column_of(schema, id) {
+    match schema.column_of_id(id) {
         Some(column) => column.escrow,
         None => false,
     }
@@ -156,7 +143,7 @@ fn is_legal_primary(rule: &IndexRule, schema: &Schema) -> bool
         && !has_ignore_flag(rule.flags)
         && !rule.flags.tuples
         && !rule.flags.crossproduct
-        && rule.key_most == USUAL_KEY
+        && rule.key_most == USUAL_KEY_MOST
 }
 
 /// Whether entries with NULLs are left out.

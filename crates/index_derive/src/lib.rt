@@ -19,7 +19,7 @@ mod walk;
 pub use entries::{IndexEntry, Place};
 pub use faults::DeriveFault;
 pub use laws::{entries_rise, next_entries_are_entries};
-pub use legality::legal;
+pub use legality::{GREATEST_KEY_MOST, MOST_KEY_COLUMNS, USUAL_KEY_MOST, legal};
 pub use log::{Entry, EntryKind, Step};
 pub use primary::{a_primary_index_has_one_entry, primary_key};
 pub use rules::{Condition, IndexFlags, IndexRule, Schema, Segment};

@@ -4,7 +4,7 @@ ghost use Rattle.std.specs.Prelude.{◌≡◌, ◌≤◌, false, map, length};
 ghost use Rattle.jet_base.specs.declared.words.ColType.TheVariants.{Binary};
 ghost use Rattle.index_derive.specs.Walks.{plan_of, planned_column};
 
-use crate::legality::{is_multi, kind_of};
+use crate::legality::{MOST_KEY_COLUMNS, is_multi, kind_of};
 use crate::rules::{IndexRule, Schema, Segment};
 use arrayvec::ArrayVec;
 use jet_base::{ColType, ColumnId};
@@ -34,7 +34,7 @@ impl Default for KeyPart {
 }
 
 /// The columns of the rule's key, in their order, looked up once.
-pub(crate) fn plan(rule: &IndexRule, schema: &Schema) -> ArrayVec<KeyPart, 12>
+pub(crate) fn plan(rule: &IndexRule, schema: &Schema) -> ArrayVec<KeyPart, MOST_KEY_COLUMNS>
     requires { length rule.now.segments ≤ 12 }
     ensures { result.items ≡ plan_of rule.now schema.now }
 {

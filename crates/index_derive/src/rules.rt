@@ -1,8 +1,10 @@
 //! What an index holds, and the schema of a table.
 
-ghost use Rattle.std.specs.Prelude.{◌≡◌, IfOk};
+ghost use Rattle.std.specs.Prelude.{◌≡◌, IfOk, option_copied};
+ghost use Rattle.column_set.specs.RecordValues.{column_of_id};
+ghost use Rattle.index_derive.specs.Schemas.{primary_rule, rule_named, rule_with_id};
 
-use column_set::Columns;
+use column_set::{Column, Columns, column_of_id};
 use jet_base::{ColumnId, IndexId, Items, Name, OutOfMemory};
 use std::alloc::AllocError;
 
@@ -108,6 +110,40 @@ impl Schema {
             columns: self.columns.copy()?,
             indexes: self.indexes.copy()?,
         })
+    }
+
+    /// The column of this number.
+    pub fn column_of_id(&self, id: ColumnId) -> Option<&Column>
+        ensures { option_copied result ≡ column_of_id self.now.columns id.0 }
+    {
+        column_of_id(self.columns.as_slice(), id)
+    }
+
+    /// The primary index; None where records are kept by hidden keys.
+    pub fn primary_rule(&self) -> Option<&IndexRule>
+        ensures { option_copied result ≡ primary_rule self.now }
+    {
+        self.indexes
+            .as_slice()
+            .iter()
+            .find(|rule| rule.flags.primary)
+    }
+
+    /// The index of this number.
+    pub fn rule_with_id(&self, id: IndexId) -> Option<&IndexRule>
+        ensures { option_copied result ≡ rule_with_id self.now id.0 }
+    {
+        self.indexes.as_slice().iter().find(|rule| rule.id == id)
+    }
+
+    /// The index of this name. Names are compared byte for byte.
+    pub fn rule_named(&self, name: &Name) -> Option<&IndexRule>
+        ensures { option_copied result ≡ rule_named self.now name.now }
+    {
+        self.indexes
+            .as_slice()
+            .iter()
+            .find(|rule| rule.name == *name)
     }
 }
 

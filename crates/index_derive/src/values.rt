@@ -4,6 +4,7 @@ ghost use Rattle.std.specs.Prelude.{◌≡◌, ◌≤◌, ◌<◌, ◌++◌, ◌
 ghost use Rattle.column_set.specs.RecordValues.{values_of};
 ghost use Rattle.index_derive.specs.Walks.{value_at, combination_of, text_at, values_in, row_length};
 
+use crate::legality::MOST_KEY_COLUMNS;
 use crate::plan::KeyPart;
 use crate::rules::IndexFlags;
 use arrayvec::ArrayVec;
@@ -18,7 +19,7 @@ const SEEN_TEXT: usize = 1024;
 const LONGEST_PART: usize = 10;
 
 /// A value or NULL for each column of a key, read in place.
-pub(crate) type KeyValues<'a> = ArrayVec<Option<&'a [u8]>, 12>;
+pub(crate) type KeyValues<'a> = ArrayVec<Option<&'a [u8]>, MOST_KEY_COLUMNS>;
 
 /// The values at a place of a row.
 pub(crate) fn values_in<'a, R: Values>(

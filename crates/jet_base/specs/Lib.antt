@@ -2,3 +2,4 @@ pub mod Ids
 pub mod JetName
 pub mod ColumnType
 pub mod Given
+pub mod TypeKinds

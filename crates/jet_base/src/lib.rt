@@ -12,5 +12,5 @@ pub use ids::{ColumnId, CursorId, IndexId, Session, TableId};
 pub use items::Items;
 pub use memory::OutOfMemory;
 pub use replies::{Jet, name};
-pub use text::{Name, Octets};
+pub use text::{LONGEST_NAME, Name, Octets};
 pub use words::{ColType, ColumnFlags, Given, Prepare, Way};

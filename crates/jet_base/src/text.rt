@@ -10,6 +10,9 @@ use std::alloc::{AllocError, Global};
 use std::cmp::Ordering;
 use std::marker::Model;
 
+/// The most bytes of a name. A name has one at least.
+pub const LONGEST_NAME: usize = 64;
+
 /// The name of a table, a column or an index: any bytes, of which a script writes letters, digits and `_` alone. Names are
 /// equal exactly where their bytes are: case counts.
 #[derive(Debug, Drop)]

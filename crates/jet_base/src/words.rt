@@ -1,5 +1,8 @@
 //! The words of a call: types, directions, ways to prepare, flags and written values.
 
+ghost use Rattle.std.specs.Prelude.{◌≡◌};
+ghost use Rattle.jet_base.specs.TypeKinds.{is_long_type, is_variable_type};
+
 use crate::text::Octets;
 
 /// The type of a column.
@@ -34,6 +37,22 @@ pub enum ColType {
     LongBinary,
     /// Up to 1,048,576 bytes, of which keys do not tell `a` from `A`.
     LongText,
+}
+
+impl ColType {
+    /// Whether values of the type may be longer than 255 bytes, so that its columns are always tagged ones.
+    pub fn is_long(self) -> bool
+        ensures { result ≡ is_long_type self }
+    {
+        matches!(self, ColType::LongBinary | ColType::LongText)
+    }
+
+    /// Whether columns of the type are variable ones, unless they are tagged.
+    pub fn is_variable(self) -> bool
+        ensures { result ≡ is_variable_type self }
+    {
+        matches!(self, ColType::Binary | ColType::Text)
+    }
 }
 
 /// A move of a cursor.

@@ -10,7 +10,6 @@ ghost use Rattle.index_derive.specs.Entries.{column_is_used};
 ghost use Rattle.database_state.specs.Table.{primary_first};
 
 use crate::decide::Decision;
-use crate::numbers::is_long_type;
 use crate::table::TableDef;
 use column_set::Column;
 use index_derive::{IndexRule, SchemaStep};
@@ -59,7 +58,7 @@ impl TableDef {
         if self.has_column_named(name) {
             return Err(Jet::ColumnDuplicate);
         }
-        if flags.multi && !(flags.tagged || is_long_type(kind)) {
+        if flags.multi && !(flags.tagged || kind.is_long()) {
             return Err(Jet::MultiValuedColumnMustBeTagged);
         }
         if flags.escrow && (!is_type_long(kind) || flags.tagged || flags.multi) {

@@ -1,7 +1,7 @@
 //! The numbers of columns: which were given, and the next free one of each kind.
 
 ghost use Rattle.std.specs.Prelude.{◌≡◌, Some, None, if◌then◌else◌};
-ghost use Rattle.database_state.specs.SchemaChanges.{with_column_id, next_column_id, has_column_id, is_long_type, is_variable_type};
+ghost use Rattle.database_state.specs.SchemaChanges.{with_column_id, next_column_id, has_column_id};
 
 use jet_base::{ColType, ColumnId};
 use std::marker::Model;
@@ -47,9 +47,9 @@ impl GreatestColumns {
     pub fn next(&self, kind: ColType, tagged: bool) -> Option<ColumnId>
         ensures { result ≡ (let id = next_column_id self.now kind tagged in if has_column_id kind tagged id then Some (record { 0 = id }) else None) }
     {
-        let (greatest, last) = if tagged || is_long_type(kind) {
+        let (greatest, last) = if tagged || kind.is_long() {
             (self.tagged, LAST_TAGGED)
-        } else if is_variable_type(kind) {
+        } else if kind.is_variable() {
             (self.variable, LAST_VARIABLE)
         } else {
             (self.fixed, LAST_FIXED)
@@ -73,18 +73,4 @@ impl GreatestColumns {
             self.tagged = self.tagged.max(id.0);
         }
     }
-}
-
-/// Whether values of the type may be longer than 255 bytes, so that its columns are always tagged ones.
-pub fn is_long_type(kind: ColType) -> bool
-    ensures { result ≡ is_long_type kind }
-{
-    matches!(kind, ColType::LongBinary | ColType::LongText)
-}
-
-// Whether columns of the type are variable ones, unless they are tagged.
-fn is_variable_type(kind: ColType) -> bool
-    ensures { result ≡ is_variable_type kind }
-{
-    matches!(kind, ColType::Binary | ColType::Text)
 }

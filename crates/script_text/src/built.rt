@@ -1,22 +1,14 @@
 //! The lines that are built, each by itself, whatever stands before it.
 
 ghost use Rattle.std.specs.Prelude.{◌≡◌};
-ghost use Rattle.database_state.specs.SchemaChanges.{is_long_type};
 ghost use Rattle.script_words.specs.Reading.{Reads};
 ghost use Rattle.script_text.specs.Built.{is_built_request, built_call};
 
 use crate::grammar::line_request;
-use jet_base::{ColType, Prepare, Session};
+use jet_base::{Prepare, Session};
 use script_words::Refusal;
 use session_local::Request;
 use std::alloc::Global;
-
-/// Whether values of the type may be longer than 255 bytes.
-fn is_long_type(kind: ColType) -> bool
-    ensures { result ≡ is_long_type kind }
-{
-    matches!(kind, ColType::LongBinary | ColType::LongText)
-}
 
 /// Whether a call is built.
 fn is_built_request(request: &Request) -> bool
@@ -38,7 +30,7 @@ fn is_built_request(request: &Request) -> bool
         | Request::RetrieveColumn { .. }
         | Request::Update { .. } => true,
         Request::AddColumn { kind, flags, .. } => {
-            !is_long_type(*kind) && !(flags.escrow || flags.version || flags.auto)
+            !kind.is_long() && !(flags.escrow || flags.version || flags.auto)
         }
         Request::CreateIndex {
             flags,

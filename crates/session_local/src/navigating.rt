@@ -1,7 +1,6 @@
 //! The calls that move a cursor.
 
-ghost use Rattle.std.specs.Prelude.{◌≡◌, ◌==◌, Option, Some, None, IsOk, find, option_map, bytes_eq};
-ghost use Rattle.std.specs.Option.{option_copied};
+ghost use Rattle.std.specs.Prelude.{◌≡◌, ◌==◌, Option, Some, None, IsOk, find, option_map};
 ghost use Rattle.jet_base.specs.declared.replies.Jet.TheVariants as jet;
 ghost use Rattle.cursor_nav.specs.Navigation.{answer_of};
 ghost use Rattle.session_local.specs.Local.{cursor_labelled};
@@ -13,7 +12,6 @@ use crate::local::Local;
 use crate::open_cursor::{OpenCursor, primary_order};
 use crate::request::Request;
 use cursor_nav::{Moved, View};
-use index_derive::{IndexRule, Schema};
 use jet_base::{CursorId, IndexId, Jet, Name};
 
 impl Local {
@@ -77,7 +75,7 @@ impl OpenCursor {
                 let index = primary_order(&self.schema);
                 self.set_to(view, index)
             }
-            Some(name) => match rule_named(&self.schema, name) {
+            Some(name) => match self.schema.rule_named(name) {
                 Some(rule) => {
                     let index = rule.id;
                     self.set_to(view, index)
@@ -94,17 +92,6 @@ impl OpenCursor {
     {
         jet_of(self.cursor.set_index(view, index))
     }
-}
-
-// The rule of the index with this name.
-fn rule_named<'a>(schema: &'a Schema, name: &Name) -> Option<&'a IndexRule>
-    ensures { option_copied result ≡ find (λ rule. bytes_eq rule.name name.now) schema.now.indexes }
-{
-    schema
-        .indexes
-        .as_slice()
-        .iter()
-        .find(|rule| rule.name == *name)
 }
 
 // The name that a cursor answered.

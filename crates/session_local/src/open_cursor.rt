@@ -1,14 +1,13 @@
 //! Open cursors.
 
 ghost use Rattle.std.specs.Prelude.{◌≡◌, Option, Some, None, MatchOption, option_map};
-ghost use Rattle.std.specs.Option.{option_copied};
-ghost use Rattle.database_state.specs.Table.{primary_order, primary_rule};
+ghost use Rattle.database_state.specs.Table.{primary_order};
 ghost use Rattle.session_local.specs.Preparing.{update_of, HasColumns};
 ghost use Rattle.session_local.specs.Finishing.{opened_cursor};
 
 use crate::prepared::Prepared;
 use cursor_nav::Cursor;
-use index_derive::{IndexRule, Schema};
+use index_derive::Schema;
 use jet_base::{CursorId, IndexId, TableId};
 use std::marker::Model;
 
@@ -89,19 +88,8 @@ impl OpenCursor {
 pub(crate) fn primary_order(schema: &Schema) -> IndexId
     ensures { result.0 ≡ primary_order schema.now }
 {
-    match primary_rule(schema) {
+    match schema.primary_rule() {
         Some(rule) => rule.id,
         None => IndexId(0),
     }
-}
-
-// The primary index.
-fn primary_rule(schema: &Schema) -> Option<&IndexRule>
-    ensures { option_copied result ≡ primary_rule schema.now }
-{
-    schema
-        .indexes
-        .as_slice()
-        .iter()
-        .find(|rule| rule.flags.primary)
 }
