@@ -10,12 +10,15 @@ use std::alloc::AllocError;
 use std::cmp::Ordering;
 use std::marker::Model;
 
+/// The most bytes of a key and of a bookmark.
+pub const LONGEST_KEY: usize = 255;
+
 /// The key of an entry of an index, or a bookmark: at most 255 bytes, which lie in the value itself.
 ///
 /// Keys are ordered as byte strings.
 #[derive(Debug, Drop)]
 pub struct Key {
-    bytes: ArrayVec<u8, 255>,
+    bytes: ArrayVec<u8, LONGEST_KEY>,
 }
 
 impl Model for Key {

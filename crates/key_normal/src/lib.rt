@@ -5,7 +5,7 @@ mod key;
 mod maker;
 mod order;
 
-pub use key::Key;
+pub use key::{Key, LONGEST_KEY};
 pub use maker::{KeyMaker, Part};
 pub use order::order_of_whole_keys;
 

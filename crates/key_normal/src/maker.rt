@@ -5,7 +5,7 @@ ghost use Rattle.key_normal.specs.KeyBytes.{segment_bytes, value_bytes, in_direc
 ghost use Rattle.key_normal.specs.KeySoFar.{key_so_far, with_byte, with_bytes};
 ghost use Rattle.key_normal.specs.Spelling.{spelled};
 
-use crate::key::Key;
+use crate::key::{Key, LONGEST_KEY};
 use arrayvec::ArrayVec;
 use jet_base::ColType;
 use std::marker::Model;
@@ -37,7 +37,7 @@ pub struct Part<'a> {
 /// A key in the making. It takes no memory.
 #[derive(Debug, Drop)]
 pub struct KeyMaker {
-    bytes: ArrayVec<u8, 255>,
+    bytes: ArrayVec<u8, LONGEST_KEY>,
     most: usize,
     lost: bool,
 }

@@ -9,7 +9,7 @@ use arrayvec::ArrayVec;
 use jet_base::{ColType, Given};
 
 /// The most bytes of a value that a key sees.
-const FRONT: usize = 255;
+pub const FRONT_BYTES: usize = 255;
 
 /// Whether the written value has the form that the type asks for: a number in its range, or bytes of its width. A type
 /// without a width takes any bytes, and no value fits every type.
@@ -38,7 +38,7 @@ pub fn length_of(given: &Given) -> usize
 /// The first 255 bytes that a column of the type stores of a value that fits; none for no value.
 ///
 /// Of `Fill(300, 1)` in a `Text` they are 255 bytes 01.
-pub fn stored_front(kind: ColType, given: &Given) -> ArrayVec<u8, 255>
+pub fn stored_front(kind: ColType, given: &Given) -> ArrayVec<u8, FRONT_BYTES>
     requires { IsTrue (given_fits kind given.now) }
     ensures { result.items ≡ given_front 255 kind given.now }
 {
@@ -54,10 +54,10 @@ pub fn stored_front(kind: ColType, given: &Given) -> ArrayVec<u8, 255>
 }
 
 /// The first 255 of the bytes, as a column of the type stores them.
-fn front_of_bytes(kind: ColType, bytes: &[u8]) -> ArrayVec<u8, 255>
+fn front_of_bytes(kind: ColType, bytes: &[u8]) -> ArrayVec<u8, FRONT_BYTES>
     ensures { result.items ≡ as_stored kind (take 255 bytes.now) }
 {
-    let (front, _) = bytes.split_at(FRONT.min(bytes.len()));
+    let (front, _) = bytes.split_at(FRONT_BYTES.min(bytes.len()));
     let mut stored = ArrayVec::new();
     for byte in front {
         stored.push(stored_byte(kind, *byte));
@@ -66,11 +66,11 @@ fn front_of_bytes(kind: ColType, bytes: &[u8]) -> ArrayVec<u8, 255>
 }
 
 /// The first 255 of so many equal bytes, as a column of the type stores them.
-fn front_of_fill(kind: ColType, count: u32, byte: u8) -> ArrayVec<u8, 255>
+fn front_of_fill(kind: ColType, count: u32, byte: u8) -> ArrayVec<u8, FRONT_BYTES>
     ensures { result.items ≡ as_stored kind (replicate (min 255 count) byte) }
 {
     let mut stored = ArrayVec::new();
-    for _ in 0..count.min(255) {
+    for _ in 0..count.min(FRONT_BYTES as u32) {
         stored.push(stored_byte(kind, byte));
     }
     stored
