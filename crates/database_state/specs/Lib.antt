@@ -11,3 +11,4 @@ pub mod SchemaSteps
 pub mod Step
 pub mod Lawful
 pub mod Equivalence
+pub mod Computing
