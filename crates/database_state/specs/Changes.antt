@@ -18,6 +18,13 @@ changed_bookmark (Drop table bookmark) = bookmark
 changed_bookmark (Hold table bookmark) = bookmark
 changed_bookmark (Add table bookmark column amount) = bookmark
 
+-- a put without the bookmark that it was copied from
+abbrev pub without_copied : Change → Change
+without_copied (Put table bookmark copied values) = Put table bookmark None values
+without_copied (Drop table bookmark) = Drop table bookmark
+without_copied (Hold table bookmark) = Hold table bookmark
+without_copied (Add table bookmark column amount) = Add table bookmark column amount
+
 abbrev pub is_sum : Change → Bool
 is_sum (Put table bookmark copied values) = false
 is_sum (Drop table bookmark) = false

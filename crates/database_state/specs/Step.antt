@@ -6,7 +6,7 @@ use Rattle.index_derive.specs.declared.log.EntryKind.{EntryKind}
 use Rattle.index_derive.specs.declared.log.EntryKind.TheVariants as entry
 use Rattle.index_derive.specs.declared.schema_calls.SchemaStep.{SchemaStep}
 use Rattle.database_state.specs.Table.{record_in}
-use Rattle.database_state.specs.Changes.{changed_table, changed_bookmark, tables_after, tables_after_all}
+use Rattle.database_state.specs.Changes.{changed_table, changed_bookmark, without_copied, tables_after, tables_after_all}
 use Rattle.database_state.specs.State.{DatabaseState, LiveSession, PastChange, Transaction, uncommitted, committed, undone, is_open_change_of, open_changes_of, levels, with_session}
 use Rattle.database_state.specs.View.{newest}
 use Rattle.database_state.specs.SchemaChanges.{tables_after_step, greatest_table_after}
@@ -75,7 +75,8 @@ all_committed label state =
 
 -- ---- changes
 
--- a change is a new open item at the innermost level, with its record before and after in the newest state
+-- A change is a new open item at the innermost level, with its record before and after in the newest state. That a put was
+-- copied from another record stands in the log alone.
 abbrev pub changed : ℕ → Change → DatabaseState → DatabaseState
 changed label change state =
     let tables = newest state in
@@ -84,7 +85,7 @@ changed label change state =
         number = state.number;
         session = label;
         level = levels state label;
-        change = change;
+        change = without_copied change;
         before = record_in tables (changed_table change) (changed_bookmark change);
         after = record_in (tables_after tables change) (changed_table change) (changed_bookmark change);
         status = uncommitted;

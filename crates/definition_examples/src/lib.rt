@@ -6,4 +6,5 @@ pub mod indexes;
 pub mod keys;
 pub mod records;
 pub mod rows;
+pub mod states;
 pub mod values;

@@ -4,11 +4,12 @@ use Rattle.std.specs.Prelude.{◌==◌, nat_lt}
 use Rattle.std.proofs.lemmas.List.{length-append}
 use Rattle.std.proofs.lemmas.List.Sums.{fold-append}
 use Rattle.column_set.specs.declared.changes.Change.{Change}
+use Rattle.column_set.specs.declared.changes.Change.TheVariants.{Put, Drop, Hold, Add}
 use Rattle.index_derive.specs.declared.log.Entry.{Entry}
 use Rattle.index_derive.specs.declared.log.EntryKind.{EntryKind}
 use Rattle.index_derive.specs.declared.log.EntryKind.TheVariants as entry
 use Rattle.database_state.specs.Table.{Table, Rows}
-use Rattle.database_state.specs.Changes.{changed_table, rows_after, tables_after, tables_after_all}
+use Rattle.database_state.specs.Changes.{changed_table, rows_after, tables_after, tables_after_all, without_copied}
 use Rattle.database_state.specs.State.{DatabaseState, undone, levels, open_changes, open_changes_of}
 use Rattle.database_state.specs.View.{newest}
 use Rattle.database_state.specs.SchemaChanges.{tables_after_step}
@@ -87,7 +88,7 @@ open_count-after session state (entry.Shut table) single h = refl
 open_count-after session state entry.Begin single h = refl
 open_count-after session state entry.Save single h = refl
 open_count-after session state (entry.Change change) single h =
-    ap length (open_changes-append state.past _ refl) ∙ length-append (open_changes state.past) (change ∷ [])
+    ap length (open_changes-append state.past _ refl) ∙ length-append (open_changes state.past) (without_copied change ∷ [])
 open_count-after session state entry.Release single h =
     ap length (open_changes-map (release_at session (levels state session)) (status-release_at session (levels state session)) (change-release_at session (levels state session)) state.past)
 open_count-after session state entry.Undo single h = cc
@@ -101,6 +102,13 @@ own_tables : (session : ℕ) (state : DatabaseState) → IsSingleSession session
 unfolding newest
 own_tables session state single = ap (tables_after_all state.tables) (open_changes_of-own session state.past (all_inserts session state single))
 
+-- what a put was copied from is nothing to the tables
+tables_after-without_copied : (tables : List Table) (change : Change) → tables_after tables (without_copied change) ≡ tables_after tables change
+tables_after-without_copied tables (Put table bookmark copied values) = refl
+tables_after-without_copied tables (Drop table bookmark) = refl
+tables_after-without_copied tables (Hold table bookmark) = refl
+tables_after-without_copied tables (Add table bookmark column amount) = refl
+
 pub newest-after : (session : ℕ) (state : DatabaseState) (kind : EntryKind) → IsSingleSession session state → is_single_step state session kind ≡ true
     → newest (state_after state (entry_by session kind)) ≡ newest_after (newest state) kind
 unfolding state_after newest
@@ -111,7 +119,8 @@ newest-after session state (entry.Shut table) single h = refl
 newest-after session state entry.Begin single h = refl
 newest-after session state entry.Save single h = refl
 newest-after session state (entry.Change change) single h =
-    ap (tables_after_all state.tables) (open_changes-append state.past _ refl) ∙ fold-append tables_after state.tables (open_changes state.past) (change ∷ [])
+    ap (tables_after_all state.tables) (open_changes-append state.past _ refl) ∙ fold-append tables_after state.tables (open_changes state.past) (without_copied change ∷ [])
+    ∙ tables_after-without_copied (tables_after_all state.tables (open_changes state.past)) change
 newest-after session state entry.Release single h =
     ap (tables_after_all state.tables) (open_changes-map (release_at session (levels state session)) (status-release_at session (levels state session)) (change-release_at session (levels state session)) state.past)
 newest-after session state entry.Undo single h = cc

@@ -7,7 +7,7 @@ use Rattle.column_set.specs.declared.changes.Change.TheVariants.{Put, Drop, Hold
 use Rattle.index_derive.specs.declared.log.EntryKind.{EntryKind}
 use Rattle.index_derive.specs.declared.log.EntryKind.TheVariants as entry
 use Rattle.database_state.specs.Table.{Table, record_in}
-use Rattle.database_state.specs.Changes.{changed_table, changed_bookmark}
+use Rattle.database_state.specs.Changes.{changed_table, changed_bookmark, without_copied}
 use Rattle.database_state.specs.State.{DatabaseState, LiveSession, PastChange, Transaction, committed, is_open_change_of, transaction_of, levels_of, levels}
 use Rattle.database_state.specs.View.{newest}
 use Rattle.database_state.specs.Step.{state_after, at_levels, is_at_level}
@@ -54,7 +54,7 @@ status-release_at session level item = released_status item (item.level - 1) (is
 pub change-release_at : (session level : ℕ) (item : PastChange) → (release_at session level item).change ≡ item.change
 change-release_at session level item = released_change item (item.level - 1) (is_open_change_of session item && is_at_level level item)
 
-new_insert : (tables : List Table) (change : Change) → is_new_record tables change ≡ true → is_insert change (record_in tables (changed_table change) (changed_bookmark change)) ≡ true
+new_insert : (tables : List Table) (change : Change) → is_new_record tables change ≡ true → is_insert (without_copied change) (record_in tables (changed_table change) (changed_bookmark change)) ≡ true
 new_insert tables (Put table bookmark copied values) h = h
 new_insert tables (Drop table bookmark) h = cc
 new_insert tables (Hold table bookmark) h = cc
