@@ -1,5 +1,5 @@
 -- Which log entries may come next.
-use Rattle.std.specs.Prelude.{ℕ, ◌+◌, ◌^◌, ◌==◌, Bool, true, false, not, ◌&&◌, ◌||◌, nat_lt, nat_le, length, List, [], Option, Some, None, is_some, is_none, unwrap_or, bytes_eq}
+use Rattle.std.specs.Prelude.{ℕ, ◌+◌, ◌^◌, ◌==◌, Bool, true, false, not, ◌&&◌, ◌||◌, nat_lt, nat_le, length, List, [], Option, Some, None, is_some, is_none, unwrap_or, filter, bytes_eq}
 use Rattle.std.specs.List.{list_any, list_all}
 use Rattle.jet_base.specs.ColumnType.{big_endian}
 use Rattle.column_set.specs.declared.columns.Column.{Column}
@@ -18,8 +18,8 @@ use Rattle.database_state.specs.Table.{Table, Rows, row_at, rows_of, schema_of, 
 use Rattle.database_state.specs.Changes.{changed_table, escrow_bytes}
 use Rattle.database_state.specs.State.{DatabaseState, LiveSession, live_session, levels}
 use Rattle.database_state.specs.View.{view}
-use Rattle.database_state.specs.Conflicts.{has_write_conflict}
-use Rattle.database_state.specs.Puts.{put_refusals}
+use Rattle.database_state.specs.Conflicts.{has_write_conflict, has_key_conflict}
+use Rattle.database_state.specs.Puts.{null_refusals, new_keys, is_taken}
 use Rattle.database_state.specs.Refusals.{first_refusal}
 use Rattle.database_state.specs.SchemaChanges.{new_table, schema_refusal, next_column_id, next_index_id, greatest_order}
 use Rattle.database_state.specs.Step.{state_after}
@@ -65,6 +65,18 @@ is_bookmark_of number schema rows (Some rule) bookmark values = bytes_eq bookmar
 abbrev pub keeps_escrow : List Column → Option RecordFields → RecordFields → Bool
 keeps_escrow columns seen values = list_all (λ c. not c.escrow || bytes_eq (escrow_bytes values c.id.0) (escrow_bytes (unwrap_or seen []) c.id.0)) columns
 
+-- no index refuses the record for a NULL or for a cut key
+abbrev pub is_indexable : Schema → RecordFields → Bool
+is_indexable schema values = is_none (first_refusal (null_refusals schema values))
+
+-- Of a unique index no key that is new to the record is a concurrent change's, or another record's of the view. The keys
+-- that the record of the view has already are not asked.
+abbrev pub has_free_keys : DatabaseState → ℕ → ℕ → Schema → Rows → List ℕ → RecordFields → Bool
+has_free_keys state session table schema rows bookmark values =
+    list_all (λ rule. list_all (λ key. not (has_key_conflict state session table schema rule key || is_taken schema rows rule (Some bookmark) key))
+    (new_keys rule schema (row_at rows bookmark) values))
+    (filter is_unique schema.indexes)
+
 abbrev pub is_copied_in : Rows → Option (List ℕ) → Bool
 is_copied_in rows None = true
 is_copied_in rows (Some bookmark) = is_some (row_at rows bookmark)
@@ -74,7 +86,8 @@ is_lawful_put state session table rows bookmark copied values =
     record_fits table.columns values
     && not (is_missing_a_value table.columns values)
     && nat_le (record_size values) 1700
-    && is_none (first_refusal (put_refusals state session table.id (schema_of table) rows (Some bookmark) values))
+    && is_indexable (schema_of table) values
+    && has_free_keys state session table.id (schema_of table) rows bookmark values
     && is_bookmark_of (state.number + 1) (schema_of table) rows (primary_rule (schema_of table)) bookmark values
     && keeps_escrow table.columns (row_at rows bookmark) values
     && is_copied_in rows copied
