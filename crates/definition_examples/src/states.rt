@@ -1,19 +1,20 @@
-//! Database states: what entries make of them, and which entries are lawful.
+//! Database states: what entries make of them, which entries are lawful, and which states are equivalent.
 #![tactic(auto, unfolding(database_state::specs::Computing::computing))]
 
-ghost use Rattle.std.specs.Prelude.{◌≡◌, ℕ, List, [], ◌∷◌, true, false, Some, None, codes, map};
-ghost use Rattle.jet_base.specs.Ids.{table_id};
+ghost use Rattle.std.specs.Prelude.{◌≡◌, ◌≢◌, ℕ, List, [], ◌∷◌, true, false, Some, None, codes, map, pos};
+ghost use Rattle.jet_base.specs.Ids.{table_id, column_id};
 ghost use Rattle.jet_base.specs.declared.words.ColType.TheVariants.{Long};
 ghost use Rattle.jet_base.specs.declared.replies.Jet.TheVariants as jet;
-ghost use Rattle.column_set.specs.declared.changes.Change.TheVariants.{Put};
+ghost use Rattle.column_set.specs.declared.changes.Change.TheVariants.{Put, Hold, Add};
 ghost use Rattle.index_derive.specs.declared.log.EntryKind.TheVariants as entry;
 ghost use Rattle.index_derive.specs.declared.schema_calls.SchemaStep.TheVariants as step;
 ghost use Rattle.database_state.specs.Table.{schema_of};
-ghost use Rattle.database_state.specs.State.{change_of};
+ghost use Rattle.database_state.specs.State.{uncommitted, committed, undone, change_of};
 ghost use Rattle.database_state.specs.Refusals.{first_refusal};
 ghost use Rattle.database_state.specs.Puts.{put_refusals};
 ghost use Rattle.database_state.specs.Lawful.{is_lawful};
-ghost use Rattle.definition_examples.specs.States.{entry_by, state_of, column, sample_table, fields, hidden_key, put, in_transaction};
+ghost use Rattle.database_state.specs.Equivalence.{essence};
+ghost use Rattle.definition_examples.specs.States.{entry_by, state_of, column, sample_table, fields, hidden_key, put, in_transaction, past_change};
 
 /// The past does not tell from which record a put was copied; that stands in the log alone.
 pub fn a_copied_put_of_the_past()
@@ -36,4 +37,43 @@ pub fn a_replace_that_keeps_a_shared_key()
         (entry_by 1 (entry.Change (put 3 (fields 1 8 0)))) ≡ false }
     ensures call { let rows = (hidden_key 3, fields 1 7 0) ∷ (hidden_key 4, fields 2 7 0) ∷ (hidden_key 5, fields 3 8 0) ∷ [] in
         first_refusal (put_refusals (in_transaction rows []) 1 1 (schema_of (sample_table rows)) rows (Some (hidden_key 3)) (fields 9 7 0)) ≡ Some jet.KeyDuplicate }
+{}
+
+/// A clean takes committed changes away that no open transaction needs: entry 8's commit came before entry 9 began one.
+pub fn a_clean()
+    ensures oldest { essence (in_transaction ((hidden_key 6, fields 1 7 0) ∷ [])
+        (past_change 6 (put 6 (fields 1 7 0)) None (Some (fields 1 7 0)) (committed 8) ∷ past_change 10 (Hold (table_id 1) (hidden_key 6)) (Some (fields 1 7 0)) (Some (fields 1 7 0)) uncommitted ∷ []))
+        ≡ essence (in_transaction ((hidden_key 6, fields 1 7 0) ∷ [])
+        (past_change 10 (Hold (table_id 1) (hidden_key 6)) (Some (fields 1 7 0)) (Some (fields 1 7 0)) uncommitted ∷ [])) }
+    ensures all { essence (in_transaction ((hidden_key 6, fields 1 7 0) ∷ []) (past_change 6 (put 6 (fields 1 7 0)) None (Some (fields 1 7 0)) (committed 8) ∷ []))
+        ≡ essence (in_transaction ((hidden_key 6, fields 1 7 0) ∷ []) []) }
+{}
+
+/// Of an undone put no record is kept, as long as it costs the same.
+pub fn an_undone_change()
+    ensures { let locked = past_change 10 (Hold (table_id 1) (hidden_key 6)) (Some (fields 1 7 0)) (Some (fields 1 7 0)) uncommitted in
+        essence (in_transaction ((hidden_key 6, fields 1 7 0) ∷ []) (locked ∷ past_change 12 (put 6 (fields 2 8 0)) (Some (fields 1 7 0)) (Some (fields 2 8 0)) undone ∷ []))
+        ≡ essence (in_transaction ((hidden_key 6, fields 1 7 0) ∷ []) (locked ∷ past_change 12 (put 6 []) (Some (fields 0 0 0)) None undone ∷ [])) }
+{}
+
+/// The records of a sum are kept but for their sums.
+pub fn a_sum()
+    ensures { essence (in_transaction ((hidden_key 6, fields 1 7 5) ∷ [])
+        (past_change 10 (Add (table_id 1) (hidden_key 6) (column_id 3) (pos 4)) (Some (fields 1 7 5)) (Some (fields 1 7 9)) uncommitted ∷ []))
+        ≡ essence (in_transaction ((hidden_key 6, fields 1 7 5) ∷ [])
+        (past_change 10 (Add (table_id 1) (hidden_key 6) (column_id 3) (pos 4)) (Some (fields 1 7 8)) (Some (fields 1 7 12)) uncommitted ∷ [])) }
+{}
+
+/// States that look alike and are not equivalent: an undone put of another cost; a sum whose records differ elsewhere; a put
+/// that still stands, with another record.
+pub fn states_that_look_alike()
+    ensures cost { let locked = past_change 10 (Hold (table_id 1) (hidden_key 6)) (Some (fields 1 7 0)) (Some (fields 1 7 0)) uncommitted in
+        essence (in_transaction ((hidden_key 6, fields 1 7 0) ∷ []) (locked ∷ past_change 12 (put 6 []) (Some (fields 1 7 0)) None undone ∷ []))
+        ≢ essence (in_transaction ((hidden_key 6, fields 1 7 0) ∷ []) (locked ∷ past_change 12 (put 6 []) None None undone ∷ [])) }
+    ensures sum { essence (in_transaction ((hidden_key 6, fields 1 7 5) ∷ [])
+        (past_change 10 (Add (table_id 1) (hidden_key 6) (column_id 3) (pos 4)) (Some (fields 1 7 5)) (Some (fields 1 7 9)) uncommitted ∷ []))
+        ≢ essence (in_transaction ((hidden_key 6, fields 1 7 5) ∷ [])
+        (past_change 10 (Add (table_id 1) (hidden_key 6) (column_id 3) (pos 4)) (Some (fields 1 8 5)) (Some (fields 1 8 9)) uncommitted ∷ [])) }
+    ensures standing { essence (in_transaction ((hidden_key 6, fields 1 7 0) ∷ []) (past_change 10 (put 6 (fields 2 7 0)) (Some (fields 1 7 0)) (Some (fields 2 7 0)) uncommitted ∷ []))
+        ≢ essence (in_transaction ((hidden_key 6, fields 1 7 0) ∷ []) (past_change 10 (put 6 (fields 3 7 0)) (Some (fields 1 7 0)) (Some (fields 3 7 0)) uncommitted ∷ [])) }
 {}
