@@ -13,7 +13,7 @@ use Rattle.std.proofs.lemmas.List.{append-nil, map-append, take-map, length-appe
 use Rattle.std.proofs.lemmas.List.Folds.{list_all-append}
 use Rattle.std.proofs.lemmas.Grind.{flat_map-append}
 use Rattle.database_state.specs.State.{empty_state}
-use Rattle.session_local.specs.Run.{RunState, Line, LineOutcome, run_from, rows_from, rows_of_line, run_after, run_after_all, may_come, outcomes_may_come}
+use Rattle.session_local.specs.Run.{RunState, Line, LineOutcome, served, no_memory, flush_failed, unserved, run_from, rows_from, rows_of_line, run_after, run_after_all, may_come, may_be_followed, outcomes_may_come}
 use Rattle.script_transcript.specs.TranscriptLine.{transcript_of, row_line}
 use Rattle.esentutl.specs.TopCall.{span_limit, is_plain, AreOutcomesOf, run_transcript}
 use Rattle.esentutl.specs.Lines.{line_text, RunsLine, BreaksLine}
@@ -48,12 +48,42 @@ and_assoc : (a b c : Bool) → a && (b && c) ≡ (a && b) && c
 and_assoc true b c = refl
 and_assoc false b c = refl
 
-pub outcomes_may_come-append : (run : RunState) (pairs : List Served) (pair : Served)
+-- behind the last line stands none, and behind a plain one any may stand
+followed_by_none : (line : Line) (outcome : LineOutcome) → may_be_followed line outcome [] ≡ true
+followed_by_none line served = refl
+followed_by_none line no_memory = refl
+followed_by_none line (flush_failed reply) = refl
+followed_by_none line unserved = refl
+
+followed : (line : Line) (outcome : LineOutcome) (pairs : List Served) → is_plain outcome ≡ true → may_be_followed line outcome pairs ≡ true
+followed line served pairs plain = refl
+followed line no_memory pairs plain = refl
+followed line (flush_failed reply) pairs plain = cc
+followed line unserved pairs plain = cc
+
+and_left : (a b : Bool) → (a && b) ≡ true → a ≡ true
+and_left true b h = refl
+and_left false b h = cc
+
+and_right : (a b : Bool) → (a && b) ≡ true → b ≡ true
+and_right true b h = h
+and_right false b h = cc
+
+pub outcomes_may_come-append : (run : RunState) (pairs : List Served) (pair : Served) → list_all is_plain_pair pairs ≡ true
     → outcomes_may_come span_limit run (pairs ++ pair ∷ []) ≡ outcomes_may_come span_limit run pairs && may_come span_limit (run_after_all span_limit run pairs) pair.0 pair.1
-outcomes_may_come-append run [] pair = and_true (may_come span_limit run pair.0 pair.1)
-outcomes_may_come-append run (first ∷ pairs) pair =
-    ap (λ b. may_come span_limit run first.0 first.1 && b) (outcomes_may_come-append (run_after span_limit run first.0 first.1) pairs pair)
-    ∙ and_assoc (may_come span_limit run first.0 first.1) (outcomes_may_come span_limit (run_after span_limit run first.0 first.1) pairs) (may_come span_limit (run_after_all span_limit (run_after span_limit run first.0 first.1) pairs) pair.0 pair.1)
+outcomes_may_come-append run [] pair plain =
+    let may = may_come span_limit run pair.0 pair.1 in
+    ap (λ b. (may && b) && true) (followed_by_none pair.0 pair.1) ∙ and_true (may && true) ∙ and_true may
+outcomes_may_come-append run (first ∷ pairs) pair plain =
+    let after = run_after span_limit run first.0 first.1 in
+    let may = may_come span_limit run first.0 first.1 in
+    let last = may_come span_limit (run_after_all span_limit after pairs) pair.0 pair.1 in
+    let here : is_plain first.1 ≡ true = and_left (is_plain first.1) (list_all is_plain_pair pairs) plain in
+    let rest = and_right (is_plain first.1) (list_all is_plain_pair pairs) plain in
+    ap (λ b. (may && b) && outcomes_may_come span_limit after (pairs ++ pair ∷ [])) (followed first.0 first.1 (pairs ++ pair ∷ []) here)
+    ∙ ap (λ b. (may && true) && b) (outcomes_may_come-append after pairs pair rest)
+    ∙ and_assoc (may && true) (outcomes_may_come span_limit after pairs) last
+    ∙ ap (λ b. ((may && b) && outcomes_may_come span_limit after pairs) && last) (sym (followed first.0 first.1 pairs here))
 
 -- the transcript of one line more
 pub run_transcript-append : (pairs : List Served) (pair : Served)
@@ -74,7 +104,7 @@ AreOutcomesOf-append lines pairs line outcome so_far plain may =
     let pair : Served = (line, outcome) in (
       map-append first_of_pair pairs (pair ∷ []) ∙ ap (λ xs. xs ++ line ∷ []) so_far.0,
       list_all-append is_plain_pair pairs (pair ∷ []) ∙ both (list_all is_plain_pair pairs) (is_plain outcome && true) so_far.1 (and_true (is_plain outcome) ∙ plain),
-      outcomes_may_come-append (run_from empty_state) pairs pair ∙ both (outcomes_may_come span_limit (run_from empty_state) pairs) (may_come span_limit (run_after_all span_limit (run_from empty_state) pairs) line outcome) so_far.2 may,
+      outcomes_may_come-append (run_from empty_state) pairs pair so_far.1 ∙ both (outcomes_may_come span_limit (run_from empty_state) pairs) (may_come span_limit (run_after_all span_limit (run_from empty_state) pairs) line outcome) so_far.2 may,
     )
 
 -- What holds before each line: the lines so far had outcomes that they may have, the sink took their transcript, and the

@@ -3,6 +3,7 @@
 
 pub mod indexes;
 pub mod navigation;
+pub mod outcomes;
 pub mod records;
 pub mod sessions;
 pub mod transactions;

@@ -1,5 +1,6 @@
 -- A run of script lines: what each is answered, what the log holds, and what state is left.
-use Rattle.std.specs.Prelude.{ℕ, ◌+◌, Bool, true, false, not, ◌&&◌, length, List, [], ◌∷◌, ◌++◌, map, Option, Some, None, unwrap_or, if◌then◌else◌}
+use Rattle.std.specs.Prelude.{ℕ, ◌+◌, ◌==◌, Bool, true, false, not, ◌&&◌, length, List, [], ◌∷◌, ◌++◌, map, Option, Some, None, unwrap_or, if◌then◌else◌}
+use Rattle.std.specs.List.{list_all}
 use Rattle.jet_base.specs.declared.replies.Jet.{Jet}
 use Rattle.jet_base.specs.declared.replies.Jet.TheVariants as jet
 use Rattle.column_set.specs.RecordValues.{lookup_by_number, put_by_number}
@@ -23,7 +24,8 @@ abbrev pub Line : Type 0
 Line = ℕ × Request
 
 -- What becomes of a line. It is served; or it finds no memory, and nothing changes; or it is served and its flush fails
--- with this reply; or it is served and not answered, since the checkpoint in place of its flush found no memory.
+-- with this reply, the last of its session; or it is served and not answered, since the checkpoint in place of its flush
+-- found no memory, and the run ends.
 pub data LineOutcome : Type 0 where
   served : LineOutcome
   no_memory : LineOutcome
@@ -177,9 +179,18 @@ may_come limit run line (flush_failed jet.InstanceUnavailable) = flushes limit r
 may_come limit run line (flush_failed _) = false
 may_come limit run line unserved = flushes limit run line
 
+-- which lines may stand behind a line: none of its session where its flush failed, and none at all where it is not answered
+abbrev pub may_be_followed : Line → LineOutcome → List (Line × LineOutcome) → Bool
+may_be_followed line served pairs = true
+may_be_followed line no_memory pairs = true
+may_be_followed line (flush_failed reply) pairs = list_all (λ later. not (later.0.0 == line.0)) pairs
+may_be_followed line unserved pairs = length pairs == 0
+
+-- Whether the lines of a run may have these outcomes: each may come where it stands, and the lines behind it may follow it.
 abbrev pub outcomes_may_come : ℕ → RunState → List (Line × LineOutcome) → Bool
 outcomes_may_come limit run [] = true
-outcomes_may_come limit run (pair ∷ pairs) = may_come limit run pair.0 pair.1 && outcomes_may_come limit (run_after limit run pair.0 pair.1) pairs
+outcomes_may_come limit run (pair ∷ pairs) =
+    may_come limit run pair.0 pair.1 && may_be_followed pair.0 pair.1 pairs && outcomes_may_come limit (run_after limit run pair.0 pair.1) pairs
 
 -- A line is acknowledged where it flushed the log and was answered with success.
 abbrev pub is_acknowledged : ℕ → RunState → Line → LineOutcome → Bool
