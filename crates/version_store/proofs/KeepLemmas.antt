@@ -92,6 +92,6 @@ keeps-undone items rows slots total at old kept within is =
     }
 
 -- a made item and its row are the change as it is made
-pub new-held : (by : By) (made : Change) (before : Option (List ℕ)) (item : Item) (row : List ℕ) → item.number ≡ by.number → item.session.0 ≡ by.session.0 → item.begin ≡ by.begin → item.level ≡ by.level → item.kind ≡ kind_of made
+pub new-held : (by : By) (made : Change) (before : Option (List ℕ)) (item : Item) (row : List ℕ) → item.number ≡ by.number → item.session.0 ≡ by.session.0 → item.level ≡ by.level → item.kind ≡ kind_of made
     → item.table.0 ≡ changed_table made → item.bookmark ≡ changed_bookmark made → row_of item.had_row row ≡ before → state_of item.status ≡ uncommitted → held_change item row ≡ new_change by made before
-new-held by made before item row n s b l k t m r st = λ i. record { number = n i; session = s i; begin = b i; level = l i; kind = k i; table = t i; bookmark = m i; before = r i; status = st i }
+new-held by made before item row n s l k t m r st = λ i. record { number = n i; session = s i; level = l i; kind = k i; table = t i; bookmark = m i; before = r i; status = st i }

@@ -12,12 +12,11 @@ use Rattle.version_store.specs.declared.calls.Reader.{Reader}
 use Rattle.version_store.specs.declared.calls.Variant.{Variant}
 use Rattle.version_store.specs.declared.calls.Variant.TheVariants as variant
 
--- A held change: the number of its entry, who made it in the transaction that began at which number, at which level, what
--- it is, its record, the bytes of the row before it, and its state.
+-- A held change: the number of its entry, who made it and at which level, what it is, its record, the bytes of the row before
+-- it, and its state.
 pub record HeldChange : Type 0 where
   pub number : ℕ
   pub session : ℕ
-  pub begin : ℕ
   pub level : ℕ
   pub kind : ChangeKind
   pub table : ℕ
@@ -49,7 +48,6 @@ abbrev pub new_change : By → Change → Option (List ℕ) → HeldChange
 new_change by made before = record {
   number = by.number;
   session = by.session.0;
-  begin = by.begin;
   level = by.level;
   kind = kind_of made;
   table = changed_table made;

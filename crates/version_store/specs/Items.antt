@@ -20,7 +20,6 @@ abbrev pub held_change : Item → List ℕ → HeldChange
 held_change item row = record {
   number = item.number;
   session = item.session.0;
-  begin = item.begin;
   level = item.level;
   kind = item.kind;
   table = item.table.0;

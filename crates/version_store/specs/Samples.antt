@@ -12,7 +12,7 @@ use Rattle.version_store.specs.HeldChanges.{HeldChange}
 
 -- a change of record 1 of table 1, of this session at this level
 abbrev pub sample_at : ℕ → ℕ → ChangeKind → Option (List ℕ) → Status → HeldChange
-sample_at session level what row status = record { number = 3; session = session; begin = 2; level = level; kind = what; table = 1; bookmark = 1 ∷ []; before = row; status = status }
+sample_at session level what row status = record { number = 3; session = session; level = level; kind = what; table = 1; bookmark = 1 ∷ []; before = row; status = status }
 
 abbrev pub sample : ℕ → ChangeKind → Option (List ℕ) → Status → HeldChange
 sample session what row status = sample_at session 1 what row status

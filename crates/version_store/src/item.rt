@@ -25,7 +25,6 @@ pub(crate) enum Status {
 pub(crate) struct Item {
     pub(crate) number: u64,
     pub(crate) session: Session,
-    pub(crate) begin: u64,
     pub(crate) level: u8,
     pub(crate) kind: ChangeKind,
     pub(crate) table: TableId,

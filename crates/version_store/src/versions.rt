@@ -131,7 +131,6 @@ impl Versions {
         let item = Item {
             number: by.number,
             session: by.session,
-            begin: by.begin,
             level: by.level,
             kind: what(change),
             table: table_of(change),

@@ -15,7 +15,6 @@ abbrev item_of : goal.After-self-1 → Item
 item_of c = record {
   number = c.args.by.number;
   session = c.args.by.session;
-  begin = c.args.by.begin;
   level = c.args.by.level;
   kind = c.what.result;
   table = c.table_of-2.result;
@@ -29,7 +28,7 @@ bookmark_is : (c : goal.After-self-1) → c.in_ok-bookmark.bookmark ≡ changed_
 bookmark_is c = c.in_ok-bookmark.ensures ∙ c.bookmark_of.ensures
 
 is_new : (c : goal.After-self-1) → held_change (item_of c) c.row_parts-had_row.result.1.now ≡ new_change c.args.by c.args.change.now (option_copied c.args.before)
-is_new c = new-held c.args.by c.args.change.now (option_copied c.args.before) (item_of c) c.row_parts-had_row.result.1.now refl refl refl refl c.what.ensures c.table_of-2.ensures (bookmark_is c) c.row_parts-had_row.ensures.row refl
+is_new c = new-held c.args.by c.args.change.now (option_copied c.args.before) (item_of c) c.row_parts-had_row.result.1.now refl refl refl c.what.ensures c.table_of-2.ensures (bookmark_is c) c.row_parts-had_row.ensures.row refl
 
 slot_is : (c : goal.After-self-1) → c.slot_of-slot.result ≡ item_slot (item_of c)
 slot_is c = c.slot_of-slot.ensures.value ∙ ap (λ (t : ℕ). slot_of t c.as_bytes.result.now) (c.table_of.ensures ∙ sym c.table_of-2.ensures) ∙ ap (slot_of c.table_of-2.result.0) c.as_bytes.ensures
