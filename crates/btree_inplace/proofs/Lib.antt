@@ -6,6 +6,7 @@ pub mod Counting
 pub mod Cuts
 pub mod Discarding
 pub mod Entering
+pub mod Fitting
 pub mod Laws
 pub mod Leaves
 pub mod Parts

@@ -1,7 +1,7 @@
 //! B-trees that change in place, over a space that several trees share.
 #![tactic(auto)]
 
-ghost use Rattle.std.specs.Prelude.{◌≡◌, ◌<◌, ◌≤◌, ◌↔◌, ◌⊎◌, Some, None, [], ◌∷◌, zero, suc, length, find, reverse, ℕ, List, Contains, IsSomeAnd, IfOk, OnErr, MatchOption};
+ghost use Rattle.std.specs.Prelude.{◌≡◌, ◌*◌, ◌<◌, ◌≤◌, ◌↔◌, ◌⊎◌, Some, None, [], ◌∷◌, zero, suc, length, find, reverse, ℕ, List, Contains, IsSomeAnd, IfOk, OnErr, MatchOption};
 ghost use Rattle.std.specs.Option.{option_copied, option_map};
 ghost use Rattle.page_image.specs.Page.{Node, node_at};
 ghost use Rattle.btree_inplace.specs.Order.{at_or_after_in, at_or_before_in, first_in, get_in, has_key, is_from, is_upto, last_in};
@@ -20,6 +20,7 @@ mod remove;
 use btree_node::child;
 use byteorder::{ByteOrder, LittleEndian};
 use jet_base::OutOfMemory;
+use page_image::nodes_of_a_page_are_few;
 use page_space::Space;
 
 /// A sorted list of nodes in the pages of a space, found by its root page.
@@ -109,6 +110,13 @@ pub fn taken_pages()
 pub fn no_page_is_empty()
     ensures { (frames : Frames) (tree : Tree) → IsTree frames tree → 0 < length (nodes_of frames tree) → (p : ℕ) → Contains (pages_of frames tree) p → 0 < length (page_in frames p).nodes }
 {}
+
+/// A tree has at most 677 nodes for each page of its space.
+pub fn nodes_fit_their_space()
+    ensures { (frames : Frames) (tree : Tree) → IsTree frames tree → length (nodes_of frames tree) ≤ 677 * length frames }
+{
+    nodes_of_a_page_are_few();
+}
 
 #[cfg(test)]
 mod tests;

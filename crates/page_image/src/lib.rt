@@ -1,10 +1,12 @@
 //! Pages of 4,096 bytes: sorted lists of nodes, each a key with data in a place of fixed extent.
 #![tactic(auto)]
 
+mod laws;
 mod offsets;
 mod page;
 mod spelling;
 
+pub use laws::nodes_of_a_page_are_few;
 pub use page::{BadPage, Full, Page};
 
 #[cfg(test)]

@@ -1,6 +1,6 @@
 //! The rows of all tables.
 
-ghost use Rattle.std.specs.Prelude.{◌≡◌, ◌==◌, ◌≤◌, ℕ, true, false, None, [], ◌∷◌, ◌++◌, length, nat_lt, IfSome, OnErr, OnOk};
+ghost use Rattle.std.specs.Prelude.{◌≡◌, ◌==◌, ◌^◌, ◌<◌, ◌≤◌, ℕ, true, false, None, [], ◌∷◌, ◌++◌, length, nat_lt, IfSome, OnErr, OnOk};
 ghost use Rattle.std.specs.List.{position_from};
 ghost use Rattle.std.specs.Option.{option_copied, option_map};
 ghost use Rattle.column_set.specs.RecordValues.{lookup_by_key, put_by_key};
@@ -9,6 +9,7 @@ ghost use Rattle.cursor_nav.specs.Places.{are_sorted, entry_after, entry_before}
 ghost use Rattle.table_store.specs.StoredRows.{HaveShortBookmarks, has_table, stored_rows, with_rows, without_table};
 
 use crate::table_tree::TableTree;
+use btree_inplace::nodes_fit_their_space;
 use index_derive::Place;
 use jet_base::{OutOfMemory, TableId};
 use page_space::Space;
@@ -152,6 +153,14 @@ impl RecordStore {
         ensures short { (table : ℕ) → HaveShortBookmarks (stored_rows self.now table) }
     {
         let _ = &self.tables;
+    }
+
+    /// No table has as many rows as a count can come to: a page holds few nodes, and a space few pages.
+    pub fn rows_are_few(&self)
+        ensures { (table : ℕ) → length (stored_rows self.now table) < 2 ^ 34 }
+    {
+        nodes_fit_their_space();
+        let _ = self.space.len();
     }
 }
 
