@@ -9,14 +9,17 @@ use Rattle.jet_base.specs.declared.ids.Session.{Session}
 use Rattle.session_local.specs.declared.request.Request.{Request}
 use Rattle.script_text.specs.Parsed.{calls_of, call_of}
 use Rattle.std.specs.List.{list_all}
-use Rattle.std.proofs.lemmas.List.{append-nil, map-append, take-map, length-append}
+use Rattle.std.proofs.lemmas.List.{append-nil, map-append, take-map, drop-map, length-append}
 use Rattle.std.proofs.lemmas.List.Folds.{list_all-append}
 use Rattle.std.proofs.lemmas.Grind.{flat_map-append}
 use Rattle.database_state.specs.State.{empty_state}
 use Rattle.session_local.specs.Run.{RunState, Line, LineOutcome, served, no_memory, flush_failed, unserved, run_from, rows_from, rows_of_line, run_after, run_after_all, may_come, may_be_followed, outcomes_may_come}
 use Rattle.script_transcript.specs.TranscriptLine.{transcript_of, row_line}
 use Rattle.esentutl.specs.TopCall.{span_limit, is_plain, AreOutcomesOf, run_transcript}
+use Rattle.esentutl.specs.declared.session_engine.SessionEngine.{SessionEngine}
+use Rattle.esentutl.specs.Serving.{IsReady}
 use Rattle.esentutl.specs.Lines.{line_text, RunsLine, BreaksLine}
+use Rattle.esentutl.specs.RunEnds.{HasServed}
 
 -- a line with its outcome
 abbrev pub Served : Type 0
@@ -108,29 +111,29 @@ AreOutcomesOf-append lines pairs line outcome so_far plain may =
     )
 
 -- What holds before each line: the lines so far had outcomes that they may have, the sink took their transcript, and the
--- engine can serve the rest.
-pub record SoFar {E : Type 0} (serves : E → RunState → List Line → Type 0) (engine : E) (gone left : List Line) (taken_before taken_now : Option (List ℕ)) : Type 0 where
+-- engine has served them and can serve the rest.
+pub record SoFar (engine : SessionEngine) (gone left : List Line) (taken_before taken_now : Option (List ℕ)) : Type 0 where
   pub pairs : List Served
   pub outcomes : AreOutcomesOf gone pairs
-  pub ready : serves engine (run_after_all span_limit (run_from empty_state) pairs) left
+  pub ready : HasServed engine pairs left
   pub taken : taken_now ≡ append_known taken_before (run_transcript pairs)
 
 -- nothing is written yet
-pub none_so_far : {E : Type 0} (serves : E → RunState → List Line → Type 0) (engine : E) (lines : List Line) (taken : Option (List ℕ))
-    → serves engine (run_from empty_state) lines → SoFar serves engine [] lines taken taken
-none_so_far serves engine lines taken ready = record { pairs = []; outcomes = (refl, refl, refl); ready = ready; taken = append_none taken }
+pub none_so_far : (engine : SessionEngine) (lines : List Line) (taken : Option (List ℕ))
+    → IsReady engine (run_from empty_state) lines → SoFar engine [] lines taken taken
+none_so_far engine lines taken ready = record { pairs = []; outcomes = (refl, refl, refl); ready = ready; taken = append_none taken }
 
 -- one line more
-pub one_more : {E : Type 0} (serves : E → RunState → List Line → Type 0) (engine after : E) (gone rest : List Line) (line : Line) (taken_before taken_now taken_after : Option (List ℕ))
-    → SoFar serves engine gone (line ∷ rest) taken_before taken_now → (outcome : LineOutcome) → RunsLine serves engine after line outcome taken_now taken_after
-    → SoFar serves after (gone ++ line ∷ []) rest taken_before taken_after
-one_more serves engine after gone rest line taken_before taken_now taken_after so_far outcome runs =
+pub one_more : (engine after : SessionEngine) (gone rest : List Line) (line : Line) (taken_before taken_now taken_after : Option (List ℕ))
+    → SoFar engine gone (line ∷ rest) taken_before taken_now → (outcome : LineOutcome) → RunsLine engine after line outcome taken_now taken_after
+    → SoFar after (gone ++ line ∷ []) rest taken_before taken_after
+one_more engine after gone rest line taken_before taken_now taken_after so_far outcome runs =
     let run = run_after_all span_limit (run_from empty_state) so_far.pairs in
     let facts = runs.1 run rest so_far.ready in
     record {
       pairs = so_far.pairs ++ (line, outcome) ∷ [];
       outcomes = AreOutcomesOf-append gone so_far.pairs line outcome so_far.outcomes runs.0 facts.0;
-      ready = subst (λ r. serves after r rest) (sym (run_after_all-append (run_from empty_state) so_far.pairs (line, outcome))) facts.1;
+      ready = subst (λ (r : RunState). IsReady after r rest) (sym (run_after_all-append (run_from empty_state) so_far.pairs (line, outcome))) facts.1;
       taken = facts.2 ∙ ap (λ t. append_known t (line_text run line outcome)) so_far.taken
           ∙ append_twice taken_before (run_transcript so_far.pairs) (line_text run line outcome)
           ∙ ap (append_known taken_before) (sym (run_transcript-append so_far.pairs (line, outcome)));
@@ -150,22 +153,28 @@ calls_of-drop_one lines i line is below = rw (add-one i, drop-cons lines i line 
 pub take_calls_of : (lines : List (Session × Request)) (i : ℕ) → calls_of (take i lines) ≡ take i (calls_of lines)
 take_calls_of lines i = sym (take-map call_of i lines)
 
+pub drop_calls_of : (lines : List (Session × Request)) (i : ℕ) → calls_of (drop i lines) ≡ drop i (calls_of lines)
+drop_calls_of lines i = sym (drop-map call_of i lines)
+
 -- a front of one line's text behind the transcript so far is a front of the transcript with it
-pub broken_line : {E : Type 0} (serves : E → RunState → List Line → Type 0) (engine : E) (gone rest : List Line) (line : Line) (taken_before taken_now taken_after : Option (List ℕ))
-    → SoFar serves engine gone (line ∷ rest) taken_before taken_now → (outcome : LineOutcome) → BreaksLine serves engine line outcome taken_now taken_after
+pub broken_line : (engine after : SessionEngine) (gone rest : List Line) (line : Line) (taken_before taken_now taken_after : Option (List ℕ))
+    → SoFar engine gone (line ∷ rest) taken_before taken_now → (outcome : LineOutcome) → BreaksLine engine after line outcome taken_now taken_after
     → (n : ℕ) × (pairs : List Served) × AreOutcomesOf (gone ++ line ∷ []) pairs × (n < length (run_transcript pairs)) × (taken_after ≡ append_known taken_before (take n (run_transcript pairs)))
-broken_line serves engine gone rest line taken_before taken_now taken_after so_far outcome breaks =
+    × HasServed after pairs rest
+broken_line engine after gone rest line taken_before taken_now taken_after so_far outcome breaks =
     let run = run_after_all span_limit (run_from empty_state) so_far.pairs in
     let facts = breaks.1 run rest so_far.ready in
+    let front = facts.2 in
     let old = run_transcript so_far.pairs in
     let text = line_text run line outcome in
     let whole = run_transcript-append so_far.pairs (line, outcome) in (
-      length old + facts.1.0,
+      length old + front.0,
       so_far.pairs ++ (line, outcome) ∷ [],
       AreOutcomesOf-append gone so_far.pairs line outcome so_far.outcomes breaks.0 facts.0,
-      rw (whole, length-append old text) (below_sum (length old) facts.1.0 (length text) facts.1.1),
-      rw (whole, take-append-add old text facts.1.0)
-          (facts.1.2 ∙ ap (λ t. append_known t (take facts.1.0 text)) so_far.taken ∙ append_twice taken_before old (take facts.1.0 text)),
+      rw (whole, length-append old text) (below_sum (length old) front.0 (length text) front.1),
+      rw (whole, take-append-add old text front.0)
+          (front.2 ∙ ap (λ t. append_known t (take front.0 text)) so_far.taken ∙ append_twice taken_before old (take front.0 text)),
+      subst (λ (r : RunState). IsReady after r rest) (sym (run_after_all-append (run_from empty_state) so_far.pairs (line, outcome))) facts.1,
     )
   where
     below_sum : (a n m : ℕ) → n < m → a + n < a + m

@@ -3,7 +3,7 @@ use Rattle.std.specs.Prelude.{◌≡◌, true, List}
 use Rattle.session_local.specs.declared.request.Request.{Request}
 use Rattle.session_local.specs.Run.{RunState, Line}
 use Rattle.script_text.specs.Built.{are_built}
-use Rattle.esentutl.specs.declared.engine.Served.{Served}
+use Rattle.esentutl.specs.declared.served.Served.{Served}
 use Rattle.esentutl.specs.declared.session_engine.SessionEngine.{SessionEngine}
 use Rattle.esentutl.specs.SessionRun.{outcome_told, IsInRun, GoesOn}
 

@@ -7,12 +7,13 @@ ghost use Rattle.session_local.specs.Run.{run_from};
 ghost use Rattle.script_text.specs.Parsed.{calls_of};
 ghost use Rattle.esentutl.specs.Reading.{line_of_fault, status_of_fault};
 ghost use Rattle.esentutl.specs.TopCall.{Ending, Says, status_of};
+ghost use Rattle.esentutl.specs.Serving.{IsReady};
 ghost use Rattle.esentutl.specs.RunEnds.{RunEndsBy};
 
-use crate::engine::ScriptEngine;
 use crate::reading::ReadScriptFault;
 use crate::report::{make_last_line, make_not_built_line, say_only};
 use crate::run::{LineFault, run_lines};
+use crate::session_engine::SessionEngine;
 use jet_base::Session;
 use jet_io::Sink;
 use session_local::Request;
@@ -41,15 +42,15 @@ pub fn tell<K: Sink>(fault: ReadScriptFault, out: &mut K) -> u8
 }
 
 /// Runs the calls of a script over an engine that is ready for them.
-pub fn run_script<'a, E: ScriptEngine<'a>, K: Sink>(
+pub fn run_script<K: Sink>(
     alloc: Global,
-    engine: &mut E,
-    lines: &'a [(Session, Request)],
+    engine: &mut SessionEngine,
+    lines: &[(Session, Request)],
     out: &mut K,
 ) -> u8
-    requires { E.serves engine.old (run_from empty_state) (calls_of lines.now) }
+    requires { IsReady engine.old (run_from empty_state) (calls_of lines.now) }
     ensures { (ending : Ending) × (result ≡ status_of ending)
-        × RunEndsBy (calls_of lines.now) (K.taken out.old) (K.taken out.new) (K.faults out.old) (K.faults out.new) ending }
+        × RunEndsBy (calls_of lines.now) engine.new (K.taken out.old) (K.taken out.new) (K.faults out.old) (K.faults out.new) ending }
 {
     match run_lines(alloc, engine, lines, out) {
         Ok(()) => 0,

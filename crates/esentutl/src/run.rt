@@ -1,15 +1,17 @@
 //! The ordered run of a script's lines.
 
-ghost use Rattle.std.specs.Prelude.{◌≡◌, ◌<◌, ℕ, List, [], ◌∷◌, true, length, take, OnOk, IsErrOf};
+ghost use Rattle.std.specs.Prelude.{◌≡◌, ◌<◌, ℕ, List, [], ◌∷◌, true, length, take, drop, OnOk, IsErrOf};
 ghost use Rattle.std.specs.Io.KnownBytes.{append_known};
 ghost use Rattle.database_state.specs.State.{empty_state};
 ghost use Rattle.session_local.specs.Run.{RunState, Line, LineOutcome, run_from, rows_of_line, run_after, may_come};
 ghost use Rattle.script_transcript.specs.TranscriptLine.{transcript_of};
 ghost use Rattle.script_text.specs.Parsed.{calls_of};
 ghost use Rattle.esentutl.specs.TopCall.{AreOutcomesOf, run_transcript};
+ghost use Rattle.esentutl.specs.Serving.{IsReady};
 ghost use Rattle.esentutl.specs.Lines.{RunsLine, BreaksLine};
+ghost use Rattle.esentutl.specs.RunEnds.{HasServed};
 
-use crate::engine::ScriptEngine;
+use crate::session_engine::SessionEngine;
 use jet_base::{OutOfMemory, Session};
 use jet_io::{Failed, Sink, write_all};
 use script_transcript::Transcript;
@@ -49,20 +51,22 @@ impl From<Failed> for LineFault {
 }
 
 /// Runs one line and prints it. The text is empty before, and after success.
-fn run_line<'a, E: ScriptEngine<'a>, K: Sink>(
-    engine: &mut E,
+///
+/// The room for the longest line is made before the line is served, so that no line is served and not printed.
+fn run_line<K: Sink>(
+    engine: &mut SessionEngine,
     transcript: &mut Transcript,
     session: Session,
-    request: &'a Request,
+    request: &Request,
     out: &mut K,
 ) -> Result<(), LineFault>
-    requires next { (run : RunState) × (rest : List Line) × E.serves engine.old run ((session.0, request.now) ∷ rest) }
+    requires next { (run : RunState) × (rest : List Line) × IsReady engine.old run ((session.0, request.now) ∷ rest) }
     requires empty { transcript.old.text ≡ [] }
     ensures empty { OnOk result (transcript.new.text ≡ []) }
-    ensures served { OnOk result ((outcome : LineOutcome) × RunsLine E.serves engine.old engine.new (session.0, request.now) outcome (K.taken out.old) (K.taken out.new)) }
+    ensures served { OnOk result ((outcome : LineOutcome) × RunsLine engine.old engine.new (session.0, request.now) outcome (K.taken out.old) (K.taken out.new)) }
     ensures sound { OnOk result (K.faults out.new ≡ K.faults out.old) }
-    ensures memory { IsErrOf result LineFault.Memory → (K.taken out.new ≡ K.taken out.old) × (K.faults out.new ≡ K.faults out.old) }
-    ensures sink { IsErrOf result LineFault.Sink → (outcome : LineOutcome) × BreaksLine E.serves engine.old (session.0, request.now) outcome (K.taken out.old) (K.taken out.new) }
+    ensures memory { IsErrOf result LineFault.Memory → (engine.new ≡ engine.old) × (K.taken out.new ≡ K.taken out.old) × (K.faults out.new ≡ K.faults out.old) }
+    ensures sink { IsErrOf result LineFault.Sink → (outcome : LineOutcome) × BreaksLine engine.old engine.new (session.0, request.now) outcome (K.taken out.old) (K.taken out.new) }
     ensures failed { IsErrOf result LineFault.Sink → K.faults out.old < K.faults out.new }
 {
     transcript.make_room()?;
@@ -74,23 +78,24 @@ fn run_line<'a, E: ScriptEngine<'a>, K: Sink>(
 }
 
 /// Runs the lines in their order, and prints each before the next runs.
-pub fn run_lines<'a, E: ScriptEngine<'a>, K: Sink>(
+pub fn run_lines<K: Sink>(
     alloc: Global,
-    engine: &mut E,
-    lines: &'a [(Session, Request)],
+    engine: &mut SessionEngine,
+    lines: &[(Session, Request)],
     out: &mut K,
 ) -> Result<(), LineFault>
-    requires { E.serves engine.old (run_from empty_state) (calls_of lines.now) }
+    requires { IsReady engine.old (run_from empty_state) (calls_of lines.now) }
     ensures done { OnOk result ((pairs : List (Line × LineOutcome)) × AreOutcomesOf (calls_of lines.now) pairs
-        × (K.taken out.new ≡ append_known (K.taken out.old) (run_transcript pairs))) }
+        × (K.taken out.new ≡ append_known (K.taken out.old) (run_transcript pairs)) × HasServed engine.new pairs []) }
     ensures sound { OnOk result (K.faults out.new ≡ K.faults out.old) }
-    // The whole transcript of some first lines.
+    // The whole transcript of some first lines, and no other line was served.
     ensures memory { IsErrOf result LineFault.Memory → (count : ℕ) × (pairs : List (Line × LineOutcome)) × AreOutcomesOf (take count (calls_of lines.now)) pairs
-        × (K.taken out.new ≡ append_known (K.taken out.old) (run_transcript pairs)) }
+        × (K.taken out.new ≡ append_known (K.taken out.old) (run_transcript pairs)) × HasServed engine.new pairs (drop count (calls_of lines.now)) }
     ensures memory_sound { IsErrOf result LineFault.Memory → K.faults out.new ≡ K.faults out.old }
-    // A front of the transcript of some first lines.
+    // A front of the transcript of some first lines, and no other line was served.
     ensures sink { IsErrOf result LineFault.Sink → (count n : ℕ) × (pairs : List (Line × LineOutcome)) × AreOutcomesOf (take count (calls_of lines.now)) pairs
-        × (n < length (run_transcript pairs)) × (K.taken out.new ≡ append_known (K.taken out.old) (take n (run_transcript pairs))) }
+        × (n < length (run_transcript pairs)) × (K.taken out.new ≡ append_known (K.taken out.old) (take n (run_transcript pairs)))
+        × HasServed engine.new pairs (drop count (calls_of lines.now)) }
     ensures failed { IsErrOf result LineFault.Sink → K.faults out.old < K.faults out.new }
 {
     let mut transcript = Transcript::new(alloc);

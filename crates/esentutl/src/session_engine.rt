@@ -1,20 +1,22 @@
 //! The engine with the one session of a script.
 
-ghost use Rattle.std.specs.Prelude.{◌≡◌, List, true, false, length, OnOk, OnErr, IsTrue, if◌then◌else◌};
+ghost use Rattle.std.specs.Prelude.{◌≡◌, ◌≤◌, List, ◌∷◌, [], true, false, length, OnOk, OnErr, IsTrue, if◌then◌else◌};
 ghost use Rattle.database_state.specs.State.{empty_state};
 ghost use Rattle.session_local.specs.Calls.{is_local};
 ghost use Rattle.session_local.specs.LocalCalls.{is_answered_locally};
 ghost use Rattle.index_derive.specs.Steps.{entries_of_step};
-ghost use Rattle.session_local.specs.Run.{RunState, Line, run_from};
+ghost use Rattle.session_local.specs.Answer.{answered_by};
+ghost use Rattle.session_local.specs.Run.{RunState, Line, run_from, rows_of_line, run_after, may_come};
 ghost use Rattle.script_text.specs.Built.{are_built};
 ghost use Rattle.script_transcript.specs.TranscriptLine.{NamesNoMore};
 ghost use Rattle.engine_state.specs.EngineSteps.{engine_after_all, may_take_all};
 ghost use Rattle.engine_session.specs.Built.{is_built_call};
 ghost use Rattle.engine_session.specs.Memory.{step_takes_memory};
-ghost use Rattle.esentutl.specs.SessionRun.{no_memory_reply};
+ghost use Rattle.esentutl.specs.TopCall.{span_limit};
+ghost use Rattle.esentutl.specs.SessionRun.{no_memory_reply, outcome_told, row_told};
 ghost use Rattle.esentutl.specs.Serving.{IsAt, IsReady, Goes};
 
-use crate::engine::{ScriptEngine, Served};
+use crate::served::Served;
 use engine_core::Engine;
 use engine_session::{
     a_fresh_session_is_beside, decided_calls_stay_beside, local_calls_stay_beside,
@@ -56,6 +58,29 @@ impl SessionEngine {
             local: Local::new(Session(1)),
             last: 0,
         }
+    }
+
+    /// Serves the next line. Its reply is want of memory only where the call may find none, and then nothing changes.
+    pub fn serve(&mut self, session: Session, request: &Request) -> Served
+        requires { (run : RunState) × (rest : List Line) × IsReady self.old run ((session.0, request.now) ∷ rest) }
+        ensures row { (run : RunState) (rest : List Line) → IsReady self.old run ((session.0, request.now) ∷ rest)
+            → rows_of_line span_limit run (session.0, request.now) (outcome_told result.reply) ≡ row_told result.n session request.now (answered_by result.reply self.new.local.reply) ∷ [] }
+        ensures outcome { (run : RunState) (rest : List Line) → IsReady self.old run ((session.0, request.now) ∷ rest)
+            → may_come span_limit run (session.0, request.now) (outcome_told result.reply) ≡ true }
+        ensures state { (run : RunState) (rest : List Line) → IsReady self.old run ((session.0, request.now) ∷ rest)
+            → IsReady self.new (run_after span_limit run (session.0, request.now) (outcome_told result.reply)) rest }
+        ensures named { NamesNoMore result.reply (length self.new.local.reply) }
+    {
+        let _label = session;
+        self.serve_call(request)
+    }
+
+    /// The bytes that the last reply names: the front of the session's reply buffer.
+    pub fn reply(&self) -> &[u8]
+        ensures bytes { result.now ≡ self.now.local.reply }
+        ensures short { length self.now.local.reply ≤ 1048576 }
+    {
+        self.local.reply()
     }
 
     // Serves a call of the session.
@@ -147,20 +172,5 @@ fn make_step(engine: &mut Engine, step: &Option<Step>) -> Result<(), OutOfMemory
     match step {
         Some(step) => engine.apply(step),
         None => Ok(()),
-    }
-}
-
-impl<'a> ScriptEngine<'a> for SessionEngine {
-    ghost serves = { λ engine run lines. IsReady engine run lines };
-
-    ghost reply_bytes = { λ engine. engine.local.reply };
-
-    fn serve(&mut self, session: Session, request: &'a Request) -> Served {
-        let _label = session;
-        self.serve_call(request)
-    }
-
-    fn reply(&self) -> &[u8] {
-        self.local.reply()
     }
 }

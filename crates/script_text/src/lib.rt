@@ -10,6 +10,3 @@ mod index_words;
 mod script;
 
 pub use script::{ScriptFault, parse};
-
-#[cfg(test)]
-mod tests;

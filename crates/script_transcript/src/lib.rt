@@ -3,8 +3,6 @@
 
 mod append;
 mod names;
-#[cfg(test)]
-mod tests;
 mod transcript;
 
 pub use transcript::{LINE_ROOM, Transcript};

@@ -5,8 +5,6 @@ pub mod arity;
 pub mod numbers;
 mod parts;
 mod refusal;
-#[cfg(test)]
-mod tests;
 pub mod texts;
 
 pub use parts::Parts;

@@ -9,7 +9,7 @@ pub returns-clause-served : goal.returns-clause-served
 returns-clause-served g c =
     let reply = c.serve-served.result.reply in
     let request = c.args.request.now in
-    let shown = g.E.ScriptEngine.reply_bytes c.serve-served.new.self in
+    let shown = c.serve-served.new.self.local.reply in
     let row = row_told c.serve-served.result.n c.args.session request (answered_by reply shown) in
     let is_row = piece-row c.serve-served.result.n c.args.session request reply c.reply.result.now shown c.make_room.new.self.text c.line.new.self.text c.text.result.now
     (c.make_room.ensures.text ∙ c.requires.empty) c.line.ensures.text c.reply.ensures.bytes c.text.ensures in (
@@ -29,7 +29,7 @@ pub returns-in_err-write_all-clause-sink : goal.returns-in_err-write_all-clause-
 returns-in_err-write_all-clause-sink g c =
     let reply = c.serve-served.result.reply in
     let request = c.args.request.now in
-    let shown = g.E.ScriptEngine.reply_bytes c.serve-served.new.self in
+    let shown = c.serve-served.new.self.local.reply in
     let row = row_told c.serve-served.result.n c.args.session request (answered_by reply shown) in
     let is_row = piece-row c.serve-served.result.n c.args.session request reply c.reply.result.now shown c.make_room.new.self.text c.line.new.self.text c.text.result.now
     (c.make_room.ensures.text ∙ c.requires.empty) c.line.ensures.text c.reply.ensures.bytes c.text.ensures in
@@ -41,6 +41,7 @@ returns-in_err-write_all-clause-sink g c =
         λ run rest serves.
             let is_text = piece-line_text run (c.args.session.0, request) (outcome_told reply) row c.text.result.now is_row (c.serve-served.ensures.row run rest serves) in (
               c.serve-served.ensures.outcome run rest serves,
+              c.serve-served.ensures.state run rest serves,
               (
                 front.0,
                 subst (λ (t : List ℕ). front.0 < length t) is_text front.1,

@@ -2,7 +2,7 @@ use Rattle.std.proofs.Common.{◌≡◌, true, false, length, sym, ap, subst, �
 use Rattle.session_local.specs.SessionSide.{SessionSide}
 use Rattle.session_local.specs.LocalCalls.{is_answered_locally}
 use Rattle.script_transcript.specs.TranscriptLine.{NamesNoMore}
-use Rattle.esentutl.specs.declared.engine.Served.{Served}
+use Rattle.esentutl.specs.declared.served.Served.{Served}
 use Rattle.esentutl.specs.SessionRun.{IsInRun, GoesOn, outcome_told}
 use Rattle.esentutl.proofs.SessionCalls.{local-goes_on, takes_some}
 use Rattle.esentutl.proofs.SessionServes.{goes_on-none, named-none}

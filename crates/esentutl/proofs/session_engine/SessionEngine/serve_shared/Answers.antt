@@ -3,7 +3,7 @@ use Rattle.session_local.specs.SessionSide.{SessionSide}
 use Rattle.script_transcript.specs.TranscriptLine.{NamesNoMore}
 use Rattle.engine_state.specs.EngineState.{EngineState}
 use Rattle.engine_session.specs.Beside.{asked_of}
-use Rattle.esentutl.specs.declared.engine.Served.{Served}
+use Rattle.esentutl.specs.declared.served.Served.{Served}
 use Rattle.esentutl.specs.SessionRun.{IsInRun, GoesOn, outcome_told}
 use Rattle.esentutl.proofs.SessionCalls.{decided-goes_on, told_after, in_run-kept, represents_of, takes_some_by_step, is_step}
 use Rattle.esentutl.proofs.SessionServes.{goes_on-none, named-none, from_err, from_ok, was_made}

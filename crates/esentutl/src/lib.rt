@@ -1,0 +1,15 @@
+//! The call that the program is: it reads a script of session calls, runs it and prints the reply of each.
+#![tactic(auto)]
+
+mod ends;
+mod process;
+mod reading;
+mod report;
+mod run;
+mod served;
+mod session_engine;
+mod top;
+mod words;
+
+pub use process::{WordsFault, end_process, run_process};
+pub use top::esentutl;

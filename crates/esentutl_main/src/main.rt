@@ -1,0 +1,9 @@
+//! The tool: reads a script of session calls, runs it and prints the reply of each.
+#![tactic(auto)]
+
+use esentutl::run_process;
+use std::process::ExitCode;
+
+fn main(rt: HostRuntime) -> ExitCode {
+    run_process(&rt, rt.stdin(), rt.stdout())
+}

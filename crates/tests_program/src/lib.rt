@@ -1,0 +1,13 @@
+//! Tests of the program and of its script: what no clause says and no script can show.
+#![tactic(auto)]
+
+#[cfg(test)]
+mod calls;
+#[cfg(test)]
+mod processes;
+#[cfg(test)]
+mod scripts;
+#[cfg(test)]
+mod transcripts;
+#[cfg(test)]
+mod words;

@@ -1,0 +1,96 @@
+//! Scripts, parsed.
+
+use jet_base::{CursorId, Session};
+use script_text::{ScriptFault, parse};
+use session_local::Request;
+use std::test::*;
+
+/// Every form of a call that is built, in no order that an engine would serve. Lines 4 and 7 are skipped, and the last
+/// line lacks its end.
+const SCRIPT: &[u8] = b"1 BeginSession
+1 RetrieveKey 1
+1 AddColumn Staff id Long notnull
+# columns in any place
+
+1 AddColumn Staff name Text tagged multi
+#\xff
+1 CreateTable Staff
+1 CreateIndex Staff pk +id primary -name disallownull ifnotnull:id
+1 CreateIndex Staff other primary unique +name
+1 OpenTable 99 Staff
+1 CloseTable 99
+1 DeleteIndex Staff pk
+1 DeleteTable Staff
+1 SetCurrentIndex 99
+1 SetCurrentIndex 99 pk
+1 BeginTransaction
+1 PrepareUpdate 1 insert
+1 SetColumn 1 id 1 n:-9223372036854775808
+1 SetColumn 1 name 0 x:626f62
+1 SetColumn 1 name 2 t:bob
+1 SetColumn 1 name 3 r:300:00
+1 SetColumn 1 name 4 null
+1 RetrieveColumn 1 name 2 copy
+1 Update 1
+1 PrepareUpdate 1 cancel
+1 CommitTransaction
+1 CommitTransaction lazy
+1 Move 1 First
+1 Move 1 Last
+1 Move 1 Next
+1 Move 1 Previous
+1 RetrieveColumn 1 name 0
+1 RetrieveColumn 1 name 1 max 3
+1 RetrieveColumn 1 name 1 copy max 3
+1 BeginSession
+1 RetrieveKey 2";
+
+#[test]
+fn a_built_script_gives_its_calls(rt: HostRuntime) -> Result<(), Fail> {
+    let calls = parse(rt.alloc(), SCRIPT).ok().ok_or("the script is built")?;
+    assert_eq!(rt; calls.len(), 34);
+    assert!(rt; calls[0] == (Session(1), Request::BeginSession));
+    let last = Request::RetrieveKey {
+        cursor: CursorId(2),
+    };
+    assert!(rt; calls[33] == (Session(1), last));
+    Ok(())
+}
+
+/// Fifteen built lines, a seek, and a call that is not built either.
+const SOUGHT: &[u8] = b"1 BeginSession
+1 CreateTable T
+1 AddColumn T id Long
+1 AddColumn T name Text
+1 CreateIndex T pk primary +id
+1 OpenTable 1 T
+1 BeginTransaction
+1 PrepareUpdate 1 insert
+1 SetColumn 1 id 1 n:2
+1 SetColumn 1 name 1 t:bob
+1 Update 1
+1 PrepareUpdate 1 insert
+1 SetColumn 1 id 1 n:-3
+1 Update 1
+1 CommitTransaction
+1 Seek 1 EQ
+1 EndSession
+";
+
+#[test]
+fn the_first_line_that_is_not_built_is_named(rt: HostRuntime) {
+    for (script, line) in [
+        (SOUGHT, 16),
+        (b"1 BeginSession\n\n# none\n1 EndSession\n".as_slice(), 4),
+        (b"2 BeginSession\n", 1),
+        (b"1 CreateTable T\n1 CreateIndex T i +a\n", 2),
+        (b"1 CreateTable T\n1 AddColumn T a LongText\n", 2),
+        (b"1 CreateTable T\n1 AddColumn T a Long escrow\n", 2),
+        (b"1 PrepareUpdate 1 insert\n1 PrepareUpdate 1 replace\n", 2),
+        (b"1 BeginSession\r\n", 1),
+        (b"\n\n1  BeginSession", 3),
+    ] {
+        let fault = parse(rt.alloc(), script).err();
+        assert_eq!(rt; fault, Some(ScriptFault::NotBuilt(line)));
+    }
+}
