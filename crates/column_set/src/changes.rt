@@ -135,18 +135,3 @@ pub enum Change {
         amount: i32,
     },
 }
-
-#[cfg(test)]
-mod tests {
-    use super::*;
-    use std::test::Fail;
-
-    #[test]
-    fn bookmarks_are_made_and_copied(rt: HostRuntime) -> Result<(), Fail> {
-        let bookmark = Bookmark::from_slice(rt.alloc(), &[127, 1])?;
-        assert_eq!(rt; bookmark.as_bytes(), [127, 1].as_slice());
-        assert!(rt; bookmark.copy()? == bookmark);
-        assert!(rt; bookmark < Bookmark::new([127, 2].to_vec(rt.alloc())?));
-        Ok(())
-    }
-}

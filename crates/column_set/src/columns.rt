@@ -75,28 +75,3 @@ pub fn column_of_id(columns: &[Column], id: ColumnId) -> Option<&Column>
 {
     columns.iter().find(|column| column.id == id)
 }
-
-#[cfg(test)]
-mod tests {
-    use super::*;
-    use std::test::Fail;
-
-    #[test]
-    fn a_column_is_copied(rt: HostRuntime) -> Result<(), Fail> {
-        let column = Column {
-            id: ColumnId(1),
-            name: Name::new(rt.alloc(), "id")?,
-            kind: ColType::Long,
-            tagged: false,
-            multi: false,
-            not_null: true,
-            escrow: false,
-            version: false,
-            auto: false,
-        };
-        let other = column.copy()?;
-        assert!(rt; other.name == column.name);
-        assert!(rt; other.not_null);
-        Ok(())
-    }
-}

@@ -27,6 +27,3 @@ pub use row_fault::RowFault;
 pub use row_ref::{RowRef, rows_have_one_spelling};
 pub use rows::{Row, RowValue, size_of_a_row};
 pub use values::Values;
-
-#[cfg(test)]
-mod row_tests;

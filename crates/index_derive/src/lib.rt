@@ -24,8 +24,3 @@ pub use log::{Entry, EntryKind, Step};
 pub use primary::{a_primary_index_has_one_entry, primary_key};
 pub use rules::{Condition, IndexFlags, IndexRule, Schema, Segment};
 pub use schema_calls::{NamedCondition, NamedSegment, SchemaCall, SchemaStep};
-
-#[cfg(test)]
-mod primary_tests;
-#[cfg(test)]
-mod tests;

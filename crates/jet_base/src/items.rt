@@ -45,14 +45,6 @@ impl<T> Items<T> {
     {
         self.items.as_slice()
     }
-
-    /// The items, given up.
-    pub fn into_vec(self) -> Vec<T>
-        ensures { result.items ≡ self }
-    {
-        let Items { items } = self;
-        items
-    }
 }
 
 impl<T: Drop> Items<T> {
@@ -98,23 +90,4 @@ impl<T: PartialEq> PartialEq for Items<T> {
 
 impl<T: Eq> Eq for Items<T> {
     ghost laws = { lists_equiv T.Eq.laws };
-}
-
-#[cfg(test)]
-mod tests {
-    use super::*;
-    use crate::text::Name;
-    use std::test::Fail;
-
-    #[test]
-    fn lists_grow_and_are_copied(rt: HostRuntime) -> Result<(), Fail> {
-        let mut names = Items::empty(rt.alloc());
-        names.push(Name::new(rt.alloc(), "id")?)?;
-        names.push(Name::new(rt.alloc(), "name")?)?;
-        assert_eq!(rt; names.as_slice().len(), 2);
-        assert!(rt; names.copy()? == names);
-        assert!(rt; names.clone()? == names);
-        assert!(rt; Items::new(names.copy()?.into_vec()) == names);
-        Ok(())
-    }
 }

@@ -145,14 +145,3 @@ pub fn name(jet: Jet) -> &'static str
         Jet::InvalidParameter => "JET_errInvalidParameter",
     }
 }
-
-#[cfg(test)]
-mod tests {
-    use super::*;
-
-    #[test]
-    fn names_have_their_prefix(rt: HostRuntime) {
-        assert_eq!(rt; name(Jet::Success), "JET_errSuccess");
-        assert_eq!(rt; name(Jet::SeekNotEqual), "JET_wrnSeekNotEqual");
-    }
-}

@@ -210,32 +210,3 @@ impl Ord for Octets {
         self.as_bytes().cmp(other.as_bytes())
     }
 }
-
-#[cfg(test)]
-mod tests {
-    use super::*;
-    use std::test::Fail;
-
-    #[test]
-    fn names_are_made_and_copied(rt: HostRuntime) -> Result<(), Fail> {
-        let name = Name::new(rt.alloc(), "load")?;
-        let other = Name::new(rt.alloc(), "Load")?;
-        assert_eq!(rt; name.as_bytes(), b"load".as_slice());
-        assert!(rt; name.copy()? == name);
-        assert!(rt; name.clone()? == name);
-        assert!(rt; name != other);
-        assert!(rt; other < name);
-        Ok(())
-    }
-
-    #[test]
-    fn byte_strings_are_made_and_copied(rt: HostRuntime) -> Result<(), Fail> {
-        let octets = Octets::from_slice(rt.alloc(), &[0, 255])?;
-        assert_eq!(rt; octets.as_bytes(), [0, 255].as_slice());
-        assert!(rt; octets.copy()? == octets);
-        assert!(rt; octets.clone()? == octets);
-        assert!(rt; Octets::empty(rt.alloc()) < octets);
-        assert!(rt; Octets::new([0, 255].to_vec(rt.alloc())?) == octets);
-        Ok(())
-    }
-}

@@ -8,6 +8,3 @@ mod order;
 pub use key::{Key, LONGEST_KEY};
 pub use maker::{KeyMaker, Part};
 pub use order::order_of_whole_keys;
-
-#[cfg(test)]
-mod tests;

@@ -8,6 +8,3 @@ mod new_value;
 
 pub use buffer::CopyBuffer;
 pub use fault::EditFault;
-
-#[cfg(test)]
-mod tests;

@@ -7,7 +7,4 @@ mod values;
 
 pub use kinds::{fixed_width, is_number_type, largest_value, width_fits};
 pub use numbers::{number_fits, number_of, stored_number};
-pub use values::{FRONT_BYTES, fits, length_of, stored_front};
-
-#[cfg(test)]
-mod tests;
+pub use values::{FRONT_BYTES, fits, stored_front};

@@ -1,7 +1,7 @@
 //! Written values, and what a column stores of them.
 
 ghost use Rattle.std.specs.Prelude.{◌≡◌, IsTrue, take, replicate, min, [], ◌∷◌};
-ghost use Rattle.jet_base.specs.Given.{given_fits, given_length, given_front, as_stored};
+ghost use Rattle.jet_base.specs.Given.{given_fits, given_front, as_stored};
 
 use crate::kinds::width_fits;
 use crate::numbers::{number_fits, stored_number};
@@ -21,17 +21,6 @@ pub fn fits(kind: ColType, given: &Given) -> bool
         Given::Number(number) => number_fits(kind, *number),
         Given::Bytes(bytes) => width_fits(kind, bytes.as_bytes().len()),
         Given::Fill(count, _) => width_fits(kind, *count as usize),
-    }
-}
-
-/// How many bytes are written: for a repeated byte the count, for a number and for no value 0.
-pub fn length_of(given: &Given) -> usize
-    ensures { result ≡ given_length given.now }
-{
-    match given {
-        Given::Null | Given::Number(_) => 0,
-        Given::Bytes(bytes) => bytes.as_bytes().len(),
-        Given::Fill(count, _) => *count as usize,
     }
 }
 

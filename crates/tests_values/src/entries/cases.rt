@@ -1,0 +1,522 @@
+//! Records, rules and what the records have by them: every flag alone and with those that it meets, conditions, orders
+//! and NULLs.
+
+use index_derive::{DeriveFault, IndexFlags};
+use jet_base::ColType;
+
+/// A record, the rule of an index, and what it has there.
+#[derive(Clone, Copy)]
+pub struct Case<'a> {
+    /// The type of columns 256 and 257.
+    pub kind: ColType,
+    /// They may have several values.
+    pub multi: bool,
+    pub flags: IndexFlags,
+    /// The columns of the key, descending where the flag is set.
+    pub columns: &'a [(u16, bool)],
+    /// Columns that have no value where the flag is set, else that have one.
+    pub conditions: &'a [(u16, bool)],
+    /// The values of column 256.
+    pub first: &'a [&'a [u8]],
+    /// The values of column 257.
+    pub second: &'a [&'a [u8]],
+    pub expected: Result<&'a [&'a [u8]], DeriveFault>,
+}
+
+/// No flag.
+pub const PLAIN: IndexFlags = IndexFlags {
+    primary: false,
+    unique: false,
+    disallownull: false,
+    ignorenull: false,
+    ignoreanynull: false,
+    ignorefirstnull: false,
+    sortnullshigh: false,
+    crossproduct: false,
+    disallowtruncation: false,
+    tuples: false,
+};
+
+/// A record without values in an index on both columns, which has one entry.
+const CASE: Case = Case {
+    kind: ColType::UnsignedByte,
+    multi: true,
+    flags: PLAIN,
+    columns: &[(256, false), (257, false)],
+    conditions: &[],
+    first: &[],
+    second: &[],
+    expected: Ok(&[b"\0\0"]),
+};
+
+/// A value whose key is cut.
+const LONG: [u8; 300] = [b'a'; 300];
+
+/// Its key, which loses bytes at 255.
+const CUT: &[u8] = b"\x7f\
+      aaaaaaaa\taaaaaaaa\taaaaaaaa\taaaaaaaa\taaaaaaaa\taaaaaaaa\taaaaaaaa\t\
+      aaaaaaaa\taaaaaaaa\taaaaaaaa\taaaaaaaa\taaaaaaaa\taaaaaaaa\taaaaaaaa\t\
+      aaaaaaaa\taaaaaaaa\taaaaaaaa\taaaaaaaa\taaaaaaaa\taaaaaaaa\taaaaaaaa\t\
+      aaaaaaaa\taaaaaaaa\taaaaaaaa\taaaaaaaa\taaaaaaaa\taaaaaaaa\taaaaaaaa\t\
+      aa";
+
+/// The key of 224 bytes, which has 253.
+const WHOLE: &[u8] = b"\x7f\
+      aaaaaaaa\taaaaaaaa\taaaaaaaa\taaaaaaaa\taaaaaaaa\taaaaaaaa\taaaaaaaa\t\
+      aaaaaaaa\taaaaaaaa\taaaaaaaa\taaaaaaaa\taaaaaaaa\taaaaaaaa\taaaaaaaa\t\
+      aaaaaaaa\taaaaaaaa\taaaaaaaa\taaaaaaaa\taaaaaaaa\taaaaaaaa\taaaaaaaa\t\
+      aaaaaaaa\taaaaaaaa\taaaaaaaa\taaaaaaaa\taaaaaaaa\taaaaaaaa\t\
+      aaaaaaaa\x08";
+
+pub static CASES: &[Case] = &[
+    CASE,
+    // one entry for each value of the first multi-valued column
+    Case {
+        first: &[b"a", b"b", b"c"],
+        second: &[b"x", b"y"],
+        expected: Ok(&[b"\x7fa\x7fx", b"\x7fb\x7fx", b"\x7fc\x7fx"]),
+        ..CASE
+    },
+    // one for each combination
+    Case {
+        flags: IndexFlags {
+            crossproduct: true,
+            ..PLAIN
+        },
+        first: &[b"a", b"b", b"c"],
+        second: &[b"x", b"y"],
+        expected: Ok(&[
+            b"\x7fa\x7fx",
+            b"\x7fa\x7fy",
+            b"\x7fb\x7fx",
+            b"\x7fb\x7fy",
+            b"\x7fc\x7fx",
+            b"\x7fc\x7fy",
+        ]),
+        ..CASE
+    },
+    // the first multi-valued column gives the entries, also where it has no value
+    Case {
+        second: &[b"x", b"y"],
+        expected: Ok(&[b"\0\x7fx"]),
+        ..CASE
+    },
+    // NULL counts as one value
+    Case {
+        flags: IndexFlags {
+            crossproduct: true,
+            ..PLAIN
+        },
+        second: &[b"x", b"y"],
+        expected: Ok(&[b"\0\x7fx", b"\0\x7fy"]),
+        ..CASE
+    },
+    // in the second column too
+    Case {
+        flags: IndexFlags {
+            crossproduct: true,
+            ..PLAIN
+        },
+        first: &[b"a", b"b", b"c"],
+        expected: Ok(&[b"\x7fa\0", b"\x7fb\0", b"\x7fc\0"]),
+        ..CASE
+    },
+    // columns of one value, in the order of records
+    Case {
+        multi: false,
+        flags: IndexFlags {
+            primary: true,
+            ..PLAIN
+        },
+        first: &[b"a"],
+        second: &[b"x"],
+        expected: Ok(&[b"\x7fa\x7fx"]),
+        ..CASE
+    },
+    // no two records have an equal key, and one record has several
+    Case {
+        flags: IndexFlags {
+            unique: true,
+            ..PLAIN
+        },
+        first: &[b"a", b"b", b"c"],
+        second: &[b"x", b"y"],
+        expected: Ok(&[b"\x7fa\x7fx", b"\x7fb\x7fx", b"\x7fc\x7fx"]),
+        ..CASE
+    },
+    // in rising order and each once
+    Case {
+        columns: &[(256, false)],
+        first: &[b"c", b"a", b"b", b"a"],
+        expected: Ok(&[b"\x7fa", b"\x7fb", b"\x7fc"]),
+        ..CASE
+    },
+    // combinations too
+    Case {
+        flags: IndexFlags {
+            crossproduct: true,
+            ..PLAIN
+        },
+        first: &[b"a", b"a"],
+        second: &[b"y", b"x", b"y"],
+        expected: Ok(&[b"\x7fa\x7fx", b"\x7fa\x7fy"]),
+        ..CASE
+    },
+    // letters without case
+    Case {
+        kind: ColType::Text,
+        columns: &[(256, false)],
+        first: &[b"b", b"B", b"a"],
+        expected: Ok(&[b"\x7fA\0\0\0\0\0\0\0\x01", b"\x7fB\0\0\0\0\0\0\0\x01"]),
+        ..CASE
+    },
+    // greater values first
+    Case {
+        columns: &[(256, true)],
+        first: &[b"\x01", b"\x02"],
+        expected: Ok(&[b"\x80\xfd", b"\x80\xfe"]),
+        ..CASE
+    },
+    // the columns in the order of the key
+    Case {
+        columns: &[(257, false), (256, true)],
+        first: &[b"\x01", b"\x02"],
+        second: &[b"\x08", b"\x09"],
+        expected: Ok(&[b"\x7f\x08\x80\xfe", b"\x7f\x09\x80\xfe"]),
+        ..CASE
+    },
+    // a descending NULL
+    Case {
+        columns: &[(256, true)],
+        expected: Ok(&[b"\xff"]),
+        ..CASE
+    },
+    // a high NULL
+    Case {
+        flags: IndexFlags {
+            sortnullshigh: true,
+            ..PLAIN
+        },
+        expected: Ok(&[b"\xc0\xc0"]),
+        ..CASE
+    },
+    // a descending high NULL
+    Case {
+        flags: IndexFlags {
+            sortnullshigh: true,
+            ..PLAIN
+        },
+        columns: &[(256, true)],
+        expected: Ok(&[b"\x3f"]),
+        ..CASE
+    },
+    // a descending high NULL beside one that ascends
+    Case {
+        flags: IndexFlags {
+            sortnullshigh: true,
+            ..PLAIN
+        },
+        columns: &[(256, true), (257, false)],
+        expected: Ok(&[b"\x3f\xc0"]),
+        ..CASE
+    },
+    // all columns are NULL
+    Case {
+        flags: IndexFlags {
+            ignorenull: true,
+            ..PLAIN
+        },
+        expected: Ok(&[]),
+        ..CASE
+    },
+    // one of several is not all
+    Case {
+        flags: IndexFlags {
+            ignorenull: true,
+            ..PLAIN
+        },
+        second: &[b"x"],
+        expected: Ok(&[b"\0\x7fx"]),
+        ..CASE
+    },
+    // in no combination
+    Case {
+        flags: IndexFlags {
+            ignorenull: true,
+            crossproduct: true,
+            ..PLAIN
+        },
+        second: &[b"x", b"y"],
+        expected: Ok(&[b"\0\x7fx", b"\0\x7fy"]),
+        ..CASE
+    },
+    // any column is NULL
+    Case {
+        flags: IndexFlags {
+            ignoreanynull: true,
+            ..PLAIN
+        },
+        first: &[b"a"],
+        expected: Ok(&[]),
+        ..CASE
+    },
+    // none is
+    Case {
+        flags: IndexFlags {
+            ignoreanynull: true,
+            ..PLAIN
+        },
+        first: &[b"a"],
+        second: &[b"x"],
+        expected: Ok(&[b"\x7fa\x7fx"]),
+        ..CASE
+    },
+    // the first column is NULL
+    Case {
+        flags: IndexFlags {
+            ignorefirstnull: true,
+            ..PLAIN
+        },
+        second: &[b"x"],
+        expected: Ok(&[]),
+        ..CASE
+    },
+    // the last is
+    Case {
+        flags: IndexFlags {
+            ignorefirstnull: true,
+            ..PLAIN
+        },
+        first: &[b"a"],
+        expected: Ok(&[b"\x7fa\0"]),
+        ..CASE
+    },
+    // a NULL is refused
+    Case {
+        flags: IndexFlags {
+            disallownull: true,
+            ..PLAIN
+        },
+        first: &[b"a"],
+        expected: Err(DeriveFault::NullKeyDisallowed),
+        ..CASE
+    },
+    // none is there
+    Case {
+        flags: IndexFlags {
+            disallownull: true,
+            ..PLAIN
+        },
+        first: &[b"a"],
+        second: &[b"x"],
+        expected: Ok(&[b"\x7fa\x7fx"]),
+        ..CASE
+    },
+    // a column without values counts as one NULL
+    Case {
+        flags: IndexFlags {
+            disallownull: true,
+            crossproduct: true,
+            ..PLAIN
+        },
+        first: &[b"a", b"b", b"c"],
+        expected: Err(DeriveFault::NullKeyDisallowed),
+        ..CASE
+    },
+    // what is left out is not refused: all columns are NULL
+    Case {
+        flags: IndexFlags {
+            disallownull: true,
+            ignorenull: true,
+            ..PLAIN
+        },
+        expected: Ok(&[]),
+        ..CASE
+    },
+    // any column is
+    Case {
+        flags: IndexFlags {
+            disallownull: true,
+            ignoreanynull: true,
+            ..PLAIN
+        },
+        first: &[b"a"],
+        expected: Ok(&[]),
+        ..CASE
+    },
+    // the first column is
+    Case {
+        flags: IndexFlags {
+            disallownull: true,
+            ignorefirstnull: true,
+            ..PLAIN
+        },
+        second: &[b"x"],
+        expected: Ok(&[]),
+        ..CASE
+    },
+    // what is not left out is refused: not all columns are NULL
+    Case {
+        flags: IndexFlags {
+            disallownull: true,
+            ignorenull: true,
+            ..PLAIN
+        },
+        first: &[b"a"],
+        expected: Err(DeriveFault::NullKeyDisallowed),
+        ..CASE
+    },
+    // not the first is
+    Case {
+        flags: IndexFlags {
+            disallownull: true,
+            ignorefirstnull: true,
+            ..PLAIN
+        },
+        first: &[b"a"],
+        expected: Err(DeriveFault::NullKeyDisallowed),
+        ..CASE
+    },
+    // a condition that is not met
+    Case {
+        conditions: &[(257, false)],
+        first: &[b"a"],
+        expected: Ok(&[]),
+        ..CASE
+    },
+    // one that is met
+    Case {
+        conditions: &[(257, false)],
+        first: &[b"a"],
+        second: &[b"x"],
+        expected: Ok(&[b"\x7fa\x7fx"]),
+        ..CASE
+    },
+    // one that asks for NULL and is not met
+    Case {
+        conditions: &[(256, false), (257, true)],
+        first: &[b"a"],
+        second: &[b"x"],
+        expected: Ok(&[]),
+        ..CASE
+    },
+    // one that asks for NULL and is met
+    Case {
+        conditions: &[(256, false), (257, true)],
+        first: &[b"a"],
+        expected: Ok(&[b"\x7fa\0"]),
+        ..CASE
+    },
+    // a record that does not meet it is not refused
+    Case {
+        flags: IndexFlags {
+            disallownull: true,
+            ..PLAIN
+        },
+        conditions: &[(257, false)],
+        first: &[b"a"],
+        expected: Ok(&[]),
+        ..CASE
+    },
+    // nor for a key that would be cut
+    Case {
+        kind: ColType::LongBinary,
+        flags: IndexFlags {
+            disallowtruncation: true,
+            ..PLAIN
+        },
+        columns: &[(256, false)],
+        conditions: &[(257, false)],
+        first: &[&LONG],
+        expected: Ok(&[]),
+        ..CASE
+    },
+    // a key is cut
+    Case {
+        kind: ColType::LongBinary,
+        columns: &[(256, false)],
+        first: &[&LONG],
+        expected: Ok(&[CUT]),
+        ..CASE
+    },
+    // or refused
+    Case {
+        kind: ColType::LongBinary,
+        flags: IndexFlags {
+            disallowtruncation: true,
+            ..PLAIN
+        },
+        columns: &[(256, false)],
+        first: &[&LONG],
+        expected: Err(DeriveFault::KeyTruncated),
+        ..CASE
+    },
+    // a key that is just short enough is neither
+    Case {
+        kind: ColType::LongBinary,
+        flags: IndexFlags {
+            disallowtruncation: true,
+            ..PLAIN
+        },
+        columns: &[(256, false)],
+        first: &[&[b'a'; 224]],
+        expected: Ok(&[WHOLE]),
+        ..CASE
+    },
+    // the first 255 bytes of a value make its key
+    Case {
+        kind: ColType::LongBinary,
+        columns: &[(256, false)],
+        first: &[&LONG, &[b'a'; 256], &[b'a'; 255]],
+        expected: Ok(&[CUT]),
+        ..CASE
+    },
+    // a NULL is refused before a cut key
+    Case {
+        kind: ColType::LongBinary,
+        flags: IndexFlags {
+            disallownull: true,
+            disallowtruncation: true,
+            ..PLAIN
+        },
+        first: &[&LONG],
+        expected: Err(DeriveFault::NullKeyDisallowed),
+        ..CASE
+    },
+    // a cut key that is left out is not refused
+    Case {
+        kind: ColType::LongBinary,
+        flags: IndexFlags {
+            ignoreanynull: true,
+            disallowtruncation: true,
+            ..PLAIN
+        },
+        first: &[&LONG],
+        expected: Ok(&[]),
+        ..CASE
+    },
+    // each start of three bytes or more of a text
+    Case {
+        kind: ColType::LongText,
+        flags: IndexFlags {
+            tuples: true,
+            ..PLAIN
+        },
+        columns: &[(256, false)],
+        first: &[b"abcd", b"ab"],
+        expected: Ok(&[b"\x7fABCD\0\0\0\0\x04", b"\x7fBCD\0\0\0\0\0\x03"]),
+        ..CASE
+    },
+    // NULL has no part, so none is refused
+    Case {
+        kind: ColType::LongText,
+        flags: IndexFlags {
+            tuples: true,
+            disallownull: true,
+            ..PLAIN
+        },
+        columns: &[(256, false)],
+        expected: Ok(&[]),
+        ..CASE
+    },
+];
