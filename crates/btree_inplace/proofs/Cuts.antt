@@ -6,7 +6,7 @@ use Rattle.std.proofs.lemmas.List.{drop_all}
 use Rattle.std.proofs.lemmas.List.Edits.{get_or-remove_above, length-remove}
 use Rattle.std.proofs.lemmas.List.Sums.{sum_by-cons, sum_by-drop_more, sum_by-take-drop}
 use Rattle.page_image.specs.Page.{Node, HasRisingKeys, IsBelow, IsInsertPlace, no_node, node_at, node_size, page_size}
-use Rattle.btree_node.proofs.Children.{IsBelow-asymmetric, IsBelow-irreflexive}
+use Rattle.common_lemmas.proofs.Orders.{less-asymmetric, less-irreflexive}
 use Rattle.btree_inplace.specs.Alterations.{HasRoom, IsParted, Needs, cleared, separator}
 use Rattle.btree_inplace.specs.Order.{has_key}
 use Rattle.btree_inplace.proofs.Below.{found_at}
@@ -17,8 +17,8 @@ parted_at nodes at rising some within = record {
   last = within;
   low = λ k lt. rising k at no_node lt within;
   high = λ k from l. elim (cases_eq at k) [
-    | inl same ↦ subst (λ j. ¬ IsBelow (node_at nodes j).key (node_at nodes at).key) same (IsBelow-irreflexive (node_at nodes at).key)
-    | inr ne ↦ IsBelow-asymmetric (node_at nodes at).key (node_at nodes k).key (rising at k no_node (omega arith) l)
+    | inl same ↦ subst (λ j. ¬ IsBelow (node_at nodes j).key (node_at nodes at).key) same (less-irreflexive (node_at nodes at).key)
+    | inr ne ↦ less-asymmetric (node_at nodes at).key (node_at nodes k).key (rising at k no_node (omega arith) l)
   ];
 }
 
@@ -27,7 +27,7 @@ parted_by nodes key i place some within = record {
   first = some;
   last = within;
   low = place.below;
-  high = λ k from l. IsBelow-asymmetric key (node_at nodes k).key (place.above k from l);
+  high = λ k from l. less-asymmetric key (node_at nodes k).key (place.above k from l);
 }
 
 pub needs_small : (need : ℕ) (o : Option Node) → MatchOption o (need ≤ 2032) (λ n. node_size n + need ≤ 2032) → need ≤ 2032
@@ -53,7 +53,7 @@ from_half nodes h within = omega (arith, sum_by-drop_more node_size nodes h no_n
 -- a key behind all others
 pub room_last : (nodes : List Node) (key : List ℕ) (at need : ℕ) → IsInsertPlace nodes key (at + 1) → at + 1 ≡ length nodes → All (λ n. node_size n ≤ 2032) nodes → need ≤ 2032 → HasRoom nodes key need at (node_at nodes at).key
 room_last nodes key at need place last small needs = record {
-  left = λ b. absurd (IsBelow-asymmetric (node_at nodes at).key key (place.below at (omega arith)) b);
+  left = λ b. absurd (less-asymmetric (node_at nodes at).key key (place.below at (omega arith)) b);
   right = λ _. omega (arith, from_half nodes at (omega arith), small at no_node (omega arith), ap (sum_by node_size) (drop_all (at + 1) nodes (omega arith)));
 }
 
@@ -76,8 +76,8 @@ parted_behind nodes key i h rising place lt within = elim (cases_eq i (h + 1)) [
 pub room_behind : (nodes : List Node) (key : List ℕ) (i h need : ℕ) → IsInsertPlace nodes key i → h < i → i < length nodes → page_size nodes ≤ 4096 → 2064 < page_size (take (h + 1) nodes) → need ≤ 2032 → HasRoom nodes key need (h + 1) (separator nodes key (h + 1) (nat_eq i (h + 1)))
 room_behind nodes key i h need place lt within size more needs = record {
   left = λ b. absurd (elim (cases_eq i (h + 1)) [
-    | inl at ↦ IsBelow-irreflexive key (subst (λ t. IsBelow key (separator nodes key (h + 1) t)) (eq-eqb i (h + 1) at) b)
-    | inr ne ↦ IsBelow-asymmetric (node_at nodes (h + 1)).key key (place.below (h + 1) (omega arith)) (subst (λ t. IsBelow key (separator nodes key (h + 1) t)) (ne_eqb i (h + 1) ne) b)
+    | inl at ↦ less-irreflexive key (subst (λ t. IsBelow key (separator nodes key (h + 1) t)) (eq-eqb i (h + 1) at) b)
+    | inr ne ↦ less-asymmetric (node_at nodes (h + 1)).key key (place.below (h + 1) (omega arith)) (subst (λ t. IsBelow key (separator nodes key (h + 1) t)) (ne_eqb i (h + 1) ne) b)
   ]);
   right = λ _. omega (arith, behind_half nodes h size more);
 }

@@ -11,7 +11,7 @@ use Rattle.std.proofs.lemmas.List.{get_or_default, get_or-map, get_or-set_same, 
 use Rattle.std.proofs.lemmas.List.Edits.{length-insert}
 use Rattle.std.proofs.lemmas.List.Elements.{All-set, All-tail}
 use Rattle.page_image.specs.Page.{Node, PageContents, HasRisingKeys, IsBelow, IsInsertPlace, IsPage, no_node, node_at, with_extent}
-use Rattle.page_image.proofs.Edits.{All-insert}
+use Rattle.common_lemmas.proofs.Edits.{All-insert}
 use Rattle.page_space.specs.Frames.{Frames, page_at}
 use Rattle.btree_inplace.specs.Alterations.{Altered, AlteredTree, Swaps, copies}
 use Rattle.btree_inplace.specs.Changes.{IsLocal, IsOldKey, StayBut, inserted, with_extent_at}

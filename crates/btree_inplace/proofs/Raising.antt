@@ -14,7 +14,8 @@ use Rattle.btree_inplace.specs.declared.Tree.{Tree}
 use Rattle.btree_inplace.proofs.Changing.{set-stays}
 use Rattle.btree_inplace.proofs.Counting.{copies-Contains, copies-cons, copies-one, copies-once, copies-other, copies-same}
 use Rattle.btree_inplace.proofs.Parts.{IsPart, Parts, pages_taken, parts_tree}
-use Rattle.btree_inplace.proofs.Splitting.{nodes_written, none_below, some_entries, written}
+use Rattle.common_lemmas.proofs.Orders.{none_less}
+use Rattle.btree_inplace.proofs.Splitting.{nodes_written, some_entries, written}
 use Rattle.btree_inplace.proofs.Staying.{same_entries, same_pages, same_tree}
 use Rattle.btree_inplace.proofs.Swapping.{swaps_none, taken_not_free}
 use Rattle.btree_inplace.proofs.Writes.{takes_free, takes_other, takes_taken, wrote}
@@ -69,7 +70,7 @@ above depth old taken root below p tree all_once t is ok some =
       some = omega (arith, ap (λ q. length (entries depth new q)) is.child, ap (λ (x : List Node). length x) es, some);
       lower = λ k d h.
           let e = (get_or (entries depth new (child_of n)) k d).key in
-          subst (λ (x : List ℕ). ¬ IsBelow e x) (sym is.key) (none_below e);
+          subst (λ (x : List ℕ). ¬ IsBelow e x) (sym is.key) (none_less e);
     } in
     let parts : Parts depth new p.nodes = record {
       some = omega (arith, is.one);

@@ -9,7 +9,7 @@ use Rattle.std.proofs.lemmas.List.Concat.{flat_map-append}
 use Rattle.std.proofs.lemmas.List.Edits.{length-insert, get_or-insert_below, get_or-insert_at, get_or-insert_above}
 use Rattle.std.proofs.lemmas.List.Elements.{All-from_get_or}
 use Rattle.page_image.specs.Page.{Node, IsBelow, no_node, node_at}
-use Rattle.page_image.proofs.Edits.{All-insert, AllPairs-insert}
+use Rattle.common_lemmas.proofs.Edits.{All-insert, AllPairs-insert}
 use Rattle.page_space.specs.Frames.{Frames, IsTaken, page_at}
 use Rattle.btree_node.specs.Cut.{IsChildPlace}
 use Rattle.btree_inplace.specs.Alterations.{Altered, Entered, Swaps, copies}

@@ -8,7 +8,8 @@ use Rattle.std.proofs.lemmas.List.{take-append-drop, get_or-take, get_or-drop, g
 use Rattle.std.proofs.lemmas.List.Concat.{flat_map-append}
 use Rattle.std.proofs.lemmas.List.Elements.{All-from_get_or, All-take, All-drop, All-set}
 use Rattle.page_image.specs.Page.{Node, PageContents, IsBelow, IsPage, no_node, node_at}
-use Rattle.page_image.proofs.Edits.{AllPairs-drop, AllPairs-take}
+use Rattle.common_lemmas.proofs.Orders.{none_less}
+use Rattle.common_lemmas.proofs.Edits.{AllPairs-drop, AllPairs-take}
 use Rattle.page_space.specs.Frames.{Frames, IsTaken, empty_page, page_at}
 use Rattle.btree_inplace.specs.Alterations.{IsParted, cleared, copies}
 use Rattle.btree_inplace.specs.Shape.{IsSubtree, IsTreeNode, IsTreePage, child_of, entries, page_in, pages}
@@ -116,10 +117,6 @@ some_entries depth frames page tree =
     let f : Node → List Node = λ n. entries depth frames (child_of n) in
     omega (arith, ap (λ (x : List Node). length x) (flat_map-around f nodes 0 no_node tree.1.some), length-append (flat_map f (take 0 nodes)) (f (node_at nodes 0) ++ flat_map f (drop (0 + 1) nodes)), length-append (f (node_at nodes 0)) (flat_map f (drop (0 + 1) nodes)), (tree.3 0 tree.1.some).some)
 
-pub none_below : (a : List ℕ) → ¬ IsBelow a []
-none_below [] h = cc
-none_below (x ∷ xs) h = cc
-
 -- the part of the children from a place on, with an empty first key
 pub parts_cleared : (depth : ℕ) (frames : Frames) (nodes : List Node) → 0 < length nodes → All (IsPart depth frames) nodes → AllPairs (Before depth frames) nodes → Parts depth frames (cleared nodes)
 parts_cleared depth frames nodes some each order =
@@ -135,7 +132,7 @@ parts_cleared depth frames nodes some each order =
         extent = part.extent;
         tree = part.tree;
         some = part.some;
-        lower = λ k d h. none_below (get_or (entries depth frames (child_of m)) k d).key;
+        lower = λ k d h. none_less (get_or (entries depth frames (child_of m)) k d).key;
       }) each;
       order = λ i j d lt h.
           let within : j < length nodes = omega (arith, length-set nodes 0 m) in

@@ -12,7 +12,7 @@ use Rattle.std.specs.Cmp.Lexicographic.{slice_cmp}
 use Rattle.byteorder.specs.Endian.{little_number}
 use Rattle.page_image.specs.Page.{Node, PageContents, IsBelow, IsInsertPlace, IsPage, no_node, node_at, node_size, page_size}
 use Rattle.page_space.specs.Frames.{Frames, IsTaken, Takes, empty_page, page_at}
-use Rattle.btree_node.proofs.Children.{IsBelow-asymmetric}
+use Rattle.common_lemmas.proofs.Orders.{less-asymmetric}
 use Rattle.btree_inplace.specs.Alterations.{IsParted, cleared, copies, separator}
 use Rattle.btree_inplace.specs.Shape.{IsInner, IsSubtree, IsTreeNode, child_of, entries, page_in, pages}
 use Rattle.btree_inplace.proofs.Below.{IsBelow-from_upto, flat_map-around}
@@ -156,7 +156,7 @@ middle_place depth frames page i below at middle tree within child parted inner 
     }
   where
     not_back : (a b : List ℕ) → IsBelow a b → ¬ IsBelow b a
-    not_back a b h = IsBelow-asymmetric a b h
+    not_back a b h = less-asymmetric a b h
 
 -- The writes are those of a cut.
 pub cutting_made : (depth : ℕ) (old taken : Frames) (page i below number at : ℕ) (n : Node) (left parent right : PageContents) → IsSubtree (suc depth) old page → AllPairs (λ p q. p ≢ q) (pages (suc depth) old page) → i < length (page_in old page).nodes → child_of (node_at (page_in old page).nodes i) ≡ below → Takes old number taken → IsParted (page_in old below).nodes at n.key → (0 < depth → n.key ≡ (node_at (page_in old below).nodes at).key) → IsTreeNode n → length n.data ≡ 4 → n.extent ≡ 4 → child_of n ≡ number → left ≡ record (page_in old below) { nodes = take at (page_in old below).nodes } → IsPage left → parent ≡ record (page_in old page) { nodes = insert (page_in old page).nodes (i + 1) n } → IsPage parent → right ≡ record { number = number; kind = (page_in old below).kind; nodes = tail_of depth (drop at (page_in old below).nodes) } → IsPage right → Cutting depth old (set (set (set taken below (Some left)) page (Some parent)) number (Some right)) page i below number at n

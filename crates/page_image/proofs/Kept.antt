@@ -15,7 +15,7 @@ use Rattle.page_image.specs.Page.{Node, PageContents, IsPage, IsInsertPlace, IsB
 use Rattle.page_image.specs.Reading.{contents_of}
 use Rattle.page_image.specs.Shown.{Shows}
 use Rattle.page_image.proofs.Nodes.{contents_of-page_bytes, few_nodes, HasNode, has_node}
-use Rattle.page_image.proofs.Edits.{AllPairs-take, AllPairs-drop, sum-insert, sum-take-insert, take-insert, sum-remove, sum-take-remove, take-remove, sum-set, sum-take-set, sum-take-le, All-insert, All-remove, AllPairs-insert, AllPairs-set}
+use Rattle.common_lemmas.proofs.Edits.{AllPairs-take, AllPairs-drop, sum-insert, sum-take-insert, take-insert, sum-remove, sum-take-remove, take-remove, sum-set, sum-take-set, sum-take-le, All-insert, All-remove, AllPairs-insert, AllPairs-set}
 use Rattle.page_image.proofs.Spelled.{inserted_bytes, removed_bytes, replaced_bytes, drop-page_front}
 
 pub few : (p : PageContents) → IsPage p → length p.nodes ≤ 677

@@ -1,4 +1,3 @@
-pub mod Edits
 pub mod Keys
 pub mod Kept
 pub mod Nodes

@@ -8,7 +8,7 @@ use Rattle.byteorder.specs.Endian.{little_bytes}
 use Rattle.page_image.specs.Page.{Node, PageContents, IsPage, no_node, node_at, node_bytes, node_size, with_extent, page_size, page_head, page_body, page_front, node_area, page_bytes, xor_of_words}
 use Rattle.std.proofs.lemmas.List.Elements.{All-take, All-drop}
 use Rattle.std.proofs.lemmas.List.Sums.{sum_by-append, sum_by_more}
-use Rattle.page_image.proofs.Edits.{sum-insert, sum-remove, sum-set}
+use Rattle.common_lemmas.proofs.Edits.{sum-insert, sum-remove, sum-set}
 use Rattle.page_image.proofs.Nodes.{IsSmall, small_nodes, length-nodes, length-node_bytes}
 
 pub page_bytes-parts : (p : PageContents) → page_bytes p ≡ page_front p ++ node_area p.nodes

@@ -187,10 +187,6 @@ keeps-push pages taken free capacity capacity' x k none fewer room = record {
   few = omega (arith, length_push pages x);
 }
 
-pub OnErr-from : {A B : Type 0} (r : Result A B) (P : Type 0) → P → OnErr r P
-OnErr-from (Ok x) P p = tt
-OnErr-from (Err e) P p = p
-
 -- The free list was empty.
 pub free_was_empty : (pages : List PageContents) (taken : List Bool) (free : List ℕ) (capacity : ℕ) → Keeps pages taken free capacity → length free ≡ 0 → All IsSome (frames_of pages taken)
 free_was_empty pages taken free capacity k none = all_taken pages taken k.same (omega (arith, k.all))

@@ -1,7 +1,7 @@
 -- Each page of the path is entered in turn.
 use Rattle.std.proofs.Common.{◌≡◌, ◌+◌, ◌-◌, ◌≤◌, ℕ, suc, sym, subst, arith}
 use Rattle.page_space.specs.Frames.{Frames}
-use Rattle.page_space.proofs.FrameLemmas.{OnErr-from}
+use Rattle.common_lemmas.proofs.Results.{OnErr-from}
 use Rattle.btree_inplace.specs.Alterations.{AlteredTree, copies}
 use Rattle.btree_inplace.specs.Shape.{IsSubtree, pages}
 use Rattle.btree_inplace.proofs.Counting.{AllPairs-copies}

@@ -2,7 +2,7 @@
 use Rattle.std.proofs.Common.{◌≡◌, ◌-◌, ◌<◌, ◌≤◌, Some, None, length, set, sym, ap, subst, ◌∙◌, arith}
 use Rattle.std.specs.Prelude.{find}
 use Rattle.page_image.specs.Page.{Node, PageContents, IsPage, HasRisingKeys, no_node, node_at, node_size, page_size, with_extent}
-use Rattle.page_image.proofs.Edits.{sum-set}
+use Rattle.common_lemmas.proofs.Edits.{sum-set}
 use Rattle.btree_inplace.specs.Alterations.{AlteredTree}
 use Rattle.btree_inplace.specs.Changes.{with_extent_at}
 use Rattle.btree_inplace.specs.Order.{has_key}

@@ -2,7 +2,7 @@
 use Rattle.std.proofs.Common.{◌+◌, ◌≤◌, List, [], ap, sym, subst, ◌∙◌, arith}
 use Rattle.std.specs.Prelude.{insert}
 use Rattle.page_image.specs.Page.{Node, PageContents, IsInsertPlace, no_node, node_size, page_size}
-use Rattle.page_image.proofs.Edits.{sum-remove}
+use Rattle.common_lemmas.proofs.Edits.{sum-remove}
 use Rattle.btree_inplace.proofs.Cuts.{first_cleared, first_place, when_ok}
 use Rattle.btree_inplace.proofs.insert.clear_first_key.Goals as goal
 

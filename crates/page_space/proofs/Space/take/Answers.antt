@@ -4,7 +4,8 @@ use Rattle.std.specs.Prelude.{IsSome, All}
 use Rattle.std.specs.Vec.{vec_capacity}
 use Rattle.page_image.specs.Page.{PageContents}
 use Rattle.page_space.specs.Frames.{Frames, page_at}
-use Rattle.page_space.proofs.FrameLemmas.{OnErr-from, free_was_empty, frames_of-take, keeps-take, last_is_free, length-frames_of, page_at-free}
+use Rattle.common_lemmas.proofs.Results.{OnErr-from}
+use Rattle.page_space.proofs.FrameLemmas.{free_was_empty, frames_of-take, keeps-take, last_is_free, length-frames_of, page_at-free}
 use Rattle.page_space.proofs.Space.take.Goals as goal
 
 pub invariant_of-self : goal.invariant_of-self

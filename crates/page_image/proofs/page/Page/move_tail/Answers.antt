@@ -4,7 +4,7 @@ use Rattle.std.proofs.lemmas.List.{length-take, length-drop}
 use Rattle.std.proofs.lemmas.List.Sums.{sum_by-take-le}
 use Rattle.page_image.specs.Page.{node_size, page_size}
 use Rattle.page_image.specs.Shown.{Shows}
-use Rattle.page_image.proofs.Edits.{sum-take-le}
+use Rattle.common_lemmas.proofs.Edits.{sum-take-le}
 use Rattle.page_image.proofs.Spelled.{kept_bytes, moved_bytes}
 use Rattle.page_image.proofs.Kept.{again, few, opened, shown, shows-drop, shows-take}
 use Rattle.page_image.proofs.page.Page.move_tail.Goals as goal

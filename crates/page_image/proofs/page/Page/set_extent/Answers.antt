@@ -3,7 +3,7 @@ use Rattle.std.proofs.Common.{◌+◌, ◌-◌, ◌≤◌, ℕ, List, length, re
 use Rattle.page_image.specs.Page.{node_at, node_size, no_node, page_size, with_extent}
 use Rattle.page_image.specs.Shown.{Shows}
 use Rattle.std.proofs.lemmas.List.Sums.{get_or-le-sum_by}
-use Rattle.page_image.proofs.Edits.{sum-set}
+use Rattle.common_lemmas.proofs.Edits.{sum-set}
 use Rattle.page_image.proofs.Spelled.{extent_bytes}
 use Rattle.page_image.proofs.Kept.{again, few, offsets_behind, opened, shown, shows-extent}
 use Rattle.page_image.proofs.page.Page.set_extent.Goals as goal
