@@ -11,6 +11,7 @@ use Rattle.page_space.specs.Frames.{Frames, IsTaken}
 use Rattle.btree_inplace.specs.Shape.{IsSubtree, child_of, entries, page_in, pages}
 use Rattle.btree_inplace.specs.Trees.{IsTree, nodes_of, pages_of}
 use Rattle.btree_inplace.specs.declared.Tree.{Tree}
+use Rattle.btree_inplace.proofs.Changing.{taken_within}
 use Rattle.btree_inplace.proofs.Laws.{own_is_taken}
 
 each_fits : {X Y Z : Type 0} (f : X → List Y) (g : X → List Z) (xs : List X) (d : X) → ((k : ℕ) → k < length xs → length (f (get_or xs k d)) ≤ 677 * length (g (get_or xs k d))) → length (flat_map f xs) ≤ 677 * length (flat_map g xs)
@@ -39,14 +40,6 @@ unfolding IsDistinct
 distinct [] once = tt
 distinct (x ∷ xs) once =
     (apart x xs (λ j d lt. once 0 (suc j) d (omega arith) (omega arith)), distinct xs (λ i j d lt h. once (suc i) (suc j) d (omega arith) (omega arith)))
-
-taken_within : (frames : Frames) (p : ℕ) → IsTaken frames p → p < length frames
-taken_within [] p some = absurd (never some)
-  where
-    never : false ≡ true → ⊥
-    never e = cc
-taken_within (f ∷ frames) zero some = omega arith
-taken_within (f ∷ frames) (suc p) some = omega (arith, taken_within frames p some)
 
 -- the pages of a tree are distinct pages of its space
 pages_fit : (frames : Frames) (tree : Tree) → IsTree frames tree → length (pages_of frames tree) ≤ length frames

@@ -17,6 +17,10 @@ pub record IsTree (frames : Frames) (tree : Tree) : Type 0 where
   pub shape : IsSubtree tree.depth frames tree.root
   pub once : AllPairs (λ p q. p ≢ q) (pages_of frames tree)
 
+-- no page is in both lists
+abbrev pub AreApart : List ℕ → List ℕ → Type 0
+AreApart pages others = (p : ℕ) → Contains pages p → ¬ Contains others p
+
 -- These pages are the same in both spaces.
 abbrev pub Stay : Frames → Frames → List ℕ → Type 0
 Stay old new pages = (p : ℕ) → Contains pages p → page_at new p ≡ page_at old p

@@ -10,7 +10,7 @@ ghost use Rattle.btree_inplace.specs.Shape.{IsSubtree, entries, page_in};
 ghost use Rattle.btree_inplace.specs.Neighbors.{IsNeighbor, found_left, found_right};
 ghost use Rattle.page_space.specs.Frames.{Frames, IsTaken, Takes, page_at};
 ghost use Rattle.btree_inplace.specs.declared.Tree.{Tree};
-ghost use Rattle.btree_inplace.specs.Trees.{Exchanges, IsTree, Stay, nodes_of, pages_of};
+ghost use Rattle.btree_inplace.specs.Trees.{AreApart, Exchanges, IsTree, nodes_of, pages_of};
 
 mod discard;
 mod insert;
@@ -36,6 +36,7 @@ impl Tree {
     pub fn new(space: &mut Space) -> Result<Tree, OutOfMemory>
         ensures tree { IfOk result (λ tree. IsTree space.new tree × (nodes_of space.new tree ≡ []) × (pages_of space.new tree ≡ tree.root ∷ [])) }
         ensures taken { IfOk result (λ tree. Takes space.old tree.root space.new) }
+        ensures pages { IfOk result (λ tree. Exchanges space.old space.new [] (pages_of space.new tree)) }
         ensures err { OnErr result (space.new ≡ space.old) }
     {
         let root = space.take()?;
@@ -89,21 +90,17 @@ impl Tree {
     }
 }
 
-/// A change of other pages leaves a tree as it is: so several trees share a space, each with pages
-/// of its own.
-pub fn tree_stays()
-    ensures { (old new : Frames) (tree : Tree) → IsTree old tree → Stay old new (pages_of old tree) → IsTree new tree × (nodes_of new tree ≡ nodes_of old tree) × (pages_of new tree ≡ pages_of old tree) }
-{}
-
-/// A change of a tree leaves each other tree of the space, whose pages are not its own, as it is.
+/// A change of a tree leaves each other tree of the space, which has no page of it: so several trees
+/// share a space, each with pages of its own.
 pub fn other_tree_stays()
-    ensures { (old new : Frames) (before after : List ℕ) (tree : Tree) → Exchanges old new before after → IsTree old tree → ((p : ℕ) → Contains (pages_of old tree) p → ¬ Contains before p) → Stay old new (pages_of old tree) × ((p : ℕ) → Contains (pages_of old tree) p → ¬ Contains after p) }
+    ensures { (old new : Frames) (before after : List ℕ) (tree : Tree) → Exchanges old new before after → IsTree old tree → AreApart (pages_of old tree) before → IsTree new tree × (nodes_of new tree ≡ nodes_of old tree) × (pages_of new tree ≡ pages_of old tree) × AreApart (pages_of new tree) after }
 {}
 
 /// The pages that are taken after a change of a tree: those that were taken and not its own, and
 /// those that are its own.
 pub fn taken_pages()
-    ensures { (old new : Frames) (before after : Tree) → IsTree new after → Exchanges old new (pages_of old before) (pages_of new after) → (p : ℕ) → IsTaken new p ↔ (IsTaken old p × (¬ Contains (pages_of old before) p)) ⊎ Contains (pages_of new after) p }
+    ensures only { (old new : Frames) (before after : List ℕ) → Exchanges old new before after → (p : ℕ) → IsTaken new p → Contains after p ⊎ (IsTaken old p × (¬ Contains before p)) }
+    ensures all { (old new : Frames) (before : List ℕ) (tree : Tree) → IsTree new tree → Exchanges old new before (pages_of new tree) → (p : ℕ) → Contains (pages_of new tree) p ⊎ (IsTaken old p × (¬ Contains before p)) → IsTaken new p }
 {}
 
 /// No page of a tree that has a node is empty: so a tree has no more pages than its nodes need.
@@ -117,6 +114,3 @@ pub fn nodes_fit_their_space()
 {
     nodes_of_a_page_are_few();
 }
-
-#[cfg(test)]
-mod tests;

@@ -4,4 +4,3 @@ pub mod Lists
 pub mod Cutting
 pub mod NodeEntries
 pub mod Changing
-pub mod Sharing

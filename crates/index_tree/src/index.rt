@@ -1,10 +1,10 @@
 //! An index: its entries, in rising order.
 
-ghost use Rattle.std.specs.Prelude.{◌≡◌, ◌≤◌, false, true, not, [], length, find, filter, IfOk, OnErr, OnOk};
+ghost use Rattle.std.specs.Prelude.{◌≡◌, ◌*◌, ◌≤◌, ℕ, false, true, not, List, [], length, find, filter, IfOk, OnErr, OnOk};
 ghost use Rattle.std.specs.List.{last_or};
 ghost use Rattle.std.specs.Option.{option_map};
 ghost use Rattle.page_space.specs.Frames.{Frames};
-ghost use Rattle.btree_inplace.specs.Trees.{Exchanges, Stay};
+ghost use Rattle.btree_inplace.specs.Trees.{AreApart, Exchanges};
 ghost use Rattle.index_derive.specs.Entries.{insert_entry};
 ghost use Rattle.cursor_nav.specs.Places.{entry_after, entry_before, found_pair, pair_lt};
 ghost use Rattle.derived_index.specs.KeptEntries.{has_entry, has_key, without_entry};
@@ -13,7 +13,7 @@ ghost use Rattle.index_tree.specs.IndexTrees.{IsIndexTree, entries_of, own_pages
 ghost use Rattle.index_tree.specs.declared.index.IndexTree.{IndexTree};
 
 use crate::parts::{NodeKey, entry_of, gap_bookmark, joined, parts};
-use btree_inplace::{Tree, tree_stays};
+use btree_inplace::{Tree, nodes_fit_their_space, other_tree_stays};
 use byteorder::{ByteOrder, LittleEndian};
 use index_derive::{IndexEntry, Place};
 use jet_base::OutOfMemory;
@@ -181,9 +181,16 @@ impl IndexTree {
     }
 }
 
-/// A change of other pages leaves the entries as they are.
-pub fn index_entries_stay()
-    ensures { (old new : Frames) (index : IndexTree) → IsIndexTree old index → Stay old new (own_pages old index) → IsIndexTree new index × (entries_of new index ≡ entries_of old index) × (own_pages new index ≡ own_pages old index) }
+/// A change of one tree of a space leaves the entries of an index that has no page of it.
+pub fn other_index_entries_stay()
+    ensures { (old new : Frames) (before after : List ℕ) (index : IndexTree) → Exchanges old new before after → IsIndexTree old index → AreApart (own_pages old index) before → IsIndexTree new index × (entries_of new index ≡ entries_of old index) × (own_pages new index ≡ own_pages old index) × AreApart (own_pages new index) after }
 {
-    tree_stays();
+    other_tree_stays();
+}
+
+/// An index has at most 677 entries for each page of its space.
+pub fn entries_fit_their_space()
+    ensures { (frames : Frames) (index : IndexTree) → IsIndexTree frames index → length (entries_of frames index) ≤ 677 * length frames }
+{
+    nodes_fit_their_space();
 }

@@ -4,7 +4,4 @@
 mod index;
 mod parts;
 
-pub use index::{IndexTree, index_entries_stay};
-
-#[cfg(test)]
-mod tests;
+pub use index::{IndexTree, entries_fit_their_space, other_index_entries_stay};

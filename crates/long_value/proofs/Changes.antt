@@ -76,34 +76,3 @@ becomes_then a b c first second third nodes nodes' s t = record {
 
 pub becomes_as : (old : Frames) (was : Tree) (new : Frames) (is : Tree) (nodes nodes' : List Node) → nodes ≡ nodes' → Becomes old was new is nodes → Becomes old was new is nodes'
 becomes_as old was new is nodes nodes' e b = record { tree = b.tree; has = b.has ∙ e; pages = b.pages }
-
--- ---- one page more
-
-only_page : (page p k : ℕ) → k < 1 → get_or (page ∷ []) k p ≡ p → page ≡ p
-only_page page p zero lt e = e
-only_page page p (suc k) lt e = absurd (omega arith)
-
-was_free : (old : Frames) (page : ℕ) (new : Frames) → Takes old page new → page_at old page ≡ None
-was_free old page new t = elim (cases_lt page (length old)) [
-  | inl lt ↦ (t.reused lt).0
-  | inr le ↦ get_or_past old page None le
-]
-
-grown_same : (old : Frames) (page p : ℕ) → page ≡ length old → p ≢ page → page_at (old ++ Some (empty_page page) ∷ []) p ≡ page_at old p
-grown_same old page p e n = elim (cases_lt p (length old)) [
-  | inl lt ↦ get_or_append_left old (Some (empty_page page) ∷ []) None p lt
-  | inr le ↦ get_or_past (old ++ Some (empty_page page) ∷ []) p None (omega (arith, length_push old (Some (empty_page page)))) ∙ sym (get_or_past old p None le)
-]
-
-same_page : (old : Frames) (page : ℕ) (new : Frames) → Takes old page new → (p : ℕ) → p ≢ page → page_at new p ≡ page_at old p
-same_page old page new t p n = elim (cases_lt page (length old)) [
-  | inl lt ↦ ap (λ (f : Frames). page_at f p) (t.reused lt).1 ∙ get_or-set_other old page p (Some (empty_page page)) None n
-  | inr le ↦ ap (λ (f : Frames). page_at f p) (t.grown le).2 ∙ grown_same old page p (t.grown le).0 n
-]
-
-pub takes_one : (old : Frames) (page : ℕ) (new : Frames) → Takes old page new → Exchanges old new [] (page ∷ [])
-takes_one old page new t = record {
-  taken = λ p there. inr (subst (λ q. page_at old q ≡ None) (only_page page p there.0 there.1 there.2) (was_free old page new t));
-  given_back = λ p there not. absurd (omega (arith, there.1));
-  others = λ p none not. same_page old page new t p (λ e. not (0, omega arith, sym e));
-}

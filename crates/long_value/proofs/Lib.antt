@@ -6,5 +6,4 @@ pub mod Changes
 pub mod Held
 pub mod Reading
 pub mod Putting
-pub mod Sharing
 pub mod AfterChanges

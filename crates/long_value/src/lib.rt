@@ -7,7 +7,4 @@ mod laws;
 mod values;
 
 pub use laws::{identifiers_differ, values_after_a_change};
-pub use values::{LongId, LongValues, long_values_stay};
-
-#[cfg(test)]
-mod tests;
+pub use values::{LongId, LongValues, other_long_values_stay};

@@ -1,8 +1,8 @@
 //! Long values in a tree of a space that it shares with other trees.
 
-ghost use Rattle.std.specs.Prelude.{◌≡◌, ◌≤◌, ◌<◌, ◌*◌, suc, true, false, Some, is_some, [], length, take, nat_lt, if◌then◌else◌, IfOk, OnErr, OnOk};
-ghost use Rattle.page_space.specs.Frames.{Frames, Takes};
-ghost use Rattle.btree_inplace.specs.Trees.{Exchanges, Stay};
+ghost use Rattle.std.specs.Prelude.{◌≡◌, ◌≤◌, ◌<◌, ◌*◌, ℕ, suc, List, true, false, Some, is_some, [], length, take, nat_lt, if◌then◌else◌, IfOk, OnErr, OnOk};
+ghost use Rattle.page_space.specs.Frames.{Frames};
+ghost use Rattle.btree_inplace.specs.Trees.{AreApart, Exchanges};
 ghost use Rattle.long_value.specs.Values.{LongValue, Values, chunk_of, head_data, put_value, released, value_of, without_value};
 ghost use Rattle.long_value.specs.Stores.{HasNoValue, HasValues, HoldsValue, IsLongStore, id_bytes, own_pages, read_upto};
 ghost use Rattle.long_value.specs.declared.values.LongValues.{LongValues};
@@ -10,7 +10,7 @@ ghost use Rattle.long_value.specs.declared.values.LongValues.{LongValues};
 use crate::chunks::{
     CHUNK_BYTES, chunk_count, chunk_key, copy_chunk, head_bytes, put_value, take_chunks,
 };
-use btree_inplace::{Tree, tree_stays};
+use btree_inplace::{Tree, other_tree_stays};
 use byteorder::{ByteOrder, LittleEndian};
 use jet_base::OutOfMemory;
 use page_space::Space;
@@ -185,9 +185,9 @@ impl LongValues {
     }
 }
 
-/// A change of other pages leaves the values as they are.
-pub fn long_values_stay()
-    ensures { (old new : Frames) (store : LongValues) (values : Values) → HasValues old store values → Stay old new (own_pages old store) → HasValues new store values × (own_pages new store ≡ own_pages old store) }
+/// A change of one tree of a space leaves the values of a store that has no page of it.
+pub fn other_long_values_stay()
+    ensures { (old new : Frames) (before after : List ℕ) (store : LongValues) (values : Values) → Exchanges old new before after → HasValues old store values → AreApart (own_pages old store) before → HasValues new store values × (own_pages new store ≡ own_pages old store) × AreApart (own_pages new store) after }
 {
-    tree_stays();
+    other_tree_stays();
 }

@@ -3,11 +3,10 @@ use Rattle.std.proofs.Common.{◌≡◌, ℕ, ◌<◌, false, Some, Result, Ok, 
 use Rattle.std.specs.Prelude.{OnOk, OnErr}
 use Rattle.std.specs.List.{position_from}
 use Rattle.std.proofs.lemmas.List.{length-set, length_push}
-use Rattle.btree_inplace.specs.Trees.{Exchanges}
 use Rattle.page_space.specs.Frames.{Frames}
 use Rattle.column_set.specs.RecordValues.{put_by_key}
 use Rattle.table_store.specs.StoredRows.{StoredRows, has_table, stored_rows, with_rows}
-use Rattle.table_store.specs.TableTrees.{IsTableTree, LeavesOthers, own_pages, rows_of}
+use Rattle.table_store.specs.TableTrees.{IsTableTree, LeavesOthers, TakesOnly, own_pages, rows_of}
 use Rattle.table_store.specs.StoreView.{AreTables, stores_of, table_at}
 use Rattle.table_store.specs.declared.table_tree.TableTree.{TableTree}
 use Rattle.table_store.proofs.TableLists.{ChangesOne, IsFirst, added_stores, changed_stores, first_within, found_rows, found_table, is_named, kept_push, kept_set, kept_with, place_within, same_rows, unchanged_stores}
@@ -28,10 +27,10 @@ pub record Changes (old : Frames) (tables : List TableTree) (new : Frames) (numb
   pub tree : IsTableTree new changed
   pub name : changed.table ≡ found.table
   pub leaves : LeavesOthers old new (own_pages old found) (own_pages new changed)
-  pub pages : Exchanges old new (own_pages old found) (own_pages new changed)
+  pub pages : TakesOnly old new (own_pages old found) (own_pages new changed)
 
 pub change_of : (old : Frames) (tables given : List TableTree) (new : Frames) (number k : ℕ) (found changed : TableTree) → given ≡ tables → Some k ≡ position_from (is_named number) 0 given → found ≡ get_or tables k found
-    → AreTables old tables → IsTableTree new changed → changed.table ≡ found.table → LeavesOthers old new (own_pages old found) (own_pages new changed) → Exchanges old new (own_pages old found) (own_pages new changed) → Changes old tables new number k found changed
+    → AreTables old tables → IsTableTree new changed → changed.table ≡ found.table → LeavesOthers old new (own_pages old found) (own_pages new changed) → TakesOnly old new (own_pages old found) (own_pages new changed) → Changes old tables new number k found changed
 change_of old tables given new number k found changed same place is are tree name leaves pages = record {
   pages = pages;
   are = are;
@@ -47,7 +46,7 @@ changes_one : (old : Frames) (tables : List TableTree) (new : Frames) (number k 
 changes_one old tables new number k found changed c =
     kept_set old new tables k changed (first_within (is_named number) tables k c.first) (c.name ∙ ap (λ (x : TableTree). x.table) (found_table tables number k found c.first c.is)) c.are c.tree
     (subst (λ (x : TableTree). LeavesOthers old new (own_pages old x) (own_pages new changed)) (found_table tables number k found c.first c.is) c.leaves)
-    (subst (λ (x : TableTree). Exchanges old new (own_pages old x) (own_pages new changed)) (found_table tables number k found c.first c.is) c.pages)
+    (subst (λ (x : TableTree). TakesOnly old new (own_pages old x) (own_pages new changed)) (found_table tables number k found c.first c.is) c.pages)
 
 pub kept_changed : (old : Frames) (tables : List TableTree) (new : Frames) (number k : ℕ) (found changed : TableTree) → Changes old tables new number k found changed → AreTables new (set tables k changed)
 kept_changed old tables new number k found changed c =
@@ -75,10 +74,10 @@ kept_stores old tables new number k found changed stores c view kept =
 
 -- ---- one table more
 
-pub kept_added : (old new : Frames) (tables : List TableTree) (made : TableTree) → AreTables old tables → has_table (stores_of old tables) made.table.0 ≡ false → IsTableTree new made → LeavesOthers old new [] (own_pages new made) → Exchanges old new [] (own_pages new made) → AreTables new (tables ++ made ∷ [])
+pub kept_added : (old new : Frames) (tables : List TableTree) (made : TableTree) → AreTables old tables → has_table (stores_of old tables) made.table.0 ≡ false → IsTableTree new made → LeavesOthers old new [] (own_pages new made) → TakesOnly old new [] (own_pages new made) → AreTables new (tables ++ made ∷ [])
 kept_added old new tables made are absent is leaves pages = kept_with old new tables (tables ++ made ∷ []) (length tables) [] made are (kept_push old new tables made are absent is leaves pages)
 
-pub stores_added : (old new : Frames) (tables : List TableTree) (made : TableTree) → AreTables old tables → has_table (stores_of old tables) made.table.0 ≡ false → IsTableTree new made → LeavesOthers old new [] (own_pages new made) → Exchanges old new [] (own_pages new made) → rows_of new made ≡ []
+pub stores_added : (old new : Frames) (tables : List TableTree) (made : TableTree) → AreTables old tables → has_table (stores_of old tables) made.table.0 ≡ false → IsTableTree new made → LeavesOthers old new [] (own_pages new made) → TakesOnly old new [] (own_pages new made) → rows_of new made ≡ []
     → stores_of new (tables ++ made ∷ []) ≡ stores_of old tables ++ (made.table.0, []) ∷ []
 stores_added old new tables made are absent is leaves pages none =
     added_stores old new tables made

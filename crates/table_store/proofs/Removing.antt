@@ -4,14 +4,12 @@ use Rattle.std.specs.Prelude.{AllPairs, Contains, remove}
 use Rattle.std.proofs.lemmas.Bool.{cases_eq, cases_lt, eqb-true}
 use Rattle.std.proofs.lemmas.List.Edits.{get_or-remove_above, get_or-remove_below, length-remove}
 use Rattle.std.proofs.lemmas.List.Quantifiers.{all_pairs_remove}
-use Rattle.btree_inplace.specs.Trees.{Exchanges}
 use Rattle.page_space.specs.Frames.{Frames}
 use Rattle.table_store.specs.StoredRows.{StoredRows, without_table}
-use Rattle.table_store.specs.TableTrees.{IsTableTree, LeavesOthers, Stays, own_pages, rows_of}
+use Rattle.table_store.specs.TableTrees.{IsTableTree, LeavesOthers, Stays, TakesOnly, own_pages, rows_of}
 use Rattle.table_store.specs.StoreView.{AreTables, no_table, stores_of, table_at}
 use Rattle.table_store.specs.declared.table_tree.TableTree.{TableTree}
 use Rattle.table_store.proofs.Finding.{by_test}
-use Rattle.table_store.proofs.Sharing.{still_taken}
 use Rattle.table_store.proofs.TableLists.{IsFirst, both_apart, first_within, is_named, same_stores}
 
 -- where a table of those that are left stood
@@ -52,7 +50,7 @@ left_at tables k i h lt n = elim (cases_lt i k) [
       (i - 1, omega (arith, length-remove tables k h, more), get_or-remove_above tables k no_table (i - 1) (omega (arith, more)) h ∙ ap (table_at tables) back)
 ]
 
-pub kept_removed : (old new : Frames) (tables : List TableTree) (k : ℕ) → k < length tables → AreTables old tables → LeavesOthers old new (own_pages old (table_at tables k)) [] → Exchanges old new (own_pages old (table_at tables k)) [] → AreTables new (remove tables k)
+pub kept_removed : (old new : Frames) (tables : List TableTree) (k : ℕ) → k < length tables → AreTables old tables → LeavesOthers old new (own_pages old (table_at tables k)) [] → TakesOnly old new (own_pages old (table_at tables k)) [] → AreTables new (remove tables k)
 kept_removed old new tables k h are leaves pages =
     let stays = other_stays old new tables k h are leaves in
     record {
@@ -63,7 +61,7 @@ kept_removed old new tables k h are leaves pages =
           both_apart new (table_at (remove tables k) i) (table_at (remove tables k) j) (table_at tables s.0) (table_at tables t.0) s.1.at t.1.at
           (λ p a b. are.apart s.0 t.0 s.1.within t.1.within (two_places tables k i j s.0 t.0 s.1 t.1 n) p
           (subst (λ (l : List ℕ). Contains l p) (stays s.0 s.1.within s.1.other).pages a) (subst (λ (l : List ℕ). Contains l p) (stays t.0 t.1.within t.1.other).pages b));
-      owned = λ p taken. elim (still_taken old new (own_pages old (table_at tables k)) [] pages p taken) [
+      owned = λ p taken. elim (pages p taken) [
         | inl own ↦ absurd (omega (arith, own.1))
         | inr was ↦
             let o = are.owned p was.0 in

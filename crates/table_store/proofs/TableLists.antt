@@ -6,13 +6,12 @@ use Rattle.std.proofs.lemmas.Bool.{cases_eq}
 use Rattle.std.proofs.lemmas.List.{get_or-set_same, get_or-set_other, get_or_append_left, get_or_at, get_or_default, length-set, length_push, map_push}
 use Rattle.std.proofs.lemmas.List.Quantifiers.{all_pairs_push}
 use Rattle.page_space.specs.Frames.{Frames}
-use Rattle.btree_inplace.specs.Trees.{Exchanges}
+use Rattle.btree_inplace.specs.Trees.{AreApart}
 use Rattle.table_store.specs.StoredRows.{StoredRows, has_table, stored_rows, with_rows}
-use Rattle.table_store.specs.TableTrees.{AreApart, IsTableTree, LeavesOthers, Stays, own_pages, rows_of}
+use Rattle.table_store.specs.TableTrees.{IsTableTree, LeavesOthers, Stays, TakesOnly, own_pages, rows_of}
 use Rattle.table_store.specs.StoreView.{AreTables, no_table, stores_of, table_at}
 use Rattle.table_store.specs.declared.table_tree.TableTree.{TableTree}
 use Rattle.table_store.proofs.Finding.{by_test}
-use Rattle.table_store.proofs.Sharing.{still_taken}
 
 -- ---- the place of a table
 
@@ -114,7 +113,7 @@ pub record ChangesOne (old : Frames) (tables : List TableTree) (new : Frames) (a
   pub tree : IsTableTree new changed
   pub leaves : LeavesOthers old new before (own_pages new changed)
   pub once : AllPairs (λ a b. a.table.0 ≢ b.table.0) after
-  pub pages : Exchanges old new before (own_pages new changed)
+  pub pages : TakesOnly old new before (own_pages new changed)
   pub place : k < length after
   pub kept : (i : ℕ) → i < length tables → i ≢ k → (i < length after) × (table_at after i ≡ table_at tables i)
   pub gone : (i : ℕ) → i < length tables → i ≡ k → before ≡ own_pages old (table_at tables i)
@@ -149,7 +148,7 @@ kept_with old new tables after k before changed are is =
               (subst (λ (l : List ℕ). Contains l p) (other i lt m).0.pages a) (subst (λ (l : List ℕ). Contains l p) (other j lt' o).0.pages b))
         ]
       ];
-      owned = λ p taken. elim (still_taken old new before (own_pages new changed) is.pages p taken) [
+      owned = λ p taken. elim (is.pages p taken) [
         | inl own ↦ (k, is.place, subst (λ (x : TableTree). Contains (own_pages new x) p) (sym is.here) own)
         | inr was ↦
             let o = are.owned p was.0 in
@@ -172,7 +171,7 @@ same_number (x ∷ xs) (suc k) changed name zero d = refl
 same_number (x ∷ xs) (suc k) changed name (suc i) d = same_number xs k changed name i d
 
 pub kept_set : (old new : Frames) (tables : List TableTree) (k : ℕ) (changed : TableTree) → k < length tables → changed.table ≡ (table_at tables k).table → AreTables old tables → IsTableTree new changed
-    → LeavesOthers old new (own_pages old (table_at tables k)) (own_pages new changed) → Exchanges old new (own_pages old (table_at tables k)) (own_pages new changed) → ChangesOne old tables new (set tables k changed) k (own_pages old (table_at tables k)) changed
+    → LeavesOthers old new (own_pages old (table_at tables k)) (own_pages new changed) → TakesOnly old new (own_pages old (table_at tables k)) (own_pages new changed) → ChangesOne old tables new (set tables k changed) k (own_pages old (table_at tables k)) changed
 kept_set old new tables k changed lt name are is leaves pages = record {
   pages = pages;
   place = omega (arith, length-set tables k changed, lt);
@@ -197,7 +196,7 @@ other_number frames (x ∷ xs) number absent (suc i) d h =
     (λ t. absurd (true≢false (rw t at absent)))
     (λ t. other_number frames xs number (rw t at absent) i d (omega arith))
 
-pub kept_push : (old new : Frames) (tables : List TableTree) (changed : TableTree) → AreTables old tables → has_table (stores_of old tables) changed.table.0 ≡ false → IsTableTree new changed → LeavesOthers old new [] (own_pages new changed) → Exchanges old new [] (own_pages new changed)
+pub kept_push : (old new : Frames) (tables : List TableTree) (changed : TableTree) → AreTables old tables → has_table (stores_of old tables) changed.table.0 ≡ false → IsTableTree new changed → LeavesOthers old new [] (own_pages new changed) → TakesOnly old new [] (own_pages new changed)
     → ChangesOne old tables new (tables ++ changed ∷ []) (length tables) [] changed
 kept_push old new tables changed are absent is leaves pages = record {
   pages = pages;

@@ -1,8 +1,9 @@
 -- What the fields of a store show, and what they keep.
 use Rattle.std.specs.Prelude.{◌≢◌, ℕ, ◌<◌, List, map, length, slice_index_or, AllPairs, Contains}
 use Rattle.page_space.specs.Frames.{Frames, IsTaken}
+use Rattle.btree_inplace.specs.Trees.{AreApart}
 use Rattle.table_store.specs.StoredRows.{StoredRows}
-use Rattle.table_store.specs.TableTrees.{AreApart, IsTableTree, own_pages, rows_of}
+use Rattle.table_store.specs.TableTrees.{IsTableTree, own_pages, rows_of}
 use Rattle.table_store.specs.declared.table_tree.TableTree.{TableTree}
 use Rattle.table_store.specs.declared.store.RecordStore.TheInside.{Inside}
 

@@ -7,6 +7,3 @@ mod table_tree;
 
 pub use laws::{rows_after_a_change, rows_beside_a_new_table, rows_without_a_table};
 pub use store::RecordStore;
-
-#[cfg(test)]
-mod tests;

@@ -5,10 +5,9 @@ ghost use Rattle.std.specs.Option.{option_copied, option_map};
 ghost use Rattle.column_set.specs.RecordValues.{lookup_by_key, put_by_key};
 ghost use Rattle.index_derive.specs.Entries.{own_order};
 ghost use Rattle.cursor_nav.specs.Places.{entry_after, entry_before};
-ghost use Rattle.btree_inplace.specs.Trees.{Exchanges};
-ghost use Rattle.table_store.specs.TableTrees.{IsTableTree, LeavesOthers, own_pages, rows_of};
+ghost use Rattle.table_store.specs.TableTrees.{IsTableTree, LeavesOthers, TakesOnly, own_pages, rows_of};
 
-use btree_inplace::{Tree, other_tree_stays, tree_stays};
+use btree_inplace::{Tree, other_tree_stays, taken_pages};
 use index_derive::Place;
 use jet_base::{OutOfMemory, TableId};
 use page_space::Space;
@@ -24,12 +23,12 @@ impl TableTree {
     /// A table without a row.
     pub fn new(space: &mut Space, table: TableId) -> Result<TableTree, OutOfMemory>
         ensures tree { IfOk result (λ made. IsTableTree space.new made × (made.table ≡ table) × (rows_of space.new made ≡ [])) }
-        ensures pages { IfOk result (λ made. Exchanges space.old space.new [] (own_pages space.new made)) }
+        ensures pages { IfOk result (λ made. TakesOnly space.old space.new [] (own_pages space.new made)) }
         ensures others { IfOk result (λ made. LeavesOthers space.old space.new [] (own_pages space.new made)) }
         ensures err { OnErr result (space.new ≡ space.old) }
     {
         other_tree_stays();
-        tree_stays();
+        taken_pages();
         match Tree::new(space) {
             Ok(tree) => Ok(TableTree { table, tree }),
             Err(fault) => Err(fault),
@@ -59,11 +58,11 @@ impl TableTree {
         ensures table { self.new.table ≡ self.old.table }
         ensures ok { OnOk result (rows_of space.new self.new ≡ put_by_key bookmark.now row.now (rows_of space.old self.old)) }
         ensures err { OnErr result (rows_of space.new self.new ≡ rows_of space.old self.old) }
-        ensures pages { Exchanges space.old space.new (own_pages space.old self.old) (own_pages space.new self.new) }
+        ensures pages { TakesOnly space.old space.new (own_pages space.old self.old) (own_pages space.new self.new) }
         ensures others { LeavesOthers space.old space.new (own_pages space.old self.old) (own_pages space.new self.new) }
     {
         other_tree_stays();
-        tree_stays();
+        taken_pages();
         match self.tree.insert(space, bookmark, row, row.len()) {
             Ok(()) => Ok(()),
             Err(fault) => Err(fault),
@@ -73,11 +72,11 @@ impl TableTree {
     /// Gives the pages of the table to the space. It takes no memory.
     pub fn give_back(self, space: &mut Space)
         requires { IsTableTree space.old self }
-        ensures pages { Exchanges space.old space.new (own_pages space.old self) [] }
+        ensures pages { TakesOnly space.old space.new (own_pages space.old self) [] }
         ensures others { LeavesOthers space.old space.new (own_pages space.old self) [] }
     {
         other_tree_stays();
-        tree_stays();
+        taken_pages();
         self.tree.give_back(space);
     }
 

@@ -2,5 +2,8 @@
 use Rattle.btree_inplace.proofs.Laws.{taken_from, taken_then}
 use Rattle.btree_inplace.proofs.taken_pages.Goals as goal
 
-pub returns : goal.returns
-returns c old new before after is e p = (taken_then old new before after e p, taken_from old new before after is e p)
+pub returns-clause-only : goal.returns-clause-only
+returns-clause-only c old new before after e p taken = taken_then old new before after e p taken
+
+pub returns-clause-all : goal.returns-clause-all
+returns-clause-all c old new before tree is e p there = taken_from old new before tree is e p there

@@ -2,9 +2,8 @@
 use Rattle.std.proofs.Common.{ℕ, List, [], sym, ap, subst, ◌∙◌, arith, true≢false}
 use Rattle.std.specs.Prelude.{is_some}
 use Rattle.std.specs.List.{position_from}
-use Rattle.btree_inplace.specs.Trees.{Exchanges}
 use Rattle.table_store.specs.StoredRows.{StoredRows, has_table, without_table}
-use Rattle.table_store.specs.TableTrees.{LeavesOthers, own_pages}
+use Rattle.table_store.specs.TableTrees.{LeavesOthers, TakesOnly, own_pages}
 use Rattle.table_store.specs.StoreView.{AreTables, stores_of}
 use Rattle.table_store.specs.declared.table_tree.TableTree.{TableTree}
 use Rattle.table_store.proofs.Removing.{kept_removed, stores_removed}
@@ -26,7 +25,7 @@ invariant_of-self c =
     subst (AreTables c.give_back.new.space) (sym c.remove-removed.ensures.items)
     (kept_removed old c.give_back.new.space tables c.in-Some.i (first_within (is_named c.args.table.0) tables c.in-Some.i first) c.self.invariant
     (subst (λ (x : TableTree). LeavesOthers old c.give_back.new.space (own_pages old x) []) at c.give_back.ensures.others)
-    (subst (λ (x : TableTree). Exchanges old c.give_back.new.space (own_pages old x) []) at c.give_back.ensures.pages))
+    (subst (λ (x : TableTree). TakesOnly old c.give_back.new.space (own_pages old x) []) at c.give_back.ensures.pages))
 
 pub returns-in-Some : goal.returns-in-Some
 returns-in-Some c =

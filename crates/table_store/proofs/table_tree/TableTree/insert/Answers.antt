@@ -36,7 +36,7 @@ returns-in-Ok-clause-ok c = put c
 
 pub returns-in-Ok-clause-others : goal.returns-in-Ok-clause-others
 returns-in-Ok-clause-others c =
-    leaves_others c.tree_stays.ensures c.other_tree_stays.ensures c.args.space.now c.insert.new.space (pages_of c.args.space.now c.args.self.now.tree) (pages_of c.insert.new.space c.insert.new.self) c.in-Ok.ensures.pages
+    leaves_others c.other_tree_stays.ensures c.args.space.now c.insert.new.space (pages_of c.args.space.now c.args.self.now.tree) (pages_of c.insert.new.space c.insert.new.self) c.in-Ok.ensures.pages
 
 pub returns-in-Err-clause-tree : goal.returns-in-Err-clause-tree
 returns-in-Err-clause-tree c = record {
@@ -50,4 +50,12 @@ returns-in-Err-clause-err c = ap (map key_and_data) c.in-Err.ensures.err
 
 pub returns-in-Err-clause-others : goal.returns-in-Err-clause-others
 returns-in-Err-clause-others c =
-    leaves_others c.tree_stays.ensures c.other_tree_stays.ensures c.args.space.now c.insert.new.space (pages_of c.args.space.now c.args.self.now.tree) (pages_of c.insert.new.space c.insert.new.self) c.in-Err.ensures.pages
+    leaves_others c.other_tree_stays.ensures c.args.space.now c.insert.new.space (pages_of c.args.space.now c.args.self.now.tree) (pages_of c.insert.new.space c.insert.new.self) c.in-Err.ensures.pages
+
+pub returns-in-Ok-clause-pages : goal.returns-in-Ok-clause-pages
+returns-in-Ok-clause-pages c =
+    c.taken_pages.ensures.only c.args.space.now c.insert.new.space (pages_of c.args.space.now c.args.self.now.tree) (pages_of c.insert.new.space c.insert.new.self) c.in-Ok.ensures.pages
+
+pub returns-in-Err-clause-pages : goal.returns-in-Err-clause-pages
+returns-in-Err-clause-pages c =
+    c.taken_pages.ensures.only c.args.space.now c.insert.new.space (pages_of c.args.space.now c.args.self.now.tree) (pages_of c.insert.new.space c.insert.new.self) c.in-Err.ensures.pages

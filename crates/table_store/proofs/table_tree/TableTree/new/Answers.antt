@@ -1,12 +1,12 @@
--- A new tree has one page, which was free.
-use Rattle.std.proofs.Common.{◌≡◌, [], ◌∷◌, map, refl, sym, ap, subst}
+-- A new tree has no node, and its page was free.
+use Rattle.std.proofs.Common.{◌≡◌, [], map, refl, sym, ap, subst}
 use Rattle.btree_inplace.specs.Order.{key_and_data}
-use Rattle.btree_inplace.specs.Trees.{Exchanges, nodes_of, pages_of}
+use Rattle.btree_inplace.specs.Trees.{nodes_of, pages_of}
 use Rattle.index_derive.specs.Entries.{own_order}
 use Rattle.cursor_nav.specs.Places.{are_sorted}
 use Rattle.table_store.specs.StoredRows.{HaveShortBookmarks, StoredRows}
 use Rattle.table_store.proofs.NodeRows.{no_rows_short}
-use Rattle.table_store.proofs.Sharing.{leaves_others, takes_one}
+use Rattle.table_store.proofs.Sharing.{leaves_others}
 use Rattle.table_store.proofs.table_tree.TableTree.new.Goals as goal
 
 pub returns-in-Ok-clause-tree : goal.returns-in-Ok-clause-tree
@@ -17,15 +17,7 @@ returns-in-Ok-clause-tree c =
 
 pub returns-in-Ok-clause-others : goal.returns-in-Ok-clause-others
 returns-in-Ok-clause-others c =
-    let old = c.args.space.now in
-    let new = c.new.new.space in
-    let tree = c.in-Ok.tree in
-    let one : Exchanges old new [] (tree.root ∷ []) = takes_one old tree.root new c.in-Ok.ensures.taken in
-    leaves_others c.tree_stays.ensures c.other_tree_stays.ensures old new [] (pages_of new tree) (subst (Exchanges old new []) (sym c.in-Ok.ensures.tree.2) one)
+    leaves_others c.other_tree_stays.ensures c.args.space.now c.new.new.space [] (pages_of c.new.new.space c.in-Ok.tree) c.in-Ok.ensures.pages
 
 pub returns-in-Ok-clause-pages : goal.returns-in-Ok-clause-pages
-returns-in-Ok-clause-pages c =
-    let old = c.args.space.now in
-    let new = c.new.new.space in
-    let tree = c.in-Ok.tree in
-    subst (Exchanges old new []) (sym c.in-Ok.ensures.tree.2) (takes_one old tree.root new c.in-Ok.ensures.taken)
+returns-in-Ok-clause-pages c = c.taken_pages.ensures.only c.args.space.now c.new.new.space [] (pages_of c.new.new.space c.in-Ok.tree) c.in-Ok.ensures.pages
