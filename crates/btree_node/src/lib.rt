@@ -69,6 +69,3 @@ fn size_with(page: &Page, i: usize, need: usize, m: usize) -> usize
     let at = if m < i { m } else { m - 1 };
     NODE_HEAD_BYTES + page.key(at).len() + page.extent(at)
 }
-
-#[cfg(test)]
-mod tests;

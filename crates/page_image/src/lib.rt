@@ -8,6 +8,3 @@ mod spelling;
 
 pub use laws::nodes_of_a_page_are_few;
 pub use page::{BadPage, Full, Page};
-
-#[cfg(test)]
-mod tests;

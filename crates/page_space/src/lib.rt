@@ -127,6 +127,3 @@ impl Space {
         let _ = self.free.push(page);
     }
 }
-
-#[cfg(test)]
-mod tests;

@@ -150,6 +150,3 @@ impl Buckets {
         }
     }
 }
-
-#[cfg(test)]
-mod tests;

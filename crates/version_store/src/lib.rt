@@ -13,6 +13,3 @@ mod versions;
 pub use calls::{By, ChangeKind, Reader, Undone, Variant};
 pub use fault::VersionFault;
 pub use versions::Versions;
-
-#[cfg(test)]
-mod tests;

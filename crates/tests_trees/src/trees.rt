@@ -1,0 +1,256 @@
+//! Trees in one space.
+
+ghost use Rattle.std.specs.Prelude.{ℕ, ◌<◌, Contains, IfOk};
+ghost use Rattle.btree_inplace.specs.Trees.{Exchanges, IsTree, pages_of};
+
+use btree_inplace::{Tree, nodes_fit_their_space, no_page_is_empty, other_tree_stays};
+use jet_base::OutOfMemory;
+use page_space::Space;
+use std::alloc::Global;
+use std::process::Abort;
+
+/// How many keys a tree of these tests may have.
+const COUNT: usize = 1_000;
+
+#[test]
+fn an_empty_tree_has_no_node(rt: HostRuntime) {
+    let mut space = Space::new(rt.alloc());
+    let tree = Tree::new(&mut space).expect(&rt, "memory");
+    nodes_fit_their_space();
+    no_page_is_empty();
+    assert_eq!(&rt; space.len(), 1);
+    assert!(&rt; tree.get(&space, b"key").is_none());
+    assert!(&rt; tree.first(&space).is_none());
+    assert!(&rt; tree.last(&space).is_none());
+    assert!(&rt; tree.at_or_after(&space, b"").is_none());
+    assert!(&rt; tree.at_or_before(&space, b"key").is_none());
+    assert!(&rt; tree.after(&space, b"").is_none());
+    assert!(&rt; tree.before(&space, b"key").is_none());
+}
+
+/// What the plain list has under a number: data of so many equal bytes.
+#[derive(Clone, Copy)]
+struct Kept {
+    len: usize,
+    byte: u8,
+}
+
+/// A number's key: four bytes that keep its order, and up to 100 more.
+fn key_of(alloc: Global, number: usize) -> Vec<u8> {
+    let mut key = Vec::new(alloc);
+    let _ = key.extend_from_slice(&((number % 65_536) as u32).to_be_bytes());
+    let _ = key.resize(4 + number % 11 * 10, b'k');
+    key
+}
+
+fn data_of(alloc: Global, kept: Kept) -> Vec<u8> {
+    let mut data = Vec::new(alloc);
+    let _ = data.resize(kept.len, kept.byte);
+    data
+}
+
+/// Puts a node in, unless the key is there, and says whether it did.
+fn put(space: &mut Space, tree: &mut Tree, key: &[u8], data: &[u8], extent: usize) -> bool
+    requires { IsTree space.old tree.old }
+    ensures tree { IsTree space.new tree.new }
+    ensures pages { Exchanges space.old space.new (pages_of space.old tree.old) (pages_of space.new tree.new) }
+{
+    if key.len() > 755 || data.len() > extent || extent > 1_200 {
+        return false;
+    }
+    if tree.get(space, key).is_some() {
+        return false;
+    }
+    tree.insert(space, key, data, extent).is_ok()
+}
+
+/// Gives a key that is there another extent and other data, and says whether it did.
+fn rewrite(space: &mut Space, tree: &mut Tree, key: &[u8], data: &[u8], extent: usize) -> bool
+    requires { IsTree space.old tree.old }
+    ensures { IsTree space.new tree.new }
+{
+    if key.len() > 755 || data.len() > extent || extent > 1_200 {
+        return false;
+    }
+    match tree.get(space, key) {
+        Some(old) if old.len() <= extent => {}
+        _ => return false,
+    }
+    match tree.widen(space, key, extent) {
+        Ok(()) => {}
+        Err(_) => return false,
+    }
+    tree.replace(space, key, data);
+    true
+}
+
+/// Takes a key out, if it is there, and says whether it did.
+fn take(space: &mut Space, tree: &mut Tree, key: &[u8]) -> bool
+    requires { IsTree space.old tree.old }
+    ensures tree { IsTree space.new tree.new }
+    ensures pages { Exchanges space.old space.new (pages_of space.old tree.old) (pages_of space.new tree.new) }
+{
+    if tree.get(space, key).is_none() {
+        return false;
+    }
+    tree.remove(space, key);
+    true
+}
+
+/// Changes one number, in the tree and in the list.
+fn change(
+    alloc: Global,
+    space: &mut Space,
+    tree: &mut Tree,
+    list: &mut [Option<Kept>; 1_000],
+    number: usize,
+    turn: u32,
+)
+    requires tree { IsTree space.old tree.old }
+    requires number { number < 1000 }
+    ensures { IsTree space.new tree.new }
+{
+    let key = key_of(alloc, number);
+    let extent = (turn % 700) as usize;
+    let kept = Kept {
+        len: extent / 2,
+        byte: (turn % 256) as u8,
+    };
+    let data = data_of(alloc, kept);
+    if list[number].is_none() {
+        if put(space, tree, &key, &data, extent) {
+            list[number] = Some(kept);
+        }
+    } else if turn % 3 == 0 {
+        if take(space, tree, &key) {
+            list[number] = None;
+        }
+    } else if rewrite(space, tree, &key, &data, extent) {
+        list[number] = Some(kept);
+    }
+}
+
+/// Walks the tree and the list side by side, both ways.
+fn check_same(
+    rt: &impl Abort,
+    alloc: Global,
+    space: &Space,
+    tree: &Tree,
+    list: &[Option<Kept>; 1_000],
+)
+    requires { IsTree space.now tree.now }
+{
+    let mut past = Vec::new(alloc);
+    for (number, kept) in list.iter().enumerate() {
+        let key = key_of(alloc, number);
+        if let Some(kept) = kept {
+            let data = data_of(alloc, *kept);
+            match tree.at_or_after(space, &past) {
+                Some((next, found)) => assert!(rt; *next == *key && *found == *data, "{number}"),
+                None => assert!(rt; false, "{number} is not there"),
+            }
+            match tree.at_or_before(space, &key) {
+                Some((last, found)) => assert!(rt; *last == *key && *found == *data, "{number}"),
+                None => assert!(rt; false, "{number} is not there"),
+            }
+            past = key;
+            let _ = past.push(0);
+        } else {
+            assert!(rt; tree.get(space, &key).is_none(), "{number}");
+        }
+    }
+    assert!(rt; tree.at_or_after(space, &past).is_none());
+}
+
+fn pages_taken(space: &Space) -> usize {
+    (0..space.len() as u32)
+        .filter(|page| space.is_taken(*page))
+        .count()
+}
+
+#[test]
+fn a_tree_is_its_list(rt: HostRuntime) {
+    let mut space = Space::new(rt.alloc());
+    let mut tree = Tree::new(&mut space).expect(&rt, "memory");
+    let mut list = [None; 1_000];
+    let mut random = 1u32;
+    for turn in 0..10_000u32 {
+        random = random.wrapping_mul(1_664_525).wrapping_add(1_013_904_223);
+        let number = (random / 256) as usize % COUNT;
+        change(rt.alloc(), &mut space, &mut tree, &mut list, number, turn);
+        if turn % 100 == 99 {
+            check_same(&rt, rt.alloc(), &space, &tree, &list);
+        }
+    }
+    assert!(&rt; pages_taken(&space) > 50);
+    for number in 0..COUNT {
+        // 7 and the count have no common factor, so this goes over all numbers.
+        let number = number * 7 % COUNT;
+        let key = key_of(rt.alloc(), number);
+        assert_eq!(&rt; take(&mut space, &mut tree, &key), list[number].is_some());
+    }
+    assert_eq!(&rt; pages_taken(&space), 1);
+    assert!(&rt; tree.first(&space).is_none());
+}
+
+/// A second tree in the space of a first one.
+fn second_tree(space: &mut Space, first: &Tree) -> Result<Tree, OutOfMemory>
+    requires { IsTree space.old first.now }
+    ensures { IfOk result (λ made. IsTree space.new made × IsTree space.new first.now × ((p : ℕ) → Contains (pages_of space.new made) p → ¬ Contains (pages_of space.new first.now) p)) }
+{
+    other_tree_stays();
+    match Tree::new(space) {
+        Ok(made) => Ok(made),
+        Err(fault) => Err(fault),
+    }
+}
+
+/// Puts a node into a tree beside another one, and says whether it did. No page is of both.
+fn put_beside(space: &mut Space, tree: &mut Tree, other: &Tree, key: &[u8], data: &[u8]) -> bool
+    requires tree { IsTree space.old tree.old }
+    requires other { IsTree space.old other.now }
+    requires apart { (p : ℕ) → Contains (pages_of space.old other.now) p → ¬ Contains (pages_of space.old tree.old) p }
+    ensures tree { IsTree space.new tree.new }
+    ensures other { IsTree space.new other.now }
+    ensures apart { (p : ℕ) → Contains (pages_of space.new tree.new) p → ¬ Contains (pages_of space.new other.now) p }
+{
+    other_tree_stays();
+    put(space, tree, key, data, data.len())
+}
+
+/// Gives a tree back beside another one. No page is of both.
+fn give_back_beside(tree: Tree, space: &mut Space, other: &Tree)
+    requires tree { IsTree space.old tree }
+    requires other { IsTree space.old other.now }
+    requires apart { (p : ℕ) → Contains (pages_of space.old other.now) p → ¬ Contains (pages_of space.old tree) p }
+    ensures { IsTree space.new other.now }
+{
+    other_tree_stays();
+    tree.give_back(space);
+}
+
+#[test]
+fn a_tree_gives_its_pages_back(rt: HostRuntime) {
+    let mut space = Space::new(rt.alloc());
+    let mut first = Tree::new(&mut space).expect(&rt, "memory");
+    let mut second = second_tree(&mut space, &first).expect(&rt, "memory");
+    for number in 0..4_000 {
+        let key = key_of(rt.alloc(), number);
+        let data = data_of(rt.alloc(), Kept { len: 90, byte: 1 });
+        assert!(&rt; put_beside(&mut space, &mut first, &second, &key, &data));
+        assert!(&rt; put_beside(&mut space, &mut second, &first, &key, b"second"));
+    }
+    let before = pages_taken(&space);
+    give_back_beside(first, &mut space, &second);
+    assert!(&rt; pages_taken(&space) < before / 2);
+    for number in 0..4_000 {
+        let key = key_of(rt.alloc(), number);
+        match second.get(&space, &key) {
+            Some(data) => assert!(&rt; data == b"second".as_slice(), "{number}"),
+            None => assert!(&rt; false, "{number} is not there"),
+        }
+        assert!(&rt; take(&mut space, &mut second, &key));
+    }
+    // What is left is the empty tree's root: each page of the first tree is free.
+    assert_eq!(&rt; pages_taken(&space), 1);
+}
