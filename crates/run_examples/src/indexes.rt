@@ -1,57 +1,20 @@
 //! Index entries: what each kind of index holds, seen by walks.
 #![tactic(auto, unfolding(script_text::specs::ScriptRun::running))]
 
-ghost use Rattle.std.specs.Prelude.{IsTrue, List, [], ◌∷◌, codes};
-ghost use Rattle.run_examples.specs.Tables.{runs_as};
+ghost use Rattle.std.specs.Prelude.{IsTrue, List, [], ◌∷◌, ◌++◌, codes};
+ghost use Rattle.run_examples.specs.Tables.{runs_as, small_table, letters_of_both_cases, three_letters_and_two};
 
 /// An index over a multi-valued column has one entry for each key: letters that differ in case alone are one.
 pub fn multi_valued_keys()
     ensures { IsTrue (runs_as 4194304 (
-        (codes "1 BeginSession", codes "JET_errSuccess")
-        ∷ (codes "1 CreateTable T", codes "JET_errSuccess")
-        ∷ (codes "1 AddColumn T id Long", codes "JET_errSuccess")
-        ∷ (codes "1 AddColumn T a Text", codes "JET_errSuccess")
-        ∷ (codes "1 AddColumn T m Text tagged multi", codes "JET_errSuccess")
-        ∷ (codes "1 CreateIndex T pk primary +id", codes "JET_errSuccess")
-        ∷ (codes "1 CreateIndex T im +m", codes "JET_errSuccess")
-        ∷ (codes "1 OpenTable 1 T", codes "JET_errSuccess")
-        ∷ (codes "1 PrepareUpdate 1 insert", codes "JET_errSuccess")
-        ∷ (codes "1 SetColumn 1 id 1 n:1", codes "JET_errSuccess")
-        ∷ (codes "1 SetColumn 1 m 0 t:b", codes "JET_errSuccess")
-        ∷ (codes "1 SetColumn 1 m 0 t:B", codes "JET_errSuccess")
-        ∷ (codes "1 SetColumn 1 m 0 t:a", codes "JET_errSuccess")
-        ∷ (codes "1 Update 1", codes "JET_errSuccess")
-        ∷ (codes "1 SetCurrentIndex 1 im", codes "JET_errSuccess")
-        ∷ (codes "1 RetrieveKey 1", codes "JET_errSuccess x:7f410000000000000001")
-        ∷ (codes "1 Move 1 Next", codes "JET_errSuccess")
-        ∷ (codes "1 RetrieveKey 1", codes "JET_errSuccess x:7f420000000000000001")
-        ∷ (codes "1 Move 1 Next", codes "JET_errNoCurrentRecord")
-        ∷ [])) }
+        letters_of_both_cases)) }
 {}
 
 /// Two multi-valued columns: the first gives the entries; with `crossproduct` there is one for each pair.
 pub fn cross_product()
     ensures { IsTrue (runs_as 4194304 (
-        (codes "1 BeginSession", codes "JET_errSuccess")
-        ∷ (codes "1 CreateTable T", codes "JET_errSuccess")
-        ∷ (codes "1 AddColumn T id Long", codes "JET_errSuccess")
-        ∷ (codes "1 AddColumn T a Text", codes "JET_errSuccess")
-        ∷ (codes "1 AddColumn T m Text tagged multi", codes "JET_errSuccess")
-        ∷ (codes "1 CreateIndex T pk primary +id", codes "JET_errSuccess")
-        ∷ (codes "1 AddColumn T k Text tagged multi", codes "JET_errSuccess")
-        ∷ (codes "1 CreateIndex T i3 +m +k", codes "JET_errSuccess")
-        ∷ (codes "1 CreateIndex T i6 crossproduct +m +k", codes "JET_errSuccess")
-        ∷ (codes "1 OpenTable 1 T", codes "JET_errSuccess")
-        ∷ (codes "1 PrepareUpdate 1 insert", codes "JET_errSuccess")
-        ∷ (codes "1 SetColumn 1 id 1 n:1", codes "JET_errSuccess")
-        ∷ (codes "1 SetColumn 1 m 0 t:a", codes "JET_errSuccess")
-        ∷ (codes "1 SetColumn 1 m 0 t:b", codes "JET_errSuccess")
-        ∷ (codes "1 SetColumn 1 m 0 t:c", codes "JET_errSuccess")
-        ∷ (codes "1 SetColumn 1 k 0 t:x", codes "JET_errSuccess")
-        ∷ (codes "1 SetColumn 1 k 0 t:y", codes "JET_errSuccess")
-        ∷ (codes "1 Update 1", codes "JET_errSuccess")
-        ∷ (codes "1 SetCurrentIndex 1 i3", codes "JET_errSuccess")
-        ∷ (codes "1 Move 1 First", codes "JET_errSuccess")
+        three_letters_and_two
+        ++ (codes "1 Move 1 First", codes "JET_errSuccess")
         ∷ (codes "1 Move 1 Next", codes "JET_errSuccess")
         ∷ (codes "1 Move 1 Next", codes "JET_errSuccess")
         ∷ (codes "1 Move 1 Next", codes "JET_errNoCurrentRecord")
@@ -69,26 +32,8 @@ pub fn cross_product()
 /// The same, counted.
 pub fn cross_product_counted()
     ensures { IsTrue (runs_as 4194304 (
-        (codes "1 BeginSession", codes "JET_errSuccess")
-        ∷ (codes "1 CreateTable T", codes "JET_errSuccess")
-        ∷ (codes "1 AddColumn T id Long", codes "JET_errSuccess")
-        ∷ (codes "1 AddColumn T a Text", codes "JET_errSuccess")
-        ∷ (codes "1 AddColumn T m Text tagged multi", codes "JET_errSuccess")
-        ∷ (codes "1 CreateIndex T pk primary +id", codes "JET_errSuccess")
-        ∷ (codes "1 AddColumn T k Text tagged multi", codes "JET_errSuccess")
-        ∷ (codes "1 CreateIndex T i3 +m +k", codes "JET_errSuccess")
-        ∷ (codes "1 CreateIndex T i6 crossproduct +m +k", codes "JET_errSuccess")
-        ∷ (codes "1 OpenTable 1 T", codes "JET_errSuccess")
-        ∷ (codes "1 PrepareUpdate 1 insert", codes "JET_errSuccess")
-        ∷ (codes "1 SetColumn 1 id 1 n:1", codes "JET_errSuccess")
-        ∷ (codes "1 SetColumn 1 m 0 t:a", codes "JET_errSuccess")
-        ∷ (codes "1 SetColumn 1 m 0 t:b", codes "JET_errSuccess")
-        ∷ (codes "1 SetColumn 1 m 0 t:c", codes "JET_errSuccess")
-        ∷ (codes "1 SetColumn 1 k 0 t:x", codes "JET_errSuccess")
-        ∷ (codes "1 SetColumn 1 k 0 t:y", codes "JET_errSuccess")
-        ∷ (codes "1 Update 1", codes "JET_errSuccess")
-        ∷ (codes "1 SetCurrentIndex 1 i3", codes "JET_errSuccess")
-        ∷ (codes "1 IndexRecordCount 1", codes "JET_errSuccess 3")
+        three_letters_and_two
+        ++ (codes "1 IndexRecordCount 1", codes "JET_errSuccess 3")
         ∷ (codes "1 SetCurrentIndex 1 i6", codes "JET_errSuccess")
         ∷ (codes "1 IndexRecordCount 1", codes "JET_errSuccess 6")
         ∷ [])) }
@@ -159,13 +104,8 @@ pub fn tuples()
 /// A conditional index holds a record only while its condition holds.
 pub fn conditional_index()
     ensures { IsTrue (runs_as 4194304 (
-        (codes "1 BeginSession", codes "JET_errSuccess")
-        ∷ (codes "1 CreateTable T", codes "JET_errSuccess")
-        ∷ (codes "1 AddColumn T id Long", codes "JET_errSuccess")
-        ∷ (codes "1 AddColumn T a Text", codes "JET_errSuccess")
-        ∷ (codes "1 AddColumn T m Text tagged multi", codes "JET_errSuccess")
-        ∷ (codes "1 CreateIndex T pk primary +id", codes "JET_errSuccess")
-        ∷ (codes "1 CreateIndex T ic +a ifnotnull:m", codes "JET_errSuccess")
+        small_table
+        ++ (codes "1 CreateIndex T ic +a ifnotnull:m", codes "JET_errSuccess")
         ∷ (codes "1 OpenTable 1 T", codes "JET_errSuccess")
         ∷ (codes "1 PrepareUpdate 1 insert", codes "JET_errSuccess")
         ∷ (codes "1 SetColumn 1 id 1 n:1", codes "JET_errSuccess")
@@ -190,13 +130,8 @@ pub fn conditional_index()
 /// A descending column turns every byte of its segment; NULL comes last there, and first with `sortnullshigh`.
 pub fn descending_and_null_keys()
     ensures { IsTrue (runs_as 4194304 (
-        (codes "1 BeginSession", codes "JET_errSuccess")
-        ∷ (codes "1 CreateTable T", codes "JET_errSuccess")
-        ∷ (codes "1 AddColumn T id Long", codes "JET_errSuccess")
-        ∷ (codes "1 AddColumn T a Text", codes "JET_errSuccess")
-        ∷ (codes "1 AddColumn T m Text tagged multi", codes "JET_errSuccess")
-        ∷ (codes "1 CreateIndex T pk primary +id", codes "JET_errSuccess")
-        ∷ (codes "1 AddColumn T v Long", codes "JET_errSuccess")
+        small_table
+        ++ (codes "1 AddColumn T v Long", codes "JET_errSuccess")
         ∷ (codes "1 CreateIndex T iv -v", codes "JET_errSuccess")
         ∷ (codes "1 CreateIndex T ih sortnullshigh -v", codes "JET_errSuccess")
         ∷ (codes "1 OpenTable 1 T", codes "JET_errSuccess")
@@ -293,13 +228,8 @@ pub fn key_of_255_and_256()
 /// Moves in an empty index and after its last entry.
 pub fn moves_in_an_empty_index()
     ensures { IsTrue (runs_as 4194304 (
-        (codes "1 BeginSession", codes "JET_errSuccess")
-        ∷ (codes "1 CreateTable T", codes "JET_errSuccess")
-        ∷ (codes "1 AddColumn T id Long", codes "JET_errSuccess")
-        ∷ (codes "1 AddColumn T a Text", codes "JET_errSuccess")
-        ∷ (codes "1 AddColumn T m Text tagged multi", codes "JET_errSuccess")
-        ∷ (codes "1 CreateIndex T pk primary +id", codes "JET_errSuccess")
-        ∷ (codes "1 CreateIndex T ia +a", codes "JET_errSuccess")
+        small_table
+        ++ (codes "1 CreateIndex T ia +a", codes "JET_errSuccess")
         ∷ (codes "1 OpenTable 1 T", codes "JET_errSuccess")
         ∷ (codes "1 SetCurrentIndex 1 ia", codes "JET_errSuccess")
         ∷ (codes "1 RetrieveKey 1", codes "JET_errNoCurrentRecord")

@@ -1,19 +1,14 @@
 //! Cursors: seeks, ranges, bookmarks and the calls that walks do not need.
 #![tactic(auto, unfolding(script_text::specs::ScriptRun::running))]
 
-ghost use Rattle.std.specs.Prelude.{IsTrue, List, [], ◌∷◌, codes};
-ghost use Rattle.run_examples.specs.Tables.{runs_as};
+ghost use Rattle.std.specs.Prelude.{IsTrue, List, [], ◌∷◌, ◌++◌, codes};
+ghost use Rattle.run_examples.specs.Tables.{runs_as, small_table, record_in_hidden_order};
 
 /// The five comparisons of a seek, the gaps that they leave, and ranges.
 pub fn seeks_and_ranges()
     ensures { IsTrue (runs_as 4194304 (
-        (codes "1 BeginSession", codes "JET_errSuccess")
-        ∷ (codes "1 CreateTable T", codes "JET_errSuccess")
-        ∷ (codes "1 AddColumn T id Long", codes "JET_errSuccess")
-        ∷ (codes "1 AddColumn T a Text", codes "JET_errSuccess")
-        ∷ (codes "1 AddColumn T m Text tagged multi", codes "JET_errSuccess")
-        ∷ (codes "1 CreateIndex T pk primary +id", codes "JET_errSuccess")
-        ∷ (codes "1 OpenTable 1 T", codes "JET_errSuccess")
+        small_table
+        ++ (codes "1 OpenTable 1 T", codes "JET_errSuccess")
         ∷ (codes "1 PrepareUpdate 1 insert", codes "JET_errSuccess")
         ∷ (codes "1 SetColumn 1 id 1 n:10", codes "JET_errSuccess")
         ∷ (codes "1 Update 1", codes "JET_errSuccess")
@@ -57,13 +52,8 @@ pub fn seeks_and_ranges()
 /// A bookmark leads to a record in the current index, or nothing moves.
 pub fn goto_bookmark()
     ensures { IsTrue (runs_as 4194304 (
-        (codes "1 BeginSession", codes "JET_errSuccess")
-        ∷ (codes "1 CreateTable T", codes "JET_errSuccess")
-        ∷ (codes "1 AddColumn T id Long", codes "JET_errSuccess")
-        ∷ (codes "1 AddColumn T a Text", codes "JET_errSuccess")
-        ∷ (codes "1 AddColumn T m Text tagged multi", codes "JET_errSuccess")
-        ∷ (codes "1 CreateIndex T pk primary +id", codes "JET_errSuccess")
-        ∷ (codes "1 CreateIndex T ia ignorenull +a", codes "JET_errSuccess")
+        small_table
+        ++ (codes "1 CreateIndex T ia ignorenull +a", codes "JET_errSuccess")
         ∷ (codes "1 OpenTable 1 T", codes "JET_errSuccess")
         ∷ (codes "1 SetCurrentIndex 1 ia", codes "JET_errSuccess")
         ∷ (codes "1 PrepareUpdate 1 insert", codes "JET_errSuccess")
@@ -78,40 +68,22 @@ pub fn goto_bookmark()
 /// A table without a primary index gives its records the numbers of their entries.
 pub fn hidden_key()
     ensures { IsTrue (runs_as 4194304 (
-        (codes "1 BeginSession", codes "JET_errSuccess")
-        ∷ (codes "1 CreateTable H", codes "JET_errSuccess")
-        ∷ (codes "1 AddColumn H x Long", codes "JET_errSuccess")
-        ∷ (codes "1 OpenTable 1 H", codes "JET_errSuccess")
-        ∷ (codes "1 PrepareUpdate 1 insert", codes "JET_errSuccess")
-        ∷ (codes "1 Update 1", codes "JET_errSuccess")
-        ∷ (codes "1 Move 1 First", codes "JET_errSuccess")
-        ∷ [])) }
+        record_in_hidden_order)) }
 {}
 
 /// No key is made for the order of hidden keys.
 pub fn no_key_in_hidden_order()
     ensures { IsTrue (runs_as 4194304 (
-        (codes "1 BeginSession", codes "JET_errSuccess")
-        ∷ (codes "1 CreateTable H", codes "JET_errSuccess")
-        ∷ (codes "1 AddColumn H x Long", codes "JET_errSuccess")
-        ∷ (codes "1 OpenTable 1 H", codes "JET_errSuccess")
-        ∷ (codes "1 PrepareUpdate 1 insert", codes "JET_errSuccess")
-        ∷ (codes "1 Update 1", codes "JET_errSuccess")
-        ∷ (codes "1 Move 1 First", codes "JET_errSuccess")
-        ∷ (codes "1 MakeKey 1 new n:1", codes "JET_errNoCurrentIndex")
+        record_in_hidden_order
+        ++ (codes "1 MakeKey 1 new n:1", codes "JET_errNoCurrentIndex")
         ∷ [])) }
 {}
 
 /// Every other call once.
 pub fn remaining_calls()
     ensures { IsTrue (runs_as 4194304 (
-        (codes "1 BeginSession", codes "JET_errSuccess")
-        ∷ (codes "1 CreateTable T", codes "JET_errSuccess")
-        ∷ (codes "1 AddColumn T id Long", codes "JET_errSuccess")
-        ∷ (codes "1 AddColumn T a Text", codes "JET_errSuccess")
-        ∷ (codes "1 AddColumn T m Text tagged multi", codes "JET_errSuccess")
-        ∷ (codes "1 CreateIndex T pk primary +id", codes "JET_errSuccess")
-        ∷ (codes "1 CreateIndex T im +m", codes "JET_errSuccess")
+        small_table
+        ++ (codes "1 CreateIndex T im +m", codes "JET_errSuccess")
         ∷ (codes "1 OpenTable 1 T", codes "JET_errSuccess")
         ∷ (codes "1 PrepareUpdate 1 insert", codes "JET_errSuccess")
         ∷ (codes "1 SetColumn 1 id 1 n:1", codes "JET_errSuccess")

@@ -1,8 +1,8 @@
 //! Records: values of every kind, sizes, long values, replaces and sums.
 #![tactic(auto, unfolding(script_text::specs::ScriptRun::running))]
 
-ghost use Rattle.std.specs.Prelude.{IsTrue, List, [], ◌∷◌, codes};
-ghost use Rattle.run_examples.specs.Tables.{runs_as};
+ghost use Rattle.std.specs.Prelude.{IsTrue, List, [], ◌∷◌, ◌++◌, codes};
+ghost use Rattle.run_examples.specs.Tables.{runs_as, small_table, letters_of_both_cases};
 
 /// Values go in as numbers, bytes or text, as far as the type takes them.
 pub fn values_of_types()
@@ -69,26 +69,8 @@ pub fn record_sizes()
 /// Values of a multi-valued column are numbered from 1; taking one out closes up.
 pub fn multi_valued_replace()
     ensures { IsTrue (runs_as 4194304 (
-        (codes "1 BeginSession", codes "JET_errSuccess")
-        ∷ (codes "1 CreateTable T", codes "JET_errSuccess")
-        ∷ (codes "1 AddColumn T id Long", codes "JET_errSuccess")
-        ∷ (codes "1 AddColumn T a Text", codes "JET_errSuccess")
-        ∷ (codes "1 AddColumn T m Text tagged multi", codes "JET_errSuccess")
-        ∷ (codes "1 CreateIndex T pk primary +id", codes "JET_errSuccess")
-        ∷ (codes "1 CreateIndex T im +m", codes "JET_errSuccess")
-        ∷ (codes "1 OpenTable 1 T", codes "JET_errSuccess")
-        ∷ (codes "1 PrepareUpdate 1 insert", codes "JET_errSuccess")
-        ∷ (codes "1 SetColumn 1 id 1 n:1", codes "JET_errSuccess")
-        ∷ (codes "1 SetColumn 1 m 0 t:b", codes "JET_errSuccess")
-        ∷ (codes "1 SetColumn 1 m 0 t:B", codes "JET_errSuccess")
-        ∷ (codes "1 SetColumn 1 m 0 t:a", codes "JET_errSuccess")
-        ∷ (codes "1 Update 1", codes "JET_errSuccess")
-        ∷ (codes "1 SetCurrentIndex 1 im", codes "JET_errSuccess")
-        ∷ (codes "1 RetrieveKey 1", codes "JET_errSuccess x:7f410000000000000001")
-        ∷ (codes "1 Move 1 Next", codes "JET_errSuccess")
-        ∷ (codes "1 RetrieveKey 1", codes "JET_errSuccess x:7f420000000000000001")
-        ∷ (codes "1 Move 1 Next", codes "JET_errNoCurrentRecord")
-        ∷ (codes "1 BeginTransaction", codes "JET_errSuccess")
+        letters_of_both_cases
+        ++ (codes "1 BeginTransaction", codes "JET_errSuccess")
         ∷ (codes "1 Move 1 First", codes "JET_errSuccess")
         ∷ (codes "1 PrepareUpdate 1 replace", codes "JET_errSuccess")
         ∷ (codes "1 SetColumn 1 m 1 null", codes "JET_errSuccess")
@@ -108,13 +90,8 @@ pub fn multi_valued_replace()
 /// Long values are read by their first bytes, copied, and seen by a reader that began before they went. A value of 300 bytes stands for one of a million.
 pub fn long_values()
     ensures { IsTrue (runs_as 4194304 (
-        (codes "1 BeginSession", codes "JET_errSuccess")
-        ∷ (codes "1 CreateTable T", codes "JET_errSuccess")
-        ∷ (codes "1 AddColumn T id Long", codes "JET_errSuccess")
-        ∷ (codes "1 AddColumn T a Text", codes "JET_errSuccess")
-        ∷ (codes "1 AddColumn T m Text tagged multi", codes "JET_errSuccess")
-        ∷ (codes "1 CreateIndex T pk primary +id", codes "JET_errSuccess")
-        ∷ (codes "1 AddColumn T t LongText", codes "JET_errSuccess")
+        small_table
+        ++ (codes "1 AddColumn T t LongText", codes "JET_errSuccess")
         ∷ (codes "2 BeginSession", codes "JET_errSuccess")
         ∷ (codes "1 OpenTable 1 T", codes "JET_errSuccess")
         ∷ (codes "2 OpenTable 1 T", codes "JET_errSuccess")
@@ -169,13 +146,8 @@ pub fn long_value_sizes()
 /// Sums of two sessions are no conflict; each reads its own, they wrap at 32 bits, and any other change conflicts.
 pub fn escrow_sums()
     ensures { IsTrue (runs_as 4194304 (
-        (codes "1 BeginSession", codes "JET_errSuccess")
-        ∷ (codes "1 CreateTable T", codes "JET_errSuccess")
-        ∷ (codes "1 AddColumn T id Long", codes "JET_errSuccess")
-        ∷ (codes "1 AddColumn T a Text", codes "JET_errSuccess")
-        ∷ (codes "1 AddColumn T m Text tagged multi", codes "JET_errSuccess")
-        ∷ (codes "1 CreateIndex T pk primary +id", codes "JET_errSuccess")
-        ∷ (codes "1 AddColumn T h Long escrow", codes "JET_errSuccess")
+        small_table
+        ++ (codes "1 AddColumn T h Long escrow", codes "JET_errSuccess")
         ∷ (codes "2 BeginSession", codes "JET_errSuccess")
         ∷ (codes "1 OpenTable 1 T", codes "JET_errSuccess")
         ∷ (codes "2 OpenTable 1 T", codes "JET_errSuccess")
@@ -205,13 +177,8 @@ pub fn escrow_sums()
 /// An escrow column is set by sums alone, and begins at 0 in a copy.
 pub fn escrow_not_updatable()
     ensures { IsTrue (runs_as 4194304 (
-        (codes "1 BeginSession", codes "JET_errSuccess")
-        ∷ (codes "1 CreateTable T", codes "JET_errSuccess")
-        ∷ (codes "1 AddColumn T id Long", codes "JET_errSuccess")
-        ∷ (codes "1 AddColumn T a Text", codes "JET_errSuccess")
-        ∷ (codes "1 AddColumn T m Text tagged multi", codes "JET_errSuccess")
-        ∷ (codes "1 CreateIndex T pk primary +id", codes "JET_errSuccess")
-        ∷ (codes "1 AddColumn T h Long escrow", codes "JET_errSuccess")
+        small_table
+        ++ (codes "1 AddColumn T h Long escrow", codes "JET_errSuccess")
         ∷ (codes "1 OpenTable 1 T", codes "JET_errSuccess")
         ∷ (codes "1 PrepareUpdate 1 insert", codes "JET_errSuccess")
         ∷ (codes "1 SetColumn 1 id 1 n:1", codes "JET_errSuccess")
@@ -228,13 +195,8 @@ pub fn escrow_not_updatable()
 /// An escrow column is added to an empty table only.
 pub fn escrow_on_a_table_with_a_record()
     ensures { IsTrue (runs_as 4194304 (
-        (codes "1 BeginSession", codes "JET_errSuccess")
-        ∷ (codes "1 CreateTable T", codes "JET_errSuccess")
-        ∷ (codes "1 AddColumn T id Long", codes "JET_errSuccess")
-        ∷ (codes "1 AddColumn T a Text", codes "JET_errSuccess")
-        ∷ (codes "1 AddColumn T m Text tagged multi", codes "JET_errSuccess")
-        ∷ (codes "1 CreateIndex T pk primary +id", codes "JET_errSuccess")
-        ∷ (codes "1 OpenTable 1 T", codes "JET_errSuccess")
+        small_table
+        ++ (codes "1 OpenTable 1 T", codes "JET_errSuccess")
         ∷ (codes "1 PrepareUpdate 1 insert", codes "JET_errSuccess")
         ∷ (codes "1 SetColumn 1 id 1 n:1", codes "JET_errSuccess")
         ∷ (codes "1 Update 1", codes "JET_errSuccess")
@@ -246,13 +208,8 @@ pub fn escrow_on_a_table_with_a_record()
 /// No index is made over an escrow column.
 pub fn no_index_on_escrow()
     ensures { IsTrue (runs_as 4194304 (
-        (codes "1 BeginSession", codes "JET_errSuccess")
-        ∷ (codes "1 CreateTable T", codes "JET_errSuccess")
-        ∷ (codes "1 AddColumn T id Long", codes "JET_errSuccess")
-        ∷ (codes "1 AddColumn T a Text", codes "JET_errSuccess")
-        ∷ (codes "1 AddColumn T m Text tagged multi", codes "JET_errSuccess")
-        ∷ (codes "1 CreateIndex T pk primary +id", codes "JET_errSuccess")
-        ∷ (codes "1 AddColumn T h Long escrow", codes "JET_errSuccess")
+        small_table
+        ++ (codes "1 AddColumn T h Long escrow", codes "JET_errSuccess")
         ∷ (codes "1 CreateIndex T ih +h", codes "JET_errCannotIndex")
         ∷ [])) }
 {}

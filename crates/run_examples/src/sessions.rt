@@ -1,8 +1,8 @@
 //! Sessions, cursors and schema calls: labels, limits and refusals.
 #![tactic(auto, unfolding(script_text::specs::ScriptRun::running))]
 
-ghost use Rattle.std.specs.Prelude.{IsTrue, List, [], ◌∷◌, codes};
-ghost use Rattle.run_examples.specs.Tables.{runs_as};
+ghost use Rattle.std.specs.Prelude.{IsTrue, List, [], ◌∷◌, ◌++◌, codes};
+ghost use Rattle.run_examples.specs.Tables.{runs_as, small_table};
 
 /// A label that was not begun, and one that is begun twice.
 pub fn session_labels()
@@ -87,13 +87,8 @@ pub fn sixty_four_sessions()
 /// A session has sixteen cursors at most.
 pub fn seventeenth_cursor()
     ensures { IsTrue (runs_as 4194304 (
-        (codes "1 BeginSession", codes "JET_errSuccess")
-        ∷ (codes "1 CreateTable T", codes "JET_errSuccess")
-        ∷ (codes "1 AddColumn T id Long", codes "JET_errSuccess")
-        ∷ (codes "1 AddColumn T a Text", codes "JET_errSuccess")
-        ∷ (codes "1 AddColumn T m Text tagged multi", codes "JET_errSuccess")
-        ∷ (codes "1 CreateIndex T pk primary +id", codes "JET_errSuccess")
-        ∷ (codes "1 OpenTable 1 T", codes "JET_errSuccess")
+        small_table
+        ++ (codes "1 OpenTable 1 T", codes "JET_errSuccess")
         ∷ (codes "1 OpenTable 2 T", codes "JET_errSuccess")
         ∷ (codes "1 OpenTable 3 T", codes "JET_errSuccess")
         ∷ (codes "1 OpenTable 4 T", codes "JET_errSuccess")
@@ -116,13 +111,8 @@ pub fn seventeenth_cursor()
 /// Schema calls that the tables refuse.
 pub fn schema_refusals()
     ensures { IsTrue (runs_as 4194304 (
-        (codes "1 BeginSession", codes "JET_errSuccess")
-        ∷ (codes "1 CreateTable T", codes "JET_errSuccess")
-        ∷ (codes "1 AddColumn T id Long", codes "JET_errSuccess")
-        ∷ (codes "1 AddColumn T a Text", codes "JET_errSuccess")
-        ∷ (codes "1 AddColumn T m Text tagged multi", codes "JET_errSuccess")
-        ∷ (codes "1 CreateIndex T pk primary +id", codes "JET_errSuccess")
-        ∷ (codes "1 DeleteIndex T pk", codes "JET_errIndexMustStay")
+        small_table
+        ++ (codes "1 DeleteIndex T pk", codes "JET_errIndexMustStay")
         ∷ (codes "1 DeleteColumn T id", codes "JET_errColumnInUse")
         ∷ (codes "1 CreateTable T", codes "JET_errTableDuplicate")
         ∷ (codes "1 AddColumn T z Long multi", codes "JET_errMultiValuedColumnMustBeTagged")
@@ -133,13 +123,8 @@ pub fn schema_refusals()
 /// Schema calls in a transaction, and on a table with a cursor open.
 pub fn schema_in_use()
     ensures { IsTrue (runs_as 4194304 (
-        (codes "1 BeginSession", codes "JET_errSuccess")
-        ∷ (codes "1 CreateTable T", codes "JET_errSuccess")
-        ∷ (codes "1 AddColumn T id Long", codes "JET_errSuccess")
-        ∷ (codes "1 AddColumn T a Text", codes "JET_errSuccess")
-        ∷ (codes "1 AddColumn T m Text tagged multi", codes "JET_errSuccess")
-        ∷ (codes "1 CreateIndex T pk primary +id", codes "JET_errSuccess")
-        ∷ (codes "1 BeginTransaction", codes "JET_errSuccess")
+        small_table
+        ++ (codes "1 BeginTransaction", codes "JET_errSuccess")
         ∷ (codes "1 CreateTable T", codes "JET_errInTransaction")
         ∷ (codes "1 CommitTransaction", codes "JET_errSuccess")
         ∷ (codes "1 OpenTable 1 T", codes "JET_errSuccess")

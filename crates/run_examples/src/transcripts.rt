@@ -4,6 +4,7 @@
 ghost use Rattle.std.specs.Prelude.{◌≡◌, List, [], ◌∷◌, codes};
 ghost use Rattle.script_transcript.specs.TranscriptLine.{transcript_of, merged};
 ghost use Rattle.script_text.specs.ScriptRun.{script_rows, script_transcript, text_of};
+ghost use Rattle.run_examples.specs.Tables.{lines_of_two_sessions, transcript_of_two_sessions};
 
 /// A script without a line prints nothing.
 pub fn empty_script()
@@ -65,60 +66,10 @@ pub fn ordinary_run()
 /// The number before a line counts the log's entries: a change outside a transaction makes three, and a local call shows
 /// the number after its session's last look at the shared state.
 pub fn numbers_of_two_sessions()
-    ensures { script_transcript 4194304 (text_of (
-        codes "1 BeginSession"
-        ∷ codes "1 CreateTable T"
-        ∷ codes "1 AddColumn T id Long"
-        ∷ codes "1 CreateIndex T pk primary +id"
-        ∷ codes "1 OpenTable 1 T"
-        ∷ codes "1 PrepareUpdate 1 insert"
-        ∷ codes "1 SetColumn 1 id 1 n:1"
-        ∷ codes "1 Update 1"
-        ∷ codes "2 BeginSession"
-        ∷ codes "2 OpenTable 1 T"
-        ∷ codes "2 Move 1 First"
-        ∷ []))
-        ≡ text_of (
-        codes "0 1 BeginSession JET_errSuccess"
-        ∷ codes "1 1 CreateTable JET_errSuccess"
-        ∷ codes "2 1 AddColumn JET_errSuccess"
-        ∷ codes "3 1 CreateIndex JET_errSuccess"
-        ∷ codes "4 1 OpenTable JET_errSuccess"
-        ∷ codes "5 1 PrepareUpdate JET_errSuccess"
-        ∷ codes "5 1 SetColumn JET_errSuccess"
-        ∷ codes "5 1 Update JET_errSuccess x:7f80000001"
-        ∷ codes "8 2 BeginSession JET_errSuccess"
-        ∷ codes "9 2 OpenTable JET_errSuccess"
-        ∷ codes "10 2 Move JET_errSuccess"
-        ∷ []) }
+    ensures { script_transcript 4194304 lines_of_two_sessions ≡ transcript_of_two_sessions }
 {}
 
 /// The lines of two sessions, each of which ran all of its own: by number, then by session, each session's in their order.
 pub fn merged_lines_of_two_sessions()
-    ensures { transcript_of (merged (script_rows 4194304 (text_of (
-        codes "1 BeginSession"
-        ∷ codes "1 CreateTable T"
-        ∷ codes "1 AddColumn T id Long"
-        ∷ codes "1 CreateIndex T pk primary +id"
-        ∷ codes "1 OpenTable 1 T"
-        ∷ codes "1 PrepareUpdate 1 insert"
-        ∷ codes "1 SetColumn 1 id 1 n:1"
-        ∷ codes "1 Update 1"
-        ∷ codes "2 BeginSession"
-        ∷ codes "2 OpenTable 1 T"
-        ∷ codes "2 Move 1 First"
-        ∷ []))))
-        ≡ text_of (
-        codes "0 1 BeginSession JET_errSuccess"
-        ∷ codes "1 1 CreateTable JET_errSuccess"
-        ∷ codes "2 1 AddColumn JET_errSuccess"
-        ∷ codes "3 1 CreateIndex JET_errSuccess"
-        ∷ codes "4 1 OpenTable JET_errSuccess"
-        ∷ codes "5 1 PrepareUpdate JET_errSuccess"
-        ∷ codes "5 1 SetColumn JET_errSuccess"
-        ∷ codes "5 1 Update JET_errSuccess x:7f80000001"
-        ∷ codes "8 2 BeginSession JET_errSuccess"
-        ∷ codes "9 2 OpenTable JET_errSuccess"
-        ∷ codes "10 2 Move JET_errSuccess"
-        ∷ []) }
+    ensures { transcript_of (merged (script_rows 4194304 lines_of_two_sessions)) ≡ transcript_of_two_sessions }
 {}
