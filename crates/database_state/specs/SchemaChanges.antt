@@ -1,6 +1,6 @@
 -- What a schema step does to the committed tables, and why one is refused.
 use Rattle.std.specs.Prelude.{ℕ, ◌+◌, ◌==◌, Bool, true, false, not, ◌&&◌, ◌||◌, nat_lt, nat_le, max, length, List, [], ◌∷◌, ◌++◌, map, filter, fold, Option, Some, None, unwrap_or, is_some, is_none, if◌then◌else◌, bytes_eq}
-use Rattle.std.specs.List.{list_any}
+use Rattle.std.specs.List.{list_any, list_all}
 use Rattle.jet_base.specs.declared.replies.Jet.{Jet}
 use Rattle.jet_base.specs.declared.replies.Jet.TheVariants as jet
 use Rattle.jet_base.specs.declared.words.ColType.{ColType}
@@ -30,8 +30,14 @@ with_column_id greatest id =
     else if nat_le id 255 then record greatest { variable = max greatest.variable id }
     else record greatest { tagged = max greatest.tagged id }
 
+-- Columns stand by rising id: a new one comes before those that all have greater ids.
+abbrev pub columns_with : Column → List Column → List Column
+columns_with column [] = column ∷ []
+columns_with column (other ∷ columns) =
+    if list_all (λ c. nat_lt column.id.0 c.id.0) (other ∷ columns) then column ∷ other ∷ columns else other ∷ columns_with column columns
+
 abbrev pub with_column : Column → Table → Table
-with_column column table = record table { columns = table.columns ++ column ∷ []; greatest = with_column_id table.greatest column.id.0 }
+with_column column table = record table { columns = columns_with column table.columns; greatest = with_column_id table.greatest column.id.0 }
 
 -- a deleted column's values go from each record
 abbrev pub without_column : ℕ → Table → Table

@@ -13,7 +13,7 @@ pub record GreatestColumns : Type 0 where
   pub variable : ℕ
   pub tagged : ℕ
 
--- The indexes stand in their order of making, the records in the order of their bookmarks.
+-- The columns stand by rising id, the indexes in their order of making, the records in the order of their bookmarks.
 pub record Table : Type 0 where
   pub id : ℕ
   pub name : List ℕ

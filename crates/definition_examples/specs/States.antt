@@ -11,7 +11,7 @@ use Rattle.index_derive.specs.declared.log.Entry.{Entry}
 use Rattle.index_derive.specs.declared.log.EntryKind.{EntryKind}
 use Rattle.index_derive.specs.declared.rules.IndexRule.{IndexRule}
 use Rattle.database_state.specs.Table.{Table, Rows}
-use Rattle.database_state.specs.State.{DatabaseState, LiveSession, PastChange, Status, empty_state}
+use Rattle.database_state.specs.State.{DatabaseState, PastChange, Status, empty_state}
 use Rattle.database_state.specs.Step.{state_after_all}
 
 -- ---- entries

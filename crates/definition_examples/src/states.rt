@@ -3,7 +3,7 @@
 
 ghost use Rattle.std.specs.Prelude.{◌≡◌, ◌≢◌, ℕ, List, [], ◌∷◌, true, false, Some, None, codes, map, pos};
 ghost use Rattle.jet_base.specs.Ids.{table_id, column_id};
-ghost use Rattle.jet_base.specs.declared.words.ColType.TheVariants.{Long};
+ghost use Rattle.jet_base.specs.declared.words.ColType.TheVariants.{Long, Text};
 ghost use Rattle.jet_base.specs.declared.replies.Jet.TheVariants as jet;
 ghost use Rattle.column_set.specs.declared.changes.Change.TheVariants.{Put, Hold, Add};
 ghost use Rattle.index_derive.specs.declared.log.EntryKind.TheVariants as entry;
@@ -15,6 +15,25 @@ ghost use Rattle.database_state.specs.Puts.{put_refusals};
 ghost use Rattle.database_state.specs.Lawful.{is_lawful};
 ghost use Rattle.database_state.specs.Equivalence.{essence};
 ghost use Rattle.definition_examples.specs.States.{entry_by, state_of, column, sample_table, fields, hidden_key, put, in_transaction, past_change};
+
+/// A table whose columns were made as 1, 128, 256 and 2 has them by rising number.
+pub fn columns_made_out_of_order()
+    ensures { let mail = record (column 256 (codes "mail") Text) { tagged = true; multi = true } in
+        (state_of (entry.Enter
+        ∷ entry.Schema (step.CreateTable (table_id 1) (codes "t"))
+        ∷ entry.Schema (step.AddColumn (table_id 1) (column 1 (codes "id") Long))
+        ∷ entry.Schema (step.AddColumn (table_id 1) (column 128 (codes "name") Text))
+        ∷ entry.Schema (step.AddColumn (table_id 1) mail)
+        ∷ entry.Schema (step.AddColumn (table_id 1) (column 2 (codes "grp") Long)) ∷ [])).tables
+        ≡ record {
+            id = 1;
+            name = codes "t";
+            columns = column 1 (codes "id") Long ∷ column 2 (codes "grp") Long ∷ column 128 (codes "name") Text ∷ mail ∷ [];
+            indexes = [];
+            greatest = record { fixed = 2; variable = 128; tagged = 256 };
+            rows = [];
+        } ∷ [] }
+{}
 
 /// The past does not tell from which record a put was copied; that stands in the log alone.
 pub fn a_copied_put_of_the_past()

@@ -1,14 +1,15 @@
 -- A table's columns keep numbers of their own when it gets one more, of the next number of its kind.
-use Rattle.std.proofs.Common.{◌≡◌, ℕ, ◌+◌, Bool, true, false, not, ◌&&◌, ◌||◌, cond, List, [], ◌∷◌, ◌++◌, map, refl, sym, ap, subst, ◌∙◌, arith}
+use Rattle.std.proofs.Common.{◌≡◌, ℕ, ◌+◌, Bool, true, false, not, ◌&&◌, ◌||◌, cond, List, [], ◌∷◌, map, refl, sym, ap, subst, ◌∙◌, arith}
 use Rattle.std.specs.Prelude.{◌==◌, nat_le, max}
 use Rattle.std.specs.List.{list_all, list_any}
 use Rattle.std.proofs.lemmas.Bool.Decides.{nat_tests}
 use Rattle.column_set.specs.declared.columns.Column.{Column}
 use Rattle.database_state.specs.Table.{GreatestColumns, Table}
-use Rattle.database_state.specs.SchemaChanges.{is_long_type, is_variable_type, with_column_id, with_column, next_column_id, has_column_id}
+use Rattle.database_state.specs.SchemaChanges.{is_long_type, is_variable_type, with_column_id, columns_with, with_column, next_column_id, has_column_id}
+use Rattle.database_state.proofs.Columns.{are_behind, list_all-columns_with}
 use Rattle.session_local.specs.SessionSide.{are_distinct}
 use Rattle.session_local.specs.WellFormed.{number_of_column}
-use Rattle.engine_state.proofs.Tests.{and_left, and_right, and_both, all-append}
+use Rattle.engine_state.proofs.Tests.{and_left, and_right, and_both}
 use Rattle.engine_state.proofs.SteppingColumns.{all_mono}
 use Rattle.engine_session.specs.Beside.{is_given_number, are_in_range, has_own_numbers}
 
@@ -154,16 +155,21 @@ turned m n e = grind (arith, nat_tests)
 or_none : (a b : Bool) → a ≡ false → b ≡ false → (a || b) ≡ false
 or_none a b h g = rw (h, g) refl
 
-any_behind : (label other : ℕ) (labels : List ℕ) → list_any (λ l. l == label) labels ≡ false → (other == label) ≡ false → list_any (λ l. l == label) (labels ++ other ∷ []) ≡ false
-any_behind label other [] none apart = or_none (other == label) false apart refl
-any_behind label other (l ∷ labels) none apart =
-    or_none (l == label) (list_any (λ l. l == label) (labels ++ other ∷ [])) (first (l == label) none) (any_behind label other labels (later (l == label) none) apart)
+none_with : (number : ℕ) (column : Column) (columns : List Column) → list_any (λ l. l == number) (map number_of_column columns) ≡ false → (column.id.0 == number) ≡ false
+    → list_any (λ l. l == number) (map number_of_column (columns_with column columns)) ≡ false
+none_with number column [] none apart = or_none (column.id.0 == number) false apart refl
+none_with number column (c ∷ columns) none apart =
+    elim (are_behind column (c ∷ columns)) as (λ b. list_any (λ l. l == number) (map number_of_column (cond b (column ∷ c ∷ columns) (c ∷ columns_with column columns))) ≡ false) [
+      | true ↦ or_none (column.id.0 == number) (list_any (λ l. l == number) (map number_of_column (c ∷ columns))) apart none
+      | false ↦ or_none (c.id.0 == number) (list_any (λ l. l == number) (map number_of_column (columns_with column columns))) (first (c.id.0 == number) none)
+          (none_with number column columns (later (c.id.0 == number) none) apart)
+    ]
   where
-    first : (b : Bool) → (b || list_any (λ l. l == label) labels) ≡ false → b ≡ false
+    first : (b : Bool) → (b || list_any (λ l. l == number) (map number_of_column columns)) ≡ false → b ≡ false
     first true h = h
     first false h = refl
 
-    later : (b : Bool) → (b || list_any (λ l. l == label) labels) ≡ false → list_any (λ l. l == label) labels ≡ false
+    later : (b : Bool) → (b || list_any (λ l. l == number) (map number_of_column columns)) ≡ false → list_any (λ l. l == number) (map number_of_column columns) ≡ false
     later true h = cc
     later false h = h
 
@@ -171,14 +177,26 @@ denied : (b : Bool) → not b ≡ true → b ≡ false
 denied false e = refl
 denied true e = cc
 
-distinct_behind : (number : ℕ) (numbers : List ℕ) → are_distinct numbers ≡ true → list_all (λ n. not (n == number)) numbers ≡ true → are_distinct (numbers ++ number ∷ []) ≡ true
-distinct_behind number [] distinct apart = refl
-distinct_behind number (n ∷ numbers) distinct apart =
-    let any = list_any (λ other. other == n) numbers in
-    let off : (number == n) ≡ false = turned n number (denied (n == number) (and_left (not (n == number)) (list_all (λ n. not (n == number)) numbers) apart)) in
-    and_both (not (list_any (λ other. other == n) (numbers ++ number ∷ []))) (are_distinct (numbers ++ number ∷ []))
-    (ap not (any_behind n number numbers (denied any (and_left (not any) (are_distinct numbers) distinct)) off))
-    (distinct_behind number numbers (and_right (not any) (are_distinct numbers) distinct) (and_right (not (n == number)) (list_all (λ n. not (n == number)) numbers) apart))
+-- none has a number that all are apart from
+none_apart : (number : ℕ) (numbers : List ℕ) → list_all (λ n. not (n == number)) numbers ≡ true → list_any (λ n. n == number) numbers ≡ false
+none_apart number [] apart = refl
+none_apart number (n ∷ numbers) apart =
+    or_none (n == number) (list_any (λ n. n == number) numbers) (denied (n == number) (and_left (not (n == number)) (list_all (λ n. not (n == number)) numbers) apart))
+    (none_apart number numbers (and_right (not (n == number)) (list_all (λ n. not (n == number)) numbers) apart))
+
+distinct_with : (column : Column) (columns : List Column) → are_distinct (map number_of_column columns) ≡ true → list_all (λ n. not (n == column.id.0)) (map number_of_column columns) ≡ true
+    → are_distinct (map number_of_column (columns_with column columns)) ≡ true
+distinct_with column [] distinct apart = refl
+distinct_with column (c ∷ columns) distinct apart =
+    let any = list_any (λ other. other == c.id.0) (map number_of_column columns) in
+    let off : (column.id.0 == c.id.0) ≡ false = turned c.id.0 column.id.0 (denied (c.id.0 == column.id.0) (and_left (not (c.id.0 == column.id.0)) (list_all (λ n. not (n == column.id.0)) (map number_of_column columns)) apart)) in
+    elim (are_behind column (c ∷ columns)) as (λ b. are_distinct (map number_of_column (cond b (column ∷ c ∷ columns) (c ∷ columns_with column columns))) ≡ true) [
+      | true ↦ and_both (not (list_any (λ other. other == column.id.0) (map number_of_column (c ∷ columns)))) (are_distinct (map number_of_column (c ∷ columns)))
+          (ap not (none_apart column.id.0 (map number_of_column (c ∷ columns)) apart)) distinct
+      | false ↦ and_both (not (list_any (λ other. other == c.id.0) (map number_of_column (columns_with column columns)))) (are_distinct (map number_of_column (columns_with column columns)))
+          (ap not (none_with c.id.0 column columns (denied any (and_left (not any) (are_distinct (map number_of_column columns)) distinct)) off))
+          (distinct_with column columns (and_right (not any) (are_distinct (map number_of_column columns)) distinct) (and_right (not (c.id.0 == column.id.0)) (list_all (λ n. not (n == column.id.0)) (map number_of_column columns)) apart))
+    ]
 
 all_apart : (p : Column → Bool) (number : ℕ) → ((c : Column) → p c ≡ true → (c.id.0 == number) ≡ false) → (columns : List Column) → list_all p columns ≡ true → list_all (λ n. not (n == number)) (map number_of_column columns) ≡ true
 all_apart p number apart [] h = refl
@@ -186,20 +204,15 @@ all_apart p number apart (c ∷ columns) h =
     and_both (not (c.id.0 == number)) (list_all (λ n. not (n == number)) (map number_of_column columns)) (ap not (apart c (and_left (p c) (list_all p columns) h)))
     (all_apart p number apart columns (and_right (p c) (list_all p columns) h))
 
-map_behind : (columns : List Column) (column : Column) → map number_of_column columns ++ column.id.0 ∷ [] ≡ map number_of_column (columns ++ column ∷ [])
-map_behind [] column = refl
-map_behind (c ∷ columns) column = ap (λ rest. c.id.0 ∷ rest) (map_behind columns column)
-
-own-more : (g g' : GreatestColumns) (columns : List Column) (column : Column) → IsNextOf g column.id.0 g' → own g columns ≡ true → own g' (columns ++ column ∷ []) ≡ true
+own-more : (g g' : GreatestColumns) (columns : List Column) (column : Column) → IsNextOf g column.id.0 g' → own g columns ≡ true → own g' (columns_with column columns) ≡ true
 own-more g g' columns column next h =
     let first = and_left (are_in_range g && list_all (is_given_number g) columns) (are_distinct (map number_of_column columns)) h in
     let distinct = and_right (are_in_range g && list_all (is_given_number g) columns) (are_distinct (map number_of_column columns)) h in
     let all = and_right (are_in_range g) (list_all (is_given_number g) columns) first in
-    and_both (are_in_range g' && list_all (is_given_number g') (columns ++ column ∷ [])) (are_distinct (map number_of_column (columns ++ column ∷ [])))
-    (and_both (are_in_range g') (list_all (is_given_number g') (columns ++ column ∷ [])) (from_ranges g'.fixed g'.variable g'.tagged next.range)
-    (all-append (is_given_number g') columns column (all_mono (is_given_number g) (is_given_number g') (λ c. next.more c.id.0) columns all) next.new))
-    (ap are_distinct (sym (map_behind columns column))
-    ∙ distinct_behind column.id.0 (map number_of_column columns) distinct (all_apart (is_given_number g) column.id.0 (λ c. next.fresh c.id.0) columns all))
+    and_both (are_in_range g' && list_all (is_given_number g') (columns_with column columns)) (are_distinct (map number_of_column (columns_with column columns)))
+    (and_both (are_in_range g') (list_all (is_given_number g') (columns_with column columns)) (from_ranges g'.fixed g'.variable g'.tagged next.range)
+    (list_all-columns_with (is_given_number g') column columns (all_mono (is_given_number g) (is_given_number g') (λ c. next.more c.id.0) columns all) next.new))
+    (distinct_with column columns distinct (all_apart (is_given_number g) column.id.0 (λ c. next.fresh c.id.0) columns all))
 
 -- ---- the next number
 

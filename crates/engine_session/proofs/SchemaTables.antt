@@ -1,6 +1,6 @@
 -- The tables after a schema step: columns have numbers of their own, records fit, and what is open stays as it is.
 use Rattle.std.proofs.Common.{◌≡◌, ℕ, Bool, true, false, not, ◌||◌, cond, List, [], ◌∷◌, ◌++◌, Option, Some, None, refl, sym, ap, subst, ◌∙◌, arith}
-use Rattle.std.specs.Prelude.{◌==◌, if◌then◌else◌}
+use Rattle.std.specs.Prelude.{◌==◌, if◌then◌else◌, is_some}
 use Rattle.std.specs.List.{list_all, AllByRecursion}
 use Rattle.std.proofs.lemmas.Bool.Decides.{nat_tests}
 use Rattle.column_set.specs.declared.columns.Column.{Column}
@@ -8,7 +8,8 @@ use Rattle.column_set.specs.RecordValues.{RecordFields, column_of_id, values_fit
 use Rattle.index_derive.specs.declared.schema_calls.SchemaStep.{SchemaStep}
 use Rattle.index_derive.specs.declared.schema_calls.SchemaStep.TheVariants as step
 use Rattle.database_state.specs.Table.{Table, table_with_id, with_table}
-use Rattle.database_state.specs.SchemaChanges.{is_long_type, tables_after_step, new_table, with_column, with_index}
+use Rattle.database_state.specs.SchemaChanges.{is_long_type, tables_after_step, new_table, columns_with, with_column, with_index}
+use Rattle.database_state.proofs.Columns.{list_all-columns_with, column_of_id-columns_with}
 use Rattle.jet_catalog.specs.Catalog.{IsNumbered}
 use Rattle.session_local.specs.Local.{OpenCursor}
 use Rattle.session_local.specs.Agreement.{HasSchemaOf}
@@ -70,13 +71,13 @@ abbrev is_kept_in : RecordFields → Column → Bool
 is_kept_in fields column = not (is_kept_column column) || has_value fields column.id.0
 
 -- the column of a field is found as before
-fits_behind : (column : Column) (field : ℕ × List (List ℕ)) (columns : List Column) → field_fits columns field ≡ true → field_fits (columns ++ column ∷ []) field ≡ true
-fits_behind column field [] h = cc
-fits_behind column field (first ∷ columns) h =
-    elim (first.id.0 == field.0) as (λ b. fits_in (cond b (Some first) (column_of_id columns field.0)) field.1 ≡ true → fits_in (cond b (Some first) (column_of_id (columns ++ column ∷ []) field.0)) field.1 ≡ true) [
-      | true ↦ λ g. g
-      | false ↦ λ g. fits_behind column field columns g
-    ] h
+found_where_it_fits : (found : Option Column) (values : List (List ℕ)) → fits_in found values ≡ true → is_some found ≡ true
+found_where_it_fits None values h = cc
+found_where_it_fits (Some column) values h = refl
+
+fits_behind : (column : Column) (field : ℕ × List (List ℕ)) (columns : List Column) → field_fits columns field ≡ true → field_fits (columns_with column columns) field ≡ true
+fits_behind column field columns h =
+    ap (λ found. fits_in found field.1) (column_of_id-columns_with column field.0 columns (found_where_it_fits (column_of_id columns field.0) field.1 h)) ∙ h
 
 not_kept : (fields : RecordFields) (column : Column) → is_built_column column ≡ true → is_kept_in fields column ≡ true
 not_kept fields column built = by (not (is_kept_column column)) (and_right (not (is_long_type column.kind)) (not (is_kept_column column)) built)
@@ -85,15 +86,15 @@ not_kept fields column built = by (not (is_kept_column column)) (and_right (not 
     by true h = refl
     by false h = cc
 
-record_fits-more : (column : Column) (columns : List Column) (fields : RecordFields) → is_built_column column ≡ true → record_fits columns fields ≡ true → record_fits (columns ++ column ∷ []) fields ≡ true
+record_fits-more : (column : Column) (columns : List Column) (fields : RecordFields) → is_built_column column ≡ true → record_fits columns fields ≡ true → record_fits (columns_with column columns) fields ≡ true
 record_fits-more column columns fields built h =
-    and_both (list_all (field_fits (columns ++ column ∷ [])) fields) (list_all (is_kept_in fields) (columns ++ column ∷ []))
-    (all_mono (field_fits columns) (field_fits (columns ++ column ∷ [])) (λ field. fits_behind column field columns) fields (and_left (list_all (field_fits columns) fields) (list_all (is_kept_in fields) columns) h))
-    (all-append (is_kept_in fields) columns column (and_right (list_all (field_fits columns) fields) (list_all (is_kept_in fields) columns) h) (not_kept fields column built))
+    and_both (list_all (field_fits (columns_with column columns)) fields) (list_all (is_kept_in fields) (columns_with column columns))
+    (all_mono (field_fits columns) (field_fits (columns_with column columns)) (λ field. fits_behind column field columns) fields (and_left (list_all (field_fits columns) fields) (list_all (is_kept_in fields) columns) h))
+    (list_all-columns_with (is_kept_in fields) column columns (and_right (list_all (field_fits columns) fields) (list_all (is_kept_in fields) columns) h) (not_kept fields column built))
 
 fitting-with_column : (column : Column) → is_built_column column ≡ true → (t : Table) → has_fitting_records t ≡ true → has_fitting_records (with_column column t) ≡ true
 fitting-with_column column built t h =
-    all_mono (λ (row : List ℕ × RecordFields). record_fits t.columns row.1) (λ (row : List ℕ × RecordFields). record_fits (t.columns ++ column ∷ []) row.1)
+    all_mono (λ (row : List ℕ × RecordFields). record_fits t.columns row.1) (λ (row : List ℕ × RecordFields). record_fits (columns_with column t.columns) row.1)
     (λ row. record_fits-more column t.columns row.1 built) t.rows h
 
 pub fitting-after : (engine : EngineState) (made : SchemaStep) → may_make engine made ≡ true → (tables : List Table) → list_all has_fitting_records tables ≡ true

@@ -12,23 +12,16 @@ use Rattle.index_derive.specs.declared.rules.Segment.{Segment}
 use Rattle.index_derive.specs.declared.rules.IndexRule.{IndexRule}
 use Rattle.index_derive.specs.declared.rules.Schema.{Schema}
 use Rattle.index_derive.specs.Entries.{is_legal, is_multi_column, is_escrow_column, is_text_type, is_tuples_key, key_columns, condition_columns}
-use Rattle.database_state.specs.SchemaChanges.{rule_columns}
+use Rattle.database_state.specs.SchemaChanges.{rule_columns, columns_with}
+use Rattle.database_state.proofs.Columns.{list_all-columns_with, column_of_id-columns_with}
 use Rattle.engine_state.specs.Represents.{is_built_column, is_built_rule, is_built_schema}
-use Rattle.engine_state.proofs.Tests.{and_left, and_right, and_both, all-append}
+use Rattle.engine_state.proofs.Tests.{and_left, and_right, and_both}
 
 abbrev pub with_one_more : Column → Schema → Schema
-with_one_more column schema = record schema { columns = schema.columns ++ column ∷ [] }
+with_one_more column schema = record schema { columns = columns_with column schema.columns }
 
 abbrev has : List Column → ℕ → Bool
 has columns id = is_some (column_of_id columns id)
-
-column_of_id-append : (column : Column) (id : ℕ) (columns : List Column) → has columns id ≡ true → column_of_id (columns ++ column ∷ []) id ≡ column_of_id columns id
-column_of_id-append column id [] h = cc
-column_of_id-append column id (first ∷ columns) h =
-    elim (first.id.0 == id) as (λ b. is_some (cond b (Some first) (column_of_id columns id)) ≡ true → cond b (Some first) (column_of_id (columns ++ column ∷ []) id) ≡ cond b (Some first) (column_of_id columns id)) [
-      | true ↦ λ g. refl
-      | false ↦ λ g. column_of_id-append column id columns g
-    ] h
 
 -- ---- tests that agree where columns are there
 
@@ -58,15 +51,15 @@ abbrev type_of : Option Column → ColType
 type_of found = elim found [ Some column ↦ column.kind | None ↦ Binary ]
 
 same_multi : (column : Column) (schema : Schema) (id : ℕ) → has schema.columns id ≡ true → is_multi_column (with_one_more column schema) id ≡ is_multi_column schema id
-same_multi column schema id h = ap multi_of (column_of_id-append column id schema.columns h)
+same_multi column schema id h = ap multi_of (column_of_id-columns_with column id schema.columns h)
 
 same_escrow : (column : Column) (schema : Schema) (id : ℕ) → has schema.columns id ≡ true → is_escrow_column (with_one_more column schema) id ≡ is_escrow_column schema id
-same_escrow column schema id h = ap escrow_of (column_of_id-append column id schema.columns h)
+same_escrow column schema id h = ap escrow_of (column_of_id-columns_with column id schema.columns h)
 
 same_tuples_key : (column : Column) (schema : Schema) (segments : List Segment) → list_all (has schema.columns) (map (λ segment. segment.column.0) segments) ≡ true → is_tuples_key (with_one_more column schema) segments ≡ is_tuples_key schema segments
 same_tuples_key column schema [] h = refl
 same_tuples_key column schema (segment ∷ []) h =
-    ap (λ found. not segment.descending && is_text_type (type_of found)) (column_of_id-append column segment.column.0 schema.columns (and_left (has schema.columns segment.column.0) true h))
+    ap (λ found. not segment.descending && is_text_type (type_of found)) (column_of_id-columns_with column segment.column.0 schema.columns (and_left (has schema.columns segment.column.0) true h))
 same_tuples_key column schema (segment ∷ other ∷ rest) h = refl
 
 -- ---- the rule
@@ -91,7 +84,7 @@ is_built_rule-with_one_more column schema rule h =
     let legal = and_right (rule.flags.primary && nat_le rule.key_most 255) (is_legal rule schema) first in
     and_both _ _
     (and_both _ _ (and_left (rule.flags.primary && nat_le rule.key_most 255) (is_legal rule schema) first) (is_legal-with_one_more column schema rule there ∙ legal))
-    (all_mono (has schema.columns) (has (schema.columns ++ column ∷ [])) (λ id g. ap (λ found. is_some found) (column_of_id-append column id schema.columns g) ∙ g) (rule_columns rule) there)
+    (all_mono (has schema.columns) (has (columns_with column schema.columns)) (λ id g. ap (λ found. is_some found) (column_of_id-columns_with column id schema.columns g) ∙ g) (rule_columns rule) there)
 
 pub is_built_schema-with_one_more : (column : Column) (schema : Schema) → is_built_column column ≡ true → is_built_schema schema ≡ true → is_built_schema (with_one_more column schema) ≡ true
 is_built_schema-with_one_more column schema new h =
@@ -100,6 +93,6 @@ is_built_schema-with_one_more column schema new h =
     let columns = and_left (list_all is_built_column schema.columns) (list_all (is_built_rule schema) schema.indexes) first in
     let rules = and_right (list_all is_built_column schema.columns) (list_all (is_built_rule schema) schema.indexes) first in
     and_both _ _
-    (and_both _ _ (all-append is_built_column schema.columns column columns new)
+    (and_both _ _ (list_all-columns_with is_built_column column schema.columns columns new)
     (all_mono (is_built_rule schema) (is_built_rule (with_one_more column schema)) (is_built_rule-with_one_more column schema) schema.indexes rules))
     one

@@ -5,3 +5,4 @@ pub mod Answered
 pub mod WithoutRows
 pub mod Composed
 pub mod NextNumbers
+pub mod ColumnPlaces

@@ -1,8 +1,9 @@
 //! What a schema step does to the catalog.
 
-ghost use Rattle.std.specs.Prelude.{◌≡◌, ◌==◌, ◌<◌, [], ◌∷◌, ◌++◌, not, filter, take, IsTrue, OnOk, OnErr};
+ghost use Rattle.std.specs.Prelude.{◌≡◌, ◌==◌, ◌<◌, ◌≤◌, [], ◌∷◌, ◌++◌, not, filter, length, take, IsTrue, OnOk, OnErr};
+ghost use Rattle.std.specs.List.{insert};
 ghost use Rattle.database_state.specs.Table.{with_table};
-ghost use Rattle.database_state.specs.SchemaChanges.{new_table, with_column, without_column, with_index, without_index};
+ghost use Rattle.database_state.specs.SchemaChanges.{new_table, columns_with, with_column, without_column, with_index, without_index};
 ghost use Rattle.jet_catalog.specs.Catalog.{IsNumbered, catalog_after, has_new_id};
 
 use crate::catalog::Catalog;
@@ -12,13 +13,14 @@ use index_derive::{IndexRule, SchemaStep};
 use jet_base::{ColumnId, IndexId, Name, OutOfMemory, TableId};
 
 impl TableDef {
-    // Puts a copy of the column behind the others, and takes note of its number.
+    // Puts a copy of the column in its place by number, and takes note of its number.
     fn add_column(&mut self, column: &Column) -> Result<(), OutOfMemory>
         ensures made { OnOk result (self.new ≡ with_column column.now self.old) }
         ensures id { self.new.id ≡ self.old.id }
         ensures kept { OnErr result (self.new ≡ self.old) }
     {
-        self.columns.push(column.copy()?)?;
+        let place = place_of(self.columns.as_slice(), column);
+        self.columns.insert(place, column.copy()?)?;
         self.greatest.give(column.id);
         Ok(())
     }
@@ -45,6 +47,17 @@ impl TableDef {
         ensures { self.new ≡ without_index id.0 self.old }
     {
         self.indexes.retain(|index| index.id != id);
+    }
+}
+
+// The place of a new column: before those that all have greater numbers.
+fn place_of(columns: &[Column], new: &Column) -> usize
+    ensures within { result ≤ length columns.now }
+    ensures place { insert columns.now result new.now ≡ columns_with new.now columns.now }
+{
+    match columns.iter().rposition(|column| column.id.0 <= new.id.0) {
+        Some(last) => last + 1,
+        None => 0,
     }
 }
 

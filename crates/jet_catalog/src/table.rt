@@ -14,7 +14,8 @@ use jet_base::{ColumnId, IndexId, Items, Name, OutOfMemory, TableId};
 use std::alloc::Global;
 use std::marker::Model;
 
-/// A table, with its columns and its indexes in the order of their making. Contracts see it as a table without a record.
+/// A table, with its columns by rising number and its indexes in the order of their making. Contracts see it as a table
+/// without a record.
 #[derive(Debug, Drop)]
 pub struct TableDef {
     pub(crate) id: TableId,
@@ -61,7 +62,7 @@ impl TableDef {
         &self.name
     }
 
-    /// Its columns, in the order of their making.
+    /// Its columns, by rising number.
     pub fn columns(&self) -> &[Column]
         ensures { result.now ≡ self.now.columns }
     {
