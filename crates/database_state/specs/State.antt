@@ -27,7 +27,7 @@ pub record Transaction : Type 0 where
   pub begin : ℕ
   pub snapshot : List Table
 
--- A live session: its label, the tables that its cursors have open, each as often, and its transaction.
+-- A live session: its label, the tables that its cursors have open, by rising id and each as often, and its transaction.
 pub record LiveSession : Type 0 where
   pub label : ℕ
   pub open_tables : List ℕ

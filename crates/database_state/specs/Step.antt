@@ -23,7 +23,14 @@ entered label state = record state { sessions = insert_session (record { label =
 abbrev pub left : ℕ → DatabaseState → DatabaseState
 left label state = record state { sessions = filter (λ s. not (s.label == label)) state.sessions }
 
--- one table of its open ones goes
+-- ---- the open tables of a session, by rising id, each as often as it is open
+
+-- one more comes
+abbrev pub with_one : ℕ → List ℕ → List ℕ
+with_one id [] = id ∷ []
+with_one id (other ∷ rest) = if nat_lt id other then id ∷ other ∷ rest else other ∷ with_one id rest
+
+-- one goes
 abbrev pub without_one : ℕ → List ℕ → List ℕ
 without_one id [] = []
 without_one id (other ∷ rest) = if other == id then rest else other ∷ without_one id rest
@@ -101,7 +108,7 @@ with_schema_step made state = record state { tables = tables_after_step state.ta
 abbrev pub applied : ℕ → EntryKind → DatabaseState → DatabaseState
 applied label entry.Enter state = entered label state
 applied label entry.Leave state = left label (all_undone label state)
-applied label (entry.Open table) state = with_session label (λ s. record s { open_tables = table.0 ∷ s.open_tables }) state
+applied label (entry.Open table) state = with_session label (λ s. record s { open_tables = with_one table.0 s.open_tables }) state
 applied label (entry.Shut table) state = with_session label (λ s. record s { open_tables = without_one table.0 s.open_tables }) state
 applied label entry.Begin state = began label state
 applied label entry.Save state = with_levels label (λ n. n + 1) state

@@ -26,13 +26,25 @@ pub fn columns_made_out_of_order()
         ∷ entry.Schema (step.AddColumn (table_id 1) mail)
         ∷ entry.Schema (step.AddColumn (table_id 1) (column 2 (codes "grp") Long)) ∷ [])).tables
         ≡ record {
-            id = 1;
-            name = codes "t";
-            columns = column 1 (codes "id") Long ∷ column 2 (codes "grp") Long ∷ column 128 (codes "name") Text ∷ mail ∷ [];
-            indexes = [];
-            greatest = record { fixed = 2; variable = 128; tagged = 256 };
-            rows = [];
+          id = 1;
+          name = codes "t";
+          columns = column 1 (codes "id") Long ∷ column 2 (codes "grp") Long ∷ column 128 (codes "name") Text ∷ mail ∷ [];
+          indexes = [];
+          greatest = record { fixed = 2; variable = 128; tagged = 256 };
+          rows = [];
         } ∷ [] }
+{}
+
+/// The open tables of a session stand by rising number, each as often as it is open.
+pub fn open_tables_of_a_session()
+    ensures opened { (state_of (entry.Enter
+        ∷ entry.Schema (step.CreateTable (table_id 1) (codes "t")) ∷ entry.Schema (step.CreateTable (table_id 2) (codes "u"))
+        ∷ entry.Open (table_id 2) ∷ entry.Open (table_id 1) ∷ entry.Open (table_id 2) ∷ [])).sessions
+        ≡ record { label = 1; open_tables = 1 ∷ 2 ∷ 2 ∷ []; transaction = None } ∷ [] }
+    ensures shut { (state_of (entry.Enter
+        ∷ entry.Schema (step.CreateTable (table_id 1) (codes "t")) ∷ entry.Schema (step.CreateTable (table_id 2) (codes "u"))
+        ∷ entry.Open (table_id 2) ∷ entry.Open (table_id 1) ∷ entry.Open (table_id 2) ∷ entry.Shut (table_id 2) ∷ [])).sessions
+        ≡ record { label = 1; open_tables = 1 ∷ 2 ∷ []; transaction = None } ∷ [] }
 {}
 
 /// The past does not tell from which record a put was copied; that stands in the log alone.

@@ -1,5 +1,5 @@
 -- What the engine of the code holds, as contracts see it.
-use Rattle.std.specs.Prelude.{◌≡◌, ℕ, ◌+◌, ◌*◌, ◌≤◌, Bool, true, ◌&&◌, nat_le, List, length, map, reverse, Option, Some, None, is_some, is_none}
+use Rattle.std.specs.Prelude.{◌≡◌, ℕ, ◌+◌, ◌*◌, ◌≤◌, Bool, true, ◌&&◌, nat_le, List, length, map, Option, Some, None, is_some, is_none}
 use Rattle.jet_base.specs.declared.ids.TableId.{TableId}
 use Rattle.column_set.specs.declared.changes.Change.{Change}
 use Rattle.column_set.specs.declared.changes.Change.TheVariants.{Put}
@@ -19,7 +19,7 @@ abbrev pub number_of : TableId → ℕ
 number_of table = table.0
 
 abbrev pub live : live_session.Inside → LiveState
-live inside = record { label = inside.label.0; levels = inside.levels; open_tables = reverse (map number_of inside.open_tables.items) }
+live inside = record { label = inside.label.0; levels = inside.levels; open_tables = map number_of inside.open_tables.items }
 
 -- at most seven levels stand
 abbrev pub HasLevels : live_session.Inside → Type 0

@@ -1,8 +1,8 @@
 //! The live session.
 
-ghost use Rattle.std.specs.Prelude.{◌≡◌, ◌+◌, ◌-◌, ◌≤◌, ◌==◌, ◌∷◌, [], OnOk, OnErr};
-ghost use Rattle.std.specs.List.{list_any};
-ghost use Rattle.database_state.specs.Step.{without_one};
+ghost use Rattle.std.specs.Prelude.{◌≡◌, ◌+◌, ◌-◌, ◌≤◌, ◌==◌, [], length, map, OnOk, OnErr};
+ghost use Rattle.std.specs.List.{list_any, insert};
+ghost use Rattle.database_state.specs.Step.{with_one, without_one};
 
 use jet_base::{OutOfMemory, Session, TableId};
 use std::alloc::Global;
@@ -13,7 +13,7 @@ use std::marker::Model;
 pub(crate) struct LiveSession {
     label: Session,
     levels: u8,
-    // The last opened stands last.
+    // By rising number, each as often as it is open.
     open_tables: Vec<TableId>,
 }
 
@@ -66,18 +66,19 @@ impl LiveSession {
 
     /// A cursor is opened on the table.
     pub(crate) fn open_table(&mut self, table: TableId) -> Result<(), OutOfMemory>
-        ensures done { OnOk result (self.new ≡ record self.old { open_tables = table.0 ∷ self.old.open_tables }) }
+        ensures done { OnOk result (self.new ≡ record self.old { open_tables = with_one table.0 self.old.open_tables }) }
         ensures kept { OnErr result (self.new ≡ self.old) }
     {
-        self.open_tables.push(table)?;
+        let place = place_of(&self.open_tables, table);
+        self.open_tables.insert(place, table)?;
         Ok(())
     }
 
-    /// The last opened of the cursors on the table is closed. Where none is open on it nothing changes.
+    /// One of the cursors on the table is closed. Where none is open on it nothing changes.
     pub(crate) fn close_table(&mut self, table: TableId)
         ensures { self.new ≡ record self.old { open_tables = without_one table.0 self.old.open_tables } }
     {
-        if let Some(place) = self.open_tables.iter().rposition(|id| *id == table) {
+        if let Some(place) = self.open_tables.iter().position(|id| *id == table) {
             self.open_tables.remove(place);
         }
     }
@@ -87,6 +88,17 @@ impl LiveSession {
         ensures { result ≡ list_any (λ id. id == table.0) self.now.open_tables }
     {
         is_among(&self.open_tables, table)
+    }
+}
+
+// The place of one table more: before the first of a greater number.
+fn place_of(tables: &[TableId], table: TableId) -> usize
+    ensures within { result ≤ length tables.now }
+    ensures place { map (λ id. id.0) (insert tables.now result table) ≡ with_one table.0 (map (λ id. id.0) tables.now) }
+{
+    match tables.iter().position(|other| table.0 < other.0) {
+        Some(place) => place,
+        None => tables.len(),
     }
 }
 

@@ -1,10 +1,10 @@
 -- How often each table is open, and how many of the cursors stand on it.
 use Rattle.std.proofs.Common.{◌≡◌, ℕ, ◌+◌, ◌≤◌, Bool, true, false, cond, not, ◌&&◌, ◌||◌, List, [], ◌∷◌, ◌++◌, map, filter, find, Option, Some, None, count_by, refl, sym, ap, subst, ◌∙◌, if◌then◌else◌, arith}
-use Rattle.std.specs.Prelude.{◌==◌}
+use Rattle.std.specs.Prelude.{◌==◌, nat_lt}
 use Rattle.std.specs.List.{list_all, list_any}
 use Rattle.std.proofs.lemmas.Bool.Decides.{nat_tests}
 use Rattle.std.proofs.lemmas.List.Sums.{sum_by-cons, sum_by_push}
-use Rattle.database_state.specs.Step.{without_one}
+use Rattle.database_state.specs.Step.{with_one, without_one}
 use Rattle.session_local.specs.Local.{OpenCursor, unprepared}
 use Rattle.session_local.specs.SessionSide.{label_of, are_distinct}
 use Rattle.session_local.specs.Agreement.{SameCounts, cursor_table}
@@ -123,12 +123,20 @@ tables_push : (cursors : List OpenCursor) (new : OpenCursor) → map cursor_tabl
 tables_push [] new = refl
 tables_push (c ∷ cursors) new = ap (λ tables. c.cursor.table ∷ tables) (tables_push cursors new)
 
+count-with_one : (table : ℕ) (ids : List ℕ) (id : ℕ) → count id (with_one table ids) ≡ cond (table == id) 1 0 + count id ids
+count-with_one table [] id = count-first id table []
+count-with_one table (n ∷ ids) id =
+    elim (nat_lt table n) as (λ b. count id (cond b (table ∷ n ∷ ids) (n ∷ with_one table ids)) ≡ cond (table == id) 1 0 + count id (n ∷ ids)) [
+      | true ↦ count-first id table (n ∷ ids)
+      | false ↦ omega (arith, count-first id n (with_one table ids), count-first id n ids, count-with_one table ids id)
+    ]
+
 pub counts-opened : (live : Option LiveState) (session : ℕ) (cursors : List OpenCursor) (new : OpenCursor) → is_live_in live session ≡ true → SameCounts (map cursor_table cursors) (open_tables_in live)
     → SameCounts (map cursor_table (cursors ++ new ∷ [])) (open_tables_in (with_open_table new.cursor.table live))
 counts-opened None session cursors new begun same = cc
 counts-opened (Some live) session cursors new begun same = λ id.
     ap (count id) (tables_push cursors new)
-    ∙ omega (arith, same id, count-last id new.cursor.table (map cursor_table cursors), count-first id new.cursor.table live.open_tables)
+    ∙ omega (arith, same id, count-last id new.cursor.table (map cursor_table cursors), count-with_one new.cursor.table live.open_tables id)
 
 -- ---- a cursor fewer
 

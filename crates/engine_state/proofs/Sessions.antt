@@ -8,7 +8,7 @@ use Rattle.index_derive.specs.declared.log.EntryKind.TheVariants as entry
 use Rattle.database_state.specs.Table.{Table}
 use Rattle.database_state.specs.State.{DatabaseState, LiveSession, Transaction, live_session, transaction_of, levels_of, levels}
 use Rattle.database_state.specs.SchemaChanges.{is_in_use}
-use Rattle.database_state.specs.Step.{insert_session, without_one, at_levels, state_after}
+use Rattle.database_state.specs.Step.{insert_session, with_one, without_one, at_levels, state_after}
 use Rattle.engine_state.specs.SingleSession.{is_alone, entry_by, is_single_step, levels_after, open_tables_of, open_tables, open_tables_after}
 use Rattle.engine_state.proofs.Tests.{and_left, self_equal, same_number, le_from_true}
 
@@ -53,7 +53,7 @@ is_alone-entered session sessions e = rw e (self_equal session)
 -- ---- the session after an entry
 
 abbrev pub opens : ℕ → LiveSession → LiveSession
-opens id s = record s { open_tables = id ∷ s.open_tables }
+opens id s = record s { open_tables = with_one id s.open_tables }
 
 abbrev pub shuts : ℕ → LiveSession → LiveSession
 shuts id s = record s { open_tables = without_one id s.open_tables }

@@ -7,7 +7,7 @@ use Rattle.database_state.specs.State.{LiveSession, levels_of}
 use Rattle.jet_catalog.specs.Catalog.{CatalogState}
 use Rattle.table_store.specs.StoredRows.{StoredRows}
 
--- The one live session: its label, the levels of its transaction (0 outside one), and its open tables, the last opened first.
+-- The one live session: its label, the levels of its transaction (0 outside one), and its open tables by rising id.
 pub record LiveState : Type 0 where
   pub label : ℕ
   pub levels : ℕ
@@ -47,7 +47,7 @@ abbrev pub levels_in : Option LiveState → ℕ → ℕ
 levels_in None session = 0
 levels_in (Some live) session = if live.label == session then live.levels else 0
 
--- the table of each open cursor, the last opened first
+-- the table of each open cursor, by rising id
 abbrev pub open_tables_in : Option LiveState → List ℕ
 open_tables_in None = []
 open_tables_in (Some live) = live.open_tables

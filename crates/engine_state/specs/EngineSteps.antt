@@ -12,7 +12,7 @@ use Rattle.index_derive.specs.declared.schema_calls.SchemaStep.TheVariants as st
 use Rattle.database_state.specs.Table.{Table, table_with_id, schema_of, primary_rule}
 use Rattle.database_state.specs.Lawful.{log_limit}
 use Rattle.database_state.specs.SchemaChanges.{with_index}
-use Rattle.database_state.specs.Step.{without_one}
+use Rattle.database_state.specs.Step.{with_one, without_one}
 use Rattle.jet_catalog.specs.Catalog.{catalog_after, has_new_id}
 use Rattle.table_store.specs.StoredRows.{StoredRows, stored_rows, with_rows, without_table, has_table}
 use Rattle.engine_state.specs.EngineState.{EngineState, LiveState, record_bytes, levels_in, has_open}
@@ -26,7 +26,7 @@ at_levels change (Some live) = Some (record live { levels = change live.levels }
 
 abbrev pub with_open_table : ℕ → Option LiveState → Option LiveState
 with_open_table table None = None
-with_open_table table (Some live) = Some (record live { open_tables = table ∷ live.open_tables })
+with_open_table table (Some live) = Some (record live { open_tables = with_one table live.open_tables })
 
 -- one cursor on the table is closed, and the others on it stay open
 abbrev pub without_open_table : ℕ → Option LiveState → Option LiveState

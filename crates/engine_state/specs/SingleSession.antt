@@ -14,7 +14,7 @@ use Rattle.database_state.specs.State.{DatabaseState, LiveSession, PastChange, T
 use Rattle.database_state.specs.View.{newest}
 use Rattle.database_state.specs.Conflicts.{is_after_begin}
 use Rattle.database_state.specs.SchemaChanges.{tables_after_step, greatest_table_after}
-use Rattle.database_state.specs.Step.{without_one, state_after_all}
+use Rattle.database_state.specs.Step.{with_one, without_one, state_after_all}
 use Rattle.database_state.specs.Lawful.{is_live}
 
 -- ---- the sessions
@@ -156,7 +156,7 @@ open_tables state session = open_tables_of (live_session state session)
 
 abbrev pub open_tables_after : List ℕ → EntryKind → List ℕ
 open_tables_after ids entry.Enter = []
-open_tables_after ids (entry.Open table) = table.0 ∷ ids
+open_tables_after ids (entry.Open table) = with_one table.0 ids
 open_tables_after ids (entry.Shut table) = without_one table.0 ids
 open_tables_after ids _ = ids
 

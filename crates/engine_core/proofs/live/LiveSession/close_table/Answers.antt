@@ -1,4 +1,4 @@
-use Rattle.std.proofs.Common.{rules, tests, ◌≡◌, ℕ, ◌<◌, true, false, List, length, map, reverse, get_or, sym, ap, ◌∙◌}
+use Rattle.std.proofs.Common.{rules, tests, ◌≡◌, ℕ, ◌<◌, true, false, List, length, map, get_or, sym, ap, ◌∙◌}
 use Rattle.std.specs.Prelude.{◌==◌}
 use Rattle.jet_base.specs.declared.ids.TableId.{TableId}
 use Rattle.database_state.specs.Step.{without_one}
@@ -20,9 +20,9 @@ returns-in-Some c =
     let place = c.in-Some.place in
     let within : place < length tables = search rules in
     let here : ((get_or tables place c.args.table).0 == table) ≡ true = search (rules, tests) in
-    let after : (k : ℕ) → place < k → k < length tables → ((get_or tables k c.args.table).0 == table) ≡ false = λ k more lt. search (rules, tests) in
-    ap (λ (items : List TableId). with_tables c.self.inside.label.0 c.self.inside.levels (reverse (map number_of items))) c.remove.ensures.items
-    ∙ ap (with_tables c.self.inside.label.0 c.self.inside.levels) (sym (without_one-read tables table place c.args.table within here after))
+    let before : (k : ℕ) → k < place → ((get_or tables k c.args.table).0 == table) ≡ false = λ k lt. search (rules, tests) in
+    ap (λ (items : List TableId). with_tables c.self.inside.label.0 c.self.inside.levels (map number_of items)) c.remove.ensures.items
+    ∙ ap (with_tables c.self.inside.label.0 c.self.inside.levels) (sym (without_one-read tables table place c.args.table within here before))
     ∙ ap (without table) c.self.view_is
 
 pub returns-in_default : goal.returns-in_default
