@@ -67,8 +67,8 @@ by_kind : (state : DatabaseState) (label : ℕ) (kind : EntryKind) → EachTwo L
 by_kind state label entry.Enter h e =
     rise_insert (record { label = label; open_tables = []; transaction = None }) state.sessions (not_there label state.sessions (not_true (is_some (live_session state label)) (and_left _ _ e))) h
 by_kind state label entry.Leave h e = rise_filter (λ s. not (s.label == label)) (with_transaction label None (with_next_number state)).sessions (rise_with label (λ s. record s { transaction = None }) (λ s. refl) state.sessions h)
-by_kind state label (entry.Open table) h e = rise_with label (λ s. record s { open_tables = table.0 ∷ s.open_tables }) (λ s. refl) state.sessions h
-by_kind state label (entry.Shut table) h e = rise_with label (λ s. record s { open_tables = without_one table.0 s.open_tables }) (λ s. refl) state.sessions h
+by_kind state label (entry.Open table) h e = rise_with label _ (λ s. refl) state.sessions h
+by_kind state label (entry.Shut table) h e = rise_with label _ (λ s. refl) state.sessions h
 by_kind state label entry.Begin h e = rise_with label (λ s. record s { transaction = Some (record { levels = 1; begin = state.number + 1; snapshot = state.tables }) }) (λ s. refl) state.sessions h
 by_kind state label entry.Save h e = rise_with label (λ s. record s { transaction = at_levels (λ n. n + 1) s.transaction }) (λ s. refl) state.sessions h
 by_kind state label (entry.Change change) h e = h

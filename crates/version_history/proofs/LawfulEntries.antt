@@ -88,9 +88,9 @@ by_kind base dropped kept state label entry.Enter h e =
     history_entered base dropped kept label (with_next_number state) (not_true (is_some (live_session state label)) (and_left _ _ e)) (history_later base dropped kept state h)
 by_kind base dropped kept state label entry.Leave h e = history_left base dropped kept label (with_next_number state) (history_later base dropped kept state h)
 by_kind base dropped kept state label (entry.Open table) h e =
-    history_with base dropped kept label (λ s. record s { open_tables = table.0 ∷ s.open_tables }) (λ s. refl) (λ s. refl) (with_next_number state) (history_later base dropped kept state h)
+    history_with base dropped kept label _ (λ s. refl) (λ s. refl) (with_next_number state) (history_later base dropped kept state h)
 by_kind base dropped kept state label (entry.Shut table) h e =
-    history_with base dropped kept label (λ s. record s { open_tables = without_one table.0 s.open_tables }) (λ s. refl) (λ s. refl) (with_next_number state) (history_later base dropped kept state h)
+    history_with base dropped kept label _ (λ s. refl) (λ s. refl) (with_next_number state) (history_later base dropped kept state h)
 by_kind base dropped kept state label entry.Begin h e =
     history_begun base dropped kept label state (and_left _ _ e) (outside base dropped kept state h label (and_right (is_some (live_session state label)) _ e)) h
 by_kind base dropped kept state label entry.Save h e = history_saved base dropped kept label (with_next_number state) (history_later base dropped kept state h)

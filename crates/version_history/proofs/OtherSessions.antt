@@ -93,9 +93,9 @@ by_kind state label entry.Leave session t e other h =
     ∙ ap (λ (f : ℕ → Option Transaction). f session) (transaction-ended label (with_changes_at label every_change (λ item. record item { status = undone }) (with_next_number state))) ∙ off session label other None (transaction_of (with_next_number state)))
     (others_changes session label every_change (λ item. record item { status = undone }) other (λ item. refl) state.past)
 by_kind state label (entry.Open table) session t e other h =
-    by_parts (with_next_number state) (applied label (entry.Open table) (with_next_number state)) session t e (ap (λ (f : ℕ → Option Transaction). f session) (same-with label (λ s. record s { open_tables = table.0 ∷ s.open_tables }) (λ s. refl) (λ s. refl) (with_next_number state))) refl
+    by_parts (with_next_number state) (applied label (entry.Open table) (with_next_number state)) session t e (ap (λ (f : ℕ → Option Transaction). f session) (same-with label _ (λ s. refl) (λ s. refl) (with_next_number state))) refl
 by_kind state label (entry.Shut table) session t e other h =
-    by_parts (with_next_number state) (applied label (entry.Shut table) (with_next_number state)) session t e (ap (λ (f : ℕ → Option Transaction). f session) (same-with label (λ s. record s { open_tables = without_one table.0 s.open_tables }) (λ s. refl) (λ s. refl) (with_next_number state))) refl
+    by_parts (with_next_number state) (applied label (entry.Shut table) (with_next_number state)) session t e (ap (λ (f : ℕ → Option Transaction). f session) (same-with label _ (λ s. refl) (λ s. refl) (with_next_number state))) refl
 by_kind state label entry.Begin session t e other h =
     by_parts (with_next_number state) (applied label entry.Begin (with_next_number state)) session t e
     (ap (λ (f : ℕ → Option Transaction). f session) (transaction-begun label (record { levels = 1; begin = state.number + 1; snapshot = state.tables }) (with_next_number state) (and_left _ _ h))
