@@ -1,0 +1,51 @@
+-- No reader finds a key of a unique index at two records.
+use Rattle.std.proofs.Common.{◌≡◌, ◌⊎◌, inl, inr, ℕ, Bool, true, false, List, [], ◌∷◌, Option, None, refl, sym, ap, subst, ◌∙◌}
+use Rattle.std.specs.Prelude.{◌==◌}
+use Rattle.std.specs.List.{AllByRecursion}
+use Rattle.index_derive.specs.declared.rules.IndexRule.{IndexRule}
+use Rattle.index_derive.specs.declared.rules.Schema.{Schema}
+use Rattle.database_state.specs.Table.{Table}
+use Rattle.database_state.specs.State.{DatabaseState, PastChange, Transaction, transaction_of}
+use Rattle.database_state.specs.View.{newest, view}
+use Rattle.database_state.specs.Conflicts.{collide}
+use Rattle.record_changes.specs.Records.{Records, record_after, records_of}
+use Rattle.version_history.specs.History.{InOrder, IsHistory, IsPlaced}
+use Rattle.version_history.specs.Readers.{is_standing, sees}
+use Rattle.version_keys.specs.UniqueKeys.{AreUnique, HasFreeKeys, InKeyOrder, SeesEarlier}
+use Rattle.version_keys.specs.Variants.{HasNoSums}
+use Rattle.version_history.proofs.FoundRecord.{seen_live}
+use Rattle.version_history.proofs.Lists.{all_weaker, each_and, each_both, each_weaker}
+use Rattle.version_history.proofs.SeenEarlier.{seen_where_apart}
+use Rattle.version_history.proofs.SeenRecords.{newest_records}
+use Rattle.version_history.proofs.Viewing.{view_records}
+use Rattle.version_keys.proofs.UniqueThroughout.{unique_throughout}
+
+-- ---- a session
+
+seen_pair : (rule : IndexRule) (schema : Schema) (table : ℕ) (number : ℕ) (tables : List Table) (transactions : ℕ → Option Transaction) (session : ℕ) (p q : PastChange) → IsPlaced number tables transactions p → IsPlaced number tables transactions q
+    → InOrder transactions p q × InKeyOrder rule schema table transactions p q → SeesEarlier rule schema table (sees session (transactions session)) p q
+seen_pair rule schema table number tables transactions session p q placed_p placed_q orders live seen either =
+    seen_where_apart number tables transactions session p q placed_q live (λ standing. elim either [ inl hit ↦ orders.0 live standing hit | inr meets ↦ orders.1 live standing meets ]) seen
+
+pub unique_in_view : (base : Records) (dropped kept : List PastChange) (state : DatabaseState) → IsHistory base dropped kept state → HasNoSums kept → (rule : IndexRule) (schema : Schema) (table : ℕ)
+    → HasFreeKeys rule schema table (transaction_of state) base kept → (session : ℕ) → AreUnique rule schema table (records_of (view state session))
+unique_in_view base dropped kept state h none rule schema table free session =
+    subst (AreUnique rule schema table) (sym (view_records base dropped kept state h session))
+    (unique_throughout rule schema table (sees session (transaction_of state session)) (seen_live session (transaction_of state session)) kept base base h.keeps.befores none
+    (all_weaker (IsPlaced state.number state.tables (transaction_of state)) (λ item. item.after ≡ record_after item.change item.before) (λ item p. p.3) kept h.keeps.placed)
+    free.free_keys
+    (each_both (IsPlaced state.number state.tables (transaction_of state)) (λ p q. InOrder (transaction_of state) p q × InKeyOrder rule schema table (transaction_of state) p q) (SeesEarlier rule schema table (sees session (transaction_of state session)))
+    (seen_pair rule schema table state.number state.tables (transaction_of state) session) kept h.keeps.placed (each_and (InOrder (transaction_of state)) (InKeyOrder rule schema table (transaction_of state)) kept h.keeps.in_order free.key_order))
+    (λ bookmark. inl refl) free.at_first)
+
+-- ---- the newest state
+
+pub unique_newest : (base : Records) (dropped kept : List PastChange) (state : DatabaseState) → IsHistory base dropped kept state → HasNoSums kept → (rule : IndexRule) (schema : Schema) (table : ℕ)
+    → HasFreeKeys rule schema table (transaction_of state) base kept → AreUnique rule schema table (records_of (newest state))
+unique_newest base dropped kept state h none rule schema table free =
+    subst (AreUnique rule schema table) (sym (newest_records base dropped kept state h))
+    (unique_throughout rule schema table is_standing (λ item standing. standing) kept base base h.keeps.befores none
+    (all_weaker (IsPlaced state.number state.tables (transaction_of state)) (λ item. item.after ≡ record_after item.change item.before) (λ item p. p.3) kept h.keeps.placed)
+    free.free_keys
+    (each_weaker (InOrder (transaction_of state)) (SeesEarlier rule schema table is_standing) (λ p q order live seen either. live) kept h.keeps.in_order)
+    (λ bookmark. inl refl) free.at_first)
