@@ -1,0 +1,33 @@
+//! Keys of a unique index, and its entries, as sessions meet them.
+
+ghost use Rattle.std.specs.Prelude.{◌≡◌, List, [], ◌∷◌, true, false, pos};
+ghost use Rattle.index_derive.specs.declared.log.EntryKind.TheVariants as entry;
+ghost use Rattle.database_state.specs.Lawful.{is_lawful};
+ghost use Rattle.definition_examples.specs.States.{entry_by, fields, put};
+ghost use Rattle.version_examples.specs.Runs.{after, meets_key, meets_variant, has_variant, entry_of, shown_of, derived_of};
+
+/// Session 1 changes a unique key from 7 to 9. Session 2 may put neither as long as it stands before that change: one is the
+/// key before it, the other the key after it. Another key it may put. The variants of the record tell the same.
+pub fn keys_of_a_concurrent_change()
+    ensures meets { let state = after ((1, entry.Begin) ∷ (2, entry.Begin) ∷ (1, entry.Change (put 3 (fields 1 9 0))) ∷ []) in
+        (meets_key state 2 7 ≡ true) × (meets_key state 2 9 ≡ true) × (meets_key state 2 8 ≡ false) × (meets_key state 2 6 ≡ false) × (meets_key state 1 9 ≡ false)
+        × (meets_variant state 2 7 ≡ true) × (meets_variant state 2 9 ≡ true) × (meets_variant state 2 8 ≡ false) × (meets_variant state 2 6 ≡ false) × (meets_variant state 1 9 ≡ false) }
+    ensures lawful { let state = after ((1, entry.Begin) ∷ (2, entry.Begin) ∷ (1, entry.Change (put 3 (fields 1 9 0))) ∷ []) in
+        (is_lawful state (entry_by 2 (entry.Change (put 14 (fields 4 7 0)))) ≡ false) × (is_lawful state (entry_by 2 (entry.Change (put 14 (fields 4 9 0)))) ≡ false)
+        × (is_lawful state (entry_by 2 (entry.Change (put 14 (fields 4 6 0)))) ≡ true) }
+    ensures committed { let state = after ((1, entry.Begin) ∷ (2, entry.Begin) ∷ (1, entry.Change (put 3 (fields 1 9 0))) ∷ (1, entry.Commit) ∷ (3, entry.Begin) ∷ []) in
+        (meets_key state 2 7 ≡ true) × (meets_variant state 2 7 ≡ true) × (meets_key state 3 7 ≡ false) × (meets_variant state 3 7 ≡ false) × (meets_key state 3 9 ≡ false)
+        × (is_lawful state (entry_by 3 (entry.Change (put 16 (fields 4 7 0)))) ≡ true) × (is_lawful state (entry_by 3 (entry.Change (put 16 (fields 4 9 0)))) ≡ false) }
+{}
+
+/// The index's tree holds the entries of both variants. Each session is shown those of the record that it sees, which are the
+/// index derived of its view. An undo takes the key that no variant has then.
+pub fn entries_of_two_variants()
+    ensures variants { let state = after ((1, entry.Begin) ∷ (2, entry.Begin) ∷ (1, entry.Change (put 3 (fields 1 9 0))) ∷ []) in
+        (has_variant state 7 3 ≡ true) × (has_variant state 9 3 ≡ true) × (has_variant state 8 3 ≡ false) × (has_variant state 8 4 ≡ true) }
+    ensures shown { let state = after ((1, entry.Begin) ∷ (2, entry.Begin) ∷ (1, entry.Change (put 3 (fields 1 9 0))) ∷ []) in
+        (shown_of state 2 (entry_of 7 3 ∷ entry_of 8 4 ∷ entry_of 9 3 ∷ []) ≡ entry_of 7 3 ∷ entry_of 8 4 ∷ []) × (derived_of state 2 ≡ entry_of 7 3 ∷ entry_of 8 4 ∷ [])
+        × (shown_of state 1 (entry_of 7 3 ∷ entry_of 8 4 ∷ entry_of 9 3 ∷ []) ≡ entry_of 8 4 ∷ entry_of 9 3 ∷ []) × (derived_of state 1 ≡ entry_of 8 4 ∷ entry_of 9 3 ∷ []) }
+    ensures undone { let state = after ((1, entry.Begin) ∷ (2, entry.Begin) ∷ (1, entry.Change (put 3 (fields 1 9 0))) ∷ (1, entry.Undo) ∷ []) in
+        (has_variant state 7 3 ≡ true) × (has_variant state 9 3 ≡ false) × (meets_key state 2 9 ≡ false) × (derived_of state 1 ≡ entry_of 7 3 ∷ entry_of 8 4 ∷ []) }
+{}
