@@ -1,0 +1,4 @@
+pub mod Ties
+pub mod EndingMatches
+pub mod Undone
+pub mod HeldSpan
