@@ -1,8 +1,8 @@
 //! Pieces that are pushed, read and popped, and memory that fails.
 ghost use Rattle.std.specs.Prelude.{◌≤◌, length};
 
-use version_bucket::Buckets;
 use std::process::Abort;
+use version_bucket::Buckets;
 
 /// Bytes of which each piece is a run of its own.
 fn pattern() -> [u8; 4_600] {

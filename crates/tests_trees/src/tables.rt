@@ -5,12 +5,14 @@ ghost use Rattle.index_derive.specs.Entries.{own_order};
 ghost use Rattle.cursor_nav.specs.Places.{are_sorted};
 ghost use Rattle.table_store.specs.StoredRows.{stored_rows};
 
-use table_store::{RecordStore, rows_after_a_change, rows_beside_a_new_table, rows_without_a_table};
 use index_derive::Place;
 use jet_base::TableId;
 use key_normal::Key;
 use std::alloc::Global;
 use std::process::Abort;
+use table_store::{
+    RecordStore, rows_after_a_change, rows_beside_a_new_table, rows_without_a_table,
+};
 
 /// How many numbers each table has. A bookmark is twice a number, so that others lie between two of them.
 const COUNT: u32 = 300;

@@ -3,7 +3,7 @@
 ghost use Rattle.std.specs.Prelude.{ℕ, ◌<◌, Contains, IfOk};
 ghost use Rattle.btree_inplace.specs.Trees.{Exchanges, IsTree, pages_of};
 
-use btree_inplace::{Tree, nodes_fit_their_space, no_page_is_empty, other_tree_stays};
+use btree_inplace::{Tree, no_page_is_empty, nodes_fit_their_space, other_tree_stays};
 use jet_base::OutOfMemory;
 use page_space::Space;
 use std::alloc::Global;

@@ -1,10 +1,10 @@
 //! Held changes beside a plain list of them.
 
-use version_store::{By, Reader, Undone, Variant, VersionFault, Versions};
 use column_set::{Bookmark, Change};
 use jet_base::{ColumnId, Session, TableId};
 use std::alloc::Global;
 use std::process::Abort;
+use version_store::{By, Reader, Undone, Variant, VersionFault, Versions};
 
 /// A change of the plain list.
 #[derive(Clone, Copy)]

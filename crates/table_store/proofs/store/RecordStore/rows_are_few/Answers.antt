@@ -15,5 +15,5 @@ returns c table =
     subst (λ (stores : List (ℕ × StoredRows)). length (stored_rows stores table) < 2 ^ 34) c.self.view_is
     (rows_in_order (λ rows. length rows < 2 ^ 34) space tables table (omega arith)
     (λ i lt.
-        let tree = (table_at tables i).tree in
-        omega (arith, length-map (nodes_of space tree) key_and_data, c.nodes_fit_their_space.ensures space tree (c.self.invariant.trees i lt).tree, c.len.ensures.value, c.len.ensures.limit)))
+    let tree = (table_at tables i).tree in
+    omega (arith, length-map (nodes_of space tree) key_and_data, c.nodes_fit_their_space.ensures space tree (c.self.invariant.trees i lt).tree, c.len.ensures.value, c.len.ensures.limit)))
