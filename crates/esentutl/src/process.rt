@@ -37,7 +37,7 @@ pub fn end_process<S: Source, K: Sink>(
     out: &mut K,
 ) -> ExitCode
     ensures { (text : List ℕ) × (ending : Ending) × (exit_status result ≡ status_of ending)
-        × MatchResult words (λ given. is_ordered_run (words_of given.now) ≡ accepts ending) (λ fault. ending ≡ ending_without_words fault)
+        × MatchResult words.entry (λ given. is_ordered_run (words_of given.now) ≡ accepts ending) (λ fault. ending ≡ ending_without_words fault)
         × (S.left script.old ≡ prepend_known text (S.left script.new))
         × EndsBy (record {
           left_before = S.left script.old;
