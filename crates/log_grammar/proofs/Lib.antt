@@ -1,0 +1,10 @@
+pub mod EntryLaws
+pub mod FieldLaws
+pub mod Fits
+pub mod FrontLaws
+pub mod Grouping
+pub mod KindLaws
+pub mod Laws
+pub mod SchemaLaws
+pub mod Streams
+pub mod Values

@@ -1,0 +1,4 @@
+pub mod EntryBytes
+pub mod EntryReading
+pub mod EntryStreams
+pub mod Samples
