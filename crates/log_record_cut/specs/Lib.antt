@@ -1,0 +1,2 @@
+pub mod EntryCuts
+pub mod Passing
