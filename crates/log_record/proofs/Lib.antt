@@ -1,0 +1,5 @@
+pub mod Appends
+pub mod FrontAnswers
+pub mod Loop
+pub mod Pushing
+pub mod Sizes

@@ -1,0 +1,3 @@
+pub mod EntryParsed
+pub mod EntrySeen
+pub mod EntrySizes
