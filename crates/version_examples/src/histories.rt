@@ -1,4 +1,5 @@
 //! What sessions see and find of a record, and which changes conflict.
+#![tactic(auto, unfolding(database_state::specs::Computing::computing))]
 
 ghost use Rattle.std.specs.Prelude.{◌≡◌, List, [], ◌∷◌, true, false, Some, None, map, pos};
 ghost use Rattle.index_derive.specs.declared.log.EntryKind.TheVariants as entry;

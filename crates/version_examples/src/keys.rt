@@ -1,4 +1,5 @@
 //! Keys of a unique index, and its entries, as sessions meet them.
+#![tactic(auto, unfolding(database_state::specs::Computing::computing))]
 
 ghost use Rattle.std.specs.Prelude.{◌≡◌, List, [], ◌∷◌, true, false, pos};
 ghost use Rattle.index_derive.specs.declared.log.EntryKind.TheVariants as entry;

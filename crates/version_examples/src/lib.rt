@@ -1,6 +1,6 @@
 //! Worked examples of versions and conflicts: runs of several sessions. Each function has an empty body, and its clause says
 //! what the definitions give; it is what the laws of the past changes say.
-#![tactic(auto, unfolding(database_state::specs::Computing::computing))]
+#![tactic(auto)]
 
 pub mod histories;
 pub mod keys;
