@@ -7,8 +7,14 @@ use std::test::*;
 fn sessions_take_turns(rt: HostRuntime) -> Result<(), Fail> {
     let ended = two_in_turns(rt.alloc(), Session(1), Session(2))?;
     assert!(rt; ended.agrees);
-    assert_eq!(rt; (ended.made.0 as usize, ended.made.1 as usize), ended.listed);
-    assert_eq!(rt; ended.listed.0.saturating_add(ended.listed.1), ended.entries);
+    assert_eq!(rt;
+        (ended.made.0 as usize, ended.made.1 as usize),
+        ended.listed
+    );
+    assert_eq!(rt;
+        ended.listed.0.saturating_add(ended.listed.1),
+        ended.entries
+    );
     assert!(rt; ended.listed.0 > 100 && ended.listed.1 > 100);
     Ok(())
 }
