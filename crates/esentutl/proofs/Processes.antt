@@ -6,13 +6,13 @@ use Rattle.esentutl.specs.TopCall.{Outside, Ending, done, bad_words, too_long, s
 
 -- only bad words are of no form
 pub ending_of_no_form : (ending : Ending) → false ≡ accepts ending → ending ≡ bad_words
-ending_of_no_form bad_words no = refl
-ending_of_no_form done no = absurd (false≢true no)
-ending_of_no_form too_long no = absurd (false≢true no)
-ending_of_no_form source_failed no = absurd (false≢true no)
-ending_of_no_form sink_failed no = absurd (false≢true no)
-ending_of_no_form want_of_memory no = absurd (false≢true no)
-ending_of_no_form (not_built number) no = absurd (false≢true no)
+ending_of_no_form bad_words formless = refl
+ending_of_no_form done formless = absurd (false≢true formless)
+ending_of_no_form too_long formless = absurd (false≢true formless)
+ending_of_no_form source_failed formless = absurd (false≢true formless)
+ending_of_no_form sink_failed formless = absurd (false≢true formless)
+ending_of_no_form want_of_memory formless = absurd (false≢true formless)
+ending_of_no_form (not_built number) formless = absurd (false≢true formless)
 
 -- nothing was read or written
 pub ends_before_all : (left taken : Option (List ℕ)) (source sink : ℕ)
