@@ -35,7 +35,7 @@ use Rattle.engine_state.specs.Represents.{Represents}
 use Rattle.engine_state.proofs.Sessions.{is_in_use-none}
 use Rattle.engine_state.proofs.Told.{is_in_use-told, levels-told}
 use Rattle.engine_state.proofs.ToldTables.{has_records-told}
-use Rattle.engine_session.specs.Built.{is_built_call}
+use Rattle.session_local.specs.Built.{is_built_call}
 use Rattle.engine_session.specs.Beside.{asked_of, IsBeside}
 use Rattle.engine_core.specs.Deciding.{Decides, IsDecision}
 use Rattle.engine_core.specs.SchemaRequests.{is_schema_request, schema_call_of, makes_new, is_missing, is_open_on, has_rows_in}

@@ -4,7 +4,7 @@ ghost use Rattle.std.specs.Prelude.{◌≡◌, true, false, IfOk, OnErr};
 ghost use Rattle.database_state.specs.State.{DatabaseState};
 ghost use Rattle.session_local.specs.LocalCalls.{is_answered_locally};
 ghost use Rattle.session_local.specs.Run.{takes_no_memory};
-ghost use Rattle.engine_session.specs.Built.{is_built_call};
+ghost use Rattle.session_local.specs.Built.{is_built_call};
 ghost use Rattle.engine_session.specs.Beside.{IsBeside};
 ghost use Rattle.engine_core.specs.Deciding.{Decides, IsDecision};
 

@@ -5,7 +5,7 @@ ghost use Rattle.database_state.specs.Table.{table_named};
 ghost use Rattle.database_state.specs.SchemaSteps.{called_name};
 ghost use Rattle.jet_catalog.specs.Catalog.{IsNumbered};
 ghost use Rattle.session_local.specs.declared.request.Request.{Request};
-ghost use Rattle.engine_session.specs.Built.{is_built_call};
+ghost use Rattle.session_local.specs.Built.{is_built_call};
 ghost use Rattle.engine_session.specs.Beside.{IsBeside};
 ghost use Rattle.engine_core.specs.Deciding.{Decides, IsDecision};
 ghost use Rattle.engine_core.specs.SchemaRequests.{is_schema_request, schema_call_of, is_missing, is_open_on, has_rows_in};

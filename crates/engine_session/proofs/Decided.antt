@@ -11,7 +11,7 @@ use Rattle.session_local.specs.Calls.{answer}
 use Rattle.engine_state.specs.EngineState.{EngineState}
 use Rattle.engine_state.specs.EngineSteps.{may_take_all}
 use Rattle.engine_state.specs.Represents.{Represents}
-use Rattle.engine_session.specs.Built.{is_built_call}
+use Rattle.session_local.specs.Built.{is_built_call}
 use Rattle.engine_session.specs.Beside.{IsBeside, StaysBeside, are_fitting, asked_of}
 use Rattle.engine_session.proofs.SchemaSteps.{EngineLaws, makes_schema, schema_calls_stay}
 use Rattle.engine_session.proofs.WithStep.{with_step}

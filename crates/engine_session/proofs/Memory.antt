@@ -12,7 +12,7 @@ use Rattle.index_derive.specs.declared.log.EntryKind.TheVariants as entry
 use Rattle.index_derive.specs.declared.rules.IndexRule.{IndexRule}
 use Rattle.index_derive.specs.declared.rules.Segment.{Segment}
 use Rattle.index_derive.specs.declared.schema_calls.SchemaStep.{SchemaStep}
-use Rattle.cursor_nav.specs.Navigation.{MadeKey, new_cursor}
+use Rattle.cursor_nav.specs.Navigation.{MadeKey, new_cursor, count_from}
 use Rattle.cursor_nav.specs.MakingKeys.{begun_key, segment_kind, with_segment}
 use Rattle.cursor_nav.specs.Places.{Pair, least_entry_of}
 use Rattle.database_state.specs.Puts.{put_refusals}
@@ -21,16 +21,16 @@ use Rattle.database_state.specs.State.{levels}
 use Rattle.database_state.specs.Table.{Table, row_at, rule_with_id, table_named, schema_of, primary_order}
 use Rattle.session_local.specs.declared.request.Request.{Request}
 use Rattle.session_local.specs.declared.request.Request.TheVariants as call
-use Rattle.session_local.specs.Answer.{Nothing, Number, Bytes}
+use Rattle.session_local.specs.Answer.{Nothing, Number, Count, Bytes}
 use Rattle.session_local.specs.Local.{OpenCursor, PreparedUpdate, inserting, cursor_labelled, with_cursor, with_new_cursor, without_prepared, place_key, place_bookmark}
 use Rattle.session_local.specs.Outcome.{Asked, Outcome, said, refused, done, unless, on_cursor, one, step_of_change, rows_seen, is_outside, number_refusals, current_refusals, span_refusals}
 use Rattle.session_local.specs.Calls.{answer, answer_begun, answer_not_begun}
 use Rattle.session_local.specs.SessionCalls.{begin_session}
 use Rattle.session_local.specs.SchemaCalls.{schema_changed}
-use Rattle.session_local.specs.CursorCalls.{whole, opened, close_table, index_chosen_by, set_current_index, current_entries, move_cursor, seek_key, set_index_range, remove_index_range, segment_made, key_made_in, make_key, retrieve_key, get_bookmark, gone_to, goto_bookmark}
+use Rattle.session_local.specs.CursorCalls.{whole, opened, close_table, index_chosen_by, set_current_index, current_entries, move_cursor, seek_key, set_index_range, remove_index_range, segment_made, key_made_in, make_key, index_record_count, retrieve_key, get_bookmark, gone_to, goto_bookmark}
 use Rattle.session_local.specs.RecordCalls.{record_at, current, with_prepared, prepared_refusals, with_sums_at_zero, prepare_insert, cancel_update, on_prepared, on_column, set_column_in, set_column, value_shown, column_shown, retrieve_column, retrieve_copy, bookmark_for, replaced_by, is_primary_changed, put_of, update_with, update}
 use Rattle.session_local.specs.Run.{takes_no_memory}
-use Rattle.engine_session.specs.Built.{is_built_call}
+use Rattle.session_local.specs.Built.{is_built_call}
 use Rattle.engine_session.specs.Memory.{step_takes_memory}
 use Rattle.engine_session.proofs.Refusing.{is_memory, not_memory, other-append, other-puts, unless-other, schema-other}
 use Rattle.engine_session.proofs.Reached.{other-moved, other-sought, other-ranged}
@@ -174,6 +174,10 @@ without P asked (call.RemoveIndexRange cursor) each built none =
 without P asked (call.MakeKey cursor fresh value) each built none =
     at_cursor-each P asked (cursor_labelled asked.local cursor.0) (λ c. make_key asked c fresh value) (each _ refl refl)
     (λ c. key-each P asked c fresh value (rule_with_id c.schema c.cursor.index) each)
+without P asked (call.IndexRecordCount cursor most) each built none =
+    at_cursor-each P asked (cursor_labelled asked.local cursor.0) (λ c. index_record_count asked c most) (each _ refl refl)
+    (λ c. unless-other P asked (current_refusals (rows_seen asked c) c.cursor.place)
+    (λ _. said asked jet.Success (Count (count_from c.cursor (current_entries asked c) (place_key c.cursor.place, place_bookmark c.cursor.place) most))) refl (λ reply other. each _ other refl) (each _ refl refl))
 without P asked (call.RetrieveKey cursor) each built none =
     at_cursor-each P asked (cursor_labelled asked.local cursor.0) (retrieve_key asked) (each _ refl refl)
     (λ c. unless-other P asked (current_refusals (rows_seen asked c) c.cursor.place) (λ _. said asked jet.Success (whole (place_key c.cursor.place))) refl (λ reply other. each _ other refl) (each _ refl refl))

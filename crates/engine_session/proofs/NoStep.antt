@@ -8,15 +8,21 @@ use Rattle.jet_base.specs.ColumnType.{is_number_type, number_of}
 use Rattle.column_set.specs.declared.columns.Column.{Column}
 use Rattle.column_set.specs.RecordValues.{RecordFields, column_named, values_of}
 use Rattle.index_derive.specs.declared.rules.IndexRule.{IndexRule}
-use Rattle.session_local.specs.Answer.{Number, Bytes}
+use Rattle.cursor_nav.specs.Navigation.{count_from}
+use Rattle.session_local.specs.Answer.{Number, Count, Bytes}
 use Rattle.session_local.specs.Local.{OpenCursor, place_bookmark, place_key}
 use Rattle.session_local.specs.Outcome.{Asked, Outcome, current_refusals, rows_seen, said}
-use Rattle.session_local.specs.CursorCalls.{current_entries, get_bookmark, gone_to, goto_bookmark, index_chosen_by, retrieve_key, set_current_index, whole}
+use Rattle.session_local.specs.CursorCalls.{current_entries, get_bookmark, gone_to, goto_bookmark, index_chosen_by, index_record_count, retrieve_key, set_current_index, whole}
 use Rattle.session_local.specs.RecordCalls.{column_shown, current, on_column, record_at, retrieve_column, value_shown}
 use Rattle.session_local.proofs.Outcomes.{on_column-all, unless-all}
 
 abbrev pub MakesNone : Outcome → Type 0
 MakesNone outcome = outcome.step ≡ None
+
+pub index_record_count-none : (asked : Asked) (c : OpenCursor) (most : Option ℕ) → MakesNone (index_record_count asked c most)
+index_record_count-none asked c most =
+    unless-all MakesNone asked (current_refusals (rows_seen asked c) c.cursor.place)
+    (λ _. said asked jet.Success (Count (count_from c.cursor (current_entries asked c) (place_key c.cursor.place, place_bookmark c.cursor.place) most))) (λ reply. refl) refl
 
 pub retrieve_key-none : (asked : Asked) (c : OpenCursor) → MakesNone (retrieve_key asked c)
 retrieve_key-none asked c =

@@ -22,7 +22,7 @@ use Rattle.session_local.specs.Local.{OpenCursor, PreparedUpdate, cursor_labelle
 use Rattle.index_derive.specs.Steps.{entries_of_step}
 use Rattle.session_local.specs.Outcome.{Asked, Outcome, done, entry_of, is_outside, number_refusals, on_cursor, one, refused, rows_seen, span_refusals, step_of_change}
 use Rattle.session_local.specs.SessionCalls.{begin_session, begin_transaction, commit_transaction}
-use Rattle.session_local.specs.CursorCalls.{close_table, get_bookmark, goto_bookmark, move_cursor, open_table, opened, retrieve_key, seek_key, set_current_index, set_index_range, whole}
+use Rattle.session_local.specs.CursorCalls.{close_table, get_bookmark, goto_bookmark, index_record_count, move_cursor, open_table, opened, retrieve_key, seek_key, set_current_index, set_index_range, whole}
 use Rattle.session_local.specs.RecordCalls.{bookmark_for, copied_in, is_primary_changed, on_prepared, put_of, replaced_by, retrieve_column, update, update_with, with_prepared}
 use Rattle.session_local.specs.Calls.{answer, answer_begun, answer_not_begun}
 use Rattle.session_local.specs.LocalCalls.{is_answered_begun, is_answered_locally, is_begin}
@@ -34,7 +34,7 @@ use Rattle.engine_state.specs.EngineSteps.{at_levels, catalog_table, may_take_al
 use Rattle.engine_state.specs.Represents.{Represents}
 use Rattle.engine_state.proofs.Tests.{and_left, and_right}
 use Rattle.engine_state.proofs.ToldTables.{found-all}
-use Rattle.engine_session.specs.Built.{is_built_call}
+use Rattle.session_local.specs.Built.{is_built_call}
 use Rattle.engine_session.specs.Beside.{IsBeside, StaysBeside, are_fitting, asked_of, is_built_insert, is_insert_of_new}
 use Rattle.engine_session.proofs.SchemaSteps.{makes_schema}
 use Rattle.engine_session.proofs.Entries.{stays_by}
@@ -43,7 +43,7 @@ use Rattle.engine_session.proofs.Counting.{opened-each}
 use Rattle.engine_session.proofs.Opening.{stands-opened}
 use Rattle.engine_session.proofs.Standing.{stands-at_levels, stands-begun, stands-closed, stands-now, stands-with_cursor, stands-without_prepared}
 use Rattle.engine_session.proofs.Putting.{fitting-put}
-use Rattle.engine_session.proofs.NoStep.{MakesNone, get_bookmark-none, goto_bookmark-none, retrieve_column-none, retrieve_key-none, set_current_index-none}
+use Rattle.engine_session.proofs.NoStep.{MakesNone, get_bookmark-none, goto_bookmark-none, index_record_count-none, retrieve_column-none, retrieve_key-none, set_current_index-none}
 
 -- what an outcome leaves, where it makes a step that the engine may take
 abbrev pub Stays : EngineState → DatabaseState → SessionSide → List ℕ → Outcome → Type 0
@@ -203,6 +203,7 @@ begun-stays engine state side reply (call.Move cursor way) beside r fits built o
 begun-stays engine state side reply (call.Seek cursor by) beside r fits built other begun shared = at_cursor-no_step engine state side reply cursor (λ c. seek_key (asked_of engine state side) c by) (λ c. refl)
 begun-stays engine state side reply (call.SetIndexRange cursor upper inclusive) beside r fits built other begun shared = at_cursor-no_step engine state side reply cursor (λ c. set_index_range (asked_of engine state side) c upper inclusive) (λ c. refl)
 begun-stays engine state side reply (call.SetCurrentIndex cursor index) beside r fits built other begun shared = at_cursor-no_step engine state side reply cursor (λ c. set_current_index (asked_of engine state side) c index) (λ c. set_current_index-none (asked_of engine state side) c index)
+begun-stays engine state side reply (call.IndexRecordCount cursor most) beside r fits built other begun shared = at_cursor-no_step engine state side reply cursor (λ c. index_record_count (asked_of engine state side) c most) (λ c. index_record_count-none (asked_of engine state side) c most)
 begun-stays engine state side reply (call.RetrieveKey cursor) beside r fits built other begun shared = at_cursor-no_step engine state side reply cursor (retrieve_key (asked_of engine state side)) (retrieve_key-none (asked_of engine state side))
 begun-stays engine state side reply (call.GetBookmark cursor) beside r fits built other begun shared = at_cursor-no_step engine state side reply cursor (get_bookmark (asked_of engine state side)) (get_bookmark-none (asked_of engine state side))
 begun-stays engine state side reply (call.GotoBookmark cursor bookmark) beside r fits built other begun shared = at_cursor-no_step engine state side reply cursor (λ c. goto_bookmark (asked_of engine state side) c bookmark) (λ c. goto_bookmark-none (asked_of engine state side) c bookmark)

@@ -17,7 +17,7 @@ use Rattle.index_derive.specs.declared.log.Step.{Step}
 use Rattle.index_derive.specs.declared.log.Step.TheVariants.{One, Alone}
 use Rattle.index_derive.specs.declared.schema_calls.SchemaStep.{SchemaStep}
 use Rattle.cursor_nav.specs.Places.{Pair, least_entry_of}
-use Rattle.cursor_nav.specs.Navigation.{CursorState, MadeKey, moved, index_set, sought, ranged, without_range, new_cursor}
+use Rattle.cursor_nav.specs.Navigation.{CursorState, MadeKey, moved, index_set, sought, ranged, without_range, new_cursor, count_from}
 use Rattle.cursor_nav.specs.MakingKeys.{begun_key, segment_kind, with_segment}
 use Rattle.record_edit.specs.SetColumn.{set_refusals, size_refusals, fields_after}
 use Rattle.database_state.specs.Table.{Table, row_at, schema_of, primary_order, rule_with_id, table_named}
@@ -28,12 +28,12 @@ use Rattle.database_state.specs.Puts.{put_refusals}
 use Rattle.session_local.specs.declared.request.Request.{Request}
 use Rattle.session_local.specs.declared.request.Request.TheVariants as call
 use Rattle.session_local.specs.SessionSide.{SessionSide, label_of, are_distinct}
-use Rattle.session_local.specs.Answer.{ShownValue, Nothing}
+use Rattle.session_local.specs.Answer.{ShownValue, Nothing, Count}
 use Rattle.session_local.specs.Local.{LocalState, OpenCursor, PreparedUpdate, inserting, cursor_labelled, with_cursor, with_new_cursor, without_cursor, without_prepared, place_key, place_bookmark}
 use Rattle.session_local.specs.Outcome.{Asked, Outcome, said, refused, done, navigated, unless, on_cursor, one, entry_of, step_of_change, rows_seen, entries_seen, is_outside, number_refusals, current_refusals, span_refusals}
 use Rattle.session_local.specs.SessionCalls.{begin_session, begin_transaction, commit_transaction}
 use Rattle.session_local.specs.SchemaCalls.{schema_changed}
-use Rattle.session_local.specs.CursorCalls.{whole, opened, open_table, close_table, index_chosen, index_chosen_by, set_current_index, current_entries, move_cursor, seek_key, set_index_range, remove_index_range, segment_made, key_made_in, make_key, retrieve_key, get_bookmark, gone_to, goto_bookmark}
+use Rattle.session_local.specs.CursorCalls.{whole, opened, open_table, close_table, index_chosen, index_chosen_by, set_current_index, current_entries, move_cursor, seek_key, set_index_range, remove_index_range, segment_made, key_made_in, make_key, index_record_count, retrieve_key, get_bookmark, gone_to, goto_bookmark}
 use Rattle.session_local.specs.RecordCalls.{record_at, current, with_prepared, prepared_refusals, with_sums_at_zero, prepare_insert, cancel_update, on_prepared, on_column, set_column_in, set_column, column_shown, retrieve_column, retrieve_copy, bookmark_for, is_primary_changed, put_of, replaced_by, update_with, update}
 use Rattle.session_local.specs.Calls.{answer, answer_begun, answer_not_begun, is_always_local}
 use Rattle.session_local.specs.LocalCalls.{is_answered_locally}
@@ -42,7 +42,7 @@ use Rattle.session_local.proofs.Outcomes.{unless_refused-all, unless-all, on_cur
 use Rattle.session_local.proofs.Finishes.{shows_column}
 use Rattle.engine_state.specs.EngineState.{EngineState}
 use Rattle.engine_state.specs.Represents.{Represents}
-use Rattle.engine_session.specs.Built.{is_built_call}
+use Rattle.session_local.specs.Built.{is_built_call}
 use Rattle.engine_session.specs.Beside.{IsBeside, StaysBeside, are_fitting, asked_of, is_insert_of_new}
 use Rattle.engine_session.proofs.Cursors.{StandsOn, has_index, stands-beside}
 use Rattle.engine_session.proofs.Moves.{StaysIn, follows-moved, moved-stays, sought-stays, ranged-stays, follows-index_set, has_index-found, has_index-primary}
@@ -327,6 +327,9 @@ begun-left engine asked (call.SetIndexRange cursor upper inclusive) s h =
     at-left engine true asked cursor.0 (λ c. set_index_range asked c upper inclusive) s
     (λ c found. moved-left engine true asked cursor.0 c (ranged c.cursor (current_entries asked c) upper inclusive).cursor (ranged c.cursor (current_entries asked c) upper inclusive).jet s found (ranged-stays c.cursor (current_entries asked c) upper inclusive))
 begun-left engine asked (call.GotoBookmark cursor bookmark) s h = at-left engine true asked cursor.0 (λ c. goto_bookmark asked c bookmark) s (λ c found. goto-left engine true asked cursor.0 c bookmark s found)
+begun-left engine asked (call.IndexRecordCount cursor most) s h =
+    at-left engine true asked cursor.0 (λ c. index_record_count asked c most) s
+    (λ c found. shown-left engine true asked c (Count (count_from c.cursor (current_entries asked c) (place_key c.cursor.place, place_bookmark c.cursor.place) most)) s)
 begun-left engine asked (call.RetrieveKey cursor) s h = at-left engine true asked cursor.0 (retrieve_key asked) s (λ c found. shown-left engine true asked c (whole (place_key c.cursor.place)) s)
 begun-left engine asked (call.GetBookmark cursor) s h = at-left engine true asked cursor.0 (get_bookmark asked) s (λ c found. shown-left engine true asked c (whole (place_bookmark c.cursor.place)) s)
 begun-left engine asked (call.RetrieveColumn cursor column sequence false most) s h =

@@ -1,3 +1,2 @@
-pub mod Built
 pub mod Beside
 pub mod Memory

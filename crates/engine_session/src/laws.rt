@@ -14,7 +14,7 @@ ghost use Rattle.session_local.specs.Run.{takes_no_memory};
 ghost use Rattle.engine_state.specs.EngineState.{EngineState, empty_engine, has_open};
 ghost use Rattle.engine_state.specs.EngineSteps.{may_take_all};
 ghost use Rattle.engine_state.specs.Represents.{Represents};
-ghost use Rattle.engine_session.specs.Built.{is_built_call};
+ghost use Rattle.session_local.specs.Built.{is_built_call};
 ghost use Rattle.engine_session.specs.Beside.{IsBeside, StaysBeside, are_fitting, asked_of};
 ghost use Rattle.engine_session.specs.Memory.{step_takes_memory};
 

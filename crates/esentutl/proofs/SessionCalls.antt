@@ -29,7 +29,7 @@ use Rattle.script_transcript.specs.TranscriptLine.{names_at_most}
 use Rattle.engine_state.specs.EngineState.{EngineState}
 use Rattle.engine_state.specs.EngineSteps.{engine_after_all, may_take_all}
 use Rattle.engine_state.specs.Represents.{Represents}
-use Rattle.engine_session.specs.Built.{is_built_call}
+use Rattle.session_local.specs.Built.{is_built_call}
 use Rattle.engine_session.specs.Beside.{IsBeside, StaysBeside, are_fitting, asked_of}
 use Rattle.engine_session.specs.Memory.{step_takes_memory}
 use Rattle.esentutl.specs.SessionRun.{outcome_told, IsInRun, GoesOn}

@@ -4,8 +4,6 @@ use Rattle.std.specs.Prelude.{if◌then◌else◌}
 use Rattle.std.specs.Result.{OnOk, OnErr, is_err}
 use Rattle.std.proofs.lemmas.Bool.{false≢true}
 use Rattle.std.proofs.lemmas.Bool.Decides.{nat_tests}
-use Rattle.jet_base.specs.declared.words.Prepare.TheVariants as prepare
-use Rattle.session_local.specs.declared.request.Request.TheVariants as call
 use Rattle.database_state.specs.State.{DatabaseState, empty_state}
 use Rattle.session_local.specs.declared.request.Request.{Request}
 use Rattle.session_local.specs.declared.decision.Decision.{Decision}
@@ -21,10 +19,10 @@ use Rattle.session_local.specs.declared.reply.Reply.{Reply}
 use Rattle.session_local.specs.Answer.{Answered}
 use Rattle.session_local.specs.Run.{RunState, Line, LineOutcome, run_from, run_after, may_come, takes_no_memory, rows_of_line}
 use Rattle.script_transcript.specs.TranscriptLine.{NamesNoMore}
-use Rattle.script_text.specs.Built.{is_built, is_built_request, are_built}
+use Rattle.script_text.specs.Built.{is_built, are_built}
 use Rattle.engine_state.specs.EngineState.{EngineState, empty_engine}
 use Rattle.engine_state.specs.Represents.{Represents}
-use Rattle.engine_session.specs.Built.{is_built_call}
+use Rattle.session_local.specs.Built.{is_built_call}
 use Rattle.engine_session.specs.Beside.{IsBeside, are_fitting, asked_of}
 use Rattle.esentutl.specs.TopCall.{span_limit}
 use Rattle.esentutl.specs.SessionRun.{outcome_told, IsInRun, GoesOn, no_memory_reply}
@@ -55,36 +53,14 @@ and_right false b is = absurd (false≢true is)
 
 pub label_is : (session : ℕ) (request : Request) (rest : List Line) → are_built ((session, request) ∷ rest) ≡ true → session ≡ 1
 label_is session request rest built =
-    same_number session 1 (and_left (session == 1) (is_built_request request) (and_left (is_built (session, request)) (are_built rest) built))
+    same_number session 1 (and_left (session == 1) (is_built_call request) (and_left (is_built (session, request)) (are_built rest) built))
 
 pub rest_is : (line : Line) (rest : List Line) → are_built (line ∷ rest) ≡ true → are_built rest ≡ true
 rest_is line rest built = and_right (is_built line) (are_built rest) built
 
-built_request : (request : Request) → is_built_request request ≡ true → is_built_call request ≡ true
-built_request call.BeginSession is = refl
-built_request call.BeginTransaction is = refl
-built_request (call.CommitTransaction lazy) is = refl
-built_request (call.CreateTable table) is = refl
-built_request (call.DeleteTable table) is = refl
-built_request (call.AddColumn table column kind flags) is = is
-built_request (call.CreateIndex table index flags key_most segments conditions) is = is
-built_request (call.DeleteIndex table index) is = refl
-built_request (call.OpenTable cursor table) is = refl
-built_request (call.CloseTable cursor) is = refl
-built_request (call.SetCurrentIndex cursor index) is = refl
-built_request (call.Move cursor way) is = refl
-built_request (call.RetrieveKey cursor) is = refl
-built_request (call.PrepareUpdate cursor prepare.Insert) is = refl
-built_request (call.PrepareUpdate cursor prepare.Cancel) is = refl
-built_request (call.SetColumn cursor column sequence value) is = refl
-built_request (call.RetrieveColumn cursor column sequence copy most) is = refl
-built_request (call.Update cursor) is = refl
-built_request _ is = absurd (false≢true is)
-
 -- the request of a built line is a built call
 pub request_is : (session : ℕ) (request : Request) (rest : List Line) → are_built ((session, request) ∷ rest) ≡ true → is_built_call request ≡ true
-request_is session request rest built =
-    built_request request (and_right (session == 1) (is_built_request request) (and_left (is_built (session, request)) (are_built rest) built))
+request_is session request rest built = and_right (session == 1) (is_built_call request) (and_left (is_built (session, request)) (are_built rest) built)
 
 -- ---- the row of a line
 

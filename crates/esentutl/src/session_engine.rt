@@ -10,7 +10,7 @@ ghost use Rattle.session_local.specs.Run.{RunState, Line, run_from, rows_of_line
 ghost use Rattle.script_text.specs.Built.{are_built};
 ghost use Rattle.script_transcript.specs.TranscriptLine.{NamesNoMore};
 ghost use Rattle.engine_state.specs.EngineSteps.{engine_after_all, may_take_all};
-ghost use Rattle.engine_session.specs.Built.{is_built_call};
+ghost use Rattle.session_local.specs.Built.{is_built_call};
 ghost use Rattle.engine_session.specs.Memory.{step_takes_memory};
 ghost use Rattle.esentutl.specs.TopCall.{span_limit};
 ghost use Rattle.esentutl.specs.SessionRun.{no_memory_reply, outcome_told, row_told};

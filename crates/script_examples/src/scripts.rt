@@ -45,9 +45,9 @@ pub fn spaces_stand_between_words()
     ensures last { script_lines (codes "1 BeginSession ") ≡ Err 1 }
 {}
 
-/// With a seek in the place of its first move, line 16 of the ordinary run is in the grammar and not built.
-pub fn seek_is_not_built()
-    ensures { built_lines (text_of_lines (filling_lines ++ codes "1 Seek 1 EQ" ∷ walking_lines)) ≡ Err 16 }
+/// With a lock in the place of its first move, line 16 of the ordinary run is in the grammar and not built.
+pub fn lock_is_not_built()
+    ensures { built_lines (text_of_lines (filling_lines ++ codes "1 GetLock 1" ∷ walking_lines)) ≡ Err 16 }
 {}
 
 /// A line is built by itself, in any order and any number of times, whatever an engine answers.
@@ -61,6 +61,7 @@ pub fn lines_are_built_by_themselves()
 pub fn every_form_of_a_call_is_built()
     ensures flag_last { built_lines (text_of_lines (codes "1 CreateIndex T i +k primary" ∷ [])) ≡ Ok ((1, call.CreateIndex (codes "T") (codes "i") only_primary 255 (record { column = codes "k"; descending = false } ∷ []) []) ∷ []) }
     ensures hex { built_lines (text_of_lines (codes "1 SetColumn 1 name 1 x:626f62" ∷ [])) ≡ Ok ((1, call.SetColumn (cursor_id 1) (codes "name") 1 (given.Bytes (codes "bob"))) ∷ []) }
+    ensures range { built_lines (text_of_lines (codes "1 SetIndexRange 1 upper inclusive" ∷ codes "1 SetIndexRange 1 remove" ∷ [])) ≡ Ok ((1, call.SetIndexRange (cursor_id 1) true true) ∷ (1, call.RemoveIndexRange (cursor_id 1)) ∷ []) }
     ensures most { built_lines (text_of_lines (codes "1 RetrieveColumn 1 id 1 max 3" ∷ [])) ≡ Ok ((1, call.RetrieveColumn (cursor_id 1) (codes "id") 1 false 3) ∷ []) }
 {}
 

@@ -22,9 +22,9 @@ behind_line line said (Some given) read h =
     let (same, built) = chosen (is_built given) given said refl h in
     record { read = read ∙ ap Some same; built = ap is_built (sym same) ∙ built }
 
-is_built_call : (line : List ℕ) (said : ℕ × Request) → built_call line ≡ Some said → IsBuilt line said
+built_call-built : (line : List ℕ) (said : ℕ × Request) → built_call line ≡ Some said → IsBuilt line said
 unfolding built_call
-is_built_call line said h = behind_line line said (line_request line) refl h
+built_call-built line said h = behind_line line said (line_request line) refl h
 
 -- the calls of a rest that is built, behind one call
 behind_front : (said : ℕ × Request) (rest : ScriptResult) (calls : List (ℕ × Request)) → with_front said rest ≡ Ok calls → (others : List (ℕ × Request)) × (rest ≡ Ok others) × (calls ≡ said ∷ others)
@@ -57,7 +57,7 @@ from_call : (number : ℕ) (line : List ℕ) (lines : List (ℕ × List ℕ)) (c
 from_call number line lines calls None rest is h = absurd cc
 from_call number line lines calls (Some said) rest is h =
     let (others, left, all) = behind_front said (built_from lines) calls h in
-    one_more number line lines said others calls (is_built_call line said is) (rest others left) all
+    one_more number line lines said others calls (built_call-built line said is) (rest others left) all
 
 built_from-built : (lines : List (ℕ × List ℕ)) (calls : List (ℕ × Request)) → built_from lines ≡ Ok calls → AreBuilt lines calls
 built_from-built [] calls h = record { read = h; built = let none : calls ≡ [] = cc in ap are_built none }

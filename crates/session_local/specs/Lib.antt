@@ -20,3 +20,4 @@ pub mod Navigating
 pub mod WellFormed
 pub mod Changing
 pub mod Showing
+pub mod Built

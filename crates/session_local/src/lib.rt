@@ -4,6 +4,7 @@
 mod answering;
 mod begun;
 mod buffers;
+mod built;
 mod calls;
 mod decision;
 mod finishing;
@@ -23,6 +24,7 @@ mod showing;
 
 pub use answering::local_step;
 pub use buffers::Buffers;
+pub use built::is_built_call;
 pub use calls::is_local;
 pub use decision::Decision;
 pub use finishing::finish;
@@ -36,6 +38,3 @@ pub use prepared::{Prepared, Purpose};
 pub use reply::{Reply, Value};
 pub use request::Request;
 pub use schemas::is_well_formed;
-
-#[cfg(test)]
-mod tests;
