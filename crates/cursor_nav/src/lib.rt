@@ -16,6 +16,3 @@ pub use cursor::{Cursor, Moved};
 pub use seek_by::SeekBy;
 pub use sorted_entries::SortedEntries;
 pub use view::View;
-
-#[cfg(test)]
-mod tests;

@@ -14,6 +14,3 @@ mod session_calls;
 mod view;
 
 pub use engine::Engine;
-
-#[cfg(test)]
-mod tests;

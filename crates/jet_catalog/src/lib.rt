@@ -21,6 +21,3 @@ pub use laws::{
 };
 pub use numbers::GreatestColumns;
 pub use table::TableDef;
-
-#[cfg(test)]
-mod tests;

@@ -3,14 +3,14 @@
 ghost use Rattle.std.specs.Prelude.{IfOk};
 ghost use Rattle.session_local.specs.WellFormed.{IsWellFormed};
 
-use crate::{
-    Buffers, Decision, Local, Reply, Request, Value, finish, is_local, is_well_formed, local_step,
-};
 use column_set::Column;
 use index_derive::{Entry, EntryKind, IndexFlags, IndexRule, Schema, Segment, Step};
 use jet_base::{
     ColType, ColumnId, CursorId, Given, IndexId, Items, Jet, Name, OutOfMemory, Prepare, Session,
     TableId,
+};
+use session_local::{
+    Buffers, Decision, Local, Reply, Request, Value, finish, is_local, is_well_formed, local_step,
 };
 use std::alloc::Global;
 use std::test::Fail;

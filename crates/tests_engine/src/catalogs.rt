@@ -1,8 +1,8 @@
 //! Schema calls, each decided and made, with the answers that they get.
 
-use crate::{Catalog, called_name};
 use index_derive::{IndexFlags, NamedCondition, NamedSegment, SchemaCall, SchemaStep};
 use jet_base::{ColType, ColumnFlags, Items, Jet, Name, OutOfMemory, TableId};
+use jet_catalog::{Catalog, called_name};
 use std::alloc::Global;
 use std::test::Fail;
 

