@@ -10,6 +10,7 @@ pub mod Retrieving
 pub mod Retrieved
 pub mod CursorNavigates
 pub mod CursorCallsNavigated
+pub mod CursorCallsCounted
 pub mod CursorCallsOpened
 pub mod CursorCallsClosed
 pub mod OpenTables

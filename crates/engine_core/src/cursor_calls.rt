@@ -19,7 +19,7 @@ use engine_session::tables_of_cursors_are_open;
 use index_derive::{EntryKind, Place};
 use jet_base::{CursorId, Jet, Name, OutOfMemory};
 use key_normal::Key;
-use session_local::{Decision, Local, OpenCursor, Request};
+use session_local::{Decision, Local, OpenCursor, Request, Value};
 
 /// So many cursors may be open in a session.
 const MOST_CURSORS: usize = 16;
@@ -84,6 +84,30 @@ impl Engine {
         match local.navigate(cursor, &view, request) {
             Some(jet) => refused(jet),
             None => refused(Jet::InvalidTableId),
+        }
+    }
+
+    /// IndexRecordCount: how many entries are not below the cursor's, within an upper limit; at most so many, where a most
+    /// is given.
+    pub(crate) fn index_record_count(
+        &self,
+        local: &Local,
+        cursor: CursorId,
+        most: Option<u32>,
+    ) -> Decision
+        requires beside { IsBeside self.now local.now }
+        requires shared { is_answered_locally local.now.state (call.IndexRecordCount cursor most) ≡ false }
+        ensures answer { Decides self.now local.now (call.IndexRecordCount cursor most) local.now result }
+        ensures decided { IsDecision self.now local.now (call.IndexRecordCount cursor most) local.now result }
+    {
+        let Some(found) = local.cursor(cursor) else {
+            unreachable!()
+        };
+        let view = EngineView::new(&self.records);
+        self.records.rows_are_few();
+        match found.cursor().count(&view, most) {
+            Ok(counted) => said(Jet::Success, Value::Count(counted.number)),
+            Err(refusal) => refused(refusal),
         }
     }
 

@@ -43,6 +43,9 @@ impl Engine {
             | Request::SetIndexRange { cursor, .. }
             | Request::SetCurrentIndex { cursor, .. }
             | Request::GotoBookmark { cursor, .. } => Ok(self.navigate(local, *cursor, request)),
+            Request::IndexRecordCount { cursor, most } => {
+                Ok(self.index_record_count(local, *cursor, *most))
+            }
             Request::RetrieveKey { cursor } => Ok(self.retrieve_key(local, *cursor)),
             Request::GetBookmark { cursor } => Ok(self.get_bookmark(local, *cursor)),
             Request::RetrieveColumn {

@@ -1,7 +1,7 @@
 //! Whole scripts: their calls, their first bad line, and the first line that is not built.
 #![tactic(auto, unfolding(script_text::specs::Computing::computing))]
 
-ghost use Rattle.std.specs.Prelude.{◌≡◌, [], ◌∷◌, ◌++◌, true, false, Ok, Err, codes};
+ghost use Rattle.std.specs.Prelude.{◌≡◌, [], ◌∷◌, ◌++◌, true, false, None, Some, Ok, Err, codes};
 ghost use Rattle.jet_base.specs.Ids.{cursor_id};
 ghost use Rattle.jet_base.specs.declared.words.ColType.TheVariants as kind;
 ghost use Rattle.jet_base.specs.declared.words.Given.TheVariants as given;
@@ -62,6 +62,7 @@ pub fn every_form_of_a_call_is_built()
     ensures flag_last { built_lines (text_of_lines (codes "1 CreateIndex T i +k primary" ∷ [])) ≡ Ok ((1, call.CreateIndex (codes "T") (codes "i") only_primary 255 (record { column = codes "k"; descending = false } ∷ []) []) ∷ []) }
     ensures hex { built_lines (text_of_lines (codes "1 SetColumn 1 name 1 x:626f62" ∷ [])) ≡ Ok ((1, call.SetColumn (cursor_id 1) (codes "name") 1 (given.Bytes (codes "bob"))) ∷ []) }
     ensures range { built_lines (text_of_lines (codes "1 SetIndexRange 1 upper inclusive" ∷ codes "1 SetIndexRange 1 remove" ∷ [])) ≡ Ok ((1, call.SetIndexRange (cursor_id 1) true true) ∷ (1, call.RemoveIndexRange (cursor_id 1)) ∷ []) }
+    ensures count { built_lines (text_of_lines (codes "1 IndexRecordCount 1" ∷ codes "1 IndexRecordCount 1 4294967295" ∷ [])) ≡ Ok ((1, call.IndexRecordCount (cursor_id 1) None) ∷ (1, call.IndexRecordCount (cursor_id 1) (Some 4294967295)) ∷ []) }
     ensures most { built_lines (text_of_lines (codes "1 RetrieveColumn 1 id 1 max 3" ∷ [])) ≡ Ok ((1, call.RetrieveColumn (cursor_id 1) (codes "id") 1 false 3) ∷ []) }
 {}
 

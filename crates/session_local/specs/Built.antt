@@ -6,7 +6,7 @@ use Rattle.session_local.specs.declared.request.Request.{Request}
 use Rattle.session_local.specs.declared.request.Request.TheVariants as call
 
 -- A session and its transactions; tables of columns whose values stand in their rows, and primary indexes; tables and indexes
--- deleted; inserts; and every call that opens or closes a cursor, moves it, reads at it, or makes a key for it. This
+-- deleted; inserts; and every call that opens or closes a cursor, moves it, reads or counts at it, or makes a key for it. This
 -- is the one place that says so: what reads a script, what a session keeps and what the engine decides cite it.
 abbrev pub is_built_call : Request → Bool
 is_built_call call.BeginSession = true
@@ -25,6 +25,7 @@ is_built_call (call.MakeKey cursor fresh value) = true
 is_built_call (call.Seek cursor by) = true
 is_built_call (call.SetIndexRange cursor upper inclusive) = true
 is_built_call (call.RemoveIndexRange cursor) = true
+is_built_call (call.IndexRecordCount cursor most) = true
 is_built_call (call.RetrieveKey cursor) = true
 is_built_call (call.GetBookmark cursor) = true
 is_built_call (call.GotoBookmark cursor bookmark) = true

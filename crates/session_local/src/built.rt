@@ -26,6 +26,7 @@ pub fn is_built_call(request: &Request) -> bool
         | Request::Seek { .. }
         | Request::SetIndexRange { .. }
         | Request::RemoveIndexRange { .. }
+        | Request::IndexRecordCount { .. }
         | Request::RetrieveKey { .. }
         | Request::GetBookmark { .. }
         | Request::GotoBookmark { .. }
