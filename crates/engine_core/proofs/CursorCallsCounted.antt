@@ -40,8 +40,10 @@ at_most-few None count bound few = few
 at_most-few (Some most) count bound few = omega (arith, few)
 
 -- a table has one entry a row
-pub counts-few : (most : Option ℕ) (rows : StoredRows) (bound : ℕ) → length rows < bound → at_most most (length (own_order rows)) < bound
-counts-few most rows bound few = at_most-few most (length (own_order rows)) bound (subst (λ (n : ℕ). n < bound) (sym (length-map rows (λ (row : List ℕ × List ℕ). (row.0, row.0)))) few)
+pub counts-few : (most : Option ℕ) (rows : StoredRows) → length rows < 2 ^ 34 → at_most most (length (own_order rows)) < 2 ^ 64
+counts-few most rows few =
+    let entries : length (own_order rows) ≡ length rows = length-map rows (λ (row : List ℕ × List ℕ). (row.0, row.0)) in
+    at_most-few most (length (own_order rows)) (2 ^ 64) (omega (arith, few, entries))
 
 -- ---- what is answered
 

@@ -20,8 +20,11 @@ use Rattle.index_derive.specs.Entries.{is_legal, is_escrow_column, has_double_ke
 use Rattle.database_state.specs.Table.{Table, schema_of, primary_first, table_named}
 use Rattle.database_state.specs.State.{DatabaseState}
 use Rattle.database_state.specs.Refusals.{Refusals, first_refusal}
-use Rattle.database_state.specs.SchemaChanges.{new_table, with_index, rule_columns, has_column, has_records, deleted_index_refusals, record_refusals, is_long_type, greatest_order}
+use Rattle.database_state.specs.SchemaChanges.{new_table, with_index, rule_columns, has_column, has_records, deleted_index_refusals, record_refusals, greatest_order}
 use Rattle.database_state.specs.SchemaSteps.{step_of_call, called_name, asked_index, index_id_named}
+use Rattle.session_local.specs.declared.request.Request.{Request}
+use Rattle.session_local.specs.declared.request.Request.TheVariants as call
+use Rattle.session_local.specs.Built.{is_built_call}
 use Rattle.jet_catalog.specs.Catalog.{IsNumbered, database_of, has_new_id}
 use Rattle.jet_catalog.specs.Decisions.{refused_or, decided, call_refusals, called_table, table_or_new}
 use Rattle.engine_state.specs.EngineState.{EngineState, has_open}
@@ -34,13 +37,17 @@ use Rattle.engine_core.specs.SchemaRequests.{is_open_on}
 
 -- ---- which calls are built
 
+-- the call of a session that asks for a schema call
+abbrev request_for : SchemaCall → Request
+request_for (schema.CreateTable table) = call.CreateTable table
+request_for (schema.DeleteTable table) = call.DeleteTable table
+request_for (schema.AddColumn table column kind flags) = call.AddColumn table column kind flags
+request_for (schema.DeleteColumn table column) = call.DeleteColumn table column
+request_for (schema.CreateIndex table index flags key_most segments conditions) = call.CreateIndex table index flags key_most segments conditions
+request_for (schema.DeleteIndex table index) = call.DeleteIndex table index
+
 abbrev pub is_built_made : SchemaCall → Bool
-is_built_made (schema.CreateTable table) = true
-is_built_made (schema.DeleteTable table) = true
-is_built_made (schema.AddColumn table column kind flags) = not (is_long_type kind) && not (flags.escrow || flags.version || flags.auto)
-is_built_made (schema.CreateIndex table index flags key_most segments conditions) = flags.primary && nat_le key_most 255
-is_built_made (schema.DeleteIndex table index) = true
-is_built_made _ = false
+is_built_made called = is_built_call (request_for called)
 
 -- ---- what was decided
 
