@@ -42,23 +42,40 @@ const SCRIPT: &[u8] = b"1 BeginSession
 1 RetrieveColumn 1 name 0
 1 RetrieveColumn 1 name 1 max 3
 1 RetrieveColumn 1 name 1 copy max 3
+1 MakeKey 1 new n:-3
+1 MakeKey 1 t:bob
+1 Seek 1 EQ
+1 Seek 1 LT
+1 Seek 1 LE
+1 Seek 1 GE
+1 Seek 1 GT
+1 SetIndexRange 1
+1 SetIndexRange 1 upper
+1 SetIndexRange 1 inclusive
+1 SetIndexRange 1 upper inclusive
+1 SetIndexRange 1 remove
+1 IndexRecordCount 1
+1 IndexRecordCount 1 4294967295
+1 GetBookmark 1
+1 GotoBookmark 1 x:7f80000001
+1 GotoBookmark 1 x:
 1 BeginSession
 1 RetrieveKey 2";
 
 #[test]
 fn a_built_script_gives_its_calls(rt: HostRuntime) -> Result<(), Fail> {
     let calls = parse(rt.alloc(), SCRIPT).ok().ok_or("the script is built")?;
-    assert_eq!(rt; calls.len(), 34);
+    assert_eq!(rt; calls.len(), 51);
     assert!(rt; calls[0] == (Session(1), Request::BeginSession));
     let last = Request::RetrieveKey {
         cursor: CursorId(2),
     };
-    assert!(rt; calls[33] == (Session(1), last));
+    assert!(rt; calls[50] == (Session(1), last));
     Ok(())
 }
 
-/// Fifteen built lines, a seek, and a call that is not built either.
-const SOUGHT: &[u8] = b"1 BeginSession
+/// Fifteen built lines, a lock, and a call that is not built either.
+const LOCKED: &[u8] = b"1 BeginSession
 1 CreateTable T
 1 AddColumn T id Long
 1 AddColumn T name Text
@@ -73,14 +90,14 @@ const SOUGHT: &[u8] = b"1 BeginSession
 1 SetColumn 1 id 1 n:-3
 1 Update 1
 1 CommitTransaction
-1 Seek 1 EQ
+1 GetLock 1
 1 EndSession
 ";
 
 #[test]
 fn the_first_line_that_is_not_built_is_named(rt: HostRuntime) {
     for (script, line) in [
-        (SOUGHT, 16),
+        (LOCKED, 16),
         (b"1 BeginSession\n\n# none\n1 EndSession\n".as_slice(), 4),
         (b"2 BeginSession\n", 1),
         (b"1 CreateTable T\n1 CreateIndex T i +a\n", 2),
