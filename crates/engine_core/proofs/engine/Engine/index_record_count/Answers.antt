@@ -8,11 +8,14 @@ use Rattle.engine_core.proofs.CursorCallsNavigated.{entries_in, records_in}
 use Rattle.engine_core.proofs.CursorCallsCounted.{counts-few, count_at, count-decides}
 use Rattle.engine_core.proofs.engine.Engine.index_record_count.Goals as goal
 
-pub count-requires-clause-few : goal.count-requires-clause-few
-count-requires-clause-few c =
+pub count-requires : goal.count-requires
+count-requires c =
     let table = c.cursor-2.result.now.table in
-    counts-few c.args.most (stored_rows c.new-view.result.records.now table)
-    (subst (λ (stores : List (ℕ × StoredRows)). length (stored_rows stores table) < 2 ^ 34) (sym c.new-view.ensures) (c.rows_are_few.ensures table))
+    record {
+      few =
+          counts-few c.args.most (stored_rows c.new-view.result.records.now table)
+          (subst (λ (stores : List (ℕ × StoredRows)). length (stored_rows stores table) < 2 ^ 34) (sym c.new-view.ensures) (c.rows_are_few.ensures table));
+    }
 
 pub returns-in-Ok-clause-answer : goal.returns-in-Ok-clause-answer
 returns-in-Ok-clause-answer c =
