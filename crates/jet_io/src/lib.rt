@@ -10,8 +10,6 @@ mod schedule;
 mod sink;
 mod source;
 mod system;
-#[cfg(test)]
-mod tests;
 mod whole;
 
 pub use failed::Failed;

@@ -1,4 +1,3 @@
-pub mod Gate
 pub mod Bytes
 pub mod FileLemmas
 pub mod Calls

@@ -1,7 +1,6 @@
 pub mod Image
 pub mod Crash
 pub mod Moments
-pub mod Published
 pub mod Record
 pub mod RecordLaws
 pub mod Covers

@@ -11,15 +11,11 @@ mod laws;
 mod lent;
 mod memory;
 mod noting;
-mod published;
 mod record;
-#[cfg(test)]
-mod tests;
 mod volume;
 
 pub use disk::FileVolume;
 pub use files::{File, LogStart};
 pub use laws::moments_compose;
 pub use memory::MemVolume;
-pub use published::publish;
 pub use volume::{MAX_END, Volume};

@@ -1,5 +1,10 @@
-use super::*;
+//! A source, a sink, a count of faults, a schedule and a gate, each call once.
+
 use jet_base::Session;
+use jet_io::{
+    Failed, FaultCount, Gate, MemSink, MemSource, OpenGate, ReadFault, Schedule, Sink, Source, StdSink,
+    StdSource, read_to_limit, write_all,
+};
 use std::io;
 use std::test::Fail;
 

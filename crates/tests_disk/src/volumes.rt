@@ -1,6 +1,8 @@
-use super::*;
+//! Volumes in memory and over real files: each call of a run fails or is the last, and what a crash leaves then.
+
 use jet_base::OutOfMemory;
 use jet_io::Failed;
+use jet_volume::{File, FileVolume, MemVolume, Volume};
 use std::alloc::Global;
 use std::fs;
 use std::test::Fail;
@@ -188,6 +190,14 @@ fn a_write_that_failed_may_have_come_in_part(rt: HostRuntime) -> Result<(), Fail
     }
     assert!(rt; has_stayed && has_changed);
     Ok(())
+}
+
+// Publishes a byte in the log: behind the closed gate, which is the first byte of the file and opens as 1.
+fn publish<V: Volume>(volume: &mut V, byte: u8) -> Result<(), Failed> {
+    volume.write_at(File::Log, 1, &[byte])?;
+    volume.sync(File::Log)?;
+    volume.write_at(File::Log, 0, &[1])?;
+    volume.sync(File::Log)
 }
 
 // The gate of the log is closed, and the fifth call of the volume would be behind the last of `publish`.
