@@ -2,8 +2,8 @@
 
 use jet_base::Session;
 use jet_io::{
-    Failed, FaultCount, Gate, MemSink, MemSource, OpenGate, ReadFault, Schedule, Sink, Source, StdSink,
-    StdSource, read_to_limit, write_all,
+    Failed, FaultCount, Gate, MemSink, MemSource, OpenGate, ReadFault, Schedule, Sink, Source,
+    StdSink, StdSource, read_to_limit, write_all,
 };
 use std::io;
 use std::test::Fail;
