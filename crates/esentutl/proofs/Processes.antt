@@ -1,18 +1,7 @@
--- How a process ends without words of a form.
-use Rattle.std.proofs.Common.{◌≡◌, Bool, false, true, List, [], inl, refl, Option, ℕ}
-use Rattle.std.proofs.lemmas.Bool.{false≢true}
+-- How a process ends that has no memory for its words.
+use Rattle.std.proofs.Common.{ℕ, List, [], Option, inl, refl}
 use Rattle.jet_io.proofs.Known.{append_none}
-use Rattle.esentutl.specs.TopCall.{Outside, Ending, done, bad_words, too_long, source_failed, sink_failed, want_of_memory, not_built, accepts, EndsBy}
-
--- only bad words are of no form
-pub ending_of_no_form : (ending : Ending) → false ≡ accepts ending → ending ≡ bad_words
-ending_of_no_form bad_words formless = refl
-ending_of_no_form done formless = absurd (false≢true formless)
-ending_of_no_form too_long formless = absurd (false≢true formless)
-ending_of_no_form source_failed formless = absurd (false≢true formless)
-ending_of_no_form sink_failed formless = absurd (false≢true formless)
-ending_of_no_form want_of_memory formless = absurd (false≢true formless)
-ending_of_no_form (not_built number) formless = absurd (false≢true formless)
+use Rattle.esentutl.specs.TopCall.{want_of_memory, EndsBy}
 
 -- nothing was read or written
 pub ends_before_all : (left taken : Option (List ℕ)) (source sink : ℕ)
