@@ -1,4 +1,4 @@
-use Rattle.std.proofs.Common.{[], refl}
+use Rattle.std.proofs.Common.{rules, arith, []}
 use Rattle.esentutl.specs.TopCall.{want_of_memory}
 use Rattle.esentutl.proofs.Endings.{prepend_nothing}
 use Rattle.esentutl.proofs.Processes.{ends_before_all}
@@ -9,7 +9,7 @@ returns-in-Err-Memory g c = (
   [],
   want_of_memory,
   c.from-in-Err-Memory.ensures,
-  rw (c.in-Err-Memory.is, c.in-Err-Memory.field-0-is) refl,
+  first_of (search rules, grind (arith, c.in-Err-Memory.field-0-is, c.in-Err-Memory.is), search (rules, c.in-Err-Memory.field-0-is)),
   prepend_nothing (g.S.Source.left c.args.script.now),
   ends_before_all (g.S.Source.left c.args.script.now) (g.K.Sink.taken c.args.out.now) (g.S.Source.faults c.args.script.now) (g.K.Sink.faults c.args.out.now),
 )
