@@ -101,7 +101,7 @@ fn compare(got: &[u8], wanted: &[u8]) -> Outcome {
         if a != b {
             break;
         }
-        at += 1;
+        at = at.saturating_add(1);
     }
-    Outcome::OtherOutput(at + 1)
+    Outcome::OtherOutput(at.saturating_add(1))
 }
