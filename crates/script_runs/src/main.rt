@@ -96,7 +96,7 @@ fn compare(got: &[u8], wanted: &[u8]) -> Outcome {
     if got == wanted {
         return Outcome::AsWanted;
     }
-    let mut at = 0;
+    let mut at = 0usize;
     for (a, b) in got.iter().zip(wanted.iter()) {
         if a != b {
             break;
