@@ -306,7 +306,7 @@ fn an_index_has_conditions(rt: HostRuntime) -> Result<(), Fail> {
         segments: calls.segments("a")?,
         conditions,
     };
-    assert_eq!(rt; called_name(&call).as_str(), "T");
+    assert_eq!(rt; called_name(&call).as_bytes(), b"T".as_slice());
     assert_eq!(rt; calls.answer(&call, true)?, Jet::Success);
     assert_eq!(rt; calls.delete_column("b")?, Jet::ColumnInUse);
     Ok(())
