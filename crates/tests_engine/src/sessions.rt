@@ -206,24 +206,36 @@ fn a_session_that_was_not_begun_refuses_calls(rt: HostRuntime) -> Result<(), Fai
     Ok(())
 }
 
-#[test]
-fn labels_are_known_and_taken_once(rt: HostRuntime) -> Result<(), Fail> {
-    let mut local = with_table(rt.alloc())?;
-    let again = Request::OpenTable {
+fn open_again(alloc: Global) -> Result<Request, OutOfMemory> {
+    Ok(Request::OpenTable {
         cursor: CURSOR,
-        table: Name::new(rt.alloc(), "load")?,
-    };
-    let close = Request::CloseTable { cursor: CURSOR };
-    let other = Request::CloseTable {
-        cursor: CursorId(9),
-    };
+        table: Name::new(alloc, "load")?,
+    })
+}
+
+#[test]
+fn labels_are_taken_once(rt: HostRuntime) -> Result<(), Fail> {
+    let mut local = with_table(rt.alloc())?;
+    let again = open_again(rt.alloc())?;
     assert_eq!(rt;
         said(&mut local, &Request::BeginSession)?,
         Jet::SessionInUse
     );
     assert_eq!(rt; said(&mut local, &again)?, Jet::InvalidTableId);
+    Ok(())
+}
+
+fn close(cursor: CursorId) -> Request {
+    Request::CloseTable { cursor }
+}
+
+#[test]
+fn labels_are_known(rt: HostRuntime) -> Result<(), Fail> {
+    let mut local = with_table(rt.alloc())?;
+    let mine = close(CURSOR);
+    let other = close(CursorId(9));
     assert_eq!(rt; said(&mut local, &other)?, Jet::InvalidTableId);
-    let shared = local_step(&mut local, &close)?;
+    let shared = local_step(&mut local, &mine)?;
     assert!(rt; shared.is_none());
     Ok(())
 }
