@@ -4,7 +4,6 @@ use column_set::{Bookmark, Change};
 use index_derive::{Entry, EntryKind};
 use jet_base::{Session, TableId};
 use log_record::{EntryFault, Parsed, decode, encode, has_spelling, read_front};
-use std::alloc::Global;
 use std::test::Fail;
 
 /// One entry of each tag and of each kind of schema change, all of session 1.
@@ -213,49 +212,5 @@ fn some_entries_have_no_spelling(rt: HostRuntime) -> Result<(), Fail> {
         kind: EntryKind::Change(drop),
     };
     assert!(rt; !has_spelling(&entry));
-    Ok(())
-}
-
-/// The entries one after the other.
-fn log_of_all(alloc: Global) -> Result<Vec<u8>, Fail> {
-    let mut log = Vec::new(alloc);
-    for bytes in ENTRIES {
-        log.extend_from_slice(bytes)?;
-    }
-    Ok(log)
-}
-
-/// How many entries stand whole in front of a rest that is cut, and how many bytes they have.
-fn whole_entries(alloc: Global, log: &[u8]) -> Result<(usize, usize), Fail> {
-    let mut count = 0;
-    let mut end = 0;
-    for _ in 0..=log.len() {
-        let (_, rest) = log.split_at(end);
-        match decode(alloc, rest) {
-            Ok(Parsed::Whole(_, size)) => {
-                count += 1;
-                end += size;
-            }
-            Ok(Parsed::Cut) => return Ok((count, end)),
-            Err(_) => return Err("no entry and no front of one".into()),
-        }
-    }
-    Err("more entries than bytes".into())
-}
-
-#[test]
-fn fronts_of_a_log_hold_its_first_entries(rt: HostRuntime) -> Result<(), Fail> {
-    let log = log_of_all(rt.alloc())?;
-    let mut count = 0;
-    let mut end = 0;
-    for size in 0..=log.len() {
-        if count < ENTRIES.len() && size == end + ENTRIES[count].len() {
-            end = size;
-            count += 1;
-        }
-        let (front, _) = log.split_at(size);
-        assert_eq!(rt; whole_entries(rt.alloc(), front)?, (count, end));
-    }
-    assert_eq!(rt; count, ENTRIES.len());
     Ok(())
 }
