@@ -1,0 +1,12 @@
+pub mod SeenRows
+pub mod Rising
+pub mod RisingSteps
+pub mod FoundRecords
+pub mod Views
+pub mod Ending
+pub mod Changing
+pub mod TakingBack
+pub mod Undoing
+pub mod SchemaStepping
+pub mod Unchanged
+pub mod Alone

@@ -1,0 +1,3 @@
+pub mod HeldRecords
+pub mod StoredTables
+pub mod Holding

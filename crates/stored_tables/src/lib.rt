@@ -1,0 +1,13 @@
+//! What the tables of an engine hold of a database, with versions: definitions, and the laws that they show each reader what
+//! it sees. The functions do nothing: their contracts are the laws.
+#![tactic(auto)]
+
+mod readers;
+mod steps;
+
+pub use readers::{a_reader_is_shown_the_records_that_it_sees, a_session_is_shown_its_view};
+pub use steps::{
+    a_change_is_made_and_held, a_clean_leaves_the_state, a_schema_step_changes_the_tables,
+    entries_leave_records_in_order, entries_of_a_session_leave_the_tables,
+    releases_and_commits_leave_the_tables, tables_alone_hold_a_state, undone_changes_are_taken_back,
+};
