@@ -1,7 +1,7 @@
 -- Tables without a held change.
-use Rattle.std.proofs.Common.{◌≡◌, ℕ, List, [], map, refl, sym, ap, subst, ◌∙◌}
+use Rattle.std.proofs.Common.{◌≡◌, [], refl, sym, ap, subst}
 use Rattle.std.specs.List.{AllByRecursion}
-use Rattle.database_state.specs.State.{DatabaseState, PastChange, open_changes}
+use Rattle.database_state.specs.State.{DatabaseState, open_changes}
 use Rattle.database_state.specs.Changes.{tables_after_all}
 use Rattle.database_state.specs.View.{newest}
 use Rattle.record_changes.specs.Records.{records_of}

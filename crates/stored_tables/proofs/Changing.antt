@@ -1,32 +1,30 @@
 -- What entries make of stored tables.
-use Rattle.std.proofs.Common.{◌≡◌, ℕ, ◌+◌, Bool, true, false, not, ◌&&◌, cond, List, [], ◌∷◌, ◌++◌, map, Option, Some, None, refl, sym, ap, subst, ◌∙◌}
-use Rattle.std.specs.Prelude.{◌==◌, drop, filter, fold, is_some, nat_lt, if◌then◌else◌}
+use Rattle.std.proofs.Common.{◌≡◌, ℕ, ◌+◌, Bool, true, false, not, ◌&&◌, cond, List, [], ◌∷◌, ◌++◌, map, Option, Some, None, refl, sym, ap, ◌∙◌}
+use Rattle.std.specs.Prelude.{drop, filter, fold, is_some, nat_lt, if◌then◌else◌}
 use Rattle.column_set.specs.declared.changes.Change.{Change}
 use Rattle.column_set.specs.declared.changes.Change.TheVariants.{Put, Drop, Hold, Add}
-use Rattle.column_set.specs.RecordValues.{RecordFields}
 use Rattle.index_derive.specs.declared.log.Entry.{Entry}
 use Rattle.index_derive.specs.declared.log.EntryKind.TheVariants as entry
 use Rattle.database_state.specs.Table.{Table, record_in, table_with_id}
-use Rattle.database_state.specs.Changes.{changed_table, changed_bookmark, without_copied, tables_after, tables_after_all}
+use Rattle.database_state.specs.Changes.{changed_table, changed_bookmark, without_copied}
 use Rattle.database_state.specs.State.{DatabaseState, PastChange, levels, open_changes_of}
 use Rattle.database_state.specs.VersionStore.{cost_of, is_needed}
 use Rattle.database_state.specs.View.{newest}
 use Rattle.database_state.specs.Conflicts.{has_write_conflict}
 use Rattle.database_state.specs.Step.{state_after}
-use Rattle.database_state.specs.Lawful.{has_number, is_lawful, is_lawful_kind, is_lawful_change, is_lawful_at}
+use Rattle.database_state.specs.Lawful.{has_number, is_lawful, is_lawful_at}
 use Rattle.record_changes.specs.Records.{Records, after_item, records_of, records_after, records_after_items}
 use Rattle.record_changes.proofs.Projecting.{projected}
 use Rattle.record_changes.proofs.Tests.{and_right, impossible}
 use Rattle.version_history.specs.History.{IsHistory, without_rows}
 use Rattle.version_history.specs.KeptSteps.{new_change as new_kept, committed_own, lowered_own, with_next_number}
-use Rattle.version_history.specs.Readers.{is_standing, is_rewrite as rewrites}
+use Rattle.version_history.specs.Readers.{is_standing}
 use Rattle.version_history.proofs.EndEntries.{same_definitions, history_cleaned}
 use Rattle.version_history.proofs.LawfulEntries.{keeps_lawful}
 use Rattle.version_history.proofs.SeenRecords.{newest_records}
 use Rattle.version_history.proofs.Viewing.{same_there}
 use Rattle.version_store.specs.declared.calls.By.{By}
-use Rattle.version_store.specs.HeldChanges.{kind_of, is_rewrite}
-use Rattle.stored_tables.specs.HeldRecords.{HeldRecord, held_before, new_change}
+use Rattle.stored_tables.specs.HeldRecords.{HeldRecord, new_change}
 use Rattle.stored_tables.specs.StoredTables.{StoredTables, with_change, with_level_released, with_session_committed, without_oldest}
 use Rattle.stored_tables.specs.Holding.{AllMatch, Holds, Matches}
 use Rattle.stored_tables.proofs.Ending.{all_appended_match, all_committed_match, all_released_match, committed_change_is, committed_stands, lowered_change_is, lowered_stands, standing_same}
@@ -67,9 +65,9 @@ committed_holds base dropped kept store state session h lawful =
       rise = step_keeps_order state made h.rise;
       defined = h.defined ∙ sym (commit_defined state session);
       newest =
-        h.newest ∙ newest_records base dropped kept state h.history
-        ∙ sym (standing_same (committed_own session (state.number + 1)) (committed_change_is session (state.number + 1)) (committed_stands session (state.number + 1)) kept base)
-        ∙ sym (newest_records base dropped (map (committed_own session (state.number + 1)) kept) (state_after state made) after);
+          h.newest ∙ newest_records base dropped kept state h.history
+          ∙ sym (standing_same (committed_own session (state.number + 1)) (committed_change_is session (state.number + 1)) (committed_stands session (state.number + 1)) kept base)
+          ∙ sym (newest_records base dropped (map (committed_own session (state.number + 1)) kept) (state_after state made) after);
       in_order = h.in_order;
       held = all_committed_match session (state.number + 1) kept store.held h.held;
     }
@@ -89,9 +87,9 @@ released_holds base dropped kept store state session h lawful =
       rise = step_keeps_order state made h.rise;
       defined = h.defined ∙ sym (release_defined state session);
       newest =
-        h.newest ∙ newest_records base dropped kept state h.history
-        ∙ sym (standing_same (lowered_own session (levels state session)) (lowered_change_is session (levels state session)) (lowered_stands session (levels state session)) kept base)
-        ∙ sym (newest_records base dropped (map (lowered_own session (levels state session)) kept) (state_after state made) after);
+          h.newest ∙ newest_records base dropped kept state h.history
+          ∙ sym (standing_same (lowered_own session (levels state session)) (lowered_change_is session (levels state session)) (lowered_stands session (levels state session)) kept base)
+          ∙ sym (newest_records base dropped (map (lowered_own session (levels state session)) kept) (state_after state made) after);
       in_order = h.in_order;
       held = all_released_match session (levels state session) kept store.held h.held;
     }
@@ -154,11 +152,11 @@ changed_holds base dropped kept store state by change h number level lawful =
       rise = step_keeps_order state made h.rise;
       defined = same_definitions store.tables (change ∷ []) ∙ h.defined ∙ sym (change_defined state by.session.0 change);
       newest =
-        projected store.tables change (same_there store.tables state.tables h.defined (changed_table change) ∙ named_there state by.session.0 change lawful)
-        ∙ ap (λ (r : Records). records_after r change) (h.newest ∙ newest_records base dropped kept state h.history)
-        ∙ sym (same_effect (records_after_items is_standing base kept) change)
-        ∙ sym (standing_snoc kept base item refl)
-        ∙ sym (newest_records base dropped (kept ++ item ∷ []) (state_after state made) after);
+          projected store.tables change (same_there store.tables state.tables h.defined (changed_table change) ∙ named_there state by.session.0 change lawful)
+          ∙ ap (λ (r : Records). records_after r change) (h.newest ∙ newest_records base dropped kept state h.history)
+          ∙ sym (same_effect (records_after_items is_standing base kept) change)
+          ∙ sym (standing_snoc kept base item refl)
+          ∙ sym (newest_records base dropped (kept ++ item ∷ []) (state_after state made) after);
       in_order = tables_rise store.tables change h.in_order;
       held = all_appended_match kept store.held item (new_change by change (record_in store.tables (changed_table change) (changed_bookmark change))) h.held (new_matches store state h.newest by number level change);
     }

@@ -1,13 +1,12 @@
 -- Ends of levels and transactions leave what is newest.
-use Rattle.std.proofs.Common.{◌≡◌, ℕ, ◌+◌, ◌-◌, Bool, true, false, not, ◌&&◌, cond, List, [], ◌∷◌, ◌++◌, map, filter, Option, Some, None, refl, sym, ap, subst, ◌∙◌}
-use Rattle.std.specs.Prelude.{◌==◌, fold, if◌then◌else◌}
-use Rattle.database_state.specs.Changes.{changed_table}
+use Rattle.std.proofs.Common.{◌≡◌, ℕ, ◌-◌, Bool, true, false, not, ◌&&◌, cond, List, [], ◌∷◌, ◌++◌, map, filter, refl, sym, ap, subst, ◌∙◌}
+use Rattle.std.specs.Prelude.{◌==◌, fold}
 use Rattle.database_state.specs.State.{PastChange, Status, uncommitted, committed, undone, is_open, is_undone, is_open_change_of}
 use Rattle.record_changes.specs.Records.{Records, after_item, records_after, records_after_items}
-use Rattle.record_changes.proofs.Tests.{and_left, and_right, impossible, same_number}
+use Rattle.record_changes.proofs.Tests.{and_left, impossible}
 use Rattle.version_history.specs.KeptSteps.{committed_own, lowered_own}
 use Rattle.version_history.specs.Readers.{is_standing}
-use Rattle.stored_tables.specs.HeldRecords.{HeldRecord, is_open_of, is_open_at, released_change, committed_change}
+use Rattle.stored_tables.specs.HeldRecords.{HeldRecord, is_open_of, released_change, committed_change}
 use Rattle.stored_tables.specs.Holding.{Matches, AllMatch}
 
 -- ---- the match

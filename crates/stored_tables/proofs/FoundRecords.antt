@@ -1,5 +1,5 @@
 -- What held changes hide of a reader is what the kept ones do.
-use Rattle.std.proofs.Common.{◌≡◌, ℕ, Bool, true, false, not, ◌&&◌, ◌||◌, cond, List, [], ◌∷◌, Option, Some, None, refl, sym, ap, ◌∙◌}
+use Rattle.std.proofs.Common.{◌≡◌, ℕ, Bool, true, false, not, ◌&&◌, ◌||◌, cond, List, [], ◌∷◌, Option, Some, None, refl, ap, ◌∙◌}
 use Rattle.std.specs.Prelude.{◌==◌, bytes_eq, find}
 use Rattle.column_set.specs.declared.changes.Change.{Change}
 use Rattle.column_set.specs.declared.changes.Change.TheVariants.{Put, Drop, Hold, Add}
@@ -11,14 +11,14 @@ use Rattle.record_changes.proofs.Tests.{and_left, and_right}
 use Rattle.version_history.specs.Readers.{is_unseen as is_unseen_change, hides as hides_record, is_rewrite as rewrites, was_committed_status, found_record, before_or as found_before}
 use Rattle.version_store.specs.declared.calls.Reader.{Reader}
 use Rattle.version_store.specs.HeldChanges.{kind_of, is_rewrite, is_after, is_unseen_status}
-use Rattle.stored_tables.specs.HeldRecords.{HeldRecord, is_change_at, is_unseen, hides, before_or, seen_record}
+use Rattle.stored_tables.specs.HeldRecords.{HeldRecord, is_unseen, hides, before_or, seen_record}
 use Rattle.stored_tables.specs.Holding.{Matches, AllMatch, begin_of}
 
 after_begin : (t : Option Transaction) (n : ℕ) → is_after (begin_of t) n ≡ is_after_begin t n
 after_begin None n = refl
 after_begin (Some t) n = refl
 
-rewrite_kind : (c : Change) → is_rewrite (kind_of c) ≡ rewrites c
+pub rewrite_kind : (c : Change) → is_rewrite (kind_of c) ≡ rewrites c
 rewrite_kind (Put t b copied values) = refl
 rewrite_kind (Drop t b) = refl
 rewrite_kind (Hold t b) = refl
@@ -34,7 +34,7 @@ unseen_status reader t owner (committed n) e = ap (λ b. is_after b n) e ∙ aft
     twice false = refl
 unseen_status reader t owner undone e = refl
 
-same_unseen : (item : PastChange) (held : HeldRecord) → Matches item held → (reader : Reader) (t : Option Transaction) → reader.begin ≡ begin_of t → is_unseen reader held ≡ is_unseen_change reader.session.0 t item
+pub same_unseen : (item : PastChange) (held : HeldRecord) → Matches item held → (reader : Reader) (t : Option Transaction) → reader.begin ≡ begin_of t → is_unseen reader held ≡ is_unseen_change reader.session.0 t item
 same_unseen item held m reader t e = (λ i. is_unseen_status reader (m.session i) (m.status i)) ∙ unseen_status reader t item.session item.status e
 
 same_hides : (item : PastChange) (held : HeldRecord) → Matches item held → (reader : Reader) (t : Option Transaction) → reader.begin ≡ begin_of t → (table : ℕ) (bookmark : List ℕ)

@@ -10,3 +10,5 @@ pub mod Undoing
 pub mod SchemaStepping
 pub mod Unchanged
 pub mod Alone
+pub mod Telling
+pub mod TellingKeys

@@ -1,17 +1,16 @@
 -- What schema steps make of stored tables.
-use Rattle.std.proofs.Common.{◌≡◌, ℕ, Bool, true, false, not, ◌&&◌, cond, List, [], ◌∷◌, ◌++◌, map, filter, Option, Some, None, refl, sym, ap, subst, ◌∙◌}
-use Rattle.std.specs.Prelude.{◌==◌, fold, option_map, is_none, is_some}
+use Rattle.std.proofs.Common.{◌≡◌, ℕ, Bool, true, false, not, cond, List, [], ◌∷◌, ◌++◌, map, filter, Option, Some, None, refl, sym, ap, ◌∙◌}
+use Rattle.std.specs.Prelude.{◌==◌, fold, option_map, is_none}
 use Rattle.std.specs.List.{AllByRecursion}
 use Rattle.index_derive.specs.declared.log.Entry.{Entry}
 use Rattle.index_derive.specs.declared.log.EntryKind.TheVariants as entry
 use Rattle.index_derive.specs.declared.schema_calls.SchemaStep.{SchemaStep}
 use Rattle.index_derive.specs.declared.schema_calls.SchemaStep.TheVariants as step
-use Rattle.database_state.specs.Table.{Table, Rows, record_in, row_at, rows_of, table_with_id, with_table}
-use Rattle.database_state.specs.State.{DatabaseState, PastChange, Status, uncommitted, committed, undone, is_open, transaction_of}
-use Rattle.database_state.specs.SchemaChanges.{new_table, schema_refusal, tables_after_step, with_column, without_column, with_index, without_index}
+use Rattle.database_state.specs.Table.{Table, row_at, rows_of, table_with_id, with_table}
+use Rattle.database_state.specs.State.{DatabaseState, PastChange, Status, uncommitted, committed, undone, transaction_of}
+use Rattle.database_state.specs.SchemaChanges.{new_table, tables_after_step, with_column, without_column, with_index, without_index}
 use Rattle.database_state.specs.Step.{state_after}
-use Rattle.database_state.specs.Lawful.{has_next_numbers, has_number, is_lawful, is_live}
-use Rattle.database_state.specs.View.{newest}
+use Rattle.database_state.specs.Lawful.{has_number, is_lawful, is_live}
 use Rattle.record_changes.specs.Records.{Records, after_item, records_after_items, records_of}
 use Rattle.record_changes.proofs.Tests.{and_left, and_right, impossible, same_number}
 use Rattle.version_history.specs.History.{IsHistory, IsOpenIn, IsPlaced, IsPlacedBy, without_rows}
@@ -164,15 +163,15 @@ stepped_holds base dropped kept store state session made h lawful =
     let entry_made : Entry = record { session = record { 0 = session }; kind = entry.Schema made } in
     let after : IsHistory (records_of (tables_after_step state.tables made)) (dropped ++ kept) [] (state_after state entry_made) = keeps_lawful base dropped kept state entry_made h.history lawful in
     let settled : records_of store.tables ≡ records_of state.tables =
-        h.newest ∙ newest_records base dropped kept state h.history
-        ∙ all_settled state.number state.tables (transaction_of state) (none_open base dropped kept state session made h.history lawful) kept h.history.keeps.placed base ∙ sym h.history.keeps.committed in
+    h.newest ∙ newest_records base dropped kept state h.history
+    ∙ all_settled state.number state.tables (transaction_of state) (none_open base dropped kept state session made h.history lawful) kept h.history.keeps.placed base ∙ sym h.history.keeps.committed in
     record {
       history = after;
       rise = step_keeps_order state entry_made h.rise;
       defined = step_defined store.tables state.tables made h.defined ∙ ap (map without_rows) (sym (step_tables state session made));
       newest =
-        (λ i id bookmark. row_at (rows_of (step_found store.tables state.tables made id (same_table store.tables state.tables id h.defined h.in_order h.rise.committed (λ bookmark. ap (λ (r : Records). r id bookmark) settled)) i)) bookmark)
-        ∙ sym (newest_records (records_of (tables_after_step state.tables made)) (dropped ++ kept) [] (state_after state entry_made) after);
+          (λ i id bookmark. row_at (rows_of (step_found store.tables state.tables made id (same_table store.tables state.tables id h.defined h.in_order h.rise.committed (λ bookmark. ap (λ (r : Records). r id bookmark) settled)) i)) bookmark)
+          ∙ sym (newest_records (records_of (tables_after_step state.tables made)) (dropped ++ kept) [] (state_after state entry_made) after);
       in_order = step_rises store.tables made h.in_order;
       held = tt;
     }

@@ -11,7 +11,7 @@ use Rattle.record_changes.proofs.Tests.{same_bytes, equal_bytes}
 use Rattle.version_store.specs.declared.calls.Reader.{Reader}
 use Rattle.version_store.specs.HeldChanges.{is_rewrite}
 use Rattle.stored_tables.specs.HeldRecords.{HeldRecord, is_unseen, hides, before_or, seen_record}
-use Rattle.stored_tables.specs.StoredTables.{hides_in, rows_with, seen_rows}
+use Rattle.stored_tables.specs.StoredTables.{rows_with, seen_rows}
 
 turned : (a b : List ℕ) → bytes_eq a b ≡ bytes_eq b a
 turned a b = by (bytes_eq a b) (bytes_eq b a) refl refl

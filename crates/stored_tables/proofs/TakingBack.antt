@@ -1,6 +1,6 @@
 -- Changes that are taken back leave what the others made.
-use Rattle.std.proofs.Common.{◌≡◌, ℕ, ◌+◌, Bool, true, false, not, ◌&&◌, cond, List, [], ◌∷◌, map, filter, Option, Some, None, refl, sym, ap, subst, ◌∙◌, arith}
-use Rattle.std.specs.Prelude.{◌==◌, bytes_eq, fold, is_some, if◌then◌else◌}
+use Rattle.std.proofs.Common.{◌≡◌, ℕ, Bool, true, false, not, ◌&&◌, cond, List, [], ◌∷◌, map, filter, Option, Some, None, refl, sym, ap, subst, ◌∙◌, arith}
+use Rattle.std.specs.Prelude.{◌==◌, bytes_eq, fold, is_some}
 use Rattle.std.specs.List.{AllByRecursion}
 use Rattle.std.proofs.lemmas.Bool.Decides.{nat_tests}
 use Rattle.column_set.specs.declared.changes.Change.{Change}
@@ -21,7 +21,7 @@ use Rattle.version_history.proofs.EndEntries.{same_definitions}
 use Rattle.version_history.proofs.FoundRecord.{fold-at}
 use Rattle.version_history.proofs.Viewing.{same_there}
 use Rattle.version_keys.specs.Variants.{HasNoSums}
-use Rattle.version_store.specs.HeldChanges.{kind_of, is_rewrite}
+use Rattle.version_store.specs.HeldChanges.{kind_of}
 use Rattle.stored_tables.specs.HeldRecords.{HeldRecord, inverse, inverse_of, undone_change}
 use Rattle.stored_tables.specs.StoredTables.{tables_taken_back}
 use Rattle.stored_tables.specs.Holding.{AllMatch, AllRise, Matches}

@@ -1,19 +1,18 @@
 -- What undone levels and sessions that leave make of stored tables.
-use Rattle.std.proofs.Common.{◌≡◌, ℕ, ◌+◌, ◌-◌, ◌≤◌, Bool, true, false, not, ◌&&◌, cond, List, [], ◌∷◌, map, Option, Some, None, refl, sym, ap, subst, ◌∙◌, arith}
+use Rattle.std.proofs.Common.{◌≡◌, ℕ, ◌+◌, ◌-◌, ◌≤◌, Bool, true, false, ◌&&◌, cond, List, map, Option, Some, None, refl, sym, ap, subst, ◌∙◌, arith}
 use Rattle.std.specs.Prelude.{◌==◌, nat_lt}
 use Rattle.std.specs.List.{AllByRecursion}
 use Rattle.std.proofs.lemmas.Bool.Decides.{nat_tests}
 use Rattle.index_derive.specs.declared.log.Entry.{Entry}
 use Rattle.index_derive.specs.declared.log.EntryKind.{EntryKind}
 use Rattle.index_derive.specs.declared.log.EntryKind.TheVariants as entry
-use Rattle.database_state.specs.Table.{Table}
 use Rattle.database_state.specs.State.{DatabaseState, PastChange, Transaction, Status, uncommitted, committed, undone, is_open, is_open_change_of, levels, levels_of, transaction_of}
 use Rattle.database_state.specs.Changes.{changed_table}
 use Rattle.database_state.specs.Step.{every_change, innermost_undone, is_at_level, state_after, with_changes_at, with_levels, with_transaction}
 use Rattle.database_state.specs.Lawful.{is_lawful}
 use Rattle.record_changes.specs.Records.{IsThere, Records}
 use Rattle.record_changes.proofs.Tests.{and_left, and_right, impossible, same_number}
-use Rattle.version_history.specs.History.{EachTwo, IsHistory, IsOpenIn, IsPlaced, IsPlacedBy, LevelsRise, NumbersRise, without_rows}
+use Rattle.version_history.specs.History.{EachTwo, IsHistory, IsOpenIn, IsPlaced, IsPlacedBy, LevelsRise, without_rows}
 use Rattle.version_history.specs.KeptSteps.{is_own_open, undone_where}
 use Rattle.version_history.specs.Readers.{is_standing}
 use Rattle.version_history.proofs.Befores.{GoesApart}
@@ -23,9 +22,9 @@ use Rattle.version_history.proofs.Lists.{all_true, all_weaker}
 use Rattle.version_history.proofs.SeenRecords.{are_there, newest_records}
 use Rattle.version_history.proofs.Viewing.{same_there}
 use Rattle.version_keys.specs.Variants.{HasNoSums}
-use Rattle.stored_tables.specs.HeldRecords.{HeldRecord, is_open_at, is_open_of, undone_change}
-use Rattle.stored_tables.specs.StoredTables.{StoredTables, tables_taken_back, with_changes_undone}
-use Rattle.stored_tables.specs.Holding.{AllMatch, Holds, Matches, RecordsRise}
+use Rattle.stored_tables.specs.HeldRecords.{HeldRecord, is_open_at, is_open_of}
+use Rattle.stored_tables.specs.StoredTables.{StoredTables, with_changes_undone}
+use Rattle.stored_tables.specs.Holding.{Holds, RecordsRise}
 use Rattle.stored_tables.proofs.Ending.{same_open}
 use Rattle.stored_tables.proofs.RisingSteps.{step_keeps_order}
 use Rattle.stored_tables.proofs.TakingBack.{SameTest, all_undone_match, taken_defined, taken_records, taken_rise}
@@ -101,8 +100,8 @@ undoing base dropped kept store state after gone test h none same stands apart h
   rise = subst (λ s. RecordsRise s) (sym is) (step_keeps_order state made h.rise);
   defined = taken_defined test store.held store.tables ∙ h.defined ∙ ap (map without_rows) (sym tables);
   newest =
-    taken_records gone test same stands store.tables kept store.held base h.held h.history.keeps.befores none apart (there_in base dropped kept store state h) (h.newest ∙ newest_records base dropped kept state h.history)
-    ∙ sym (newest_records base dropped (map (undone_where gone) kept) after history);
+      taken_records gone test same stands store.tables kept store.held base h.held h.history.keeps.befores none apart (there_in base dropped kept store state h) (h.newest ∙ newest_records base dropped kept state h.history)
+      ∙ sym (newest_records base dropped (map (undone_where gone) kept) after history);
   in_order = taken_rise test store.held store.tables h.in_order;
   held = all_undone_match gone test same kept store.held h.held;
 }

@@ -7,14 +7,14 @@ use Rattle.database_state.specs.State.{DatabaseState, LiveSession, PastChange, T
 use Rattle.database_state.specs.View.{newest, view, view_in}
 use Rattle.record_changes.specs.Records.{Records, records_of}
 use Rattle.record_changes.proofs.Projecting.{found_id}
-use Rattle.version_history.specs.History.{IsBegun, without_rows}
+use Rattle.version_history.specs.History.{IsBegun, IsHistory, without_rows}
+use Rattle.version_history.specs.Readers.{found_record}
 use Rattle.version_history.proofs.EndEntries.{same_definitions}
 use Rattle.version_history.proofs.Viewing.{same_there}
 use Rattle.version_keys.specs.Variants.{HasNoSums}
-use Rattle.version_keys.proofs.WithoutSums.{found_without_sums}
 use Rattle.version_store.specs.declared.calls.Reader.{Reader}
 use Rattle.stored_tables.specs.HeldRecords.{HeldRecord, seen_record}
-use Rattle.stored_tables.specs.StoredTables.{StoredTables, seen_rows, seen_table, seen_tables}
+use Rattle.stored_tables.specs.StoredTables.{StoredTables, seen_table, seen_tables}
 use Rattle.stored_tables.specs.Holding.{AllRise, Holds, RecordsRise, SnapshotRises, begin_of}
 use Rattle.stored_tables.proofs.FoundRecords.{seen_is_found}
 use Rattle.stored_tables.proofs.Rising.{all_seen_rise, all_tables_rise, same_table}
@@ -73,9 +73,15 @@ no_record tables id bookmark e = by (table_with_id tables id) e
     by None e = refl
     by (Some t) e = cc
 
-pub seen_records : (base : Records) (dropped kept : List PastChange) (store : StoredTables) (state : DatabaseState) → Holds base dropped kept store state → HasNoSums kept → (reader : Reader) → reader.begin ≡ begin_of (transaction_of state reader.session.0)
+-- the law that a session finds its very record among the kept changes
+abbrev pub FindsItsRecord : Type 0
+FindsItsRecord =
+    (base : Records) (dropped kept : List PastChange) (state : DatabaseState) → IsHistory base dropped kept state → HasNoSums kept → (session table : ℕ) (bookmark : List ℕ)
+    → found_record session (transaction_of state session) table bookmark (records_of (newest state) table bookmark) kept ≡ records_of (view state session) table bookmark
+
+pub seen_records : FindsItsRecord → (base : Records) (dropped kept : List PastChange) (store : StoredTables) (state : DatabaseState) → Holds base dropped kept store state → HasNoSums kept → (reader : Reader) → reader.begin ≡ begin_of (transaction_of state reader.session.0)
     → (id : ℕ) (bookmark : List ℕ) → record_in (seen_tables reader store) id bookmark ≡ record_in (view state reader.session.0) id bookmark
-seen_records base dropped kept store state h none reader e id bookmark =
+seen_records finds base dropped kept store state h none reader e id bookmark =
     ap (λ t. row_at (rows_of t) bookmark) (seen_found reader store.held store.tables id) ∙ by (table_with_id store.tables id) refl
   where
     by : (t : Option Table) → table_with_id store.tables id ≡ t → row_at (rows_of (option_map (seen_table reader store.held) t)) bookmark ≡ record_in (view state reader.session.0) id bookmark
@@ -88,12 +94,12 @@ seen_records base dropped kept store state h none reader e id bookmark =
         ∙ ap (λ o. seen_record id bookmark reader (row_at (rows_of o) bookmark) store.held) (sym f)
         ∙ ap (λ (r : Records). seen_record id bookmark reader (r id bookmark) store.held) h.newest
         ∙ seen_is_found reader (transaction_of state reader.session.0) e id bookmark (records_of (newest state) id bookmark) kept store.held h.held
-        ∙ found_without_sums base dropped kept state h.history none reader.session.0 id bookmark
+        ∙ finds base dropped kept state h.history none reader.session.0 id bookmark
 
-pub is_shown : (base : Records) (dropped kept : List PastChange) (store : StoredTables) (state : DatabaseState) → Holds base dropped kept store state → HasNoSums kept → (reader : Reader) → reader.begin ≡ begin_of (transaction_of state reader.session.0)
+pub is_shown : FindsItsRecord → (base : Records) (dropped kept : List PastChange) (store : StoredTables) (state : DatabaseState) → Holds base dropped kept store state → HasNoSums kept → (reader : Reader) → reader.begin ≡ begin_of (transaction_of state reader.session.0)
     → (id : ℕ) → table_with_id (seen_tables reader store) id ≡ table_with_id (view state reader.session.0) id
-is_shown base dropped kept store state h none reader e id =
+is_shown finds base dropped kept store state h none reader e id =
     same_table (seen_tables reader store) (view state reader.session.0) id
     (seen_defined reader store.held store.tables ∙ h.defined ∙ sym (view_defined base dropped kept store state h reader.session.0))
     (all_seen_rise reader store.held store.tables h.in_order) (view_rises state h.rise reader.session.0)
-    (seen_records base dropped kept store state h none reader e id)
+    (seen_records finds base dropped kept store state h none reader e id)

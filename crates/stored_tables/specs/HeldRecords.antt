@@ -1,18 +1,21 @@
 -- The changes of the past that are held, each with the record before it, and what they say.
-use Rattle.std.specs.Prelude.{ℕ, neg_ℤ, ◌-◌, ◌==◌, Bool, not, ◌&&◌, List, find, Option, Some, None, bytes_eq, if◌then◌else◌}
+use Rattle.std.specs.Prelude.{ℕ, neg_ℤ, ◌-◌, ◌==◌, Bool, false, not, ◌&&◌, ◌||◌, List, [], ◌∷◌, find, sum_by, Option, Some, None, bytes_eq, if◌then◌else◌}
 use Rattle.std.specs.List.{list_any}
 use Rattle.jet_base.specs.Ids.{table_id}
 use Rattle.column_set.specs.declared.changes.Change.{Change}
 use Rattle.column_set.specs.declared.changes.Change.TheVariants.{Put, Drop, Hold, Add}
 use Rattle.column_set.specs.RecordValues.{RecordFields}
+use Rattle.index_derive.specs.declared.rules.IndexRule.{IndexRule}
+use Rattle.index_derive.specs.declared.rules.Schema.{Schema}
 use Rattle.database_state.specs.Changes.{changed_table, changed_bookmark, is_sum}
-use Rattle.database_state.specs.State.{Status, uncommitted, committed, undone, is_open}
+use Rattle.database_state.specs.Conflicts.{yields_key}
+use Rattle.database_state.specs.State.{Status, uncommitted, committed, undone, is_open, is_undone}
 use Rattle.database_state.specs.VersionStore.{cost_of}
 use Rattle.version_store.specs.declared.calls.By.{By}
 use Rattle.version_store.specs.declared.calls.ChangeKind.{ChangeKind}
 use Rattle.version_store.specs.declared.calls.ChangeKind.TheVariants as kind
 use Rattle.version_store.specs.declared.calls.Reader.{Reader}
-use Rattle.version_store.specs.HeldChanges.{kind_of, is_add, is_rewrite, is_unseen_status}
+use Rattle.version_store.specs.HeldChanges.{kind_of, is_add, is_kept_status, is_rewrite, is_unseen_status}
 
 -- A held change: the number of its entry, who made it and at which level, what it does, its record, the record before a put
 -- or a drop, its cost in the version store in bytes, and its state.
@@ -67,10 +70,14 @@ before_or newest (Some held) = held.before
 abbrev pub seen_record : ℕ → List ℕ → Reader → Option RecordFields → List HeldRecord → Option RecordFields
 seen_record table bookmark reader newest changes = before_or newest (find (hides table bookmark reader) changes)
 
+-- a change of another session that is open, or was committed after the reader's begin
+abbrev pub is_concurrent : Reader → HeldRecord → Bool
+is_concurrent reader held = not (held.session == reader.session.0) && is_unseen reader held
+
 -- A write conflict: a concurrent change of another session touches the same record, unless both are sums.
 abbrev pub conflicts : Reader → Change → HeldRecord → Bool
 conflicts reader made held =
-    not (held.session == reader.session.0) && is_unseen reader held
+    is_concurrent reader held
     && (is_change_at (changed_table made) (changed_bookmark made) held && not (is_add held.kind && is_sum made))
 
 abbrev pub has_conflict : Reader → Change → List HeldRecord → Bool
@@ -107,3 +114,33 @@ inverse_of (kind.Add column amount) table bookmark before = Add (table_id table)
 
 abbrev pub inverse : HeldRecord → Change
 inverse held = inverse_of held.kind held.table held.bookmark held.before
+
+-- ---- the span
+
+-- the oldest change that must be kept, given where the oldest open transaction began, and all behind it
+abbrev pub from_oldest_kept : Option ℕ → List HeldRecord → List HeldRecord
+from_oldest_kept oldest [] = []
+from_oldest_kept oldest (held ∷ changes) = if is_kept_status oldest held.status then held ∷ changes else from_oldest_kept oldest changes
+
+-- the costs from the oldest kept change to the newest
+abbrev pub span : Option ℕ → List HeldRecord → ℕ
+span oldest changes = sum_by (λ held. held.cost) (from_oldest_kept oldest changes)
+
+-- ---- key conflicts
+
+-- a put or a drop of the record that is not undone
+abbrev pub is_standing_rewrite : ℕ → List ℕ → HeldRecord → Bool
+is_standing_rewrite table bookmark held = is_change_at table bookmark held && is_rewrite held.kind && not (is_undone held.status)
+
+-- the record before the next put or drop of it, or the newest one
+abbrev pub next_variant : (ℕ → List ℕ → Option RecordFields) → ℕ → List ℕ → List HeldRecord → Option RecordFields
+next_variant newest table bookmark changes = before_or (newest table bookmark) (find (is_standing_rewrite table bookmark) changes)
+
+-- A key conflict: some concurrent change of the table has the key in its record before it, or in the one after it.
+abbrev pub has_key_conflict : Reader → (ℕ → List ℕ → Option RecordFields) → ℕ → IndexRule → Schema → List ℕ → List HeldRecord → Bool
+has_key_conflict reader newest table rule schema key [] = false
+has_key_conflict reader newest table rule schema key (held ∷ changes) =
+    (is_concurrent reader held && ((held.table == table)
+    && (yields_key rule schema key (next_variant newest held.table held.bookmark (held ∷ changes))
+    || yields_key rule schema key (next_variant newest held.table held.bookmark changes))))
+    || has_key_conflict reader newest table rule schema key changes

@@ -1,5 +1,5 @@
 -- When stored tables hold a database state.
-use Rattle.std.specs.Prelude.{◌≡◌, ℕ, true, List, [], ◌∷◌, map, Option, option_map, IfSome, T}
+use Rattle.std.specs.Prelude.{◌≡◌, ℕ, true, List, [], ◌∷◌, map, Option, Some, None, nat_lt, if◌then◌else◌, option_map, IfSome, T}
 use Rattle.std.specs.List.{AllByRecursion}
 use Rattle.std.specs.Ordering.{nat_cmp}
 use Rattle.std.specs.Cmp.Lexicographic.{slice_cmp}
@@ -26,6 +26,17 @@ AllRise tables = AllByRecursion (λ table. RowsRise table.rows) tables
 -- where a transaction began, none outside one
 abbrev pub begin_of : Option Transaction → Option ℕ
 begin_of transaction = option_map (λ t. t.begin) transaction
+
+-- the earlier of two begins
+abbrev pub earlier : Option ℕ → Option ℕ → Option ℕ
+earlier None other = other
+earlier (Some one) None = Some one
+earlier (Some one) (Some other) = Some (if nat_lt other one then other else one)
+
+-- where the oldest open transaction began, none where none is open
+abbrev pub oldest_begin : List LiveSession → Option ℕ
+oldest_begin [] = None
+oldest_begin (session ∷ sessions) = earlier (begin_of session.transaction) (oldest_begin sessions)
 
 -- A held change is the kept one. One that stands and sets or removes its record has the very record before it.
 pub record Matches (item : PastChange) (held : HeldRecord) : Type 0 where

@@ -1,3 +1,4 @@
 pub mod HeldRecords
 pub mod StoredTables
 pub mod Holding
+pub mod Samples

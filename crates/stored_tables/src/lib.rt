@@ -2,12 +2,22 @@
 //! it sees. The functions do nothing: their contracts are the laws.
 #![tactic(auto)]
 
+mod conflicts;
+mod examples;
 mod readers;
 mod steps;
 
+pub use conflicts::{
+    held_changes_tell_key_conflicts, held_changes_tell_the_span, held_changes_tell_write_conflicts,
+};
+pub use examples::{
+    a_reader_that_began_before_sees_the_old_record, a_replaced_record_is_in_conflict,
+    an_undone_replace_gives_the_old_record_back,
+};
 pub use readers::{a_reader_is_shown_the_records_that_it_sees, a_session_is_shown_its_view};
 pub use steps::{
     a_change_is_made_and_held, a_clean_leaves_the_state, a_schema_step_changes_the_tables,
     entries_leave_records_in_order, entries_of_a_session_leave_the_tables,
-    releases_and_commits_leave_the_tables, tables_alone_hold_a_state, undone_changes_are_taken_back,
+    releases_and_commits_leave_the_tables, tables_alone_hold_a_state,
+    undone_changes_are_taken_back,
 };
