@@ -1,5 +1,0 @@
-use Rattle.stored_tables.proofs.Views.{is_shown}
-use Rattle.stored_tables.proofs.readers.a_session_is_shown_its_view.Goals as goal
-
-pub returns : goal.returns
-returns c = is_shown c.a_session_finds_its_very_record.ensures

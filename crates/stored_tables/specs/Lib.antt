@@ -1,4 +1,0 @@
-pub mod HeldRecords
-pub mod StoredTables
-pub mod Holding
-pub mod Samples

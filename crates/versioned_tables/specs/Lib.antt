@@ -1,0 +1,4 @@
+pub mod HeldRecords
+pub mod VersionedTables
+pub mod Holding
+pub mod Samples

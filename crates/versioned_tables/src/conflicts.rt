@@ -1,0 +1,43 @@
+//! What the held changes tell of conflicts and of the version store's span.
+
+ghost use Rattle.std.specs.Prelude.{◌≡◌, ℕ, List};
+ghost use Rattle.column_set.specs.declared.changes.Change.{Change};
+ghost use Rattle.index_derive.specs.declared.rules.IndexRule.{IndexRule};
+ghost use Rattle.index_derive.specs.declared.rules.Schema.{Schema};
+ghost use Rattle.database_state.specs.Conflicts.{has_key_conflict as has_key_conflict_in, has_write_conflict};
+ghost use Rattle.database_state.specs.State.{DatabaseState, LiveSession, PastChange, transaction_of};
+ghost use Rattle.database_state.specs.VersionStore.{is_needed, version_span};
+ghost use Rattle.record_changes.specs.Records.{Records, records_of};
+ghost use Rattle.version_history.specs.History.{EachTwo, LabelsRise};
+ghost use Rattle.version_keys.specs.Variants.{HasNoSums};
+ghost use Rattle.version_store.specs.declared.calls.Reader.{Reader};
+ghost use Rattle.version_store.specs.HeldChanges.{is_kept_status};
+ghost use Rattle.versioned_tables.specs.HeldRecords.{HeldRecord, has_conflict, has_key_conflict, span};
+ghost use Rattle.versioned_tables.specs.VersionedTables.{VersionedTables};
+ghost use Rattle.versioned_tables.specs.Holding.{Holds, Matches, begin_of, oldest_begin};
+
+use version_keys::variants_tell_key_conflicts;
+
+/// A change meets a held one exactly where the state has a write conflict.
+pub fn held_changes_tell_write_conflicts()
+    ensures { (base : Records) (dropped kept : List PastChange) (store : VersionedTables) (state : DatabaseState) → Holds base dropped kept store state
+        → (reader : Reader) → reader.begin ≡ begin_of (transaction_of state reader.session.0)
+        → (change : Change) → has_conflict reader change store.held ≡ has_write_conflict state reader.session.0 change }
+{}
+
+/// A key conflict is told by the records before and after the held changes, where no escrow column was changed.
+pub fn held_changes_tell_key_conflicts()
+    ensures { (base : Records) (dropped kept : List PastChange) (store : VersionedTables) (state : DatabaseState) → Holds base dropped kept store state → HasNoSums kept
+        → (reader : Reader) → reader.begin ≡ begin_of (transaction_of state reader.session.0) → (table : ℕ) (schema : Schema) (rule : IndexRule) (key : List ℕ)
+        → has_key_conflict reader (records_of store.tables) table rule schema key store.held ≡ has_key_conflict_in state reader.session.0 table schema rule key }
+{
+    variants_tell_key_conflicts();
+}
+
+/// Given where the oldest transaction began, a held change must be kept where the past change is needed, and the span of the
+/// held changes is that of the state.
+pub fn held_changes_tell_the_span()
+    ensures needed { (sessions : List LiveSession) (item : PastChange) (held : HeldRecord) → Matches item held → is_kept_status (oldest_begin sessions) held.status ≡ is_needed sessions item }
+    ensures span { (base : Records) (dropped kept : List PastChange) (store : VersionedTables) (state : DatabaseState) → Holds base dropped kept store state → EachTwo LabelsRise state.sessions
+        → span (oldest_begin state.sessions) store.held ≡ version_span state }
+{}
