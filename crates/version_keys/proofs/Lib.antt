@@ -4,3 +4,8 @@ pub mod Derivation
 pub mod VariantKeys
 pub mod UniqueThroughout
 pub mod Finding
+pub mod KeepingKeys
+pub mod FreeKeys
+pub mod KeysOfEntries
+pub mod BookmarkKeys
+pub mod UniqueKept
