@@ -72,7 +72,7 @@ none_in_use state label made e = (first (levels state label == 0) _ _ e, left (l
     left true b e = e
     left false b e = refl
 
-all_outside : (base : Records) (dropped kept : List PastChange) (state : DatabaseState) (label : ℕ) (made : SchemaStep) → IsHistory base dropped kept state → is_none (schema_refusal state label made) ≡ true → (x : ℕ) → transaction_of state x ≡ None
+pub all_outside : (base : Records) (dropped kept : List PastChange) (state : DatabaseState) (label : ℕ) (made : SchemaStep) → IsHistory base dropped kept state → is_none (schema_refusal state label made) ≡ true → (x : ℕ) → transaction_of state x ≡ None
 all_outside base dropped kept state label made h e x =
     let free = none_in_use state label made e in
     elim (x == label) as (λ b. (x == label) ≡ b → transaction_of state x ≡ None) [

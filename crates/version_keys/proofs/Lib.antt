@@ -9,3 +9,7 @@ pub mod FreeKeys
 pub mod KeysOfEntries
 pub mod BookmarkKeys
 pub mod UniqueKept
+pub mod SameColumns
+pub mod IndexNumbers
+pub mod SchemaKeys
+pub mod UniqueLaws

@@ -56,7 +56,7 @@ pub same_defined : (P : Table → Type 0) → ((t : Table) → P (without_rows t
     → IfSome (table_with_id tables id) P → IfSome (table_with_id after id) P
 same_defined P f g after tables e id h = there P f after id (subst (λ (ts : List Table). IfSome (table_with_id ts id) P) (sym e) (back_there P g tables id h))
 
-some_at : (P Q : Table → Type 0) (found : Option Table) → ((t : Table) → found ≡ Some t → P t → Q t) → IfSome found P → IfSome found Q
+pub some_at : (P Q : Table → Type 0) (found : Option Table) → ((t : Table) → found ≡ Some t → P t → Q t) → IfSome found P → IfSome found Q
 some_at P Q None f h = tt
 some_at P Q (Some t) f h = f t refl h
 
