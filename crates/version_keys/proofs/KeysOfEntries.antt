@@ -165,7 +165,7 @@ changes_records (entry.Change change) = true
 changes_records (entry.Schema made) = true
 changes_records _ = false
 
-keys_same : (rule : IndexRule) (schema : Schema) (table : ℕ) (base : Records) (kept : List PastChange) (one other : ℕ → Option Transaction) → other ≡ one → HasFreeKeys rule schema table one base kept → HasFreeKeys rule schema table other base kept
+pub keys_same : (rule : IndexRule) (schema : Schema) (table : ℕ) (base : Records) (kept : List PastChange) (one other : ℕ → Option Transaction) → other ≡ one → HasFreeKeys rule schema table one base kept → HasFreeKeys rule schema table other base kept
 keys_same rule schema table base kept one other e h = subst (λ (ts : ℕ → Option Transaction). HasFreeKeys rule schema table ts base kept) (sym e) h
 
 two_levels : (n : ℕ) → nat_le 2 n ≡ true → nat_lt 1 n ≡ true

@@ -13,3 +13,6 @@ pub mod SameColumns
 pub mod IndexNumbers
 pub mod SchemaKeys
 pub mod UniqueLaws
+pub mod CommitKeys
+pub mod OrderedTables
+pub mod LawfulCommits

@@ -40,7 +40,7 @@ use Rattle.version_keys.proofs.UniqueThroughout.{unique_throughout}
 -- ---- where no change is kept
 
 -- the records of a table that was found
-rows_found : (tables : List Table) (id : ℕ) (t : Table) → table_with_id tables id ≡ Some t → (bookmark : List ℕ) → records_of tables t.id bookmark ≡ row_at t.rows bookmark
+pub rows_found : (tables : List Table) (id : ℕ) (t : Table) → table_with_id tables id ≡ Some t → (bookmark : List ℕ) → records_of tables t.id bookmark ≡ row_at t.rows bookmark
 rows_found tables id t found bookmark = ap (λ k. records_of tables k bookmark) (id_of tables id t found) ∙ ap (λ (o : Option Table). row_at (rows_of o) bookmark) found
 
 pub from_rows : (tables : List Table) (transactions : ℕ → Option Transaction) → ((id : ℕ) → IfSome (table_with_id tables id) AreTableIndexes) → (id : ℕ) → IfSome (table_with_id tables id) (HasUniqueIndexes transactions (records_of tables) [])
