@@ -1,8 +1,8 @@
 -- Runs of three sessions, for worked examples.
-use Rattle.std.specs.Prelude.{ℕ, ℤ, Bool, List, [], ◌∷◌, map, slice_get, unwrap_or, Option, None}
+use Rattle.std.specs.Prelude.{ℕ, ℤ, Bool, true, ◌&&◌, List, [], ◌∷◌, map, slice_get, unwrap_or, Option, None}
 use Rattle.jet_base.specs.Ids.{table_id, column_id}
 use Rattle.column_set.specs.declared.changes.Change.{Change}
-use Rattle.column_set.specs.declared.changes.Change.TheVariants.{Hold, Add}
+use Rattle.column_set.specs.declared.changes.Change.TheVariants.{Drop, Hold, Add}
 use Rattle.column_set.specs.RecordValues.{RecordFields}
 use Rattle.index_derive.specs.declared.log.EntryKind.{EntryKind}
 use Rattle.index_derive.specs.declared.rules.Schema.{Schema}
@@ -12,7 +12,8 @@ use Rattle.database_state.specs.Table.{Rows, schema_of, rows_of, table_with_id}
 use Rattle.database_state.specs.State.{DatabaseState, LiveSession, Status, transaction_of}
 use Rattle.database_state.specs.Conflicts.{is_concurrent, has_key_conflict}
 use Rattle.database_state.specs.View.{newest, view}
-use Rattle.database_state.specs.Step.{state_after_all}
+use Rattle.database_state.specs.Step.{state_after, state_after_all}
+use Rattle.database_state.specs.Lawful.{is_lawful}
 use Rattle.record_changes.specs.Records.{records_of}
 use Rattle.version_history.specs.Readers.{found_record}
 use Rattle.version_keys.specs.Variants.{is_key_held, is_variant_key, shown_entries}
@@ -35,6 +36,9 @@ after made = state_after_all first_state (map (λ one. entry_by one.0 one.1) mad
 
 abbrev pub lock : ℕ → Change
 lock n = Hold (table_id 1) (hidden_key n)
+
+abbrev pub delete : ℕ → Change
+delete n = Drop (table_id 1) (hidden_key n)
 
 abbrev pub add : ℕ → ℤ → Change
 add n amount = Add (table_id 1) (hidden_key n) (column_id 3) amount
@@ -63,6 +67,11 @@ levels_of state = map (λ item. item.level) state.past
 
 abbrev pub statuses : DatabaseState → List Status
 statuses state = map (λ item. item.status) state.past
+
+-- whether each of these entries may come after those before it
+abbrev pub are_lawful : DatabaseState → List (ℕ × EntryKind) → Bool
+are_lawful state [] = true
+are_lawful state (one ∷ made) = is_lawful state (entry_by one.0 one.1) && are_lawful (state_after state (entry_by one.0 one.1)) made
 
 -- ---- keys of the unique index on column 2
 

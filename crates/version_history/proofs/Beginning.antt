@@ -10,7 +10,7 @@ use Rattle.database_state.specs.Conflicts.{collide, is_concurrent, is_concurrent
 use Rattle.record_changes.specs.Records.{Records, after_item, record_after, records_after_items}
 use Rattle.record_changes.proofs.Folds.{folded-append, folded-same}
 use Rattle.record_changes.proofs.Tests.{impossible, same_number}
-use Rattle.version_history.specs.History.{InOrder, IsBegun, IsOpenIn, IsPassed, IsPassedBy, IsPlaced, IsPlacedBy, KeepsHistory, LevelsRise, NumbersRise, is_apart_by, is_begun_after}
+use Rattle.version_history.specs.History.{InOrder, InOrderWhere, IsBegun, IsOpenIn, IsPassed, IsPassedBy, IsPlaced, IsPlacedBy, KeepsHistory, LevelsRise, NumbersRise, is_apart_by, is_begun_after}
 use Rattle.version_history.specs.Readers.{is_standing, was_committed, was_committed_status}
 use Rattle.version_history.proofs.Befores.{at, befores-append}
 use Rattle.version_history.proofs.Keeping.{apart_moved, some_at, some_map, with_at}
@@ -58,6 +58,14 @@ was_settled n tables transactions t le item h = by item.status h.2
         past a b le = grind (arith, nat_tests)
     by undone h = refl
 
+-- the order of two that meet in some way
+pub order_begun : (Meet : PastChange → PastChange → Type 0) (n session : ℕ) (tables : List Table) (transactions : ℕ → Option Transaction) → transactions session ≡ None → (t : Transaction) → (p q : PastChange) → IsPlaced n tables transactions q
+    → InOrderWhere Meet transactions p q → InOrderWhere Meet (with_at session (Some t) transactions) p q
+order_begun Meet n session tables transactions none t p q placed order live_p live_q meet =
+    apart_moved (transactions q.session) (with_at session (Some t) transactions q.session) q.number (p.session == q.session) p.status q.status
+    (λ opens e. subst (λ u. is_begun_after u p.status ≡ true) (elsewhere session (Some t) transactions q.session (not_own n tables transactions session none q placed opens)) e)
+    (order live_p live_q meet)
+
 pub keeps_begun : (n session : ℕ) (tables : List Table) (transactions : ℕ → Option Transaction) (base : Records) (kept : List PastChange) → transactions session ≡ None
     → KeepsHistory n tables transactions base kept
     → KeepsHistory (n + 1) tables (with_at session (Some (record { levels = 1; begin = n + 1; snapshot = tables })) transactions) base kept
@@ -76,9 +84,7 @@ keeps_begun n session tables transactions base kept none h =
           })
           (λ e. some_map (IsBegun n tables base kept) (IsBegun (n + 1) tables base kept) (λ t b. record { snapshot = b.snapshot; defined = b.defined; begin = omega (arith, b.begin); levels = b.levels }) (transactions x) (h.begun x));
       in_order = each_both (IsPlaced n tables transactions) (InOrder transactions) (InOrder (with_at session (Some (record { levels = 1; begin = n + 1; snapshot = tables })) transactions))
-          (λ p q pp pq order live_p live_q hit. apart_moved (transactions q.session) (with_at session (Some (record { levels = 1; begin = n + 1; snapshot = tables })) transactions q.session) q.number (p.session == q.session) p.status q.status
-          (λ opens e. subst (λ u. is_begun_after u p.status ≡ true) (elsewhere session (Some (record { levels = 1; begin = n + 1; snapshot = tables })) transactions q.session (not_own n tables transactions session none q pq opens)) e)
-          (order live_p live_q hit)) kept h.placed h.in_order;
+          (λ p q pp pq. order_begun (λ p q. collide p.change q.change ≡ true) n session tables transactions none (record { levels = 1; begin = n + 1; snapshot = tables }) p q pq) kept h.placed h.in_order;
       numbers = h.numbers;
       levels = h.levels;
       befores = h.befores;
@@ -98,9 +104,9 @@ passed_begun n session transactions t e items h = all_weaker (IsPassed n transac
 -- ---- a change
 
 -- no conflict leaves a change that collides before
-order_new : (n : ℕ) (tables : List Table) (transactions : ℕ → Option Transaction) (t : Transaction) (new : PastChange) → new.number ≡ n + 1 → new.status ≡ uncommitted → transactions new.session ≡ Some t → (p : PastChange) → IsPlaced n tables transactions p
-    → (is_standing p ≡ true → collide p.change new.change ≡ true → is_concurrent new.session (Some t) p ≡ false) → InOrder transactions p new
-order_new n tables transactions t new number is_new e p placed free live live_new hit =
+pub order_new : (Meet : PastChange → PastChange → Type 0) (n : ℕ) (tables : List Table) (transactions : ℕ → Option Transaction) (t : Transaction) (new : PastChange) → new.number ≡ n + 1 → new.status ≡ uncommitted → transactions new.session ≡ Some t → (p : PastChange) → IsPlaced n tables transactions p
+    → (is_standing p ≡ true → Meet p new → is_concurrent new.session (Some t) p ≡ false) → InOrderWhere Meet transactions p new
+order_new Meet n tables transactions t new number is_new e p placed free live live_new hit =
     subst (λ s. is_apart_by (transactions new.session) new.number (p.session == new.session) p.status s ≡ true) (sym is_new)
     (by (p.session == new.session) refl p.status placed.2 live (free live hit))
   where
@@ -156,7 +162,7 @@ keeps_changed n tables transactions base kept t new number is_new level e there 
   begun = λ x. some_map (IsBegun n tables base kept) (IsBegun (n + 1) tables base (kept ++ new ∷ [])) (λ t b. record { snapshot = b.snapshot ∙ same (Some t); defined = b.defined; begin = omega (arith, b.begin); levels = b.levels }) (transactions x) (h.begun x);
   in_order = each_append (InOrder transactions) kept new h.in_order
       (all_both (IsPlaced n tables transactions) (λ p. is_standing p ≡ true → collide p.change new.change ≡ true → is_concurrent new.session (Some t) p ≡ false) (λ p. InOrder transactions p new)
-      (order_new n tables transactions t new number is_new e) kept h.placed free);
+      (order_new (λ p q. collide p.change q.change ≡ true) n tables transactions t new number is_new e) kept h.placed free);
   numbers = each_append NumbersRise kept new h.numbers (all_weaker (IsPlaced n tables transactions) (λ p. NumbersRise p new) (λ p placed. omega (arith, placed.0, number)) kept h.placed);
   levels = each_append LevelsRise kept new h.levels (all_weaker (IsPlaced n tables transactions) (λ p. LevelsRise p new) (levels_new n tables transactions t new level e) kept h.placed);
   befores = befores-append kept base new h.befores (λ live sum. before sum);

@@ -170,11 +170,11 @@ history_committed base dropped kept label state h = record {
 
 -- ---- a change
 
-back : {X : Type 0} (P : X → Type 0) (xs ys : List X) → AllByRecursion P (xs ++ ys) → AllByRecursion P ys
+pub back : {X : Type 0} (P : X → Type 0) (xs ys : List X) → AllByRecursion P (xs ++ ys) → AllByRecursion P ys
 back P [] ys h = h
 back P (x ∷ xs) ys h = back P xs ys h.1
 
-no_conflict : (test concurrent : PastChange → Bool) (xs : List PastChange) → list_any test (filter concurrent xs) ≡ false → AllByRecursion (λ x. test x ≡ true → concurrent x ≡ false) xs
+pub no_conflict : (test concurrent : PastChange → Bool) (xs : List PastChange) → list_any test (filter concurrent xs) ≡ false → AllByRecursion (λ x. test x ≡ true → concurrent x ≡ false) xs
 no_conflict test concurrent [] h = tt
 no_conflict test concurrent (x ∷ xs) h =
     elim (concurrent x) as (λ b. concurrent x ≡ b → list_any test (cond b (x ∷ filter concurrent xs) (filter concurrent xs)) ≡ false → (test x ≡ true → b ≡ false) × AllByRecursion (λ x. test x ≡ true → concurrent x ≡ false) xs) [

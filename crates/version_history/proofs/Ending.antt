@@ -9,7 +9,7 @@ use Rattle.database_state.specs.Conflicts.{collide}
 use Rattle.record_changes.specs.Records.{Records, after_item, records_after_items, records_of}
 use Rattle.record_changes.proofs.Folds.{folded-cons, folded-map}
 use Rattle.record_changes.proofs.Tests.{and_both, and_left, and_right, impossible, same_number, self_equal}
-use Rattle.version_history.specs.History.{InOrder, IsBegun, IsOpenIn, IsPassed, IsPassedBy, IsPlaced, IsPlacedBy, KeepsHistory, LevelsRise, NumbersRise, is_apart_by, is_begun_after, is_settled_for, without_rows}
+use Rattle.version_history.specs.History.{InOrder, InOrderWhere, IsBegun, IsOpenIn, IsPassed, IsPassedBy, IsPlaced, IsPlacedBy, KeepsHistory, LevelsRise, NumbersRise, is_apart_by, is_begun_after, is_settled_for, without_rows}
 use Rattle.version_history.specs.KeptSteps.{committed_own, lowered_own}
 use Rattle.version_history.specs.Readers.{is_standing, was_committed, was_committed_status}
 use Rattle.version_history.proofs.Befores.{at, befores-map}
@@ -19,10 +19,10 @@ use Rattle.version_history.proofs.Viewing.{same_there}
 
 -- ---- all open changes of a session committed
 
-commit_change : (session number : ℕ) (item : PastChange) → (committed_own session number item).change ≡ item.change
+pub commit_change : (session number : ℕ) (item : PastChange) → (committed_own session number item).change ≡ item.change
 commit_change session number item = elim (is_open_change_of session item) as (λ b. (cond b (record item { status = committed number }) item).change ≡ item.change) [ true ↦ refl | false ↦ refl ]
 
-commit_before : (session number : ℕ) (item : PastChange) → (committed_own session number item).before ≡ item.before
+pub commit_before : (session number : ℕ) (item : PastChange) → (committed_own session number item).before ≡ item.before
 commit_before session number item = elim (is_open_change_of session item) as (λ b. (cond b (record item { status = committed number }) item).before ≡ item.before) [ true ↦ refl | false ↦ refl ]
 
 commit_number : (session number : ℕ) (item : PastChange) → (committed_own session number item).number ≡ item.number
@@ -33,7 +33,7 @@ live_open uncommitted e = refl
 live_open (committed n) e = refl
 live_open undone e = impossible e
 
-commit_live : (session number : ℕ) (item : PastChange) → is_standing (committed_own session number item) ≡ is_standing item
+pub commit_live : (session number : ℕ) (item : PastChange) → is_standing (committed_own session number item) ≡ is_standing item
 commit_live session number item = elim (is_open_change_of session item) as (λ b. is_open_change_of session item ≡ b → is_standing (cond b (record item { status = committed number }) item) ≡ is_standing item) [
   | true ↦ λ e. live_open item.status (and_left _ _ e)
   | false ↦ λ e. refl
@@ -73,13 +73,12 @@ own_open : (session : ℕ) (item : PastChange) → is_open_change_of session ite
 own_open session item e = and_left _ _ e
 
 -- one that is committed, and one that is not
-order_committed : (session n : ℕ) (tables : List Table) (transactions : ℕ → Option Transaction) (p q : PastChange) → IsPlaced n tables transactions p → IsPlaced n tables transactions q → InOrder transactions p q
-    → InOrder (with_at session None transactions) (committed_own session (n + 1) p) (committed_own session (n + 1) q)
-order_committed session n tables transactions p q pp pq h live_p live_q hit =
+pub order_committed : (Meet : PastChange → PastChange → Type 0) (session n : ℕ) (transactions : ℕ → Option Transaction) (p q : PastChange) → (Meet (committed_own session (n + 1) p) (committed_own session (n + 1) q) → Meet p q)
+    → InOrderWhere Meet transactions p q → InOrderWhere Meet (with_at session None transactions) (committed_own session (n + 1) p) (committed_own session (n + 1) q)
+order_committed Meet session n transactions p q same h live_p live_q meet =
     let live_before_p : is_standing p ≡ true = sym (commit_live session (n + 1) p) ∙ live_p in
     let live_before_q : is_standing q ≡ true = sym (commit_live session (n + 1) q) ∙ live_q in
-    let hit_before : collide p.change q.change ≡ true = ap (λ c. collide c q.change) (sym (commit_change session (n + 1) p)) ∙ ap (collide (committed_own session (n + 1) p).change) (sym (commit_change session (n + 1) q)) ∙ hit in
-    let apart = h live_before_p live_before_q hit_before in
+    let apart = h live_before_p live_before_q (same meet) in
     elim (is_open_change_of session p) as (λ b. is_open_change_of session p ≡ b → is_apart_of (cond b (record p { status = committed (n + 1) }) p) (committed_own session (n + 1) q) ≡ true) [
       | true ↦ λ own_p. elim (is_open_change_of session q) as (λ b. is_open_change_of session q ≡ b → is_apart_of (record p { status = committed (n + 1) }) (cond b (record q { status = committed (n + 1) }) q) ≡ true) [
         | true ↦ λ own_q. both (p.session == q.session) (ap (λ k. k == q.session) (same_number p.session session (and_right (is_open p.status) _ own_p)) ∙ swapped (same_number q.session session (and_right (is_open q.status) _ own_q))) (nat_lt (n + 1) q.number && is_settled_for (with_at session None transactions q.session) (committed (n + 1)) (committed (n + 1)))
@@ -203,7 +202,9 @@ keeps_committed session n tables after transactions base kept made same h = reco
         begin = omega (arith, b.begin);
         levels = b.levels;
       }) (transactions x) (h.begun x));
-  in_order = each_map (IsPlaced n tables transactions) (InOrder transactions) (InOrder (with_at session None transactions)) (committed_own session (n + 1)) (order_committed session n tables transactions) kept h.placed h.in_order;
+  in_order = each_map (IsPlaced n tables transactions) (InOrder transactions) (InOrder (with_at session None transactions)) (committed_own session (n + 1))
+      (λ p q pp pq. order_committed (λ p q. collide p.change q.change ≡ true) session n transactions p q
+      (λ hit. ap (λ c. collide c q.change) (sym (commit_change session (n + 1) p)) ∙ ap (collide (committed_own session (n + 1) p).change) (sym (commit_change session (n + 1) q)) ∙ hit)) kept h.placed h.in_order;
   numbers = each_map (λ item. Unit {0}) NumbersRise NumbersRise (committed_own session (n + 1)) (λ p q x y lt. subst (λ (a : ℕ). a < (committed_own session (n + 1) q).number) (sym (commit_number session (n + 1) p)) (subst (λ (b : ℕ). p.number < b) (sym (commit_number session (n + 1) q)) lt)) kept (all_true (λ item. Unit {0}) (λ item. tt) kept) h.numbers;
   levels = each_map (λ item. Unit {0}) LevelsRise LevelsRise (committed_own session (n + 1)) (λ p q x y. levels_committed session (n + 1) p q) kept (all_true (λ item. Unit {0}) (λ item. tt) kept) h.levels;
   befores = befores-map (committed_own session (n + 1)) (commit_change session (n + 1)) (commit_before session (n + 1)) (commit_live session (n + 1)) kept base h.befores;
@@ -214,19 +215,19 @@ keeps_committed session n tables after transactions base kept made same h = reco
 
 -- ---- a level released
 
-lowered : (P : PastChange → Type 0) (session level : ℕ) (item : PastChange) → P (record item { level = item.level - 1 }) → P item → P (lowered_own session level item)
+pub lowered : (P : PastChange → Type 0) (session level : ℕ) (item : PastChange) → P (record item { level = item.level - 1 }) → P item → P (lowered_own session level item)
 lowered P session level item f g = elim (is_open_change_of session item && (item.level == level)) as (λ b. P (cond b (record item { level = item.level - 1 }) item)) [ true ↦ f | false ↦ g ]
 
-lower_change : (session level : ℕ) (item : PastChange) → (lowered_own session level item).change ≡ item.change
+pub lower_change : (session level : ℕ) (item : PastChange) → (lowered_own session level item).change ≡ item.change
 lower_change session level item = lowered (λ i. i.change ≡ item.change) session level item refl refl
 
-lower_before : (session level : ℕ) (item : PastChange) → (lowered_own session level item).before ≡ item.before
+pub lower_before : (session level : ℕ) (item : PastChange) → (lowered_own session level item).before ≡ item.before
 lower_before session level item = lowered (λ i. i.before ≡ item.before) session level item refl refl
 
 lower_number : (session level : ℕ) (item : PastChange) → (lowered_own session level item).number ≡ item.number
 lower_number session level item = lowered (λ i. i.number ≡ item.number) session level item refl refl
 
-lower_status : (session level : ℕ) (item : PastChange) → (lowered_own session level item).status ≡ item.status
+pub lower_status : (session level : ℕ) (item : PastChange) → (lowered_own session level item).status ≡ item.status
 lower_status session level item = lowered (λ i. i.status ≡ item.status) session level item refl refl
 
 lower_session : (session level : ℕ) (item : PastChange) → (lowered_own session level item).session ≡ item.session

@@ -48,7 +48,7 @@ follows_self : (n : ℕ) (tables : List Table) (base : Records) (kept : List Pas
 follows_self n tables base kept None h = tt
 follows_self n tables base kept (Some t) h = (refl, refl, h.levels)
 
-follows_at : (n : ℕ) (tables : List Table) (base : Records) (kept : List PastChange) (transactions : ℕ → Option Transaction) → ((x : ℕ) → IfSome (transactions x) (IsBegun n tables base kept)) → (label : ℕ) (u : Option Transaction) → Follows (transactions label) u
+pub follows_at : (n : ℕ) (tables : List Table) (base : Records) (kept : List PastChange) (transactions : ℕ → Option Transaction) → ((x : ℕ) → IfSome (transactions x) (IsBegun n tables base kept)) → (label : ℕ) (u : Option Transaction) → Follows (transactions label) u
     → (x : ℕ) → Follows (transactions x) (with_at label u transactions x)
 follows_at n tables base kept transactions begun label u f x =
     elim (x == label) as (λ b. (x == label) ≡ b → Follows (transactions x) (cond b u (transactions x))) [
@@ -89,7 +89,7 @@ history_moved base dropped kept label u state after number tables past e f stays
     }
 
 -- a level more
-more : (t : Option Transaction) → Follows t (at_levels (λ n. n + 1) t)
+pub more : (t : Option Transaction) → Follows t (at_levels (λ n. n + 1) t)
 more None = tt
 more (Some t) = (refl, refl, above t.levels)
   where
@@ -167,12 +167,31 @@ history_all_undone base dropped kept label state h =
         ] refl
 
 -- the innermost level
-fewer : (t : Option Transaction) → nat_lt 1 (levels_of t) ≡ true → Follows t (at_levels (λ n. n - 1) t)
+pub fewer : (t : Option Transaction) → nat_lt 1 (levels_of t) ≡ true → Follows t (at_levels (λ n. n - 1) t)
 fewer None e = tt
 fewer (Some t) e = (refl, refl, above t.levels e)
   where
     above : (n : ℕ) → nat_lt 1 n ≡ true → 1 ≤ n - 1
     above n e = grind (arith, nat_tests)
+
+-- behind an open change of the innermost level a session has none of another level
+pub at_innermost : (label : ℕ) (state : DatabaseState) (p q : PastChange) → is_own_open label (is_at_level (levels state label)) p ≡ true → is_open_change_of label q ≡ true → IsPlaced state.number state.tables (transaction_of state) q → LevelsRise p q
+    → (q.level == levels state label) ≡ true
+at_innermost label state p q e own placed rise =
+    let own_p : is_open_change_of label p ≡ true = and_left _ _ e in
+    let of_p : p.session ≡ label = same_number p.session label (and_right (is_open p.status) _ own_p) in
+    let of_q : q.session ≡ label = same_number q.session label (and_right (is_open q.status) _ own) in
+    let low : p.level ≡ levels state label = same_number p.level (levels state label) (and_right (is_open_change_of label p) _ e) in
+    let le = rise (and_left _ _ own_p) (and_left _ _ own) (of_p ∙ sym of_q) in
+    let inside : IsOpenIn q (transaction_of state label) = subst (λ (k : ℕ). IsOpenIn q (transaction_of state k)) of_q (open_in state.number (transaction_of state) q q.status (and_left _ _ own) placed.2) in
+    between p.level q.level (levels state label) le low (at_most (transaction_of state label) inside)
+  where
+    at_most : (t : Option Transaction) → IsOpenIn q t → q.level ≤ levels_of t
+    at_most None inside = absurd inside
+    at_most (Some t) inside = inside.2
+
+    between : (a b c : ℕ) → a ≤ b → a ≡ c → b ≤ c → (b == c) ≡ true
+    between a b c le e up = grind (arith, nat_tests)
 
 pub history_innermost_undone : (base : Records) (dropped kept : List PastChange) (label : ℕ) (state : DatabaseState) → IsHistory base dropped kept state
     → IsHistory base dropped (map (undone_where (is_own_open label (is_at_level (levels state label)))) kept) (innermost_undone label state)
@@ -197,25 +216,8 @@ history_innermost_undone base dropped kept label state h =
     undoing : DatabaseState
     undoing = with_changes_at label (is_at_level (levels state label)) (λ item. record item { status = undone }) state
 
-    at_most : (q : PastChange) (t : Option Transaction) → IsOpenIn q t → q.level ≤ levels_of t
-    at_most q None inside = absurd inside
-    at_most q (Some t) inside = inside.2
-
-    suffix : (p q : PastChange) → is_own_open label (is_at_level (levels state label)) p ≡ true → is_open_change_of label q ≡ true → IsPlaced state.number state.tables (transaction_of state) q → LevelsRise p q → (q.level == levels state label) ≡ true
-    suffix p q e own placed rise =
-        let own_p : is_open_change_of label p ≡ true = and_left _ _ e in
-        let of_p : p.session ≡ label = same_number p.session label (and_right (is_open p.status) _ own_p) in
-        let of_q : q.session ≡ label = same_number q.session label (and_right (is_open q.status) _ own) in
-        let low : p.level ≡ levels state label = same_number p.level (levels state label) (and_right (is_open_change_of label p) _ e) in
-        let le = rise (and_left _ _ own_p) (and_left _ _ own) (of_p ∙ sym of_q) in
-        let inside : IsOpenIn q (transaction_of state label) = subst (λ (k : ℕ). IsOpenIn q (transaction_of state k)) of_q (open_in state.number (transaction_of state) q q.status (and_left _ _ own) placed.2) in
-        between p.level q.level (levels state label) le low (at_most q (transaction_of state label) inside)
-      where
-        between : (a b c : ℕ) → a ≤ b → a ≡ c → b ≤ c → (b == c) ≡ true
-        between a b c le e up = grind (arith, nat_tests)
-
     made : IsHistory base dropped kept_after undoing
-    made = history_undone base dropped kept label (is_at_level (levels state label)) state suffix h
+    made = history_undone base dropped kept label (is_at_level (levels state label)) state (at_innermost label state) h
 
     shallower : (item : PastChange) (t : Option Transaction) → (item.level == levels_of t) ≡ false → IsOpenIn item t → IsOpenIn item (at_levels (λ n. n - 1) t)
     shallower item None other inside = inside

@@ -8,7 +8,7 @@ use Rattle.database_state.specs.Conflicts.{collide}
 use Rattle.record_changes.specs.Records.{Records, records_after_items, records_of}
 use Rattle.record_changes.proofs.Folds.{folded-map}
 use Rattle.record_changes.proofs.Tests.{and_both, and_left, and_right, contradicted, impossible, same_number, self_equal}
-use Rattle.version_history.specs.History.{EachTwo, InOrder, IsBegun, IsOpenIn, IsPassed, IsPassedBy, IsPlaced, IsPlacedBy, KeepsHistory, LevelsRise, NumbersRise, is_apart_by, is_begun_after, is_committed_before, is_same_status, without_rows}
+use Rattle.version_history.specs.History.{EachTwo, InOrder, IsBegun, IsOpenIn, IsPassed, IsPassedBy, IsPlaced, IsPlacedBy, InOrderWhere, KeepsHistory, LevelsRise, NumbersRise, is_apart_by, is_begun_after, is_committed_before, is_same_status, without_rows}
 use Rattle.version_history.specs.KeptSteps.{is_own_open, undone_where}
 use Rattle.version_history.specs.Readers.{is_standing, was_committed, was_committed_status}
 use Rattle.version_history.proofs.Befores.{GoesApart, at, befores-undo}
@@ -87,7 +87,7 @@ apart_moved t u number same earlier uncommitted f h = or_and (same && is_same_st
 apart_moved t u number same earlier (committed n) f h = h
 apart_moved t u number same earlier undone f h = h
 
-open_in : (n : ℕ) (transactions : ℕ → Option Transaction) (item : PastChange) (s : Status) → is_open s ≡ true → IsPlacedBy n transactions item s → IsOpenIn item (transactions item.session)
+pub open_in : (n : ℕ) (transactions : ℕ → Option Transaction) (item : PastChange) (s : Status) → is_open s ≡ true → IsPlacedBy n transactions item s → IsOpenIn item (transactions item.session)
 open_in n transactions item uncommitted e h = h
 open_in n transactions item (committed m) e h = impossible e
 open_in n transactions item undone e h = impossible e
@@ -132,14 +132,19 @@ placed_followed n tables one other follows item stays h = (h.0, h.1, by item.sta
     )
     by undone stays h = h
 
+-- the order of two that meet in some way
+pub order_followed : (Meet : PastChange → PastChange → Type 0) (one other : ℕ → Option Transaction) → ((x : ℕ) → Follows (one x) (other x)) → (p q : PastChange) → StaysOpen other q → InOrderWhere Meet one p q → InOrderWhere Meet other p q
+order_followed Meet one other follows p q stays order live_p live_q meet =
+    apart_moved (one q.session) (other q.session) q.number (p.session == q.session) p.status q.status
+    (λ e. begun_moved (one q.session) (other q.session) p.status (follows q.session) (not_none q (other q.session) (stays e))) (order live_p live_q meet)
+
 pub keeps_followed : (n : ℕ) (tables : List Table) (one other : ℕ → Option Transaction) (base : Records) (kept : List PastChange) → ((x : ℕ) → Follows (one x) (other x)) → AllByRecursion (StaysOpen other) kept
     → KeepsHistory n tables one base kept → KeepsHistory n tables other base kept
 keeps_followed n tables one other base kept follows stays h = record {
   committed = h.committed;
   begun = λ x. begun_followed n tables base kept (one x) (other x) (follows x) (h.begun x);
   in_order = each_both (StaysOpen other) (InOrder one) (InOrder other)
-      (λ p q sp sq order live_p live_q hit. apart_moved (one q.session) (other q.session) q.number (p.session == q.session) p.status q.status
-      (λ e. begun_moved (one q.session) (other q.session) p.status (follows q.session) (not_none q (other q.session) (sq e))) (order live_p live_q hit)) kept stays h.in_order;
+      (λ p q sp sq. order_followed (λ p q. collide p.change q.change ≡ true) one other follows p q sq) kept stays h.in_order;
   numbers = h.numbers;
   levels = h.levels;
   befores = h.befores;
@@ -168,22 +173,22 @@ undone_committed t gone opens item =
     by (committed n) e = impossible e
     by undone e = refl
 
-undone_change : (gone : PastChange → Bool) (item : PastChange) → (undone_where gone item).change ≡ item.change
+pub undone_change : (gone : PastChange → Bool) (item : PastChange) → (undone_where gone item).change ≡ item.change
 undone_change gone item = elim (gone item) as (λ b. (cond b (record item { status = undone }) item).change ≡ item.change) [ true ↦ refl | false ↦ refl ]
 
 undone_number : (gone : PastChange → Bool) (item : PastChange) → (undone_where gone item).number ≡ item.number
 undone_number gone item = elim (gone item) as (λ b. (cond b (record item { status = undone }) item).number ≡ item.number) [ true ↦ refl | false ↦ refl ]
 
-open_live : (s : Status) → is_open s ≡ true → not (is_undone s) ≡ true
+pub open_live : (s : Status) → is_open s ≡ true → not (is_undone s) ≡ true
 open_live uncommitted e = refl
 open_live (committed n) e = refl
 open_live undone e = impossible e
 
-order_undone : (transactions : ℕ → Option Transaction) (gone : PastChange → Bool) (p q : PastChange) → InOrder transactions p q → InOrder transactions (undone_where gone p) (undone_where gone q)
-order_undone transactions gone p q h =
-    elim (gone p) as (λ b. InOrder transactions (cond b (record p { status = undone }) p) (undone_where gone q)) [
+pub order_undone : (Meet : PastChange → PastChange → Type 0) (transactions : ℕ → Option Transaction) (gone : PastChange → Bool) (p q : PastChange) → InOrderWhere Meet transactions p q → InOrderWhere Meet transactions (undone_where gone p) (undone_where gone q)
+order_undone Meet transactions gone p q h =
+    elim (gone p) as (λ b. InOrderWhere Meet transactions (cond b (record p { status = undone }) p) (undone_where gone q)) [
       | true ↦ λ live_p live_q hit. impossible live_p
-      | false ↦ elim (gone q) as (λ b. InOrder transactions p (cond b (record q { status = undone }) q)) [
+      | false ↦ elim (gone q) as (λ b. InOrderWhere Meet transactions p (cond b (record q { status = undone }) q)) [
         | true ↦ λ live_p live_q hit. impossible live_q
         | false ↦ h
       ]
@@ -207,7 +212,7 @@ pub keeps_undone : (n : ℕ) (tables : List Table) (transactions : ℕ → Optio
 keeps_undone n tables transactions base kept gone opens apart h = record {
   committed = h.committed ∙ same None;
   begun = λ x. some_map (IsBegun n tables base kept) (IsBegun n tables base (map (undone_where gone) kept)) (λ t b. record { snapshot = b.snapshot ∙ same (Some t); defined = b.defined; begin = b.begin; levels = b.levels }) (transactions x) (h.begun x);
-  in_order = each_map (λ item. Unit {0}) (InOrder transactions) (InOrder transactions) (undone_where gone) (λ p q x y. order_undone transactions gone p q) kept (all_true (λ item. Unit {0}) (λ item. tt) kept) h.in_order;
+  in_order = each_map (λ item. Unit {0}) (InOrder transactions) (InOrder transactions) (undone_where gone) (λ p q x y. order_undone (λ p q. collide p.change q.change ≡ true) transactions gone p q) kept (all_true (λ item. Unit {0}) (λ item. tt) kept) h.in_order;
   numbers = each_map (λ item. Unit {0}) NumbersRise NumbersRise (undone_where gone) (λ p q x y lt. subst (λ (a : ℕ). a < (undone_where gone q).number) (sym (undone_number gone p)) (subst (λ (b : ℕ). p.number < b) (sym (undone_number gone q)) lt)) kept (all_true (λ item. Unit {0}) (λ item. tt) kept) h.numbers;
   levels = each_map (λ item. Unit {0}) LevelsRise LevelsRise (undone_where gone) (λ p q x y. levels_undone gone p q) kept (all_true (λ item. Unit {0}) (λ item. tt) kept) h.levels;
   befores = befores-undo gone (λ item e. open_live item.status (opens item e)) kept base h.befores apart;
@@ -218,7 +223,7 @@ keeps_undone n tables transactions base kept gone opens apart h = record {
     same t = sym (folded-map (was_committed t) (was_committed t) (undone_where gone) (undone_change gone) kept (all_true (λ item. was_committed t (undone_where gone item) ≡ was_committed t item) (undone_committed t gone opens) kept) base)
 
 -- whoever collides with an open change of the session behind it is one too
-also_open : (transactions : ℕ → Option Transaction) (session : ℕ) (p q : PastChange) (sp sq : Status) → is_open sp ≡ true → p.session ≡ session → is_apart_by (transactions q.session) q.number (p.session == q.session) sp sq ≡ true
+pub also_open : (transactions : ℕ → Option Transaction) (session : ℕ) (p q : PastChange) (sp sq : Status) → is_open sp ≡ true → p.session ≡ session → is_apart_by (transactions q.session) q.number (p.session == q.session) sp sq ≡ true
     → (is_open sq && (q.session == session)) ≡ true
 also_open transactions session p q uncommitted uncommitted e of_p apart =
     let same : p.session ≡ q.session = same_number p.session q.session (or_none (p.session == q.session) apart) in

@@ -32,7 +32,7 @@ none_at_zero P f (Some t) h e = absurd (never t.levels (f t h) e)
     never : (n : ℕ) → 1 ≤ n → (n == 0) ≡ true → ⊥
     never n le e = grind (arith, nat_tests)
 
-outside : (base : Records) (dropped kept : List PastChange) (state : DatabaseState) → IsHistory base dropped kept state → (label : ℕ) → (levels state label == 0) ≡ true → transaction_of state label ≡ None
+pub outside : (base : Records) (dropped kept : List PastChange) (state : DatabaseState) → IsHistory base dropped kept state → (label : ℕ) → (levels state label == 0) ≡ true → transaction_of state label ≡ None
 outside base dropped kept state h label e = none_at_zero (IsBegun state.number state.tables base kept) (λ t b. b.levels) (transaction_of state label) (h.keeps.begun label) e
 
 -- ---- a change

@@ -54,7 +54,7 @@ same_at f g t b [] h r s e = e
 same_at f g t b (p ∷ items) h r s e = same_next f g t b p items h.0 (λ x y d. same_at f g t b items h.1 x y d) r s e
 
 -- what stands and is not concurrent is seen
-seen_unless : (n : ℕ) (transactions : ℕ → Option Transaction) (session : ℕ) (t : Transaction) (p : PastChange) → transactions session ≡ Some t → IsPlacedBy n transactions p p.status
+pub seen_unless : (n : ℕ) (transactions : ℕ → Option Transaction) (session : ℕ) (t : Transaction) (p : PastChange) → transactions session ≡ Some t → IsPlacedBy n transactions p p.status
     → (is_standing p ≡ true → is_concurrent session (Some t) p ≡ false) → is_standing p ≡ sees session (Some t) p
 seen_unless n transactions session t p e placed free = by (p.session == session) refl p.status placed free
   where

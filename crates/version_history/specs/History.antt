@@ -50,10 +50,13 @@ is_apart_by transaction number same earlier later = (same && is_same_status earl
 abbrev pub is_apart : (ℕ → Option Transaction) → PastChange → PastChange → Bool
 is_apart transactions earlier later = is_apart_by (transactions later.session) later.number (earlier.session == later.session) earlier.status later.status
 
--- of two changes that stand and collide
+-- of two changes that stand and meet in some way
+abbrev pub InOrderWhere : (PastChange → PastChange → Type 0) → (ℕ → Option Transaction) → PastChange → PastChange → Type 0
+InOrderWhere Meet transactions earlier later = is_standing earlier ≡ true → is_standing later ≡ true → Meet earlier later → is_apart transactions earlier later ≡ true
+
+-- of two that collide
 abbrev pub InOrder : (ℕ → Option Transaction) → PastChange → PastChange → Type 0
-InOrder transactions earlier later =
-    is_standing earlier ≡ true → is_standing later ≡ true → collide earlier.change later.change ≡ true → is_apart transactions earlier later ≡ true
+InOrder = InOrderWhere (λ earlier later. collide earlier.change later.change ≡ true)
 
 -- ---- the records before
 

@@ -4,3 +4,15 @@ pub mod Derivation
 pub mod VariantKeys
 pub mod UniqueThroughout
 pub mod Finding
+pub mod KeepingKeys
+pub mod FreeKeys
+pub mod KeysOfEntries
+pub mod BookmarkKeys
+pub mod UniqueKept
+pub mod SameColumns
+pub mod IndexNumbers
+pub mod SchemaKeys
+pub mod UniqueLaws
+pub mod CommitKeys
+pub mod OrderedTables
+pub mod LawfulCommits

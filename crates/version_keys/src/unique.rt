@@ -1,14 +1,24 @@
 //! Keys of unique indexes.
 
-ghost use Rattle.std.specs.Prelude.{ℕ, List};
+ghost use Rattle.std.specs.Prelude.{◌≡◌, ℕ, true, List, [], ◌∷◌, IfSome, if◌then◌else◌};
 ghost use Rattle.index_derive.specs.declared.rules.IndexRule.{IndexRule};
 ghost use Rattle.index_derive.specs.declared.rules.Schema.{Schema};
-ghost use Rattle.database_state.specs.State.{DatabaseState, PastChange, transaction_of};
+ghost use Rattle.index_derive.specs.declared.log.Entry.{Entry};
+ghost use Rattle.index_derive.specs.declared.log.EntryKind.TheVariants as entry;
+ghost use Rattle.database_state.specs.Table.{table_with_id};
+ghost use Rattle.database_state.specs.State.{DatabaseState, PastChange, levels, transaction_of};
 ghost use Rattle.database_state.specs.View.{newest, view};
-ghost use Rattle.record_changes.specs.Records.{Records, records_of};
+ghost use Rattle.database_state.specs.Step.{state_after};
+ghost use Rattle.database_state.specs.Lawful.{is_lawful};
+ghost use Rattle.record_changes.specs.Records.{Records, records_of, after_item};
+ghost use Rattle.version_history.specs.Readers.{is_standing};
 ghost use Rattle.version_history.specs.History.{IsHistory};
+ghost use Rattle.version_history.specs.KeptSteps.{kept_after, base_after};
+ghost use Rattle.version_keys.specs.TableOrder.{HasTablesInOrder};
 ghost use Rattle.version_keys.specs.Variants.{HasNoSums};
-ghost use Rattle.version_keys.specs.UniqueKeys.{AreUnique, HasFreeKeys};
+ghost use Rattle.version_keys.specs.UniqueKeys.{AreUnique, HasFreeKeys, HasUniqueKeys, IsUniqueTable};
+
+use index_derive::{a_primary_index_has_one_entry, entries_rise};
 
 /// Where standing changes brought free keys, and those that meet in a key are in order, no session finds a key at two records,
 /// and the newest state has none at two, whatever was committed or undone since.
@@ -18,3 +28,34 @@ pub fn no_reader_finds_a_unique_key_twice()
     ensures newest { (base : Records) (dropped kept : List PastChange) (state : DatabaseState) → IsHistory base dropped kept state → HasNoSums kept → (rule : IndexRule) (schema : Schema) (table : ℕ)
         → HasFreeKeys rule schema table (transaction_of state) base kept → AreUnique rule schema table (records_of (newest state)) }
 {}
+
+/// Where no change is kept, the keys of all unique indexes are free if no two records of a table share one, its indexes are
+/// sound, and the keys of a primary one are the bookmarks. So it is in a database without a table.
+pub fn unique_keys_begin_with_unique_tables()
+    ensures { (state : DatabaseState) → ((id : ℕ) → IfSome (table_with_id state.tables id) IsUniqueTable) → HasUniqueKeys (records_of state.tables) [] state }
+{}
+
+/// Every lawful entry keeps the keys of all unique indexes free, schema steps among them, where no escrow column is changed.
+/// With the history they are so in each state that lawful entries reach.
+pub fn lawful_entries_keep_unique_keys()
+    ensures { (base : Records) (dropped kept : List PastChange) (state : DatabaseState) (made : Entry) → IsHistory base dropped kept state → is_lawful state made ≡ true
+        → HasNoSums kept → HasNoSums (kept_after state made.session.0 made.kind kept) → HasUniqueKeys base kept state
+        → HasUniqueKeys (base_after state made.kind base) (kept_after state made.session.0 made.kind kept) (state_after state made) }
+{
+    a_primary_index_has_one_entry();
+}
+
+/// So does a clean of the oldest kept change. The state is the same; the changes begin behind that one.
+pub fn a_clean_keeps_unique_keys()
+    ensures { (base : Records) (dropped : List PastChange) (item : PastChange) (kept : List PastChange) (state : DatabaseState) → IsHistory base dropped (item ∷ kept) state → HasNoSums (item ∷ kept)
+        → HasUniqueKeys base (item ∷ kept) state → HasUniqueKeys (if is_standing item then after_item base item else base) kept state }
+{}
+
+/// In a transaction of one level a commit is always lawful: no two records of the tables that it commits share a key of a
+/// unique index, whatever the other sessions changed or still change.
+pub fn a_commit_is_always_lawful()
+    ensures { (base : Records) (dropped kept : List PastChange) (state : DatabaseState) (session : ℕ) → IsHistory base dropped kept state → HasNoSums kept → HasUniqueKeys base kept state → HasTablesInOrder state
+        → levels state session ≡ 1 → is_lawful state (record { session = record { 0 = session }; kind = entry.Commit }) ≡ true }
+{
+    entries_rise();
+}

@@ -1,0 +1,169 @@
+-- After a commit no unique index has a key twice.
+use Rattle.std.proofs.Common.{◌≡◌, ℕ, ◌+◌, Bool, true, false, not, ◌&&◌, ◌||◌, cond, List, [], ◌∷◌, ◌++◌, Option, Some, None, refl, sym, ap, subst, ◌∙◌, bytes_eq}
+use Rattle.std.specs.Prelude.{◌==◌, flat_map, map, nat_lt, IfSome}
+use Rattle.std.specs.List.{AllByRecursion, list_all, list_any}
+use Rattle.std.specs.List.Sorted.{IsStrictlySortedBy}
+use Rattle.std.specs.declared.cmp.Ordering.TheVariants.{Less}
+use Rattle.std.specs.Ordering.{nat_cmp, eq_by_cmp, is_eq}
+use Rattle.std.specs.Cmp.Lexicographic.{slice_cmp, texts_ties}
+use Rattle.std.proofs.lemmas.List.Folds.{list_any-append}
+use Rattle.column_set.specs.RecordValues.{RecordFields}
+use Rattle.index_derive.specs.declared.rules.IndexRule.{IndexRule}
+use Rattle.index_derive.specs.declared.rules.Schema.{Schema}
+use Rattle.index_derive.specs.declared.log.EntryKind.TheVariants as entry
+use Rattle.index_derive.specs.Entries.{has_double, has_double_key, is_unique, key_list}
+use Rattle.database_state.specs.Table.{Rows, Table, row_at, schema_of, table_with_id}
+use Rattle.database_state.specs.Changes.{is_sum, tables_after_all}
+use Rattle.database_state.specs.State.{DatabaseState, PastChange, Transaction, committed, open_changes_of, transaction_of}
+use Rattle.database_state.specs.View.{view, view_in}
+use Rattle.database_state.specs.Conflicts.{yields_key}
+use Rattle.database_state.specs.Step.{all_committed, applied, every_change, with_changes_at}
+use Rattle.database_state.specs.Lawful.{is_unique_throughout}
+use Rattle.derived_index.proofs.Adding.{KeysRise}
+use Rattle.derived_index.proofs.PairOrder.{key_cmp}
+use Rattle.derived_index.proofs.Rising.{AreRisingKeys}
+use Rattle.derived_index.proofs.Rows.{IsBelow, RowsRise}
+use Rattle.derived_index.proofs.Standing.{same_test}
+use Rattle.record_changes.specs.Records.{Records, records_of}
+use Rattle.record_changes.proofs.Tests.{and_both, equal_bytes, impossible, or_first, or_second, refuted, same_bytes, self_equal}
+use Rattle.version_history.specs.History.{IsHistory}
+use Rattle.version_history.specs.KeptSteps.{committed_own, kept_after, with_next_number}
+use Rattle.version_history.proofs.EndEntries.{history_committed, same_definitions}
+use Rattle.version_history.proofs.Ending.{commit_before, commit_change}
+use Rattle.version_history.proofs.Keeping.{with_at}
+use Rattle.version_history.proofs.Lists.{all_both, all_map, all_weaker}
+use Rattle.version_history.proofs.Transactions.{transaction-ended}
+use Rattle.version_keys.specs.UniqueKeys.{AreUnique, HasFreeKeys, HasUniqueIndexes, HasUniqueKeys, IsSoundIndex, IsUniqueIndex}
+use Rattle.version_keys.specs.Variants.{HasNoSums}
+use Rattle.version_keys.proofs.BookmarkKeys.{own_mapped}
+use Rattle.version_keys.proofs.Finding.{unique_in_view}
+use Rattle.version_keys.proofs.KeysOfEntries.{commit_after, keys_committed, keys_same}
+use Rattle.version_keys.proofs.SchemaKeys.{AreUniqueRows}
+use Rattle.version_keys.proofs.UniqueKept.{same_defined, some_at}
+use Rattle.version_keys.proofs.UniqueLaws.{rows_found}
+
+-- ---- rows in order, of which no two share a key
+
+or_left : (a b : Bool) → a ≡ true → (a || b) ≡ true
+or_left true b e = refl
+or_left false b e = impossible e
+
+or_right : (a b : Bool) → b ≡ true → (a || b) ≡ true
+or_right true b e = refl
+or_right false b e = e
+
+less_apart : (x y : List ℕ) → key_cmp x y ≡ Less → bytes_eq x y ≡ false
+less_apart x y e = texts_ties x y ∙ ap is_eq e
+
+fresh : (k : List ℕ) (ks : List (List ℕ)) → AllByRecursion (λ y. key_cmp k y ≡ Less) ks → list_any (bytes_eq k) ks ≡ false
+fresh k [] h = refl
+fresh k (y ∷ ks) h = ap (λ b. b || list_any (bytes_eq k) ks) (less_apart k y h.0) ∙ fresh k ks h.1
+
+rising_once : (ks : List (List ℕ)) → AreRisingKeys ks → has_double ks ≡ false
+unfolding IsStrictlySortedBy
+rising_once [] h = refl
+rising_once (k ∷ ks) h = ap (λ b. b || has_double ks) (fresh k ks h.0) ∙ rising_once ks h.1
+
+apart_lists : (ks rest : List (List ℕ)) → has_double ks ≡ false → has_double rest ≡ false → ((key : List ℕ) → list_any (bytes_eq key) ks ≡ true → list_any (bytes_eq key) rest ≡ true → ⊥) → has_double (ks ++ rest) ≡ false
+apart_lists [] rest h g f = g
+apart_lists (k ∷ ks) rest h g f =
+    ap (λ b. b || has_double (ks ++ rest))
+    (list_any-append (bytes_eq k) ks rest ∙ ap (λ b. b || list_any (bytes_eq k) rest) (or_first (list_any (bytes_eq k) ks) _ h)
+    ∙ refuted (list_any (bytes_eq k) rest) (λ also. f k (or_left (bytes_eq k k) _ (equal_bytes k k refl)) also))
+    ∙ apart_lists ks rest (or_second (list_any (bytes_eq k) ks) _ h) g (λ key a b. f key (or_right (bytes_eq key k) _ a) b)
+
+-- the row that has a key
+abbrev IsHad : IndexRule → Schema → List ℕ → (List ℕ × RecordFields → Type 0) → Type 0
+IsHad rule schema key P = (place : List ℕ × RecordFields) × P place × list_any (bytes_eq key) (key_list rule schema place.1) ≡ true
+
+having : (rule : IndexRule) (schema : Schema) (key : List ℕ) (P : List ℕ × RecordFields → Type 0) (rows : Rows) → AllByRecursion P rows → list_any (bytes_eq key) (flat_map (λ place. key_list rule schema place.1) rows) ≡ true
+    → IsHad rule schema key P
+having rule schema key P [] h e = impossible e
+having rule schema key P (row ∷ rows) h e =
+    elim (list_any (bytes_eq key) (key_list rule schema row.1)) as (λ b. list_any (bytes_eq key) (key_list rule schema row.1) ≡ b → (b || list_any (bytes_eq key) (flat_map (λ place. key_list rule schema place.1) rows)) ≡ true → IsHad rule schema key P) [
+      | true ↦ λ is g. (row, h.0, is)
+      | false ↦ λ is g. having rule schema key P rows h.1 g
+    ] refl (sym (list_any-append (bytes_eq key) (key_list rule schema row.1) (flat_map (λ place. key_list rule schema place.1) rows)) ∙ e)
+
+once : KeysRise → (rule : IndexRule) (schema : Schema) (look : List ℕ → Option RecordFields) (rows : Rows)
+    → ((one other key : List ℕ) → bytes_eq one other ≡ false → yields_key rule schema key (look one) ≡ true → yields_key rule schema key (look other) ≡ true → ⊥)
+    → AllByRecursion (λ place. look place.0 ≡ Some place.1) rows → RowsRise rows → has_double (flat_map (λ place. key_list rule schema place.1) rows) ≡ false
+once rise rule schema look [] unique found h = refl
+once rise rule schema look (row ∷ rows) unique found h =
+    apart_lists (key_list rule schema row.1) (flat_map (λ place. key_list rule schema place.1) rows) (rising_once (key_list rule schema row.1) (rise rule schema row.1)) (once rise rule schema look rows unique found.1 h.1)
+    (λ key own also.
+    let there = having rule schema key (λ place. (key_cmp row.0 place.0 ≡ Less) × (look place.0 ≡ Some place.1)) rows
+        (all_both (λ place. key_cmp row.0 place.0 ≡ Less) (λ place. look place.0 ≡ Some place.1) (λ place. (key_cmp row.0 place.0 ≡ Less) × (look place.0 ≡ Some place.1)) (λ place a b. (a, b)) rows h.0 found.1) also in
+    unique row.0 there.0.0 key (less_apart row.0 there.0.0 there.1.0) (ap (yields_key rule schema key) found.0 ∙ own) (ap (yields_key rule schema key) there.1.1 ∙ there.2))
+
+-- each row is found
+found_itself : (rows : Rows) → RowsRise rows → AllByRecursion (λ place. row_at rows place.0 ≡ Some place.1) rows
+found_itself [] h = tt
+found_itself (row ∷ rows) h = (
+  ap (λ b. cond b (Some row.1) (row_at rows row.0)) (sym (same_test row.0 row.0) ∙ equal_bytes row.0 row.0 refl),
+  all_both (λ place. key_cmp row.0 place.0 ≡ Less) (λ place. row_at rows place.0 ≡ Some place.1) (λ place. row_at (row ∷ rows) place.0 ≡ Some place.1)
+      (λ place less e. ap (λ b. cond b (Some row.1) (row_at rows place.0)) (sym (same_test place.0 row.0) ∙ less_apart row.0 place.0 less) ∙ e) rows h.0 (found_itself rows h.1),
+)
+
+pub no_double_key : KeysRise → (rule : IndexRule) (schema : Schema) (rows : Rows) → RowsRise rows → AreUniqueRows rule schema rows → has_double_key rule schema rows ≡ false
+unfolding has_double_key
+no_double_key rise rule schema rows h unique = once rise rule schema (row_at rows) rows unique (found_itself rows h) h
+
+-- ---- what a commit leaves
+
+-- a commit keeps the keys, whether it is lawful or not
+pub unique_committed : (base : Records) (kept : List PastChange) (state : DatabaseState) (label : ℕ) → HasUniqueKeys base kept state → HasUniqueKeys base (kept_after state label entry.Commit kept) (applied label entry.Commit (with_next_number state))
+unique_committed base kept state label unique = record {
+  tables = λ id. same_defined (HasUniqueIndexes after_transactions base after_kept) (λ t p. p) (λ t p. p) (tables_after_all state.tables (open_changes_of label state.past)) state.tables (same_definitions state.tables (open_changes_of label state.past)) id
+      (some_at (HasUniqueIndexes (transaction_of state) base kept) (HasUniqueIndexes after_transactions base after_kept) (table_with_id state.tables id)
+      (λ t f each. all_weaker (λ rule. IsSoundIndex t rule × IsUniqueIndex (transaction_of state) base kept t rule) (λ rule. IsSoundIndex t rule × IsUniqueIndex after_transactions base after_kept t rule)
+      (λ rule both. (both.0, λ is. let keys = both.1 is in (
+        keys_same rule (schema_of t) t.id base after_kept (with_at label None (transaction_of state)) after_transactions (transaction-ended label committing) (keys_committed rule (schema_of t) t.id state.number (transaction_of state) base kept label keys.0),
+        λ primary. own_mapped rule (schema_of t) t.id base kept (committed_own label (state.number + 1)) (commit_change label (state.number + 1)) (commit_before label (state.number + 1)) (commit_after label (state.number + 1)) (keys.1 primary),
+      ))) t.indexes each) (unique.tables id));
+}
+  where
+    committing : DatabaseState
+    committing = with_changes_at label every_change (λ item. record item { status = committed (state.number + 1) }) (record (with_next_number state) { tables = tables_after_all state.tables (open_changes_of label state.past) })
+
+    after_transactions : ℕ → Option Transaction
+    after_transactions = transaction_of (applied label entry.Commit (with_next_number state))
+
+    after_kept : List PastChange
+    after_kept = map (committed_own label (state.number + 1)) kept
+
+all_listed : {X : Type 0} (p : X → Bool) (xs : List X) → AllByRecursion (λ x. p x ≡ true) xs → list_all p xs ≡ true
+all_listed p [] h = refl
+all_listed p (x ∷ xs) h = and_both (p x) (list_all p xs) h.0 (all_listed p xs h.1)
+
+-- the committed tables of a state in which a session is in no transaction
+pub unique_outside : KeysRise → (base : Records) (dropped kept : List PastChange) (state : DatabaseState) (label : ℕ) → IsHistory base dropped kept state → HasNoSums kept → transaction_of state label ≡ None → HasUniqueKeys base kept state
+    → AllByRecursion (λ t. (table_with_id state.tables t.id ≡ Some t) × RowsRise t.rows) state.tables → is_unique_throughout state.tables ≡ true
+unfolding view
+unique_outside rise base dropped kept state label h none outside unique found =
+    all_listed (λ t. list_all (λ rule. not (is_unique rule && has_double_key rule (schema_of t) t.rows)) t.indexes) state.tables
+    (all_weaker (λ t. (table_with_id state.tables t.id ≡ Some t) × RowsRise t.rows) (λ t. list_all (λ rule. not (is_unique rule && has_double_key rule (schema_of t) t.rows)) t.indexes ≡ true)
+    (λ t is. all_listed (λ rule. not (is_unique rule && has_double_key rule (schema_of t) t.rows)) t.indexes
+    (all_weaker (λ rule. IsSoundIndex t rule × IsUniqueIndex (transaction_of state) base kept t rule) (λ rule. not (is_unique rule && has_double_key rule (schema_of t) t.rows) ≡ true)
+    (λ rule known. elim (is_unique rule) as (λ b. (b ≡ true → HasFreeKeys rule (schema_of t) t.id (transaction_of state) base kept) → not (b && has_double_key rule (schema_of t) t.rows) ≡ true) [
+      | true ↦ λ keys. ap not (no_double_key rise rule (schema_of t) t.rows is.1 (rows_unique t is.0 rule (keys refl)))
+      | false ↦ λ keys. refl
+    ] (λ e. (known.1 e).0))
+    t.indexes (subst (λ (o : Option Table). IfSome o (HasUniqueIndexes (transaction_of state) base kept)) is.0 (unique.tables t.id)))) state.tables found)
+  where
+    rows_unique : (t : Table) → table_with_id state.tables t.id ≡ Some t → (rule : IndexRule) → HasFreeKeys rule (schema_of t) t.id (transaction_of state) base kept → AreUniqueRows rule (schema_of t) t.rows
+    rows_unique t is rule keys one other key apart had also =
+        (subst (λ (tables : List Table). AreUnique rule (schema_of t) t.id (records_of tables)) (ap (view_in state label) outside) (unique_in_view base dropped kept state h none rule (schema_of t) t.id keys label)) one other key apart
+        (ap (yields_key rule (schema_of t) key) (rows_found state.tables t.id t is one) ∙ had) (ap (yields_key rule (schema_of t) key) (rows_found state.tables t.id t is other) ∙ also)
+
+pub committed_unique : KeysRise → (base : Records) (dropped kept : List PastChange) (state : DatabaseState) (label : ℕ) → IsHistory base dropped kept state → HasNoSums kept → HasUniqueKeys base kept state
+    → AllByRecursion (λ t. (table_with_id (tables_after_all state.tables (open_changes_of label state.past)) t.id ≡ Some t) × RowsRise t.rows) (tables_after_all state.tables (open_changes_of label state.past))
+    → is_unique_throughout (tables_after_all state.tables (open_changes_of label state.past)) ≡ true
+committed_unique rise base dropped kept state label h none unique found =
+    unique_outside rise base dropped (kept_after state label entry.Commit kept) (applied label entry.Commit (with_next_number state)) label (history_committed base dropped kept label state h)
+    (all_map (λ item. is_sum item.change ≡ false) (committed_own label (state.number + 1)) kept (all_weaker (λ item. is_sum item.change ≡ false) (λ item. is_sum (committed_own label (state.number + 1) item).change ≡ false) (λ item e. ap is_sum (commit_change label (state.number + 1) item) ∙ e) kept none))
+    (ap (λ (ts : ℕ → Option Transaction). ts label) (transaction-ended label committing) ∙ ap (λ b. cond b None (transaction_of state label)) (self_equal label))
+    (unique_committed base kept state label unique) found
+  where
+    committing : DatabaseState
+    committing = with_changes_at label every_change (λ item. record item { status = committed (state.number + 1) }) (record (with_next_number state) { tables = tables_after_all state.tables (open_changes_of label state.past) })

@@ -1,0 +1,5 @@
+use Rattle.version_keys.proofs.LawfulCommits.{commit_lawful}
+use Rattle.version_keys.proofs.unique.a_commit_is_always_lawful.Goals as goal
+
+pub returns : goal.returns
+returns c = commit_lawful c.entries_rise.ensures
