@@ -20,3 +20,4 @@ pub mod OneByOne
 pub mod Changing
 pub mod AnyOf
 pub mod Difference
+pub mod SameEntries

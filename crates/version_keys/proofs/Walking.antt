@@ -1,6 +1,6 @@
 -- The entries of a session's view among those of all variants.
 use Rattle.std.proofs.Common.{◌≡◌, ℕ, Bool, true, false, ◌&&◌, ◌||◌, cond, List, [], ◌∷◌, Option, Some, refl, sym, ap, ◌∙◌, bytes_eq}
-use Rattle.std.specs.Prelude.{find}
+use Rattle.std.specs.Prelude.{filter, find}
 use Rattle.std.specs.List.{list_any}
 use Rattle.column_set.specs.RecordValues.{RecordFields}
 use Rattle.column_set.specs.RecordValues.{lookup_by_key}
@@ -18,7 +18,6 @@ use Rattle.record_changes.proofs.Tests.{and_both, and_left, and_right, impossibl
 use Rattle.version_history.specs.History.{IsHistory}
 use Rattle.version_history.specs.Readers.{before_or, found_record, hides, is_rewrite, is_standing}
 use Rattle.version_keys.specs.Variants.{HasNoSums, HoldsVariants, is_standing_rewrite, is_variant_key, shown_entries}
-use Rattle.version_keys.proofs.Derivation.{same_sorted, sorted_filter}
 use Rattle.version_keys.proofs.WithoutSums.{found_without_sums}
 
 -- ---- what is found is a variant
@@ -104,12 +103,14 @@ walks_by_variants base dropped kept state h none session table rule schema entri
 
 -- ---- in order they are the derivation
 
-pub shown_is_derived : ((rule : IndexRule) (schema : Schema) (rows : List (List ℕ × RecordFields)) → are_sorted (own_order rows) ≡ true → are_sorted (derive rule schema rows) ≡ true)
+pub shown_is_derived : ((one other : List Pair) → are_sorted one ≡ true → are_sorted other ≡ true → ((key bookmark : List ℕ) → has_entry key bookmark one ≡ has_entry key bookmark other) → one ≡ other)
+    → ((test : Pair → Bool) (entries : List Pair) → are_sorted entries ≡ true → are_sorted (filter test entries) ≡ true)
+    → ((rule : IndexRule) (schema : Schema) (rows : List (List ℕ × RecordFields)) → are_sorted (own_order rows) ≡ true → are_sorted (derive rule schema rows) ≡ true)
     → ((rule : IndexRule) (schema : Schema) (rows : List (List ℕ × RecordFields)) (key bookmark : List ℕ) → are_sorted (own_order rows) ≡ true → has_entry key bookmark (derive rule schema rows) ≡ yields_key rule schema key (lookup_by_key bookmark rows))
     → (base : Records) (dropped kept : List PastChange) (state : DatabaseState) → IsHistory base dropped kept state → HasNoSums kept → (session table : ℕ) (rule : IndexRule) (schema : Schema) (entries : List Pair)
     → HoldsVariants (records_of (newest state)) kept rule schema table entries → are_sorted entries ≡ true → are_sorted (own_order (rows_of (table_with_id (view state session) table))) ≡ true
     → shown_entries (records_of (view state session)) rule schema table entries ≡ derive rule schema (rows_of (table_with_id (view state session) table))
-shown_is_derived in_order of_records base dropped kept state h none session table rule schema entries holds sorted rows_rise =
+shown_is_derived same_sorted sorted_filter in_order of_records base dropped kept state h none session table rule schema entries holds sorted rows_rise =
     same_sorted (shown_entries (records_of (view state session)) rule schema table entries) (derive rule schema (rows_of (table_with_id (view state session) table)))
     (sorted_filter (λ entry. yields_key rule schema entry.0 (records_of (view state session) table entry.1)) entries sorted)
     (in_order rule schema (rows_of (table_with_id (view state session) table)) rows_rise)

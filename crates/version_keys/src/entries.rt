@@ -14,7 +14,10 @@ ghost use Rattle.record_changes.specs.Records.{Records, records_of};
 ghost use Rattle.version_history.specs.History.{IsHistory};
 ghost use Rattle.version_keys.specs.Variants.{HasNoSums, HoldsVariants, shown_entries};
 
-use derived_index::{derived_entries_are_in_order, entries_are_of_their_records};
+use derived_index::{
+    derived_entries_are_in_order, entries_are_of_their_records,
+    entries_in_order_are_told_by_those_that_are_there,
+};
 
 /// Of the entries of all variants a session is shown exactly those of the records that it sees, where no escrow column was
 /// changed.
@@ -32,4 +35,5 @@ pub fn the_entries_that_a_session_is_shown_are_derived()
 {
     derived_entries_are_in_order();
     entries_are_of_their_records();
+    entries_in_order_are_told_by_those_that_are_there();
 }

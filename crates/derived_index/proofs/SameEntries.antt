@@ -1,4 +1,4 @@
--- Of the entries of all variants those that a reader is shown are the derivation of its view.
+-- Entries in order are told by those that are there.
 use Rattle.std.proofs.Common.{◌≡◌, ℕ, Bool, true, false, ◌&&◌, ◌||◌, List, [], ◌∷◌, refl, sym, ap, ◌∙◌, bytes_eq}
 use Rattle.std.specs.Prelude.{filter}
 use Rattle.std.specs.List.{list_any}
@@ -7,7 +7,20 @@ use Rattle.derived_index.specs.KeptEntries.{has_entry}
 use Rattle.derived_index.proofs.AnyOf.{rising_filter}
 use Rattle.derived_index.proofs.PairOrder.{pair_cmp, rising-sorted, sorted-rising}
 use Rattle.derived_index.proofs.Rising.{same_rising}
-use Rattle.record_changes.proofs.Tests.{and_both, and_left, and_right, equal_bytes, impossible, same_bytes}
+use Rattle.std.proofs.lemmas.Slice.Eq.{bytes_eq-Decides}
+use Rattle.derived_index.proofs.Tests.{and_both, and_left, and_right}
+
+impossible : {A : Type 0} → false ≡ true → A
+impossible e = absurd (never e)
+  where
+    never : false ≡ true → ⊥
+    never e = cc
+
+same_bytes : (a b : List ℕ) → bytes_eq a b ≡ true → a ≡ b
+same_bytes a b = (bytes_eq-Decides a b).0
+
+equal_bytes : (a b : List ℕ) → a ≡ b → bytes_eq a b ≡ true
+equal_bytes a b = (bytes_eq-Decides a b).1
 
 -- ---- lists of the same entries
 
