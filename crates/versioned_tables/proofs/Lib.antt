@@ -12,3 +12,4 @@ pub mod Unchanged
 pub mod Alone
 pub mod Telling
 pub mod TellingKeys
+pub mod Walking

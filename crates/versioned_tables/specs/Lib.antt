@@ -2,3 +2,4 @@ pub mod HeldRecords
 pub mod VersionedTables
 pub mod Holding
 pub mod Samples
+pub mod Variants

@@ -6,6 +6,7 @@ mod conflicts;
 mod examples;
 mod readers;
 mod steps;
+mod walks;
 
 pub use conflicts::{
     held_changes_tell_key_conflicts, held_changes_tell_the_span, held_changes_tell_write_conflicts,
@@ -21,3 +22,4 @@ pub use steps::{
     releases_and_commits_leave_the_tables, tables_alone_hold_a_state,
     undone_changes_are_taken_back,
 };
+pub use walks::a_reader_walks_the_index_of_what_it_sees;
