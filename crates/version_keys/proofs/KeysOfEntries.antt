@@ -37,9 +37,9 @@ brings_map : (rule : IndexRule) (schema : Schema) (table : ℕ) (f : PastChange 
 brings_map rule schema table f change before after live [] base h = tt
 brings_map rule schema table f change before after live (item ∷ items) base h = (
   (λ stands own key other brings apart.
-    h.0 (sym (live item) ∙ stands) (ap changed_table (sym (change item)) ∙ own) key other
-    (ap (yields_key rule schema key) (sym (after item)) ∙ brings.0, ap (yields_key rule schema key) (sym (before item)) ∙ brings.1)
-    (ap (λ c. bytes_eq (changed_bookmark c) other) (sym (change item)) ∙ apart)),
+      h.0 (sym (live item) ∙ stands) (ap changed_table (sym (change item)) ∙ own) key other
+      (ap (yields_key rule schema key) (sym (after item)) ∙ brings.0, ap (yields_key rule schema key) (sym (before item)) ∙ brings.1)
+      (ap (λ c. bytes_eq (changed_bookmark c) other) (sym (change item)) ∙ apart)),
   subst (λ (r : Records). BringsFreeKeys rule schema table r (map f items))
       (ap (λ c. cond (is_standing item) (records_after base c) base) (sym (change item)) ∙ ap (λ b. cond b (records_after base (f item).change) base) (sym (live item)))
       (brings_map rule schema table f change before after live items (cond (is_standing item) (after_item base item) base) h.1),

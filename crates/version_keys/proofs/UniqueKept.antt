@@ -123,10 +123,13 @@ unique_by_kind base dropped kept state label kind plain h none e h_after unique 
   tables = λ id. same_defined (HasUniqueIndexes after_transactions base after_kept) (λ t p. p) (λ t p. p) (applied label kind (with_next_number state)).tables state.tables (same_tables state label kind plain) id
       (some_at (HasUniqueIndexes (transaction_of state) base kept) (HasUniqueIndexes after_transactions base after_kept) (table_with_id state.tables id)
       (λ t f each. all_weaker (λ rule. IsSoundIndex t rule × IsUniqueIndex (transaction_of state) base kept t rule) (λ rule. IsSoundIndex t rule × IsUniqueIndex after_transactions base after_kept t rule)
-      (λ rule both. (both.0, λ is. let keys = both.1 is in (
-        keys_by_kind rule (schema_of t) t.id base dropped kept state label kind plain h none e h_after keys.0,
-        λ primary. own_by_kind rule (schema_of t) t.id base kept state label kind plain (keys.1 primary),
-      ))) t.indexes each) (unique.tables id));
+      (λ rule both. (
+        both.0,
+        λ is. let keys = both.1 is in (
+          keys_by_kind rule (schema_of t) t.id base dropped kept state label kind plain h none e h_after keys.0,
+          λ primary. own_by_kind rule (schema_of t) t.id base kept state label kind plain (keys.1 primary),
+        ),
+      )) t.indexes each) (unique.tables id));
 }
   where
     after_transactions : ℕ → Option Transaction
@@ -270,10 +273,13 @@ change_by one base dropped kept state label t change e h none sum lawful h_after
   tables = λ id. some_at (HasUniqueIndexes (transaction_of state) base kept) (HasUniqueIndexes (transaction_of state) base (kept ++ new ∷ [])) (table_with_id state.tables id)
       (λ table is each. both (λ rule. IsSoundIndex table rule × IsUniqueIndex (transaction_of state) base kept table rule) (λ rule. is_unique rule ≡ true → NewKeys state base kept label t new table rule)
       (λ rule. IsSoundIndex table rule × IsUniqueIndex (transaction_of state) base (kept ++ new ∷ []) table rule)
-      (λ rule known fresh. (known.0, λ unique_rule. let keys = known.1 unique_rule in let new_keys = fresh unique_rule in (
-        keys_changed rule (schema_of table) table.id state.number state.tables (transaction_of state) base kept t new refl refl e h.keeps.placed new_keys.0.0 new_keys.0.1 keys.0,
-        λ primary. own_appended rule (schema_of table) table.id base kept new (new_keys.1 primary) (keys.1 primary),
-      ))) table.indexes each
+      (λ rule known fresh. (
+        known.0,
+        λ unique_rule. let keys = known.1 unique_rule in let new_keys = fresh unique_rule in (
+          keys_changed rule (schema_of table) table.id state.number state.tables (transaction_of state) base kept t new refl refl e h.keeps.placed new_keys.0.0 new_keys.0.1 keys.0,
+          λ primary. own_appended rule (schema_of table) table.id base kept new (new_keys.1 primary) (keys.1 primary),
+        ),
+      )) table.indexes each
       (keys_of_change one base dropped kept state label t change h none sum e (not_true (has_write_conflict state label change) (and_right _ _ (and_left _ _ lawful))) (and_right _ _ lawful) after table
       (ap (table_with_id state.tables) (id_of state.tables id table is) ∙ is) each)) (unique.tables id);
 }

@@ -13,3 +13,4 @@ pub mod Alone
 pub mod Telling
 pub mod TellingKeys
 pub mod Walking
+pub mod VariantKeys

@@ -1,10 +1,10 @@
 -- Of the entries of all variants a reader is shown the derivation of the records that it sees.
-use Rattle.std.proofs.Common.{◌≡◌, ℕ, Bool, true, false, not, ◌&&◌, ◌||◌, cond, List, [], ◌∷◌, map, Option, Some, None, refl, sym, ap, subst, ◌∙◌, bytes_eq}
-use Rattle.std.specs.Prelude.{◌==◌, T, filter, find}
+use Rattle.std.proofs.Common.{◌≡◌, ℕ, Bool, true, false, not, ◌&&◌, ◌||◌, cond, List, [], ◌∷◌, Option, Some, refl, sym, ap, ◌∙◌, bytes_eq}
+use Rattle.std.specs.Prelude.{T, filter, find}
 use Rattle.std.specs.List.{list_all, list_any}
 use Rattle.std.specs.Ordering.{nat_cmp, is_lt}
 use Rattle.std.specs.Cmp.Lexicographic.{slice_cmp}
-use Rattle.std.specs.FinMap.Entries.{below_all, is_sorted}
+use Rattle.std.specs.FinMap.Entries.{below_all}
 use Rattle.column_set.specs.RecordValues.{RecordFields, lookup_by_key}
 use Rattle.cursor_nav.specs.Places.{Pair, are_sorted, pair_lt}
 use Rattle.derived_index.specs.KeptEntries.{has_entry}
@@ -17,7 +17,7 @@ use Rattle.database_state.specs.Table.{Rows, row_at}
 use Rattle.record_changes.proofs.Tests.{and_both, and_left, and_right, impossible, same_bytes}
 use Rattle.version_store.specs.declared.calls.Reader.{Reader}
 use Rattle.version_store.specs.HeldChanges.{is_rewrite, is_unseen_status}
-use Rattle.versioned_tables.specs.HeldRecords.{HeldRecord, before_or, hides, is_change_at, is_standing_rewrite, is_unseen, seen_record}
+use Rattle.versioned_tables.specs.HeldRecords.{HeldRecord, before_or, hides, is_change_at, is_standing_rewrite, seen_record}
 use Rattle.versioned_tables.specs.VersionedTables.{seen_rows}
 use Rattle.versioned_tables.specs.Variants.{HoldsVariants, is_variant_key, shown_entries}
 use Rattle.versioned_tables.specs.Holding.{RowsRise}

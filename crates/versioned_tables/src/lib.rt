@@ -6,6 +6,7 @@ mod conflicts;
 mod examples;
 mod readers;
 mod steps;
+mod variants;
 mod walks;
 
 pub use conflicts::{
@@ -21,5 +22,9 @@ pub use steps::{
     entries_leave_records_in_order, entries_of_a_session_leave_the_tables,
     releases_and_commits_leave_the_tables, tables_alone_hold_a_state,
     undone_changes_are_taken_back,
+};
+pub use variants::{
+    a_change_adds_the_keys_that_it_leaves, a_clean_takes_the_keys_that_no_variant_has,
+    an_undo_takes_the_keys_that_no_variant_has,
 };
 pub use walks::a_reader_walks_the_index_of_what_it_sees;
