@@ -1,16 +1,12 @@
 -- What the program tells of itself.
-use Rattle.std.specs.Prelude.{◌≡◌, ℕ, ◌<◌, ◌⊎◌, List, [], ◌∷◌, ◌++◌, codes, length, take, Option}
+use Rattle.std.specs.Prelude.{◌≡◌, ℕ, ◌<◌, ◌⊎◌, List, [], ◌∷◌, codes, length, take, Option}
 use Rattle.std.specs.Io.KnownBytes.{append_known}
+use Rattle.script_text.specs.ScriptRun.{text_of}
 use Rattle.esentutl.specs.declared.words.Topic.{Topic}
 use Rattle.esentutl.specs.declared.words.Topic.TheVariants as topic
 
--- each line and its end
-abbrev pub joined_lines : List (List ℕ) → List ℕ
-joined_lines [] = []
-joined_lines (line ∷ lines) = line ++ 10 ∷ joined_lines lines
-
 abbrev pub help_text : List ℕ
-help_text = joined_lines (
+help_text = text_of (
     codes "Usage:"
     ∷ codes "  esentutl - run ordered   runs a script of session calls, one reply a line"
     ∷ codes "  esentutl --help          prints this text"
@@ -35,7 +31,7 @@ help_text = joined_lines (
     ∷ [])
 
 abbrev pub version_text : List ℕ
-version_text = joined_lines (
+version_text = text_of (
     codes "esentutl, the tool of the database engine Loheviwun"
     ∷ codes "file formats written: none (the database is in memory)"
     ∷ [])

@@ -40,9 +40,9 @@ returns-in-About g c =
       ends.3,
     )
 
-pub returns-in-OrderedRun-in-Err : goal.returns-in-OrderedRun-in-Err
-returns-in-OrderedRun-in-Err g c =
-    let read = c.in-OrderedRun-in-Err.ensures.script in
+pub returns-in-Err : goal.returns-in-Err
+returns-in-Err g c =
+    let read = c.in-Err.ensures.script in
     let o : Outside = record {
       left_before = g.S.Source.left c.args.script.now;
       left_after = g.S.Source.left c.read_script.new.script;
