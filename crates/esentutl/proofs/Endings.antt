@@ -3,7 +3,6 @@ use Rattle.std.proofs.Common.{◌≡◌, inl, inr, refl, ℕ, List, [], Option, 
 use Rattle.std.specs.Io.KnownBytes.{prepend_known}
 use Rattle.esentutl.specs.declared.reading.ReadScriptFault.{ReadScriptFault}
 use Rattle.esentutl.specs.declared.reading.ReadScriptFault.TheVariants as fault
-use Rattle.esentutl.specs.declared.words.Form.{Form}
 use Rattle.esentutl.specs.declared.words.Form.TheVariants as form
 use Rattle.esentutl.specs.declared.words.Topic.{Topic}
 use Rattle.esentutl.specs.About.{text_about, Tells}

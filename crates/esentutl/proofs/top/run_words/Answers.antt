@@ -1,5 +1,4 @@
-use Rattle.std.proofs.Common.{ℕ, List, [], refl, sym, subst, ap, ◌∙◌}
-use Rattle.esentutl.specs.Words.{form_of}
+use Rattle.std.proofs.Common.{ℕ, List, [], refl, sym, subst, ◌∙◌}
 use Rattle.esentutl.specs.TopCall.{Outside, bad_words, Says}
 use Rattle.esentutl.proofs.Endings.{prepend_nothing, ending_of, status_of-ending_of, form_of_ending-ending_of, ends_by_fault, ends_by_telling}
 use Rattle.esentutl.proofs.top.run_words.Goals as goal
