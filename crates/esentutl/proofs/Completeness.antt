@@ -1,11 +1,17 @@
--- A script that is built runs to its end, where nothing fails.
-use Rattle.std.proofs.Common.{◌≡◌, ◌<◌, ◌≤◌, ◌⊎◌, inl, inr, refl, sym, ap, subst, ◌∙◌, ℕ, true, true≢false, List, [], ◌++◌, length, Option, Some, None, Ok, Err, arith}
+-- What follows from how a call ends, where nothing fails: a script that is built runs to its end, and a text that was asked
+-- for is written whole.
+use Rattle.std.proofs.Common.{◌≡◌, ◌<◌, ◌≤◌, ◌⊎◌, inl, inr, refl, sym, ap, subst, ◌∙◌, ℕ, Bool, true, false, true≢false, List, [], ◌++◌, length, Option, Some, None, Ok, Err, arith}
 use Rattle.std.specs.Prelude.{IfSome, IsOk, unwrap_or}
 use Rattle.std.proofs.lemmas.List.{append-nil}
 use Rattle.std.specs.Io.KnownBytes.{prepend_known}
 use Rattle.script_text.specs.Built.{built_lines}
 use Rattle.script_text.specs.Grammar.{ScriptResult}
-use Rattle.esentutl.specs.TopCall.{Outside, Ending, done, bad_words, too_long, source_failed, sink_failed, want_of_memory, not_built, script_limit, EndsBy, status_of, accepts}
+use Rattle.esentutl.specs.declared.words.Form.{Form}
+use Rattle.esentutl.specs.declared.words.Form.TheVariants as form
+use Rattle.esentutl.specs.declared.words.Topic.{Topic}
+use Rattle.esentutl.specs.About.{text_about}
+use Rattle.esentutl.specs.TopCall.{Outside, Ending, done, bad_words, told, sink_failed_telling, too_long, source_failed, sink_failed, want_of_memory, not_built, script_limit, Took, EndsBy, status_of, form_of_ending}
+use Rattle.esentutl.proofs.Endings.{prepend_nothing}
 
 below_itself : {A : Type 0} (a b : ℕ) → a < b → b ≡ a → A
 below_itself a b h e = let never : ⊥ = omega (arith, h, e) in absurd never
@@ -21,24 +27,81 @@ not_both : {A : Type 0} (read : ScriptResult) (number : ℕ) → read ≡ Err nu
 not_both (Ok lines) number e ok = let never : ⊥ = cc in absurd never
 not_both (Err n) number e ok = absurd (true≢false (sym ok))
 
+-- ---- the form of the words
+
+is_run : Form → Bool
+is_run form.OrderedRun = true
+is_run _ = false
+
+is_text : Form → Bool
+is_text (form.About about) = true
+is_text _ = false
+
+topic_or : Topic → Form → Topic
+topic_or other (form.About about) = about
+topic_or other _ = other
+
+not_run : {A : Type 0} (f : Form) → is_run f ≡ false → f ≡ form.OrderedRun → A
+unfolding is_run
+not_run f other is = absurd (true≢false (sym (ap is_run is) ∙ other))
+
+not_text : {A : Type 0} (f : Form) (asked : Topic) → is_text f ≡ false → f ≡ form.About asked → A
+unfolding is_text
+not_text f asked other is = absurd (true≢false (sym (ap is_text is) ∙ other))
+
+same_topic : (a b : Topic) → form.About a ≡ form.About b → a ≡ b
+unfolding topic_or
+same_topic a b is = ap (topic_or a) is
+
+-- ---- the run of a script
+
 completes_by : (o : Outside) (bytes text : List ℕ) (ending : Ending) → o.left_before ≡ Some bytes → o.left_before ≡ prepend_known text o.left_after
-    → accepts ending ≡ true → o.source_after ≡ o.source_before → o.sink_after ≡ o.sink_before → EndsBy o text ending
+    → form_of_ending ending ≡ form.OrderedRun → o.source_after ≡ o.source_before → o.sink_after ≡ o.sink_before → EndsBy o text ending
     → length bytes ≤ script_limit → IsOk (built_lines bytes) → (status_of ending ≡ 0) ⊎ (status_of ending ≡ 7)
-completes_by o bytes text done told read accepted source sink ends short built = inl refl
-completes_by o bytes text bad_words told read accepted source sink ends short built = absurd (true≢false (sym accepted))
-completes_by o bytes text too_long told read accepted source sink ends short built =
-    let long : script_limit < length bytes = subst (λ (left : Option (List ℕ)). IfSome left (λ b. script_limit < length b)) told ends.2 in
+unfolding is_run
+completes_by o bytes text done left read run source sink ends short built = inl refl
+completes_by o bytes text bad_words left read run source sink ends short built = not_run form.Unknown refl run
+completes_by o bytes text (told about) left read run source sink ends short built = inl refl
+completes_by o bytes text (sink_failed_telling about) left read run source sink ends short built = below_itself o.sink_before o.sink_after ends.1 sink
+completes_by o bytes text too_long left read run source sink ends short built =
+    let long : script_limit < length bytes = subst (λ (bytes_left : Option (List ℕ)). IfSome bytes_left (λ b. script_limit < length b)) left ends.2 in
     let never : ⊥ = omega (arith, long, short) in absurd never
-completes_by o bytes text source_failed told read accepted source sink ends short built = below_itself o.source_before o.source_after ends.0 source
-completes_by o bytes text sink_failed told read accepted source sink ends short built = below_itself o.sink_before o.sink_after ends.1 sink
-completes_by o bytes text want_of_memory told read accepted source sink ends short built = inr refl
-completes_by o bytes text (not_built number) told read accepted source sink ends short built =
-    let whole = read_whole bytes text o.left_after (sym told ∙ read) ends.2 in
+completes_by o bytes text source_failed left read run source sink ends short built = below_itself o.source_before o.source_after ends.0 source
+completes_by o bytes text sink_failed left read run source sink ends short built = below_itself o.sink_before o.sink_after ends.1 sink
+completes_by o bytes text want_of_memory left read run source sink ends short built = inr refl
+completes_by o bytes text (not_built number) left read run source sink ends short built =
+    let whole = read_whole bytes text o.left_after (sym left ∙ read) ends.2 in
     not_both (built_lines bytes) number (subst (λ (t : List ℕ). built_lines t ≡ Err number) whole ends.4) built
 
 pub completes_told : (o : Outside) (text : List ℕ) (ending : Ending) (left : Option (List ℕ)) → o.left_before ≡ left → o.left_before ≡ prepend_known text o.left_after
-    → accepts ending ≡ true → o.source_after ≡ o.source_before → o.sink_after ≡ o.sink_before → EndsBy o text ending → (status : ℕ) → status ≡ status_of ending
+    → form_of_ending ending ≡ form.OrderedRun → o.source_after ≡ o.source_before → o.sink_after ≡ o.sink_before → EndsBy o text ending → (status : ℕ) → status ≡ status_of ending
     → IfSome left (λ bytes. length bytes ≤ script_limit → IsOk (built_lines bytes) → (status ≡ 0) ⊎ (status ≡ 7))
-completes_told o text ending None told read accepted source sink ends status is = tt
-completes_told o text ending (Some bytes) told read accepted source sink ends status is = λ short built.
-    subst (λ (s : ℕ). (s ≡ 0) ⊎ (s ≡ 7)) (sym is) (completes_by o bytes text ending told read accepted source sink ends short built)
+completes_told o text ending None told_left read run source sink ends status is = tt
+completes_told o text ending (Some bytes) told_left read run source sink ends status is = λ short built.
+    subst (λ (s : ℕ). (s ≡ 0) ⊎ (s ≡ 7)) (sym is) (completes_by o bytes text ending told_left read run source sink ends short built)
+
+-- ---- a text that was asked for
+
+-- what it leaves of the source and the sink
+abbrev pub IsTextAlone : Outside → Topic → ℕ → Type 0
+IsTextAlone o asked status =
+    (status ≡ 0) × Took o (text_about asked) × (o.left_after ≡ o.left_before) × (o.source_after ≡ o.source_before)
+
+pub tells_whole : (o : Outside) (text : List ℕ) (ending : Ending) (asked : Topic) → o.left_before ≡ prepend_known text o.left_after
+    → form_of_ending ending ≡ form.About asked → o.sink_after ≡ o.sink_before → EndsBy o text ending → (status : ℕ) → status ≡ status_of ending
+    → IsTextAlone o asked status
+unfolding is_text
+tells_whole o text (told about) asked read is sink ends status status_is = (
+  status_is,
+  subst (λ (t : Topic). Took o (text_about t)) (same_topic about asked is) ends.2,
+  prepend_nothing o.left_after ∙ sym (read ∙ ap (λ (t : List ℕ). prepend_known t o.left_after) ends.3),
+  ends.0,
+)
+tells_whole o text (sink_failed_telling about) asked read is sink ends status status_is = below_itself o.sink_before o.sink_after ends.1 sink
+tells_whole o text done asked read is sink ends status status_is = not_text form.OrderedRun asked refl is
+tells_whole o text bad_words asked read is sink ends status status_is = not_text form.Unknown asked refl is
+tells_whole o text too_long asked read is sink ends status status_is = not_text form.OrderedRun asked refl is
+tells_whole o text source_failed asked read is sink ends status status_is = not_text form.OrderedRun asked refl is
+tells_whole o text sink_failed asked read is sink ends status status_is = not_text form.OrderedRun asked refl is
+tells_whole o text want_of_memory asked read is sink ends status status_is = not_text form.OrderedRun asked refl is
+tells_whole o text (not_built number) asked read is sink ends status status_is = not_text form.OrderedRun asked refl is

@@ -1,10 +1,13 @@
 -- How a call ends where no script runs.
-use Rattle.std.proofs.Common.{◌≡◌, inl, inr, refl, ℕ, true, List, [], Option, Some, None, Err, arith}
+use Rattle.std.proofs.Common.{◌≡◌, inl, inr, refl, ℕ, List, [], Option, Some, None, Err, arith}
 use Rattle.std.specs.Io.KnownBytes.{prepend_known}
 use Rattle.esentutl.specs.declared.reading.ReadScriptFault.{ReadScriptFault}
 use Rattle.esentutl.specs.declared.reading.ReadScriptFault.TheVariants as fault
+use Rattle.esentutl.specs.declared.words.Form.TheVariants as form
+use Rattle.esentutl.specs.declared.words.Topic.{Topic}
+use Rattle.esentutl.specs.About.{text_about, Tells}
 use Rattle.esentutl.specs.Reading.{ReadsAs, line_of_fault, status_of_fault}
-use Rattle.esentutl.specs.TopCall.{Outside, Ending, too_long, source_failed, want_of_memory, not_built, SaysOnly, SinkIsSound, Took, EndsBy, status_of, accepts}
+use Rattle.esentutl.specs.TopCall.{Outside, Ending, told, sink_failed_telling, too_long, source_failed, want_of_memory, not_built, SaysOnly, SourceIsSound, SinkIsSound, Took, EndsBy, status_of, form_of_ending}
 
 -- nothing is put in front
 pub prepend_nothing : (known : Option (List ℕ)) → known ≡ prepend_known [] known
@@ -24,12 +27,12 @@ status_of-ending_of fault.TooLong = refl
 status_of-ending_of (fault.NotBuilt number) = refl
 status_of-ending_of fault.Memory = refl
 
-pub accepts-ending_of : (f : ReadScriptFault) → true ≡ accepts (ending_of f)
+pub form_of_ending-ending_of : (f : ReadScriptFault) → form.OrderedRun ≡ form_of_ending (ending_of f)
 unfolding ending_of
-accepts-ending_of fault.Source = refl
-accepts-ending_of fault.TooLong = refl
-accepts-ending_of (fault.NotBuilt number) = refl
-accepts-ending_of fault.Memory = refl
+form_of_ending-ending_of fault.Source = refl
+form_of_ending-ending_of fault.TooLong = refl
+form_of_ending-ending_of (fault.NotBuilt number) = refl
+form_of_ending-ending_of fault.Memory = refl
 
 -- a line without a byte says nothing
 says_nothing : (o : Outside) → SaysOnly o [] → SinkIsSound o × Took o []
@@ -44,3 +47,9 @@ ends_by_fault o text fault.Source reads says = (reads, says)
 ends_by_fault o text fault.TooLong reads says = (reads.0, says, reads.1)
 ends_by_fault o text (fault.NotBuilt number) reads says = (reads.0.0, says, reads.0.1, reads.0.2, reads.1)
 ends_by_fault o text fault.Memory reads says = let nothing = says_nothing o says in (reads, nothing.0, inl nothing.1)
+
+pub ends_by_telling : (o : Outside) (topic : Topic) (status : ℕ) → SourceIsSound o
+    → Tells o.taken_before o.taken_after o.sink_before o.sink_after (text_about topic) status
+    → (ending : Ending) × (status ≡ status_of ending) × (form.About topic ≡ form_of_ending ending) × EndsBy o [] ending
+ends_by_telling o topic status sound (inl whole) = (told topic, whole.0, refl, (sound, whole.2, whole.1, refl))
+ends_by_telling o topic status sound (inr front) = (sink_failed_telling topic, front.0, refl, (sound, front.4, (front.1, front.2, front.3), refl))

@@ -1,3 +1,4 @@
+pub mod Pieces
 pub mod LineText
 pub mod RunLaws
 pub mod Endings

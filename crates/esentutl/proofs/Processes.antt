@@ -1,7 +1,7 @@
 -- How a process ends that has no memory for its words.
 use Rattle.std.proofs.Common.{ℕ, List, [], Option, inl, refl}
-use Rattle.jet_io.proofs.Known.{append_none}
 use Rattle.esentutl.specs.TopCall.{want_of_memory, EndsBy}
+use Rattle.esentutl.proofs.Pieces.{append_none}
 
 -- nothing was read or written
 pub ends_before_all : (left taken : Option (List ℕ)) (source sink : ℕ)

@@ -2,7 +2,6 @@
 use Rattle.std.proofs.Common.{◌≡◌, ℕ, ◌+◌, ◌<◌, Bool, true, false, ◌&&◌, List, [], ◌∷◌, ◌++◌, length, take, drop, refl, sym, ap, ◌∙◌, append_assoc}
 use Rattle.std.proofs.Common.{Option, subst}
 use Rattle.std.specs.Io.KnownBytes.{append_known}
-use Rattle.jet_io.proofs.Known.{append_none, append_twice}
 use Rattle.std.proofs.Common.{get_or, add-one, arith}
 use Rattle.std.proofs.Math.Seq.{take-suc, drop-cons, take-append-add}
 use Rattle.jet_base.specs.declared.ids.Session.{Session}
@@ -20,6 +19,7 @@ use Rattle.esentutl.specs.declared.session_engine.SessionEngine.{SessionEngine}
 use Rattle.esentutl.specs.Serving.{IsReady}
 use Rattle.esentutl.specs.Lines.{line_text, RunsLine, BreaksLine}
 use Rattle.esentutl.specs.RunEnds.{HasServed}
+use Rattle.esentutl.proofs.Pieces.{append_none, append_twice}
 
 -- a line with its outcome
 abbrev pub Served : Type 0

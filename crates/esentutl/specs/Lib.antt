@@ -1,4 +1,5 @@
 pub mod Words
+pub mod About
 pub mod TopCall
 pub mod Reading
 pub mod SessionRun

@@ -5,7 +5,7 @@ use Rattle.database_state.specs.State.{empty_state}
 use Rattle.session_local.specs.Run.{Line, LineOutcome, run_from, run_after_all}
 use Rattle.esentutl.specs.declared.session_engine.SessionEngine.{SessionEngine}
 use Rattle.esentutl.specs.Serving.{IsReady}
-use Rattle.esentutl.specs.TopCall.{Ending, done, bad_words, too_long, source_failed, sink_failed, want_of_memory, not_built, span_limit, AreOutcomesOf, run_transcript}
+use Rattle.esentutl.specs.TopCall.{Ending, done, bad_words, told, sink_failed_telling, too_long, source_failed, sink_failed, want_of_memory, not_built, span_limit, AreOutcomesOf, run_transcript}
 
 -- The engine has served exactly these lines, each with its outcome: it is in the state that their run comes to, and can
 -- serve the rest.
@@ -29,6 +29,8 @@ RunEndsBy lines engine before after faults_before faults_after want_of_memory =
     × HasServed engine pairs (drop count lines))
 -- no other ending is that of a run
 RunEndsBy lines engine before after faults_before faults_after bad_words = ⊥
+RunEndsBy lines engine before after faults_before faults_after (told topic) = ⊥
+RunEndsBy lines engine before after faults_before faults_after (sink_failed_telling topic) = ⊥
 RunEndsBy lines engine before after faults_before faults_after too_long = ⊥
 RunEndsBy lines engine before after faults_before faults_after source_failed = ⊥
 RunEndsBy lines engine before after faults_before faults_after (not_built number) = ⊥

@@ -6,7 +6,11 @@ use Rattle.database_state.specs.State.{empty_state}
 use Rattle.session_local.specs.Run.{Line, LineOutcome, served, no_memory, flush_failed, unserved, run_from, rows_from, outcomes_may_come}
 use Rattle.script_text.specs.Built.{built_lines}
 use Rattle.script_transcript.specs.TranscriptLine.{transcript_of}
+use Rattle.esentutl.specs.declared.words.Form.{Form}
+use Rattle.esentutl.specs.declared.words.Form.TheVariants as form
+use Rattle.esentutl.specs.declared.words.Topic.{Topic}
 use Rattle.esentutl.specs.Words.{last_line, not_built_line}
+use Rattle.esentutl.specs.About.{text_about}
 
 -- the most bytes of a script, and the limit of the version store's span
 abbrev pub script_limit : ℕ
@@ -77,8 +81,12 @@ SaysOnly o line = Says o.taken_before o.taken_after o.sink_before o.sink_after l
 pub data Ending : Type 0 where
   -- every line ran
   done : Ending
-  -- the words are no form of a call
+  -- the words are of no form
   bad_words : Ending
+  -- the text that the words ask for was written
+  told : Topic → Ending
+  -- the sink failed in it
+  sink_failed_telling : Topic → Ending
   too_long : Ending
   source_failed : Ending
   sink_failed : Ending
@@ -89,16 +97,20 @@ pub data Ending : Type 0 where
 abbrev pub status_of : Ending → ℕ
 status_of done = 0
 status_of bad_words = 1
+status_of (told topic) = 0
+status_of (sink_failed_telling topic) = 6
 status_of too_long = 2
 status_of source_failed = 5
 status_of sink_failed = 6
 status_of want_of_memory = 7
 status_of (not_built number) = 9
 
--- the words are a form of a call
-abbrev pub accepts : Ending → Bool
-accepts bad_words = false
-accepts _ = true
+-- the form of the words of a call that ends so
+abbrev pub form_of_ending : Ending → Form
+form_of_ending bad_words = form.Unknown
+form_of_ending (told topic) = form.About topic
+form_of_ending (sink_failed_telling topic) = form.About topic
+form_of_ending _ = form.OrderedRun
 
 -- the script is read, is not too long, and these are its lines
 abbrev pub IsScript : Outside → List ℕ → List Line → Type 0
@@ -111,6 +123,11 @@ EndsBy o text done =
     SourceIsSound o × SinkIsSound o
     × ((lines : List Line) × (pairs : List (Line × LineOutcome)) × IsScript o text lines × AreOutcomesOf lines pairs × Took o (run_transcript pairs))
 EndsBy o text bad_words = SourceIsSound o × SaysOnly o (last_line (codes "words")) × (text ≡ [])
+-- the output is the text, or a front of it; nothing was read
+EndsBy o text (told topic) = SourceIsSound o × SinkIsSound o × Took o (text_about topic) × (text ≡ [])
+EndsBy o text (sink_failed_telling topic) =
+    SourceIsSound o × (o.sink_before < o.sink_after)
+    × ((n : ℕ) × (n < length (text_about topic)) × Took o (take n (text_about topic))) × (text ≡ [])
 EndsBy o text too_long =
     SourceIsSound o × SaysOnly o (last_line (codes "script too long")) × IfSome o.left_before (λ bytes. script_limit < length bytes)
 EndsBy o text source_failed = (o.source_before < o.source_after) × SaysOnly o (last_line (codes "source"))

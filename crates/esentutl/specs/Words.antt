@@ -1,10 +1,18 @@
 -- The words that the program is called with, and the one line that it prints where it does not run a script.
-use Rattle.std.specs.Prelude.{ℕ, Bool, false, ◌&&◌, List, [], ◌∷◌, ◌++◌, map, codes, decimal, bytes_eq, String, string_bytes}
+use Rattle.std.specs.Prelude.{ℕ, ◌&&◌, List, [], ◌∷◌, ◌++◌, map, codes, decimal, bytes_eq, String, string_bytes, if◌then◌else◌}
+use Rattle.esentutl.specs.declared.words.Form.{Form}
+use Rattle.esentutl.specs.declared.words.Form.TheVariants as form
+use Rattle.esentutl.specs.declared.words.Topic.TheVariants as topic
 
--- `-`, `run` and `ordered`: run the script of the standard input in its order, over a database that is gone at the end
-abbrev pub is_ordered_run : List (List ℕ) → Bool
-is_ordered_run (volume ∷ mode ∷ order ∷ []) = bytes_eq volume (codes "-") && bytes_eq mode (codes "run") && bytes_eq order (codes "ordered")
-is_ordered_run _ = false
+-- `--help` and `--version` alone are forms of their own. `-`, `run` and `ordered`: run the script of the standard input in
+-- its order, over a database that is gone at the end.
+abbrev pub form_of : List (List ℕ) → Form
+form_of (word ∷ []) =
+    if bytes_eq word (codes "--help") then form.About topic.Help
+    else (if bytes_eq word (codes "--version") then form.About topic.Version else form.Unknown)
+form_of (volume ∷ mode ∷ order ∷ []) =
+    if bytes_eq volume (codes "-") && bytes_eq mode (codes "run") && bytes_eq order (codes "ordered") then form.OrderedRun else form.Unknown
+form_of _ = form.Unknown
 
 abbrev pub words_of : {A : Type 0} → List (String A) → List (List ℕ)
 words_of words = map string_bytes words

@@ -1,6 +1,7 @@
 //! The call that the program is: it reads a script of session calls, runs it and prints the reply of each.
 #![tactic(auto)]
 
+mod about;
 mod ends;
 mod process;
 mod reading;

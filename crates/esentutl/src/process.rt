@@ -3,8 +3,8 @@
 ghost use Rattle.std.specs.Prelude.{◌≡◌, ◌⊎◌, ℕ, List, MatchResult};
 ghost use Rattle.std.specs.Process.{exit_status};
 ghost use Rattle.std.specs.Io.KnownBytes.{prepend_known};
-ghost use Rattle.esentutl.specs.Words.{is_ordered_run, words_of};
-ghost use Rattle.esentutl.specs.TopCall.{Ending, EndsBy, status_of, accepts};
+ghost use Rattle.esentutl.specs.Words.{form_of, words_of};
+ghost use Rattle.esentutl.specs.TopCall.{Ending, EndsBy, status_of, form_of_ending};
 ghost use Rattle.esentutl.specs.Process.{ending_without_words};
 
 use crate::top::esentutl;
@@ -37,7 +37,7 @@ pub fn end_process<S: Source, K: Sink>(
     out: &mut K,
 ) -> ExitCode
     ensures { (text : List ℕ) × (ending : Ending) × (exit_status result ≡ status_of ending)
-        × MatchResult words.entry (λ given. is_ordered_run (words_of given.now) ≡ accepts ending) (λ fault. ending ≡ ending_without_words fault)
+        × MatchResult words.entry (λ given. form_of (words_of given.now) ≡ form_of_ending ending) (λ fault. ending ≡ ending_without_words fault)
         × (S.left script.old ≡ prepend_known text (S.left script.new))
         × EndsBy (record {
           left_before = S.left script.old;

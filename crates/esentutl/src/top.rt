@@ -1,23 +1,27 @@
 //! The call that the program is.
 
-ghost use Rattle.std.specs.Prelude.{◌≡◌, ◌≤◌, ◌⊎◌, ℕ, List, true, length, IfSome, IsOk};
-ghost use Rattle.std.specs.Io.KnownBytes.{prepend_known};
+ghost use Rattle.std.specs.Prelude.{◌≡◌, ◌≤◌, ◌⊎◌, ℕ, List, length, IfSome, IsOk};
+ghost use Rattle.std.specs.Io.KnownBytes.{append_known, prepend_known};
 ghost use Rattle.script_text.specs.Built.{built_lines};
-ghost use Rattle.esentutl.specs.Words.{is_ordered_run, words_of};
-ghost use Rattle.esentutl.specs.TopCall.{Ending, EndsBy, status_of, accepts, script_limit};
+ghost use Rattle.esentutl.specs.declared.words.Form.TheVariants as form;
+ghost use Rattle.esentutl.specs.declared.words.Topic.{Topic};
+ghost use Rattle.esentutl.specs.Words.{form_of, words_of};
+ghost use Rattle.esentutl.specs.About.{text_about};
+ghost use Rattle.esentutl.specs.TopCall.{Ending, EndsBy, status_of, form_of_ending, script_limit};
 
+use crate::about::tell_about;
 use crate::ends::{run_script, tell};
 use crate::reading::read_script;
 use crate::report::{make_last_line, say_only};
 use crate::session_engine::SessionEngine;
-use crate::words::asks_for_ordered_run;
+use crate::words::{Form, form_of_words};
 use jet_io::{Sink, Source};
 use std::alloc::Global;
 
 /// Does what the words ask for, and answers the exit status.
 ///
 /// `- run ordered` reads the script, runs its lines in their order over a database that is gone at the end, and prints
-/// the reply of each before the next runs.
+/// the reply of each before the next runs. `--help` and `--version` print a text and read nothing.
 pub fn esentutl<S: Source, K: Sink>(
     alloc: Global,
     words: &[String],
@@ -26,7 +30,7 @@ pub fn esentutl<S: Source, K: Sink>(
 ) -> u8
     // What the status says of the script, the source and the sink, over the text that the source gave.
     ensures ends { (text : List ℕ) × (ending : Ending) × (result ≡ status_of ending)
-        × (is_ordered_run (words_of words.now) ≡ accepts ending)
+        × (form_of (words_of words.now) ≡ form_of_ending ending)
         × (S.left script.old ≡ prepend_known text (S.left script.new))
         × EndsBy (record {
           left_before = S.left script.old;
@@ -39,8 +43,12 @@ pub fn esentutl<S: Source, K: Sink>(
           sink_after = K.faults out.new;
         }) text ending }
     // A script that is built and not too long runs to its end, where nothing outside fails and there is memory.
-    ensures completes { is_ordered_run (words_of words.now) ≡ true → S.faults script.new ≡ S.faults script.old → K.faults out.new ≡ K.faults out.old
+    ensures completes { form_of (words_of words.now) ≡ form.OrderedRun → S.faults script.new ≡ S.faults script.old → K.faults out.new ≡ K.faults out.old
         → IfSome (S.left script.old) (λ bytes. length bytes ≤ script_limit → IsOk (built_lines bytes) → (result ≡ 0) ⊎ (result ≡ 7)) }
+    // A text that was asked for is written whole, where the sink does not fail, and is all that is done.
+    ensures tells { (topic : Topic) → form_of (words_of words.now) ≡ form.About topic → K.faults out.new ≡ K.faults out.old
+        → (result ≡ 0) × (K.taken out.new ≡ append_known (K.taken out.old) (text_about topic))
+        × (S.left script.new ≡ S.left script.old) × (S.faults script.new ≡ S.faults script.old) }
 {
     run_words(alloc, words, script, out)
 }
@@ -48,7 +56,7 @@ pub fn esentutl<S: Source, K: Sink>(
 /// The same, but for what follows from how the call ends.
 fn run_words<S: Source, K: Sink>(alloc: Global, words: &[String], script: &mut S, out: &mut K) -> u8
     ensures { (text : List ℕ) × (ending : Ending) × (result ≡ status_of ending)
-        × (is_ordered_run (words_of words.now) ≡ accepts ending)
+        × (form_of (words_of words.now) ≡ form_of_ending ending)
         × (S.left script.old ≡ prepend_known text (S.left script.new))
         × EndsBy (record {
           left_before = S.left script.old;
@@ -61,12 +69,15 @@ fn run_words<S: Source, K: Sink>(alloc: Global, words: &[String], script: &mut S
           sink_after = K.faults out.new;
         }) text ending }
 {
-    if !asks_for_ordered_run(words) {
-        say_only(out, &make_last_line("words"));
-        return 1;
-    }
-    match read_script(alloc, script) {
-        Ok(lines) => run_script(alloc, &mut SessionEngine::new(alloc), &lines, out),
-        Err(fault) => tell(fault, out),
+    match form_of_words(words) {
+        Form::OrderedRun => match read_script(alloc, script) {
+            Ok(lines) => run_script(alloc, &mut SessionEngine::new(alloc), &lines, out),
+            Err(fault) => tell(fault, out),
+        },
+        Form::About(topic) => tell_about(topic, out),
+        Form::Unknown => {
+            say_only(out, &make_last_line("words"));
+            1
+        }
     }
 }

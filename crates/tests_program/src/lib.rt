@@ -8,6 +8,8 @@ mod processes;
 #[cfg(test)]
 mod scripts;
 #[cfg(test)]
+mod texts;
+#[cfg(test)]
 mod transcripts;
 #[cfg(test)]
 mod words;

@@ -1,4 +1,4 @@
-use Rattle.std.proofs.Common.{◌+◌, List, sym, subst, ap, ◌∙◌, take, drop}
+use Rattle.std.proofs.Common.{◌+◌, List, sym, subst, ◌∙◌, take, drop}
 use Rattle.session_local.specs.Run.{Line}
 use Rattle.script_text.specs.Parsed.{calls_of, call_of}
 use Rattle.esentutl.specs.TopCall.{AreOutcomesOf}

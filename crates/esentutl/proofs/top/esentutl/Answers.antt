@@ -1,6 +1,6 @@
 use Rattle.std.proofs.Common.{refl, sym, ◌∙◌}
 use Rattle.esentutl.specs.TopCall.{Outside}
-use Rattle.esentutl.proofs.Completeness.{completes_told}
+use Rattle.esentutl.proofs.Completeness.{completes_told, tells_whole}
 use Rattle.esentutl.proofs.top.esentutl.Goals as goal
 
 pub returns-clause-completes : goal.returns-clause-completes
@@ -17,3 +17,18 @@ returns-clause-completes g c = λ words source sink.
       sink_after = g.K.Sink.faults c.run_words.new.out;
     } in
     completes_told o ends.0 ends.1 (g.S.Source.left c.args.script.now) refl ends.4 (sym ends.3 ∙ words) source sink ends.5 c.run_words.result ends.2
+
+pub returns-clause-tells : goal.returns-clause-tells
+returns-clause-tells g c = λ topic words sink.
+    let ends = c.run_words.ensures in
+    let o : Outside = record {
+      left_before = g.S.Source.left c.args.script.now;
+      left_after = g.S.Source.left c.run_words.new.script;
+      source_before = g.S.Source.faults c.args.script.now;
+      source_after = g.S.Source.faults c.run_words.new.script;
+      taken_before = g.K.Sink.taken c.args.out.now;
+      taken_after = g.K.Sink.taken c.run_words.new.out;
+      sink_before = g.K.Sink.faults c.args.out.now;
+      sink_after = g.K.Sink.faults c.run_words.new.out;
+    } in
+    tells_whole o ends.0 ends.1 topic ends.4 (sym ends.3 ∙ words) sink ends.5 c.run_words.result ends.2

@@ -1,0 +1,47 @@
+-- What the program tells of itself.
+use Rattle.std.specs.Prelude.{◌≡◌, ℕ, ◌<◌, ◌⊎◌, List, [], ◌∷◌, codes, length, take, Option}
+use Rattle.std.specs.Io.KnownBytes.{append_known}
+use Rattle.script_text.specs.ScriptRun.{text_of}
+use Rattle.esentutl.specs.declared.words.Topic.{Topic}
+use Rattle.esentutl.specs.declared.words.Topic.TheVariants as topic
+
+abbrev pub help_text : List ℕ
+help_text = text_of (
+    codes "Usage:"
+    ∷ codes "  esentutl - run ordered   runs a script of session calls, one reply a line"
+    ∷ codes "  esentutl --help          prints this text"
+    ∷ codes "  esentutl --version       prints the name and the file formats written"
+    ∷ []
+    ∷ codes "The script is read from standard input and checked before its first line runs."
+    ∷ codes "Its database is in memory, and is gone at the end."
+    ∷ []
+    ∷ codes "Example:"
+    ∷ codes "  ./esentutl - run ordered < examples/first-table.script"
+    ∷ []
+    ∷ codes "Exit status:"
+    ∷ codes "  0  every line ran, or the text that was asked for was printed"
+    ∷ codes "  1  the words are of no form above"
+    ∷ codes "  2  the script has more than 16,777,216 bytes"
+    ∷ codes "  5  the script could not be read"
+    ∷ codes "  6  the output could not be written"
+    ∷ codes "  7  out of memory, outside a line of the script"
+    ∷ codes "  9  a line is outside the grammar or not built yet; the first one is named"
+    ∷ []
+    ∷ codes "docs/SCRIPT.md describes scripts, replies and statuses."
+    ∷ [])
+
+abbrev pub version_text : List ℕ
+version_text = text_of (
+    codes "esentutl, the tool of the database engine Loheviwun"
+    ∷ codes "file formats written: none (the database is in memory)"
+    ∷ [])
+
+abbrev pub text_about : Topic → List ℕ
+text_about topic.Help = help_text
+text_about topic.Version = version_text
+
+-- The sink took all of a text and the status is 0, or it took a front and failed and the status is 6.
+abbrev pub Tells : Option (List ℕ) → Option (List ℕ) → ℕ → ℕ → List ℕ → ℕ → Type 0
+Tells before after faults_before faults_after text status =
+    ((status ≡ 0) × (after ≡ append_known before text) × (faults_after ≡ faults_before))
+    ⊎ ((status ≡ 6) × (n : ℕ) × (n < length text) × (after ≡ append_known before (take n text)) × (faults_before < faults_after))

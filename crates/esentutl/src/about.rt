@@ -1,0 +1,58 @@
+//! What the program tells of itself.
+
+ghost use Rattle.std.specs.Prelude.{◌≡◌};
+ghost use Rattle.esentutl.specs.About.{text_about, Tells};
+
+use crate::words::Topic;
+use jet_io::{Failed, Sink, write_all};
+
+/// How the program is called.
+const HELP: &str = concat!(
+    "Usage:\n",
+    "  esentutl - run ordered   runs a script of session calls, one reply a line\n",
+    "  esentutl --help          prints this text\n",
+    "  esentutl --version       prints the name and the file formats written\n",
+    "\n",
+    "The script is read from standard input and checked before its first line runs.\n",
+    "Its database is in memory, and is gone at the end.\n",
+    "\n",
+    "Example:\n",
+    "  ./esentutl - run ordered < examples/first-table.script\n",
+    "\n",
+    "Exit status:\n",
+    "  0  every line ran, or the text that was asked for was printed\n",
+    "  1  the words are of no form above\n",
+    "  2  the script has more than 16,777,216 bytes\n",
+    "  5  the script could not be read\n",
+    "  6  the output could not be written\n",
+    "  7  out of memory, outside a line of the script\n",
+    "  9  a line is outside the grammar or not built yet; the first one is named\n",
+    "\n",
+    "docs/SCRIPT.md describes scripts, replies and statuses.\n",
+);
+
+/// The program's name, and which file formats it writes.
+const VERSION: &str = concat!(
+    "esentutl, the tool of the database engine Loheviwun\n",
+    "file formats written: none (the database is in memory)\n",
+);
+
+/// The text about a topic.
+fn text(topic: Topic) -> &'static str
+    ensures { result.now ≡ text_about topic }
+{
+    match topic {
+        Topic::Help => HELP,
+        Topic::Version => VERSION,
+    }
+}
+
+/// Prints the text about a topic, and answers the exit status.
+pub fn tell_about<K: Sink>(topic: Topic, out: &mut K) -> u8
+    ensures { Tells (K.taken out.old) (K.taken out.new) (K.faults out.old) (K.faults out.new) (text_about topic) result }
+{
+    match write_all(out, text(topic).as_bytes()) {
+        Ok(()) => 0,
+        Err(Failed) => 6,
+    }
+}
