@@ -1,6 +1,6 @@
 -- What is found in a list, from its front and from its end.
 use Rattle.std.proofs.lemmas.List.{reverse-append}
-use Rattle.std.proofs.Common.{◌≡◌, Bool, true, false, reverse, ◌++◌, List, [], ◌∷◌, map, filter, find, Option, Some, None, option_map, refl, sym, ap, ◌∙◌}
+use Rattle.std.proofs.Common.{◌≡◌, Bool, false, reverse, ◌++◌, List, [], ◌∷◌, map, filter, find, Option, Some, None, option_map, refl, sym, ap, ◌∙◌}
 use Rattle.std.specs.List.{last_or}
 use Rattle.table_trees.proofs.Pages.{by_test}
 

@@ -1,7 +1,7 @@
 -- A table of which one index changes.
-use Rattle.std.proofs.Common.{◌≡◌, ℕ, suc, ◌+◌, ◌<◌, ◌≤◌, ◌==◌, Bool, true, false, Some, None, List, [], ◌∷◌, ◌++◌, length, get_or, set, map, refl, sym, ap, subst, ◌∙◌, arith}
+use Rattle.std.proofs.Common.{◌≡◌, ℕ, ◌+◌, ◌==◌, Bool, true, false, List, [], ◌∷◌, ◌++◌, set, refl, sym, ap, subst, ◌∙◌, arith}
 use Rattle.std.specs.Prelude.{All, count_by, remove}
-use Rattle.std.specs.List.{flat_map, list_any, position_from}
+use Rattle.std.specs.List.{flat_map, list_any}
 use Rattle.std.proofs.lemmas.Bool.{eqb-true}
 use Rattle.std.proofs.lemmas.List.Elements.{All-head}
 use Rattle.page_space.specs.Frames.{Frames}
@@ -9,16 +9,16 @@ use Rattle.btree_inplace.specs.Trees.{Exchanges}
 use Rattle.cursor_nav.specs.Places.{Pair}
 use Rattle.index_tree.specs.IndexTrees.{IsIndexTree, entries_of, own_pages}
 use Rattle.index_tree.specs.declared.index.IndexTree.{IndexTree}
-use Rattle.table_trees.specs.Pages.{AreOwn, Rearranges, copies, times_taken}
-use Rattle.table_trees.specs.StoredTables.{StoredIndex, changed_where, is_index, part_of, put_entries, put_indexes, without_where}
+use Rattle.table_trees.specs.Pages.{AreOwn, Rearranges, copies}
+use Rattle.table_trees.specs.StoredTables.{changed_where, is_index, part_of, put_entries, put_indexes, without_where}
 use Rattle.table_trees.specs.TableParts.{IsIndex, IsTable, TableBecomes, index_pages, stored_index, stored_table, table_pages}
 use Rattle.table_trees.specs.NodeTrees.{node_pages}
 use Rattle.table_trees.specs.declared.table.TableIndex.{TableIndex}
 use Rattle.table_trees.specs.declared.table.Table.{Table}
 use Rattle.table_trees.proofs.Pages.{beside, copies-append, nothing_own, rearranged, rearranged_twice, still_own}
 use Rattle.table_trees.proofs.Lookups.{none_passes}
-use Rattle.table_trees.proofs.Members.{AreBounded, OneChanges, Steps, all_right, all_stay, last_removed, one_added, one_removed, one_set}
-use Rattle.table_trees.proofs.Places.{IsPlaced, count-added, count-changed, count-without, found_no_part, found_part, step_changed, step_removed, step_same}
+use Rattle.table_trees.proofs.Members.{AreBounded, OneChanges, all_right, all_stay, last_removed, one_added, one_removed, one_set}
+use Rattle.table_trees.proofs.Places.{IsPlaced, count-added, count-changed, count-without, found_part, step_changed, step_removed, step_same}
 use Rattle.table_trees.proofs.TableChanges.{HasIndexes, IndexesStep, TreesStay, indexes_change}
 
 -- what the trees' laws say of an index

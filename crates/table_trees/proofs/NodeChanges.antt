@@ -1,8 +1,8 @@
 -- The nodes of a table: what is found among them, and that changes keep them in order and short.
-use Rattle.std.proofs.Common.{◌≡◌, ℕ, ◌≤◌, ◌<◌, length, IfSome, Bool, true, false, ◌&&◌, not, if◌then◌else◌, reverse, List, [], ◌∷◌, map, filter, find, Option, Some, None, option_map, refl, sym, ap, subst, ◌∙◌, true≢false, T, arith}
-use Rattle.std.specs.Prelude.{All, IsSome, IsSomeAnd, bytes_eq, is_some}
+use Rattle.std.proofs.Common.{◌≡◌, ℕ, ◌≤◌, length, Bool, true, false, ◌&&◌, if◌then◌else◌, reverse, List, [], ◌∷◌, map, filter, find, Option, Some, None, option_map, refl, sym, ap, subst, ◌∙◌, true≢false, T}
+use Rattle.std.specs.Prelude.{All, IsSome, IsSomeAnd, bytes_eq}
 use Rattle.std.specs.List.{last_or, list_all}
-use Rattle.std.proofs.lemmas.List.Elements.{All-cons, All-filter, All-head, All-nil, All-tail}
+use Rattle.std.proofs.lemmas.List.Elements.{All-cons, All-head, All-tail}
 use Rattle.std.proofs.lemmas.Map.Text.{is_eq-slice_cmp}
 use Rattle.std.proofs.lemmas.Slice.Eq.{bytes_eq-Decides}
 use Rattle.std.specs.declared.cmp.Ordering.{Ordering}
@@ -12,19 +12,19 @@ use Rattle.std.specs.Cmp.Lexicographic.{nat_list_cmp_total}
 use Rattle.std.specs.FinMap.Entries.{by_order, below_all, is_sorted, is_sorted-put}
 use Rattle.page_image.specs.Page.{Node}
 use Rattle.page_space.specs.Frames.{Frames}
-use Rattle.btree_inplace.specs.Changes.{inserted, with_data_at, with_extent_at, without_key}
-use Rattle.btree_inplace.specs.Order.{extent_in, get_in, has_key, key_and_data}
+use Rattle.btree_inplace.specs.Changes.{inserted, without_key}
+use Rattle.btree_inplace.specs.Order.{has_key, key_and_data}
 use Rattle.btree_inplace.specs.Trees.{Exchanges, IsTree, nodes_of, pages_of}
 use Rattle.btree_inplace.specs.declared.Tree.{Tree}
-use Rattle.column_set.specs.RecordValues.{bytes_lt, put_by_key}
+use Rattle.column_set.specs.RecordValues.{put_by_key}
 use Rattle.index_derive.specs.declared.entries.Place.{Place}
 use Rattle.cursor_nav.specs.Places.{Pair, are_sorted, entry_after, entry_before, is_beyond, is_short_of, pair_lt}
 use Rattle.table_trees.specs.Pages.{AreOwn}
 use Rattle.table_trees.specs.StoredNodes.{IsShortNode, bookmark_entries, node_after, node_before}
-use Rattle.table_trees.specs.NodeTrees.{IsNodeTree, NodesBecome, nodes_in, node_pages}
+use Rattle.table_trees.specs.NodeTrees.{NodesBecome}
 use Rattle.table_trees.specs.declared.nodes.NodeTree.{NodeTree}
 use Rattle.table_trees.proofs.BookmarkOrder.{order, own_pairs_rise, same_either_way}
-use Rattle.table_trees.proofs.Finding.{find_map, find_reverse, last_map, none_found}
+use Rattle.table_trees.proofs.Finding.{find_map, find_reverse, last_map}
 use Rattle.table_trees.proofs.Pages.{by_test, rearranged}
 
 -- ---- equal bookmarks

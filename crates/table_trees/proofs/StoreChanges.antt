@@ -1,20 +1,19 @@
 -- All tables, of which one changes.
-use Rattle.std.proofs.Common.{◌≡◌, ℕ, suc, ◌+◌, ◌<◌, ◌≤◌, ◌==◌, Bool, true, false, Some, None, List, [], ◌∷◌, ◌++◌, length, get_or, set, map, refl, sym, ap, subst, ◌∙◌, arith}
-use Rattle.std.specs.Prelude.{All, count_by, remove}
-use Rattle.std.specs.List.{flat_map, list_any, position_from}
+use Rattle.std.proofs.Common.{◌≡◌, ℕ, ◌≤◌, ◌==◌, Bool, false, None, List, [], ◌∷◌, ◌++◌, get_or, set, refl, sym, ap, subst, ◌∙◌, arith}
+use Rattle.std.specs.Prelude.{count_by, remove}
+use Rattle.std.specs.List.{position_from}
 use Rattle.std.proofs.lemmas.Bool.{eqb-true}
 use Rattle.page_image.specs.Page.{Node}
 use Rattle.page_space.specs.Frames.{Frames}
 use Rattle.cursor_nav.specs.Places.{Pair}
 use Rattle.index_tree.specs.IndexTrees.{IsIndexTree, entries_of}
 use Rattle.index_tree.specs.declared.index.IndexTree.{IndexTree}
-use Rattle.table_trees.specs.Pages.{IsForest, OthersStay, Rearranges, copies}
+use Rattle.table_trees.specs.Pages.{OthersStay, Rearranges}
 use Rattle.table_trees.specs.StoredTables.{StoredIndex, StoredTable, changed_where, has_table, index_entries, is_index, is_table, new_table, part_of, put_indexes, put_nodes, table_indexes, table_nodes, with_indexes, with_nodes, without_table}
 use Rattle.table_trees.specs.NodeTrees.{IsNodeTree, NodesBecome, nodes_in}
 use Rattle.table_trees.specs.TableParts.{IsTable, TableBecomes, stored_index, stored_table, table_pages}
 use Rattle.table_trees.specs.TreesView.{AreTables, stored_tables}
 use Rattle.table_trees.specs.declared.nodes.NodeTree.{NodeTree}
-use Rattle.table_trees.specs.declared.table.TableIndex.{TableIndex}
 use Rattle.table_trees.specs.declared.table.Table.{Table}
 use Rattle.table_trees.proofs.Pages.{by_test}
 use Rattle.table_trees.proofs.Lookups.{count-append, count-no, count-yes, none_passes}

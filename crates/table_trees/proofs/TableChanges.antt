@@ -1,17 +1,17 @@
 -- A table of which one tree changes.
-use Rattle.std.proofs.Common.{◌≡◌, ℕ, zero, suc, ◌+◌, ◌<◌, ◌≤◌, Bool, true, false, Some, None, List, [], ◌∷◌, ◌++◌, length, get_or, set, map, refl, sym, ap, subst, ◌∙◌, arith}
-use Rattle.std.specs.Prelude.{All, count_by, remove}
-use Rattle.std.specs.List.{flat_map, list_any, position_from}
+use Rattle.std.proofs.Common.{◌≡◌, ℕ, ◌+◌, ◌≤◌, List, ◌++◌, map, refl, sym, ap, subst, ◌∙◌, arith}
+use Rattle.std.specs.Prelude.{All, count_by}
+use Rattle.std.specs.List.{flat_map}
 use Rattle.page_image.specs.Page.{Node}
 use Rattle.page_space.specs.Frames.{Frames}
 use Rattle.btree_inplace.specs.Trees.{AreApart, Exchanges, IsTree, nodes_of, pages_of}
 use Rattle.btree_inplace.specs.declared.Tree.{Tree}
-use Rattle.cursor_nav.specs.Places.{Pair, are_sorted}
+use Rattle.cursor_nav.specs.Places.{are_sorted}
 use Rattle.index_tree.specs.IndexTrees.{IsIndexTree, entries_of, own_pages}
 use Rattle.index_tree.specs.declared.index.IndexTree.{IndexTree}
 use Rattle.table_trees.specs.Pages.{AreOwn, OthersStay, Rearranges, copies, times_taken}
 use Rattle.table_trees.specs.StoredNodes.{IsShortNode, bookmark_entries}
-use Rattle.table_trees.specs.StoredTables.{StoredIndex, StoredTable, changed_where, is_index, part_of, put_entries, put_indexes, put_nodes, without_where}
+use Rattle.table_trees.specs.StoredTables.{StoredIndex, is_index, put_indexes, put_nodes}
 use Rattle.table_trees.specs.NodeTrees.{IsNodeTree, NodesBecome, node_pages, nodes_in}
 use Rattle.table_trees.specs.TableParts.{IsIndex, IsTable, TableBecomes, index_pages, stored_index, stored_table, table_pages}
 use Rattle.table_trees.specs.declared.nodes.NodeTree.{NodeTree}

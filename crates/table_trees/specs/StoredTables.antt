@@ -1,5 +1,5 @@
 -- The tables that a store has, each with its nodes and the entries of its indexes.
-use Rattle.std.specs.Prelude.{ℕ, ◌==◌, Bool, Option, List, [], ◌∷◌, ◌++◌, if◌then◌else◌, filter, find, map, not, unwrap_or}
+use Rattle.std.specs.Prelude.{ℕ, ◌==◌, Bool, List, [], ◌∷◌, ◌++◌, if◌then◌else◌, filter, find, map, not, unwrap_or}
 use Rattle.std.specs.List.{list_any}
 use Rattle.std.specs.Option.{option_map}
 use Rattle.page_image.specs.Page.{Node}

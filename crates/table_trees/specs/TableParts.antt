@@ -1,5 +1,5 @@
 -- The trees of one table: that of its nodes, and those of its indexes.
-use Rattle.std.specs.Prelude.{◌≡◌, ℕ, ◌≤◌, List, [], ◌∷◌, ◌++◌, All, count_by, map}
+use Rattle.std.specs.Prelude.{◌≡◌, ℕ, ◌≤◌, List, ◌++◌, All, count_by, map}
 use Rattle.std.specs.List.{flat_map}
 use Rattle.page_space.specs.Frames.{Frames}
 use Rattle.index_tree.specs.IndexTrees.{IsIndexTree, entries_of, own_pages}

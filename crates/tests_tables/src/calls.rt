@@ -10,6 +10,7 @@ use std::test::Fail;
 use table_trees::TableTrees;
 
 const TABLE: TableId = TableId(1);
+
 const INDEX: IndexId = IndexId(2);
 
 /// One table with one index.

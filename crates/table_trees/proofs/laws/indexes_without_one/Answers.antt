@@ -1,4 +1,4 @@
-use Rattle.std.proofs.Common.{◌≡◌, ◌==◌, Bool, ◌&&◌, not, List, [], refl, sym, ap, ◌∙◌}
+use Rattle.std.proofs.Common.{◌≡◌, ◌==◌, ◌&&◌, not, List, [], refl, sym, ap}
 use Rattle.std.specs.List.{list_any}
 use Rattle.table_trees.specs.StoredTables.{StoredIndex, has_index, index_entries, is_index, part_of, table_indexes, without_where}
 use Rattle.table_trees.proofs.AfterChanges.{any-without, either_indexes, named_as, not_other, other-without, own-without}

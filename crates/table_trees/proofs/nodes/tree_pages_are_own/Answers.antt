@@ -2,8 +2,6 @@
 use Rattle.std.proofs.Common.{inl, inr, refl, arith}
 use Rattle.btree_inplace.specs.Trees.{pages_of}
 use Rattle.table_trees.proofs.Pages.{contained, none_or_some, once, taken_once}
-use Rattle.table_trees.proofs.Members.{one_set, one_added, one_removed, last_removed}
-use Rattle.table_trees.proofs.Lookups.{any-map}
 use Rattle.table_trees.specs.Pages.{copies}
 use Rattle.table_trees.proofs.nodes.tree_pages_are_own.Goals as goal
 

@@ -1,5 +1,5 @@
 -- What each kind of place asks of the tree.
-use Rattle.std.proofs.Common.{◌≡◌, ℕ, List, Bool, true, false, Option, option_map, refl, sym, ap, ◌∙◌}
+use Rattle.std.proofs.Common.{◌≡◌, Bool, true, false, option_map, refl, sym, ap, ◌∙◌}
 use Rattle.std.specs.Ordering.{is_gt}
 use Rattle.index_derive.specs.declared.entries.Place.{Place}
 use Rattle.index_derive.specs.declared.entries.Place.TheVariants.{After, On, Gap}

@@ -1,5 +1,4 @@
 -- The tree takes one node more, in its place.
-use Rattle.std.proofs.Common.{length}
 use Rattle.page_image.specs.Page.{Node}
 use Rattle.btree_inplace.specs.Changes.{inserted}
 use Rattle.table_trees.specs.NodeTrees.{nodes_in}

@@ -1,7 +1,6 @@
 -- The tree loses one node.
 use Rattle.std.proofs.Common.{not}
 use Rattle.std.proofs.lemmas.List.Elements.{All-filter}
-use Rattle.page_image.specs.Page.{Node}
 use Rattle.btree_inplace.specs.Changes.{without_key}
 use Rattle.btree_inplace.specs.Order.{has_key}
 use Rattle.table_trees.specs.NodeTrees.{nodes_in}

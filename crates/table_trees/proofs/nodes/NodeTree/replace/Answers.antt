@@ -1,5 +1,5 @@
 -- The tree has another row in one node, and all its pages are the same.
-use Rattle.std.proofs.Common.{List, ℕ, ◌≤◌, length, find, inl, refl, sym, ap, subst, ◌∙◌}
+use Rattle.std.proofs.Common.{◌≤◌, length, find, inl, refl, sym, ap, subst, ◌∙◌}
 use Rattle.page_image.specs.Page.{Node}
 use Rattle.btree_inplace.specs.Changes.{with_data_at}
 use Rattle.btree_inplace.specs.Order.{has_key}

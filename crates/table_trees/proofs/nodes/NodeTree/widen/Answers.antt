@@ -1,10 +1,9 @@
 -- The tree keeps another number of bytes for one node.
-use Rattle.std.proofs.Common.{List, ℕ, ◌≤◌, length, find, refl, ap, ◌∙◌, arith}
-use Rattle.std.specs.Prelude.{IsSome}
+use Rattle.std.proofs.Common.{◌≤◌, length, find, refl, ap, ◌∙◌, arith}
 use Rattle.page_image.specs.Page.{Node}
 use Rattle.btree_inplace.specs.Changes.{with_extent_at}
 use Rattle.btree_inplace.specs.Order.{has_key}
-use Rattle.cursor_nav.specs.Places.{Pair, are_sorted}
+use Rattle.cursor_nav.specs.Places.{are_sorted}
 use Rattle.table_trees.specs.NodeTrees.{nodes_in}
 use Rattle.table_trees.specs.StoredNodes.{IsShortNode}
 use Rattle.table_trees.proofs.NodeChanges.{become, changed-entries, changed_short, found_and, key_is_short, some_of}

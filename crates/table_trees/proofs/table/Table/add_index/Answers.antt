@@ -1,6 +1,5 @@
 -- The new index stands behind the others, and the trees of these stay.
 use Rattle.std.proofs.Common.{◌≡◌, List, [], ◌∷◌, ◌++◌, refl, sym, ap, subst, ◌∙◌}
-use Rattle.std.specs.Prelude.{OnErr}
 use Rattle.page_space.specs.Frames.{Frames}
 use Rattle.common_lemmas.proofs.Results.{OnErr-from}
 use Rattle.table_trees.specs.TableParts.{TableBecomes, stored_table}

@@ -1,5 +1,5 @@
-use Rattle.std.proofs.Common.{ℕ, List, sym, ap, ◌∙◌, arith}
-use Rattle.cursor_nav.specs.Places.{Pair, entry_before}
+use Rattle.std.proofs.Common.{sym, ap, ◌∙◌, arith}
+use Rattle.cursor_nav.specs.Places.{entry_before}
 use Rattle.table_trees.specs.StoredTables.{is_index}
 use Rattle.table_trees.specs.TableParts.{stored_index}
 use Rattle.table_trees.proofs.IndexChanges.{found_entries, found_index, is_numbered}

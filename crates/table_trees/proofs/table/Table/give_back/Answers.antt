@@ -1,5 +1,5 @@
 -- One tree after the other gives its pages back, and those that are left stay.
-use Rattle.std.proofs.Common.{◌≡◌, List, [], ◌∷◌, length, ap, subst, arith}
+use Rattle.std.proofs.Common.{◌≡◌, List, [], ◌∷◌, length, subst, arith}
 use Rattle.std.specs.List.{flat_map}
 use Rattle.table_trees.specs.Pages.{Rearranges}
 use Rattle.table_trees.specs.TableParts.{index_pages, table_pages}

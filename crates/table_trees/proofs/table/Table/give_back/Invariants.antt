@@ -1,4 +1,4 @@
-use Rattle.std.proofs.Common.{[], ◌++◌, length}
+use Rattle.std.proofs.Common.{length}
 use Rattle.std.specs.Prelude.{All}
 use Rattle.std.specs.List.{flat_map}
 use Rattle.table_trees.specs.Pages.{Rearranges}

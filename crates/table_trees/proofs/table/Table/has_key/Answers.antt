@@ -1,5 +1,4 @@
-use Rattle.std.proofs.Common.{ℕ, List, sym, ap, ◌∙◌, arith}
-use Rattle.cursor_nav.specs.Places.{Pair}
+use Rattle.std.proofs.Common.{sym, ap, ◌∙◌, arith}
 use Rattle.derived_index.specs.KeptEntries.{has_key}
 use Rattle.table_trees.specs.StoredTables.{is_index}
 use Rattle.table_trees.specs.TableParts.{stored_index}

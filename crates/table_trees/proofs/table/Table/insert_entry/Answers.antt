@@ -1,5 +1,5 @@
 -- The tree of the index takes the entry, and the other trees stay.
-use Rattle.std.proofs.Common.{List, ℕ, false, refl, sym, ap, subst, ◌∙◌, arith, true≢false}
+use Rattle.std.proofs.Common.{List, refl, sym, ap, subst, ◌∙◌, arith, true≢false}
 use Rattle.std.specs.Vec.{with_item}
 use Rattle.cursor_nav.specs.Places.{Pair}
 use Rattle.derived_index.specs.KeptEntries.{has_entry}

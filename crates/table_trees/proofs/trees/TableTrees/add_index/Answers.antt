@@ -1,12 +1,11 @@
 -- The named table has one index more, and all other trees stay.
-use Rattle.std.proofs.Common.{◌≡◌, List, ℕ, false, true, [], ◌∷◌, ◌++◌, refl, sym, ap, subst, ◌∙◌, arith, true≢false}
+use Rattle.std.proofs.Common.{List, [], ◌∷◌, ◌++◌, refl, sym, ap, ◌∙◌, arith, true≢false}
 use Rattle.std.specs.List.{list_any}
-use Rattle.cursor_nav.specs.Places.{Pair}
-use Rattle.table_trees.specs.StoredTables.{StoredIndex, changed_where, has_table, is_index, part_of, put_entries, put_indexes, without_where}
+use Rattle.table_trees.specs.StoredTables.{StoredIndex, is_index, put_indexes}
 use Rattle.table_trees.specs.TableParts.{stored_table}
 use Rattle.table_trees.proofs.Outcomes.{either_way, on_err, on_ok}
 use Rattle.table_trees.proofs.Places.{place_of, within_of}
-use Rattle.table_trees.proofs.StoreChanges.{Changes, found_indexes, found_table, indexes_shown, is_named, kept, no_indexes, no_table, shown_same}
+use Rattle.table_trees.proofs.StoreChanges.{found_indexes, found_table, indexes_shown, is_named, kept, no_table, shown_same}
 use Rattle.table_trees.proofs.trees.TableTrees.add_index.Goals as goal
 
 pub index_mut-named-requires : goal.index_mut-named-requires

@@ -1,5 +1,5 @@
 -- The new table stands behind the others, whose trees stay.
-use Rattle.std.proofs.Common.{◌≡◌, ℕ, false, List, [], ◌∷◌, ◌++◌, sym, ap, subst, ◌∙◌}
+use Rattle.std.proofs.Common.{◌≡◌, List, [], ◌∷◌, ◌++◌, sym, ap, subst, ◌∙◌}
 use Rattle.table_trees.specs.StoredTables.{StoredTable, has_table, new_table}
 use Rattle.table_trees.specs.TreesView.{AreTables, stored_tables}
 use Rattle.table_trees.specs.declared.table.Table.{Table}

@@ -1,5 +1,5 @@
-use Rattle.std.proofs.Common.{List, ℕ, sym, ap, ◌∙◌, arith}
-use Rattle.cursor_nav.specs.Places.{Pair, entry_after}
+use Rattle.std.proofs.Common.{List, sym, ap, ◌∙◌, arith}
+use Rattle.cursor_nav.specs.Places.{entry_after}
 use Rattle.table_trees.specs.StoredTables.{StoredIndex, is_index, part_of}
 use Rattle.table_trees.proofs.Places.{place_of, within_of}
 use Rattle.table_trees.proofs.StoreChanges.{found_indexes, found_table, is_named, no_indexes}

@@ -1,4 +1,4 @@
-use Rattle.std.proofs.Common.{List, ℕ, sym, ap, ◌∙◌, arith}
+use Rattle.std.proofs.Common.{List, sym, ap, ◌∙◌, arith}
 use Rattle.page_image.specs.Page.{Node}
 use Rattle.btree_inplace.specs.Order.{extent_in}
 use Rattle.table_trees.proofs.Places.{place_of, within_of}

@@ -1,8 +1,8 @@
-use Rattle.std.proofs.Common.{List, ℕ, sym, ap, ◌∙◌, arith}
+use Rattle.std.proofs.Common.{List, sym, ap, ◌∙◌, arith}
 use Rattle.std.specs.List.{list_any}
 use Rattle.table_trees.specs.StoredTables.{StoredIndex, is_index}
 use Rattle.table_trees.proofs.Places.{place_of, within_of}
-use Rattle.table_trees.proofs.StoreChanges.{found_indexes, found_table, is_named, no_indexes}
+use Rattle.table_trees.proofs.StoreChanges.{found_indexes, is_named, no_indexes}
 use Rattle.table_trees.proofs.trees.TableTrees.has_index.Goals as goal
 
 pub index-requires : goal.index-requires

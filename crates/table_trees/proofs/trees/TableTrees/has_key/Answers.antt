@@ -1,5 +1,4 @@
-use Rattle.std.proofs.Common.{List, ℕ, sym, ap, ◌∙◌, arith}
-use Rattle.cursor_nav.specs.Places.{Pair}
+use Rattle.std.proofs.Common.{List, sym, ap, ◌∙◌, arith}
 use Rattle.table_trees.specs.StoredTables.{StoredIndex, is_index, part_of}
 use Rattle.derived_index.specs.KeptEntries.{has_key}
 use Rattle.table_trees.proofs.Places.{place_of, within_of}

@@ -1,14 +1,12 @@
 -- The nodes of the named table take one more, and all other trees stay.
-use Rattle.std.proofs.Common.{List, ℕ, [], ◌≤◌, length, find, sym, ap, subst, ◌∙◌, arith, true≢false}
-use Rattle.std.specs.Prelude.{IsSome, IsSomeAnd}
+use Rattle.std.proofs.Common.{List, sym, ap, ◌∙◌, arith, true≢false}
 use Rattle.page_image.specs.Page.{Node}
 use Rattle.btree_inplace.specs.Changes.{inserted}
 use Rattle.btree_inplace.specs.Order.{get_in}
-use Rattle.table_trees.specs.StoredTables.{StoredTable, has_table, table_nodes}
 use Rattle.table_trees.specs.NodeTrees.{nodes_in}
 use Rattle.table_trees.proofs.Outcomes.{either_way, on_err, on_ok}
 use Rattle.table_trees.proofs.Places.{place_of, within_of}
-use Rattle.table_trees.proofs.StoreChanges.{found_nodes, found_table, is_named, no_nodes, no_table, nodes_kept, nodes_same, nodes_shown}
+use Rattle.table_trees.proofs.StoreChanges.{found_nodes, found_table, is_named, no_table, nodes_kept, nodes_same, nodes_shown}
 use Rattle.table_trees.proofs.trees.TableTrees.insert.Goals as goal
 
 pub index_mut-named-requires : goal.index_mut-named-requires

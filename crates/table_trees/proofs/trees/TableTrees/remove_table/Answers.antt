@@ -1,6 +1,6 @@
 -- The table's trees go back to the space, and the other trees stay.
-use Rattle.std.proofs.Common.{List, ℕ, sym, ap, subst, ◌∙◌, arith, true≢false}
-use Rattle.table_trees.specs.StoredTables.{has_table, without_table}
+use Rattle.std.proofs.Common.{sym, ap, subst, ◌∙◌, arith, true≢false}
+use Rattle.table_trees.specs.StoredTables.{without_table}
 use Rattle.table_trees.specs.TreesView.{AreTables, stored_tables}
 use Rattle.table_trees.proofs.Places.{place_of, within_of}
 use Rattle.table_trees.proofs.StoreChanges.{found_table, is_named, no_table, table_goes}

@@ -1,13 +1,12 @@
 -- One node of the named table has another row, and all other trees stay.
-use Rattle.std.proofs.Common.{List, ℕ, [], ◌≤◌, length, find, sym, ap, subst, ◌∙◌, arith, true≢false}
-use Rattle.std.specs.Prelude.{IsSome, IsSomeAnd}
+use Rattle.std.proofs.Common.{List, ◌≤◌, length, subst, arith}
+use Rattle.std.specs.Prelude.{IsSomeAnd}
 use Rattle.page_image.specs.Page.{Node}
 use Rattle.btree_inplace.specs.Changes.{with_data_at}
 use Rattle.btree_inplace.specs.Order.{extent_in}
-use Rattle.table_trees.specs.StoredTables.{StoredTable, has_table, table_nodes}
 use Rattle.table_trees.specs.NodeTrees.{nodes_in}
 use Rattle.table_trees.proofs.Places.{place_of, within_of}
-use Rattle.table_trees.proofs.StoreChanges.{found_nodes, found_table, is_named, no_nodes, no_table, nodes_kept, nodes_same, nodes_shown}
+use Rattle.table_trees.proofs.StoreChanges.{found_nodes, found_table, is_named, no_nodes, nodes_kept, nodes_shown}
 use Rattle.table_trees.proofs.trees.TableTrees.replace.Goals as goal
 
 pub index_mut-named-requires : goal.index_mut-named-requires
