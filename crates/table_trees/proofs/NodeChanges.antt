@@ -1,6 +1,6 @@
 -- The nodes of a table: what is found among them, and that changes keep them in order and short.
 use Rattle.std.proofs.Common.{◌≡◌, ℕ, ◌≤◌, length, Bool, true, false, ◌&&◌, if◌then◌else◌, reverse, List, [], ◌∷◌, map, filter, find, Option, Some, None, option_map, refl, sym, ap, subst, ◌∙◌, true≢false, T}
-use Rattle.std.specs.Prelude.{All, IsSome, IsSomeAnd, bytes_eq}
+use Rattle.std.specs.Prelude.{All, IfSome, IsSome, IsSomeAnd, bytes_eq}
 use Rattle.std.specs.List.{last_or, list_all}
 use Rattle.std.proofs.lemmas.List.Elements.{All-cons, All-head, All-tail}
 use Rattle.std.proofs.lemmas.Map.Text.{is_eq-slice_cmp}
@@ -301,3 +301,29 @@ after-bookmarks place nodes = own_found (find (λ n. is_beyond place (n.key, n.k
 pub before-bookmarks : (place : Place) (nodes : List Node) → option_map (λ (found : Pair). (found.0, found.0)) (node_before place nodes) ≡ entry_before place (bookmark_entries nodes)
 unfolding own
 before-bookmarks place nodes = own_found (last_or None (filter (λ n. is_short_of place (n.key, n.key)) nodes)) ∙ sym (last_map own (is_short_of place) None nodes)
+
+-- ---- a neighbour that was found is short
+
+found_short : (test : Node → Bool) (nodes : List Node) → All IsShortNode nodes → IfSome (option_map key_and_data (find test nodes)) (λ r. length r.0 ≤ 255)
+found_short test [] h = tt
+found_short test (n ∷ nodes) h =
+    by_test (test n)
+    (λ t. let first : length n.key ≤ 255 = (All-head IsShortNode n nodes h).bookmark in rw t first)
+    (λ t. rw t (found_short test nodes (All-tail IsShortNode n nodes h)))
+
+last_short : (test : Node → Bool) (nodes : List Node) (o : Option Node) → IfSome (option_map key_and_data o) (λ r. length r.0 ≤ 255) → All IsShortNode nodes → IfSome (option_map key_and_data (last_or o (filter test nodes))) (λ r. length r.0 ≤ 255)
+last_short test [] o low h = low
+last_short test (n ∷ nodes) o low h =
+    by_test (test n)
+    (λ t. rw t (last_short test nodes (Some n) (All-head IsShortNode n nodes h).bookmark (All-tail IsShortNode n nodes h)))
+    (λ t. rw t (last_short test nodes o low (All-tail IsShortNode n nodes h)))
+
+shown_short : {R : Type 0} (shown : R → List ℕ × List ℕ) (r : Option R) (o : Option (List ℕ × List ℕ)) → option_map shown r ≡ o → IfSome o (λ x. length x.0 ≤ 255) → IfSome r (λ x. length (shown x).0 ≤ 255)
+shown_short shown None o e h = tt
+shown_short shown (Some x) o e h = subst (λ (p : Option (List ℕ × List ℕ)). IfSome p (λ y. length y.0 ≤ 255)) (sym e) h
+
+pub after_short : {R : Type 0} (shown : R → List ℕ × List ℕ) (r : Option R) (place : Place) (nodes : List Node) → option_map shown r ≡ node_after place nodes → All IsShortNode nodes → IfSome r (λ x. length (shown x).0 ≤ 255)
+after_short shown r place nodes e h = shown_short shown r (node_after place nodes) e (found_short (λ n. is_beyond place (n.key, n.key)) nodes h)
+
+pub before_short : {R : Type 0} (shown : R → List ℕ × List ℕ) (r : Option R) (place : Place) (nodes : List Node) → option_map shown r ≡ node_before place nodes → All IsShortNode nodes → IfSome r (λ x. length (shown x).0 ≤ 255)
+before_short shown r place nodes e h = shown_short shown r (node_before place nodes) e (last_short (λ n. is_short_of place (n.key, n.key)) nodes None tt h)

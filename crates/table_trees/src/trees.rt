@@ -28,8 +28,8 @@ use std::marker::Model;
 ///
 /// Contracts see the tables in the order in which they were made, each with its number, its nodes, which rise by their
 /// bookmarks, and its indexes with their entries, which rise. A call goes over the tables to the one that is named,
-/// over that table's indexes to the one that is named, and down one path of its tree. Look-ups, moves and what says so
-/// take no memory; for want of it a call is refused, and then everything is as it was.
+/// over that table's indexes to the one that is named, and down one path of its tree. Look-ups and moves take no memory,
+/// and neither does a call that says so. Where another finds none it is refused, and everything is as it was.
 #[derive(Drop)]
 pub struct TableTrees {
     space: Space,
@@ -68,13 +68,14 @@ impl TableTrees {
     }
 
     /// Adds a table without a node and without an index, behind the others.
-    pub fn add_table(&mut self, alloc: Global, table: TableId) -> Result<(), OutOfMemory>
+    pub fn add_table(&mut self, table: TableId) -> Result<(), OutOfMemory>
         requires { has_table self.old table.0 ≡ false }
         ensures ok { OnOk result (self.new ≡ self.old ++ new_table table.0 ∷ []) }
         ensures err { OnErr result (self.new ≡ self.old) }
     {
         tables_stay();
         self.tables.reserve(1)?;
+        let alloc = *self.tables.allocator();
         let made = Table::new(alloc, &mut self.space, table)?;
         self.tables.push(made)?;
         Ok(())
@@ -198,7 +199,8 @@ impl TableTrees {
     /// The node of a table with the least bookmark beyond a place among its bookmarks, each of which is its own key
     /// there: its bookmark and its row, as they lie in their page.
     pub fn node_after(&self, table: TableId, place: &Place) -> Option<(&[u8], &[u8])>
-        ensures { option_map (λ found. (found.0.now, found.1.now)) result ≡ node_after place.now (table_nodes self.now table.0) }
+        ensures node { option_map (λ found. (found.0.now, found.1.now)) result ≡ node_after place.now (table_nodes self.now table.0) }
+        ensures short { IfSome result (λ found. length found.0.now ≤ 255) }
     {
         match table_place(self.tables.as_slice(), table) {
             Some(i) => self.tables[i].nodes.after(&self.space, place),
@@ -209,7 +211,8 @@ impl TableTrees {
     /// The node of a table with the greatest bookmark before a place among its bookmarks, each of which is its own key
     /// there: its bookmark and its row, as they lie in their page.
     pub fn node_before(&self, table: TableId, place: &Place) -> Option<(&[u8], &[u8])>
-        ensures { option_map (λ found. (found.0.now, found.1.now)) result ≡ node_before place.now (table_nodes self.now table.0) }
+        ensures node { option_map (λ found. (found.0.now, found.1.now)) result ≡ node_before place.now (table_nodes self.now table.0) }
+        ensures short { IfSome result (λ found. length found.0.now ≤ 255) }
     {
         match table_place(self.tables.as_slice(), table) {
             Some(i) => self.tables[i].nodes.before(&self.space, place),

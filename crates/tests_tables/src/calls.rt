@@ -18,7 +18,7 @@ fn one_table(alloc: Global) -> Result<TableTrees, OutOfMemory>
     ensures { IfOk result (λ made. made ≡ record { number = 1; nodes = []; indexes = (2, []) ∷ [] } ∷ []) }
 {
     let mut tables = TableTrees::new(alloc);
-    tables.add_table(alloc, TABLE)?;
+    tables.add_table(TABLE)?;
     tables.add_index(TABLE, INDEX)?;
     Ok(tables)
 }
