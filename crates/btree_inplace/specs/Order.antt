@@ -38,6 +38,10 @@ key_and_data n = (n.key, n.data)
 abbrev pub get_in : List Node → List ℕ → Option (List ℕ)
 get_in nodes key = option_map (λ (n : Node). n.data) (find (has_key key) nodes)
 
+-- how many bytes are kept for the data of the node with a key
+abbrev pub extent_in : List Node → List ℕ → Option ℕ
+extent_in nodes key = option_map (λ (n : Node). n.extent) (find (has_key key) nodes)
+
 -- the first node whose key is not below a key
 abbrev pub at_or_after_in : List Node → List ℕ → Option (List ℕ × List ℕ)
 at_or_after_in nodes key = option_map key_and_data (find (is_from key) nodes)

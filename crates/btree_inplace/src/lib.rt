@@ -4,7 +4,7 @@
 ghost use Rattle.std.specs.Prelude.{◌≡◌, ◌*◌, ◌<◌, ◌≤◌, ◌↔◌, ◌⊎◌, Some, None, [], ◌∷◌, zero, suc, length, find, reverse, ℕ, List, Contains, IsSomeAnd, IfOk, OnErr, MatchOption};
 ghost use Rattle.std.specs.Option.{option_copied, option_map};
 ghost use Rattle.page_image.specs.Page.{Node, node_at};
-ghost use Rattle.btree_inplace.specs.Order.{at_or_after_in, at_or_before_in, first_in, get_in, has_key, is_from, is_upto, last_in};
+ghost use Rattle.btree_inplace.specs.Order.{at_or_after_in, at_or_before_in, extent_in, first_in, get_in, has_key, is_from, is_upto, last_in};
 ghost use Rattle.btree_inplace.specs.Changes.{Changed, IsLocal, StayBut, with_data_at};
 ghost use Rattle.btree_inplace.specs.Shape.{IsSubtree, entries, page_in};
 ghost use Rattle.btree_inplace.specs.Neighbors.{IsNeighbor, found_left, found_right};
@@ -51,6 +51,18 @@ impl Tree {
         let leaf = space.page(self.leaf(space, key));
         match leaf.find(key) {
             Ok(i) => Some(leaf.data(i)),
+            Err(_) => None,
+        }
+    }
+
+    /// How many bytes the page keeps for the data under a key, if it is there.
+    pub fn extent(&self, space: &Space, key: &[u8]) -> Option<usize>
+        requires { IsTree space.now self.now }
+        ensures { result ≡ extent_in (nodes_of space.now self.now) key.now }
+    {
+        let leaf = space.page(self.leaf(space, key));
+        match leaf.find(key) {
+            Ok(i) => Some(leaf.extent(i)),
             Err(_) => None,
         }
     }

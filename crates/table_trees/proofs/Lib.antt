@@ -1,0 +1,12 @@
+pub mod Pages
+pub mod Members
+pub mod Lookups
+pub mod Outcomes
+pub mod BookmarkOrder
+pub mod Finding
+pub mod NodeChanges
+pub mod TableChanges
+pub mod Places
+pub mod IndexChanges
+pub mod StoreChanges
+pub mod AfterChanges

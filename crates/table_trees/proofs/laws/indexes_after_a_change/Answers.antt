@@ -1,0 +1,17 @@
+use Rattle.std.proofs.Common.{refl, sym, ◌∙◌, true≢false}
+use Rattle.table_trees.specs.StoredTables.{is_table, put_indexes}
+use Rattle.table_trees.proofs.AfterChanges.{any-changed, not_other, own-changed, part-changed}
+use Rattle.table_trees.proofs.laws.indexes_after_a_change.Goals as goal
+
+pub returns-clause-named : goal.returns-clause-named
+returns-clause-named c tables table indexes h = own-changed (is_table table) (put_indexes indexes) (λ x. x.indexes) indexes tables (λ x. refl) (λ x. refl) h
+
+pub returns-clause-others : goal.returns-clause-others
+returns-clause-others c tables table other indexes n =
+    part-changed (is_table table) (is_table other) (put_indexes indexes) (λ x. x.indexes) tables (λ x. refl) (λ x t u. absurd (true≢false (sym t ∙ not_other x.number table other n u)))
+
+pub returns-clause-nodes : goal.returns-clause-nodes
+returns-clause-nodes c tables table other indexes = part-changed (is_table table) (is_table other) (put_indexes indexes) (λ x. x.nodes) tables (λ x. refl) (λ x t u. refl)
+
+pub returns-clause-there : goal.returns-clause-there
+returns-clause-there c tables table other indexes = any-changed (is_table table) (is_table other) (put_indexes indexes) tables (λ x. refl)

@@ -1,0 +1,8 @@
+use Rattle.table_trees.proofs.TableChanges.{indexes_stay, nodes_stay}
+use Rattle.table_trees.proofs.table.trees_stay.Goals as goal
+
+pub returns-clause-nodes : goal.returns-clause-nodes
+returns-clause-nodes c = nodes_stay c.other_tree_stays.ensures
+
+pub returns-clause-indexes : goal.returns-clause-indexes
+returns-clause-indexes c = indexes_stay c.other_index_entries_stay.ensures

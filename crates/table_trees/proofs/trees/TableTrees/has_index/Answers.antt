@@ -1,0 +1,20 @@
+use Rattle.std.proofs.Common.{List, sym, ap, ◌∙◌, arith}
+use Rattle.std.specs.List.{list_any}
+use Rattle.table_trees.specs.StoredTables.{StoredIndex, is_index}
+use Rattle.table_trees.proofs.Places.{place_of, within_of}
+use Rattle.table_trees.proofs.StoreChanges.{found_indexes, is_named, no_indexes}
+use Rattle.table_trees.proofs.trees.TableTrees.has_index.Goals as goal
+
+pub index-requires : goal.index-requires
+index-requires c = omega (arith, c.self.inside.tables.ok.0, within_of (is_named c.args.table.0) c.self.inside.tables.items c.as_slice.result.now c.in-Some.i c.as_slice.ensures.value c.in-Some.ensures)
+
+pub returns-in-Some : goal.returns-in-Some
+returns-in-Some c =
+    c.has_index.ensures c.self.inside.space
+    ∙ ap (λ (l : List StoredIndex). list_any (is_index c.args.index.0) l)
+    (sym (found_indexes c.self.inside.space c.self.inside.tables.items c.args.table.0 c.in-Some.i c.index.result.now c.args.self.now c.self.invariant (place_of (is_named c.args.table.0) c.self.inside.tables.items c.as_slice.result.now c.in-Some.i c.index.result.now c.as_slice.ensures.value c.in-Some.ensures c.index.ensures) c.self.view_is))
+
+pub returns-in-None : goal.returns-in-None
+returns-in-None c =
+    ap (λ (l : List StoredIndex). list_any (is_index c.args.index.0) l)
+    (sym (no_indexes c.self.inside.space c.self.inside.tables.items c.as_slice.result.now c.args.table.0 c.args.self.now c.as_slice.ensures.value c.in-None.ensures c.self.view_is))

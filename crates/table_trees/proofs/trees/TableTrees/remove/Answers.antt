@@ -1,0 +1,28 @@
+-- The nodes of the named table lose one, and all other trees stay.
+use Rattle.std.proofs.Common.{List, sym, subst, arith, true≢false}
+use Rattle.std.specs.Prelude.{IsSome}
+use Rattle.page_image.specs.Page.{Node}
+use Rattle.btree_inplace.specs.Changes.{without_key}
+use Rattle.btree_inplace.specs.Order.{get_in}
+use Rattle.table_trees.specs.NodeTrees.{nodes_in}
+use Rattle.table_trees.proofs.Places.{place_of, within_of}
+use Rattle.table_trees.proofs.StoreChanges.{found_nodes, found_table, is_named, no_nodes, nodes_kept, nodes_shown}
+use Rattle.table_trees.proofs.trees.TableTrees.remove.Goals as goal
+
+pub index_mut-named-requires : goal.index_mut-named-requires
+index_mut-named-requires c = omega (arith, c.self.inside.tables.ok.0, within_of (is_named c.args.table.0) c.self.inside.tables.items c.as_slice.result.now c.in-Some.i c.as_slice.ensures.value c.in-Some.ensures)
+
+pub remove-requires-clause-tree : goal.remove-requires-clause-tree
+remove-requires-clause-tree c = (found_table c.self.inside.space c.self.inside.tables.items c.args.table.0 c.in-Some.i c.index_mut-named.result.now c.self.invariant (place_of (is_named c.args.table.0) c.self.inside.tables.items c.as_slice.result.now c.in-Some.i c.index_mut-named.result.now c.as_slice.ensures.value c.in-Some.ensures c.index_mut-named.ensures.value)).nodes
+
+pub remove-requires-clause-there : goal.remove-requires-clause-there
+remove-requires-clause-there c = subst (λ (l : List Node). IsSome (get_in l c.args.bookmark.now)) (found_nodes c.self.inside.space c.self.inside.tables.items c.args.table.0 c.in-Some.i c.index_mut-named.result.now c.args.self.now c.self.invariant (place_of (is_named c.args.table.0) c.self.inside.tables.items c.as_slice.result.now c.in-Some.i c.index_mut-named.result.now c.as_slice.ensures.value c.in-Some.ensures c.index_mut-named.ensures.value) c.self.view_is) c.requires
+
+pub invariant_of-self : goal.invariant_of-self
+invariant_of-self c = nodes_kept c.tables_stay.ensures.tables (record { nodes = c.tables_stay.ensures.nodes; indexes = c.tables_stay.ensures.indexes }) c.self.inside.space c.self.inside.tables.items c.remove.new.space c.args.table.0 c.in-Some.i c.index_mut-named.result.now c.remove.new.self (let l = nodes_in c.self.inside.space c.index_mut-named.result.now.nodes in without_key l c.args.bookmark.now) c.self.invariant (place_of (is_named c.args.table.0) c.self.inside.tables.items c.as_slice.result.now c.in-Some.i c.index_mut-named.result.now c.as_slice.ensures.value c.in-Some.ensures c.index_mut-named.ensures.value) c.remove.ensures
+
+pub returns-in-Some : goal.returns-in-Some
+returns-in-Some c = nodes_shown c.tables_stay.ensures.tables (record { nodes = c.tables_stay.ensures.nodes; indexes = c.tables_stay.ensures.indexes }) c.self.inside.space c.self.inside.tables.items c.remove.new.space c.args.table.0 c.in-Some.i c.index_mut-named.result.now c.remove.new.self (λ (l : List Node). without_key l c.args.bookmark.now) c.args.self.now c.self.invariant (place_of (is_named c.args.table.0) c.self.inside.tables.items c.as_slice.result.now c.in-Some.i c.index_mut-named.result.now c.as_slice.ensures.value c.in-Some.ensures c.index_mut-named.ensures.value) c.self.view_is c.remove.ensures
+
+pub returns-in-None : goal.returns-in-None
+returns-in-None c = absurd (true≢false (sym (subst (λ (l : List Node). IsSome (get_in l c.args.bookmark.now)) (no_nodes c.self.inside.space c.self.inside.tables.items c.as_slice.result.now c.args.table.0 c.args.self.now c.as_slice.ensures.value c.in-None.ensures c.self.view_is) c.requires)))

@@ -1,0 +1,6 @@
+pub mod StoredTables
+pub mod StoredNodes
+pub mod Pages
+pub mod NodeTrees
+pub mod TableParts
+pub mod TreesView

@@ -1,0 +1,14 @@
+//! All tables of an engine: the nodes of each and the entries of its indexes, in B-trees of one space.
+#![tactic(auto)]
+
+mod laws;
+mod nodes;
+mod table;
+mod trees;
+
+pub use laws::{
+    entries_after_a_change, indexes_after_a_change, indexes_beside_a_new_one, indexes_without_one,
+    neighbours_are_those_of_bookmarks, nodes_after_a_change, nodes_by_bookmark,
+    tables_beside_a_new_one, tables_without_one,
+};
+pub use trees::TableTrees;

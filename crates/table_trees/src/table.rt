@@ -1,0 +1,223 @@
+//! The trees of one table: that of its nodes, and those of its indexes.
+
+ghost use Rattle.std.specs.Prelude.{◌≡◌, ◌==◌, ◌≤◌, false, true, [], ◌∷◌, ◌++◌, length, IfOk, OnErr, OnOk};
+ghost use Rattle.std.specs.List.{list_any, position_from};
+ghost use Rattle.index_derive.specs.Entries.{insert_entry};
+ghost use Rattle.cursor_nav.specs.Places.{entry_after, entry_before, found_pair};
+ghost use Rattle.derived_index.specs.KeptEntries.{has_entry, has_key, without_entry};
+ghost use Rattle.index_tree.specs.Entries.{IsApartFromAll};
+ghost use Rattle.page_space.specs.Frames.{Frames};
+ghost use Rattle.table_trees.specs.Pages.{AreOwn, OthersStay, Rearranges};
+ghost use Rattle.table_trees.specs.StoredTables.{changed_where, is_index, new_table, part_of, put_entries, put_indexes, without_where};
+ghost use Rattle.table_trees.specs.NodeTrees.{IsNodeTree, node_pages, nodes_in};
+ghost use Rattle.table_trees.specs.declared.nodes.NodeTree.{NodeTree};
+ghost use Rattle.table_trees.specs.declared.table.TableIndex.{TableIndex};
+ghost use Rattle.table_trees.specs.TableParts.{IsIndex, IsTable, TableBecomes, index_pages, stored_index, stored_table, table_pages};
+
+use crate::nodes::{NodeTree, tree_pages_are_own};
+use btree_inplace::other_tree_stays;
+use index_derive::{IndexEntry, Place};
+use index_tree::{IndexTree, other_index_entries_stay};
+use jet_base::{IndexId, OutOfMemory, TableId};
+use page_space::Space;
+use std::alloc::Global;
+
+/// An index and its entries.
+#[derive(Drop)]
+pub struct TableIndex {
+    index: IndexId,
+    tree: IndexTree,
+}
+
+/// A table, its nodes, and its indexes in the order of their making.
+#[derive(Drop)]
+pub struct Table {
+    pub table: TableId,
+    pub nodes: NodeTree,
+    indexes: Vec<TableIndex>,
+}
+
+impl Table {
+    /// A table without a node and without an index.
+    pub fn new(alloc: Global, space: &mut Space, table: TableId) -> Result<Table, OutOfMemory>
+        ensures made { IfOk result (λ made. IsTable space.new made × (stored_table space.new made ≡ new_table table.0) × Rearranges space.old space.new [] (table_pages space.new made)) }
+        ensures err { OnErr result (space.new ≡ space.old) }
+    {
+        trees_stay();
+        match NodeTree::new(space) {
+            Ok(nodes) => Ok(Table {
+                table,
+                nodes,
+                indexes: Vec::new(alloc),
+            }),
+            Err(fault) => Err(fault),
+        }
+    }
+
+    /// Whether an index is there.
+    pub fn has_index(&self, index: IndexId) -> bool
+        ensures { (frames : Frames) → result ≡ list_any (is_index index.0) (stored_table frames self.now).indexes }
+    {
+        index_place(self.indexes.as_slice(), index).is_some()
+    }
+
+    /// Adds an index without an entry, behind the others.
+    pub fn add_index(&mut self, space: &mut Space, index: IndexId) -> Result<(), OutOfMemory>
+        requires table { IsTable space.old self.old }
+        requires absent { list_any (is_index index.0) (stored_table space.old self.old).indexes ≡ false }
+        ensures ok { OnOk result (TableBecomes space.old self.old space.new self.new (put_indexes ((stored_table space.old self.old).indexes ++ (index.0, []) ∷ []) (stored_table space.old self.old))) }
+        ensures err { OnErr result (TableBecomes space.old self.old space.new self.new (stored_table space.old self.old)) }
+    {
+        trees_stay();
+        self.indexes.reserve(1)?;
+        let tree = IndexTree::new(space)?;
+        self.indexes.push(TableIndex { index, tree })?;
+        Ok(())
+    }
+
+    /// Takes out an index with its entries. It takes no memory.
+    pub fn remove_index(&mut self, space: &mut Space, index: IndexId)
+        requires table { IsTable space.old self.old }
+        requires there { list_any (is_index index.0) (stored_table space.old self.old).indexes ≡ true }
+        ensures { TableBecomes space.old self.old space.new self.new (put_indexes (without_where (is_index index.0) (stored_table space.old self.old).indexes) (stored_table space.old self.old)) }
+    {
+        trees_stay();
+        match index_place(self.indexes.as_slice(), index) {
+            Some(i) => {
+                let removed = self.indexes.remove(i);
+                removed.tree.give_back(space);
+            }
+            None => {}
+        }
+    }
+
+    /// Puts an entry that is not there in its place.
+    pub fn insert_entry(
+        &mut self,
+        space: &mut Space,
+        index: IndexId,
+        key: &[u8],
+        bookmark: &[u8],
+    ) -> Result<(), OutOfMemory>
+        requires table { IsTable space.old self.old }
+        requires there { list_any (is_index index.0) (stored_table space.old self.old).indexes ≡ true }
+        requires absent { has_entry key.now bookmark.now (part_of (is_index index.0) (λ x. x.1) (stored_table space.old self.old).indexes) ≡ false }
+        requires apart { IsApartFromAll key.now (part_of (is_index index.0) (λ x. x.1) (stored_table space.old self.old).indexes) }
+        requires key { length key.now ≤ 255 }
+        requires bookmark { length bookmark.now ≤ 255 }
+        ensures ok { OnOk result (TableBecomes space.old self.old space.new self.new (put_indexes (changed_where (is_index index.0) (put_entries (insert_entry (key.now, bookmark.now) (part_of (is_index index.0) (λ x. x.1) (stored_table space.old self.old).indexes))) (stored_table space.old self.old).indexes) (stored_table space.old self.old))) }
+        ensures err { OnErr result (TableBecomes space.old self.old space.new self.new (stored_table space.old self.old)) }
+    {
+        trees_stay();
+        match index_place(self.indexes.as_slice(), index) {
+            Some(i) => {
+                let named = &mut self.indexes[i];
+                named.tree.insert(space, key, bookmark)
+            }
+            None => Ok(()),
+        }
+    }
+
+    /// Takes out an entry that is there. It takes no memory.
+    pub fn remove_entry(&mut self, space: &mut Space, index: IndexId, key: &[u8], bookmark: &[u8])
+        requires table { IsTable space.old self.old }
+        requires there { has_entry key.now bookmark.now (part_of (is_index index.0) (λ x. x.1) (stored_table space.old self.old).indexes) ≡ true }
+        ensures { TableBecomes space.old self.old space.new self.new (put_indexes (changed_where (is_index index.0) (put_entries (without_entry key.now bookmark.now (part_of (is_index index.0) (λ x. x.1) (stored_table space.old self.old).indexes))) (stored_table space.old self.old).indexes) (stored_table space.old self.old)) }
+    {
+        trees_stay();
+        match index_place(self.indexes.as_slice(), index) {
+            Some(i) => {
+                let named = &mut self.indexes[i];
+                named.tree.remove(space, key, bookmark);
+            }
+            None => {}
+        }
+    }
+
+    /// Whether an index has an entry.
+    pub fn has_entry(&self, space: &Space, index: IndexId, key: &[u8], bookmark: &[u8]) -> bool
+        requires table { IsTable space.now self.now }
+        requires key { length key.now ≤ 255 }
+        requires bookmark { length bookmark.now ≤ 255 }
+        ensures { result ≡ has_entry key.now bookmark.now (part_of (is_index index.0) (λ x. x.1) (stored_table space.now self.now).indexes) }
+    {
+        match index_place(self.indexes.as_slice(), index) {
+            Some(i) => self.indexes[i].tree.has(space, key, bookmark),
+            None => false,
+        }
+    }
+
+    /// Whether an index has an entry with a key.
+    pub fn has_key(&self, space: &Space, index: IndexId, key: &[u8]) -> bool
+        requires { IsTable space.now self.now }
+        ensures { result ≡ has_key key.now (part_of (is_index index.0) (λ x. x.1) (stored_table space.now self.now).indexes) }
+    {
+        match index_place(self.indexes.as_slice(), index) {
+            Some(i) => self.indexes[i].tree.has_key(space, key),
+            None => false,
+        }
+    }
+
+    /// The least entry of an index beyond a place.
+    pub fn entry_after(&self, space: &Space, index: IndexId, place: &Place) -> Option<IndexEntry>
+        requires { IsTable space.now self.now }
+        ensures { found_pair result ≡ entry_after place.now (part_of (is_index index.0) (λ x. x.1) (stored_table space.now self.now).indexes) }
+    {
+        match index_place(self.indexes.as_slice(), index) {
+            Some(i) => self.indexes[i].tree.after(space, place),
+            None => None,
+        }
+    }
+
+    /// The greatest entry of an index before a place.
+    pub fn entry_before(&self, space: &Space, index: IndexId, place: &Place) -> Option<IndexEntry>
+        requires { IsTable space.now self.now }
+        ensures { found_pair result ≡ entry_before place.now (part_of (is_index index.0) (λ x. x.1) (stored_table space.now self.now).indexes) }
+    {
+        match index_place(self.indexes.as_slice(), index) {
+            Some(i) => self.indexes[i].tree.before(space, place),
+            None => None,
+        }
+    }
+
+    /// Gives the pages of all trees of the table to the space. It takes no memory.
+    pub fn give_back(self, space: &mut Space)
+        requires { IsTable space.old self }
+        ensures { Rearranges space.old space.new (table_pages space.old self) [] }
+    {
+        trees_stay();
+        self.nodes.give_back(space);
+        let mut indexes = self.indexes;
+        while let Some(last) = indexes.pop() {
+            last.tree.give_back(space);
+        }
+    }
+}
+
+/// The place of an index among the indexes of its table.
+fn index_place(indexes: &[TableIndex], index: IndexId) -> Option<usize>
+    ensures { result ≡ position_from (λ x. x.index.0 == index.0) 0 indexes.now }
+{
+    indexes.iter().position(|named| named.index == index)
+}
+
+/// A change of pages leaves each tree that has none of them.
+fn trees_stay()
+    ensures nodes { OthersStay IsNodeTree node_pages nodes_in }
+    ensures indexes { OthersStay IsIndex index_pages stored_index }
+    ensures own { (frames : Frames) (index : TableIndex) → IsIndex frames index → AreOwn frames (index_pages frames index) }
+    ensures own_nodes { (frames : Frames) (nodes : NodeTree) → IsNodeTree frames nodes → AreOwn frames (node_pages frames nodes) }
+{
+    tree_pages_are_own();
+    other_tree_stays();
+    other_index_entries_stay();
+}
+
+/// A change of pages leaves each table that has none of them, and each tree of a table.
+pub fn tables_stay()
+    ensures nodes { OthersStay IsNodeTree node_pages nodes_in }
+    ensures indexes { OthersStay IsIndex index_pages stored_index }
+    ensures tables { OthersStay IsTable table_pages stored_table }
+{
+    trees_stay();
+}

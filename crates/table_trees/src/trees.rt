@@ -1,0 +1,382 @@
+//! All tables, in trees of one space.
+
+ghost use Rattle.std.specs.Prelude.{◌≡◌, ◌<◌, ◌≤◌, ◌^◌, ◌==◌, ℕ, None, true, false, [], ◌∷◌, ◌++◌, length, All, IfSome, IsSome, IsSomeAnd, OnErr, OnOk};
+ghost use Rattle.std.specs.List.{position_from};
+ghost use Rattle.std.specs.Option.{option_copied, option_map};
+ghost use Rattle.btree_inplace.specs.Changes.{inserted, with_data_at, with_extent_at, without_key};
+ghost use Rattle.btree_inplace.specs.Order.{extent_in, get_in};
+ghost use Rattle.index_derive.specs.Entries.{insert_entry};
+ghost use Rattle.cursor_nav.specs.Places.{are_sorted, entry_after, entry_before, found_pair};
+ghost use Rattle.derived_index.specs.KeptEntries.{has_entry, has_key, without_entry};
+ghost use Rattle.index_tree.specs.Entries.{AreApart, IsApartFromAll, IsShort};
+ghost use Rattle.table_trees.specs.StoredNodes.{IsShortNode, bookmark_entries, node_after, node_before};
+ghost use Rattle.table_trees.specs.StoredTables.{has_index, has_table, index_entries, new_table, table_nodes, with_entries, with_new_index, with_nodes, without_index, without_table};
+
+use crate::table::{Table, tables_stay};
+use btree_inplace::nodes_fit_their_space;
+use index_derive::{IndexEntry, Place};
+use index_tree::entries_fit_their_space;
+use jet_base::{IndexId, OutOfMemory, TableId};
+use page_space::Space;
+use std::alloc::Global;
+use std::marker::Model;
+
+/// All tables: the nodes of each, and the entries of its indexes.
+///
+/// A node is a row under a bookmark of 1 to 255 bytes. The row may be empty: so a node stands for a record that the
+/// newest state does not have. So many bytes are kept for a row as its extent says, 1,700 at most.
+///
+/// Contracts see the tables in the order in which they were made, each with its number, its nodes, which rise by their
+/// bookmarks, and its indexes with their entries, which rise. A call goes over the tables to the one that is named,
+/// over that table's indexes to the one that is named, and down one path of its tree. Look-ups and moves take no memory,
+/// and neither does a call that says so. Where another finds none it is refused, and everything is as it was.
+#[derive(Drop)]
+pub struct TableTrees {
+    space: Space,
+    tables: Vec<Table>,
+}
+
+impl Model for TableTrees {
+    ghost use Rattle.std.specs.Prelude.{List};
+    ghost use Rattle.table_trees.specs.StoredTables.{StoredTable};
+
+    ghost Value = { List StoredTable };
+
+    ghost use Rattle.table_trees.specs.TreesView.{IsKept, stored};
+
+    ghost view = { stored };
+
+    ghost invariant = { IsKept };
+}
+
+impl TableTrees {
+    /// No table. It takes no memory.
+    pub fn new(alloc: Global) -> TableTrees
+        ensures { result ≡ [] }
+    {
+        TableTrees {
+            space: Space::new(alloc),
+            tables: Vec::new(alloc),
+        }
+    }
+
+    /// Whether a table is there.
+    pub fn has_table(&self, table: TableId) -> bool
+        ensures { result ≡ has_table self.now table.0 }
+    {
+        table_place(self.tables.as_slice(), table).is_some()
+    }
+
+    /// Adds a table without a node and without an index, behind the others.
+    pub fn add_table(&mut self, table: TableId) -> Result<(), OutOfMemory>
+        requires { has_table self.old table.0 ≡ false }
+        ensures ok { OnOk result (self.new ≡ self.old ++ new_table table.0 ∷ []) }
+        ensures err { OnErr result (self.new ≡ self.old) }
+    {
+        tables_stay();
+        self.tables.reserve(1)?;
+        let alloc = *self.tables.allocator();
+        let made = Table::new(alloc, &mut self.space, table)?;
+        self.tables.push(made)?;
+        Ok(())
+    }
+
+    /// Takes out a table with its nodes and its indexes. The other tables keep their order. It takes no memory, and the
+    /// pages of the table are free for other trees.
+    pub fn remove_table(&mut self, table: TableId)
+        requires { has_table self.old table.0 ≡ true }
+        ensures { self.new ≡ without_table table.0 self.old }
+    {
+        tables_stay();
+        match table_place(self.tables.as_slice(), table) {
+            Some(i) => {
+                let removed = self.tables.remove(i);
+                removed.give_back(&mut self.space);
+            }
+            None => {}
+        }
+    }
+
+    /// The row under a bookmark of a table, if there is a node: the bytes as they lie in their page.
+    pub fn get(&self, table: TableId, bookmark: &[u8]) -> Option<&[u8]>
+        ensures { option_copied result ≡ get_in (table_nodes self.now table.0) bookmark.now }
+    {
+        match table_place(self.tables.as_slice(), table) {
+            Some(i) => self.tables[i].nodes.get(&self.space, bookmark),
+            None => None,
+        }
+    }
+
+    /// How many bytes are kept for the row under a bookmark of a table, if there is a node.
+    pub fn extent(&self, table: TableId, bookmark: &[u8]) -> Option<usize>
+        ensures { result ≡ extent_in (table_nodes self.now table.0) bookmark.now }
+    {
+        match table_place(self.tables.as_slice(), table) {
+            Some(i) => self.tables[i].nodes.extent(&self.space, bookmark),
+            None => None,
+        }
+    }
+
+    /// Puts a node with a row under a bookmark that has none, and keeps so many bytes for its row.
+    pub fn insert(
+        &mut self,
+        table: TableId,
+        bookmark: &[u8],
+        row: &[u8],
+        extent: usize,
+    ) -> Result<(), OutOfMemory>
+        requires there { has_table self.old table.0 ≡ true }
+        requires absent { get_in (table_nodes self.old table.0) bookmark.now ≡ None }
+        requires some { 0 < length bookmark.now }
+        requires short { length bookmark.now ≤ 255 }
+        requires fits { length row.now ≤ extent }
+        requires small { extent ≤ 1700 }
+        ensures ok { OnOk result (self.new ≡ with_nodes table.0 (inserted (table_nodes self.old table.0) (record { key = bookmark.now; extent = extent; «data» = row.now })) self.old) }
+        ensures err { OnErr result (self.new ≡ self.old) }
+    {
+        tables_stay();
+        match table_place(self.tables.as_slice(), table) {
+            Some(i) => {
+                let named = &mut self.tables[i];
+                named.nodes.insert(&mut self.space, bookmark, row, extent)
+            }
+            None => Ok(()),
+        }
+    }
+
+    /// Keeps another number of bytes for the row under a bookmark, at least as many as it has.
+    pub fn widen(
+        &mut self,
+        table: TableId,
+        bookmark: &[u8],
+        extent: usize,
+    ) -> Result<(), OutOfMemory>
+        requires fits { IsSomeAnd (get_in (table_nodes self.old table.0) bookmark.now) (λ row. length row ≤ extent) }
+        requires small { extent ≤ 1700 }
+        ensures ok { OnOk result (self.new ≡ with_nodes table.0 (with_extent_at (table_nodes self.old table.0) bookmark.now extent) self.old) }
+        ensures err { OnErr result (self.new ≡ self.old) }
+    {
+        tables_stay();
+        match table_place(self.tables.as_slice(), table) {
+            Some(i) => {
+                let named = &mut self.tables[i];
+                named.nodes.widen(&mut self.space, bookmark, extent)
+            }
+            None => Ok(()),
+        }
+    }
+
+    /// Puts another row under a bookmark that has a node, no longer than what is kept for it. It takes no memory.
+    pub fn replace(&mut self, table: TableId, bookmark: &[u8], row: &[u8])
+        requires { IsSomeAnd (extent_in (table_nodes self.old table.0) bookmark.now) (λ extent. length row.now ≤ extent) }
+        ensures { self.new ≡ with_nodes table.0 (with_data_at (table_nodes self.old table.0) bookmark.now row.now) self.old }
+    {
+        tables_stay();
+        match table_place(self.tables.as_slice(), table) {
+            Some(i) => {
+                let named = &mut self.tables[i];
+                named.nodes.replace(&mut self.space, bookmark, row);
+            }
+            None => {}
+        }
+    }
+
+    /// Takes out the node under a bookmark that has one. It takes no memory.
+    pub fn remove(&mut self, table: TableId, bookmark: &[u8])
+        requires { IsSome (get_in (table_nodes self.old table.0) bookmark.now) }
+        ensures { self.new ≡ with_nodes table.0 (without_key (table_nodes self.old table.0) bookmark.now) self.old }
+    {
+        tables_stay();
+        match table_place(self.tables.as_slice(), table) {
+            Some(i) => {
+                let named = &mut self.tables[i];
+                named.nodes.remove(&mut self.space, bookmark);
+            }
+            None => {}
+        }
+    }
+
+    /// The node of a table with the least bookmark beyond a place among its bookmarks, each of which is its own key
+    /// there: its bookmark and its row, as they lie in their page.
+    pub fn node_after(&self, table: TableId, place: &Place) -> Option<(&[u8], &[u8])>
+        ensures node { option_map (λ found. (found.0.now, found.1.now)) result ≡ node_after place.now (table_nodes self.now table.0) }
+        ensures short { IfSome result (λ found. length found.0.now ≤ 255) }
+    {
+        match table_place(self.tables.as_slice(), table) {
+            Some(i) => self.tables[i].nodes.after(&self.space, place),
+            None => None,
+        }
+    }
+
+    /// The node of a table with the greatest bookmark before a place among its bookmarks, each of which is its own key
+    /// there: its bookmark and its row, as they lie in their page.
+    pub fn node_before(&self, table: TableId, place: &Place) -> Option<(&[u8], &[u8])>
+        ensures node { option_map (λ found. (found.0.now, found.1.now)) result ≡ node_before place.now (table_nodes self.now table.0) }
+        ensures short { IfSome result (λ found. length found.0.now ≤ 255) }
+    {
+        match table_place(self.tables.as_slice(), table) {
+            Some(i) => self.tables[i].nodes.before(&self.space, place),
+            None => None,
+        }
+    }
+
+    /// Whether an index of a table is there.
+    pub fn has_index(&self, table: TableId, index: IndexId) -> bool
+        ensures { result ≡ has_index self.now table.0 index.0 }
+    {
+        match table_place(self.tables.as_slice(), table) {
+            Some(i) => self.tables[i].has_index(index),
+            None => false,
+        }
+    }
+
+    /// Adds an index without an entry to a table, behind its others.
+    pub fn add_index(&mut self, table: TableId, index: IndexId) -> Result<(), OutOfMemory>
+        requires there { has_table self.old table.0 ≡ true }
+        requires absent { has_index self.old table.0 index.0 ≡ false }
+        ensures ok { OnOk result (self.new ≡ with_new_index table.0 index.0 self.old) }
+        ensures err { OnErr result (self.new ≡ self.old) }
+    {
+        tables_stay();
+        match table_place(self.tables.as_slice(), table) {
+            Some(i) => {
+                let named = &mut self.tables[i];
+                named.add_index(&mut self.space, index)
+            }
+            None => Ok(()),
+        }
+    }
+
+    /// Takes out an index with its entries. It takes no memory, and the pages of the index are free for other trees.
+    pub fn remove_index(&mut self, table: TableId, index: IndexId)
+        requires { has_index self.old table.0 index.0 ≡ true }
+        ensures { self.new ≡ without_index table.0 index.0 self.old }
+    {
+        tables_stay();
+        match table_place(self.tables.as_slice(), table) {
+            Some(i) => {
+                let named = &mut self.tables[i];
+                named.remove_index(&mut self.space, index);
+            }
+            None => {}
+        }
+    }
+
+    /// Puts an entry that is not there into an index. No key of an entry may begin another one's key.
+    pub fn insert_entry(
+        &mut self,
+        table: TableId,
+        index: IndexId,
+        key: &[u8],
+        bookmark: &[u8],
+    ) -> Result<(), OutOfMemory>
+        requires there { has_index self.old table.0 index.0 ≡ true }
+        requires absent { has_entry key.now bookmark.now (index_entries self.old table.0 index.0) ≡ false }
+        requires apart { IsApartFromAll key.now (index_entries self.old table.0 index.0) }
+        requires key { length key.now ≤ 255 }
+        requires bookmark { length bookmark.now ≤ 255 }
+        ensures ok { OnOk result (self.new ≡ with_entries table.0 index.0 (insert_entry (key.now, bookmark.now) (index_entries self.old table.0 index.0)) self.old) }
+        ensures err { OnErr result (self.new ≡ self.old) }
+    {
+        tables_stay();
+        match table_place(self.tables.as_slice(), table) {
+            Some(i) => {
+                let named = &mut self.tables[i];
+                named.insert_entry(&mut self.space, index, key, bookmark)
+            }
+            None => Ok(()),
+        }
+    }
+
+    /// Takes out an entry that is there. It takes no memory.
+    pub fn remove_entry(&mut self, table: TableId, index: IndexId, key: &[u8], bookmark: &[u8])
+        requires { has_entry key.now bookmark.now (index_entries self.old table.0 index.0) ≡ true }
+        ensures { self.new ≡ with_entries table.0 index.0 (without_entry key.now bookmark.now (index_entries self.old table.0 index.0)) self.old }
+    {
+        tables_stay();
+        match table_place(self.tables.as_slice(), table) {
+            Some(i) => {
+                let named = &mut self.tables[i];
+                named.remove_entry(&mut self.space, index, key, bookmark);
+            }
+            None => {}
+        }
+    }
+
+    /// Whether an index has an entry.
+    pub fn has_entry(&self, table: TableId, index: IndexId, key: &[u8], bookmark: &[u8]) -> bool
+        requires key { length key.now ≤ 255 }
+        requires bookmark { length bookmark.now ≤ 255 }
+        ensures { result ≡ has_entry key.now bookmark.now (index_entries self.now table.0 index.0) }
+    {
+        match table_place(self.tables.as_slice(), table) {
+            Some(i) => self.tables[i].has_entry(&self.space, index, key, bookmark),
+            None => false,
+        }
+    }
+
+    /// Whether an index has an entry with a key.
+    pub fn has_key(&self, table: TableId, index: IndexId, key: &[u8]) -> bool
+        ensures { result ≡ has_key key.now (index_entries self.now table.0 index.0) }
+    {
+        match table_place(self.tables.as_slice(), table) {
+            Some(i) => self.tables[i].has_key(&self.space, index, key),
+            None => false,
+        }
+    }
+
+    /// The least entry of an index beyond a place.
+    pub fn entry_after(&self, table: TableId, index: IndexId, place: &Place) -> Option<IndexEntry>
+        ensures { found_pair result ≡ entry_after place.now (index_entries self.now table.0 index.0) }
+    {
+        match table_place(self.tables.as_slice(), table) {
+            Some(i) => self.tables[i].entry_after(&self.space, index, place),
+            None => None,
+        }
+    }
+
+    /// The greatest entry of an index before a place.
+    pub fn entry_before(&self, table: TableId, index: IndexId, place: &Place) -> Option<IndexEntry>
+        ensures { found_pair result ≡ entry_before place.now (index_entries self.now table.0 index.0) }
+    {
+        match table_place(self.tables.as_slice(), table) {
+            Some(i) => self.tables[i].entry_before(&self.space, index, place),
+            None => None,
+        }
+    }
+
+    /// The nodes of each table rise by their bookmarks, none of which stands twice, and are short.
+    pub fn nodes_are_in_order(&self)
+        ensures sorted { (table : ℕ) → are_sorted (bookmark_entries (table_nodes self.now table)) ≡ true }
+        ensures short { (table : ℕ) → All IsShortNode (table_nodes self.now table) }
+    {
+        let _ = &self.tables;
+    }
+
+    /// The entries of each index rise, and are short. No key of one begins the key of another.
+    pub fn entries_are_in_order(&self)
+        ensures sorted { (table index : ℕ) → are_sorted (index_entries self.now table index) ≡ true }
+        ensures short { (table index : ℕ) → All IsShort (index_entries self.now table index) }
+        ensures apart { (table index : ℕ) → AreApart (index_entries self.now table index) }
+    {
+        let _ = &self.tables;
+    }
+
+    /// No table has as many nodes as a count can come to, and no index as many entries: a page holds few nodes, and a
+    /// space few pages.
+    pub fn nodes_and_entries_are_few(&self)
+        ensures nodes { (table : ℕ) → length (table_nodes self.now table) < 2 ^ 34 }
+        ensures entries { (table index : ℕ) → length (index_entries self.now table index) < 2 ^ 34 }
+    {
+        nodes_fit_their_space();
+        entries_fit_their_space();
+        let _ = self.space.len();
+    }
+}
+
+/// The place of a table among the tables.
+fn table_place(tables: &[Table], table: TableId) -> Option<usize>
+    ensures { result ≡ position_from (λ t. t.table.0 == table.0) 0 tables.now }
+{
+    tables.iter().position(|named| named.table == table)
+}

@@ -1,0 +1,5 @@
+//! Tests of the trees of all tables.
+#![tactic(auto)]
+
+#[cfg(test)]
+mod calls;
