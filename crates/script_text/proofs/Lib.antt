@@ -1,2 +1,3 @@
+pub mod LabelledCalls
 pub mod Scripts
 pub mod BuiltCalls

@@ -1,4 +1,5 @@
 pub mod Calls
+pub mod CallNames
 pub mod Grammar
 pub mod Built
 pub mod Computing

@@ -3,6 +3,7 @@
 ghost use Rattle.std.specs.Prelude.{◌≡◌};
 ghost use Rattle.script_words.specs.Reading.{Reads};
 ghost use Rattle.script_text.specs.Calls as calls;
+ghost use Rattle.script_text.specs.CallNames.{reading, cursor_reading};
 ghost use Rattle.script_text.specs.Grammar.{is_skipped, words_request, line_request};
 
 use crate::calls::{
@@ -10,144 +11,87 @@ use crate::calls::{
     delete_table, escrow_update, goto_bookmark, make_key, move_to, open_table, prepare_update,
     retrieve_column, rollback, seek, set_column, set_current_index, set_index_range,
 };
+use crate::call_names::{CallName, CursorCall, call_named};
 use jet_base::{CursorId, Session};
 use script_words::arity::first_word;
 use script_words::numbers::label;
-use script_words::texts::is_word;
 use script_words::{Parts, Refusal};
 use session_local::Request;
 use std::alloc::Global;
 
-/// A call of records.
-#[tactic(auto, unfolding(crate::specs::Calls::record_call, crate::specs::Calls::only_cursor))]
-fn record_call(
-    alloc: Global,
-    name: &[u8],
-    cursor: CursorId,
-    words: &mut Parts<'_>,
-) -> Result<Request, Refusal>
-    ensures { Reads (λ request. request) result (calls.record_call name.now cursor words.old) }
-{
-    if is_word(name, b"PrepareUpdate") {
-        prepare_update(cursor, words)
-    } else if is_word(name, b"SetColumn") {
-        set_column(alloc, cursor, words)
-    } else if is_word(name, b"RetrieveColumn") {
-        retrieve_column(alloc, cursor, words)
-    } else if is_word(name, b"Update") {
-        bare(words, Request::Update { cursor })
-    } else if is_word(name, b"Delete") {
-        bare(words, Request::Delete { cursor })
-    } else if is_word(name, b"GetLock") {
-        bare(words, Request::GetLock { cursor })
-    } else if is_word(name, b"EscrowUpdate") {
-        escrow_update(alloc, cursor, words)
-    } else {
-        Err(Refusal::Bad)
-    }
-}
-
-/// A call of navigation, or else of records.
-#[tactic(auto, unfolding(crate::specs::Calls::place_call, crate::specs::Calls::only_cursor))]
-fn place_call(
-    alloc: Global,
-    name: &[u8],
-    cursor: CursorId,
-    words: &mut Parts<'_>,
-) -> Result<Request, Refusal>
-    ensures { Reads (λ request. request) result (calls.place_call name.now cursor words.old) }
-{
-    if is_word(name, b"Move") {
-        move_to(cursor, words)
-    } else if is_word(name, b"Seek") {
-        seek(cursor, words)
-    } else if is_word(name, b"SetIndexRange") {
-        set_index_range(cursor, words)
-    } else if is_word(name, b"IndexRecordCount") {
-        count(cursor, words)
-    } else if is_word(name, b"RetrieveKey") {
-        bare(words, Request::RetrieveKey { cursor })
-    } else if is_word(name, b"GetBookmark") {
-        bare(words, Request::GetBookmark { cursor })
-    } else if is_word(name, b"GotoBookmark") {
-        goto_bookmark(alloc, cursor, words)
-    } else {
-        record_call(alloc, name, cursor, words)
-    }
-}
-
-/// Any call of a cursor.
-#[tactic(auto, unfolding(crate::specs::Calls::call_of_cursor, crate::specs::Calls::only_cursor))]
+/// A call of a cursor.
+#[tactic(auto, unfolding(crate::specs::Calls::only_cursor))]
 fn call_of_cursor(
     alloc: Global,
-    name: &[u8],
+    call: CursorCall,
     cursor: CursorId,
     words: &mut Parts<'_>,
 ) -> Result<Request, Refusal>
-    ensures { Reads (λ request. request) result (calls.call_of_cursor name.now cursor words.old) }
+    ensures { Reads (λ request. request) result (cursor_reading call cursor words.old) }
 {
-    if is_word(name, b"OpenTable") {
-        open_table(alloc, cursor, words)
-    } else if is_word(name, b"CloseTable") {
-        bare(words, Request::CloseTable { cursor })
-    } else if is_word(name, b"SetCurrentIndex") {
-        set_current_index(alloc, cursor, words)
-    } else if is_word(name, b"MakeKey") {
-        make_key(alloc, cursor, words)
-    } else {
-        place_call(alloc, name, cursor, words)
+    match call {
+        CursorCall::OpenTable => open_table(alloc, cursor, words),
+        CursorCall::CloseTable => bare(words, Request::CloseTable { cursor }),
+        CursorCall::SetCurrentIndex => set_current_index(alloc, cursor, words),
+        CursorCall::MakeKey => make_key(alloc, cursor, words),
+        CursorCall::Move => move_to(cursor, words),
+        CursorCall::Seek => seek(cursor, words),
+        CursorCall::SetIndexRange => set_index_range(cursor, words),
+        CursorCall::IndexRecordCount => count(cursor, words),
+        CursorCall::RetrieveKey => bare(words, Request::RetrieveKey { cursor }),
+        CursorCall::GetBookmark => bare(words, Request::GetBookmark { cursor }),
+        CursorCall::GotoBookmark => goto_bookmark(alloc, cursor, words),
+        CursorCall::PrepareUpdate => prepare_update(cursor, words),
+        CursorCall::SetColumn => set_column(alloc, cursor, words),
+        CursorCall::RetrieveColumn => retrieve_column(alloc, cursor, words),
+        CursorCall::Update => bare(words, Request::Update { cursor }),
+        CursorCall::Delete => bare(words, Request::Delete { cursor }),
+        CursorCall::GetLock => bare(words, Request::GetLock { cursor }),
+        CursorCall::EscrowUpdate => escrow_update(alloc, cursor, words),
     }
 }
 
 /// The label of a cursor, and then a call of it.
 #[tactic(auto, unfolding(crate::specs::Calls::cursor_call))]
-fn labelled_call(alloc: Global, name: &[u8], words: &mut Parts<'_>) -> Result<Request, Refusal>
-    ensures { Reads (λ request. request) result (calls.cursor_call (calls.call_of_cursor name.now) words.old) }
+fn labelled_call(
+    alloc: Global,
+    call: CursorCall,
+    words: &mut Parts<'_>,
+) -> Result<Request, Refusal>
+    ensures { Reads (λ request. request) result (calls.cursor_call (cursor_reading call) words.old) }
 {
     let word = first_word(words)?;
     let cursor = CursorId(label(word)?);
-    call_of_cursor(alloc, name, cursor, words)
+    call_of_cursor(alloc, call, cursor, words)
 }
 
-/// A call of the schema, or else of a cursor.
-#[tactic(auto, unfolding(crate::specs::Calls::schema_call))]
-fn schema_call(alloc: Global, name: &[u8], words: &mut Parts<'_>) -> Result<Request, Refusal>
-    ensures { Reads (λ request. request) result (calls.schema_call name.now words.old) }
+/// A call by its name.
+fn call_by_name(alloc: Global, call: CallName, words: &mut Parts<'_>) -> Result<Request, Refusal>
+    ensures { Reads (λ request. request) result (reading call words.old) }
 {
-    if is_word(name, b"CreateTable") {
-        create_table(alloc, words)
-    } else if is_word(name, b"DeleteTable") {
-        delete_table(alloc, words)
-    } else if is_word(name, b"AddColumn") {
-        add_column(alloc, words)
-    } else if is_word(name, b"DeleteColumn") {
-        delete_column(alloc, words)
-    } else if is_word(name, b"CreateIndex") {
-        create_index(alloc, words)
-    } else if is_word(name, b"DeleteIndex") {
-        delete_index(alloc, words)
-    } else {
-        labelled_call(alloc, name, words)
+    match call {
+        CallName::BeginSession => bare(words, Request::BeginSession),
+        CallName::EndSession => bare(words, Request::EndSession),
+        CallName::BeginTransaction => bare(words, Request::BeginTransaction),
+        CallName::CommitTransaction => commit(words),
+        CallName::Rollback => rollback(words),
+        CallName::CreateTable => create_table(alloc, words),
+        CallName::DeleteTable => delete_table(alloc, words),
+        CallName::AddColumn => add_column(alloc, words),
+        CallName::DeleteColumn => delete_column(alloc, words),
+        CallName::CreateIndex => create_index(alloc, words),
+        CallName::DeleteIndex => delete_index(alloc, words),
+        CallName::OfCursor(call) => labelled_call(alloc, call, words),
     }
 }
 
 /// Any call.
-#[tactic(auto, unfolding(crate::specs::Calls::named_call))]
 fn named_call(alloc: Global, name: &[u8], words: &mut Parts<'_>) -> Result<Request, Refusal>
     ensures { Reads (λ request. request) result (calls.named_call name.now words.old) }
 {
-    if is_word(name, b"BeginSession") {
-        bare(words, Request::BeginSession)
-    } else if is_word(name, b"EndSession") {
-        bare(words, Request::EndSession)
-    } else if is_word(name, b"BeginTransaction") {
-        bare(words, Request::BeginTransaction)
-    } else if is_word(name, b"CommitTransaction") {
-        commit(words)
-    } else if is_word(name, b"Rollback") {
-        rollback(words)
-    } else {
-        schema_call(alloc, name, words)
+    match call_named(name) {
+        Some(call) => call_by_name(alloc, call, words),
+        None => Err(Refusal::Bad),
     }
 }
 

@@ -2,6 +2,7 @@
 #![tactic(auto)]
 
 mod built;
+mod call_names;
 mod calls;
 mod choices;
 mod flags;
