@@ -8,6 +8,7 @@ mod choices;
 mod flags;
 mod grammar;
 mod index_words;
+mod kept;
 mod script;
 
 pub use script::{ScriptFault, parse};
