@@ -27,19 +27,19 @@ none_kept false = refl
 
 of_session : (n : ℕ) (found : Option Request) (old : List (Session × Request))
     → (((found >>= λ request. Some (n, request)) >>= λ said. if said.0 == 1 && is_built_call said.1 then Some said else None) >>= kept_line old)
-      ≡ (if n == 1 then (found >>= kept_behind old) else None)
+    ≡ (if n == 1 then (found >>= kept_behind old) else None)
 of_session n None old = none_kept (n == 1)
 of_session n (Some request) old = kept_found (n == 1) n request old refl
 
 of_label : (session : Option ℕ) (found : Option Request) (old : List (Session × Request))
     → (((session >>= λ n. found >>= λ request. Some (n, request)) >>= λ said. if said.0 == 1 && is_built_call said.1 then Some said else None) >>= kept_line old)
-      ≡ (session >>= λ n. if n == 1 then (found >>= kept_behind old) else None)
+    ≡ (session >>= λ n. if n == 1 then (found >>= kept_behind old) else None)
 of_label None found old = refl
 of_label (Some n) found old = of_session n found old
 
 of_words : (words : List (List ℕ)) (old : List (Session × Request))
     → ((words_request words >>= λ said. if said.0 == 1 && is_built_call said.1 then Some said else None) >>= kept_line old)
-      ≡ (first_word words >>= λ first. first_word first.1 >>= λ second. label_of first.0 >>= λ n. if n == 1 then (named_call second.0 second.1 >>= kept_behind old) else None)
+    ≡ (first_word words >>= λ first. first_word first.1 >>= λ second. label_of first.0 >>= λ n. if n == 1 then (named_call second.0 second.1 >>= kept_behind old) else None)
 unfolding words_request
 of_words [] old = refl
 of_words (session ∷ []) old = refl
@@ -48,7 +48,7 @@ of_words (session ∷ name ∷ words) old = of_label (label_of session) (named_c
 -- the calls so far with that of a line, step by step
 pub built_call-steps : (line : List ℕ) (old : List (Session × Request))
     → (built_call line >>= kept_line old)
-      ≡ (first_word (words_of line) >>= λ first. first_word first.1 >>= λ second. label_of first.0 >>= λ n. if n == 1 then (named_call second.0 second.1 >>= kept_behind old) else None)
+    ≡ (first_word (words_of line) >>= λ first. first_word first.1 >>= λ second. label_of first.0 >>= λ n. if n == 1 then (named_call second.0 second.1 >>= kept_behind old) else None)
 unfolding built_call line_request
 built_call-steps line old = of_words (words_of line) old
 

@@ -21,19 +21,6 @@ use script_words::{Parts, Refusal};
 use session_local::Request;
 use std::alloc::Global;
 
-/// A call without words.
-#[tactic(auto, unfolding(crate::specs::Calls::bare_call))]
-pub fn bare(
-    words: &mut Parts<'_>,
-    request: Request,
-    kept: &mut Calls,
-) -> Result<(), Refusal>
-    ensures { Reads (λ _. kept.new.items) result (calls_with kept.old.items (calls.bare_call request words.old)) }
-{
-    no_more(words)?;
-    keep(kept, request)
-}
-
 /// `CommitTransaction`, with `lazy` or without.
 #[tactic(auto, unfolding(crate::specs::Calls::commit_call))]
 pub fn commit(words: &mut Parts<'_>, kept: &mut Calls) -> Result<(), Refusal>
@@ -84,12 +71,15 @@ pub fn add_column(alloc: Global, words: &mut Parts<'_>, kept: &mut Calls) -> Res
     let column = name(alloc, column)?;
     let kind = column_type(kind)?;
     let flags = column_flags(words)?;
-    keep(kept, Request::AddColumn {
-        table,
-        column,
-        kind,
-        flags,
-    })
+    keep(
+        kept,
+        Request::AddColumn {
+            table,
+            column,
+            kind,
+            flags,
+        },
+    )
 }
 
 /// `DeleteColumn T C`.
@@ -126,14 +116,17 @@ pub fn create_index(alloc: Global, words: &mut Parts<'_>, kept: &mut Calls) -> R
     if !are_index_words(words) {
         return Err(Refusal::Bad);
     }
-    keep(kept, Request::CreateIndex {
-        table,
-        index,
-        flags: index_flags(words),
-        key_most: 255,
-        segments: segments(alloc, words)?,
-        conditions: conditions(alloc, words)?,
-    })
+    keep(
+        kept,
+        Request::CreateIndex {
+            table,
+            index,
+            flags: index_flags(words),
+            key_most: 255,
+            segments: segments(alloc, words)?,
+            conditions: conditions(alloc, words)?,
+        },
+    )
 }
 
 /// `OpenTable c T`.
@@ -162,10 +155,13 @@ pub fn set_current_index(
     ensures { Reads (λ _. kept.new.items) result (calls_with kept.old.items (calls.set_current_index_call cursor words.old)) }
 {
     if words.is_empty() {
-        return keep(kept, Request::SetCurrentIndex {
-            cursor,
-            index: None,
-        });
+        return keep(
+            kept,
+            Request::SetCurrentIndex {
+                cursor,
+                index: None,
+            },
+        );
     }
     let index = only_word(words)?;
     let index = Some(name(alloc, index)?);
@@ -174,17 +170,25 @@ pub fn set_current_index(
 
 /// `MakeKey c VALUE`, or `MakeKey c new VALUE`.
 #[tactic(auto, unfolding(crate::specs::Calls::make_key_call))]
-pub fn make_key(alloc: Global, cursor: CursorId, words: &mut Parts<'_>, kept: &mut Calls) -> Result<(), Refusal>
+pub fn make_key(
+    alloc: Global,
+    cursor: CursorId,
+    words: &mut Parts<'_>,
+    kept: &mut Calls,
+) -> Result<(), Refusal>
     ensures { Reads (λ _. kept.new.items) result (calls_with kept.old.items (calls.make_key_call cursor words.old)) }
 {
     let fresh = takes_word(words, b"new");
     let value = only_word(words)?;
     let value = given(alloc, value)?;
-    keep(kept, Request::MakeKey {
-        cursor,
-        fresh,
-        value,
-    })
+    keep(
+        kept,
+        Request::MakeKey {
+            cursor,
+            fresh,
+            value,
+        },
+    )
 }
 
 /// `Move c WAY`.
@@ -209,24 +213,37 @@ pub fn seek(cursor: CursorId, words: &mut Parts<'_>, kept: &mut Calls) -> Result
 
 /// `inclusive` or nothing, behind `SetIndexRange c` and perhaps `upper`.
 #[tactic(auto, unfolding(crate::specs::Calls::limit_call))]
-fn limit(cursor: CursorId, upper: bool, words: &mut Parts<'_>, kept: &mut Calls) -> Result<(), Refusal>
+fn limit(
+    cursor: CursorId,
+    upper: bool,
+    words: &mut Parts<'_>,
+    kept: &mut Calls,
+) -> Result<(), Refusal>
     ensures { Reads (λ _. kept.new.items) result (calls_with kept.old.items (calls.limit_call cursor upper words.old)) }
 {
     let inclusive = optional_word(words, b"inclusive")?;
-    keep(kept, Request::SetIndexRange {
-        cursor,
-        upper,
-        inclusive,
-    })
+    keep(
+        kept,
+        Request::SetIndexRange {
+            cursor,
+            upper,
+            inclusive,
+        },
+    )
 }
 
 /// `SetIndexRange c`, with `upper`, with `inclusive`, with both in this order, or with `remove`.
-#[tactic(auto, unfolding(crate::specs::Calls::set_index_range_call))]
-pub fn set_index_range(cursor: CursorId, words: &mut Parts<'_>, kept: &mut Calls) -> Result<(), Refusal>
+#[tactic(auto, unfolding(crate::specs::Calls::set_index_range_call, crate::specs::Calls::bare_call))]
+pub fn set_index_range(
+    cursor: CursorId,
+    words: &mut Parts<'_>,
+    kept: &mut Calls,
+) -> Result<(), Refusal>
     ensures { Reads (λ _. kept.new.items) result (calls_with kept.old.items (calls.set_index_range_call cursor words.old)) }
 {
     if takes_word(words, b"remove") {
-        return bare(words, Request::RemoveIndexRange { cursor }, kept);
+        no_more(words)?;
+        return keep(kept, Request::RemoveIndexRange { cursor });
     }
     let upper = takes_word(words, b"upper");
     limit(cursor, upper, words, kept)
@@ -242,10 +259,13 @@ pub fn count(cursor: CursorId, words: &mut Parts<'_>, kept: &mut Calls) -> Resul
     }
     let most = only_word(words)?;
     let most = number_within(1, 4_294_967_295, most)?;
-    keep(kept, Request::IndexRecordCount {
-        cursor,
-        most: Some(most as u32),
-    })
+    keep(
+        kept,
+        Request::IndexRecordCount {
+            cursor,
+            most: Some(most as u32),
+        },
+    )
 }
 
 /// `GotoBookmark c x:HEX`.
@@ -261,15 +281,22 @@ pub fn goto_bookmark(
     let word = only_word(words)?;
     let text = after_prefix(word, b"x:").ok_or(Refusal::Bad)?;
     let bytes = hex_bytes(alloc, text)?;
-    keep(kept, Request::GotoBookmark {
-        cursor,
-        bookmark: Octets::new(bytes),
-    })
+    keep(
+        kept,
+        Request::GotoBookmark {
+            cursor,
+            bookmark: Octets::new(bytes),
+        },
+    )
 }
 
 /// `PrepareUpdate c HOW`.
 #[tactic(auto, unfolding(crate::specs::Calls::prepare_update_call))]
-pub fn prepare_update(cursor: CursorId, words: &mut Parts<'_>, kept: &mut Calls) -> Result<(), Refusal>
+pub fn prepare_update(
+    cursor: CursorId,
+    words: &mut Parts<'_>,
+    kept: &mut Calls,
+) -> Result<(), Refusal>
     ensures { Reads (λ _. kept.new.items) result (calls_with kept.old.items (calls.prepare_update_call cursor words.old)) }
 {
     let word = only_word(words)?;
@@ -300,12 +327,15 @@ pub fn set_column(
     let column = name(alloc, column)?;
     let sequence = sequence(sequence_word)?;
     let value = given(alloc, value)?;
-    keep(kept, Request::SetColumn {
-        cursor,
-        column,
-        sequence,
-        value,
-    })
+    keep(
+        kept,
+        Request::SetColumn {
+            cursor,
+            column,
+            sequence,
+            value,
+        },
+    )
 }
 
 /// The greatest number of bytes to answer: `max N`, or 255 where nothing is written.
@@ -340,13 +370,16 @@ pub fn retrieve_column(
     let sequence = sequence(sequence_word)?;
     let copy = takes_word(words, b"copy");
     let most = most_bytes(words)?;
-    keep(kept, Request::RetrieveColumn {
-        cursor,
-        column,
-        sequence,
-        copy,
-        most,
-    })
+    keep(
+        kept,
+        Request::RetrieveColumn {
+            cursor,
+            column,
+            sequence,
+            copy,
+            most,
+        },
+    )
 }
 
 /// `EscrowUpdate c C AMOUNT`.
@@ -362,9 +395,12 @@ pub fn escrow_update(
     let (column, amount) = two_words(words)?;
     let column = name(alloc, column)?;
     let amount = signed_number(2_147_483_648, amount)?;
-    keep(kept, Request::EscrowUpdate {
-        cursor,
-        column,
-        amount: amount as i32,
-    })
+    keep(
+        kept,
+        Request::EscrowUpdate {
+            cursor,
+            column,
+            amount: amount as i32,
+        },
+    )
 }

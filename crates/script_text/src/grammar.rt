@@ -7,22 +7,24 @@ ghost use Rattle.script_text.specs.CallNames.{reading, cursor_reading};
 ghost use Rattle.script_text.specs.Grammar.{is_skipped};
 ghost use Rattle.script_text.specs.Kept.{calls_with};
 
+use crate::bare_calls::{
+    begin_session, begin_transaction, close_table, delete, end_session, get_bookmark, get_lock,
+    retrieve_key, update,
+};
+use crate::call_names::{CallName, CursorCall, call_named};
 use crate::calls::{
-    add_column, bare, commit, count, create_index, create_table, delete_column, delete_index,
+    add_column, commit, count, create_index, create_table, delete_column, delete_index,
     delete_table, escrow_update, goto_bookmark, make_key, move_to, open_table, prepare_update,
     retrieve_column, rollback, seek, set_column, set_current_index, set_index_range,
 };
-use crate::call_names::{CallName, CursorCall, call_named};
 use crate::kept::Calls;
 use jet_base::CursorId;
 use script_words::arity::first_word;
 use script_words::numbers::label;
 use script_words::{Parts, Refusal};
-use session_local::Request;
 use std::alloc::Global;
 
 /// A call of a cursor.
-#[tactic(auto, unfolding(crate::specs::Calls::only_cursor))]
 fn call_of_cursor(
     alloc: Global,
     call: CursorCall,
@@ -34,22 +36,22 @@ fn call_of_cursor(
 {
     match call {
         CursorCall::OpenTable => open_table(alloc, cursor, words, kept),
-        CursorCall::CloseTable => bare(words, Request::CloseTable { cursor }, kept),
+        CursorCall::CloseTable => close_table(cursor, words, kept),
         CursorCall::SetCurrentIndex => set_current_index(alloc, cursor, words, kept),
         CursorCall::MakeKey => make_key(alloc, cursor, words, kept),
         CursorCall::Move => move_to(cursor, words, kept),
         CursorCall::Seek => seek(cursor, words, kept),
         CursorCall::SetIndexRange => set_index_range(cursor, words, kept),
         CursorCall::IndexRecordCount => count(cursor, words, kept),
-        CursorCall::RetrieveKey => bare(words, Request::RetrieveKey { cursor }, kept),
-        CursorCall::GetBookmark => bare(words, Request::GetBookmark { cursor }, kept),
+        CursorCall::RetrieveKey => retrieve_key(cursor, words, kept),
+        CursorCall::GetBookmark => get_bookmark(cursor, words, kept),
         CursorCall::GotoBookmark => goto_bookmark(alloc, cursor, words, kept),
         CursorCall::PrepareUpdate => prepare_update(cursor, words, kept),
         CursorCall::SetColumn => set_column(alloc, cursor, words, kept),
         CursorCall::RetrieveColumn => retrieve_column(alloc, cursor, words, kept),
-        CursorCall::Update => bare(words, Request::Update { cursor }, kept),
-        CursorCall::Delete => bare(words, Request::Delete { cursor }, kept),
-        CursorCall::GetLock => bare(words, Request::GetLock { cursor }, kept),
+        CursorCall::Update => update(cursor, words, kept),
+        CursorCall::Delete => delete(cursor, words, kept),
+        CursorCall::GetLock => get_lock(cursor, words, kept),
         CursorCall::EscrowUpdate => escrow_update(alloc, cursor, words, kept),
     }
 }
@@ -70,13 +72,18 @@ fn labelled_call(
 }
 
 /// A call by its name.
-fn call_by_name(alloc: Global, call: CallName, words: &mut Parts<'_>, kept: &mut Calls) -> Result<(), Refusal>
+fn call_by_name(
+    alloc: Global,
+    call: CallName,
+    words: &mut Parts<'_>,
+    kept: &mut Calls,
+) -> Result<(), Refusal>
     ensures { Reads (λ _. kept.new.items) result (calls_with kept.old.items (reading call words.old)) }
 {
     match call {
-        CallName::BeginSession => bare(words, Request::BeginSession, kept),
-        CallName::EndSession => bare(words, Request::EndSession, kept),
-        CallName::BeginTransaction => bare(words, Request::BeginTransaction, kept),
+        CallName::BeginSession => begin_session(words, kept),
+        CallName::EndSession => end_session(words, kept),
+        CallName::BeginTransaction => begin_transaction(words, kept),
         CallName::CommitTransaction => commit(words, kept),
         CallName::Rollback => rollback(words, kept),
         CallName::CreateTable => create_table(alloc, words, kept),
@@ -90,7 +97,12 @@ fn call_by_name(alloc: Global, call: CallName, words: &mut Parts<'_>, kept: &mut
 }
 
 /// A call by what is written for its name.
-pub fn named_call(alloc: Global, name: &[u8], words: &mut Parts<'_>, kept: &mut Calls) -> Result<(), Refusal>
+pub fn named_call(
+    alloc: Global,
+    name: &[u8],
+    words: &mut Parts<'_>,
+    kept: &mut Calls,
+) -> Result<(), Refusal>
     ensures { Reads (λ _. kept.new.items) result (calls_with kept.old.items (calls.named_call name.now words.old)) }
 {
     match call_named(name) {

@@ -13,6 +13,7 @@ pub type Calls = Vec<(Session, Request)>;
 /// Puts a call of session 1 behind the others, where it is built.
 ///
 /// A call is moved once, from the place where it is made to its place in the list.
+#[inline(always)]
 pub fn keep(kept: &mut Calls, request: Request) -> Result<(), Refusal>
     ensures { Reads (λ _. kept.new.items) result (kept_behind kept.old.items request) }
 {

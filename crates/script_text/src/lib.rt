@@ -1,6 +1,7 @@
 //! Scripts: the grammar of a script's lines, and the calls that they are.
 #![tactic(auto)]
 
+mod bare_calls;
 mod built;
 mod call_names;
 mod calls;
