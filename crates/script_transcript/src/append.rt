@@ -19,16 +19,31 @@ pub fn append(text: &mut Vec<u8>, bytes: &[u8])
     text.extend_from_slice(bytes).unwrap();
 }
 
-/// Puts a number at the end, of at most 20 digits.
-#[tactic(auto, using(crate::proofs::Digits::twenty_digits))]
+/// Puts one byte at the end.
+#[inline]
+fn append_byte(text: &mut Vec<u8>, byte: u8)
+    requires { vec_len text.old + 1 ≤ vec_capacity text.old }
+    ensures items { text.new.items ≡ text.old.items ++ byte ∷ [] }
+    ensures len { vec_len text.new ≡ vec_len text.old + 1 }
+    ensures room { vec_capacity text.old ≤ vec_capacity text.new }
+{
+    text.push(byte).unwrap();
+}
+
+/// Puts a number at the end, of at most 20 digits. Labels of sessions have one digit mostly, which needs no buffer.
+#[tactic(auto, using(crate::proofs::Digits::decimal_digits))]
 pub fn append_number(text: &mut Vec<u8>, number: u64)
     requires { vec_len text.old + 20 ≤ vec_capacity text.old }
     ensures items { text.new.items ≡ text.old.items ++ decimal number }
     ensures len { vec_len text.new ≤ vec_len text.old + 20 }
     ensures room { vec_capacity text.old ≤ vec_capacity text.new }
 {
-    let mut buffer = Buffer::new();
-    append(text, buffer.format(number).as_bytes());
+    if number < 10 {
+        append_byte(text, b'0' + number as u8);
+    } else {
+        let mut buffer = Buffer::new();
+        append(text, buffer.format(number).as_bytes());
+    }
 }
 
 /// Puts a number at the end, behind a minus sign where it is below zero.

@@ -72,12 +72,12 @@ position_some p xs k here inside =
 pub first_byte : (byte : ℕ) (text : List ℕ) (found : Option ℕ) → IsFirstByte (is_byte byte) text found → found ≡ position (λ b. b == byte) text
 first_byte byte text None nowhere =
     let all : position_or_len (λ b. b == byte) text ≡ length text =
-        prefix_len_is (λ b. not (b == byte)) text (length text) 0 (omega arith) (λ k h. not_passed _ (nowhere k (omega arith) h)) (λ h. absurd (omega arith)) in
+    prefix_len_is (λ b. not (b == byte)) text (length text) 0 (omega arith) (λ k h. not_passed _ (nowhere k (omega arith) h)) (λ h. absurd (omega arith)) in
     position_none (λ b. b == byte) text (omega arith)
 first_byte byte text (Some k) (first, here) =
     let inside : k < length text = first.high in
     let at : position_or_len (λ b. b == byte) text ≡ k =
-        prefix_len_is (λ b. not (b == byte)) text k 0 (omega arith) (λ j h. not_passed _ (first.before j (omega arith) h)) (λ h. passed _ here) in
+    prefix_len_is (λ b. not (b == byte)) text k 0 (omega arith) (λ j h. not_passed _ (first.before j (omega arith) h)) (λ h. passed _ here) in
     position_some (λ b. b == byte) text k at inside
 
 pub ruleset first_bytes = first_byte
