@@ -1,2 +1,4 @@
+pub mod BuiltLines
+pub mod LabelledCalls
 pub mod Scripts
 pub mod BuiltCalls

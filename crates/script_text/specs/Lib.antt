@@ -1,4 +1,6 @@
 pub mod Calls
+pub mod CallNames
+pub mod Kept
 pub mod Grammar
 pub mod Built
 pub mod Computing

@@ -2,21 +2,27 @@
 
 ghost use Rattle.script_words.specs.Reading.{Reads};
 ghost use Rattle.script_text.specs.Built.{built_call};
+ghost use Rattle.script_text.specs.Kept.{calls_with_line};
 
-use crate::grammar::line_request;
-use jet_base::Session;
-use script_words::Refusal;
-use session_local::{Request, is_built_call};
+use crate::grammar::named_call;
+use crate::kept::Calls;
+use script_words::arity::first_word;
+use script_words::numbers::label;
+use script_words::{Parts, Refusal};
 use std::alloc::Global;
 
-/// The call of a line, where the line is in the grammar, of session 1 and built.
-#[tactic(auto, unfolding(crate::specs::Built::built_call))]
-pub fn built_call(alloc: Global, line: &[u8]) -> Result<(Session, Request), Refusal>
-    ensures { Reads (λ said. (said.0.0, said.1)) result (built_call line.now) }
+/// Puts the call of a line behind the others, where the line is in the grammar, of session 1 and built.
+///
+/// A line is the label of a session, the name of a call, and the words of that call.
+#[tactic(auto, using(crate::proofs::BuiltLines::steps))]
+pub fn keep_built_call(alloc: Global, line: &[u8], kept: &mut Calls) -> Result<(), Refusal>
+    ensures { Reads (λ _. kept.new.items) result (calls_with_line kept.old.items (built_call line.now)) }
 {
-    let (session, request) = line_request(alloc, line)?;
-    if session.0 == 1 && is_built_call(&request) {
-        Ok((session, request))
+    let mut words = Parts::of(line, b' ');
+    let session = first_word(&mut words)?;
+    let name = first_word(&mut words)?;
+    if label(session)? == 1 {
+        named_call(alloc, name, &mut words, kept)
     } else {
         Err(Refusal::Bad)
     }

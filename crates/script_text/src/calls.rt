@@ -4,12 +4,13 @@ ghost use Rattle.std.specs.Prelude.{◌≡◌, List, ℕ, Some};
 ghost use Rattle.jet_base.specs.declared.ids.CursorId.{CursorId};
 ghost use Rattle.session_local.specs.declared.request.Request.TheVariants as call;
 ghost use Rattle.script_words.specs.Reading.{Reads};
-ghost use Rattle.script_words.specs.Words.{label_of};
+ghost use Rattle.script_text.specs.Kept.{calls_with};
 ghost use Rattle.script_text.specs.Calls as calls;
 
 use crate::choices::{column_type, comparison, preparation, way};
 use crate::flags::{after_prefix, column_flags, index_flags};
 use crate::index_words::{are_index_words, conditions, segments};
+use crate::kept::{Calls, keep};
 use jet_base::{CursorId, Name, Octets};
 use script_words::arity::{
     first_word, no_more, only_word, optional_word, takes_word, three_words, two_words,
@@ -20,57 +21,48 @@ use script_words::{Parts, Refusal};
 use session_local::Request;
 use std::alloc::Global;
 
-/// A call without words.
-#[tactic(auto, unfolding(crate::specs::Calls::bare_call))]
-pub fn bare(words: &mut Parts<'_>, request: Request) -> Result<Request, Refusal>
-    ensures { Reads (λ request. request) result (calls.bare_call request words.old) }
-{
-    no_more(words)?;
-    Ok(request)
-}
-
 /// `CommitTransaction`, with `lazy` or without.
 #[tactic(auto, unfolding(crate::specs::Calls::commit_call))]
-pub fn commit(words: &mut Parts<'_>) -> Result<Request, Refusal>
-    ensures { Reads (λ request. request) result (calls.commit_call words.old) }
+pub fn commit(words: &mut Parts<'_>, kept: &mut Calls) -> Result<(), Refusal>
+    ensures { Reads (λ _. kept.new.items) result (calls_with kept.old.items (calls.commit_call words.old)) }
 {
     let lazy = optional_word(words, b"lazy")?;
-    Ok(Request::CommitTransaction { lazy })
+    keep(kept, Request::CommitTransaction { lazy })
 }
 
 /// `Rollback`, with `all` or without.
 #[tactic(auto, unfolding(crate::specs::Calls::rollback_call))]
-pub fn rollback(words: &mut Parts<'_>) -> Result<Request, Refusal>
-    ensures { Reads (λ request. request) result (calls.rollback_call words.old) }
+pub fn rollback(words: &mut Parts<'_>, kept: &mut Calls) -> Result<(), Refusal>
+    ensures { Reads (λ _. kept.new.items) result (calls_with kept.old.items (calls.rollback_call words.old)) }
 {
     let all = optional_word(words, b"all")?;
-    Ok(Request::Rollback { all })
+    keep(kept, Request::Rollback { all })
 }
 
 /// `CreateTable T`.
 #[tactic(auto, unfolding(crate::specs::Calls::table_call))]
-pub fn create_table(alloc: Global, words: &mut Parts<'_>) -> Result<Request, Refusal>
-    ensures { Reads (λ request. request) result (calls.table_call call.CreateTable words.old) }
+pub fn create_table(alloc: Global, words: &mut Parts<'_>, kept: &mut Calls) -> Result<(), Refusal>
+    ensures { Reads (λ _. kept.new.items) result (calls_with kept.old.items (calls.table_call call.CreateTable words.old)) }
 {
     let table = only_word(words)?;
     let table = name(alloc, table)?;
-    Ok(Request::CreateTable { table })
+    keep(kept, Request::CreateTable { table })
 }
 
 /// `DeleteTable T`.
 #[tactic(auto, unfolding(crate::specs::Calls::table_call))]
-pub fn delete_table(alloc: Global, words: &mut Parts<'_>) -> Result<Request, Refusal>
-    ensures { Reads (λ request. request) result (calls.table_call call.DeleteTable words.old) }
+pub fn delete_table(alloc: Global, words: &mut Parts<'_>, kept: &mut Calls) -> Result<(), Refusal>
+    ensures { Reads (λ _. kept.new.items) result (calls_with kept.old.items (calls.table_call call.DeleteTable words.old)) }
 {
     let table = only_word(words)?;
     let table = name(alloc, table)?;
-    Ok(Request::DeleteTable { table })
+    keep(kept, Request::DeleteTable { table })
 }
 
 /// `AddColumn T C TYPE FLAGS`.
 #[tactic(auto, unfolding(crate::specs::Calls::add_column_call))]
-pub fn add_column(alloc: Global, words: &mut Parts<'_>) -> Result<Request, Refusal>
-    ensures { Reads (λ request. request) result (calls.add_column_call words.old) }
+pub fn add_column(alloc: Global, words: &mut Parts<'_>, kept: &mut Calls) -> Result<(), Refusal>
+    ensures { Reads (λ _. kept.new.items) result (calls_with kept.old.items (calls.add_column_call words.old)) }
 {
     let table = first_word(words)?;
     let column = first_word(words)?;
@@ -79,40 +71,43 @@ pub fn add_column(alloc: Global, words: &mut Parts<'_>) -> Result<Request, Refus
     let column = name(alloc, column)?;
     let kind = column_type(kind)?;
     let flags = column_flags(words)?;
-    Ok(Request::AddColumn {
-        table,
-        column,
-        kind,
-        flags,
-    })
+    keep(
+        kept,
+        Request::AddColumn {
+            table,
+            column,
+            kind,
+            flags,
+        },
+    )
 }
 
 /// `DeleteColumn T C`.
 #[tactic(auto, unfolding(crate::specs::Calls::part_call))]
-pub fn delete_column(alloc: Global, words: &mut Parts<'_>) -> Result<Request, Refusal>
-    ensures { Reads (λ request. request) result (calls.part_call call.DeleteColumn words.old) }
+pub fn delete_column(alloc: Global, words: &mut Parts<'_>, kept: &mut Calls) -> Result<(), Refusal>
+    ensures { Reads (λ _. kept.new.items) result (calls_with kept.old.items (calls.part_call call.DeleteColumn words.old)) }
 {
     let (table, column) = two_words(words)?;
     let table = name(alloc, table)?;
     let column = name(alloc, column)?;
-    Ok(Request::DeleteColumn { table, column })
+    keep(kept, Request::DeleteColumn { table, column })
 }
 
 /// `DeleteIndex T I`.
 #[tactic(auto, unfolding(crate::specs::Calls::part_call))]
-pub fn delete_index(alloc: Global, words: &mut Parts<'_>) -> Result<Request, Refusal>
-    ensures { Reads (λ request. request) result (calls.part_call call.DeleteIndex words.old) }
+pub fn delete_index(alloc: Global, words: &mut Parts<'_>, kept: &mut Calls) -> Result<(), Refusal>
+    ensures { Reads (λ _. kept.new.items) result (calls_with kept.old.items (calls.part_call call.DeleteIndex words.old)) }
 {
     let (table, index) = two_words(words)?;
     let table = name(alloc, table)?;
     let index = name(alloc, index)?;
-    Ok(Request::DeleteIndex { table, index })
+    keep(kept, Request::DeleteIndex { table, index })
 }
 
 /// `CreateIndex T I WORDS`.
 #[tactic(auto, unfolding(crate::specs::Calls::create_index_call))]
-pub fn create_index(alloc: Global, words: &mut Parts<'_>) -> Result<Request, Refusal>
-    ensures { Reads (λ request. request) result (calls.create_index_call words.old) }
+pub fn create_index(alloc: Global, words: &mut Parts<'_>, kept: &mut Calls) -> Result<(), Refusal>
+    ensures { Reads (λ _. kept.new.items) result (calls_with kept.old.items (calls.create_index_call words.old)) }
 {
     let table = first_word(words)?;
     let index = first_word(words)?;
@@ -121,14 +116,17 @@ pub fn create_index(alloc: Global, words: &mut Parts<'_>) -> Result<Request, Ref
     if !are_index_words(words) {
         return Err(Refusal::Bad);
     }
-    Ok(Request::CreateIndex {
-        table,
-        index,
-        flags: index_flags(words),
-        key_most: 255,
-        segments: segments(alloc, words)?,
-        conditions: conditions(alloc, words)?,
-    })
+    keep(
+        kept,
+        Request::CreateIndex {
+            table,
+            index,
+            flags: index_flags(words),
+            key_most: 255,
+            segments: segments(alloc, words)?,
+            conditions: conditions(alloc, words)?,
+        },
+    )
 }
 
 /// `OpenTable c T`.
@@ -137,12 +135,13 @@ pub fn open_table(
     alloc: Global,
     cursor: CursorId,
     words: &mut Parts<'_>,
-) -> Result<Request, Refusal>
-    ensures { Reads (λ request. request) result (calls.open_table_call cursor words.old) }
+    kept: &mut Calls,
+) -> Result<(), Refusal>
+    ensures { Reads (λ _. kept.new.items) result (calls_with kept.old.items (calls.open_table_call cursor words.old)) }
 {
     let table = only_word(words)?;
     let table = name(alloc, table)?;
-    Ok(Request::OpenTable { cursor, table })
+    keep(kept, Request::OpenTable { cursor, table })
 }
 
 /// `SetCurrentIndex c`, or with the name of an index.
@@ -151,94 +150,122 @@ pub fn set_current_index(
     alloc: Global,
     cursor: CursorId,
     words: &mut Parts<'_>,
-) -> Result<Request, Refusal>
-    ensures { Reads (λ request. request) result (calls.set_current_index_call cursor words.old) }
+    kept: &mut Calls,
+) -> Result<(), Refusal>
+    ensures { Reads (λ _. kept.new.items) result (calls_with kept.old.items (calls.set_current_index_call cursor words.old)) }
 {
     if words.is_empty() {
-        return Ok(Request::SetCurrentIndex {
-            cursor,
-            index: None,
-        });
+        return keep(
+            kept,
+            Request::SetCurrentIndex {
+                cursor,
+                index: None,
+            },
+        );
     }
     let index = only_word(words)?;
     let index = Some(name(alloc, index)?);
-    Ok(Request::SetCurrentIndex { cursor, index })
+    keep(kept, Request::SetCurrentIndex { cursor, index })
 }
 
 /// `MakeKey c VALUE`, or `MakeKey c new VALUE`.
 #[tactic(auto, unfolding(crate::specs::Calls::make_key_call))]
-pub fn make_key(alloc: Global, cursor: CursorId, words: &mut Parts<'_>) -> Result<Request, Refusal>
-    ensures { Reads (λ request. request) result (calls.make_key_call cursor words.old) }
+pub fn make_key(
+    alloc: Global,
+    cursor: CursorId,
+    words: &mut Parts<'_>,
+    kept: &mut Calls,
+) -> Result<(), Refusal>
+    ensures { Reads (λ _. kept.new.items) result (calls_with kept.old.items (calls.make_key_call cursor words.old)) }
 {
     let fresh = takes_word(words, b"new");
     let value = only_word(words)?;
     let value = given(alloc, value)?;
-    Ok(Request::MakeKey {
-        cursor,
-        fresh,
-        value,
-    })
+    keep(
+        kept,
+        Request::MakeKey {
+            cursor,
+            fresh,
+            value,
+        },
+    )
 }
 
 /// `Move c WAY`.
 #[tactic(auto, unfolding(crate::specs::Calls::move_call))]
-pub fn move_to(cursor: CursorId, words: &mut Parts<'_>) -> Result<Request, Refusal>
-    ensures { Reads (λ request. request) result (calls.move_call cursor words.old) }
+pub fn move_to(cursor: CursorId, words: &mut Parts<'_>, kept: &mut Calls) -> Result<(), Refusal>
+    ensures { Reads (λ _. kept.new.items) result (calls_with kept.old.items (calls.move_call cursor words.old)) }
 {
     let word = only_word(words)?;
     let way = way(word)?;
-    Ok(Request::Move { cursor, way })
+    keep(kept, Request::Move { cursor, way })
 }
 
 /// `Seek c COMPARISON`.
 #[tactic(auto, unfolding(crate::specs::Calls::seek_call))]
-pub fn seek(cursor: CursorId, words: &mut Parts<'_>) -> Result<Request, Refusal>
-    ensures { Reads (λ request. request) result (calls.seek_call cursor words.old) }
+pub fn seek(cursor: CursorId, words: &mut Parts<'_>, kept: &mut Calls) -> Result<(), Refusal>
+    ensures { Reads (λ _. kept.new.items) result (calls_with kept.old.items (calls.seek_call cursor words.old)) }
 {
     let word = only_word(words)?;
     let by = comparison(word)?;
-    Ok(Request::Seek { cursor, by })
+    keep(kept, Request::Seek { cursor, by })
 }
 
 /// `inclusive` or nothing, behind `SetIndexRange c` and perhaps `upper`.
 #[tactic(auto, unfolding(crate::specs::Calls::limit_call))]
-fn limit(cursor: CursorId, upper: bool, words: &mut Parts<'_>) -> Result<Request, Refusal>
-    ensures { Reads (λ request. request) result (calls.limit_call cursor upper words.old) }
+fn limit(
+    cursor: CursorId,
+    upper: bool,
+    words: &mut Parts<'_>,
+    kept: &mut Calls,
+) -> Result<(), Refusal>
+    ensures { Reads (λ _. kept.new.items) result (calls_with kept.old.items (calls.limit_call cursor upper words.old)) }
 {
     let inclusive = optional_word(words, b"inclusive")?;
-    Ok(Request::SetIndexRange {
-        cursor,
-        upper,
-        inclusive,
-    })
+    keep(
+        kept,
+        Request::SetIndexRange {
+            cursor,
+            upper,
+            inclusive,
+        },
+    )
 }
 
 /// `SetIndexRange c`, with `upper`, with `inclusive`, with both in this order, or with `remove`.
-#[tactic(auto, unfolding(crate::specs::Calls::set_index_range_call))]
-pub fn set_index_range(cursor: CursorId, words: &mut Parts<'_>) -> Result<Request, Refusal>
-    ensures { Reads (λ request. request) result (calls.set_index_range_call cursor words.old) }
+#[tactic(auto, unfolding(crate::specs::Calls::set_index_range_call, crate::specs::Calls::bare_call))]
+pub fn set_index_range(
+    cursor: CursorId,
+    words: &mut Parts<'_>,
+    kept: &mut Calls,
+) -> Result<(), Refusal>
+    ensures { Reads (λ _. kept.new.items) result (calls_with kept.old.items (calls.set_index_range_call cursor words.old)) }
 {
     if takes_word(words, b"remove") {
-        return bare(words, Request::RemoveIndexRange { cursor });
+        no_more(words)?;
+        return keep(kept, Request::RemoveIndexRange { cursor });
     }
     let upper = takes_word(words, b"upper");
-    limit(cursor, upper, words)
+    limit(cursor, upper, words, kept)
 }
 
 /// `IndexRecordCount c`, or with the most that is counted.
 #[tactic(auto, unfolding(crate::specs::Calls::count_call, crate::specs::Calls::limited_count_call))]
-pub fn count(cursor: CursorId, words: &mut Parts<'_>) -> Result<Request, Refusal>
-    ensures { Reads (λ request. request) result (calls.count_call cursor words.old) }
+pub fn count(cursor: CursorId, words: &mut Parts<'_>, kept: &mut Calls) -> Result<(), Refusal>
+    ensures { Reads (λ _. kept.new.items) result (calls_with kept.old.items (calls.count_call cursor words.old)) }
 {
     if words.is_empty() {
-        return Ok(Request::IndexRecordCount { cursor, most: None });
+        return keep(kept, Request::IndexRecordCount { cursor, most: None });
     }
     let most = only_word(words)?;
     let most = number_within(1, 4_294_967_295, most)?;
-    Ok(Request::IndexRecordCount {
-        cursor,
-        most: Some(most as u32),
-    })
+    keep(
+        kept,
+        Request::IndexRecordCount {
+            cursor,
+            most: Some(most as u32),
+        },
+    )
 }
 
 /// `GotoBookmark c x:HEX`.
@@ -247,26 +274,34 @@ pub fn goto_bookmark(
     alloc: Global,
     cursor: CursorId,
     words: &mut Parts<'_>,
-) -> Result<Request, Refusal>
-    ensures { Reads (λ request. request) result (calls.goto_bookmark_call cursor words.old) }
+    kept: &mut Calls,
+) -> Result<(), Refusal>
+    ensures { Reads (λ _. kept.new.items) result (calls_with kept.old.items (calls.goto_bookmark_call cursor words.old)) }
 {
     let word = only_word(words)?;
     let text = after_prefix(word, b"x:").ok_or(Refusal::Bad)?;
     let bytes = hex_bytes(alloc, text)?;
-    Ok(Request::GotoBookmark {
-        cursor,
-        bookmark: Octets::new(bytes),
-    })
+    keep(
+        kept,
+        Request::GotoBookmark {
+            cursor,
+            bookmark: Octets::new(bytes),
+        },
+    )
 }
 
 /// `PrepareUpdate c HOW`.
 #[tactic(auto, unfolding(crate::specs::Calls::prepare_update_call))]
-pub fn prepare_update(cursor: CursorId, words: &mut Parts<'_>) -> Result<Request, Refusal>
-    ensures { Reads (λ request. request) result (calls.prepare_update_call cursor words.old) }
+pub fn prepare_update(
+    cursor: CursorId,
+    words: &mut Parts<'_>,
+    kept: &mut Calls,
+) -> Result<(), Refusal>
+    ensures { Reads (λ _. kept.new.items) result (calls_with kept.old.items (calls.prepare_update_call cursor words.old)) }
 {
     let word = only_word(words)?;
     let how = preparation(word)?;
-    Ok(Request::PrepareUpdate { cursor, how })
+    keep(kept, Request::PrepareUpdate { cursor, how })
 }
 
 /// The place of a value in its column.
@@ -284,19 +319,23 @@ pub fn set_column(
     alloc: Global,
     cursor: CursorId,
     words: &mut Parts<'_>,
-) -> Result<Request, Refusal>
-    ensures { Reads (λ request. request) result (calls.set_column_call cursor words.old) }
+    kept: &mut Calls,
+) -> Result<(), Refusal>
+    ensures { Reads (λ _. kept.new.items) result (calls_with kept.old.items (calls.set_column_call cursor words.old)) }
 {
     let (column, sequence_word, value) = three_words(words)?;
     let column = name(alloc, column)?;
     let sequence = sequence(sequence_word)?;
     let value = given(alloc, value)?;
-    Ok(Request::SetColumn {
-        cursor,
-        column,
-        sequence,
-        value,
-    })
+    keep(
+        kept,
+        Request::SetColumn {
+            cursor,
+            column,
+            sequence,
+            value,
+        },
+    )
 }
 
 /// The greatest number of bytes to answer: `max N`, or 255 where nothing is written.
@@ -321,8 +360,9 @@ pub fn retrieve_column(
     alloc: Global,
     cursor: CursorId,
     words: &mut Parts<'_>,
-) -> Result<Request, Refusal>
-    ensures { Reads (λ request. request) result (calls.retrieve_column_call cursor words.old) }
+    kept: &mut Calls,
+) -> Result<(), Refusal>
+    ensures { Reads (λ _. kept.new.items) result (calls_with kept.old.items (calls.retrieve_column_call cursor words.old)) }
 {
     let column = first_word(words)?;
     let sequence_word = first_word(words)?;
@@ -330,13 +370,16 @@ pub fn retrieve_column(
     let sequence = sequence(sequence_word)?;
     let copy = takes_word(words, b"copy");
     let most = most_bytes(words)?;
-    Ok(Request::RetrieveColumn {
-        cursor,
-        column,
-        sequence,
-        copy,
-        most,
-    })
+    keep(
+        kept,
+        Request::RetrieveColumn {
+            cursor,
+            column,
+            sequence,
+            copy,
+            most,
+        },
+    )
 }
 
 /// `EscrowUpdate c C AMOUNT`.
@@ -345,15 +388,19 @@ pub fn escrow_update(
     alloc: Global,
     cursor: CursorId,
     words: &mut Parts<'_>,
-) -> Result<Request, Refusal>
-    ensures { Reads (λ request. request) result (calls.escrow_update_call cursor words.old) }
+    kept: &mut Calls,
+) -> Result<(), Refusal>
+    ensures { Reads (λ _. kept.new.items) result (calls_with kept.old.items (calls.escrow_update_call cursor words.old)) }
 {
     let (column, amount) = two_words(words)?;
     let column = name(alloc, column)?;
     let amount = signed_number(2_147_483_648, amount)?;
-    Ok(Request::EscrowUpdate {
-        cursor,
-        column,
-        amount: amount as i32,
-    })
+    keep(
+        kept,
+        Request::EscrowUpdate {
+            cursor,
+            column,
+            amount: amount as i32,
+        },
+    )
 }

@@ -5,7 +5,7 @@ ghost use Rattle.script_text.specs.Built.{are_built, built_lines};
 ghost use Rattle.script_text.specs.Grammar.{script_lines};
 ghost use Rattle.script_text.specs.Parsed.{calls_of};
 
-use crate::built::built_call;
+use crate::built::keep_built_call;
 use crate::grammar::is_skipped;
 use jet_base::Session;
 use script_words::{Parts, Refusal};
@@ -37,11 +37,8 @@ fn built_calls(alloc: Global, bytes: &[u8]) -> Result<Vec<(Session, Request)>, S
         if is_skipped(line) {
             continue;
         }
-        match built_call(alloc, line) {
-            Ok(call) => match calls.push(call) {
-                Ok(()) => {}
-                Err(_) => return Err(ScriptFault::OutOfMemory),
-            },
+        match keep_built_call(alloc, line, &mut calls) {
+            Ok(()) => {}
             Err(Refusal::Bad) => return Err(ScriptFault::NotBuilt(number)),
             Err(Refusal::Memory) => return Err(ScriptFault::OutOfMemory),
         }

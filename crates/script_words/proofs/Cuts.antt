@@ -1,11 +1,13 @@
 -- The first part of a text, by the place where it ends.
 use Rattle.std.proofs.Common.{◌≡◌, ℕ, ◌+◌, ◌-◌, ◌<◌, ◌≤◌, Bool, true, false, cond, not, Some, None, List, [], ◌∷◌, length, take, drop, refl, sym, ap, ◌∙◌, arith}
-use Rattle.std.specs.Prelude.{nat_lt}
+use Rattle.std.specs.Prelude.{nat_lt, ◌==◌, Option}
 use Rattle.std.specs.List.{slice_split, onto_first, position, position_or_len}
 use Rattle.std.proofs.Math.Seq.{take-length}
 use Rattle.std.proofs.lemmas.List.{length-drop}
 use Rattle.std.proofs.lemmas.List.Splits.{slice_split_first}
 use Rattle.std.proofs.lemmas.Bool.Decides.{nat_tests}
+use Rattle.std.proofs.lemmas.List.Sums.{prefix_len_is}
+use Rattle.memchr.specs.Find.{IsFirstByte, is_byte}
 use Rattle.script_words.specs.Words.{is_empty_list}
 
 whole_from : {X : Type 0} (x : X) (xs : List X) (rest : ℕ) (parts : List (List X)) (passes : Bool) → (length xs ≤ rest → parts ≡ xs ∷ []) → length (x ∷ xs) ≤ cond (not passes) (1 + rest) 0
@@ -48,6 +50,37 @@ part_from x false (part ∷ parts) = refl
 pub has_part : (p : ℕ → Bool) (xs : List ℕ) → is_empty_list (slice_split p xs) ≡ false
 has_part p [] = refl
 has_part p (x ∷ xs) = part_from x (p x) (slice_split p xs)
+
+not_passed : (b : Bool) → (b ≡ true → ⊥) → not b ≡ true
+not_passed true h = absurd (h refl)
+not_passed false h = refl
+
+passed : (b : Bool) → b ≡ true → not b ≡ false
+passed b h = ap not h
+
+position_none : (p : ℕ → Bool) (xs : List ℕ) → length xs ≤ position_or_len p xs → None ≡ position p xs
+position_none p xs h =
+    let beyond : nat_lt (position_or_len p xs) (length xs) ≡ false = grind (arith, nat_tests) in
+    rw beyond refl
+
+position_some : (p : ℕ → Bool) (xs : List ℕ) (k : ℕ) → position_or_len p xs ≡ k → k < length xs → Some k ≡ position p xs
+position_some p xs k here inside =
+    let within : nat_lt (position_or_len p xs) (length xs) ≡ true = grind (arith, nat_tests) in
+    rw within (ap Some (sym here))
+
+-- what a search for a byte finds is its first place
+pub first_byte : (byte : ℕ) (text : List ℕ) (found : Option ℕ) → IsFirstByte (is_byte byte) text found → found ≡ position (λ b. b == byte) text
+first_byte byte text None nowhere =
+    let all : position_or_len (λ b. b == byte) text ≡ length text =
+    prefix_len_is (λ b. not (b == byte)) text (length text) 0 (omega arith) (λ k h. not_passed _ (nowhere k (omega arith) h)) (λ h. absurd (omega arith)) in
+    position_none (λ b. b == byte) text (omega arith)
+first_byte byte text (Some k) (first, here) =
+    let inside : k < length text = first.high in
+    let at : position_or_len (λ b. b == byte) text ≡ k =
+    prefix_len_is (λ b. not (b == byte)) text k 0 (omega arith) (λ j h. not_passed _ (first.before j (omega arith) h)) (λ h. passed _ here) in
+    position_some (λ b. b == byte) text k at inside
+
+pub ruleset first_bytes = first_byte
 
 pub ruleset cuts = (slice_split-found, slice_split-none, has_part)
 

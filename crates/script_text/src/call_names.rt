@@ -1,0 +1,166 @@
+//! The names of the calls.
+
+ghost use Rattle.std.specs.Prelude.{◌≡◌, List, ℕ};
+ghost use Rattle.jet_base.specs.declared.ids.CursorId.{CursorId};
+ghost use Rattle.script_text.specs.Calls as calls;
+ghost use Rattle.script_text.specs.CallNames.{read_by, cursor_read_by};
+
+use script_words::texts::is_word;
+
+/// A call behind whose name the label of a cursor stands.
+#[derive(Clone, Copy)]
+pub enum CursorCall {
+    OpenTable,
+    CloseTable,
+    SetCurrentIndex,
+    MakeKey,
+    Move,
+    Seek,
+    SetIndexRange,
+    IndexRecordCount,
+    RetrieveKey,
+    GetBookmark,
+    GotoBookmark,
+    PrepareUpdate,
+    SetColumn,
+    RetrieveColumn,
+    Update,
+    Delete,
+    GetLock,
+    EscrowUpdate,
+}
+
+/// A call by its name.
+#[derive(Clone, Copy)]
+pub enum CallName {
+    BeginSession,
+    EndSession,
+    BeginTransaction,
+    CommitTransaction,
+    Rollback,
+    CreateTable,
+    DeleteTable,
+    AddColumn,
+    DeleteColumn,
+    CreateIndex,
+    DeleteIndex,
+    OfCursor(CursorCall),
+}
+
+/// A call of records.
+#[tactic(auto, unfolding(crate::specs::Calls::record_call))]
+fn record_call(name: &[u8]) -> Option<CursorCall>
+    ensures { (cursor : CursorId) (words : List (List ℕ)) → calls.record_call name.now cursor words ≡ cursor_read_by result cursor words }
+{
+    if is_word(name, b"PrepareUpdate") {
+        Some(CursorCall::PrepareUpdate)
+    } else if is_word(name, b"SetColumn") {
+        Some(CursorCall::SetColumn)
+    } else if is_word(name, b"RetrieveColumn") {
+        Some(CursorCall::RetrieveColumn)
+    } else if is_word(name, b"Update") {
+        Some(CursorCall::Update)
+    } else if is_word(name, b"Delete") {
+        Some(CursorCall::Delete)
+    } else if is_word(name, b"GetLock") {
+        Some(CursorCall::GetLock)
+    } else if is_word(name, b"EscrowUpdate") {
+        Some(CursorCall::EscrowUpdate)
+    } else {
+        None
+    }
+}
+
+/// A call of navigation, or else of records.
+#[tactic(auto, unfolding(crate::specs::Calls::place_call))]
+fn place_call(name: &[u8]) -> Option<CursorCall>
+    ensures { (cursor : CursorId) (words : List (List ℕ)) → calls.place_call name.now cursor words ≡ cursor_read_by result cursor words }
+{
+    if is_word(name, b"Move") {
+        Some(CursorCall::Move)
+    } else if is_word(name, b"Seek") {
+        Some(CursorCall::Seek)
+    } else if is_word(name, b"SetIndexRange") {
+        Some(CursorCall::SetIndexRange)
+    } else if is_word(name, b"IndexRecordCount") {
+        Some(CursorCall::IndexRecordCount)
+    } else if is_word(name, b"RetrieveKey") {
+        Some(CursorCall::RetrieveKey)
+    } else if is_word(name, b"GetBookmark") {
+        Some(CursorCall::GetBookmark)
+    } else if is_word(name, b"GotoBookmark") {
+        Some(CursorCall::GotoBookmark)
+    } else {
+        record_call(name)
+    }
+}
+
+/// Any call of a cursor.
+#[tactic(auto, unfolding(crate::specs::Calls::call_of_cursor))]
+fn call_of_cursor(name: &[u8]) -> Option<CursorCall>
+    ensures { (cursor : CursorId) (words : List (List ℕ)) → calls.call_of_cursor name.now cursor words ≡ cursor_read_by result cursor words }
+{
+    if is_word(name, b"OpenTable") {
+        Some(CursorCall::OpenTable)
+    } else if is_word(name, b"CloseTable") {
+        Some(CursorCall::CloseTable)
+    } else if is_word(name, b"SetCurrentIndex") {
+        Some(CursorCall::SetCurrentIndex)
+    } else if is_word(name, b"MakeKey") {
+        Some(CursorCall::MakeKey)
+    } else {
+        place_call(name)
+    }
+}
+
+/// The same, as one of all calls.
+fn labelled_call(name: &[u8]) -> Option<CallName>
+    ensures { (words : List (List ℕ)) → calls.cursor_call (calls.call_of_cursor name.now) words ≡ read_by result words }
+{
+    match call_of_cursor(name) {
+        Some(call) => Some(CallName::OfCursor(call)),
+        None => None,
+    }
+}
+
+/// A call of the schema, or else of a cursor.
+#[tactic(auto, unfolding(crate::specs::Calls::schema_call))]
+fn schema_call(name: &[u8]) -> Option<CallName>
+    ensures { (words : List (List ℕ)) → calls.schema_call name.now words ≡ read_by result words }
+{
+    if is_word(name, b"CreateTable") {
+        Some(CallName::CreateTable)
+    } else if is_word(name, b"DeleteTable") {
+        Some(CallName::DeleteTable)
+    } else if is_word(name, b"AddColumn") {
+        Some(CallName::AddColumn)
+    } else if is_word(name, b"DeleteColumn") {
+        Some(CallName::DeleteColumn)
+    } else if is_word(name, b"CreateIndex") {
+        Some(CallName::CreateIndex)
+    } else if is_word(name, b"DeleteIndex") {
+        Some(CallName::DeleteIndex)
+    } else {
+        labelled_call(name)
+    }
+}
+
+/// The call of a name, where it is the name of one.
+#[tactic(auto, unfolding(crate::specs::Calls::named_call))]
+pub fn call_named(name: &[u8]) -> Option<CallName>
+    ensures { (words : List (List ℕ)) → calls.named_call name.now words ≡ read_by result words }
+{
+    if is_word(name, b"BeginSession") {
+        Some(CallName::BeginSession)
+    } else if is_word(name, b"EndSession") {
+        Some(CallName::EndSession)
+    } else if is_word(name, b"BeginTransaction") {
+        Some(CallName::BeginTransaction)
+    } else if is_word(name, b"CommitTransaction") {
+        Some(CallName::CommitTransaction)
+    } else if is_word(name, b"Rollback") {
+        Some(CallName::Rollback)
+    } else {
+        schema_call(name)
+    }
+}
