@@ -1,0 +1,3 @@
+//! What a log gives.
+
+pub fn scan() {}
