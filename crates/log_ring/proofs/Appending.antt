@@ -174,10 +174,22 @@ chosen first end len place is = by_fit (nat_le (end.offset + 22 + len) 1048576) 
     by_fit true test same = Behind (some_same same) (le_of test)
     by_fit false test same = by_room (nat_lt (end.generation + 1) (first + 8)) refl (gt_of test) same
 
-begun_zero : (place : LogStart) (log : List ℕ) → place.offset ≡ 0 → begun place log ≡ closed true (address place) (barred (place.generation + 1) log)
+-- how far a block's place is from the end
+pub chosen_generation : (first : ℕ) (end : LogStart) (len : ℕ) (place : LogStart) → Chosen first end len place → place.generation ≤ end.generation + 1
+chosen_generation first end len place (Behind is fits) = omega (arith, ap (λ (p : LogStart). p.generation) is)
+chosen_generation first end len place (Anew is near past) = omega (arith, ap (λ (p : LogStart). p.generation) is)
+
+pub chosen_position : (first : ℕ) (end : LogStart) (len : ℕ) (place : LogStart) → Chosen first end len place → place.position ≡ end.position
+chosen_position first end len place (Behind is fits) = ap (λ (p : LogStart). p.position) is
+chosen_position first end len place (Anew is near past) = ap (λ (p : LogStart). p.position) is
+
+pub one_place : (x y : LogStart) (o : Option LogStart) → o ≡ Some x → o ≡ Some y → x ≡ y
+one_place x y o a b = cc
+
+pub begun_zero : (place : LogStart) (log : List ℕ) → place.offset ≡ 0 → begun place log ≡ closed true (address place) (barred (place.generation + 1) log)
 begun_zero place log zero = ap (λ (b : Bool). if b then closed true (address place) (barred (place.generation + 1) log) else log) (eq-eqb place.offset 0 zero)
 
-begun_behind : (place : LogStart) (log : List ℕ) → 0 < place.offset → begun place log ≡ log
+pub begun_behind : (place : LogStart) (log : List ℕ) → 0 < place.offset → begun place log ≡ log
 begun_behind place log some = ap (λ (b : Bool). if b then closed true (address place) (barred (place.generation + 1) log) else log) (no_zero place.offset some)
   where
     no_zero : (n : ℕ) → 0 < n → (n == 0) ≡ false
@@ -217,7 +229,7 @@ module _ (from : LogStart) (stream : List ℕ) (end place : LogStart) (payload :
   full = staged place payload (begun place log)
 
   long : Chosen from.generation end (length payload) place → length (behind_gate place payload) ≡ 21 + length payload
-  long which = length-behind_gate place payload generation position some most (place_fits which)
+  long which = length-behind_gate place payload
 
   torn_full : Chosen from.generation end (length payload) place → Torn (address place + 1) (21 + length payload) mid full
   torn_full which = subst (λ n. Torn (address place + 1) n mid full) (long which) (written_torn (address place + 1) (behind_gate place payload) mid)

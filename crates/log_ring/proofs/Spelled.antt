@@ -8,6 +8,10 @@ use Rattle.jet_volume.specs.declared.files.LogStart.{LogStart}
 use Rattle.log_ring.specs.Blocks.{slot_start, address, slot_rest, length_field, is_of, behind_gate, open_payload}
 use Rattle.log_ring.proofs.Opened.{Opened, opens, stays_open, and_both}
 
+-- how long a block is behind its gate, with the gate behind it
+pub length-behind_gate : (place : LogStart) (payload : List ℕ) → length (behind_gate place payload) ≡ 21 + length payload
+length-behind_gate place payload = omega (arith, length-append payload (0 ∷ []))
+
 module _ (place : LogStart) (payload : List ℕ) (generation : place.generation < 2 ^ 64) (position : place.position < 2 ^ 64) (some : 1 ≤ length payload) (most : length payload ≤ 65500)
   (fits : place.offset + 22 + length payload ≤ 1048576) where
   abbrev spelled : List ℕ
@@ -25,9 +29,6 @@ module _ (place : LogStart) (payload : List ℕ) (generation : place.generation 
   rest_there : drop 21 spelled ≡ payload ++ 0 ∷ []
   rest_there = refl
 
-  pub length-behind_gate : length (behind_gate place payload) ≡ 21 + length payload
-  length-behind_gate = omega (arith, length-append payload (0 ∷ []))
-
   spelled_opened : Opened place spelled payload
   unfolding is_of length_field
   spelled_opened = record {
@@ -39,7 +40,7 @@ module _ (place : LogStart) (payload : List ℕ) (generation : place.generation 
     some = some;
     most = most;
     fits = fits;
-    whole = omega (arith, length-behind_gate);
+    whole = omega (arith, length-behind_gate place payload);
     is = sym (ap (take (length payload)) rest_there ∙ take_at payload (0 ∷ []) (length payload) refl);
   }
 
@@ -52,7 +53,7 @@ module _ (place : LogStart) (payload : List ℕ) (generation : place.generation 
       ∙ ap (λ (l : List ℕ). get_or log (address place) 0 ∷ l) bytes ∙ ap (λ g. g ∷ behind_gate place payload) gate in
       opens place (slot_rest log place) payload
       (stays_open place spelled (slot_rest log place) payload (22 + n) (omega arith)
-      (take-take (22 + n) (1048576 - place.offset) (drop (address place) log) (omega (arith, fits)) ∙ front ∙ sym (take_all (22 + n) spelled (omega (arith, length-behind_gate)))) spelled_opened)
+      (take-take (22 + n) (1048576 - place.offset) (drop (address place) log) (omega (arith, fits)) ∙ front ∙ sym (take_all (22 + n) spelled (omega (arith, length-behind_gate place payload)))) spelled_opened)
     where
       next : (k j : ℕ) → k ≡ j + 1 → (x : ℕ) (l : List ℕ) → take k (x ∷ l) ≡ x ∷ take j l
       next k j is x l = ap (λ m. take m (x ∷ l)) (is ∙ add-one j)
