@@ -90,57 +90,57 @@ module _ (from : LogStart) (stream : List ℕ) (end : LogStart) (one : 1 ≤ fro
       positive n some = grind (arith, nat_tests)
 
   -- at the beginning of the next generation
-  abbrev place : LogStart
-  place = next_generation end
+  abbrev turn : LogStart
+  turn = next_generation end
 
-  away_from_end : 1 ≤ end.generation → address end ≢ slot_start (place.generation + 1)
+  away_from_end : 1 ≤ end.generation → address end ≢ slot_start (turn.generation + 1)
   away_from_end known same = ⊎_elim
-      (λ (up : slot_start end.generation < slot_start (place.generation + 1)). absurd (omega (arith, slots_apart end.generation (place.generation + 1) up, same, end_inside)))
-      (λ (down : slot_start (place.generation + 1) ≤ slot_start end.generation).
-      absurd (other_slot end.generation (place.generation + 1) known (omega arith) (omega arith) (omega (arith, down, same))))
-      (cases_lt (slot_start end.generation) (slot_start (place.generation + 1)))
+      (λ (up : slot_start end.generation < slot_start (turn.generation + 1)). absurd (omega (arith, slots_apart end.generation (turn.generation + 1) up, same, end_inside)))
+      (λ (down : slot_start (turn.generation + 1) ≤ slot_start end.generation).
+      absurd (other_slot end.generation (turn.generation + 1) known (omega arith) (omega arith) (omega (arith, down, same))))
+      (cases_lt (slot_start end.generation) (slot_start (turn.generation + 1)))
 
-  away_from_place : (slot_start (place.generation + 1) ≡ slot_start place.generation + 1048576) ⊎ ((slot_start (place.generation + 1) ≡ 0) × (slot_start place.generation ≡ 7340032))
-      → (address place + 1 ≤ slot_start (place.generation + 1)) ⊎ ((slot_start (place.generation + 1) ≡ 0) × (9 ≤ address place))
+  away_from_place : (slot_start (turn.generation + 1) ≡ slot_start turn.generation + 1048576) ⊎ ((slot_start (turn.generation + 1) ≡ 0) × (slot_start turn.generation ≡ 7340032))
+      → (address turn + 1 ≤ slot_start (turn.generation + 1)) ⊎ ((slot_start (turn.generation + 1) ≡ 0) × (9 ≤ address turn))
   away_from_place (inl up) = inl (omega (arith, up))
   away_from_place (inr round) = inr (round.0, omega (arith, round.1))
 
   pub next_done : (log : List ℕ) → end.generation + 1 < from.generation + 8 → Scans log from stream end → IsClosed (address end) log
-      → Staged (closed true (address place) (barred (place.generation + 1) log)) from stream end place
+      → Staged (closed true (address turn) (barred (turn.generation + 1) log)) from stream end turn
   next_done log near scans shut =
       let known : 1 ≤ end.generation = omega (arith, one, (bounds_of log log from stream end scans).generation) in
-      let bar = bar_done log (place.generation + 1) (inr (omega arith)) scans in
-      let first = barred (place.generation + 1) log in
+      let bar = bar_done log (turn.generation + 1) (inr (omega arith)) scans in
+      let first = barred (turn.generation + 1) log in
       let shut_first = bar.closed (address end) (away_from_end known) shut in
       ⊎_elim
-      (λ (needs : needs_zero true (take 1 (drop (address place) first)) ≡ true).
-      let new = written (address place) (0 ∷ []) first in
-      let torn : Torn (address place) 1 first new = written_torn (address place) (0 ∷ []) first in
-      let done = close_next first new from stream end one end_inside near bar.scans shut_first (needy true (address place) first needs) torn in
-      subst (λ (l : List ℕ). Staged l from stream end place) (sym (closed_anew true (address place) first needs)) (record {
+      (λ (needs : needs_zero true (take 1 (drop (address turn) first)) ≡ true).
+      let new = written (address turn) (0 ∷ []) first in
+      let torn : Torn (address turn) 1 first new = written_torn (address turn) (0 ∷ []) first in
+      let done = close_next first new from stream end one end_inside near bar.scans shut_first (needy true (address turn) first needs) torn in
+      subst (λ (l : List ℕ). Staged l from stream end turn) (sym (closed_anew true (address turn) first needs)) (record {
         scans = done.0;
         goes = Next refl done.1 near;
-        gate = written_closed (address place) first;
-        barred = barred_stays (place.generation + 1) first new (address place) 1 torn (away_from_place (next_slot place.generation (omega arith))) bar.barred;
+        gate = written_closed (address turn) first;
+        barred = barred_stays (turn.generation + 1) first new (address turn) 1 torn (away_from_place (next_slot turn.generation (omega arith))) bar.barred;
       }))
-      (λ (none : needs_zero true (take 1 (drop (address place) first)) ≡ false).
-      subst (λ (l : List ℕ). Staged l from stream end place) (sym (closed_already true (address place) first none)) (record {
+      (λ (none : needs_zero true (take 1 (drop (address turn) first)) ≡ false).
+      subst (λ (l : List ℕ). Staged l from stream end turn) (sym (closed_already true (address turn) first none)) (record {
         scans = bar.scans;
         goes = Next refl shut_first near;
-        gate = ⊎_elim (λ (missing : (true ≡ false) × (length first ≤ address place)). absurd (apart refl missing.0)) (λ (there : IsClosed (address place) first). there) (not_needy true (address place) first none);
+        gate = ⊎_elim (λ (missing : (true ≡ false) × (length first ≤ address turn)). absurd (apart refl missing.0)) (λ (there : IsClosed (address turn) first). there) (not_needy true (address turn) first none);
         barred = bar.barred;
       }))
-      (either (needs_zero true (take 1 (drop (address place) first))))
+      (either (needs_zero true (take 1 (drop (address turn) first))))
 
   pub next_scans : (log new : List ℕ) → end.generation + 1 < from.generation + 8 → Scans log from stream end → IsClosed (address end) log
-      → ReadyingLeaves (place.generation + 1) true (address place) log new → Scans new from stream end
-  next_scans log new near scans shut (inl bars) = barring_scans log new (place.generation + 1) (inr (omega arith)) scans bars
-  next_scans log new near scans shut (inr (inl same)) = subst (λ (l : List ℕ). Scans l from stream end) (sym same) (bar_done log (place.generation + 1) (inr (omega arith)) scans).scans
+      → ReadyingLeaves (turn.generation + 1) true (address turn) log new → Scans new from stream end
+  next_scans log new near scans shut (inl bars) = barring_scans log new (turn.generation + 1) (inr (omega arith)) scans bars
+  next_scans log new near scans shut (inr (inl same)) = subst (λ (l : List ℕ). Scans l from stream end) (sym same) (bar_done log (turn.generation + 1) (inr (omega arith)) scans).scans
   next_scans log new near scans shut (inr (inr torn)) =
       let known : 1 ≤ end.generation = omega (arith, one, (bounds_of log log from stream end scans).generation) in
-      let bar = bar_done log (place.generation + 1) (inr (omega arith)) scans in
-      let first = barred (place.generation + 1) log in
-      (close_next first new from stream end one end_inside near bar.scans (bar.closed (address end) (away_from_end known) shut) (needy true (address place) first torn.0) torn.1).0
+      let bar = bar_done log (turn.generation + 1) (inr (omega arith)) scans in
+      let first = barred (turn.generation + 1) log in
+      (close_next first new from stream end one end_inside near bar.scans (bar.closed (address end) (away_from_end known) shut) (needy true (address turn) first torn.0) torn.1).0
 
   -- at the end, where that is the beginning of a generation
   pub here_done : (log : List ℕ) → Scans log from stream end → Staged (closed true (address end) (barred (end.generation + 1) log)) from stream end end

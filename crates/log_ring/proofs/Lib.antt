@@ -9,3 +9,5 @@ pub mod ScanLemmas
 pub mod Spelled
 pub mod Staging
 pub mod Appending
+pub mod Headers
+pub mod Reading

@@ -76,7 +76,7 @@ opens place block payload o =
     ap (λ (b : Bool). if b then Some (take n (drop 21 block)) else None) test
     ∙ ap (λ (l : List ℕ). Some l) (ap (λ (k : ℕ). take k (drop 21 block)) o.len ∙ sym o.is)
 
-first_same : (k : ℕ) (new old : List ℕ) → take k new ≡ take k old → 0 < k → get_or new 0 0 ≡ get_or old 0 0
+pub first_same : (k : ℕ) (new old : List ℕ) → take k new ≡ take k old → 0 < k → get_or new 0 0 ≡ get_or old 0 0
 first_same k new old same some = sym (get_or-take k new 0 0 some) ∙ ap (λ (l : List ℕ). get_or l 0 0) same ∙ get_or-take k old 0 0 some
 
 -- a block stays open where its bytes stay

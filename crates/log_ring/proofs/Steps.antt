@@ -5,7 +5,7 @@ use Rattle.jet_volume.specs.declared.files.File.TheVariants.{Log}
 use Rattle.jet_volume.specs.Image.{Image, SameBut}
 use Rattle.jet_volume.specs.Crash.{Torn, TornFile, CrashLeaves, CrashFollows, Elapses, LeavesOnly}
 use Rattle.jet_volume.specs.Moments.{started, goes_on, goes_on_by, leaves_weaker, leaves_now}
-use Rattle.log_ring.specs.Writes.{LogIs, ChangesLog, LogGoes}
+use Rattle.log_ring.specs.Writes.{LogIs, ChangesLog, LogGoes, LooksOnly}
 
 module _ {V : Type 0} (seen : V → Image) (moment : V → ℕ) (left_at : V → ℕ → Image → Type 0) where
   -- before the first call
@@ -49,6 +49,18 @@ module _ {V : Type 0} (seen : V → Image) (moment : V → ℕ) (left_at : V →
   log_weaker old new step weaker goes less =
       leaves_weaker moment left_at old new (ChangesLog moment left_at old step) (ChangesLog moment left_at old weaker)
       (λ image one. record { from = one.from; left = one.left; others = one.others; log = less one.from image.log one.left one.log }) goes
+
+  -- looks that follow one another
+  pub looks_first : (old new : V) → Elapses moment left_at old new → CrashLeaves moment left_at new (left_at old (moment old)) → LooksOnly moment left_at old new
+  looks_first old new time crash = goes_on moment left_at old old new (left_at old (moment old)) (started moment left_at old (left_at old (moment old)) (λ image left. left)) time crash
+
+  pub looks_none : (old : V) → LooksOnly moment left_at old old
+  looks_none old = started moment left_at old (left_at old (moment old)) (λ image left. left)
+
+  pub looks_on : (old mid new : V) → LooksOnly moment left_at old mid → LooksOnly moment left_at mid new → LooksOnly moment left_at old new
+  looks_on old mid new first next =
+      goes_on_by moment left_at old mid new (left_at old (moment old)) first
+      (leaves_weaker moment left_at mid new (left_at mid (moment mid)) (left_at old (moment old)) (leaves_now moment left_at old mid (left_at old (moment old)) first) next)
 
   -- a look leaves the log what it is
   pub log_is_looked : (old new : V) (log : List ℕ) → LogIs seen moment left_at old log → seen new ≡ seen old

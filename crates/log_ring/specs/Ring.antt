@@ -5,6 +5,9 @@ use Rattle.jet_volume.specs.Image.{Image}
 use Rattle.log_ring.specs.declared.ring.LogRing.{LogRing}
 use Rattle.log_ring.specs.declared.fault.RingFault.{RingFault}
 use Rattle.log_ring.specs.declared.fault.RingFault.TheVariants.{NoRoom, VolumeFault}
+use Rattle.log_ring.specs.declared.fault.ScanFault.{ScanFault}
+use Rattle.log_ring.specs.declared.fault.ScanFault.TheVariants.{OutOfMemory}
+use Rattle.log_ring.specs.declared.fault.ScanFault.TheVariants as scan
 use Rattle.log_ring.specs.Ready.{IsReady}
 use Rattle.log_ring.specs.Writes.{LogIs}
 
@@ -29,3 +32,9 @@ abbrev pub CountsRingFault : {T : Type 0} → Result T RingFault → ℕ → ℕ
 CountsRingFault (Ok value) before now = now ≡ before
 CountsRingFault (Err NoRoom) before now = now ≡ before
 CountsRingFault (Err VolumeFault) before now = before < now
+
+-- the same of a scan
+abbrev pub CountsScanFault : {T : Type 0} → Result T ScanFault → ℕ → ℕ → Type 0
+CountsScanFault (Ok value) before now = now ≡ before
+CountsScanFault (Err OutOfMemory) before now = now ≡ before
+CountsScanFault (Err scan.VolumeFault) before now = before < now

@@ -20,3 +20,7 @@ pub record ChangesLog {V : Type 0} (moment : V → ℕ) (left_at : V → ℕ →
 -- a crash at any moment from old to new changes the log by this step, and no other file
 abbrev pub LogGoes : {V : Type 0} → (V → ℕ) → (V → ℕ → Image → Type 0) → (List ℕ → List ℕ → Type 0) → V → V → Type 0
 LogGoes moment left_at step old new = LeavesOnly moment left_at old new (ChangesLog moment left_at old step)
+
+-- a crash at any moment from old to new leaves what one before them might have left
+abbrev pub LooksOnly : {V : Type 0} → (V → ℕ) → (V → ℕ → Image → Type 0) → V → V → Type 0
+LooksOnly moment left_at old new = LeavesOnly moment left_at old new (left_at old (moment old))

@@ -2,7 +2,7 @@
 
 ghost use Rattle.std.specs.Prelude.{◌≡◌, ◌<◌, ◌≤◌, ◌+◌, ◌^◌, length, take, drop};
 ghost use Rattle.std.specs.Int.{w32, w64, from_le_bytes};
-ghost use Rattle.log_ring.specs.Blocks.{slot_start, behind, next_generation};
+ghost use Rattle.log_ring.specs.Blocks.{slot_start, address, behind, next_generation};
 ghost use Rattle.log_ring.specs.Gates.{place_for};
 
 use jet_volume::LogStart;
@@ -29,6 +29,15 @@ pub fn slot_start_of(generation: u64) -> u64
     ensures within { result ≤ 7340032 }
 {
     u64::from(SLOT_LEN) * ((generation - 1) % SLOTS)
+}
+
+/// Where a place is in the file.
+pub fn address_of(place: LogStart) -> u64
+    requires { 1 ≤ place.generation }
+    ensures place { result ≡ address place }
+    ensures within { result < 2 ^ 33 }
+{
+    slot_start_of(place.generation) + u64::from(place.offset)
 }
 
 /// The beginning of the generation after that of a place.

@@ -9,7 +9,7 @@ ghost use Rattle.log_ring.specs.Appends.{BeginningLeaves, StoringLeaves, Appendi
 ghost use Rattle.log_ring.specs.Writes.{LogIs, LogGoes};
 
 use crate::fault::{RingFault, VolumeFault};
-use crate::places::{BLOCK_LEN, behind_of, choose_place, slot_start_of};
+use crate::places::{BLOCK_LEN, address_of, behind_of, choose_place};
 use crate::writing::{make_ready, write_synced};
 use jet_base::OutOfMemory;
 use jet_io::Failed;
@@ -36,15 +36,6 @@ fn lay_block(buffer: &mut [u8], place: LogStart, payload: &[u8])
     put(buffer, 17, &(payload.len() as u32).to_le_bytes());
     put(buffer, 21, payload);
     put(buffer, 21 + payload.len(), &[0]);
-}
-
-/// Where a place is in the file.
-fn address_of(place: LogStart) -> u64
-    requires { 1 ≤ place.generation }
-    ensures place { result ≡ address place }
-    ensures within { result < 2 ^ 33 }
-{
-    slot_start_of(place.generation) + u64::from(place.offset)
 }
 
 /// Makes a place ready for a block. Behind another block it is ready.
