@@ -1,21 +1,21 @@
 -- At each moment of an append the log gives the stream from before, with the new block or without it.
-use Rattle.std.proofs.Common.{◌≡◌, ◌≢◌, ◌⊎◌, inl, inr, ⊎_elim, ℕ, ◌+◌, ◌-◌, ◌≤◌, ◌<◌, ◌^◌, Bool, true, false, ◌==◌, nat_le, nat_lt, if◌then◌else◌, Option, Some, None, List, [], ◌∷◌, ◌++◌, length, get_or, take, drop, refl, sym, ◌∙◌, ap, subst, arith, rules, add-zero}
-use Rattle.std.proofs.lemmas.Bool.{cases_lt, cases_eq, eqb-true, eq-eqb}
+use Rattle.std.proofs.Common.{◌≡◌, ◌≢◌, ◌⊎◌, inl, inr, ⊎_elim, ℕ, ◌+◌, ◌≤◌, ◌<◌, ◌^◌, Bool, true, false, ◌==◌, nat_le, nat_lt, if◌then◌else◌, Option, Some, None, List, [], ◌∷◌, ◌++◌, length, get_or, take, drop, refl, sym, ◌∙◌, ap, subst, arith, add-zero}
+use Rattle.std.proofs.lemmas.Bool.{cases_lt, cases_eq, eq-eqb}
 use Rattle.std.proofs.lemmas.Bool.Decides.{nat_tests}
 use Rattle.std.proofs.lemmas.List.{get_or-take, get_or-drop}
 use Rattle.jet_volume.specs.Crash.{Torn, written}
 use Rattle.jet_volume.specs.declared.files.LogStart.{LogStart}
-use Rattle.log_ring.specs.Blocks.{slot_start, address, behind_gate, open_payload, behind, next_generation, Scans}
+use Rattle.log_ring.specs.Blocks.{slot_start, address, behind_gate, behind, next_generation, Scans}
 use Rattle.log_ring.specs.Gates.{is_barred, barred, needs_zero, closed, IsClosed, BarringLeaves, ClosingLeaves, ReadyingLeaves, sealed, begun, staged, appended, place_for}
 use Rattle.log_ring.specs.Ready.{IsReady}
-use Rattle.log_ring.specs.Appends.{BeginningLeaves, StoringLeaves, AppendingLeaves}
-use Rattle.log_ring.proofs.Windows.{written_torn, unwritten_torn, piece-written, length-written}
+use Rattle.log_ring.specs.Appends.{BeginningLeaves, AppendingLeaves}
+use Rattle.log_ring.proofs.Windows.{written_torn, piece-written, length-written}
 use Rattle.log_ring.proofs.GateLemmas.{barred_already, barred_anew, closed_already, closed_anew}
 use Rattle.log_ring.proofs.Slots.{next_slot, other_slot, slots_apart}
 use Rattle.log_ring.proofs.Barring.{apart, closed_stays, needy, not_needy, written_closed, shut_barred, barred_stays}
 use Rattle.log_ring.proofs.ScanLemmas.{bounds_of, bar_scans, close_scans, close_next}
 use Rattle.log_ring.proofs.Spelled.{length-behind_gate, spelled_open}
-use Rattle.log_ring.proofs.Staging.{Goes, There, Next, Staged, staged_again, staged_torn, opened_ready}
+use Rattle.log_ring.proofs.Staging.{There, Next, Staged, staged_again, staged_torn, opened_ready}
 
 -- a test is true or false
 pub either : (b : Bool) → (b ≡ true) ⊎ (b ≡ false)
@@ -162,13 +162,17 @@ chosen first end len place is = by_fit (nat_le (end.offset + 22 + len) 1048576) 
   where
     le_of : nat_le (end.offset + 22 + len) 1048576 ≡ true → end.offset + 22 + len ≤ 1048576
     le_of test = grind (arith, nat_tests)
+
     gt_of : nat_le (end.offset + 22 + len) 1048576 ≡ false → 1048576 < end.offset + 22 + len
     gt_of test = grind (arith, nat_tests)
+
     lt_of : nat_lt (end.generation + 1) (first + 8) ≡ true → end.generation + 1 < first + 8
     lt_of test = grind (arith, nat_tests)
+
     by_room : (b : Bool) → nat_lt (end.generation + 1) (first + 8) ≡ b → 1048576 < end.offset + 22 + len → (if b then Some (next_generation end) else None) ≡ Some place → Chosen first end len place
     by_room true test past same = Anew (some_same same) (lt_of test) past
     by_room false test past same = cc
+
     by_fit : (b : Bool) → nat_le (end.offset + 22 + len) 1048576 ≡ b
         → (if b then Some end else (if nat_lt (end.generation + 1) (first + 8) then Some (next_generation end) else None)) ≡ Some place → Chosen first end len place
     by_fit true test same = Behind (some_same same) (le_of test)
@@ -196,9 +200,8 @@ begun_behind place log some = ap (λ (b : Bool). if b then closed true (address 
     no_zero n some = grind (arith, nat_tests)
 
 module _ (from : LogStart) (stream : List ℕ) (end place : LogStart) (payload : List ℕ) (one : 1 ≤ from.generation) (end_inside : end.offset < 1048576)
-  (some : 1 ≤ length payload) (most : length payload ≤ 65500) (generation : place.generation < 2 ^ 64) (position : place.position < 2 ^ 64)
-  (log : List ℕ) (ready : IsReady log from stream end) where
-
+    (some : 1 ≤ length payload) (most : length payload ≤ 65500) (generation : place.generation < 2 ^ 64) (position : place.position < 2 ^ 64)
+    (log : List ℕ) (ready : IsReady log from stream end) where
   zero_or_more : (end.offset ≡ 0) ⊎ (0 < end.offset)
   zero_or_more = ⊎_elim (λ (more : 0 < end.offset). inr more) (λ (le : end.offset ≤ 0). inl (omega (arith, le))) (cases_lt 0 end.offset)
 
@@ -253,10 +256,13 @@ module _ (from : LogStart) (stream : List ℕ) (end place : LogStart) (payload :
     where
       n : ℕ
       n = length payload
+
       at : address place + 1 + (20 + length payload) ≡ address (behind place (length payload))
       at = omega arith
+
       piece : take (21 + length payload) (drop (address place + 1) full) ≡ behind_gate place payload
       piece = ap (λ k. take k (drop (address place + 1) full)) (sym (long which)) ∙ piece-written (address place + 1) (behind_gate place payload) mid
+
       byte : get_or full (address (behind place (length payload))) 0 ≡ 0
       byte =
           ap (λ k. get_or full k 0) (sym at) ∙ sym (get_or-drop (address place + 1) full (20 + length payload) 0)

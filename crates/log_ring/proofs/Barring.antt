@@ -1,17 +1,17 @@
 -- Gates and barred generations, before and after a torn write.
-use Rattle.std.proofs.Common.{◌≡◌, ◌≢◌, ◌⊎◌, inl, inr, ⊎_elim, ℕ, ◌+◌, ◌-◌, ◌≤◌, ◌<◌, min, max, Bool, true, false, not, ◌&&◌, ◌==◌, if◌then◌else◌, Option, Some, None, List, [], ◌∷◌, length, get_or, take, drop, refl, sym, ◌∙◌, ap, subst, arith, rules, add-zero, length-take, length-drop}
+use Rattle.std.proofs.Common.{◌≡◌, ◌≢◌, ◌⊎◌, inl, inr, ⊎_elim, ℕ, ◌+◌, ◌-◌, ◌≤◌, ◌<◌, min, Bool, true, false, not, ◌&&◌, ◌==◌, if◌then◌else◌, Option, Some, None, List, [], ◌∷◌, length, get_or, take, drop, refl, sym, ◌∙◌, ap, arith, add-zero, length-take, length-drop}
 use Rattle.std.specs.Int.{w64, from_le_bytes}
 use Rattle.std.proofs.lemmas.Bool.{cases_lt, cases_eq, eqb-true, eq-eqb}
 use Rattle.std.proofs.lemmas.Bool.Decides.{nat_tests}
-use Rattle.std.proofs.lemmas.List.{get_or-take, get_or-drop, take-take, drop_more, drop-drop, drop_all, take_more}
+use Rattle.std.proofs.lemmas.List.{get_or-take, get_or-drop, drop_more, drop-drop, drop_all}
 use Rattle.jet_volume.specs.Crash.{Torn, written}
 use Rattle.jet_volume.specs.declared.files.LogStart.{LogStart}
-use Rattle.log_ring.specs.Blocks.{slot_start, address, slot_rest, is_of, is_open, block_at, open_payload, next_generation}
+use Rattle.log_ring.specs.Blocks.{slot_start, address, slot_rest, is_of, block_at, open_payload}
 use Rattle.log_ring.specs.Gates.{is_number, bars, is_barred, needs_zero, IsClosed}
 use Rattle.log_ring.proofs.Windows.{part_before, rest_behind, take-drop-take, piece-written, length-written}
-use Rattle.log_ring.proofs.Opened.{Opened, opened, closed_gate, both}
+use Rattle.log_ring.proofs.Opened.{opened, closed_gate, both}
 use Rattle.log_ring.proofs.Paths.{open_in_file}
-use Rattle.log_ring.proofs.Slots.{rest_after, rest_before, next_slot, slots_apart}
+use Rattle.log_ring.proofs.Slots.{rest_after, rest_before, slots_apart}
 
 -- the gate of a place is its byte in the file
 pub gate_byte : (log : List ℕ) (q : LogStart) → q.offset < 1048576 → get_or (slot_rest log q) 0 0 ≡ get_or log (address q) 0
@@ -53,8 +53,10 @@ closed_stays at n old new torn a where_to is = record {
   where
     byte : (l : List ℕ) → get_or (take 1 (drop a l)) 0 0 ≡ get_or l a 0
     byte l = get_or-take 1 (drop a l) 0 0 (omega arith) ∙ get_or-drop a l 0 0 ∙ ap (λ k. get_or l k 0) (add-zero a)
+
     first : (l : List ℕ) → get_or (drop a l) 0 0 ≡ get_or l a 0
     first l = get_or-drop a l 0 0 ∙ ap (λ k. get_or l k 0) (add-zero a)
+
     same : (a < at) ⊎ (at + n ≤ a) → get_or new a 0 ≡ get_or old a 0
     same (inl less) = sym (byte new) ∙ ap (λ (l : List ℕ). get_or l 0 0) (part_before at n old new torn a 1 (omega (arith, less)) (omega (arith, is.there))) ∙ byte old
     same (inr le) = sym (first new) ∙ ap (λ (l : List ℕ). get_or l 0 0) (rest_behind at n old new torn a le) ∙ first old
@@ -271,6 +273,7 @@ module _ (generation : ℕ) (old new : List ℕ) where
           → (length new < slot_start generation + 9) ⊎ (is_number generation (take 8 (drop (slot_start generation + 1) new)) ≡ true)
       after (inl short) = inl (omega (arith, short, torn.no_longer))
       after (inr same) = inr (ap (λ (l : List ℕ). is_number generation (take 8 l)) torn.after ∙ same)
+
       none : (log : List ℕ) → address q ≡ slot_start generation → (length log < slot_start generation + 9) ⊎ (is_number generation (take 8 (drop (slot_start generation + 1) log)) ≡ true) → open_payload log q ≡ None
       none log at (inl short) = none_unless log q (λ payload opens. absurd (omega (arith, open_in_file log q payload opens, at, short)))
       none log at (inr number) = none_unless log q (λ payload opens.

@@ -1,13 +1,13 @@
 -- A block by its first bytes and by its payload.
-use Rattle.std.proofs.Common.{◌≡◌, ◌≢◌, ◌⊎◌, inl, inr, ⊎_elim, ℕ, ◌+◌, ◌-◌, ◌≤◌, ◌<◌, min, Bool, true, false, ◌&&◌, ◌==◌, nat_le, Option, Some, None, List, [], ◌∷◌, ◌++◌, length, get_or, take, drop, refl, sym, ◌∙◌, ap, subst, arith, rules, length-take, length-drop}
+use Rattle.std.proofs.Common.{◌≡◌, ℕ, ◌+◌, ◌-◌, ◌≤◌, ◌<◌, Bool, true, false, ◌&&◌, ◌==◌, nat_le, Some, None, List, length, get_or, take, drop, sym, ◌∙◌, ap, arith, length-take, length-drop}
 use Rattle.std.specs.Int.{w32, w64, from_le_bytes}
 use Rattle.std.proofs.lemmas.Bool.{eqb-true, eq-eqb, leb-true}
 use Rattle.std.proofs.lemmas.Bool.Decides.{nat_tests}
 use Rattle.std.proofs.lemmas.List.{take-take, drop-drop}
 use Rattle.jet_volume.specs.declared.files.LogStart.{LogStart}
-use Rattle.log_ring.specs.Blocks.{slot_start, address, slot_rest, length_field, is_of, begins_block, open_payload}
+use Rattle.log_ring.specs.Blocks.{address, slot_rest, length_field, is_of, begins_block, open_payload}
 use Rattle.log_ring.proofs.Windows.{same_part, take-drop-take}
-use Rattle.log_ring.proofs.Opened.{Opened, opened, opens, both, and_both, first_same}
+use Rattle.log_ring.proofs.Opened.{opened, opens, both, and_both, first_same}
 use Rattle.log_ring.proofs.Paths.{open_in_file}
 use Rattle.log_ring.proofs.Barring.{apart, none_unless}
 

@@ -11,3 +11,4 @@ pub mod Staging
 pub mod Appending
 pub mod Headers
 pub mod Reading
+pub mod Once

@@ -1,11 +1,11 @@
 -- What it takes for a block to be open.
-use Rattle.std.proofs.Common.{◌≡◌, ◌≢◌, ◌⊎◌, inl, inr, ⊎_elim, ℕ, ◌+◌, ◌-◌, ◌≤◌, ◌<◌, min, Bool, true, false, ◌&&◌, ◌==◌, nat_le, nat_lt, if◌then◌else◌, Option, Some, None, List, [], ◌∷◌, ◌++◌, length, get_or, take, drop, refl, sym, ◌∙◌, ap, subst, arith, rules, length-append, length-take, length-drop}
+use Rattle.std.proofs.Common.{◌≡◌, ◌≢◌, ℕ, ◌+◌, ◌≤◌, ◌<◌, Bool, true, false, ◌&&◌, ◌==◌, nat_le, if◌then◌else◌, Some, None, List, length, get_or, take, drop, refl, sym, ◌∙◌, ap, subst, arith, length-take, length-drop}
 use Rattle.std.proofs.lemmas.List.{get_or-take}
 use Rattle.std.specs.Int.{w32, w64, from_le_bytes}
 use Rattle.std.proofs.lemmas.Bool.{eqb-true, eq-eqb, leb-true}
 use Rattle.std.proofs.lemmas.Bool.Decides.{nat_tests}
 use Rattle.jet_volume.specs.declared.files.LogStart.{LogStart}
-use Rattle.log_ring.specs.Blocks.{slot_start, address, slot_rest, length_field, is_of, is_open, block_at, open_payload}
+use Rattle.log_ring.specs.Blocks.{length_field, is_of, is_open, block_at}
 use Rattle.log_ring.proofs.Windows.{same_part}
 
 -- a block with this payload is open
@@ -106,5 +106,6 @@ closed_gate place block shut = none_if (is_open place block) (take (length_field
     shut_test : (a b c d e f : Bool) → a ≡ false → (a && b && c && d && e && f) ≡ false
     shut_test true b c d e f is = cc
     shut_test false b c d e f is = refl
+
     not_one : (n : ℕ) → n ≢ 1 → (n == 1) ≡ false
     not_one n differs = grind (arith, nat_tests)

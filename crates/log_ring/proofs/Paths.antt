@@ -1,11 +1,10 @@
 -- The way that a scan goes, and what keeps it.
-use Rattle.std.proofs.Common.{◌≡◌, ◌≢◌, ◌⊎◌, inl, inr, ⊎_elim, ℕ, ◌+◌, ◌-◌, ◌*◌, ◌/◌, ◌%◌, ◌≤◌, ◌<◌, Bool, true, false, ◌&&◌, ◌==◌, nat_lt, if◌then◌else◌, Option, Some, None, List, [], ◌∷◌, ◌++◌, length, get_or, take, drop, refl, sym, ◌∙◌, ap, subst, arith, rules, append_assoc, length-take, length-drop}
+use Rattle.std.proofs.Common.{◌≡◌, ⊎_elim, ℕ, ◌+◌, ◌-◌, ◌≤◌, ◌<◌, Bool, true, false, nat_lt, if◌then◌else◌, Option, Some, None, List, [], ◌∷◌, ◌++◌, length, drop, refl, sym, ◌∙◌, ap, subst, arith, append_assoc, length-take, length-drop}
 use Rattle.std.proofs.lemmas.Bool.{cases_lt}
 use Rattle.std.proofs.lemmas.Bool.Decides.{nat_tests}
-use Rattle.std.proofs.lemmas.List.{append-nil}
 use Rattle.jet_volume.specs.declared.files.LogStart.{LogStart}
-use Rattle.log_ring.specs.Blocks.{slot_start, address, slot_rest, is_open, block_at, open_payload, behind, next_generation, first_block, next_block, Leads, payloads, Scans}
-use Rattle.log_ring.proofs.Opened.{Opened, opened}
+use Rattle.log_ring.specs.Blocks.{slot_start, address, slot_rest, open_payload, behind, next_generation, first_block, next_block, Leads, payloads}
+use Rattle.log_ring.proofs.Opened.{opened}
 
 -- a block with its place
 abbrev pub Block : Type 0
@@ -136,8 +135,7 @@ pub leads_keep : (first : ℕ) (old new : List ℕ) (place : LogStart) (blocks t
     → Keeps first old new end → Leads first new end tail last → Leads first new place (blocks ++ tail) last
 leads_keep first old new place [] tail end last from is keeps goes = subst (λ (p : LogStart). Leads first new p tail last) (sym is) goes
 leads_keep first old new place (block ∷ blocks) tail end last from leads keeps goes =
-    let rest = leads_bounds first old (behind block.0 (length block.1)) blocks end leads.1 in
-    (
+    let rest = leads_bounds first old (behind block.0 (length block.1)) blocks end leads.1 in (
       still (found first old place block leads.0) rest,
       leads_keep first old new (behind block.0 (length block.1)) blocks tail end last (up (found first old place block leads.0)) leads.1 keeps goes,
     )
@@ -145,6 +143,7 @@ leads_keep first old new place (block ∷ blocks) tail end last from leads keeps
     up : Found first old place block → first ≤ block.0.generation
     up (Here at is) = omega (arith, ap (λ (p : LogStart). p.generation) at, from)
     up (Turned at none is less) = omega (arith, ap (λ (p : LogStart). p.generation) at, from)
+
     stays : (q : LogStart) → first ≤ q.generation → Bounds first old (behind q (length block.1)) end → open_payload old q ≡ Some block.1 → open_payload new q ≡ Some block.1
     stays q above rest is = ⊎_elim
         (λ (less : q.generation < end.generation). keeps.below q above less ∙ is)
@@ -152,6 +151,7 @@ leads_keep first old new place (block ∷ blocks) tail end last from leads keeps
         let e : q.generation ≡ end.generation = omega (arith, same, rest.generation) in
         keeps.within q block.1 e (rest.offset e) is)
         (cases_lt q.generation end.generation)
+
     still : Found first old place block → Bounds first old (behind block.0 (length block.1)) end → next_block first new place ≡ Some block
     still (Here at is) rest =
         next_here first new place block.1 (stays place from (subst (λ (p : LogStart). Bounds first old (behind p (length block.1)) end) at rest) is)

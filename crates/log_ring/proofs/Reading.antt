@@ -13,14 +13,13 @@ pub turned_found : (first : ℕ) (log : List ℕ) (place turn : LogStart) (old m
     → FindsNext first log place next old new
 turned_found first log place turn old mid new none near is same None found =
     next_none first log place none (λ close. subst (λ (p : LogStart). open_payload log p ≡ None) is found)
-turned_found first log place turn old mid new none near is same (Some next) found =
-    (
-      next_generation place,
-      found.0,
-      next_turned first log place found.0 none near (subst (λ (p : LogStart). open_payload log p ≡ Some found.0) is found.1),
-      found.2 ∙ ap (λ (p : LogStart). behind p (length found.0)) is,
-      found.3 ∙ ap (λ (l : List ℕ). l ++ found.0) same,
-    )
+turned_found first log place turn old mid new none near is same (Some next) found = (
+  next_generation place,
+  found.0,
+  next_turned first log place found.0 none near (subst (λ (p : LogStart). open_payload log p ≡ Some found.0) is found.1),
+  found.2 ∙ ap (λ (p : LogStart). behind p (length found.0)) is,
+  found.3 ∙ ap (λ (l : List ℕ). l ++ found.0) same,
+)
 
 -- one block more
 pub leads_more : (first : ℕ) (log : List ℕ) (place : LogStart) (blocks : List Block) (end : LogStart) (block : Block) → Leads first log place blocks end → next_block first log end ≡ Some block
@@ -34,11 +33,10 @@ FoundSoFar log from bytes place = (blocks : List Block) × Leads from.generation
 
 pub found_more : (log log_now : List ℕ) (from place next : LogStart) (old new : List ℕ) → log_now ≡ log → FoundSoFar log from old place → FindsNext from.generation log_now place (Some next) old new → FoundSoFar log from new next
 found_more log log_now from place next old new same so_far found =
-    let block : Block = (found.0, found.1) in
-    (
+    let block : Block = (found.0, found.1) in (
       so_far.0 ++ block ∷ [],
       subst (λ (p : LogStart). Leads from.generation log from (so_far.0 ++ block ∷ []) p) (sym found.3)
-      (leads_more from.generation log from so_far.0 place block so_far.1 (subst (λ (l : List ℕ). next_block from.generation l place ≡ Some block) same found.2)),
+          (leads_more from.generation log from so_far.0 place block so_far.1 (subst (λ (l : List ℕ). next_block from.generation l place ≡ Some block) same found.2)),
       found.4 ∙ ap (λ (l : List ℕ). l ++ found.1) so_far.2 ∙ ap (λ (l : List ℕ). payloads so_far.0 ++ l) (sym (append-nil found.1)) ∙ sym (payloads-append so_far.0 (block ∷ [])),
     )
 

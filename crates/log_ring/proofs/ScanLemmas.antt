@@ -1,10 +1,9 @@
 -- What a scan gives of a log that was changed.
-use Rattle.std.proofs.Common.{◌≡◌, ◌≢◌, ◌⊎◌, inl, inr, ⊎_elim, ℕ, ◌+◌, ◌-◌, ◌≤◌, ◌<◌, Bool, true, false, Option, Some, None, List, [], ◌∷◌, ◌++◌, length, get_or, take, drop, refl, sym, ◌∙◌, ap, subst, arith, rules}
-use Rattle.std.proofs.lemmas.Bool.{cases_lt}
+use Rattle.std.proofs.Common.{◌≡◌, ◌≢◌, ◌⊎◌, inl, inr, ℕ, ◌+◌, ◌≤◌, ◌<◌, true, false, None, List, [], length, get_or, refl, ◌∙◌, ap, subst, arith}
 use Rattle.std.proofs.lemmas.List.{append-nil}
-use Rattle.jet_volume.specs.Crash.{Torn, written}
+use Rattle.jet_volume.specs.Crash.{Torn}
 use Rattle.jet_volume.specs.declared.files.LogStart.{LogStart}
-use Rattle.log_ring.specs.Blocks.{slot_start, address, open_payload, behind, next_generation, next_block, Leads, payloads, Scans}
+use Rattle.log_ring.specs.Blocks.{slot_start, address, open_payload, next_generation, Leads, Scans}
 use Rattle.log_ring.specs.Gates.{is_barred, IsClosed}
 use Rattle.log_ring.proofs.Paths.{Block, Bounds, Keeps, leads_bounds, leads_keep, next_none, none_here, none_turned}
 use Rattle.log_ring.proofs.Slots.{next_slot, keeps_torn}
@@ -44,9 +43,11 @@ module _ (old new : List ℕ) (from : LogStart) (stream : List ℕ) (end : LogSt
       below : (generation ≡ end.generation + 1) ⊎ (generation ≡ end.generation + 2) → (q : LogStart) → q.generation < end.generation → q.generation ≢ generation
       below (inl e) q less = λ same. absurd (omega (arith, e, less, same))
       below (inr e) q less = λ same. absurd (omega (arith, e, less, same))
+
       within : (generation ≡ end.generation + 1) ⊎ (generation ≡ end.generation + 2) → (q : LogStart) → q.generation ≡ end.generation → q.generation ≢ generation
       within (inl e) q at = λ same. absurd (omega (arith, e, at, same))
       within (inr e) q at = λ same. absurd (omega (arith, e, at, same))
+
       turned : (generation ≡ end.generation + 1) ⊎ (generation ≡ end.generation + 2) → open_payload old (next_generation end) ≡ None → open_payload new (next_generation end) ≡ None
       turned (inl e) none =
           let at : slot_start generation ≡ address (next_generation end) = omega (arith, ap slot_start e) in
@@ -62,9 +63,9 @@ module _ (old new : List ℕ) (from : LogStart) (stream : List ℕ) (end : LogSt
       let bounds = bounds_of scans in
       let still : is_barred (end.generation + 1) new ≡ true = barred_stays (end.generation + 1) old new (address end) 1 torn (away (next_slot end.generation (omega (arith, one, bounds.generation)))) is in (
         scans_same scans
-        (keeps_torn (address end) 1 old new torn from.generation end.generation from end one bounds refl (bounds.near (omega arith)) (inl refl) (omega arith) (omega (arith, inside)) (λ same. omega arith))
-        (gate_torn old new end inside torn needs (none_here from.generation old end scans.ends))
-        (λ near. barred_none (end.generation + 1) new (next_generation end) refl refl still),
+            (keeps_torn (address end) 1 old new torn from.generation end.generation from end one bounds refl (bounds.near (omega arith)) (inl refl) (omega arith) (omega (arith, inside)) (λ same. omega arith))
+            (gate_torn old new end inside torn needs (none_here from.generation old end scans.ends))
+            (λ near. barred_none (end.generation + 1) new (next_generation end) refl refl still),
         still,
       )
     where
@@ -81,9 +82,9 @@ module _ (old new : List ℕ) (from : LogStart) (stream : List ℕ) (end : LogSt
       let bounds = bounds_of scans in
       let still : IsClosed (address end) new = closed_stays (address (next_generation end)) 1 old new torn (address end) (away (next_slot end.generation (omega (arith, one, bounds.generation)))) closed in (
         scans_same scans
-        (keeps_torn (address (next_generation end)) 1 old new torn from.generation (end.generation + 1) from end one bounds refl near (inr refl) (omega arith) (omega arith) (λ same. absurd (omega (arith, same))))
-        (closed_none new end inside still.shut)
-        (λ close. gate_torn old new (next_generation end) (omega arith) torn needs (none_turned from.generation old end scans.ends close)),
+            (keeps_torn (address (next_generation end)) 1 old new torn from.generation (end.generation + 1) from end one bounds refl near (inr refl) (omega arith) (omega arith) (λ same. absurd (omega (arith, same))))
+            (closed_none new end inside still.shut)
+            (λ close. gate_torn old new (next_generation end) (omega arith) torn needs (none_turned from.generation old end scans.ends close)),
         still,
       )
     where

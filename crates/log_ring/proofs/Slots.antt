@@ -1,12 +1,12 @@
 -- What of one slot stays when another is written.
-use Rattle.std.proofs.Common.{◌≡◌, ◌≢◌, ◌⊎◌, inl, inr, ⊎_elim, ℕ, ◌+◌, ◌-◌, ◌*◌, ◌/◌, ◌%◌, ◌≤◌, ◌<◌, Option, Some, None, List, [], ◌∷◌, length, get_or, take, drop, refl, sym, ◌∙◌, ap, subst, arith, rules}
+use Rattle.std.proofs.Common.{◌≡◌, ◌≢◌, ◌⊎◌, inl, inr, ⊎_elim, ℕ, ◌+◌, ◌-◌, ◌%◌, ◌≤◌, ◌<◌, Some, List, length, take, drop, sym, ◌∙◌, ap, arith}
 use Rattle.std.proofs.lemmas.Bool.{cases_lt}
 use Rattle.std.proofs.lemmas.List.{take-take}
 use Rattle.jet_volume.specs.Crash.{Torn}
 use Rattle.jet_volume.specs.declared.files.LogStart.{LogStart}
 use Rattle.log_ring.specs.Blocks.{slot_start, address, slot_rest, block_at, open_payload}
 use Rattle.log_ring.proofs.Windows.{part_before, rest_behind}
-use Rattle.log_ring.proofs.Opened.{Opened, opened, opens, stays_open}
+use Rattle.log_ring.proofs.Opened.{opened, opens, stays_open}
 use Rattle.log_ring.proofs.Paths.{Bounds, Keeps, open_in_file}
 
 -- generations from 1 on that are less than 8 apart have different slots
@@ -71,11 +71,14 @@ module _ (at n : ℕ) (old new : List ℕ) (torn : Torn at n old new) where
       above_of : (high ≡ end.generation) ⊎ (high ≡ end.generation + 1) → (q : LogStart) → q.generation < end.generation → q.generation < high
       above_of (inl e) q less = omega (arith, e, less)
       above_of (inr e) q less = omega (arith, e, less)
+
       strict : {a b : ℕ} → a ≢ b → b ≤ a → b < a
       strict {a} {b} differs le = ⊎_elim (λ (l : b < a). l) (λ (g : a ≤ b). absurd (differs (omega (arith, g, le)))) (cases_lt b a)
+
       end_near : (high ≡ end.generation) ⊎ (high ≡ end.generation + 1) → (q : LogStart) → first ≤ q.generation → end.generation < q.generation + 8
       end_near (inl e) q above = omega (arith, e, near, above)
       end_near (inr e) q above = omega (arith, e, near, above)
+
       between : (high ≡ end.generation) ⊎ (high ≡ end.generation + 1) → (q : LogStart) → slot_start q.generation < slot_start high → slot_start end.generation + 1048576 ≤ slot_start q.generation → ⊥
       between (inl e) q before higher =
           let slot : slot_start high ≡ slot_start end.generation = ap slot_start e in
@@ -86,12 +89,14 @@ module _ (at n : ℕ) (old new : List ℕ) (torn : Torn at n old new) where
           (λ (up : slot_start (end.generation + 1) ≡ slot_start end.generation + 1048576). absurd (omega (arith, slot, before, higher, up)))
           (λ (round : (slot_start (end.generation + 1) ≡ 0) × (slot_start end.generation ≡ 7340032)). absurd (omega (arith, slot, before, round.0)))
           (next_slot end.generation (omega (arith, one, is, bounds.generation)))
+
       gap : (high ≡ end.generation) ⊎ (high ≡ end.generation + 1) → (q : LogStart) → first ≤ q.generation → q.generation < end.generation → slot_start q.generation < slot_start high → slot_start q.generation + 1048576 ≤ slot_start end.generation
       gap which q above less before =
           let apart : slot_start q.generation ≢ slot_start end.generation = other_slot q.generation end.generation (omega (arith, one, above)) less (end_near which q above) in
           ⊎_elim (λ (lower : slot_start q.generation < slot_start end.generation). slots_apart q.generation end.generation lower)
           (λ (higher : slot_start end.generation ≤ slot_start q.generation). absurd (between which q before (slots_apart end.generation q.generation (strict apart higher))))
           (cases_lt (slot_start q.generation) (slot_start end.generation))
+
       stays : (high ≡ end.generation) ⊎ (high ≡ end.generation + 1) → (q : LogStart) (payload : List ℕ) → slot_start q.generation ≡ slot_start end.generation → q.offset + 21 + length payload ≤ end.offset
           → open_payload old q ≡ Some payload → open_payload new q ≡ Some payload
       stays (inl e) q payload same le opens = open_before q payload (omega (arith, after e, same, le)) opens

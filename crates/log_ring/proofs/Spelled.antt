@@ -1,11 +1,11 @@
 -- A block that is spelled out behind an open gate is open.
-use Rattle.std.proofs.Common.{◌≡◌, ℕ, ◌+◌, ◌-◌, ◌≤◌, ◌<◌, ◌^◌, ◌==◌, Bool, true, List, [], ◌∷◌, ◌++◌, Some, length, get_or, take, drop, refl, sym, ◌∙◌, ap, subst, arith, rules, append_assoc, add-one, length-append}
-use Rattle.std.specs.Int.{w32, w64, to_le_bytes, from_le_bytes, bytes_low_first}
+use Rattle.std.proofs.Common.{◌≡◌, ℕ, ◌+◌, ◌-◌, ◌≤◌, ◌<◌, ◌^◌, List, [], ◌∷◌, ◌++◌, Some, length, get_or, take, drop, refl, sym, ◌∙◌, ap, arith, add-one, length-append}
+use Rattle.std.specs.Int.{w32, w64, to_le_bytes, from_le_bytes}
 use Rattle.std.proofs.lemmas.Bool.{eq-eqb}
 use Rattle.std.proofs.lemmas.Nat.{from_le_bytes-to_le_bytes_4, from_le_bytes-to_le_bytes_8}
 use Rattle.std.proofs.lemmas.List.{take-take, take_at, take_all, drop_more}
 use Rattle.jet_volume.specs.declared.files.LogStart.{LogStart}
-use Rattle.log_ring.specs.Blocks.{slot_start, address, slot_rest, length_field, is_of, behind_gate, open_payload}
+use Rattle.log_ring.specs.Blocks.{address, slot_rest, length_field, is_of, behind_gate, open_payload}
 use Rattle.log_ring.proofs.Opened.{Opened, opens, stays_open, and_both}
 
 -- how long a block is behind its gate, with the gate behind it
@@ -13,7 +13,7 @@ pub length-behind_gate : (place : LogStart) (payload : List ℕ) → length (beh
 length-behind_gate place payload = omega (arith, length-append payload (0 ∷ []))
 
 module _ (place : LogStart) (payload : List ℕ) (generation : place.generation < 2 ^ 64) (position : place.position < 2 ^ 64) (some : 1 ≤ length payload) (most : length payload ≤ 65500)
-  (fits : place.offset + 22 + length payload ≤ 1048576) where
+    (fits : place.offset + 22 + length payload ≤ 1048576) where
   abbrev spelled : List ℕ
   spelled = 1 ∷ behind_gate place payload
 

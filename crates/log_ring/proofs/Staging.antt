@@ -1,18 +1,15 @@
 -- A block that is written behind a closed gate, and then opened.
-use Rattle.std.proofs.Common.{◌≡◌, ◌≢◌, ◌⊎◌, inl, inr, ⊎_elim, ℕ, ◌+◌, ◌-◌, ◌≤◌, ◌<◌, ◌^◌, Bool, true, false, Option, Some, None, List, [], ◌∷◌, ◌++◌, length, get_or, take, drop, refl, sym, ◌∙◌, ap, subst, arith, rules}
-use Rattle.std.proofs.lemmas.Bool.{cases_lt, cases_eq}
+use Rattle.std.proofs.Common.{◌≡◌, ◌≢◌, ◌⊎◌, inl, inr, ⊎_elim, ℕ, ◌+◌, ◌≤◌, ◌<◌, true, Some, None, List, [], ◌∷◌, ◌++◌, length, get_or, refl, sym, ◌∙◌, ap, subst, arith}
 use Rattle.std.proofs.lemmas.List.{append-nil}
-use Rattle.jet_volume.specs.Crash.{Torn, written}
+use Rattle.jet_volume.specs.Crash.{Torn}
 use Rattle.jet_volume.specs.declared.files.LogStart.{LogStart}
-use Rattle.log_ring.specs.Blocks.{slot_start, address, behind_gate, open_payload, behind, next_generation, next_block, Leads, payloads, Scans}
-use Rattle.log_ring.specs.Gates.{is_barred, IsClosed, staged}
+use Rattle.log_ring.specs.Blocks.{slot_start, address, open_payload, behind, next_generation, next_block, payloads, Scans}
+use Rattle.log_ring.specs.Gates.{is_barred, IsClosed}
 use Rattle.log_ring.specs.Ready.{IsReady}
-use Rattle.log_ring.proofs.Windows.{written_torn, piece-written, length-written, same_part}
-use Rattle.log_ring.proofs.Paths.{Block, Bounds, Keeps, leads_bounds, leads_keep, next_here, next_turned, next_none, payloads-append}
+use Rattle.log_ring.proofs.Paths.{Bounds, Keeps, leads_keep, next_here, next_turned, next_none, payloads-append}
 use Rattle.log_ring.proofs.Slots.{next_slot, keeps_torn}
 use Rattle.log_ring.proofs.Barring.{closed_none, closed_stays, barred_none, barred_stays}
 use Rattle.log_ring.proofs.ScanLemmas.{bounds_of, scans_same}
-use Rattle.log_ring.proofs.Spelled.{length-behind_gate, spelled_open}
 
 -- where the next block goes: to the end, or to the beginning of the next generation
 pub data Goes (first : ℕ) (log : List ℕ) (end place : LogStart) : Type 0 where

@@ -2,8 +2,8 @@
 use Rattle.std.proofs.Common.{◌≡◌, ℕ, ◌-◌, min, List, length, take, drop, refl, sym, ◌∙◌, ap, subst, length-drop}
 use Rattle.std.proofs.lemmas.List.{take_min}
 use Rattle.jet_volume.specs.declared.files.File.TheVariants.{Log}
-use Rattle.jet_volume.specs.Image.{Image, SameBut}
-use Rattle.jet_volume.specs.Crash.{Torn, TornFile, CrashLeaves, CrashFollows, Elapses, LeavesOnly}
+use Rattle.jet_volume.specs.Image.{Image}
+use Rattle.jet_volume.specs.Crash.{Torn, TornFile, CrashLeaves, CrashFollows, Elapses}
 use Rattle.jet_volume.specs.Moments.{started, goes_on, goes_on_by, leaves_weaker, leaves_now}
 use Rattle.log_ring.specs.Writes.{LogIs, ChangesLog, LogGoes, LooksOnly}
 

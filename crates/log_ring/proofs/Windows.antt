@@ -1,6 +1,6 @@
 -- What a torn write leaves of the bytes before it and behind it.
-use Rattle.std.proofs.Common.{◌≡◌, ℕ, ◌+◌, ◌-◌, ◌≤◌, ◌<◌, min, max, List, [], ◌∷◌, ◌++◌, length, get_or, take, drop, replicate, refl, sym, ◌∙◌, ap, subst, arith, rules, length-append, length-take, length-drop}
-use Rattle.std.proofs.lemmas.List.{length-replicate, same_lists, places, take_at, take_min, take-take, drop-take, drop-drop, take_all, drop_more}
+use Rattle.std.proofs.Common.{◌≡◌, ℕ, ◌+◌, ◌-◌, ◌≤◌, min, max, List, ◌++◌, length, take, drop, replicate, refl, sym, ◌∙◌, ap, arith, rules, length-append, length-take, length-drop}
+use Rattle.std.proofs.lemmas.List.{length-replicate, same_lists, places, take_min, drop-drop}
 use Rattle.jet_volume.specs.Crash.{Torn, padded, written}
 
 pub length-padded : (at : ℕ) (bytes : List ℕ) → length (padded at bytes) ≡ at

@@ -1,5 +1,5 @@
 -- What a ring in memory knows of the log.
-use Rattle.std.specs.Prelude.{◌≡◌, ◌<◌, ◌≤◌, ℕ, List, Result, Ok, Err}
+use Rattle.std.specs.Prelude.{◌≡◌, ◌<◌, ℕ, List, Result, Ok, Err}
 use Rattle.jet_volume.specs.declared.files.LogStart.{LogStart}
 use Rattle.jet_volume.specs.Image.{Image}
 use Rattle.log_ring.specs.declared.ring.LogRing.{LogRing}

@@ -1,5 +1,5 @@
 -- What is done to the log file of a volume, and to no other.
-use Rattle.std.specs.Prelude.{◌≡◌, ◌⊎◌, ℕ, List}
+use Rattle.std.specs.Prelude.{◌≡◌, ℕ, List}
 use Rattle.jet_volume.specs.declared.files.File.TheVariants.{Log}
 use Rattle.jet_volume.specs.Image.{Image, SameBut}
 use Rattle.jet_volume.specs.Crash.{CrashLeaves, LeavesOnly}

@@ -1,7 +1,6 @@
-use Rattle.std.proofs.Common.{inl, inr, ℕ, List}
+use Rattle.std.proofs.Common.{inl, inr}
 use Rattle.log_ring.specs.Gates.{begun}
 use Rattle.log_ring.specs.Appends.{BeginningLeaves, StoringLeaves, AppendingLeaves}
-use Rattle.log_ring.specs.Writes.{LogIs, LogGoes}
 use Rattle.log_ring.proofs.Steps.{log_weaker, log_goes_on}
 use Rattle.log_ring.proofs.ring.append_at.Goals as goal
 

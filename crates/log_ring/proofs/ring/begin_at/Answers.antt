@@ -1,9 +1,8 @@
-use Rattle.std.proofs.Common.{◌≡◌, inr, ℕ, ◌+◌, true, List, sym, ◌∙◌, ap, subst}
+use Rattle.std.proofs.Common.{◌≡◌, inr, ℕ, ◌+◌, true, sym, ◌∙◌, ap, subst}
 use Rattle.std.proofs.lemmas.Result.{on_ok_weaker}
-use Rattle.log_ring.specs.Blocks.{address}
 use Rattle.log_ring.specs.Gates.{barred, closed, begun, ReadyingLeaves}
 use Rattle.log_ring.specs.Appends.{BeginningLeaves}
-use Rattle.log_ring.specs.Writes.{LogIs, LogGoes}
+use Rattle.log_ring.specs.Writes.{LogIs}
 use Rattle.log_ring.proofs.Steps.{log_weaker}
 use Rattle.log_ring.proofs.Appending.{begun_zero}
 use Rattle.log_ring.proofs.ring.begin_at.Goals as goal
@@ -20,4 +19,3 @@ returns-then-place-eq0-clause-any_moment g c tells log is =
     (λ from to. ReadyingLeaves (c.args.place.generation + 1) true c.address_of.result log to) (λ from to. BeginningLeaves c.args.place log to)
     (c.make_ready.ensures.any_moment tells log is)
     (λ image to left one. inr (c.if-place-eq0.true, subst (λ at. ReadyingLeaves (c.args.place.generation + 1) true at log to) c.address_of.ensures.place one))
-

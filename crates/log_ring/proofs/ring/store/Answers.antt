@@ -6,7 +6,7 @@ use Rattle.jet_volume.specs.declared.files.LogStart.{LogStart}
 use Rattle.log_ring.specs.Blocks.{address, behind_gate}
 use Rattle.log_ring.specs.Gates.{staged}
 use Rattle.log_ring.specs.Appends.{StoringLeaves}
-use Rattle.log_ring.specs.Writes.{LogIs, LogGoes}
+use Rattle.log_ring.specs.Writes.{LogIs}
 use Rattle.log_ring.proofs.Spelled.{length-behind_gate}
 use Rattle.log_ring.proofs.Steps.{log_weaker, log_goes_on}
 use Rattle.log_ring.proofs.ring.store.Goals as goal

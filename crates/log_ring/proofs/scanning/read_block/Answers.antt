@@ -1,7 +1,7 @@
-use Rattle.std.proofs.Common.{◌≡◌, ◌⊎◌, inl, inr, ⊎_elim, ℕ, ◌+◌, ◌≤◌, ◌<◌, Bool, true, false, Some, List, ◌++◌, length, take, drop, sym, ◌∙◌, ap, subst, arith, length-take, length-drop}
+use Rattle.std.proofs.Common.{◌≡◌, ⊎_elim, ℕ, ◌+◌, ◌≤◌, ◌<◌, true, false, Some, List, ◌++◌, length, take, drop, ◌∙◌, ap, arith, length-take, length-drop}
 use Rattle.jet_volume.specs.Image.{Image}
 use Rattle.jet_volume.specs.declared.files.LogStart.{LogStart}
-use Rattle.log_ring.specs.Blocks.{address, begins_block, length_field, open_payload, ReadsBlock}
+use Rattle.log_ring.specs.Blocks.{address, begins_block, length_field, ReadsBlock}
 use Rattle.log_ring.proofs.Steps.{looks_on}
 use Rattle.log_ring.proofs.Headers.{none_begins, none_short, none_cut, begins_open}
 use Rattle.log_ring.proofs.scanning.read_block.Goals as goal
@@ -26,13 +26,12 @@ same_log place at len a b old new same is found =
 
 reads : (log : List ℕ) (place : LogStart) (len : ℕ) (old new : List ℕ) → (begins_block place (take 21 (drop (address place) log)) ≡ true) × (len ≡ length_field (take 21 (drop (address place) log)))
     → (address place + 21 + len ≤ length log) × (new ≡ old ++ take len (drop (address place + 21) log)) → ReadsBlock log place (Some len) old new
-reads log place len old new begins found =
-    (
-      take len (drop (address place + 21) log),
-      begins_open log place len begins.0 begins.1 found.0,
-      omega (arith, length-take len (drop (address place + 21) log), length-drop (address place + 21) log, found.0),
-      found.1,
-    )
+reads log place len old new begins found = (
+  take len (drop (address place + 21) log),
+  begins_open log place len begins.0 begins.1 found.0,
+  omega (arith, length-take len (drop (address place + 21) log), length-drop (address place + 21) log, found.0),
+  found.1,
+)
 
 pub returns-in-Ok-true-clause-block : goal.returns-in-Ok-true-clause-block
 returns-in-Ok-true-clause-block g c tells =

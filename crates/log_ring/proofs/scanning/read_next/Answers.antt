@@ -1,7 +1,7 @@
-use Rattle.std.proofs.Common.{◌≡◌, ℕ, Some, None, List, length, sym, ◌∙◌, ap, subst}
+use Rattle.std.proofs.Common.{◌≡◌, None, ap}
 use Rattle.std.proofs.lemmas.Result.{IfOk-weaker}
 use Rattle.jet_volume.specs.Image.{Image}
-use Rattle.log_ring.specs.Blocks.{open_payload, FindsNext, ReadsBlock, ReadsWithin}
+use Rattle.log_ring.specs.Blocks.{open_payload}
 use Rattle.log_ring.proofs.Steps.{looks_on}
 use Rattle.log_ring.proofs.Reading.{turned_found}
 use Rattle.log_ring.proofs.scanning.read_next.Goals as goal

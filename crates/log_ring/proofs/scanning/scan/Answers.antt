@@ -1,4 +1,4 @@
-use Rattle.std.proofs.Common.{◌≡◌, ℕ, ◌+◌, List, length, sym, ◌∙◌, ap, arith}
+use Rattle.std.proofs.Common.{◌∙◌, ap, arith}
 use Rattle.jet_volume.specs.Image.{Image}
 use Rattle.log_ring.proofs.Steps.{looks_on}
 use Rattle.log_ring.proofs.Reading.{found_more, near_more}

@@ -1,4 +1,4 @@
-use Rattle.std.proofs.Common.{◌≡◌, ℕ, ◌+◌, ◌-◌, ◌*◌, ◌≤◌, ◌<◌, List, length}
+use Rattle.std.proofs.Common.{◌≡◌, ◌+◌, ◌-◌, ◌*◌, List}
 use Rattle.log_ring.specs.Blocks.{Leads, payloads, EndsNear}
 use Rattle.log_ring.specs.Writes.{LooksOnly}
 use Rattle.log_ring.proofs.Paths.{Block}

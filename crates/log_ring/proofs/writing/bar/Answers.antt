@@ -1,9 +1,8 @@
 use Rattle.std.proofs.Common.{◌≡◌, ◌⊎◌, inl, inr, ℕ, List, [], ◌∷◌, true, false, take, drop, sym, ◌∙◌, ap, subst}
-use Rattle.jet_volume.specs.Image.{Image}
 use Rattle.jet_volume.specs.Crash.{Torn, written}
 use Rattle.log_ring.specs.Blocks.{slot_start}
 use Rattle.log_ring.specs.Gates.{bars, is_barred, barred}
-use Rattle.log_ring.specs.Writes.{LogIs, LogGoes}
+use Rattle.log_ring.specs.Writes.{LogIs}
 use Rattle.std.proofs.lemmas.Result.{on_ok_weaker}
 use Rattle.log_ring.proofs.GateLemmas.{barred_already, barred_anew}
 use Rattle.log_ring.proofs.Steps.{log_started, log_looked, log_goes_on, log_is_looked, looked_bytes}

@@ -1,7 +1,7 @@
-use Rattle.std.proofs.Common.{◌≡◌, ◌⊎◌, inl, inr, ℕ, List, [], ◌∷◌, Bool, true, false, take, drop, sym, ◌∙◌, ap, subst}
-use Rattle.jet_volume.specs.Crash.{Torn, written}
-use Rattle.log_ring.specs.Gates.{needs_zero, closed}
-use Rattle.log_ring.specs.Writes.{LogIs, LogGoes}
+use Rattle.std.proofs.Common.{◌≡◌, ◌⊎◌, inl, inr, ℕ, List, Bool, true, false, take, drop, sym, ◌∙◌, ap, subst}
+use Rattle.jet_volume.specs.Crash.{Torn}
+use Rattle.log_ring.specs.Gates.{needs_zero}
+use Rattle.log_ring.specs.Writes.{LogIs}
 use Rattle.std.proofs.lemmas.Result.{on_ok_weaker}
 use Rattle.log_ring.proofs.GateLemmas.{closed_already, closed_anew}
 use Rattle.log_ring.proofs.Steps.{log_started, log_looked, log_goes_on, log_is_looked, looked_bytes}

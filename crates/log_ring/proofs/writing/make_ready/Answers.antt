@@ -1,7 +1,5 @@
-use Rattle.std.proofs.Common.{inl, inr, ℕ, List}
-use Rattle.jet_volume.specs.Image.{Image}
-use Rattle.log_ring.specs.Gates.{barred, closed, BarringLeaves, ClosingLeaves, ReadyingLeaves}
-use Rattle.log_ring.specs.Writes.{LogIs, LogGoes}
+use Rattle.std.proofs.Common.{inl, inr}
+use Rattle.log_ring.specs.Gates.{barred, BarringLeaves, ClosingLeaves, ReadyingLeaves}
 use Rattle.log_ring.proofs.Steps.{log_goes_on, log_weaker}
 use Rattle.log_ring.proofs.writing.make_ready.Goals as goal
 

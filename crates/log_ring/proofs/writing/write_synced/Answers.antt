@@ -1,4 +1,4 @@
-use Rattle.std.proofs.Common.{◌≡◌, ℕ, List, length, ◌∙◌, ap, subst}
+use Rattle.std.proofs.Common.{◌≡◌, ℕ, List, length, ◌∙◌, ap}
 use Rattle.jet_volume.specs.Image.{Image}
 use Rattle.jet_volume.specs.Crash.{Torn, written}
 use Rattle.std.proofs.lemmas.Result.{on_ok_weaker}

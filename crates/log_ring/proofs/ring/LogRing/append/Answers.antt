@@ -1,10 +1,10 @@
-use Rattle.std.proofs.Common.{◌≡◌, ◌⊎◌, inl, inr, ⊎_elim, ℕ, ◌+◌, ◌<◌, ◌^◌, Some, List, ◌++◌, length, sym, ◌∙◌, ap, subst, arith}
+use Rattle.std.proofs.Common.{◌≡◌, ◌⊎◌, inl, inr, ℕ, ◌<◌, ◌^◌, Some, List, ◌++◌, length, sym, ◌∙◌, ap, subst, arith}
 use Rattle.jet_volume.specs.declared.files.LogStart.{LogStart}
 use Rattle.log_ring.specs.Blocks.{behind, Scans}
 use Rattle.log_ring.specs.Gates.{place_for, appended}
 use Rattle.log_ring.specs.Ready.{IsReady}
-use Rattle.log_ring.specs.Appends.{AppendingLeaves, Gives, GivesBeforeOrAfter}
-use Rattle.log_ring.specs.Writes.{LogIs, LogGoes}
+use Rattle.log_ring.specs.Appends.{AppendingLeaves, GivesBeforeOrAfter}
+use Rattle.log_ring.specs.Writes.{LogIs}
 use Rattle.log_ring.proofs.Steps.{log_started, log_weaker}
 use Rattle.log_ring.proofs.Appending.{Chosen, chosen, chosen_generation, chosen_position, one_place, appending_scans, appended_ready}
 use Rattle.log_ring.proofs.ring.LogRing.append.Goals as goal

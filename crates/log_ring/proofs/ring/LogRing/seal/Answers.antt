@@ -1,8 +1,8 @@
-use Rattle.std.proofs.Common.{◌≡◌, inl, inr, ℕ, ◌+◌, Bool, List, nat_lt, sym, ◌∙◌, ap, subst}
+use Rattle.std.proofs.Common.{ℕ, ◌+◌, nat_lt, subst}
 use Rattle.std.proofs.lemmas.Result.{on_ok_weaker}
-use Rattle.log_ring.specs.Blocks.{address, Scans}
+use Rattle.log_ring.specs.Blocks.{Scans}
 use Rattle.log_ring.specs.Gates.{barred, closed, sealed, ReadyingLeaves}
-use Rattle.log_ring.specs.Writes.{LogIs, LogGoes}
+use Rattle.log_ring.specs.Writes.{LogIs}
 use Rattle.log_ring.proofs.Steps.{log_weaker}
 use Rattle.log_ring.proofs.Appending.{sealing_scans, sealed_ready}
 use Rattle.log_ring.proofs.ring.LogRing.seal.Goals as goal
