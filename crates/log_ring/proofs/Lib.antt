@@ -1,0 +1,14 @@
+pub mod Windows
+pub mod Opened
+pub mod Steps
+pub mod GateLemmas
+pub mod Paths
+pub mod Slots
+pub mod Barring
+pub mod ScanLemmas
+pub mod Spelled
+pub mod Staging
+pub mod Appending
+pub mod Headers
+pub mod Reading
+pub mod Once
