@@ -4,9 +4,13 @@
 
 mod gate;
 mod image;
+mod laws;
 mod pages;
 mod rest;
 mod writing;
 
 pub use image::{Found, Image, Standing};
+pub use laws::{
+    first_checkpoint_file, new_volumes, what_is_written_is_read, which_file_is_looked_at,
+};
 pub use writing::{VolumeFault, write};

@@ -170,6 +170,7 @@ pub fn write_file<V: Volume>(
         → CrashLeaves V.moment V.left_at volume.new (λ files. SaysOpenly (contents_with head slots.now live.now) (file_bytes (file_of head.number) files))) }
     ensures each { V.tells_contents
         → EachFollows V.moment V.left_at (WritesFile (file_of head.number) (contents_with head slots.now live.now)) volume.old volume.new }
+    ensures seen { V.tells_contents → SameBut (file_of head.number) (V.seen volume.old) (V.seen volume.new) }
     ensures faults { CountsFault result (V.faults volume.old) (V.faults volume.new) }
 {
     let file = file_of(head.number);

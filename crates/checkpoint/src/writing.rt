@@ -40,6 +40,7 @@ fn write_parts<V: Volume>(
         → EachFollows V.moment V.left_at (KeepsOrBrings (λ s. contents_with head s live.now) pages.now) volume.old volume.new }
     ensures slots { OnOk result ((p : ℕ) → p < length pages.now
         → TakesSlot (slice_index_or standing.now.pages.items p None) (slice_index_or standing.now.slots.items p 2) (slice_index_or pages.now p None) (slice_index_or slots.new p 2)) }
+    ensures log { V.tells_contents → (V.seen volume.new).log ≡ (V.seen volume.old).log }
     ensures faults { CountsFault result (V.faults volume.old) (V.faults volume.new) }
 {
     write_pages(volume, pages, slots, standing)?;
@@ -73,6 +74,9 @@ pub fn write<V: Volume>(
     ensures pages { OnOk result (standing.new.pages.items ≡ image.old.pages.items) }
     ensures old_pages { OnOk result (image.new.pages.items ≡ standing.old.pages.items) }
     ensures old_slots { OnOk result (image.new.slots.items ≡ standing.old.slots.items) }
+    ensures log { V.tells_contents → (V.seen volume.new).log ≡ (V.seen volume.old).log }
+    ensures kept { (image.new.number ≡ image.old.number) × (image.new.catalog_root ≡ image.old.catalog_root) × (image.new.live.items ≡ image.old.live.items) }
+    ensures same_pages { OnErr result (image.new.pages.items ≡ image.old.pages.items) }
     ensures unchanged { OnErr result (standing.new ≡ standing.old) }
     ensures faults { CountsFault result (V.faults volume.old) (V.faults volume.new) }
 {
