@@ -1,0 +1,21 @@
+use Rattle.std.proofs.Common.{◌≡◌, ℕ, ◌+◌, List, Option, refl, sym, ◌∙◌, ap, subst}
+use Rattle.page_image.specs.Page.{PageContents}
+use Rattle.checkpoint.specs.Contents.{Contents}
+use Rattle.checkpoint.specs.Steps.{EachFollows, KeepsOrBrings}
+use Rattle.checkpoint.proofs.writing.write.Goals as goal
+
+pub returns-in_err-write_parts-clause-each_moment : goal.returns-in_err-write_parts-clause-each_moment
+returns-in_err-write_parts-clause-each_moment g c tells stands =
+    let contents : List ℕ → List ℕ → Contents = λ live slots.
+    record { number = c.args.standing.now.number + 1; entries = c.args.image.now.number; start = c.args.start; catalog_root = c.args.image.now.catalog_root; slots = slots; live = live } in
+    subst (λ (live : List ℕ). EachFollows g.V.Volume.moment g.V.Volume.left_at (KeepsOrBrings (contents live) c.args.image.now.pages.items) c.args.volume.now c.write_parts.new.volume) c.deref-2.ensures.value
+    (subst (λ (pages : List (Option PageContents)). EachFollows g.V.Volume.moment g.V.Volume.left_at (KeepsOrBrings (contents c.deref-2.result.now) pages) c.args.volume.now c.write_parts.new.volume) c.deref.ensures.value
+    (c.write_parts.ensures.each_moment tells stands))
+
+pub returns-clause-each_moment : goal.returns-clause-each_moment
+returns-clause-each_moment g c tells stands =
+    let contents : List ℕ → List ℕ → Contents = λ live slots.
+    record { number = c.args.standing.now.number + 1; entries = c.args.image.now.number; start = c.args.start; catalog_root = c.args.image.now.catalog_root; slots = slots; live = live } in
+    subst (λ (live : List ℕ). EachFollows g.V.Volume.moment g.V.Volume.left_at (KeepsOrBrings (contents live) c.args.image.now.pages.items) c.args.volume.now c.write_parts.new.volume) c.deref-2.ensures.value
+    (subst (λ (pages : List (Option PageContents)). EachFollows g.V.Volume.moment g.V.Volume.left_at (KeepsOrBrings (contents c.deref-2.result.now) pages) c.args.volume.now c.write_parts.new.volume) c.deref.ensures.value
+    (c.write_parts.ensures.each_moment tells stands))

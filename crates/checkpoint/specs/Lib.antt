@@ -1,0 +1,4 @@
+pub mod Contents
+pub mod Opening
+pub mod Shape
+pub mod Steps

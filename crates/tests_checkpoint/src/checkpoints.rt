@@ -1,0 +1,112 @@
+//! Checkpoints of one page: the bytes of their files, the slots of dirty and clean pages, and each call failing.
+
+ghost use Rattle.std.specs.Prelude.{◌≡◌, ◌⊎◌, ◌<◌, IfOk, IfSome};
+ghost use Rattle.checkpoint.specs.Shape.{IsInShape};
+
+use checkpoint::{Image, Standing, write};
+use jet_volume::{File, LogStart, MemVolume, Volume};
+use page_image::Page;
+use std::alloc::{AllocError, Global};
+use std::test::Fail;
+
+/// The log goes on in generation 1 at offset 40 and stream position 18.
+const START: LogStart = LogStart {
+    generation: 1,
+    offset: 40,
+    position: 18,
+};
+
+/// What stands on a new volume.
+fn nothing(alloc: Global) -> Standing
+    ensures { result.number ≡ 0 }
+{
+    Standing {
+        number: 0,
+        format: 1,
+        start: START,
+        pages: Vec::new(alloc),
+        slots: Vec::new(alloc),
+    }
+}
+
+/// An image of one page without a node, of this kind.
+fn one_page(alloc: Global, kind: u8) -> Result<Image, AllocError>
+    requires { (kind ≡ 1) ⊎ (kind ≡ 2) }
+    ensures { IfOk result (λ image. IsInShape image) }
+{
+    let page = Page::empty(0, kind);
+    let pages = vec![in alloc; Some(page)]?;
+    let slots = vec![in alloc; 2]?;
+    let live = vec![in alloc; 9, 8]?;
+    Ok(Image {
+        number: 5,
+        pages,
+        slots,
+        catalog_root: 0,
+        live,
+    })
+}
+
+#[test]
+fn a_first_checkpoint_has_these_bytes(rt: HostRuntime) -> Result<(), Fail> {
+    let alloc = rt.alloc();
+    let mut volume = MemVolume::new(alloc, Vec::new(alloc), None);
+    let mut standing = nothing(alloc);
+    let mut image = one_page(alloc, 1)?;
+    let written = write(&mut volume, &mut image, START, &mut standing).is_ok();
+    assert!(rt; written);
+    let bytes: [u8; 61] = [
+        1, 0x4a, 0x45, 0x54, 0x43, 0x4b, 1, 0, 0, 0, 1, 0, 0, 0, 0, 0, 0, 0, 5, 0, 0, 0, 0, 0, 0, 0,
+        1, 0, 0, 0, 0, 0, 0, 0, 40, 0, 0, 0, 18, 0, 0, 0, 0, 0, 0, 0, 0, 0, 0, 0, 1, 0, 0, 0, 0, 2,
+        0, 0, 0, 9, 8,
+    ];
+    assert_eq!(rt; volume.bytes(File::CheckpointA), bytes.as_slice());
+    assert_eq!(rt; volume.bytes(File::Database).len(), 4096);
+    Ok(())
+}
+
+#[test]
+fn each_call_of_a_checkpoint_fails_as_told(rt: HostRuntime) -> Result<(), Fail> {
+    let alloc = rt.alloc();
+    for call in 1..=14u64 {
+        let mut volume = MemVolume::new(alloc, [call].to_vec(alloc)?, None);
+        let mut standing = nothing(alloc);
+        let mut image = one_page(alloc, 1)?;
+        let failed = write(&mut volume, &mut image, START, &mut standing).is_err();
+        let told = (failed, standing.number, volume.faults());
+        let fails = call <= 13;
+        assert_eq!(rt; told, (fails, u64::from(!fails), u64::from(fails)), "call {call}");
+    }
+    Ok(())
+}
+
+#[test]
+fn a_dirty_page_takes_the_other_slot(rt: HostRuntime) -> Result<(), Fail> {
+    let alloc = rt.alloc();
+    let mut volume = MemVolume::new(alloc, Vec::new(alloc), None);
+    let mut standing = nothing(alloc);
+    for (kind, slot, size) in [(1, 0, 4096), (2, 1, 8192), (2, 1, 8192), (1, 0, 8192)] {
+        let number = standing.number;
+        let Some(mut image) = image_of(alloc, kind)? else {
+            break;
+        };
+        if number > 9 || write(&mut volume, &mut image, START, &mut standing).is_err() {
+            break;
+        }
+        assert_eq!(rt; standing.slots.as_slice(), [slot].as_slice());
+        assert_eq!(rt; volume.bytes(File::Database).len(), size);
+    }
+    assert_eq!(rt; standing.number, 4);
+    Ok(())
+}
+
+/// An image of one page, where a page may be of this kind.
+fn image_of(alloc: Global, kind: u8) -> Result<Option<Image>, AllocError>
+    ensures { IfOk result (λ image. IfSome image IsInShape) }
+{
+    if kind == 1 || kind == 2 {
+        Ok(Some(one_page(alloc, kind)?))
+    } else {
+        Ok(None)
+    }
+}

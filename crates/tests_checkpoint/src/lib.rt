@@ -1,0 +1,5 @@
+//! Tests of checkpoints over volumes in memory.
+#![tactic(auto)]
+
+#[cfg(test)]
+mod checkpoints;
