@@ -1,11 +1,11 @@
 //! The held changes, and the calls on them.
 
-ghost use Rattle.std.specs.Prelude.{◌≡◌, ℕ, ◌≤◌, ◌<◌, ◌↔◌, true, false, Option, Some, None, [], ◌∷◌, ◌++◌, length, map, drop, find, slice_get, option_copied, option_map, unwrap_or, IfSome, IsErrOf, OnOk, OnErr};
+ghost use Rattle.std.specs.Prelude.{◌≡◌, ℕ, ◌≤◌, ◌<◌, ◌↔◌, ◌==◌, true, false, Option, Some, None, [], ◌∷◌, ◌++◌, length, map, drop, find, slice_get, option_copied, option_map, unwrap_or, IfSome, IsErrOf, OnOk, OnErr};
 ghost use Rattle.version_store.specs.declared.fault.VersionFault.TheVariants as fault;
 ghost use Rattle.version_store.specs.Answers.{change_at};
-ghost use Rattle.version_store.specs.HeldChanges.{new_change, has_conflict, has_room, span as the_span, seen_row, shown, hides, conflicts, last_place, is_open_at, newest_undone, released_change, committed_change};
+ghost use Rattle.version_store.specs.HeldChanges.{is_kept, new_change, has_conflict, has_room, span as the_span, seen_row, shown, hides, conflicts, last_place, is_open_at, newest_undone, released_change, committed_change};
 
-use crate::calls::{By, Reader, Undone, Variant};
+use crate::calls::{By, ChangeKind, Reader, Undone, Variant};
 use crate::chains::Chains;
 use crate::ends::{commit_all, release_all};
 use crate::fault::VersionFault;
@@ -63,6 +63,13 @@ impl Versions {
         ensures { result ≡ length self.now }
     {
         self.items.len()
+    }
+
+    /// Whether no change is held.
+    pub fn is_empty(&self) -> bool
+        ensures { result ≡ (length self.now == 0) }
+    {
+        self.len() == 0
     }
 
     /// Whether the span of the version store stays within its limit with this change: it goes from the oldest kept change to
@@ -217,6 +224,30 @@ impl Versions {
         ensures { slice_get (map (λ h. h.bookmark) self.now) place ≡ Some result.now }
     {
         self.items[place].bookmark.as_bytes()
+    }
+
+    /// The number of the entry that made the change at this place.
+    pub fn number_at(&self, place: usize) -> u64
+        requires { place < length self.now }
+        ensures { slice_get (map (λ h. h.number) self.now) place ≡ Some result }
+    {
+        self.items[place].number
+    }
+
+    /// What the change at this place does to its record.
+    pub fn kind_at(&self, place: usize) -> ChangeKind
+        requires { place < length self.now }
+        ensures { slice_get (map (λ h. h.kind) self.now) place ≡ Some result }
+    {
+        self.items[place].kind
+    }
+
+    /// Whether the change at this place is kept: it is open, or was committed after the oldest open transaction began.
+    pub fn is_kept_at(&self, place: usize, oldest: Option<u64>) -> bool
+        requires { place < length self.now }
+        ensures { slice_get (map (is_kept oldest) self.now) place ≡ Some result }
+    {
+        self.items[place].is_kept(oldest)
     }
 
     /// The newest open change of the session at the level becomes undone. None where there is none.
