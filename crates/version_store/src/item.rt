@@ -34,6 +34,10 @@ pub(crate) struct Item {
     pub(crate) status: Status,
     /// What all changes before it have cost.
     pub(crate) spent: u64,
+    /// The number of the session's newest open change when this one was made, counted from 1 over all changes ever held.
+    pub(crate) own_before: u64,
+    /// No open change of the session, up to this one, is of a higher level.
+    pub(crate) highest: u8,
 }
 
 /// The table that the change touches.
@@ -198,6 +202,9 @@ impl Item {
     {
         if self.is_open_at(session, level) {
             self.level = level - 1;
+            if self.highest == level {
+                self.highest = level - 1;
+            }
         }
     }
 

@@ -7,7 +7,7 @@ ghost use Rattle.version_store.specs.HeldChanges.{is_kept, new_change, has_confl
 
 use crate::calls::{By, ChangeKind, Reader, Undone, Variant};
 use crate::chains::Chains;
-use crate::ends::{commit_all, release_all};
+use crate::ends::{commit_all, end_of, highest_before, make_room, newest_of, newest_without, release_all, set_newest};
 use crate::fault::VersionFault;
 use crate::item::{Item, Status, bookmark_of, cost_of, row_parts, table_of, what};
 use crate::slot::slot_of;
@@ -30,6 +30,8 @@ pub struct Versions {
     chains: Chains,
     // What all changes that were ever pushed have cost.
     total: u64,
+    // By the session's label the number of its newest open change: changes are numbered from 1, and 0 is none.
+    newest: Vec<u64>,
 }
 
 impl Model for Versions {
@@ -55,6 +57,7 @@ impl Versions {
             rows: Buckets::new(alloc),
             chains: Chains::new(alloc),
             total: 0,
+            newest: Vec::new(alloc),
         }
     }
 
@@ -135,6 +138,9 @@ impl Versions {
         let (had_row, row) = row_parts(before);
         let bookmark = bookmark_of(change).copy()?;
         let slot = slot_of(table_of(change), bookmark.as_bytes());
+        let own_before = newest_of(&self.newest, by.session);
+        let end = end_of(own_before, self.rows.first());
+        let highest = highest_before(&self.items, end).max(by.level);
         let item = Item {
             number: by.number,
             session: by.session,
@@ -145,8 +151,11 @@ impl Versions {
             had_row,
             status: Status::Uncommitted,
             spent: self.total,
+            own_before,
+            highest,
         };
         self.items.reserve(1)?;
+        make_room(&mut self.newest, by.session)?;
         self.chains.push(slot)?;
         match self.rows.push(row) {
             Ok(_) => {}
@@ -157,6 +166,8 @@ impl Versions {
         }
         self.items.push_back_reserved(item);
         self.total += cost;
+        let number = self.rows.first() + self.items.len() as u64;
+        set_newest(&mut self.newest, by.session, number);
         Ok(())
     }
 
@@ -257,9 +268,13 @@ impl Versions {
         ensures table { option_map (λ undone. undone.table.0) result ≡ option_map (λ h. h.table) (change_at self.old (last_place (is_open_at session.0 level) self.old)) }
     {
         let place = self.newest_open_at(session, level)?;
+        let newest = newest_of(&self.newest, session);
+        let first = self.rows.first();
         let item = &mut self.items[place];
         item.status = Status::Undone;
         let table = item.table;
+        let next = newest_without(newest, first, place, item.own_before);
+        set_newest(&mut self.newest, session, next);
         Some(Undone { table, place })
     }
 
@@ -268,12 +283,17 @@ impl Versions {
         ensures place { result ≡ last_place (is_open_at session.0 level) self.now }
         ensures within { IfSome result (λ place. place < length self.now) }
     {
-        let mut end = self.items.len();
+        let first = self.rows.first();
+        let mut end = end_of(newest_of(&self.newest, session), first);
         while end > 0 {
-            if self.items[end - 1].is_open_at(session, level) {
+            let item = &self.items[end - 1];
+            if item.is_open_at(session, level) {
                 return Some(end - 1);
             }
-            end -= 1;
+            if item.highest < level {
+                return None;
+            }
+            end = end_of(item.own_before, first);
         }
         None
     }
@@ -283,14 +303,19 @@ impl Versions {
         requires { 2 ≤ level }
         ensures { self.new ≡ map (released_change session.0 level) self.old }
     {
-        release_all(&mut self.items, session, level);
+        let first = self.rows.first();
+        let newest = newest_of(&self.newest, session);
+        release_all(&mut self.items, first, newest, session, level);
     }
 
     /// The session's open changes are committed, by the entry of this number.
     pub fn commit(&mut self, session: Session, number: u64)
         ensures { self.new ≡ map (committed_change session.0 number) self.old }
     {
-        commit_all(&mut self.items, session, number);
+        let first = self.rows.first();
+        let newest = newest_of(&self.newest, session);
+        commit_all(&mut self.items, first, newest, session, number);
+        set_newest(&mut self.newest, session, 0);
     }
 
     /// Gives up the oldest change.
