@@ -1,14 +1,14 @@
 -- The ways back through the open changes, after each step.
-use Rattle.std.proofs.Common.{◌≡◌, ℕ, zero, suc, ◌+◌, ◌-◌, ◌<◌, ◌≤◌, ◌==◌, ◌⊎◌, inl, inr, Bool, true, false, ◌&&◌, List, [], ◌∷◌, ◌++◌, Option, Some, None, map, length, get_or, set, drop, refl, sym, ap, subst, ◌∙◌, arith}
-use Rattle.std.specs.Prelude.{slice_get, option_map, if◌then◌else◌}
-use Rattle.std.proofs.lemmas.Bool.{cases_lt, eq-eqb, eqb-false, eqb-true}
+use Rattle.std.proofs.Common.{◌≡◌, ℕ, zero, suc, ◌+◌, ◌-◌, ◌<◌, ◌≤◌, ◌==◌, ◌⊎◌, inl, inr, Bool, true, false, ◌&&◌, List, [], ◌∷◌, ◌++◌, Some, map, length, get_or, set, drop, refl, sym, ap, subst, ◌∙◌, arith}
+use Rattle.std.specs.Prelude.{slice_get, if◌then◌else◌}
+use Rattle.std.proofs.lemmas.Bool.{cases_lt, eqb-false, eqb-true}
 use Rattle.std.proofs.lemmas.List.{get_or-set_same, get_or-set_other, length-map, length-set, length_push}
-use Rattle.std.proofs.lemmas.Option.{slice_get-map, slice_get_within, slice_get_past, slice_get-get_or, slice_get_read}
+use Rattle.std.proofs.lemmas.Option.{slice_get_within, slice_get-get_or}
 use Rattle.std.proofs.Math.ListN.{get_or-eq_default}
 use Rattle.database_state.specs.State.{is_open}
 use Rattle.version_store.specs.declared.item.Item.{Item}
 use Rattle.version_store.specs.declared.item.Status.TheVariants as status
-use Rattle.version_store.specs.HeldChanges.{is_open_at, is_open_of}
+use Rattle.version_store.specs.HeldChanges.{is_open_at}
 use Rattle.version_store.specs.Items.{committed_item, held_change, lowered, released_item, state_of}
 use Rattle.version_store.specs.OpenChanges.{AreBelow, AreLinked, OpenChanges, Reach, is_open_item}
 

@@ -1,14 +1,14 @@
 -- Walks back through the open changes of a session.
-use Rattle.std.proofs.Common.{◌≡◌, ℕ, zero, suc, ◌+◌, ◌-◌, ◌<◌, ◌≤◌, ◌==◌, ◌⊎◌, inl, inr, Bool, true, false, ◌&&◌, List, [], ◌∷◌, Option, Some, None, map, length, get_or, set, refl, sym, ap, subst, ◌∙◌, arith}
+use Rattle.std.proofs.Common.{◌≡◌, ℕ, zero, suc, ◌-◌, ◌<◌, ◌≤◌, ◌==◌, ◌⊎◌, inl, inr, Bool, true, false, ◌&&◌, List, [], ◌∷◌, Option, Some, None, map, length, get_or, set, refl, sym, ap, subst, ◌∙◌, arith}
 use Rattle.std.specs.Prelude.{slice_get, if◌then◌else◌}
 use Rattle.std.proofs.lemmas.Bool.{cases_lt, eqb-true}
 use Rattle.std.proofs.lemmas.List.{length-set}
-use Rattle.std.proofs.lemmas.Option.{slice_get_within, slice_get-get_or, slice_get_read}
+use Rattle.std.proofs.lemmas.Option.{slice_get_within, slice_get_read}
 use Rattle.version_store.specs.declared.item.Item.{Item}
-use Rattle.version_store.specs.HeldChanges.{HeldChange, is_open_at, last_place, later_place}
+use Rattle.version_store.specs.HeldChanges.{is_open_at, last_place, later_place}
 use Rattle.version_store.specs.Items.{held_change, held_changes, released_item, lowered}
 use Rattle.version_store.specs.OpenChanges.{AreBelow, AreLinked, Reach, is_open_item}
-use Rattle.version_store.proofs.OpenLemmas.{get-none, same-some, get-set_same, get-set_other, open-session, true-false, release-skips}
+use Rattle.version_store.proofs.OpenLemmas.{get-none, same-some, get-set_same, get-set_other, open-session}
 
 -- ---- a walk that changes the open items of a session
 

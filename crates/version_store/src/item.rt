@@ -1,7 +1,7 @@
 //! A held change but for its row.
 
 ghost use Rattle.std.specs.Prelude.{◌≡◌, ◌≤◌, [], option_copied, length, unwrap_or};
-ghost use Rattle.version_store.specs.HeldChanges.{kind_of, is_add, is_rewrite, cost, is_after, is_record, is_unseen, hides, conflicts, is_kept, is_open_of, is_open_at};
+ghost use Rattle.version_store.specs.HeldChanges.{kind_of, is_add, is_rewrite, cost, is_after, is_record, is_unseen, is_standing_rewrite, hides, conflicts, is_kept, is_open_of, is_open_at};
 ghost use Rattle.database_state.specs.Changes.{changed_table, changed_bookmark};
 ghost use Rattle.version_store.specs.Items.{held_change, row_of, released_item, committed_item};
 
@@ -155,6 +155,17 @@ impl Item {
         ensures { result ≡ hides table.0 bookmark.now reader (held_change self.now []) }
     {
         self.is_record(table, bookmark) && rewrites(self.kind) && self.is_unseen(reader)
+    }
+
+    /// Whether it is a put or a drop of the record that is not undone.
+    pub(crate) fn is_standing_rewrite(&self, table: TableId, bookmark: &[u8]) -> bool
+        ensures { result ≡ is_standing_rewrite table.0 bookmark.now (held_change self.now []) }
+    {
+        let stands = match self.status {
+            Status::Uncommitted | Status::Committed(_) => true,
+            Status::Undone => false,
+        };
+        stands && rewrites(self.kind) && self.is_record(table, bookmark)
     }
 
     /// Whether it stands against the change of this reader.

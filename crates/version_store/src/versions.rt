@@ -1,15 +1,20 @@
 //! The held changes, and the calls on them.
 
-ghost use Rattle.std.specs.Prelude.{◌≡◌, ℕ, ◌≤◌, ◌<◌, ◌↔◌, ◌==◌, true, false, Option, Some, None, [], ◌∷◌, ◌++◌, length, map, drop, find, slice_get, option_copied, option_map, unwrap_or, IfSome, IsErrOf, OnOk, OnErr};
+ghost use Rattle.std.specs.Prelude.{◌≡◌, ℕ, ◌≤◌, ◌<◌, ◌↔◌, ◌==◌, true, false, Option, Some, None, [], ◌∷◌, ◌++◌, length, map, take, drop, find, slice_get, option_copied, option_map, unwrap_or, IfSome, IsErrOf, OnOk, OnErr};
+ghost use Rattle.std.specs.List.{list_any};
 ghost use Rattle.version_store.specs.declared.fault.VersionFault.TheVariants as fault;
 ghost use Rattle.version_store.specs.Answers.{change_at};
-ghost use Rattle.version_store.specs.HeldChanges.{is_kept, new_change, has_conflict, has_room, span as the_span, seen_row, shown, hides, conflicts, last_place, is_open_at, newest_undone, released_change, committed_change};
+ghost use Rattle.version_store.specs.HeldChanges.{HeldChange, is_kept, is_standing_rewrite, new_change, has_conflict, has_room, span as the_span, seen_row, shown, hides, conflicts, last_place, is_open_at, newest_undone, released_change, committed_change};
 
 use crate::calls::{By, ChangeKind, Reader, Undone, Variant};
 use crate::chains::Chains;
-use crate::ends::{commit_all, end_of, highest_before, make_room, newest_of, newest_without, release_all, set_newest};
+use crate::ends::{
+    commit_all, end_of, highest_before, make_room, newest_of, newest_without, release_all,
+    set_newest,
+};
 use crate::fault::VersionFault;
 use crate::item::{Item, Status, bookmark_of, cost_of, row_parts, table_of, what};
+use crate::records::newest_standing;
 use crate::slot::slot_of;
 use column_set::{Bookmark, Change};
 use jet_base::{OutOfMemory, Session, TableId};
@@ -259,6 +264,41 @@ impl Versions {
         ensures { slice_get (map (is_kept oldest) self.now) place ≡ Some result }
     {
         self.items[place].is_kept(oldest)
+    }
+
+    /// The place of the newest put or drop of the record that is not undone. Each of the others is `older_rewrite` of the one
+    /// behind it.
+    pub fn newest_rewrite(&self, table: TableId, bookmark: &[u8]) -> Option<usize>
+        ensures place { result ≡ last_place (is_standing_rewrite table.0 bookmark.now) self.now }
+        ensures within { IfSome result (λ place. place < length self.now) }
+    {
+        let from = self.chains.newest(slot_of(table, bookmark));
+        newest_standing(&self.items, &self.chains, from, table, bookmark)
+    }
+
+    /// The place of the newest put or drop that is not undone, of the record of the change at this place, among the changes
+    /// before it.
+    pub fn older_rewrite(&self, place: usize) -> Option<usize>
+        requires { place < length self.now }
+        ensures place { (h : HeldChange) → slice_get self.now place ≡ Some h → result ≡ last_place (is_standing_rewrite h.table h.bookmark) (take place self.now) }
+        ensures within { IfSome result (λ older. older < place) }
+    {
+        let from = self.chains.before(place);
+        let item = &self.items[place];
+        newest_standing(
+            &self.items,
+            &self.chains,
+            from,
+            item.table,
+            item.bookmark.as_bytes(),
+        )
+    }
+
+    /// Whether any put or drop of the record is held that is not undone.
+    pub fn has_rewrite(&self, table: TableId, bookmark: &[u8]) -> bool
+        ensures { result ≡ list_any (is_standing_rewrite table.0 bookmark.now) self.now }
+    {
+        self.newest_rewrite(table, bookmark).is_some()
     }
 
     /// The newest open change of the session at the level becomes undone. None where there is none.

@@ -25,8 +25,12 @@ next_is x y session number first next made is = is ∙ ap (λ (n : ℕ). n - fir
 pub loop-end-smaller : goal.loop-end-smaller
 loop-end-smaller c =
     let x = c.index_mut-item.result.now in
-    omega (arith, c.loop-end-test.true, next_is x c.commit.new.self c.args.session.0 c.args.number c.args.first c.end_of-end-in-loop-end.result c.commit.ensures c.end_of-end-in-loop-end.ensures,
-    (here_of c.args.session.0 c.args.number c.args.first c.args.items.now.items c.loop-end.items.items c.loop-end.end x c.loop-end.invariant c.requires.links c.loop-end-test.true c.index_mut-item.ensures.value).reach.within)
+    omega (
+      arith,
+      c.loop-end-test.true,
+      next_is x c.commit.new.self c.args.session.0 c.args.number c.args.first c.end_of-end-in-loop-end.result c.commit.ensures c.end_of-end-in-loop-end.ensures,
+      (here_of c.args.session.0 c.args.number c.args.first c.args.items.now.items c.loop-end.items.items c.loop-end.end x c.loop-end.invariant c.requires.links c.loop-end-test.true c.index_mut-item.ensures.value).reach.within,
+    )
 
 pub loop-end-preserved : goal.loop-end-preserved
 loop-end-preserved c =

@@ -27,8 +27,8 @@ returns-then-item-level c =
     ap (set c.loop-end.items.items (c.loop-end.end - 1)) c.index_mut-item.ensures.value ∙ set-get_or c.loop-end.items.items (c.loop-end.end - 1) x
     ∙ walked-stop (released_item c.args.session.0 c.args.level) c.args.session.0 old c.loop-end.items.items c.loop-end.end c.loop-end.invariant
     (λ (k : ℕ) (y : Item) (lt : k < c.loop-end.end) (at : slice_get old k ≡ Some y).
-        release-still c.args.session.0 c.args.level y (release-stop c.args.session.0 c.args.level c.args.first old c.loop-end.end x c.requires.levels own
-        (here_of c.args.session.0 c.args.level c.args.first old c.loop-end.items.items c.loop-end.end x c.loop-end.invariant c.requires.links c.loop-end-test.true c.index_mut-item.ensures.value).at c.if-item-level.true k y lt at))
+    release-still c.args.session.0 c.args.level y (release-stop c.args.session.0 c.args.level c.args.first old c.loop-end.end x c.requires.levels own
+    (here_of c.args.session.0 c.args.level c.args.first old c.loop-end.items.items c.loop-end.end x c.loop-end.invariant c.requires.links c.loop-end-test.true c.index_mut-item.ensures.value).at c.if-item-level.true k y lt at))
 
 next_is : (x y : Item) (session level first next : ℕ) → y ≡ released_item session level x → next ≡ y.own_before - first → next ≡ x.own_before - first
 next_is x y session level first next made is = is ∙ ap (λ (n : ℕ). n - first) (ap (λ (z : Item). z.own_before) made ∙ (release-tamed session level x).before)
@@ -36,8 +36,12 @@ next_is x y session level first next made is = is ∙ ap (λ (n : ℕ). n - firs
 pub loop-end-smaller : goal.loop-end-smaller
 loop-end-smaller c =
     let x = c.index_mut-item.result.now in
-    omega (arith, c.loop-end-test.true, next_is x c.release.new.self c.args.session.0 c.args.level c.args.first c.end_of-end-in-loop-end.result c.release.ensures c.end_of-end-in-loop-end.ensures,
-    (here_of c.args.session.0 c.args.level c.args.first c.args.items.now.items c.loop-end.items.items c.loop-end.end x c.loop-end.invariant c.requires.links c.loop-end-test.true c.index_mut-item.ensures.value).reach.within)
+    omega (
+      arith,
+      c.loop-end-test.true,
+      next_is x c.release.new.self c.args.session.0 c.args.level c.args.first c.end_of-end-in-loop-end.result c.release.ensures c.end_of-end-in-loop-end.ensures,
+      (here_of c.args.session.0 c.args.level c.args.first c.args.items.now.items c.loop-end.items.items c.loop-end.end x c.loop-end.invariant c.requires.links c.loop-end-test.true c.index_mut-item.ensures.value).reach.within,
+    )
 
 pub loop-end-preserved : goal.loop-end-preserved
 loop-end-preserved c =

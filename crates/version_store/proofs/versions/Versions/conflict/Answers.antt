@@ -10,7 +10,8 @@ use Rattle.version_store.specs.Kept.{held}
 use Rattle.version_store.specs.Slots.{slot_of}
 use Rattle.version_store.proofs.HeldLemmas.{held_slot, held-item-get, length-held, slots-held}
 use Rattle.version_store.proofs.RecordLemmas.{conflicts-slot}
-use Rattle.version_store.proofs.WalkLemmas.{Walk, any-here, any-start, any-step, walk-falls, walk-start, walk-step}
+use Rattle.version_store.specs.Chained.{Walk}
+use Rattle.version_store.proofs.WalkLemmas.{any-here, any-start, any-step, walk-falls, walk-start, walk-step}
 use Rattle.version_store.proofs.versions.Versions.conflict.Goals as goal
 
 pub loop-end-init : goal.loop-end-init

@@ -1,12 +1,11 @@
 -- The first item of a walk back that is open at the level is the newest such change.
-use Rattle.std.proofs.Common.{◌≡◌, ℕ, ◌-◌, ◌<◌, true, false, List, Some, length, get_or, ap, subst, sym, ◌∙◌, arith}
+use Rattle.std.proofs.Common.{◌≡◌, ℕ, ◌-◌, ◌<◌, List, Some, length, get_or, ap, subst, sym, ◌∙◌, arith}
 use Rattle.std.specs.Prelude.{slice_get}
 use Rattle.version_store.specs.declared.item.Item.{Item}
 use Rattle.version_store.specs.HeldChanges.{HeldChange, is_open_at, last_place}
-use Rattle.version_store.specs.Items.{held_change}
-use Rattle.version_store.specs.OpenChanges.{AreLinked, Reach}
+use Rattle.version_store.specs.OpenChanges.{Reach}
 use Rattle.version_store.proofs.HeldLemmas.{length-held}
-use Rattle.version_store.proofs.OpenWalks.{Here, Sought, release-stop, sought-found, sought-here, sought-start, sought-step, sought-stop}
+use Rattle.version_store.proofs.OpenWalks.{Here, release-stop, sought-found, sought-here, sought-start, sought-step, sought-stop}
 use Rattle.version_store.proofs.versions.Versions.newest_open_at.Goals as goal
 
 pub loop-end-init : goal.loop-end-init

@@ -1,5 +1,5 @@
 -- The number of the item at the place.
-use Rattle.std.proofs.Common.{◌<◌, Some, length, sym, ap, ◌∙◌, arith}
+use Rattle.std.proofs.Common.{◌<◌, length, ap, arith}
 use Rattle.version_store.specs.HeldChanges.{HeldChange}
 use Rattle.version_store.proofs.HeldLemmas.{length-held, read-at}
 use Rattle.version_store.proofs.versions.Versions.number_at.Goals as goal

@@ -12,7 +12,8 @@ use Rattle.version_store.specs.Kept.{held}
 use Rattle.version_store.specs.Slots.{slot_of}
 use Rattle.version_store.proofs.HeldLemmas.{held_slot, held-item-get, length-held, slots-held}
 use Rattle.version_store.proofs.RecordLemmas.{hides-slot}
-use Rattle.version_store.proofs.WalkLemmas.{Walk, find-start, find-step, later-at, later-within, or-none, then_some-if, walk-falls, walk-start, walk-step}
+use Rattle.version_store.specs.Chained.{Walk}
+use Rattle.version_store.proofs.WalkLemmas.{find-start, find-step, later-at, later-within, or-none, then_some-if, walk-falls, walk-start, walk-step}
 use Rattle.version_store.proofs.versions.Versions.oldest_hiding.Goals as goal
 
 pub loop-end-init : goal.loop-end-init

@@ -1,5 +1,5 @@
 -- The first change goes, and all numbers keep their meaning.
-use Rattle.std.proofs.Common.{ℕ, List, length, ap, subst, sym, arith}
+use Rattle.std.proofs.Common.{ℕ, length, ap, subst, sym, arith}
 use Rattle.version_bucket.specs.Pieces.{Pieces}
 use Rattle.version_store.specs.HeldChanges.{HeldChange}
 use Rattle.version_store.specs.OpenChanges.{OpenChanges}

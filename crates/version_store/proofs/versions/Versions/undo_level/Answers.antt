@@ -1,11 +1,10 @@
 -- The change at the last place becomes undone.
-use Rattle.std.proofs.Common.{◌≡◌, ℕ, ◌+◌, ◌-◌, ◌<◌, Option, Some, List, length, get_or, set, refl, subst, sym, ap, ◌∙◌, arith}
+use Rattle.std.proofs.Common.{◌≡◌, ℕ, ◌<◌, Option, Some, List, length, get_or, set, refl, subst, sym, ap, ◌∙◌, arith}
 use Rattle.std.proofs.lemmas.Option.{slice_get_read}
 use Rattle.std.specs.Prelude.{option_map, slice_get}
 use Rattle.version_store.specs.Answers.{change_at}
 use Rattle.version_store.specs.HeldChanges.{HeldChange, is_open_at, last_place, undone_at}
 use Rattle.version_store.specs.OpenChanges.{OpenChanges}
-use Rattle.version_store.specs.declared.item.Item.{Item}
 use Rattle.version_store.specs.declared.item.Status.TheVariants as status
 use Rattle.version_store.proofs.OpenLemmas.{next-newest, opens-undone}
 use Rattle.version_store.proofs.OpenWalks.{open-at-session}
@@ -28,7 +27,7 @@ invariant_of-self c =
     let at : slice_get a.items.items place ≡ Some x = slice_get_read a.items.items (length a.items.items) place x refl within c.index_mut-item.ensures.value in
     let newest : c.newest_of-newest.result ≡ get_or a.newest.items session 0 = c.newest_of-newest.ensures ∙ ap (λ (l : List ℕ). get_or l session 0) c.deref.ensures.value in
     let own : x.session.0 ≡ session = open-at-session session c.args.level a.items.items a.rows.pieces place x c.self.invariant.keeps.are_rows at
-        (ap (last_place (is_open_at session c.args.level)) c.self.view_is ∙ sym c.in_ok-place.ensures.place) in
+    (ap (last_place (is_open_at session c.args.level)) c.self.view_is ∙ sym c.in_ok-place.ensures.place) in
     record {
       keeps = (keeps-undone a.items.items a.rows.pieces a.chains a.total place x c.self.invariant.keeps within c.index_mut-item.ensures.value).keeps;
       opens = subst (OpenChanges a.rows.first (set a.items.items place (record x { status = status.Undone }))) (sym c.set_newest.ensures)
