@@ -1,14 +1,14 @@
 -- The open tables of a session, as it lists them and as contracts see them.
-use Rattle.std.proofs.Common.{◌≡◌, ℕ, ◌<◌, true, false, cond, zero, suc, List, [], ◌∷◌, length, remove, get_or, refl, sym, ap, ◌∙◌, arith}
+use Rattle.std.proofs.Common.{◌≡◌, ℕ, ◌<◌, Bool, true, false, cond, ◌||◌, zero, suc, List, [], ◌∷◌, length, remove, get_or, refl, sym, ap, ◌∙◌, arith}
 use Rattle.std.specs.Prelude.{◌==◌, nat_lt}
 use Rattle.std.specs.List.{list_any, insert}
 use Rattle.jet_base.specs.declared.ids.TableId.{TableId}
-use Rattle.index_derive.proofs.Lists.{list_any_map}
 use Rattle.database_state.specs.Step.{with_one, without_one}
 use Rattle.version_cleanup.specs.LiveFields.{table_ids}
 
 pub list_any-ids : (table : ℕ) (tables : List TableId) → list_any (λ id. id == table) (table_ids tables) ≡ list_any (λ id. id.0 == table) tables
-list_any-ids table tables = list_any_map (λ id. id == table) (λ (t : TableId). t.0) tables
+list_any-ids table [] = refl
+list_any-ids table (t ∷ tables) = ap (λ (b : Bool). (t.0 == table) || b) (list_any-ids table tables)
 
 -- one more, before the first of a greater number
 pub with_one-read : (tables : List TableId) (table : TableId) (place : ℕ) (d : TableId) → place < length tables → nat_lt table.0 (get_or tables place d).0 ≡ true → ((k : ℕ) → k < place → nat_lt table.0 (get_or tables k d).0 ≡ false)
