@@ -12,6 +12,8 @@ mod nodes;
 #[cfg(test)]
 mod pages;
 #[cfg(test)]
+mod sessions;
+#[cfg(test)]
 mod space;
 #[cfg(test)]
 mod tables;

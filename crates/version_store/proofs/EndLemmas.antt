@@ -5,7 +5,7 @@ use Rattle.database_state.specs.State.{committed}
 use Rattle.version_store.specs.declared.item.Item.{Item}
 use Rattle.version_store.specs.declared.item.Status.TheVariants as status
 use Rattle.version_store.specs.HeldChanges.{HeldChange, committed_change, cost_of, is_open_at, is_open_of, released_change, with_status}
-use Rattle.version_store.specs.Items.{committed_item, held_change, item_slot, released_item}
+use Rattle.version_store.specs.Items.{committed_item, held_change, item_slot, lowered, released_item}
 
 pub commit-held : (session number : ℕ) (item : Item) (row : List ℕ) → held_change (committed_item session number item) row ≡ committed_change session number (held_change item row)
 commit-held session number x row = at (is_open_of session (held_change x []))
@@ -38,21 +38,21 @@ commit-cost session number h = at (is_open_of session h)
 pub release-held : (session level : ℕ) (item : Item) (row : List ℕ) → held_change (released_item session level item) row ≡ released_change session level (held_change item row)
 release-held session level x row = at (is_open_at session level (held_change x []))
   where
-    at : (b : Bool) → held_change (if b then record x { level = level - 1 } else x) row ≡ (if b then record (held_change x row) { level = level - 1 } else held_change x row)
+    at : (b : Bool) → held_change (if b then record x { level = level - 1; highest = lowered level x.highest } else x) row ≡ (if b then record (held_change x row) { level = level - 1 } else held_change x row)
     at true = refl
     at false = refl
 
 pub release-slot : (session level : ℕ) (item : Item) → item_slot (released_item session level item) ≡ item_slot item
 release-slot session level x = at (is_open_at session level (held_change x []))
   where
-    at : (b : Bool) → item_slot (if b then record x { level = level - 1 } else x) ≡ item_slot x
+    at : (b : Bool) → item_slot (if b then record x { level = level - 1; highest = lowered level x.highest } else x) ≡ item_slot x
     at true = refl
     at false = refl
 
 pub release-spent : (session level : ℕ) (item : Item) → (released_item session level item).spent ≡ item.spent
 release-spent session level x = at (is_open_at session level (held_change x []))
   where
-    at : (b : Bool) → (if b then record x { level = level - 1 } else x).spent ≡ x.spent
+    at : (b : Bool) → (if b then record x { level = level - 1; highest = lowered level x.highest } else x).spent ≡ x.spent
     at true = refl
     at false = refl
 

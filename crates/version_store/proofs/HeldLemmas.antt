@@ -70,6 +70,12 @@ get-map f [] at h e = cc
 get-map f (x ∷ changes) zero h e = ap (λ (o : Option HeldChange). option_map f o) e
 get-map f (x ∷ changes) (suc at) h e = get-map f changes at h e
 
+-- what is read of the change at a place
+pub read-at : {B : Type 0} (f : HeldChange → B) (items : List Item) (rows : List (List ℕ)) (changes : List HeldChange) (place : ℕ) (x : Item) → length rows ≡ length items → held_changes items rows ≡ changes → place < length items → x ≡ get_or items place x
+    → slice_get (map f changes) place ≡ Some (f (held_change x (get_or rows place [])))
+read-at f items rows changes place x same view within is =
+    ap (λ (l : List HeldChange). slice_get (map f l) place) (sym view) ∙ get-map f (held_changes items rows) place (held_change x (get_or rows place [])) (held-item items rows place x same within is)
+
 pub slots-items : (items : List Item) (item : Item) → slots_of (items ++ item ∷ []) ≡ slots_of items ++ item_slot item ∷ []
 slots-items items item = map-append item_slot items (item ∷ [])
 

@@ -2,6 +2,8 @@ pub mod ChainLemmas
 pub mod EndLemmas
 pub mod HeldLemmas
 pub mod KeepLemmas
+pub mod OpenLemmas
+pub mod OpenWalks
 pub mod RecordLemmas
 pub mod SpanLemmas
 pub mod SpanSteps

@@ -5,8 +5,9 @@ use Rattle.std.proofs.lemmas.Bool.{and_parts, eqb-true}
 use Rattle.std.proofs.lemmas.Slice.Eq.{bytes_eq-Decides}
 use Rattle.column_set.specs.declared.changes.Change.{Change}
 use Rattle.database_state.specs.Changes.{changed_bookmark, changed_table, is_sum}
+use Rattle.database_state.specs.State.{is_undone}
 use Rattle.version_store.specs.declared.calls.Reader.{Reader}
-use Rattle.version_store.specs.HeldChanges.{HeldChange, collides, conflicts, hides, is_add, is_record, is_rewrite, is_unseen}
+use Rattle.version_store.specs.HeldChanges.{HeldChange, collides, conflicts, hides, is_add, is_record, is_rewrite, is_standing_rewrite, is_unseen}
 use Rattle.version_store.specs.Slots.{slot_of}
 use Rattle.version_store.proofs.HeldLemmas.{held_slot}
 use Rattle.version_store.proofs.WalkLemmas.{HasSlot}
@@ -25,4 +26,9 @@ conflicts-slot reader made h is =
 pub hides-slot : (table : ℕ) (bookmark : List ℕ) (reader : Reader) → HasSlot (hides table bookmark reader) (slot_of table bookmark)
 hides-slot table bookmark reader h is =
     let outer = and_parts (is_record table bookmark h && is_rewrite h.kind) (is_unseen reader h) is in
+    record-slot table bookmark h (and_parts (is_record table bookmark h) (is_rewrite h.kind) outer.0).0
+
+pub standing-slot : (table : ℕ) (bookmark : List ℕ) → HasSlot (is_standing_rewrite table bookmark) (slot_of table bookmark)
+standing-slot table bookmark h is =
+    let outer = and_parts (is_record table bookmark h && is_rewrite h.kind) (not (is_undone h.status)) is in
     record-slot table bookmark h (and_parts (is_record table bookmark h) (is_rewrite h.kind) outer.0).0

@@ -1,6 +1,6 @@
 -- A walk along a chain passes over no change that has the slot.
 use Rattle.std.proofs.Common.{◌≡◌, ℕ, zero, suc, ◌+◌, ◌-◌, ◌<◌, ◌≤◌, ◌==◌, Bool, true, false, ◌||◌, List, [], ◌∷◌, ◌++◌, Option, Some, None, map, length, get_or, take, refl, sym, ap, ◌∙◌, arith}
-use Rattle.std.specs.Prelude.{find, if◌then◌else◌, IfSome}
+use Rattle.std.specs.Prelude.{find, if◌then◌else◌, is_some, IfSome}
 use Rattle.std.specs.List.{list_any}
 use Rattle.std.specs.Bool.{then_some}
 use Rattle.std.specs.Option.{option_or}
@@ -9,15 +9,10 @@ use Rattle.std.proofs.lemmas.List.{get_or-take, length-map, length-take-le, take
 use Rattle.std.proofs.lemmas.List.Folds.{find-append, list_any-append}
 use Rattle.std.proofs.lemmas.Option.{slice_get-get_or}
 use Rattle.version_store.specs.Answers.{change_at}
-use Rattle.version_store.specs.Chained.{one_later, latest}
+use Rattle.version_store.specs.Chained.{Walk, one_later, latest}
 use Rattle.version_store.specs.HeldChanges.{HeldChange, later_place, last_place}
 use Rattle.version_store.proofs.ChainLemmas.{latest-bound}
 use Rattle.version_store.proofs.HeldLemmas.{held_slot}
-
--- The walk stands behind an item of the slot, or at the start.
-pub record Walk (slot : ℕ) (slots : List ℕ) (end : ℕ) : Type 0 where
-  pub within : end ≤ length slots
-  pub on_slot : 0 < end → get_or slots (end - 1) 0 ≡ slot
 
 latest-on : (slot : ℕ) (xs : List ℕ) → 0 < latest slot xs → get_or xs (latest slot xs - 1) 0 ≡ slot
 latest-on slot [] some = absurd (omega arith)
@@ -188,3 +183,50 @@ pub last_place-step : (test : HeldChange → Bool) (changes : List HeldChange) (
 last_place-step test changes end d some within =
     ap (last_place test) (take_last changes end d some (omega arith)) ∙ last_place-push test (take (end - 1) changes) (get_or changes (end - 1) d)
     ∙ ap (λ (n : ℕ). if test (get_or changes (end - 1) d) then Some n else last_place test (take (end - 1) changes)) (length-take-le (end - 1) changes (omega arith))
+
+-- ---- the last place before a walk's end
+
+last-latest : (test : HeldChange → Bool) (slot : ℕ) (changes : List HeldChange) → HasSlot test slot → last_place test (take (latest slot (map held_slot changes)) changes) ≡ last_place test changes
+last-latest test slot [] only = refl
+last-latest test slot (h ∷ changes) only = at (last-latest test slot changes only) (latest slot (map held_slot changes)) refl
+  where
+    first : (b : Bool) → (held_slot h == slot) ≡ b → last_place test changes ≡ None → last_place test (take (one_later b 0) (h ∷ changes)) ≡ later_place (test h) (last_place test changes)
+    first true e none = ap (later_place (test h)) (sym none)
+    first false e none = sym (ap (λ (b : Bool). later_place b (last_place test changes)) (off test slot h only e) ∙ ap (later_place false) none)
+
+    at : last_place test (take (latest slot (map held_slot changes)) changes) ≡ last_place test changes → (n : ℕ) → latest slot (map held_slot changes) ≡ n → last_place test (take (one_later (held_slot h == slot) n) (h ∷ changes)) ≡ later_place (test h) (last_place test changes)
+    at rest zero e = first (held_slot h == slot) refl (sym rest ∙ ap (λ (k : ℕ). last_place test (take k changes)) e)
+    at rest (suc n) e = ap (later_place (test h)) (ap (λ (k : ℕ). last_place test (take k changes)) (sym e) ∙ rest)
+
+pub last-start : (test : HeldChange → Bool) (slot : ℕ) (changes : List HeldChange) (slots : List ℕ) → HasSlot test slot → slots ≡ map held_slot changes → last_place test (take (latest slot slots) changes) ≡ last_place test changes
+last-start test slot changes slots only are = ap (λ (l : List ℕ). last_place test (take (latest slot l) changes)) are ∙ last-latest test slot changes only
+
+-- from an item of the slot to the one before it
+pub last-before : (test : HeldChange → Bool) (slot : ℕ) (changes : List HeldChange) (slots : List ℕ) (end next : ℕ) → HasSlot test slot → slots ≡ map held_slot changes → Walk slot slots end → 0 < end → next ≡ latest (get_or slots (end - 1) 0) (take (end - 1) slots) → last_place test (take next changes) ≡ last_place test (take (end - 1) changes)
+last-before test slot changes slots end next only are walk some is =
+    let f = front-at slot changes slots end next are walk some is in
+    ap (last_place test) f.front ∙ last-latest test slot (take (end - 1) changes) only
+
+pub last-step : (test : HeldChange → Bool) (slot : ℕ) (changes : List HeldChange) (slots : List ℕ) (end next : ℕ) (d : HeldChange) → HasSlot test slot → slots ≡ map held_slot changes → Walk slot slots end → 0 < end → next ≡ latest (get_or slots (end - 1) 0) (take (end - 1) slots) → test (get_or changes (end - 1) d) ≡ false → last_place test (take next changes) ≡ last_place test (take end changes)
+last-step test slot changes slots end next d only are walk some is fails =
+    let f = front-at slot changes slots end next are walk some is in
+    last-before test slot changes slots end next only are walk some is
+    ∙ sym (last_place-step test changes end d some (omega (arith, f.within)) ∙ ap (λ (b : Bool). if b then Some (end - 1) else last_place test (take (end - 1) changes)) fails)
+
+pub last-here : (test : HeldChange → Bool) (changes : List HeldChange) (end : ℕ) (d : HeldChange) → 0 < end → end ≤ length changes → test (get_or changes (end - 1) d) ≡ true → last_place test (take end changes) ≡ Some (end - 1)
+last-here test changes end d some within passes = last_place-step test changes end d some within ∙ ap (λ (b : Bool). if b then Some (end - 1) else last_place test (take (end - 1) changes)) passes
+
+-- a place stands where some change passes
+pub last-any : (test : HeldChange → Bool) (changes : List HeldChange) → is_some (last_place test changes) ≡ list_any test changes
+last-any test [] = refl
+last-any test (h ∷ changes) = at (test h) (last_place test changes) ∙ ap (λ (b : Bool). test h || b) (last-any test changes)
+  where
+    at : (b : Bool) (o : Option ℕ) → is_some (later_place b o) ≡ (b || is_some o)
+    at true None = refl
+    at true (Some n) = refl
+    at false None = refl
+    at false (Some n) = refl
+
+pub place-below : (o : Option ℕ) (n m : ℕ) → n ≤ m → IfSome o (λ place. place < n) → IfSome o (λ place. place < m)
+place-below None n m le is = tt
+place-below (Some place) n m le is = omega (arith, le, is)

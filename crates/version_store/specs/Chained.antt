@@ -1,5 +1,5 @@
 -- Chains through a queue of slots: from each item to the one before it that has the same slot.
-use Rattle.std.specs.Prelude.{◌≡◌, ℕ, zero, suc, ◌+◌, ◌-◌, ◌^◌, ◌<◌, ◌==◌, Bool, List, [], ◌∷◌, length, map, take, slice_index, if◌then◌else◌}
+use Rattle.std.specs.Prelude.{◌≡◌, ℕ, zero, suc, ◌+◌, ◌-◌, ◌^◌, ◌<◌, ◌≤◌, ◌==◌, Bool, List, [], ◌∷◌, length, map, take, slice_index, if◌then◌else◌}
 use Rattle.version_store.specs.declared.chains.Link.{Link}
 use Rattle.version_store.specs.declared.chains.Chains.TheInside.{Inside}
 
@@ -31,3 +31,8 @@ chained a = slots_of a.links.items
 
 abbrev pub IsChained : Inside → Type 0
 IsChained a = Chains a.first a.links.items a.heads.items
+
+-- The walk stands behind an item of the slot, or at the start.
+pub record Walk (slot : ℕ) (slots : List ℕ) (end : ℕ) : Type 0 where
+  pub within : end ≤ length slots
+  pub on_slot : 0 < end → slice_index slots (end - 1) ≡ slot

@@ -4,7 +4,7 @@ use Rattle.std.specs.List.{list_any}
 use Rattle.column_set.specs.declared.changes.Change.{Change}
 use Rattle.column_set.specs.declared.changes.Change.TheVariants as change
 use Rattle.database_state.specs.Changes.{changed_table, changed_bookmark, is_sum}
-use Rattle.database_state.specs.State.{Status, uncommitted, committed, undone, is_open}
+use Rattle.database_state.specs.State.{Status, uncommitted, committed, undone, is_open, is_undone}
 use Rattle.version_store.specs.declared.calls.By.{By}
 use Rattle.version_store.specs.declared.calls.ChangeKind.{ChangeKind}
 use Rattle.version_store.specs.declared.calls.ChangeKind.TheVariants as kind
@@ -88,6 +88,11 @@ has_conflict reader made changes = list_any (conflicts reader made) changes
 -- a put or a drop of the record that the reader does not see
 abbrev pub hides : ℕ → List ℕ → Reader → HeldChange → Bool
 hides table bookmark reader held = is_record table bookmark held && is_rewrite held.kind && is_unseen reader held
+
+-- A put or a drop of the record that is not undone: the row before it is one that some reader may see, or that an undo may
+-- bring back.
+abbrev pub is_standing_rewrite : ℕ → List ℕ → HeldChange → Bool
+is_standing_rewrite table bookmark held = is_record table bookmark held && is_rewrite held.kind && not (is_undone held.status)
 
 -- ---- what a reader sees of a record
 

@@ -1,5 +1,5 @@
 -- Items with their rows as held changes.
-use Rattle.std.specs.Prelude.{ℕ, ◌-◌, Bool, true, false, List, [], ◌∷◌, Option, Some, None, if◌then◌else◌}
+use Rattle.std.specs.Prelude.{ℕ, ◌-◌, ◌==◌, Bool, true, false, List, [], ◌∷◌, Option, Some, None, if◌then◌else◌}
 use Rattle.database_state.specs.State.{Status as State, uncommitted, committed, undone}
 use Rattle.version_store.specs.declared.item.Item.{Item}
 use Rattle.version_store.specs.declared.item.Status.{Status}
@@ -37,10 +37,14 @@ held_changes (item ∷ items) (row ∷ rows) = held_change item row ∷ held_cha
 abbrev pub item_slot : Item → ℕ
 item_slot item = slot_of item.table.0 item.bookmark
 
+-- the highest level so far, after the changes of a level have gone to the one below
+abbrev pub lowered : ℕ → ℕ → ℕ
+lowered level highest = if highest == level then level - 1 else highest
+
 -- ---- what the end of a level or of a transaction does to an item
 
 abbrev pub released_item : ℕ → ℕ → Item → Item
-released_item session level item = if is_open_at session level (held_change item []) then record item { level = level - 1 } else item
+released_item session level item = if is_open_at session level (held_change item []) then record item { level = level - 1; highest = lowered level item.highest } else item
 
 abbrev pub committed_item : ℕ → ℕ → Item → Item
 committed_item session number item = if is_open_of session (held_change item []) then record item { status = status.Committed number } else item

@@ -3,6 +3,7 @@ use Rattle.std.specs.Prelude.{◌≡◌, ℕ, ◌+◌, List, [], ◌∷◌, leng
 use Rattle.version_store.specs.declared.item.Item.{Item}
 use Rattle.version_store.specs.HeldChanges.{HeldChange, cost_of}
 use Rattle.version_store.specs.Items.{held_changes, item_slot}
+use Rattle.version_store.specs.OpenChanges.{OpenChanges}
 use Rattle.version_store.specs.declared.versions.Versions.TheInside.{Inside}
 
 abbrev pub spents_of : List Item → List ℕ
@@ -27,5 +28,9 @@ pub record Keeps (items : List Item) (rows : List (List ℕ)) (slots : List ℕ)
 abbrev pub held : Inside → List HeldChange
 held a = held_changes a.items.items a.rows.pieces
 
+pub record Holds (items : List Item) (rows : List (List ℕ)) (slots : List ℕ) (total first : ℕ) (newest : List ℕ) : Type 0 where
+  pub keeps : Keeps items rows slots total
+  pub opens : OpenChanges first items newest
+
 abbrev pub IsKept : Inside → Type 0
-IsKept a = Keeps a.items.items a.rows.pieces a.chains a.total
+IsKept a = Holds a.items.items a.rows.pieces a.chains a.total a.rows.first a.newest.items

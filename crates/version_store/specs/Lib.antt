@@ -3,5 +3,6 @@ pub mod Chained
 pub mod HeldChanges
 pub mod Items
 pub mod Kept
+pub mod OpenChanges
 pub mod Samples
 pub mod Slots

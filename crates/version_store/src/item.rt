@@ -1,7 +1,7 @@
 //! A held change but for its row.
 
 ghost use Rattle.std.specs.Prelude.{◌≡◌, ◌≤◌, [], option_copied, length, unwrap_or};
-ghost use Rattle.version_store.specs.HeldChanges.{kind_of, is_add, is_rewrite, cost, is_after, is_record, is_unseen, hides, conflicts, is_kept, is_open_of, is_open_at};
+ghost use Rattle.version_store.specs.HeldChanges.{kind_of, is_add, is_rewrite, cost, is_after, is_record, is_unseen, is_standing_rewrite, hides, conflicts, is_kept, is_open_of, is_open_at};
 ghost use Rattle.database_state.specs.Changes.{changed_table, changed_bookmark};
 ghost use Rattle.version_store.specs.Items.{held_change, row_of, released_item, committed_item};
 
@@ -34,6 +34,10 @@ pub(crate) struct Item {
     pub(crate) status: Status,
     /// What all changes before it have cost.
     pub(crate) spent: u64,
+    /// The number of the session's newest open change when this one was made, counted from 1 over all changes ever held.
+    pub(crate) own_before: u64,
+    /// No open change of the session, up to this one, is of a higher level.
+    pub(crate) highest: u8,
 }
 
 /// The table that the change touches.
@@ -153,6 +157,17 @@ impl Item {
         self.is_record(table, bookmark) && rewrites(self.kind) && self.is_unseen(reader)
     }
 
+    /// Whether it is a put or a drop of the record that is not undone.
+    pub(crate) fn is_standing_rewrite(&self, table: TableId, bookmark: &[u8]) -> bool
+        ensures { result ≡ is_standing_rewrite table.0 bookmark.now (held_change self.now []) }
+    {
+        let stands = match self.status {
+            Status::Uncommitted | Status::Committed(_) => true,
+            Status::Undone => false,
+        };
+        stands && rewrites(self.kind) && self.is_record(table, bookmark)
+    }
+
     /// Whether it stands against the change of this reader.
     pub(crate) fn conflicts(&self, reader: Reader, change: &Change) -> bool
         ensures { result ≡ conflicts reader change.now (held_change self.now []) }
@@ -198,6 +213,9 @@ impl Item {
     {
         if self.is_open_at(session, level) {
             self.level = level - 1;
+            if self.highest == level {
+                self.highest = level - 1;
+            }
         }
     }
 

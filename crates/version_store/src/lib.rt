@@ -7,6 +7,7 @@ mod ends;
 pub mod examples;
 mod fault;
 mod item;
+mod records;
 mod slot;
 mod versions;
 

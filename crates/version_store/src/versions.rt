@@ -1,15 +1,20 @@
 //! The held changes, and the calls on them.
 
-ghost use Rattle.std.specs.Prelude.{◌≡◌, ℕ, ◌≤◌, ◌<◌, ◌↔◌, true, false, Option, Some, None, [], ◌∷◌, ◌++◌, length, map, drop, find, slice_get, option_copied, option_map, unwrap_or, IfSome, IsErrOf, OnOk, OnErr};
+ghost use Rattle.std.specs.Prelude.{◌≡◌, ℕ, ◌≤◌, ◌<◌, ◌↔◌, ◌==◌, true, false, Option, Some, None, [], ◌∷◌, ◌++◌, length, map, take, drop, find, slice_get, option_copied, option_map, unwrap_or, IfSome, IsErrOf, OnOk, OnErr};
+ghost use Rattle.std.specs.List.{list_any};
 ghost use Rattle.version_store.specs.declared.fault.VersionFault.TheVariants as fault;
 ghost use Rattle.version_store.specs.Answers.{change_at};
-ghost use Rattle.version_store.specs.HeldChanges.{new_change, has_conflict, has_room, span as the_span, seen_row, shown, hides, conflicts, last_place, is_open_at, newest_undone, released_change, committed_change};
+ghost use Rattle.version_store.specs.HeldChanges.{HeldChange, is_kept, is_standing_rewrite, new_change, has_conflict, has_room, span as the_span, seen_row, shown, hides, conflicts, last_place, is_open_at, newest_undone, released_change, committed_change};
 
-use crate::calls::{By, Reader, Undone, Variant};
+use crate::calls::{By, ChangeKind, Reader, Undone, Variant};
 use crate::chains::Chains;
-use crate::ends::{commit_all, release_all};
+use crate::ends::{
+    commit_all, end_of, highest_before, make_room, newest_of, newest_without, release_all,
+    set_newest,
+};
 use crate::fault::VersionFault;
 use crate::item::{Item, Status, bookmark_of, cost_of, row_parts, table_of, what};
+use crate::records::newest_standing;
 use crate::slot::slot_of;
 use column_set::{Bookmark, Change};
 use jet_base::{OutOfMemory, Session, TableId};
@@ -30,6 +35,8 @@ pub struct Versions {
     chains: Chains,
     // What all changes that were ever pushed have cost.
     total: u64,
+    // By the session's label the number of its newest open change: changes are numbered from 1, and 0 is none.
+    newest: Vec<u64>,
 }
 
 impl Model for Versions {
@@ -55,6 +62,7 @@ impl Versions {
             rows: Buckets::new(alloc),
             chains: Chains::new(alloc),
             total: 0,
+            newest: Vec::new(alloc),
         }
     }
 
@@ -63,6 +71,13 @@ impl Versions {
         ensures { result ≡ length self.now }
     {
         self.items.len()
+    }
+
+    /// Whether no change is held.
+    pub fn is_empty(&self) -> bool
+        ensures { result ≡ (length self.now == 0) }
+    {
+        self.len() == 0
     }
 
     /// Whether the span of the version store stays within its limit with this change: it goes from the oldest kept change to
@@ -128,6 +143,9 @@ impl Versions {
         let (had_row, row) = row_parts(before);
         let bookmark = bookmark_of(change).copy()?;
         let slot = slot_of(table_of(change), bookmark.as_bytes());
+        let own_before = newest_of(&self.newest, by.session);
+        let end = end_of(own_before, self.rows.first());
+        let highest = highest_before(&self.items, end).max(by.level);
         let item = Item {
             number: by.number,
             session: by.session,
@@ -138,8 +156,11 @@ impl Versions {
             had_row,
             status: Status::Uncommitted,
             spent: self.total,
+            own_before,
+            highest,
         };
         self.items.reserve(1)?;
+        make_room(&mut self.newest, by.session)?;
         self.chains.push(slot)?;
         match self.rows.push(row) {
             Ok(_) => {}
@@ -150,6 +171,8 @@ impl Versions {
         }
         self.items.push_back_reserved(item);
         self.total += cost;
+        let number = self.rows.first() + self.items.len() as u64;
+        set_newest(&mut self.newest, by.session, number);
         Ok(())
     }
 
@@ -219,6 +242,65 @@ impl Versions {
         self.items[place].bookmark.as_bytes()
     }
 
+    /// The number of the entry that made the change at this place.
+    pub fn number_at(&self, place: usize) -> u64
+        requires { place < length self.now }
+        ensures { slice_get (map (λ h. h.number) self.now) place ≡ Some result }
+    {
+        self.items[place].number
+    }
+
+    /// What the change at this place does to its record.
+    pub fn kind_at(&self, place: usize) -> ChangeKind
+        requires { place < length self.now }
+        ensures { slice_get (map (λ h. h.kind) self.now) place ≡ Some result }
+    {
+        self.items[place].kind
+    }
+
+    /// Whether the change at this place is kept: it is open, or was committed after the oldest open transaction began.
+    pub fn is_kept_at(&self, place: usize, oldest: Option<u64>) -> bool
+        requires { place < length self.now }
+        ensures { slice_get (map (is_kept oldest) self.now) place ≡ Some result }
+    {
+        self.items[place].is_kept(oldest)
+    }
+
+    /// The place of the newest put or drop of the record that is not undone. Each of the others is `older_rewrite` of the one
+    /// behind it.
+    pub fn newest_rewrite(&self, table: TableId, bookmark: &[u8]) -> Option<usize>
+        ensures place { result ≡ last_place (is_standing_rewrite table.0 bookmark.now) self.now }
+        ensures within { IfSome result (λ place. place < length self.now) }
+    {
+        let from = self.chains.newest(slot_of(table, bookmark));
+        newest_standing(&self.items, &self.chains, from, table, bookmark)
+    }
+
+    /// The place of the newest put or drop that is not undone, of the record of the change at this place, among the changes
+    /// before it.
+    pub fn older_rewrite(&self, place: usize) -> Option<usize>
+        requires { place < length self.now }
+        ensures place { (h : HeldChange) → slice_get self.now place ≡ Some h → result ≡ last_place (is_standing_rewrite h.table h.bookmark) (take place self.now) }
+        ensures within { IfSome result (λ older. older < place) }
+    {
+        let from = self.chains.before(place);
+        let item = &self.items[place];
+        newest_standing(
+            &self.items,
+            &self.chains,
+            from,
+            item.table,
+            item.bookmark.as_bytes(),
+        )
+    }
+
+    /// Whether any put or drop of the record is held that is not undone.
+    pub fn has_rewrite(&self, table: TableId, bookmark: &[u8]) -> bool
+        ensures { result ≡ list_any (is_standing_rewrite table.0 bookmark.now) self.now }
+    {
+        self.newest_rewrite(table, bookmark).is_some()
+    }
+
     /// The newest open change of the session at the level becomes undone. None where there is none.
     pub fn undo_level(&mut self, session: Session, level: u8) -> Option<Undone>
         ensures changes { self.new ≡ newest_undone session.0 level self.old }
@@ -226,9 +308,13 @@ impl Versions {
         ensures table { option_map (λ undone. undone.table.0) result ≡ option_map (λ h. h.table) (change_at self.old (last_place (is_open_at session.0 level) self.old)) }
     {
         let place = self.newest_open_at(session, level)?;
+        let newest = newest_of(&self.newest, session);
+        let first = self.rows.first();
         let item = &mut self.items[place];
         item.status = Status::Undone;
         let table = item.table;
+        let next = newest_without(newest, first, place, item.own_before);
+        set_newest(&mut self.newest, session, next);
         Some(Undone { table, place })
     }
 
@@ -237,12 +323,17 @@ impl Versions {
         ensures place { result ≡ last_place (is_open_at session.0 level) self.now }
         ensures within { IfSome result (λ place. place < length self.now) }
     {
-        let mut end = self.items.len();
+        let first = self.rows.first();
+        let mut end = end_of(newest_of(&self.newest, session), first);
         while end > 0 {
-            if self.items[end - 1].is_open_at(session, level) {
+            let item = &self.items[end - 1];
+            if item.is_open_at(session, level) {
                 return Some(end - 1);
             }
-            end -= 1;
+            if item.highest < level {
+                return None;
+            }
+            end = end_of(item.own_before, first);
         }
         None
     }
@@ -252,14 +343,19 @@ impl Versions {
         requires { 2 ≤ level }
         ensures { self.new ≡ map (released_change session.0 level) self.old }
     {
-        release_all(&mut self.items, session, level);
+        let first = self.rows.first();
+        let newest = newest_of(&self.newest, session);
+        release_all(&mut self.items, first, newest, session, level);
     }
 
     /// The session's open changes are committed, by the entry of this number.
     pub fn commit(&mut self, session: Session, number: u64)
         ensures { self.new ≡ map (committed_change session.0 number) self.old }
     {
-        commit_all(&mut self.items, session, number);
+        let first = self.rows.first();
+        let newest = newest_of(&self.newest, session);
+        commit_all(&mut self.items, first, newest, session, number);
+        set_newest(&mut self.newest, session, 0);
     }
 
     /// Gives up the oldest change.

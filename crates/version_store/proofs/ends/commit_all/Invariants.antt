@@ -1,7 +1,10 @@
--- The items before the place are done, and the others as they were.
-use Rattle.std.proofs.Common.{◌≡◌, ◌++◌, map, take, drop}
+-- The items from the end on are done, and those before it are as they were.
 use Rattle.version_store.specs.Items.{committed_item}
+use Rattle.version_store.proofs.OpenWalks.{Walked}
 use Rattle.version_store.proofs.ends.commit_all.Given as goal
 
-abbrev pub invariant-loop-at : goal.invariant-loop-at
-invariant-loop-at l = l.items.items ≡ map (committed_item l.session.0 l.number) (take l.at l.initial.items.items) ++ drop l.at l.initial.items.items
+abbrev pub invariant-loop-end : goal.invariant-loop-end
+invariant-loop-end l = Walked (committed_item l.session.0 l.number) l.session.0 l.initial.items.items l.items.items l.end
+
+abbrev pub decreases-loop-end : goal.decreases-loop-end
+decreases-loop-end l = l.end

@@ -5,7 +5,7 @@ use Rattle.database_state.specs.Changes.{changed_bookmark, changed_table}
 use Rattle.version_store.specs.HeldChanges.{conflicts}
 use Rattle.version_store.specs.Kept.{held}
 use Rattle.version_store.specs.Slots.{slot_of}
-use Rattle.version_store.proofs.WalkLemmas.{Walk}
+use Rattle.version_store.specs.Chained.{Walk}
 use Rattle.version_store.proofs.versions.Versions.conflict.Given as goal
 
 abbrev pub invariant-loop-end : goal.invariant-loop-end

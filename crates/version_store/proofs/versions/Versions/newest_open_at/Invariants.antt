@@ -1,14 +1,9 @@
--- No change from the end on is open at the level.
-use Rattle.std.proofs.Common.{◌≡◌, ◌≤◌, take, length}
-use Rattle.version_store.specs.HeldChanges.{is_open_at, last_place}
-use Rattle.version_store.specs.Kept.{held}
+-- No item from the end on is open at the level.
+use Rattle.version_store.proofs.OpenWalks.{Sought}
 use Rattle.version_store.proofs.versions.Versions.newest_open_at.Given as goal
 
 abbrev pub invariant-loop-end : goal.invariant-loop-end
-invariant-loop-end l = record {
-  within : l.end ≤ length (held l.self-inside);
-  same : last_place (is_open_at l.session.0 l.level) (take l.end (held l.self-inside)) ≡ last_place (is_open_at l.session.0 l.level) (held l.self-inside);
-}
+invariant-loop-end l = Sought l.session.0 l.level l.self-inside.items.items l.end
 
 abbrev pub decreases-loop-end : goal.decreases-loop-end
 decreases-loop-end l = l.end

@@ -12,13 +12,14 @@ use Rattle.version_store.specs.Kept.{held}
 use Rattle.version_store.specs.Slots.{slot_of}
 use Rattle.version_store.proofs.HeldLemmas.{held_slot, held-item-get, length-held, slots-held}
 use Rattle.version_store.proofs.RecordLemmas.{hides-slot}
-use Rattle.version_store.proofs.WalkLemmas.{Walk, find-start, find-step, later-at, later-within, or-none, then_some-if, walk-falls, walk-start, walk-step}
+use Rattle.version_store.specs.Chained.{Walk}
+use Rattle.version_store.proofs.WalkLemmas.{find-start, find-step, later-at, later-within, or-none, then_some-if, walk-falls, walk-start, walk-step}
 use Rattle.version_store.proofs.versions.Versions.oldest_hiding.Goals as goal
 
 pub loop-end-init : goal.loop-end-init
 loop-end-init c =
     let a = c.self.inside in let slot : ℕ = slot_of c.args.table.0 c.args.bookmark.now in
-    let are : a.chains ≡ map held_slot (held a) = c.self.invariant.are_slots ∙ slots-held a.items.items a.rows.pieces c.self.invariant.are_rows in
+    let are : a.chains ≡ map held_slot (held a) = c.self.invariant.keeps.are_slots ∙ slots-held a.items.items a.rows.pieces c.self.invariant.keeps.are_rows in
     let is : c.newest-end.result ≡ latest slot a.chains = c.newest-end.ensures ∙ ap (λ (s : ℕ). latest s a.chains) c.slot_of.ensures.value in
     record {
       walk = subst (Walk slot a.chains) (sym is) (walk-start slot a.chains);
@@ -36,12 +37,12 @@ pub loop-end-preserved : goal.loop-end-preserved
 loop-end-preserved c =
     let a = c.self.inside in let x = c.index.result.now in let h : HeldChange = held_change x [] in
     let place : ℕ = c.loop-end.end - 1 in let slot : ℕ = slot_of c.args.table.0 c.args.bookmark.now in
-    let are : a.chains ≡ map held_slot (held a) = c.self.invariant.are_slots ∙ slots-held a.items.items a.rows.pieces c.self.invariant.are_rows in
+    let are : a.chains ≡ map held_slot (held a) = c.self.invariant.keeps.are_slots ∙ slots-held a.items.items a.rows.pieces c.self.invariant.keeps.are_rows in
     let len : length a.chains ≡ length (held a) = ap (length {A = ℕ}) are ∙ length-map (held a) held_slot in
     let within : place < length (held a) = omega (arith, c.loop-end.invariant.walk.within, c.loop-end-test.true, len) in
     let test : Bool = hides c.args.table.0 c.args.bookmark.now c.args.reader (get_or (held a) place h) in
     let tested : c.hides-hides.result ≡ test = c.hides-hides.ensures
-    ∙ sym (ap (hides c.args.table.0 c.args.bookmark.now c.args.reader) (held-item-get a.items.items a.rows.pieces place x h c.self.invariant.are_rows (omega (arith, within, length-held a.items.items a.rows.pieces c.self.invariant.are_rows)) c.index.ensures)) in
+    ∙ sym (ap (hides c.args.table.0 c.args.bookmark.now c.args.reader) (held-item-get a.items.items a.rows.pieces place x h c.self.invariant.keeps.are_rows (omega (arith, within, length-held a.items.items a.rows.pieces c.self.invariant.keeps.are_rows)) c.index.ensures)) in
     let now : c.or-oldest.result ≡ option_or (if test then Some place else None) c.loop-end.oldest =
     c.or-oldest.ensures ∙ ap (λ (o : Option ℕ). option_or o c.loop-end.oldest) (c.then_some.ensures ∙ ap (λ (b : Bool). then_some b place) tested ∙ then_some-if test place) in
     record {

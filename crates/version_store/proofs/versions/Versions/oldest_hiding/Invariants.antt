@@ -6,7 +6,7 @@ use Rattle.version_store.specs.Answers.{change_at}
 use Rattle.version_store.specs.HeldChanges.{hides}
 use Rattle.version_store.specs.Kept.{held}
 use Rattle.version_store.specs.Slots.{slot_of}
-use Rattle.version_store.proofs.WalkLemmas.{Walk}
+use Rattle.version_store.specs.Chained.{Walk}
 use Rattle.version_store.proofs.versions.Versions.oldest_hiding.Given as goal
 
 abbrev pub invariant-loop-end : goal.invariant-loop-end

@@ -1,0 +1,5 @@
+use Rattle.version_cleanup.proofs.Needed.{needed-kept}
+use Rattle.version_cleanup.proofs.laws.needed_changes_are_kept.Goals as goal
+
+pub returns : goal.returns
+returns c sessions status = needed-kept sessions status

@@ -1,0 +1,5 @@
+pub mod Cleaning
+pub mod LiveFields
+pub mod LiveSessions
+pub mod Samples
+pub mod Shown

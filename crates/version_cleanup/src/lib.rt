@@ -1,0 +1,14 @@
+//! The live sessions of the engine, and which held change may go next.
+#![tactic(auto)]
+
+mod cleaning;
+pub mod examples;
+mod fault;
+mod laws;
+mod live;
+mod sessions;
+
+pub use fault::EnterFault;
+pub use laws::{entries_change_the_sessions_alike, needed_changes_are_kept};
+pub use live::Transaction;
+pub use sessions::{MAX_LEVELS, MAX_SESSIONS, Sessions};
