@@ -1,9 +1,9 @@
 -- How the steps of writing a checkpoint compose, at each moment.
-use Rattle.std.proofs.Common.{◌≡◌, ◌≢◌, ◌⊎◌, inl, inr, ⊎_elim, ℕ, ◌+◌, ◌-◌, ◌<◌, ◌≤◌, List, [], ◌∷◌, ◌++◌, Option, Some, None, Bool, true, false, length, take, drop, get_or, refl, sym, ◌∙◌, ap, subst, arith, take-append-drop, All, eqb}
+use Rattle.std.proofs.Common.{◌≡◌, ◌⊎◌, inl, inr, ⊎_elim, ℕ, ◌+◌, ◌<◌, ◌≤◌, List, [], ◌∷◌, ◌++◌, Option, Some, None, false, length, take, drop, get_or, refl, sym, ◌∙◌, ap, subst, arith, take-append-drop, All, eqb}
 use Rattle.std.proofs.lemmas.Bool.{cases_eq, cond-false, ne_eqb}
 use Rattle.std.proofs.lemmas.List.{get_or_default}
 use Rattle.jet_volume.specs.declared.files.File.{File}
-use Rattle.jet_volume.specs.Image.{Image, SameBut, file_bytes}
+use Rattle.jet_volume.specs.Image.{Image, file_bytes}
 use Rattle.jet_volume.specs.Crash.{CrashLeaves}
 use Rattle.page_image.specs.Page.{PageContents}
 use Rattle.checkpoint.specs.declared.image.Standing.{Standing}
@@ -13,7 +13,7 @@ use Rattle.checkpoint.specs.Shape.{IsStanding}
 use Rattle.checkpoint.specs.Steps.{EachFollows, SparesSlots, ClosesGate, KeepsFirst, OpensGate, IsShut, WritesFile, SaysOpenly, KeepsOrBrings, TakesSlot, HasSameBytes, other_slot}
 use Rattle.checkpoint.proofs.Follows.{follows_weaker, follows_into, follows_now}
 use Rattle.checkpoint.proofs.Gates.{closed_gate}
-use Rattle.checkpoint.proofs.Stands.{Undecided, SameRest, same_rest, file_is_one, other_file, spares_undecided, writes_undecided, undecided_keeps, brings}
+use Rattle.checkpoint.proofs.Stands.{Undecided, same_rest, file_is_one, other_file, spares_undecided, writes_undecided, undecided_keeps, brings}
 
 -- what stands in a file once all behind its gate is written
 pub rest_stands : (old new body : List ℕ) (n : ℕ) → 1 ≤ length old → ((gate : List ℕ) → length gate ≡ 1 → take 1 old ≡ gate → take n new ≡ gate ++ body)

@@ -1,7 +1,7 @@
 -- How the steps of a run of volume calls compose.
-use Rattle.std.proofs.Common.{◌≡◌, ◌⊎◌, ℕ, refl, sym, subst}
+use Rattle.std.proofs.Common.{ℕ}
 use Rattle.jet_volume.specs.Image.{Image}
-use Rattle.jet_volume.specs.Crash.{CrashLeaves, CrashFollows, Elapses, LeavesOnly}
+use Rattle.jet_volume.specs.Crash.{CrashLeaves, CrashFollows, Elapses}
 use Rattle.jet_volume.specs.Moments.{started, goes_on, goes_on_by, leaves_weaker, leaves_now}
 use Rattle.checkpoint.specs.Steps.{EachFollows}
 

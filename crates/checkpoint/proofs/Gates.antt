@@ -1,13 +1,13 @@
 -- What a crash leaves of a file whose gate is being written.
-use Rattle.std.proofs.Common.{◌≡◌, ◌⊎◌, inl, inr, ⊎_elim, ℕ, suc, ◌+◌, ◌<◌, ◌≤◌, ◌-◌, min, List, [], ◌∷◌, length, get_or, take, drop, Bool, true, false, ◌&&◌, eqb, leb, refl, sym, ◌∙◌, ap, subst, arith}
-use Rattle.std.proofs.lemmas.Bool.{and_left, and_right, and_cases, cases_eq, lt-leb, ne_eqb}
+use Rattle.std.proofs.Common.{◌≡◌, ◌⊎◌, inl, inr, ⊎_elim, ℕ, ◌≤◌, min, List, [], ◌∷◌, length, get_or, take, false, eqb, leb, refl, sym, ◌∙◌, ap, subst, arith}
+use Rattle.std.proofs.lemmas.Bool.{and_left, and_right, cases_eq, lt-leb, ne_eqb}
 use Rattle.std.proofs.lemmas.List.{take_min, get_or-take}
 use Rattle.jet_volume.specs.declared.files.File.{File}
-use Rattle.jet_volume.specs.Image.{Image, file_bytes, SameBut}
+use Rattle.jet_volume.specs.Image.{Image, file_bytes}
 use Rattle.jet_volume.specs.Crash.{Torn, TornFile, CrashLeaves, CrashFollows, Elapses}
 use Rattle.checkpoint.specs.Opening.{has_open_gate}
 use Rattle.checkpoint.specs.Steps.{EachFollows, ClosesGate}
-use Rattle.checkpoint.proofs.Follows.{follows_none, follows_call, follows_quiet, follows_more, follows_now}
+use Rattle.checkpoint.proofs.Follows.{follows_none, follows_call, follows_quiet, follows_more}
 
 -- a gate that is not 1 is not open
 pub closed_gate : (bytes : List ℕ) → (get_or bytes 0 0 ≡ 1 → ⊥) → has_open_gate bytes ≡ false

@@ -1,11 +1,11 @@
 -- Pieces that are written behind the gate of a file.
-use Rattle.std.proofs.Common.{◌≡◌, ℕ, ◌+◌, ◌<◌, ◌≤◌, min, List, ◌++◌, length, get_or, take, drop, refl, sym, ◌∙◌, ap, subst, arith, append_assoc, length-append, Result, Ok, Err, OnOk}
+use Rattle.std.proofs.Common.{◌≡◌, ℕ, ◌≤◌, min, List, length, get_or, refl, sym, ◌∙◌, ap, arith, Result, Ok, Err, OnOk}
 use Rattle.std.proofs.lemmas.List.{get_or-take}
 use Rattle.jet_volume.specs.declared.files.File.{File}
 use Rattle.jet_volume.specs.Image.{Image, file_bytes}
 use Rattle.jet_volume.specs.Crash.{Torn, TornFile, CrashFollows, Elapses}
 use Rattle.checkpoint.specs.Steps.{EachFollows, KeepsFirst}
-use Rattle.checkpoint.proofs.Follows.{follows_none, follows_call, follows_quiet, follows_more}
+use Rattle.checkpoint.proofs.Follows.{follows_none, follows_call, follows_more}
 
 pub keeps_none : (file : File) (image : Image) → KeepsFirst file image image
 keeps_none file image = record { others = refl; some = λ h. h; first = λ h. refl }

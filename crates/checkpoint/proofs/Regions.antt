@@ -1,12 +1,12 @@
 -- Slots of a database file: a write into one of them spares the others.
-use Rattle.std.proofs.Common.{◌≡◌, ◌≢◌, ◌⊎◌, inl, inr, ⊎_elim, ℕ, ◌+◌, ◌*◌, ◌-◌, ◌<◌, ◌≤◌, min, List, [], ◌++◌, Option, Some, None, length, get_or, take, drop, refl, sym, ◌∙◌, ap, subst, arith, rules, length-take, length-drop, length-append, cond, true, false, Bool, append_assoc, replicate}
+use Rattle.std.proofs.Common.{◌≡◌, ◌≢◌, ◌⊎◌, inl, inr, ⊎_elim, ℕ, ◌+◌, ◌-◌, ◌<◌, ◌≤◌, min, List, ◌++◌, Option, Some, None, length, get_or, take, drop, refl, sym, ◌∙◌, ap, subst, arith, rules, length-take, length-append, append_assoc, replicate}
 use Rattle.std.proofs.lemmas.Bool.{cases_lt, cases_eq}
-use Rattle.std.proofs.lemmas.List.{take-take, take_min, drop-drop, drop-take, take_at, drop_at, same_lists, places, get_or-take, get_or-drop, length-replicate}
+use Rattle.std.proofs.lemmas.List.{take-take, drop-drop, drop-take, take_at, drop_at, places, length-replicate}
 use Rattle.jet_volume.specs.declared.files.File.TheVariants.{Database}
-use Rattle.jet_volume.specs.Image.{Image, SameBut, file_bytes, with_file}
+use Rattle.jet_volume.specs.Image.{Image}
 use Rattle.jet_volume.specs.Crash.{Torn, TornFile, written, padded}
-use Rattle.page_image.specs.Page.{PageContents, IsPage, page_bytes}
-use Rattle.checkpoint.specs.Opening.{slot_start, slot_of, SlotSays, HoldsPage}
+use Rattle.page_image.specs.Page.{PageContents, IsPage}
+use Rattle.checkpoint.specs.Opening.{slot_start, SlotSays, HoldsPage}
 use Rattle.checkpoint.specs.Steps.{SparesAllBut, SparesSlots, HasSameBytes, other_slot}
 
 -- a part before the range of a write that came in part

@@ -1,16 +1,16 @@
 -- Which checkpoint stands while the next one is written.
-use Rattle.std.proofs.Common.{◌≡◌, ◌≢◌, ◌⊎◌, inl, inr, ⊎_elim, ℕ, ◌+◌, ◌%◌, ◌<◌, ◌≤◌, List, [], ◌∷◌, ◌++◌, Option, Some, None, Bool, true, false, ◌&&◌, eqb, leb, length, take, drop, get_or, refl, sym, ◌∙◌, ap, subst, arith, if◌then◌else◌}
-use Rattle.std.proofs.lemmas.Bool.{cases_Bool, cases_lt, and_parts, lt-ltb, le-ltb, le-leb, leb-true, eq-eqb, ne_eqb, cond-true, cond-false}
+use Rattle.std.proofs.Common.{◌≡◌, ◌⊎◌, inl, inr, ⊎_elim, ℕ, ◌+◌, ◌%◌, ◌<◌, ◌≤◌, List, [], Option, Some, None, Bool, true, false, ◌&&◌, eqb, leb, length, get_or, refl, sym, ◌∙◌, ap, subst, arith, if◌then◌else◌}
+use Rattle.std.proofs.lemmas.Bool.{cases_lt, and_parts, lt-ltb, le-ltb, le-leb, leb-true, eq-eqb, ne_eqb, cond-true, cond-false}
 use Rattle.std.proofs.lemmas.List.{get_or_past}
 use Rattle.jet_volume.specs.declared.files.File.{File}
 use Rattle.jet_volume.specs.declared.files.File.TheVariants.{Database, CheckpointA, CheckpointB, Log}
 use Rattle.jet_volume.specs.Image.{Image, SameBut, file_bytes}
 use Rattle.page_image.specs.Page.{PageContents}
 use Rattle.checkpoint.specs.declared.image.Standing.{Standing}
-use Rattle.checkpoint.specs.Contents.{Contents, IsLawful, bytes_behind_gate, number_at, contents_in, file_of, has_head, has_slots, has_live, is_checkpoint_file}
-use Rattle.checkpoint.specs.Opening.{has_open_gate, shown_number, is_greater, chosen, looked_at, IsNew, SlotSays, HoldsPages, HasCheckpoint, KeepsCheckpoint, BringsCheckpoint}
+use Rattle.checkpoint.specs.Contents.{Contents, IsLawful, number_at, contents_in, file_of, has_head, has_slots, has_live, is_checkpoint_file}
+use Rattle.checkpoint.specs.Opening.{has_open_gate, shown_number, is_greater, chosen, looked_at, IsNew, SlotSays, HoldsPages, HasCheckpoint, KeepsCheckpoint}
 use Rattle.checkpoint.specs.Shape.{IsStanding}
-use Rattle.checkpoint.specs.Steps.{SparesSlots, WritesFile, SaysOpenly}
+use Rattle.checkpoint.specs.Steps.{SparesSlots, SaysOpenly}
 use Rattle.checkpoint.proofs.Regions.{says_still}
 use Rattle.checkpoint.proofs.ReadsBack.{whole, contents_read, file_reads, number_shows, opened}
 

@@ -1,5 +1,5 @@
 -- What one write of a page does.
-use Rattle.std.proofs.Common.{◌≡◌, ℕ, ◌+◌, ◌<◌, ◌≤◌, List, length, drop, take, refl, sym, ◌∙◌, ap, subst, arith, ◌≢◌, set, get_or, get_or-set_other, get_or-set_same, below_more}
+use Rattle.std.proofs.Common.{◌≡◌, ℕ, ◌+◌, ◌<◌, List, length, drop, take, sym, ◌∙◌, ap, subst, arith, set, get_or, get_or-set_other, get_or-set_same, below_more}
 use Rattle.jet_volume.specs.declared.files.File.TheVariants.{Database}
 use Rattle.jet_volume.specs.Image.{Image}
 use Rattle.jet_volume.specs.Crash.{TornFile, CrashFollows, Elapses, written}

@@ -1,5 +1,5 @@
 -- Images and standing checkpoints in memory, and what they are on a volume.
-use Rattle.std.specs.Prelude.{◌≡◌, ◌⊎◌, ℕ, ◌<◌, ◌≤◌, ◌^◌, List, [], Option, Some, None, length, All, MatchOption, slice_index_or}
+use Rattle.std.specs.Prelude.{◌≡◌, ◌⊎◌, ℕ, ◌≤◌, List, [], Option, None, length, MatchOption, slice_index_or}
 use Rattle.jet_volume.specs.declared.files.LogStart.{LogStart}
 use Rattle.jet_volume.specs.Image.{Image as Files}
 use Rattle.page_image.specs.Page.{PageContents}

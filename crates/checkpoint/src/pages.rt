@@ -53,7 +53,7 @@ fn has_same_bytes(standing: &Standing, number: usize, page: &Page) -> bool
     }
 }
 
-/// The slot that a checkpoint of this one page more does not use.
+/// The slot of a page other than the one in use, the first where none is.
 fn unused_slot(slot: u8) -> u8
     ensures value { result ≡ other_slot slot }
     ensures within { result < 2 }

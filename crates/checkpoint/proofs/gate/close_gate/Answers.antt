@@ -1,4 +1,4 @@
-use Rattle.std.proofs.Common.{◌≡◌, ℕ, ◌-◌, ◌≤◌, min, List, length, get_or, refl, sym, ◌∙◌, ap, subst, arith, take}
+use Rattle.std.proofs.Common.{◌≡◌, ℕ, ◌-◌, ◌≤◌, min, List, length, get_or, ap, subst, arith, take}
 use Rattle.jet_volume.specs.Image.{file_bytes}
 use Rattle.checkpoint.specs.Steps.{ClosesGate}
 use Rattle.checkpoint.proofs.Follows.{follows_quiet}

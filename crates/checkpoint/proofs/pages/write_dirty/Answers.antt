@@ -1,7 +1,7 @@
-use Rattle.std.proofs.Common.{◌≡◌, ℕ, ◌<◌, None, length, get_or, refl, sym, ◌∙◌, ap, subst, arith}
+use Rattle.std.proofs.Common.{◌<◌, None, length, get_or, refl, ◌∙◌, subst, arith}
 use Rattle.std.proofs.lemmas.List.{get_or_read}
 use Rattle.checkpoint.specs.Opening.{SlotSays}
-use Rattle.checkpoint.specs.Steps.{SparesSlots, TakesSlot, other_slot}
+use Rattle.checkpoint.specs.Steps.{TakesSlot, other_slot}
 use Rattle.checkpoint.proofs.Regions.{spares_slots, spares_more, says_still, says_beside}
 use Rattle.checkpoint.proofs.Writes.{set_more, pages_follow, no_pages_follow}
 use Rattle.checkpoint.proofs.pages.write_dirty.Goals as goal

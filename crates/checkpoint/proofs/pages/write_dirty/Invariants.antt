@@ -1,4 +1,4 @@
-use Rattle.std.proofs.Common.{◌≡◌, ℕ, ◌<◌, None, length, get_or}
+use Rattle.std.proofs.Common.{◌≡◌, ℕ, ◌<◌, None, get_or}
 use Rattle.checkpoint.specs.Opening.{SlotSays}
 use Rattle.checkpoint.specs.Steps.{EachFollows, SparesSlots, TakesSlot}
 use Rattle.checkpoint.proofs.pages.write_dirty.Given as goal

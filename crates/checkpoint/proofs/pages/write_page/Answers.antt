@@ -1,4 +1,4 @@
-use Rattle.std.proofs.Common.{◌≡◌, refl, sym, ◌∙◌, ap, subst, length, slice_index_or, MatchOption, None}
+use Rattle.std.proofs.Common.{◌≡◌, sym, ◌∙◌, ap, subst, slice_index_or, MatchOption, None}
 use Rattle.page_image.specs.Page.{PageContents}
 use Rattle.checkpoint.specs.Opening.{SlotSays}
 use Rattle.checkpoint.specs.Steps.{SparesAllBut, other_slot}

@@ -1,10 +1,9 @@
-use Rattle.std.proofs.Common.{◌≡◌, ℕ, ◌+◌, ◌∷◌, ◌++◌, List, length, take, refl, sym, ◌∙◌, ap, subst, rules}
-use Rattle.std.proofs.lemmas.Result.{on_ok_weaker}
+use Rattle.std.proofs.Common.{◌≡◌, ℕ, ◌+◌, ◌∷◌, ◌++◌, List, length, refl, ◌∙◌, ap, subst}
 use Rattle.checkpoint.proofs.Pieces.{OnOk_both}
 use Rattle.byteorder.specs.Endian.{little_bytes}
 use Rattle.jet_volume.specs.Image.{file_bytes}
 use Rattle.jet_volume.specs.Crash.{CrashLeaves}
-use Rattle.checkpoint.specs.Contents.{bytes_behind_gate, head_bytes, file_of}
+use Rattle.checkpoint.specs.Contents.{bytes_behind_gate, file_of}
 use Rattle.checkpoint.specs.Shape.{contents_with}
 use Rattle.checkpoint.specs.Steps.{SaysOpenly}
 use Rattle.checkpoint.proofs.Files.{file_closes, file_rests, file_opens, rest_stands}

@@ -1,4 +1,4 @@
-use Rattle.std.proofs.Common.{◌≡◌, ◌++◌, List, ℕ, refl, sym, ◌∙◌, ap, codes}
+use Rattle.std.proofs.Common.{◌++◌, List, ℕ, sym, ◌∙◌, ap, codes}
 use Rattle.byteorder.specs.Endian.{little_bytes}
 use Rattle.checkpoint.specs.Contents.{head_bytes}
 use Rattle.checkpoint.proofs.rest.write_head.Goals as goal

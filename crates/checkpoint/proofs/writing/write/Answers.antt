@@ -1,4 +1,4 @@
-use Rattle.std.proofs.Common.{◌≡◌, ℕ, ◌+◌, List, Option, refl, sym, ◌∙◌, ap, subst}
+use Rattle.std.proofs.Common.{ℕ, ◌+◌, List, Option, subst}
 use Rattle.page_image.specs.Page.{PageContents}
 use Rattle.checkpoint.specs.Contents.{Contents}
 use Rattle.checkpoint.specs.Steps.{EachFollows, KeepsOrBrings}
