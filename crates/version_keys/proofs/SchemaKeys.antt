@@ -351,7 +351,7 @@ without_table P d tables id h =
 
 -- ---- steps
 
-unrefused : (refusals : Refusals) → is_none (first_refusal refusals) ≡ true → AllByRecursion (λ refusal. refusal.0 ≡ false) refusals
+pub unrefused : (refusals : Refusals) → is_none (first_refusal refusals) ≡ true → AllByRecursion (λ refusal. refusal.0 ≡ false) refusals
 unrefused [] h = tt
 unrefused (refusal ∷ refusals) h = elim (refusal.0) as (λ b. is_none (cond b (Some refusal.1) (first_refusal refusals)) ≡ true → (b ≡ false) × AllByRecursion (λ refusal. refusal.0 ≡ false) refusals) [
   | true ↦ λ g. impossible g

@@ -1,0 +1,4 @@
+pub mod Refusals
+pub mod SessionSteps
+pub mod Alone
+pub mod ChangeSteps
