@@ -56,7 +56,7 @@ changed_in : (state : DatabaseState) (session : ℕ) (change : Change) → nat_l
 unfolding is_lawful
 changed_in state session change few inside free lawful = and_both _ _ few (and_both _ _ (and_both _ _ inside (ap not free)) lawful)
 
-after_tables : (state : DatabaseState) (session : ℕ) → ((state_after state (begin_of session)).tables ≡ state.tables) × ((state_after state (begin_of session)).number ≡ state.number + 1)
+pub after_tables : (state : DatabaseState) (session : ℕ) → ((state_after state (begin_of session)).tables ≡ state.tables) × ((state_after state (begin_of session)).number ≡ state.number + 1)
 unfolding state_after
 after_tables state session = (refl, refl)
 

@@ -1,9 +1,12 @@
 -- Steps of which each entry may come in its turn, and the states in which calls are answered.
-use Rattle.std.specs.Prelude.{◌≡◌, ℕ, true, List, [], ◌∷◌}
+use Rattle.std.specs.Prelude.{◌≡◌, ℕ, true, false, Option, None, List, [], ◌∷◌}
+use Rattle.jet_base.specs.ColumnType.{big_endian}
 use Rattle.index_derive.specs.declared.log.Entry.{Entry}
 use Rattle.index_derive.specs.declared.log.EntryKind.TheVariants as entry
 use Rattle.index_derive.specs.Steps.{entries_of_step}
+use Rattle.database_state.specs.Table.{primary_rule, row_at}
 use Rattle.database_state.specs.State.{DatabaseState, PastChange}
+use Rattle.database_state.specs.Conflicts.{has_write_conflict}
 use Rattle.database_state.specs.Step.{state_after}
 use Rattle.database_state.specs.Lawful.{is_lawful}
 use Rattle.record_changes.specs.Records.{Records}
@@ -11,7 +14,9 @@ use Rattle.version_history.specs.History.{IsHistory}
 use Rattle.version_keys.specs.TableOrder.{HasTablesInOrder}
 use Rattle.version_keys.specs.UniqueKeys.{HasUniqueKeys}
 use Rattle.version_keys.specs.Variants.{HasNoSums}
-use Rattle.session_local.specs.Outcome.{Outcome}
+use Rattle.session_local.specs.Local.{OpenCursor, PreparedFor, PreparedUpdate, inserting, replacing}
+use Rattle.session_local.specs.Outcome.{Asked, Outcome, rows_seen}
+use Rattle.session_local.specs.RecordCalls.{bookmark_for, number_of_change, put_of}
 
 -- each entry may come after those before it
 abbrev pub AreLawful : DatabaseState → List Entry → Type 0
@@ -33,3 +38,11 @@ pub record IsReached (base : Records) (dropped kept : List PastChange) (state : 
   pub no_sums : HasNoSums kept
   pub unique : HasUniqueKeys base kept state
   pub order : HasTablesInOrder state
+
+-- What an insert must find under its new bookmark: no concurrent change, and where the bookmark is the number of its entry, no
+-- record. Of a replace nothing more is asked.
+abbrev pub IsNewFor : Asked → OpenCursor → PreparedUpdate → PreparedFor → Type 0
+IsNewFor asked c prepared (inserting copied) =
+    (has_write_conflict asked.state asked.session (put_of asked c prepared (bookmark_for asked c.schema prepared.for prepared.values)) ≡ false)
+    × (primary_rule c.schema ≡ None → row_at (rows_seen asked c) (big_endian 8 (number_of_change asked)) ≡ None)
+IsNewFor asked c prepared (replacing bookmark) = Unit {0}

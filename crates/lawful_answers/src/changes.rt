@@ -9,7 +9,7 @@ ghost use Rattle.index_derive.specs.declared.rules.Schema.{Schema};
 ghost use Rattle.index_derive.specs.declared.log.EntryKind.TheVariants as entry;
 ghost use Rattle.index_derive.specs.declared.log.Step.TheVariants.{Alone};
 ghost use Rattle.index_derive.specs.Steps.{entries_of_step};
-ghost use Rattle.database_state.specs.Changes.{is_sum};
+ghost use Rattle.database_state.specs.Changes.{changed_table, changed_bookmark, is_sum};
 ghost use Rattle.database_state.specs.State.{DatabaseState, PastChange, levels};
 ghost use Rattle.database_state.specs.View.{view};
 ghost use Rattle.database_state.specs.Conflicts.{has_write_conflict, has_key_conflict};
@@ -18,10 +18,11 @@ ghost use Rattle.database_state.specs.Lawful.{is_lawful, is_live, log_limit};
 ghost use Rattle.record_changes.specs.Records.{Records};
 ghost use Rattle.version_history.specs.History.{IsHistory};
 ghost use Rattle.session_local.specs.declared.request.Request.TheVariants as call;
-ghost use Rattle.session_local.specs.Agreement.{Agrees};
+ghost use Rattle.session_local.specs.Agreement.{Agrees, has_lock};
 ghost use Rattle.session_local.specs.Calls.{answer};
+ghost use Rattle.session_local.specs.Local.{OpenCursor, PreparedUpdate, cursor_labelled};
 ghost use Rattle.session_local.specs.Outcome.{Asked};
-ghost use Rattle.lawful_answers.specs.LawfulSteps.{AreLawful, HasLawfulStep, IsReached, begin_of};
+ghost use Rattle.lawful_answers.specs.LawfulSteps.{AreLawful, HasLawfulStep, IsNewFor, IsReached, begin_of};
 
 use index_derive::{a_primary_index_has_one_entry, entries_rise};
 
@@ -68,6 +69,24 @@ pub fn the_step_of_a_lock_is_lawful()
 pub fn the_step_of_a_replace_is_lawful()
     ensures { (base : Records) (dropped kept : List PastChange) (asked : Asked) (cursor : CursorId) → IsReached base dropped kept asked.state → Agrees asked.state asked.session asked.local
         → HasLawfulStep asked.state (answer asked (call.PrepareUpdate cursor prepare.Replace)) }
+{
+    a_primary_index_has_one_entry();
+    entries_rise();
+}
+
+/// A record that a session has locked meets no write conflict of that session: who changed it before had committed when the
+/// session's transaction began, and no one else changes it behind the lock.
+pub fn a_locked_record_meets_no_write_conflict()
+    ensures { (base : Records) (dropped kept : List PastChange) (state : DatabaseState) (session : ℕ) (change : Change) → IsHistory base dropped kept state → has_lock state session (changed_table change) (changed_bookmark change) ≡ true
+        → has_write_conflict state session change ≡ false }
+{}
+
+/// The step of an update, in a transaction or alone. A replace holds the lock of its record. Of an insert it is asked that its
+/// bookmark is new: no concurrent change touches it, and where it is the number of its entry no record stands under it.
+pub fn the_step_of_an_update_is_lawful()
+    ensures { (base : Records) (dropped kept : List PastChange) (asked : Asked) (cursor : CursorId) → IsReached base dropped kept asked.state → Agrees asked.state asked.session asked.local
+        → ((c : OpenCursor) (prepared : PreparedUpdate) → cursor_labelled asked.local cursor.0 ≡ Some c → c.prepared ≡ Some prepared → IsNewFor asked c prepared prepared.for)
+        → HasLawfulStep asked.state (answer asked (call.Update cursor)) }
 {
     a_primary_index_has_one_entry();
     entries_rise();
