@@ -1,11 +1,10 @@
 -- A change outside a transaction: what its session meets after the begin that comes before it, and the commit behind it.
-use Rattle.std.proofs.Common.{◌≡◌, ℕ, ◌+◌, ◌<◌, ◌≤◌, Bool, true, false, not, ◌&&◌, ◌||◌, cond, List, [], ◌∷◌, ◌++◌, Option, Some, None, refl, sym, ap, subst, ◌∙◌, arith}
-use Rattle.std.specs.Prelude.{◌==◌, filter, is_some, map, nat_le, nat_lt}
+use Rattle.std.proofs.Common.{◌≡◌, ℕ, ◌+◌, ◌≤◌, Bool, true, false, not, ◌&&◌, ◌||◌, cond, List, [], ◌∷◌, Option, Some, None, refl, sym, ap, ◌∙◌, arith}
+use Rattle.std.specs.Prelude.{◌==◌, filter, map, nat_lt}
 use Rattle.std.specs.List.{AllByRecursion, list_any}
 use Rattle.std.proofs.lemmas.Bool.Decides.{nat_tests}
 use Rattle.column_set.specs.declared.changes.Change.{Change}
 use Rattle.column_set.specs.declared.changes.Change.TheVariants.{Put, Drop, Hold, Add}
-use Rattle.index_derive.specs.declared.log.Entry.{Entry}
 use Rattle.index_derive.specs.declared.log.EntryKind.TheVariants as entry
 use Rattle.index_derive.specs.declared.log.Step.TheVariants.{Alone}
 use Rattle.index_derive.specs.declared.rules.IndexRule.{IndexRule}
@@ -13,14 +12,14 @@ use Rattle.index_derive.specs.declared.rules.Schema.{Schema}
 use Rattle.index_derive.specs.Steps.{entries_of_step}
 use Rattle.database_state.specs.Table.{Table}
 use Rattle.database_state.specs.Changes.{changed_table, is_sum, tables_after_all, without_copied}
-use Rattle.database_state.specs.State.{DatabaseState, PastChange, Status, Transaction, change_of, committed, is_open, is_open_change_of, levels, levels_of, live_session, open_changes_of, transaction_of, uncommitted, undone}
+use Rattle.database_state.specs.State.{DatabaseState, PastChange, Status, Transaction, change_of, committed, is_open_change_of, levels, levels_of, transaction_of, uncommitted, undone}
 use Rattle.database_state.specs.View.{view, view_in}
 use Rattle.database_state.specs.Conflicts.{collide, concurrent_changes, has_key_conflict, has_write_conflict, is_concurrent, is_concurrent_status, yields_key}
 use Rattle.database_state.specs.Step.{state_after}
 use Rattle.database_state.specs.Lawful.{is_lawful, is_live, log_limit}
 use Rattle.derived_index.proofs.Adding.{KeysRise}
 use Rattle.record_changes.specs.Records.{Records}
-use Rattle.record_changes.proofs.Tests.{and_both, and_left, and_right, self_equal}
+use Rattle.record_changes.proofs.Tests.{and_both, and_left, self_equal}
 use Rattle.version_history.specs.History.{IsHistory, IsPlaced, IsPlacedBy}
 use Rattle.version_history.specs.KeptSteps.{kept_after, new_change, with_next_number}
 use Rattle.version_history.proofs.Concurrent.{concurrent_kept}
@@ -38,7 +37,6 @@ use Rattle.version_keys.proofs.UniqueLaws.{keys_kept}
 use Rattle.lawful_answers.specs.LawfulSteps.{AreLawful, IsReached, begin_of}
 
 -- ---- after the begin
-
 
 begun_at : (state : DatabaseState) (session : ℕ) → is_live state session ≡ true → transaction_of (state_after state (begin_of session)) session ≡ Some (record { levels = 1; begin = state.number + 1; snapshot = state.tables })
 unfolding state_after
@@ -129,12 +127,17 @@ alone_lawful one rise base dropped kept state session change r few live out sum 
     let first = keeps_lawful base dropped kept state (begin_of session) r.history begins in
     let unique = keys_kept one base dropped kept state (begin_of session) r.history begins r.no_sums r.no_sums r.unique in
     let no_sums : HasNoSums (kept_after (state_after state (begin_of session)) session (entry.Change change) kept) =
-        all_append (λ item. is_sum item.change ≡ false) kept (new_change session change (with_next_number (state_after state (begin_of session))) ∷ []) r.no_sums (no_sum change sum, tt) in
-    (begins, (e, (
-      commit_lawful rise base dropped (kept_after (state_after state (begin_of session)) session (entry.Change change) kept) (state_after (state_after state (begin_of session)) (record { session = record { 0 = session }; kind = entry.Change change })) session
-          (keeps_lawful base dropped kept (state_after state (begin_of session)) (record { session = record { 0 = session }; kind = entry.Change change }) first e) no_sums
-          (keys_kept one base dropped kept (state_after state (begin_of session)) (record { session = record { 0 = session }; kind = entry.Change change }) first e r.no_sums no_sums unique)
-          (order_kept (state_after state (begin_of session)) (record { session = record { 0 = session }; kind = entry.Change change }) (order_kept state (begin_of session) r.order begins) e)
-          (same_levels (state_after state (begin_of session)) session change ∙ one_level state session live),
-      tt,
-    )))
+    all_append (λ item. is_sum item.change ≡ false) kept (new_change session change (with_next_number (state_after state (begin_of session))) ∷ []) r.no_sums (no_sum change sum, tt) in (
+      begins,
+      (
+        e,
+        (
+          commit_lawful rise base dropped (kept_after (state_after state (begin_of session)) session (entry.Change change) kept) (state_after (state_after state (begin_of session)) (record { session = record { 0 = session }; kind = entry.Change change })) session
+              (keeps_lawful base dropped kept (state_after state (begin_of session)) (record { session = record { 0 = session }; kind = entry.Change change }) first e) no_sums
+              (keys_kept one base dropped kept (state_after state (begin_of session)) (record { session = record { 0 = session }; kind = entry.Change change }) first e r.no_sums no_sums unique)
+              (order_kept (state_after state (begin_of session)) (record { session = record { 0 = session }; kind = entry.Change change }) (order_kept state (begin_of session) r.order begins) e)
+              (same_levels (state_after state (begin_of session)) session change ∙ one_level state session live),
+          tt,
+        ),
+      ),
+    )

@@ -1,16 +1,15 @@
 -- The steps of deletes, locks and prepared replaces.
-use Rattle.std.proofs.Common.{◌≡◌, ℕ, ◌+◌, Bool, true, false, not, ◌&&◌, cond, List, [], ◌∷◌, ◌++◌, Option, Some, None, refl, sym, ap, subst, ◌∙◌, arith}
+use Rattle.std.proofs.Common.{◌≡◌, ℕ, ◌+◌, true, false, not, List, ◌++◌, Option, Some, None, refl, sym, ap, ◌∙◌, arith}
 use Rattle.std.specs.Prelude.{◌==◌, if◌then◌else◌, is_none, is_some, nat_le, nat_lt}
 use Rattle.std.proofs.lemmas.Bool.Decides.{nat_tests}
 use Rattle.jet_base.specs.declared.ids.CursorId.{CursorId}
 use Rattle.jet_base.specs.declared.words.Prepare.TheVariants as prepare
 use Rattle.column_set.specs.declared.changes.Change.{Change}
-use Rattle.column_set.specs.declared.changes.Change.TheVariants.{Drop, Hold}
 use Rattle.index_derive.specs.declared.log.Step.TheVariants.{One, Alone}
 use Rattle.index_derive.specs.declared.log.EntryKind.TheVariants as entry
 use Rattle.index_derive.specs.Steps.{entries_of_step}
 use Rattle.database_state.specs.Table.{Rows, Table, row_at, rows_of, schema_of, table_with_id}
-use Rattle.database_state.specs.Changes.{changed_table, changed_bookmark, is_sum}
+use Rattle.database_state.specs.Changes.{changed_table, is_sum}
 use Rattle.database_state.specs.State.{DatabaseState, PastChange, levels}
 use Rattle.database_state.specs.View.{view}
 use Rattle.database_state.specs.Conflicts.{has_write_conflict}
@@ -25,7 +24,7 @@ use Rattle.session_local.specs.declared.request.Request.TheVariants as call
 use Rattle.session_local.specs.Agreement.{Agrees, HasSchemaOf}
 use Rattle.session_local.specs.Calls.{answer}
 use Rattle.session_local.specs.Local.{OpenCursor, cursor_labelled}
-use Rattle.session_local.specs.Outcome.{Asked, current_refusals, is_outside, number_refusals, rows_seen, span_refusals, step_of_change}
+use Rattle.session_local.specs.Outcome.{Asked, is_outside, number_refusals, rows_seen, span_refusals, step_of_change}
 use Rattle.session_local.specs.RecordCalls.{bookmark_at, conflict_refusals, current, delete, drop_at, get_lock, hold_at, own_refusals, prepare_replace, prepared_refusals, transaction_refusals}
 use Rattle.lawful_answers.specs.LawfulSteps.{AreLawful, IsReached, HasLawfulStep, begin_of}
 use Rattle.lawful_answers.proofs.Alone.{alone_lawful, conflict_after, one_level, view_after}

@@ -1,5 +1,5 @@
 -- A record that a session has locked meets no write conflict of it.
-use Rattle.std.proofs.Common.{◌≡◌, ℕ, Bool, true, false, not, ◌&&◌, ◌||◌, cond, List, [], ◌∷◌, ◌++◌, Option, Some, None, refl, sym, ap, subst, ◌∙◌, bytes_eq, arith}
+use Rattle.std.proofs.Common.{◌≡◌, ℕ, Bool, true, false, not, ◌&&◌, ◌||◌, cond, List, [], ◌∷◌, Option, Some, None, refl, sym, ap, subst, ◌∙◌, arith}
 use Rattle.std.specs.Prelude.{◌==◌, filter, nat_lt}
 use Rattle.std.specs.List.{AllByRecursion, list_any}
 use Rattle.std.proofs.lemmas.Bool.Decides.{nat_tests}
@@ -11,7 +11,7 @@ use Rattle.database_state.specs.State.{DatabaseState, PastChange, Status, Transa
 use Rattle.database_state.specs.Conflicts.{collide, is_after_begin, is_concurrent, is_concurrent_status, has_write_conflict}
 use Rattle.record_changes.specs.Records.{Records, is_change_of}
 use Rattle.record_changes.proofs.Commuting.{both_touch}
-use Rattle.record_changes.proofs.Tests.{and_both, and_left, and_right, contradicted, impossible, refuted, same_number, self_equal}
+use Rattle.record_changes.proofs.Tests.{and_both, and_left, and_right, contradicted, impossible, same_number, self_equal}
 use Rattle.version_history.specs.History.{EachTwo, InOrder, IsHistory, IsPassed, IsPassedBy, is_apart, is_apart_by, is_begun_after}
 use Rattle.version_history.specs.Readers.{is_standing}
 use Rattle.version_history.proofs.Concurrent.{write_conflict_kept}

@@ -1,30 +1,21 @@
 -- The step of an update.
-use Rattle.std.proofs.Common.{◌≡◌, ℕ, ◌+◌, ◌≤◌, Bool, true, false, not, ◌&&◌, ◌||◌, cond, List, [], ◌∷◌, ◌++◌, Option, Some, None, Result, Ok, Err, refl, sym, ap, subst, ◌∙◌, arith, bytes_eq}
-use Rattle.std.specs.Prelude.{◌==◌, filter, find, flat_map, if◌then◌else◌, is_none, is_some, nat_le, nat_lt, unwrap_or, IfSome, IsSome, IsTrue}
+use Rattle.std.proofs.Common.{◌≡◌, ℕ, Bool, true, false, not, ◌&&◌, ◌||◌, cond, List, [], ◌∷◌, ◌++◌, Option, Some, None, Ok, Err, refl, sym, ap, ◌∙◌, bytes_eq}
+use Rattle.std.specs.Prelude.{filter, flat_map, is_none}
 use Rattle.std.specs.List.{AllByRecursion, list_all, list_any}
-use Rattle.std.proofs.lemmas.Bool.Decides.{nat_tests}
-use Rattle.jet_base.specs.declared.ids.CursorId.{CursorId}
 use Rattle.jet_base.specs.declared.replies.Jet.TheVariants as jet
-use Rattle.jet_base.specs.ColumnType.{big_endian}
-use Rattle.column_set.specs.declared.columns.Column.{Column}
-use Rattle.column_set.specs.RecordValues.{RecordFields, has_value, is_missing_a_value, record_fits, record_size}
+use Rattle.column_set.specs.RecordValues.{RecordFields, has_value}
 use Rattle.key_normal.specs.KeyBytes.{is_cut}
 use Rattle.index_derive.specs.declared.rules.IndexRule.{IndexRule}
 use Rattle.index_derive.specs.declared.rules.Schema.{Schema}
-use Rattle.index_derive.specs.Entries.{KeyRefusal, KeyTruncated, NullKeyDisallowed, entries, is_legal, is_unique, key_columns, key_list, keys_or_none, primary_key, whole_key}
-use Rattle.index_derive.specs.Primary.{first_values, primary_entries}
+use Rattle.index_derive.specs.Entries.{KeyTruncated, NullKeyDisallowed, entries, is_legal, is_unique, key_columns, key_list, keys_or_none, primary_key, whole_key}
+use Rattle.index_derive.specs.Primary.{first_values}
 use Rattle.database_state.specs.Refusals.{Refusals, first_refusal}
-use Rattle.database_state.specs.Table.{Rows, Table, index_entries, primary_rule, row_at, rule_with_id, schema_of}
-use Rattle.database_state.specs.Puts.{is_cut_refusal, is_null_refusal, is_replaced, is_taken, key_refusals, new_keys, null_refusals, put_refusals, replaced_record}
-use Rattle.database_state.specs.State.{DatabaseState, transaction_of}
+use Rattle.database_state.specs.Table.{Rows, index_entries, row_at}
+use Rattle.database_state.specs.Puts.{is_cut_refusal, is_null_refusal, is_taken, key_refusals, new_keys, null_refusals, put_refusals, replaced_record}
+use Rattle.database_state.specs.State.{DatabaseState}
 use Rattle.database_state.specs.Conflicts.{has_key_conflict, yields_key}
-use Rattle.database_state.specs.Lawful.{has_free_keys, is_bookmark_of, is_copied_in, is_lawful_put, keeps_escrow}
-use Rattle.derived_index.proofs.OtherRecords.{taken_primary}
-use Rattle.record_changes.proofs.Tests.{and_both, and_right, contradicted, equal_bytes, impossible, or_first, or_second, same_bytes}
-use Rattle.version_keys.specs.UniqueKeys.{IsSoundIndex}
+use Rattle.record_changes.proofs.Tests.{and_both, contradicted, equal_bytes, impossible, or_first, or_second}
 use Rattle.version_keys.proofs.BookmarkKeys.{HasOneEntry}
-use Rattle.version_keys.proofs.IndexNumbers.{all_primary_first, none_of}
-use Rattle.lawful_answers.proofs.Refusals.{of_found}
 
 -- ---- lists
 

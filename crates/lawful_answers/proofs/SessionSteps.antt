@@ -1,14 +1,14 @@
 -- The steps of sessions and of transactions, of opening and of closing.
-use Rattle.std.proofs.Common.{◌≡◌, ◌≢◌, ℕ, ◌+◌, ◌<◌, ◌≤◌, Bool, true, false, not, ◌&&◌, ◌||◌, cond, List, [], ◌∷◌, Option, Some, None, refl, sym, ap, subst, ◌∙◌, arith, bytes_eq}
+use Rattle.std.proofs.Common.{◌≡◌, ℕ, ◌+◌, ◌≤◌, Bool, true, false, not, ◌||◌, cond, List, [], ◌∷◌, Option, Some, None, refl, sym, ap, subst, ◌∙◌, arith, bytes_eq}
 use Rattle.std.specs.Prelude.{◌==◌, count_by, find, fold, if◌then◌else◌, is_some, length, map, nat_le, nat_lt}
-use Rattle.std.specs.List.{AllByRecursion, list_any}
+use Rattle.std.specs.List.{list_any}
 use Rattle.std.proofs.lemmas.Bool.Decides.{nat_tests}
 use Rattle.jet_base.specs.declared.ids.CursorId.{CursorId}
 use Rattle.jet_base.specs.declared.replies.Jet.TheVariants as jet
 use Rattle.index_derive.specs.declared.log.EntryKind.TheVariants as entry
 use Rattle.database_state.specs.Table.{Table, table_named, table_with_id}
 use Rattle.database_state.specs.State.{LiveSession, PastChange, levels, live_session}
-use Rattle.database_state.specs.Lawful.{has_open, is_lawful, is_live, log_limit}
+use Rattle.database_state.specs.Lawful.{has_open, is_lawful, log_limit}
 use Rattle.derived_index.proofs.Adding.{KeysRise}
 use Rattle.record_changes.specs.Records.{Records}
 use Rattle.record_changes.proofs.Tests.{and_both, impossible, or_first, or_second, self_equal}
@@ -22,7 +22,7 @@ use Rattle.session_local.specs.Local.{OpenCursor, cursor_labelled, without_prepa
 use Rattle.session_local.specs.Outcome.{Asked, done, is_outside, number_refusals, one}
 use Rattle.session_local.specs.SessionCalls.{begin_session}
 use Rattle.lawful_answers.specs.LawfulSteps.{HasLawfulStep, IsReached}
-use Rattle.lawful_answers.proofs.Refusals.{at_found, of_found, past, when_begun}
+use Rattle.lawful_answers.proofs.Refusals.{at_found, past, when_begun}
 
 -- ---- numbers
 
@@ -184,10 +184,10 @@ pub table_closes : (asked : Asked) (cursor : CursorId) → Agrees asked.state as
 unfolding is_lawful
 table_closes asked cursor agrees = when_begun asked (call.CloseTable cursor)
     (λ begun. at_found asked cursor.0 (close_table asked) (λ c e. (
-    open_there c.cursor.table (live_session asked.state asked.session)
-        (same_members (λ n. n == c.cursor.table) (map cursor_table asked.local.cursors) (open_tables_of (live_session asked.state asked.session)) (agrees.tables c.cursor.table) (cursor_there cursor.0 asked.local.cursors c e)),
-    tt,
-  )))
+      open_there c.cursor.table (live_session asked.state asked.session)
+          (same_members (λ n. n == c.cursor.table) (map cursor_table asked.local.cursors) (open_tables_of (live_session asked.state asked.session)) (agrees.tables c.cursor.table) (cursor_there cursor.0 asked.local.cursors c e)),
+      tt,
+    )))
     (λ e. tt)
   where
     open_there : (table : ℕ) (s : Option LiveSession) → list_any (λ n. n == table) (open_tables_of s) ≡ true → has_open s table ≡ true

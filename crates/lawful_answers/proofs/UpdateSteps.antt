@@ -1,6 +1,6 @@
 -- The step of an update is lawful.
 use Rattle.std.proofs.Common.{◌≡◌, ℕ, ◌+◌, ◌≤◌, Bool, true, false, not, ◌&&◌, ◌||◌, cond, List, [], ◌∷◌, ◌++◌, Option, Some, None, refl, sym, ap, subst, ◌∙◌, arith, bytes_eq}
-use Rattle.std.specs.Prelude.{◌==◌, filter, find, flat_map, if◌then◌else◌, is_none, is_some, nat_le, IfSome, IsSome}
+use Rattle.std.specs.Prelude.{◌==◌, filter, find, flat_map, if◌then◌else◌, is_some, nat_le, IfSome}
 use Rattle.std.specs.List.{AllByRecursion, list_any}
 use Rattle.std.proofs.lemmas.Bool.Decides.{nat_tests}
 use Rattle.jet_base.specs.declared.ids.CursorId.{CursorId}
@@ -12,15 +12,13 @@ use Rattle.column_set.specs.RecordValues.{RecordFields, is_missing_a_value, reco
 use Rattle.index_derive.specs.declared.rules.IndexRule.{IndexRule}
 use Rattle.index_derive.specs.declared.rules.Schema.{Schema}
 use Rattle.index_derive.specs.Entries.{entries, is_legal, is_unique, key_list, primary_key}
-use Rattle.index_derive.specs.Steps.{entries_of_step}
-use Rattle.database_state.specs.Refusals.{Refusals}
-use Rattle.database_state.specs.Table.{Rows, Table, primary_first, primary_rule, row_at, rows_of, rule_with_id, schema_of, table_with_id}
+use Rattle.database_state.specs.Table.{Rows, Table, primary_rule, row_at, rows_of, rule_with_id, schema_of, table_with_id}
 use Rattle.database_state.specs.Puts.{is_cut_refusal, is_null_refusal, is_taken, null_refusals, put_refusals}
-use Rattle.database_state.specs.State.{DatabaseState, PastChange, Transaction, transaction_of}
+use Rattle.database_state.specs.State.{DatabaseState, PastChange, transaction_of}
 use Rattle.database_state.specs.View.{view}
 use Rattle.database_state.specs.Conflicts.{has_key_conflict, has_write_conflict}
 use Rattle.database_state.specs.Step.{state_after}
-use Rattle.database_state.specs.Lawful.{has_free_keys, is_bookmark_of, is_copied_in, is_indexable, is_lawful_at, is_live, keeps_escrow, log_limit}
+use Rattle.database_state.specs.Lawful.{has_free_keys, is_bookmark_of, is_copied_in, is_indexable, is_lawful_at, is_live, keeps_escrow}
 use Rattle.derived_index.proofs.Adding.{KeysRise}
 use Rattle.derived_index.proofs.OtherRecords.{taken_primary}
 use Rattle.record_changes.specs.Records.{Records}
@@ -34,10 +32,10 @@ use Rattle.session_local.specs.declared.request.Request.TheVariants as call
 use Rattle.session_local.specs.Agreement.{Agrees, IsStorable, MayReplace, replaced_in}
 use Rattle.session_local.specs.Calls.{answer}
 use Rattle.session_local.specs.Local.{OpenCursor, PreparedFor, PreparedUpdate, cursor_labelled, inserting, replacing}
-use Rattle.session_local.specs.Outcome.{Asked, Outcome, is_outside, number_refusals, rows_seen, span_refusals, step_of_change}
+use Rattle.session_local.specs.Outcome.{Asked, number_refusals, rows_seen, span_refusals}
 use Rattle.session_local.specs.RecordCalls.{bookmark_for, copied_in, inserted_bookmark, is_other_key, is_primary_changed, number_of_change, on_prepared, put_of, replaced_by, update, update_with}
-use Rattle.lawful_answers.specs.LawfulSteps.{AreLawful, HasLawfulStep, IsNewFor, IsReached, begin_of}
-use Rattle.lawful_answers.proofs.Alone.{conflict_after, key_conflict_after, view_after}
+use Rattle.lawful_answers.specs.LawfulSteps.{HasLawfulStep, IsNewFor, IsReached, begin_of}
+use Rattle.lawful_answers.proofs.Alone.{key_conflict_after, view_after}
 use Rattle.lawful_answers.proofs.ChangeSteps.{IsAtTable, IsLawfulAtTable, after_tables, at_its_table, changes_lawful}
 use Rattle.lawful_answers.proofs.Locks.{locked_free}
 use Rattle.lawful_answers.proofs.PutSteps.{AreUnrefused, IsFreeIn, IsOwn, free_rules, no_first, parted, parts_of_put, primary_listed}
@@ -102,11 +100,11 @@ new_row one asked schema rows values found whole table free hidden =
           let is : (rule_with_id schema rule.id.0 ≡ Some rule) × (rule.flags.primary ≡ true → is_legal rule schema ≡ true) = of_found (λ rule. (rule_with_id schema rule.id.0 ≡ Some rule) × (rule.flags.primary ≡ true → is_legal rule schema ≡ true)) (λ r. r.flags.primary) schema.indexes rule e found in
           let primary : rule.flags.primary ≡ true = found_passes (λ r. r.flags.primary) schema.indexes rule e in
           let keys : (is_null_refusal (entries rule schema values) ≡ false) × (is_cut_refusal (entries rule schema values) ≡ false) =
-              of_found (λ rule. (is_null_refusal (entries rule schema values) ≡ false) × (is_cut_refusal (entries rule schema values) ≡ false)) (λ r. r.flags.primary) schema.indexes rule e (each_null schema values schema.indexes whole) in
+          of_found (λ rule. (is_null_refusal (entries rule schema values) ≡ false) × (is_cut_refusal (entries rule schema values) ≡ false)) (λ r. r.flags.primary) schema.indexes rule e (each_null schema values schema.indexes whole) in
           let unique : is_unique rule ≡ true = ap (λ b. b || rule.flags.unique) primary in
           let untaken : IsFreeIn asked.state asked.session table schema rows None values rule =
-              of_found (λ rule. is_unique rule ≡ true → IsFreeIn asked.state asked.session table schema rows None values rule) (λ r. r.flags.primary) schema.indexes rule e
-              (unfiltered (IsFreeIn asked.state asked.session table schema rows None values) is_unique schema.indexes free) unique in
+          of_found (λ rule. is_unique rule ≡ true → IsFreeIn asked.state asked.session table schema rows None values rule) (λ r. r.flags.primary) schema.indexes rule e
+          (unfiltered (IsFreeIn asked.state asked.session table schema rows None values) is_unique schema.indexes free) unique in
           none_there (row_at rows (primary_key rule schema values)) (sym (taken_primary schema rows rule (primary_key rule schema values) is.0 primary)
           ∙ not_any (is_taken schema rows rule None) (primary_key rule schema values) (key_list rule schema values) (primary_listed one rule schema values (is.1 primary) primary keys.0 keys.1) untaken.1)
     ] refl

@@ -1,5 +1,5 @@
 -- Steps of which each entry may come in its turn, and the states in which calls are answered.
-use Rattle.std.specs.Prelude.{◌≡◌, ℕ, true, false, Option, None, List, [], ◌∷◌}
+use Rattle.std.specs.Prelude.{◌≡◌, ℕ, true, false, None, List, [], ◌∷◌}
 use Rattle.jet_base.specs.ColumnType.{big_endian}
 use Rattle.index_derive.specs.declared.log.Entry.{Entry}
 use Rattle.index_derive.specs.declared.log.EntryKind.TheVariants as entry

@@ -1,11 +1,11 @@
 -- After a commit no unique index has a key twice.
 use Rattle.std.proofs.Common.{◌≡◌, ℕ, ◌+◌, Bool, true, false, not, ◌&&◌, ◌||◌, cond, List, [], ◌∷◌, ◌++◌, Option, Some, None, refl, sym, ap, subst, ◌∙◌, bytes_eq}
-use Rattle.std.specs.Prelude.{◌==◌, flat_map, map, nat_lt, IfSome}
+use Rattle.std.specs.Prelude.{flat_map, map, IfSome}
 use Rattle.std.specs.List.{AllByRecursion, list_all, list_any}
 use Rattle.std.specs.List.Sorted.{IsStrictlySortedBy}
 use Rattle.std.specs.declared.cmp.Ordering.TheVariants.{Less}
-use Rattle.std.specs.Ordering.{nat_cmp, eq_by_cmp, is_eq}
-use Rattle.std.specs.Cmp.Lexicographic.{slice_cmp, texts_ties}
+use Rattle.std.specs.Ordering.{is_eq}
+use Rattle.std.specs.Cmp.Lexicographic.{texts_ties}
 use Rattle.std.proofs.lemmas.List.Folds.{list_any-append}
 use Rattle.column_set.specs.RecordValues.{RecordFields}
 use Rattle.index_derive.specs.declared.rules.IndexRule.{IndexRule}
@@ -17,15 +17,15 @@ use Rattle.database_state.specs.Changes.{is_sum, tables_after_all}
 use Rattle.database_state.specs.State.{DatabaseState, PastChange, Transaction, committed, open_changes_of, transaction_of}
 use Rattle.database_state.specs.View.{view, view_in}
 use Rattle.database_state.specs.Conflicts.{yields_key}
-use Rattle.database_state.specs.Step.{all_committed, applied, every_change, with_changes_at}
+use Rattle.database_state.specs.Step.{applied, every_change, with_changes_at}
 use Rattle.database_state.specs.Lawful.{is_unique_throughout}
 use Rattle.derived_index.proofs.Adding.{KeysRise}
 use Rattle.derived_index.proofs.PairOrder.{key_cmp}
 use Rattle.derived_index.proofs.Rising.{AreRisingKeys}
-use Rattle.derived_index.proofs.Rows.{IsBelow, RowsRise}
+use Rattle.derived_index.proofs.Rows.{RowsRise}
 use Rattle.derived_index.proofs.Standing.{same_test}
 use Rattle.record_changes.specs.Records.{Records, records_of}
-use Rattle.record_changes.proofs.Tests.{and_both, equal_bytes, impossible, or_first, or_second, refuted, same_bytes, self_equal}
+use Rattle.record_changes.proofs.Tests.{and_both, equal_bytes, impossible, or_first, or_second, refuted, self_equal}
 use Rattle.version_history.specs.History.{IsHistory}
 use Rattle.version_history.specs.KeptSteps.{committed_own, kept_after, with_next_number}
 use Rattle.version_history.proofs.EndEntries.{history_committed, same_definitions}
@@ -93,7 +93,7 @@ once rise rule schema look (row ∷ rows) unique found h =
     apart_lists (key_list rule schema row.1) (flat_map (λ place. key_list rule schema place.1) rows) (rising_once (key_list rule schema row.1) (rise rule schema row.1)) (once rise rule schema look rows unique found.1 h.1)
     (λ key own also.
     let there = having rule schema key (λ place. (key_cmp row.0 place.0 ≡ Less) × (look place.0 ≡ Some place.1)) rows
-        (all_both (λ place. key_cmp row.0 place.0 ≡ Less) (λ place. look place.0 ≡ Some place.1) (λ place. (key_cmp row.0 place.0 ≡ Less) × (look place.0 ≡ Some place.1)) (λ place a b. (a, b)) rows h.0 found.1) also in
+    (all_both (λ place. key_cmp row.0 place.0 ≡ Less) (λ place. look place.0 ≡ Some place.1) (λ place. (key_cmp row.0 place.0 ≡ Less) × (look place.0 ≡ Some place.1)) (λ place a b. (a, b)) rows h.0 found.1) also in
     unique row.0 there.0.0 key (less_apart row.0 there.0.0 there.1.0) (ap (yields_key rule schema key) found.0 ∙ own) (ap (yields_key rule schema key) there.1.1 ∙ there.2))
 
 -- each row is found
@@ -117,10 +117,13 @@ unique_committed base kept state label unique = record {
   tables = λ id. same_defined (HasUniqueIndexes after_transactions base after_kept) (λ t p. p) (λ t p. p) (tables_after_all state.tables (open_changes_of label state.past)) state.tables (same_definitions state.tables (open_changes_of label state.past)) id
       (some_at (HasUniqueIndexes (transaction_of state) base kept) (HasUniqueIndexes after_transactions base after_kept) (table_with_id state.tables id)
       (λ t f each. all_weaker (λ rule. IsSoundIndex t rule × IsUniqueIndex (transaction_of state) base kept t rule) (λ rule. IsSoundIndex t rule × IsUniqueIndex after_transactions base after_kept t rule)
-      (λ rule both. (both.0, λ is. let keys = both.1 is in (
-        keys_same rule (schema_of t) t.id base after_kept (with_at label None (transaction_of state)) after_transactions (transaction-ended label committing) (keys_committed rule (schema_of t) t.id state.number (transaction_of state) base kept label keys.0),
-        λ primary. own_mapped rule (schema_of t) t.id base kept (committed_own label (state.number + 1)) (commit_change label (state.number + 1)) (commit_before label (state.number + 1)) (commit_after label (state.number + 1)) (keys.1 primary),
-      ))) t.indexes each) (unique.tables id));
+      (λ rule both. (
+        both.0,
+        λ is. let keys = both.1 is in (
+          keys_same rule (schema_of t) t.id base after_kept (with_at label None (transaction_of state)) after_transactions (transaction-ended label committing) (keys_committed rule (schema_of t) t.id state.number (transaction_of state) base kept label keys.0),
+          λ primary. own_mapped rule (schema_of t) t.id base kept (committed_own label (state.number + 1)) (commit_change label (state.number + 1)) (commit_before label (state.number + 1)) (commit_after label (state.number + 1)) (keys.1 primary),
+        ),
+      )) t.indexes each) (unique.tables id));
 }
   where
     committing : DatabaseState

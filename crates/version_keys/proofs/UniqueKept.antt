@@ -1,6 +1,6 @@
 -- Entries that are no schema steps keep the keys of all unique indexes.
-use Rattle.std.proofs.Common.{◌≡◌, ℕ, ◌+◌, Bool, true, false, not, ◌&&◌, ◌||◌, ◌-◌, cond, List, [], ◌∷◌, ◌++◌, Option, Some, None, refl, sym, ap, subst, ◌∙◌, bytes_eq}
-use Rattle.std.specs.Prelude.{◌==◌, nat_lt, find, is_some, map, filter, IfSome}
+use Rattle.std.proofs.Common.{◌≡◌, ℕ, ◌+◌, Bool, true, false, not, ◌||◌, ◌-◌, cond, List, [], ◌∷◌, ◌++◌, Option, Some, None, refl, sym, ap, subst, ◌∙◌, bytes_eq}
+use Rattle.std.specs.Prelude.{◌==◌, nat_lt, map, filter, IfSome}
 use Rattle.std.specs.List.{AllByRecursion, list_all}
 use Rattle.column_set.specs.declared.changes.Change.{Change}
 use Rattle.column_set.specs.declared.changes.Change.TheVariants.{Put, Drop, Hold, Add}
@@ -11,9 +11,9 @@ use Rattle.index_derive.specs.declared.log.EntryKind.{EntryKind}
 use Rattle.index_derive.specs.declared.log.EntryKind.TheVariants as entry
 use Rattle.index_derive.specs.Entries.{is_unique}
 use Rattle.database_state.specs.Table.{Rows, Table, primary_rule, row_at, rows_of, schema_of, table_with_id}
-use Rattle.database_state.specs.Changes.{changed_table, changed_bookmark, is_sum, without_copied, tables_after_all}
+use Rattle.database_state.specs.Changes.{changed_table, changed_bookmark, is_sum, without_copied}
 use Rattle.database_state.specs.Puts.{is_taken, new_keys}
-use Rattle.database_state.specs.State.{DatabaseState, PastChange, Transaction, is_open_change_of, levels, levels_of, open_changes_of, transaction_of, undone}
+use Rattle.database_state.specs.State.{DatabaseState, PastChange, Transaction, levels, levels_of, open_changes_of, transaction_of, undone}
 use Rattle.database_state.specs.View.{newest, view}
 use Rattle.database_state.specs.Conflicts.{has_key_conflict, has_write_conflict, is_concurrent, yields_key}
 use Rattle.database_state.specs.Step.{applied, every_change, is_at_level, with_changes_at, with_levels, with_transaction}
@@ -30,7 +30,7 @@ use Rattle.version_history.proofs.Keeping.{undone_change}
 use Rattle.version_history.proofs.Lists.{all_true, all_weaker}
 use Rattle.version_history.proofs.SeenRecords.{newest_records}
 use Rattle.version_history.proofs.Unhindered.{finds_newest}
-use Rattle.version_keys.specs.UniqueKeys.{BringsKey, HasBookmarkKeys, HasFreeKeys, HasOwnKey, HasUniqueIndexes, HasUniqueKeys, IsSoundIndex, IsUniqueIndex, MeetsKey}
+use Rattle.version_keys.specs.UniqueKeys.{BringsKey, HasBookmarkKeys, HasOwnKey, HasUniqueIndexes, HasUniqueKeys, IsSoundIndex, IsUniqueIndex, MeetsKey}
 use Rattle.version_keys.specs.Variants.{HasNoSums}
 use Rattle.version_keys.proofs.BookmarkKeys.{HasOneEntry, newest_own, own_appended, own_free, own_key, own_mapped, own_meets}
 use Rattle.version_keys.proofs.FreeKeys.{IsLawfulKey, in_any_order, put_free, put_meets, rules_pass}
@@ -123,10 +123,13 @@ unique_by_kind base dropped kept state label kind plain h none e h_after unique 
   tables = λ id. same_defined (HasUniqueIndexes after_transactions base after_kept) (λ t p. p) (λ t p. p) (applied label kind (with_next_number state)).tables state.tables (same_tables state label kind plain) id
       (some_at (HasUniqueIndexes (transaction_of state) base kept) (HasUniqueIndexes after_transactions base after_kept) (table_with_id state.tables id)
       (λ t f each. all_weaker (λ rule. IsSoundIndex t rule × IsUniqueIndex (transaction_of state) base kept t rule) (λ rule. IsSoundIndex t rule × IsUniqueIndex after_transactions base after_kept t rule)
-      (λ rule both. (both.0, λ is. let keys = both.1 is in (
-        keys_by_kind rule (schema_of t) t.id base dropped kept state label kind plain h none e h_after keys.0,
-        λ primary. own_by_kind rule (schema_of t) t.id base kept state label kind plain (keys.1 primary),
-      ))) t.indexes each) (unique.tables id));
+      (λ rule both. (
+        both.0,
+        λ is. let keys = both.1 is in (
+          keys_by_kind rule (schema_of t) t.id base dropped kept state label kind plain h none e h_after keys.0,
+          λ primary. own_by_kind rule (schema_of t) t.id base kept state label kind plain (keys.1 primary),
+        ),
+      )) t.indexes each) (unique.tables id));
 }
   where
     after_transactions : ℕ → Option Transaction
@@ -270,10 +273,13 @@ change_by one base dropped kept state label t change e h none sum lawful h_after
   tables = λ id. some_at (HasUniqueIndexes (transaction_of state) base kept) (HasUniqueIndexes (transaction_of state) base (kept ++ new ∷ [])) (table_with_id state.tables id)
       (λ table is each. both (λ rule. IsSoundIndex table rule × IsUniqueIndex (transaction_of state) base kept table rule) (λ rule. is_unique rule ≡ true → NewKeys state base kept label t new table rule)
       (λ rule. IsSoundIndex table rule × IsUniqueIndex (transaction_of state) base (kept ++ new ∷ []) table rule)
-      (λ rule known fresh. (known.0, λ unique_rule. let keys = known.1 unique_rule in let new_keys = fresh unique_rule in (
-        keys_changed rule (schema_of table) table.id state.number state.tables (transaction_of state) base kept t new refl refl e h.keeps.placed new_keys.0.0 new_keys.0.1 keys.0,
-        λ primary. own_appended rule (schema_of table) table.id base kept new (new_keys.1 primary) (keys.1 primary),
-      ))) table.indexes each
+      (λ rule known fresh. (
+        known.0,
+        λ unique_rule. let keys = known.1 unique_rule in let new_keys = fresh unique_rule in (
+          keys_changed rule (schema_of table) table.id state.number state.tables (transaction_of state) base kept t new refl refl e h.keeps.placed new_keys.0.0 new_keys.0.1 keys.0,
+          λ primary. own_appended rule (schema_of table) table.id base kept new (new_keys.1 primary) (keys.1 primary),
+        ),
+      )) table.indexes each
       (keys_of_change one base dropped kept state label t change h none sum e (not_true (has_write_conflict state label change) (and_right _ _ (and_left _ _ lawful))) (and_right _ _ lawful) after table
       (ap (table_with_id state.tables) (id_of state.tables id table is) ∙ is) each)) (unique.tables id);
 }

@@ -1,6 +1,6 @@
 -- The keys of unique indexes: where they begin, and that entries and cleans keep them.
-use Rattle.std.proofs.Common.{◌≡◌, ◌⊎◌, inl, inr, ℕ, ◌+◌, Bool, true, false, not, ◌&&◌, cond, List, [], ◌∷◌, ◌++◌, Option, Some, None, refl, sym, ap, subst, ◌∙◌, bytes_eq}
-use Rattle.std.specs.Prelude.{◌==◌, if◌then◌else◌, is_none, IfSome}
+use Rattle.std.proofs.Common.{◌≡◌, inl, ℕ, true, false, not, List, [], ◌∷◌, Option, Some, None, refl, sym, ap, subst, ◌∙◌}
+use Rattle.std.specs.Prelude.{if◌then◌else◌, is_none, IfSome}
 use Rattle.std.specs.List.{AllByRecursion}
 use Rattle.column_set.specs.declared.changes.Change.{Change}
 use Rattle.column_set.specs.declared.changes.Change.TheVariants.{Put, Drop, Hold, Add}
@@ -14,7 +14,6 @@ use Rattle.index_derive.specs.Entries.{has_double_key, is_unique}
 use Rattle.database_state.specs.Table.{Table, row_at, rows_of, schema_of, table_with_id}
 use Rattle.database_state.specs.Changes.{changed_table, changed_bookmark, is_sum, without_copied}
 use Rattle.database_state.specs.State.{DatabaseState, PastChange, Status, Transaction, committed, is_undone, transaction_of, uncommitted, undone}
-use Rattle.database_state.specs.View.{newest}
 use Rattle.database_state.specs.Conflicts.{yields_key}
 use Rattle.database_state.specs.SchemaChanges.{schema_refusal, tables_after_step}
 use Rattle.database_state.specs.Step.{applied, state_after}
@@ -33,7 +32,7 @@ use Rattle.version_keys.specs.UniqueKeys.{AreUnique, HasBookmarkKeys, HasFreeKey
 use Rattle.version_keys.specs.Variants.{HasNoSums}
 use Rattle.version_keys.proofs.BookmarkKeys.{HasOneEntry, newest_own}
 use Rattle.version_keys.proofs.Finding.{unique_newest}
-use Rattle.version_keys.proofs.SchemaKeys.{AreTableIndexes, AreUniqueRows, IsTableIndex, step_keeps_indexes, unique_rows}
+use Rattle.version_keys.proofs.SchemaKeys.{AreTableIndexes, IsTableIndex, step_keeps_indexes, unique_rows}
 use Rattle.version_keys.proofs.UniqueKept.{id_of, some_at, unique_by_kind, unique_changed}
 use Rattle.version_keys.proofs.UniqueThroughout.{unique_throughout}
 
@@ -46,15 +45,18 @@ rows_found tables id t found bookmark = ap (λ k. records_of tables k bookmark) 
 pub from_rows : (tables : List Table) (transactions : ℕ → Option Transaction) → ((id : ℕ) → IfSome (table_with_id tables id) AreTableIndexes) → (id : ℕ) → IfSome (table_with_id tables id) (HasUniqueIndexes transactions (records_of tables) [])
 from_rows tables transactions h id = some_at AreTableIndexes (HasUniqueIndexes transactions (records_of tables) []) (table_with_id tables id)
     (λ t found each. all_weaker (IsTableIndex t) (λ rule. IsSoundIndex t rule × IsUniqueIndex transactions (records_of tables) [] t rule)
-    (λ rule is. (is.0, λ unique. let keys = is.1 unique in (
-      record {
-        at_first = λ one other key apart had also. keys.0 one other key apart
-            (ap (yields_key rule (schema_of t) key) (sym (rows_found tables id t found one)) ∙ had) (ap (yields_key rule (schema_of t) key) (sym (rows_found tables id t found other)) ∙ also);
-        free_keys = tt;
-        key_order = tt;
-      },
-      λ primary. record { at_first = λ bookmark key had. keys.1 primary bookmark key (ap (yields_key rule (schema_of t) key) (sym (rows_found tables id t found bookmark)) ∙ had); changes = tt },
-    ))) t.indexes each) (h id)
+    (λ rule is. (
+      is.0,
+      λ unique. let keys = is.1 unique in (
+        record {
+          at_first = λ one other key apart had also. keys.0 one other key apart
+              (ap (yields_key rule (schema_of t) key) (sym (rows_found tables id t found one)) ∙ had) (ap (yields_key rule (schema_of t) key) (sym (rows_found tables id t found other)) ∙ also);
+          free_keys = tt;
+          key_order = tt;
+        },
+        λ primary. record { at_first = λ bookmark key had. keys.1 primary bookmark key (ap (yields_key rule (schema_of t) key) (sym (rows_found tables id t found bookmark)) ∙ had); changes = tt },
+      ),
+    )) t.indexes each) (h id)
 
 pub keys_begin : (state : DatabaseState) → ((id : ℕ) → IfSome (table_with_id state.tables id) IsUniqueTable) → HasUniqueKeys (records_of state.tables) [] state
 keys_begin state h = record {
@@ -83,14 +85,17 @@ pub to_rows : (base : Records) (dropped kept : List PastChange) (state : Databas
     → (id : ℕ) → IfSome (table_with_id state.tables id) AreTableIndexes
 to_rows base dropped kept state h none is unique id = some_at (HasUniqueIndexes (transaction_of state) base kept) AreTableIndexes (table_with_id state.tables id)
     (λ t found each. all_weaker (λ rule. IsSoundIndex t rule × IsUniqueIndex (transaction_of state) base kept t rule) (IsTableIndex t)
-    (λ rule both. (both.0, λ is_unique_rule. let keys = both.1 is_unique_rule in (
-      (λ one other key apart had also.
-        (subst (AreUnique rule (schema_of t) t.id) (newest_records base dropped kept state h ∙ sym is) (unique_newest base dropped kept state h none rule (schema_of t) t.id keys.0)) one other key apart
-        (ap (yields_key rule (schema_of t) key) (rows_found state.tables id t found one) ∙ had) (ap (yields_key rule (schema_of t) key) (rows_found state.tables id t found other) ∙ also)),
-      λ primary bookmark key had.
-        newest_own rule (schema_of t) t.id kept base h.keeps.befores none (afters_of base dropped kept state h) (keys.1 primary) bookmark key
-        (ap (yields_key rule (schema_of t) key) (ap (λ (r : Records). r t.id bookmark) (sym is) ∙ rows_found state.tables id t found bookmark) ∙ had),
-    ))) t.indexes each) (unique.tables id)
+    (λ rule both. (
+      both.0,
+      λ is_unique_rule. let keys = both.1 is_unique_rule in (
+        (λ one other key apart had also.
+            (subst (AreUnique rule (schema_of t) t.id) (newest_records base dropped kept state h ∙ sym is) (unique_newest base dropped kept state h none rule (schema_of t) t.id keys.0)) one other key apart
+            (ap (yields_key rule (schema_of t) key) (rows_found state.tables id t found one) ∙ had) (ap (yields_key rule (schema_of t) key) (rows_found state.tables id t found other) ∙ also)),
+        λ primary bookmark key had.
+            newest_own rule (schema_of t) t.id kept base h.keeps.befores none (afters_of base dropped kept state h) (keys.1 primary) bookmark key
+            (ap (yields_key rule (schema_of t) key) (ap (λ (r : Records). r t.id bookmark) (sym is) ∙ rows_found state.tables id t found bookmark) ∙ had),
+      ),
+    )) t.indexes each) (unique.tables id)
   where
     afters_of : (base : Records) (dropped kept : List PastChange) (state : DatabaseState) → IsHistory base dropped kept state → AllByRecursion (λ item. item.after ≡ record_after item.change item.before) kept
     afters_of base dropped kept state h = all_weaker (IsPlaced state.number state.tables (transaction_of state)) (λ item. item.after ≡ record_after item.change item.before) (λ item p. p.3) kept h.keeps.placed
@@ -161,8 +166,11 @@ keys_cleaned base dropped item kept state h none unique = record {
   tables = λ id. some_at (HasUniqueIndexes (transaction_of state) base (item ∷ kept)) (HasUniqueIndexes (transaction_of state) (if is_standing item then after_item base item else base) kept) (table_with_id state.tables id)
       (λ t found each. all_weaker (λ rule. IsSoundIndex t rule × IsUniqueIndex (transaction_of state) base (item ∷ kept) t rule)
       (λ rule. IsSoundIndex t rule × IsUniqueIndex (transaction_of state) (if is_standing item then after_item base item else base) kept t rule)
-      (λ rule both. (both.0, λ is. let keys = both.1 is in (
-        cleaned_free rule (schema_of t) t.id state.number state.tables (transaction_of state) base item kept h.keeps.placed.0 h.keeps.befores.0 none.0 keys.0,
-        λ primary. cleaned_own rule (schema_of t) t.id state.number state.tables (transaction_of state) base item kept h.keeps.placed.0 h.keeps.befores.0 none.0 (keys.1 primary),
-      ))) t.indexes each) (unique.tables id);
+      (λ rule both. (
+        both.0,
+        λ is. let keys = both.1 is in (
+          cleaned_free rule (schema_of t) t.id state.number state.tables (transaction_of state) base item kept h.keeps.placed.0 h.keeps.befores.0 none.0 keys.0,
+          λ primary. cleaned_own rule (schema_of t) t.id state.number state.tables (transaction_of state) base item kept h.keeps.placed.0 h.keeps.befores.0 none.0 (keys.1 primary),
+        ),
+      )) t.indexes each) (unique.tables id);
 }

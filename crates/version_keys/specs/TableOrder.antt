@@ -1,5 +1,5 @@
 -- The order of tables, and of the records in each.
-use Rattle.std.specs.Prelude.{◌≡◌, ℕ, ◌<◌, ◌≤◌, true}
+use Rattle.std.specs.Prelude.{◌≡◌, ◌<◌, ◌≤◌, true}
 use Rattle.std.specs.List.{AllByRecursion}
 use Rattle.cursor_nav.specs.Places.{are_sorted}
 use Rattle.index_derive.specs.Entries.{own_order}
