@@ -5,3 +5,4 @@ pub mod ChangeSteps
 pub mod PutSteps
 pub mod Locks
 pub mod UpdateSteps
+pub mod SchemaCallSteps

@@ -4,6 +4,7 @@
 
 mod changes;
 mod cursors;
+mod schema;
 mod sessions;
 
 pub use changes::{
@@ -12,6 +13,9 @@ pub use changes::{
     the_step_of_a_lock_is_lawful, the_step_of_a_replace_is_lawful, the_step_of_an_update_is_lawful,
 };
 pub use cursors::{the_step_of_a_close_is_lawful, the_step_of_an_open_is_lawful};
+pub use schema::{
+    steps_of_columns_are_lawful, steps_of_indexes_are_lawful, steps_of_tables_are_lawful,
+};
 pub use sessions::{
     steps_of_sessions_are_lawful, steps_of_transactions_are_lawful, the_step_of_a_commit_is_lawful,
 };
