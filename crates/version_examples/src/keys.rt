@@ -50,8 +50,8 @@ pub fn a_key_that_wanders_under_a_reader()
         ((1, entry.Begin) ∷ (1, entry.Change (put 12 (fields 4 9 0))) ∷ (1, entry.Commit) ∷ (3, entry.Begin) ∷ (1, entry.Begin) ∷ (1, entry.Change (delete 12)) ∷ (1, entry.Commit) ∷ (2, entry.Begin)
         ∷ (2, entry.Change (put 19 (fields 5 9 0))) ∷ (2, entry.Commit) ∷ []) ≡ true }
     ensures shown { let state = after
-            ((1, entry.Begin) ∷ (1, entry.Change (put 12 (fields 4 9 0))) ∷ (1, entry.Commit) ∷ (3, entry.Begin) ∷ (1, entry.Begin) ∷ (1, entry.Change (delete 12)) ∷ (1, entry.Commit) ∷ (2, entry.Begin)
-            ∷ (2, entry.Change (put 19 (fields 5 9 0))) ∷ (2, entry.Commit) ∷ []) in
+        ((1, entry.Begin) ∷ (1, entry.Change (put 12 (fields 4 9 0))) ∷ (1, entry.Commit) ∷ (3, entry.Begin) ∷ (1, entry.Begin) ∷ (1, entry.Change (delete 12)) ∷ (1, entry.Commit) ∷ (2, entry.Begin)
+        ∷ (2, entry.Change (put 19 (fields 5 9 0))) ∷ (2, entry.Commit) ∷ []) in
         (derived_of state 3 ≡ entry_of 7 3 ∷ entry_of 8 4 ∷ entry_of 9 12 ∷ []) × (derived_of state 1 ≡ entry_of 7 3 ∷ entry_of 8 4 ∷ entry_of 9 19 ∷ []) × (is_unique_throughout state.tables ≡ true) }
     ensures too_early { are_lawful first_state
         ((1, entry.Begin) ∷ (1, entry.Change (put 12 (fields 4 9 0))) ∷ (1, entry.Commit) ∷ (2, entry.Begin) ∷ (1, entry.Begin) ∷ (1, entry.Change (delete 12)) ∷ (1, entry.Commit)

@@ -1,5 +1,5 @@
 -- The labels of the live sessions rise.
-use Rattle.std.proofs.Common.{◌≡◌, ℕ, ◌+◌, ◌-◌, ◌<◌, Bool, true, false, not, cond, List, [], ◌∷◌, Option, Some, None, refl, sym, ap, subst, ◌∙◌, arith}
+use Rattle.std.proofs.Common.{◌≡◌, ℕ, ◌+◌, ◌-◌, ◌<◌, Bool, true, false, not, cond, List, [], ◌∷◌, Some, None, refl, sym, ap, subst, ◌∙◌, arith}
 use Rattle.std.specs.Prelude.{◌==◌, nat_lt, map, filter, find, is_some, option_and_then, if◌then◌else◌}
 use Rattle.std.specs.List.{AllByRecursion}
 use Rattle.std.proofs.lemmas.Bool.Decides.{nat_tests}
@@ -7,7 +7,7 @@ use Rattle.index_derive.specs.declared.log.Entry.{Entry}
 use Rattle.index_derive.specs.declared.log.EntryKind.{EntryKind}
 use Rattle.index_derive.specs.declared.log.EntryKind.TheVariants as entry
 use Rattle.database_state.specs.State.{DatabaseState, LiveSession, undone, transaction_of, live_session, levels}
-use Rattle.database_state.specs.Step.{insert_session, without_one, with_transaction, at_levels, with_levels, with_changes_at, is_at_level, applied, state_after}
+use Rattle.database_state.specs.Step.{insert_session, with_transaction, at_levels, with_levels, with_changes_at, is_at_level, applied, state_after}
 use Rattle.database_state.specs.Lawful.{has_number, is_lawful, is_lawful_kind}
 use Rattle.record_changes.proofs.Tests.{and_left, and_right, impossible, not_true, self_equal}
 use Rattle.version_history.specs.History.{EachTwo, LabelsRise}

@@ -1,5 +1,5 @@
 -- Every lawful entry keeps the history.
-use Rattle.std.proofs.Common.{◌≡◌, ℕ, ◌≤◌, Bool, true, false, not, ◌&&◌, ◌||◌, cond, List, [], ◌∷◌, Option, Some, None, refl, sym, ap, subst, ◌∙◌, arith}
+use Rattle.std.proofs.Common.{◌≡◌, ℕ, ◌≤◌, Bool, true, false, not, ◌&&◌, ◌||◌, cond, List, [], Option, Some, None, refl, sym, ap, subst, ◌∙◌, arith}
 use Rattle.std.specs.Prelude.{◌==◌, nat_lt, find, option_and_then, is_some, is_none, IfSome}
 use Rattle.std.specs.List.{list_any}
 use Rattle.std.proofs.lemmas.Bool.Decides.{nat_tests}
@@ -13,7 +13,7 @@ use Rattle.database_state.specs.Changes.{changed_table}
 use Rattle.database_state.specs.State.{DatabaseState, PastChange, Transaction, live_session, transaction_of, levels_of, levels}
 use Rattle.database_state.specs.Conflicts.{has_write_conflict}
 use Rattle.database_state.specs.SchemaChanges.{schema_refusal, is_in_use, step_table}
-use Rattle.database_state.specs.Step.{without_one, applied, state_after}
+use Rattle.database_state.specs.Step.{applied, state_after}
 use Rattle.database_state.specs.Lawful.{has_number, is_lawful, is_lawful_kind, is_lawful_change, is_lawful_at}
 use Rattle.record_changes.specs.Records.{Records, records_of}
 use Rattle.record_changes.proofs.Tests.{and_left, and_right, impossible, not_true, same_number}

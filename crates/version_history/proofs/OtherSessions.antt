@@ -1,5 +1,5 @@
 -- In a transaction a session sees the same as others go on.
-use Rattle.std.proofs.Common.{◌≡◌, ℕ, ◌+◌, ◌-◌, Bool, true, false, not, ◌&&◌, cond, List, [], ◌∷◌, ◌++◌, Option, Some, None, refl, sym, ap, subst, ◌∙◌, arith}
+use Rattle.std.proofs.Common.{◌≡◌, ℕ, ◌+◌, ◌-◌, Bool, true, false, not, ◌&&◌, cond, List, [], ◌∷◌, ◌++◌, Option, Some, None, refl, sym, ap, ◌∙◌, arith}
 use Rattle.std.proofs.lemmas.Bool.Decides.{nat_tests}
 use Rattle.std.specs.Prelude.{◌==◌, nat_lt, is_some, map, filter, if◌then◌else◌}
 use Rattle.std.proofs.lemmas.List.{map-append}
@@ -10,9 +10,9 @@ use Rattle.index_derive.specs.declared.log.EntryKind.TheVariants as entry
 use Rattle.database_state.specs.Changes.{tables_after_all}
 use Rattle.database_state.specs.State.{DatabaseState, PastChange, Transaction, committed, undone, is_open, is_open_change_of, change_of, live_session, transaction_of, levels, open_changes_of}
 use Rattle.database_state.specs.View.{view, view_in}
-use Rattle.database_state.specs.Step.{without_one, with_transaction, at_levels, with_levels, with_changes_at, is_at_level, every_change, all_undone, applied, state_after}
+use Rattle.database_state.specs.Step.{with_transaction, at_levels, with_levels, with_changes_at, is_at_level, every_change, all_undone, applied, state_after}
 use Rattle.database_state.specs.Lawful.{has_number, is_lawful, is_lawful_kind}
-use Rattle.record_changes.proofs.Tests.{and_left, and_right, not_true, same_number}
+use Rattle.record_changes.proofs.Tests.{and_left, and_right, same_number}
 use Rattle.version_history.specs.KeptSteps.{with_next_number}
 use Rattle.version_history.proofs.Keeping.{with_at}
 use Rattle.version_history.proofs.Transactions.{same-with, transaction-begun, transaction-ended, transaction-entered, transaction-left, transaction-levels}

@@ -1,15 +1,14 @@
 -- A change that meets no write conflict finds its record newest, and the span is that of the kept changes.
-use Rattle.std.proofs.Common.{◌≡◌, ℕ, ◌<◌, Bool, true, false, not, ◌&&◌, ◌||◌, cond, List, [], ◌∷◌, ◌++◌, Option, Some, None, refl, sym, ap, subst, ◌∙◌, arith}
-use Rattle.std.specs.Prelude.{◌==◌, nat_lt, filter, fold, IfSome, sum_by}
-use Rattle.std.specs.List.{AllByRecursion, list_any}
+use Rattle.std.proofs.Common.{◌≡◌, ℕ, ◌<◌, Bool, true, false, not, ◌&&◌, ◌||◌, cond, List, [], ◌∷◌, Option, Some, refl, sym, ap, subst, ◌∙◌, arith}
+use Rattle.std.specs.Prelude.{◌==◌, nat_lt, filter, fold, IfSome}
+use Rattle.std.specs.List.{AllByRecursion}
 use Rattle.std.proofs.lemmas.Bool.Decides.{nat_tests}
 use Rattle.column_set.specs.declared.changes.Change.{Change}
 use Rattle.column_set.specs.RecordValues.{RecordFields}
 use Rattle.database_state.specs.Changes.{changed_table, changed_bookmark, is_sum}
-use Rattle.database_state.specs.State.{DatabaseState, LiveSession, PastChange, Transaction, Status, uncommitted, committed, undone, is_open, is_undone, transaction_of}
+use Rattle.database_state.specs.State.{DatabaseState, PastChange, Transaction, Status, uncommitted, committed, undone, is_open, is_undone, transaction_of}
 use Rattle.database_state.specs.View.{newest, view}
-use Rattle.database_state.specs.Conflicts.{collide, is_after_begin, is_concurrent, is_concurrent_status, has_write_conflict}
-use Rattle.database_state.specs.VersionStore.{is_needed, is_needed_status, from_oldest_needed, cost_of, version_span}
+use Rattle.database_state.specs.Conflicts.{collide, is_concurrent, is_concurrent_status, has_write_conflict}
 use Rattle.record_changes.specs.Records.{Records, after_item, is_change_of, record_after, records_after_items, records_of}
 use Rattle.record_changes.proofs.Commuting.{both_touch}
 use Rattle.record_changes.proofs.Tests.{and_both, equal_bytes, impossible, same_number, self_equal}

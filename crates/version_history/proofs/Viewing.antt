@@ -1,5 +1,5 @@
 -- What a session sees, as the kept changes give it.
-use Rattle.std.proofs.Common.{◌≡◌, ℕ, Bool, true, false, cond, List, [], ◌∷◌, Option, Some, None, refl, sym, ap, subst, ◌∙◌}
+use Rattle.std.proofs.Common.{◌≡◌, ℕ, true, false, cond, List, [], ◌∷◌, Option, Some, None, refl, sym, ap, subst, ◌∙◌}
 use Rattle.std.specs.Prelude.{◌==◌, is_some, map, filter, fold, IfSome}
 use Rattle.database_state.specs.Table.{Table, table_with_id}
 use Rattle.database_state.specs.Changes.{changed_table, tables_after_all}

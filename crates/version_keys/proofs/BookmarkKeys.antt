@@ -1,18 +1,18 @@
 -- Keys of a primary index: each is the bookmark of its record.
-use Rattle.std.proofs.Common.{◌≡◌, ℕ, Bool, true, false, ◌&&◌, ◌||◌, cond, List, [], ◌∷◌, ◌++◌, Option, Some, None, Result, Ok, Err, refl, sym, ap, subst, ◌∙◌, bytes_eq}
+use Rattle.std.proofs.Common.{◌≡◌, ℕ, Bool, true, false, ◌&&◌, ◌||◌, cond, List, [], ◌∷◌, ◌++◌, Some, Ok, Err, refl, sym, ap, ◌∙◌, bytes_eq}
 use Rattle.std.specs.Prelude.{◌==◌, fold, filter, map, not}
 use Rattle.std.specs.List.{AllByRecursion, list_any}
 use Rattle.column_set.specs.RecordValues.{RecordFields, has_value}
 use Rattle.key_normal.specs.KeyBytes.{is_cut}
 use Rattle.index_derive.specs.declared.rules.IndexRule.{IndexRule}
 use Rattle.index_derive.specs.declared.rules.Schema.{Schema}
-use Rattle.index_derive.specs.Entries.{KeyRefusal, NullKeyDisallowed, KeyTruncated, entries, is_legal, key_columns, key_list, keys_or_none, primary_key, whole_key}
+use Rattle.index_derive.specs.Entries.{NullKeyDisallowed, KeyTruncated, entries, is_legal, key_columns, keys_or_none, primary_key, whole_key}
 use Rattle.index_derive.specs.Primary.{first_values, primary_entries}
 use Rattle.database_state.specs.Changes.{changed_table, changed_bookmark}
 use Rattle.database_state.specs.State.{PastChange}
-use Rattle.database_state.specs.Conflicts.{is_concurrent, yields_key}
+use Rattle.database_state.specs.Conflicts.{yields_key}
 use Rattle.record_changes.specs.Records.{Records, after_item, is_change_of, record_after, records_after_items}
-use Rattle.record_changes.proofs.Tests.{and_left, and_right, equal_bytes, impossible, or_first, refuted, same_bytes, same_number}
+use Rattle.record_changes.proofs.Tests.{and_left, and_right, equal_bytes, impossible, refuted, same_bytes, same_number}
 use Rattle.version_history.specs.History.{HasBefores}
 use Rattle.version_history.specs.Readers.{is_standing}
 use Rattle.version_history.proofs.Lists.{all_append, all_map, all_weaker}

@@ -1,11 +1,11 @@
 -- After a commit no unique index has a key twice.
 use Rattle.std.proofs.Common.{◌≡◌, ℕ, ◌+◌, Bool, true, false, not, ◌&&◌, ◌||◌, cond, List, [], ◌∷◌, ◌++◌, Option, Some, None, refl, sym, ap, subst, ◌∙◌, bytes_eq}
-use Rattle.std.specs.Prelude.{◌==◌, flat_map, map, nat_lt, IfSome}
+use Rattle.std.specs.Prelude.{flat_map, map, IfSome}
 use Rattle.std.specs.List.{AllByRecursion, list_all, list_any}
 use Rattle.std.specs.List.Sorted.{IsStrictlySortedBy}
 use Rattle.std.specs.declared.cmp.Ordering.TheVariants.{Less}
-use Rattle.std.specs.Ordering.{nat_cmp, eq_by_cmp, is_eq}
-use Rattle.std.specs.Cmp.Lexicographic.{slice_cmp, texts_ties}
+use Rattle.std.specs.Ordering.{is_eq}
+use Rattle.std.specs.Cmp.Lexicographic.{texts_ties}
 use Rattle.std.proofs.lemmas.List.Folds.{list_any-append}
 use Rattle.column_set.specs.RecordValues.{RecordFields}
 use Rattle.index_derive.specs.declared.rules.IndexRule.{IndexRule}
@@ -17,15 +17,15 @@ use Rattle.database_state.specs.Changes.{is_sum, tables_after_all}
 use Rattle.database_state.specs.State.{DatabaseState, PastChange, Transaction, committed, open_changes_of, transaction_of}
 use Rattle.database_state.specs.View.{view, view_in}
 use Rattle.database_state.specs.Conflicts.{yields_key}
-use Rattle.database_state.specs.Step.{all_committed, applied, every_change, with_changes_at}
+use Rattle.database_state.specs.Step.{applied, every_change, with_changes_at}
 use Rattle.database_state.specs.Lawful.{is_unique_throughout}
 use Rattle.derived_index.proofs.Adding.{KeysRise}
 use Rattle.derived_index.proofs.PairOrder.{key_cmp}
 use Rattle.derived_index.proofs.Rising.{AreRisingKeys}
-use Rattle.derived_index.proofs.Rows.{IsBelow, RowsRise}
+use Rattle.derived_index.proofs.Rows.{RowsRise}
 use Rattle.derived_index.proofs.Standing.{same_test}
 use Rattle.record_changes.specs.Records.{Records, records_of}
-use Rattle.record_changes.proofs.Tests.{and_both, equal_bytes, impossible, or_first, or_second, refuted, same_bytes, self_equal}
+use Rattle.record_changes.proofs.Tests.{and_both, equal_bytes, impossible, or_first, or_second, refuted, self_equal}
 use Rattle.version_history.specs.History.{IsHistory}
 use Rattle.version_history.specs.KeptSteps.{committed_own, kept_after, with_next_number}
 use Rattle.version_history.proofs.EndEntries.{history_committed, same_definitions}

@@ -1,14 +1,14 @@
 -- What a lawful put of a unique key finds: no concurrent change has the key, and no other newest record.
-use Rattle.std.proofs.Common.{◌≡◌, ◌⊎◌, inl, inr, ℕ, Bool, true, false, not, ◌&&◌, ◌||◌, cond, List, [], ◌∷◌, ◌++◌, Option, Some, refl, sym, ap, subst, ◌∙◌, bytes_eq}
-use Rattle.std.specs.Prelude.{◌==◌, filter, map, flat_map}
+use Rattle.std.proofs.Common.{◌≡◌, inl, ℕ, Bool, true, false, not, ◌&&◌, ◌||◌, cond, List, [], ◌∷◌, ◌++◌, Some, refl, sym, ap, ◌∙◌, bytes_eq}
+use Rattle.std.specs.Prelude.{◌==◌, filter, map}
 use Rattle.std.specs.List.{AllByRecursion, list_any, list_all}
 use Rattle.std.specs.Ordering.{nat_cmp, eq_by_cmp}
 use Rattle.std.specs.Cmp.Lexicographic.{slice_cmp, nat_list_eq_equiv}
 use Rattle.std.proofs.lemmas.List.Folds.{list_any-append}
-use Rattle.column_set.specs.RecordValues.{RecordFields, lookup_by_key}
+use Rattle.column_set.specs.RecordValues.{RecordFields}
 use Rattle.index_derive.specs.declared.rules.IndexRule.{IndexRule}
 use Rattle.index_derive.specs.declared.rules.Schema.{Schema}
-use Rattle.index_derive.specs.Entries.{derive, is_unique, key_list}
+use Rattle.index_derive.specs.Entries.{derive, key_list}
 use Rattle.cursor_nav.specs.Places.{Pair}
 use Rattle.database_state.specs.Table.{Rows, entries_of_rule, index_entries, primary_first, row_at, rule_with_id}
 use Rattle.database_state.specs.Changes.{changed_table, changed_bookmark}
@@ -20,7 +20,7 @@ use Rattle.derived_index.proofs.Members.{any_sorted}
 use Rattle.derived_index.proofs.Rows.{all_entries, entries_of}
 use Rattle.derived_index.proofs.Standing.{same_test}
 use Rattle.record_changes.specs.Records.{Records, is_change_of, record_after, records_after_items, records_of}
-use Rattle.record_changes.proofs.Tests.{and_both, and_left, and_right, equal_bytes, impossible, not_true, or_first, or_second, refuted, same_bytes, same_number, self_equal}
+use Rattle.record_changes.proofs.Tests.{and_both, and_left, and_right, impossible, not_true, or_first, or_second, refuted, same_bytes, self_equal}
 use Rattle.version_history.specs.History.{IsHistory, IsPlaced}
 use Rattle.version_history.specs.Readers.{is_standing, sees}
 use Rattle.version_history.proofs.Concurrent.{key_conflict_kept}

@@ -1,5 +1,5 @@
 -- Indexes by their numbers: the next number is free, and what is found when an index comes or goes.
-use Rattle.std.proofs.Common.{◌≡◌, ℕ, zero, suc, ◌+◌, ◌<◌, ◌≤◌, Bool, true, false, not, ◌&&◌, ◌||◌, cond, List, [], ◌∷◌, ◌++◌, length, Option, Some, None, refl, sym, ap, subst, ◌∙◌, arith}
+use Rattle.std.proofs.Common.{◌≡◌, ℕ, zero, suc, ◌+◌, ◌<◌, ◌≤◌, Bool, true, false, not, ◌||◌, cond, List, [], ◌∷◌, ◌++◌, length, Some, None, refl, sym, ap, ◌∙◌, arith}
 use Rattle.std.specs.Prelude.{◌==◌, filter, find, if◌then◌else◌}
 use Rattle.std.specs.List.{AllByRecursion, list_any}
 use Rattle.std.proofs.lemmas.Bool.Decides.{nat_tests}
@@ -7,8 +7,8 @@ use Rattle.std.proofs.lemmas.List.Elements.{filter-append}
 use Rattle.index_derive.specs.declared.rules.IndexRule.{IndexRule}
 use Rattle.database_state.specs.Table.{primary_first}
 use Rattle.database_state.specs.SchemaChanges.{least_free_id, next_index_id}
-use Rattle.record_changes.proofs.Tests.{contradicted, impossible, or_first, or_second, self_equal}
-use Rattle.version_history.proofs.Lists.{all_append, all_filter, all_true, all_weaker, none_passes}
+use Rattle.record_changes.proofs.Tests.{contradicted, impossible, or_first, or_second}
+use Rattle.version_history.proofs.Lists.{all_append, all_filter, all_true, none_passes}
 
 -- ---- lists
 

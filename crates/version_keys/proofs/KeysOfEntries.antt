@@ -1,5 +1,5 @@
 -- What entries leave of the free keys of a unique index.
-use Rattle.std.proofs.Common.{◌≡◌, ◌⊎◌, inl, inr, ℕ, ◌+◌, ◌-◌, Bool, true, false, not, ◌&&◌, cond, List, [], ◌∷◌, ◌++◌, Option, Some, None, refl, sym, ap, subst, ◌∙◌, bytes_eq, arith}
+use Rattle.std.proofs.Common.{◌≡◌, inl, inr, ℕ, ◌+◌, ◌-◌, Bool, true, false, not, ◌&&◌, cond, List, [], ◌∷◌, ◌++◌, Option, Some, None, refl, sym, ap, subst, ◌∙◌, bytes_eq, arith}
 use Rattle.std.specs.Prelude.{◌==◌, nat_lt, nat_le, is_some, map}
 use Rattle.std.specs.List.{AllByRecursion}
 use Rattle.std.proofs.lemmas.Bool.Decides.{nat_tests}
@@ -9,21 +9,21 @@ use Rattle.index_derive.specs.declared.log.EntryKind.{EntryKind}
 use Rattle.index_derive.specs.declared.log.EntryKind.TheVariants as entry
 use Rattle.database_state.specs.Table.{Table}
 use Rattle.database_state.specs.Changes.{changed_table, changed_bookmark, tables_after_all}
-use Rattle.database_state.specs.State.{DatabaseState, LiveSession, PastChange, Transaction, Status, is_open, is_undone, is_open_change_of, committed, undone, uncommitted, live_session, transaction_of, levels_of, levels, open_changes_of}
-use Rattle.database_state.specs.Conflicts.{collide, is_concurrent, yields_key}
-use Rattle.database_state.specs.Step.{all_undone, applied, at_levels, every_change, is_at_level, left, with_changes_at, with_levels, with_transaction}
+use Rattle.database_state.specs.State.{DatabaseState, PastChange, Transaction, is_open, is_undone, is_open_change_of, committed, undone, uncommitted, live_session, transaction_of, levels, open_changes_of}
+use Rattle.database_state.specs.Conflicts.{is_concurrent, yields_key}
+use Rattle.database_state.specs.Step.{all_undone, applied, at_levels, every_change, is_at_level, with_changes_at, with_levels, with_transaction}
 use Rattle.database_state.specs.Lawful.{is_lawful_kind}
 use Rattle.record_changes.specs.Records.{Records, after_item, records_after, records_after_items}
 use Rattle.record_changes.proofs.Tests.{and_both, and_left, and_right, impossible, not_true, refuted, same_number}
-use Rattle.version_history.specs.History.{EachTwo, InOrder, IsHistory, IsPlaced, KeepsHistory, LevelsRise, is_apart}
+use Rattle.version_history.specs.History.{InOrder, IsHistory, IsPlaced, KeepsHistory, LevelsRise, is_apart}
 use Rattle.version_history.specs.KeptSteps.{committed_own, is_own_open, kept_after, lowered_own, undone_where, with_next_number}
 use Rattle.version_history.specs.Readers.{is_standing}
 use Rattle.version_history.proofs.Beginning.{order_begun, order_new}
 use Rattle.version_history.proofs.Ending.{commit_before, commit_change, commit_live, lower_before, lower_change, lower_status, lowered, order_committed}
 use Rattle.version_history.proofs.Entries.{at_innermost, fewer, follows_at, more}
-use Rattle.version_history.proofs.Keeping.{Follows, StaysOpen, also_open, open_in, open_live, order_followed, order_undone, with_at}
+use Rattle.version_history.proofs.Keeping.{Follows, also_open, open_in, open_live, order_followed, order_undone, with_at}
 use Rattle.version_history.proofs.LawfulEntries.{outside}
-use Rattle.version_history.proofs.Lists.{all_both, all_true, all_weaker, each_and, each_append, each_both, each_map}
+use Rattle.version_history.proofs.Lists.{all_both, all_true, each_and, each_append, each_both, each_map}
 use Rattle.version_history.proofs.Transactions.{same-with, transaction-begun, transaction-ended, transaction-entered, transaction-left, transaction-levels}
 use Rattle.version_keys.specs.UniqueKeys.{BringsFreeKeys, BringsKey, HasFreeKeys, InKeyOrder, MeetsKey, SeesEarlier}
 use Rattle.version_keys.specs.Variants.{HasNoSums}

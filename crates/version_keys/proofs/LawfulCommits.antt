@@ -1,9 +1,8 @@
 -- A commit in a transaction of one level is always lawful.
-use Rattle.std.proofs.Common.{◌≡◌, ℕ, Bool, true, ◌&&◌, List, Option, Some, ap, ◌∙◌}
+use Rattle.std.proofs.Common.{◌≡◌, ℕ, true, List, Some, ap, ◌∙◌}
 use Rattle.std.specs.Prelude.{◌==◌}
-use Rattle.std.specs.List.{AllByRecursion}
 use Rattle.index_derive.specs.declared.log.EntryKind.TheVariants as entry
-use Rattle.database_state.specs.Table.{Table, table_with_id}
+use Rattle.database_state.specs.Table.{table_with_id}
 use Rattle.database_state.specs.Changes.{tables_after_all}
 use Rattle.database_state.specs.State.{DatabaseState, PastChange, levels, open_changes_of}
 use Rattle.database_state.specs.Step.{state_after}

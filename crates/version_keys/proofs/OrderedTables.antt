@@ -1,6 +1,6 @@
 -- Tables stay in order, and so do their records.
-use Rattle.std.proofs.Common.{◌≡◌, ℕ, ◌+◌, ◌-◌, ◌<◌, ◌≤◌, Bool, true, false, not, ◌&&◌, ◌||◌, cond, List, [], ◌∷◌, ◌++◌, Option, Some, None, refl, sym, ap, subst, ◌∙◌, bytes_eq, arith}
-use Rattle.std.specs.Prelude.{◌==◌, filter, map, nat_lt, IfSome}
+use Rattle.std.proofs.Common.{◌≡◌, ℕ, ◌+◌, ◌-◌, ◌<◌, ◌≤◌, Bool, true, false, not, cond, List, [], ◌∷◌, Option, Some, None, refl, sym, ap, subst, ◌∙◌, bytes_eq, arith}
+use Rattle.std.specs.Prelude.{◌==◌, filter, map, nat_lt}
 use Rattle.std.specs.List.{AllByRecursion, list_all}
 use Rattle.std.specs.declared.cmp.Ordering.TheVariants.{Less}
 use Rattle.std.specs.Ordering.{is_lt, ordering_then}
@@ -60,12 +60,12 @@ rise_after rows (Add table bookmark column amount) h = by (row_at rows bookmark)
 -- ---- tables that change in place
 
 abbrev InOrderTo : ℕ → List Table → Type 0
-InOrderTo greatest tables = EachTwo IdsRise tables × AllByRecursion (λ t. t.id ≤ greatest) tables × AllByRecursion (λ t. RowsRise t.rows) tables
+InOrderTo greatest tables = EachTwo IdsRise tables × AllByRecursion (λ t. (0 < t.id) × (t.id ≤ greatest)) tables × AllByRecursion (λ t. RowsRise t.rows) tables
 
 mapped_order : (greatest : ℕ) (f : Table → Table) → ((t : Table) → (f t).id ≡ t.id) → ((t : Table) → RowsRise t.rows → RowsRise (f t).rows) → (tables : List Table) → InOrderTo greatest tables → InOrderTo greatest (map f tables)
 mapped_order greatest f same rise tables h = (
   each_map (λ t. Unit {0}) IdsRise IdsRise f (λ one other x y less. subst (λ (a : ℕ). a < (f other).id) (sym (same one)) (subst (λ (b : ℕ). one.id < b) (sym (same other)) less)) tables (all_true (λ t. Unit {0}) (λ t. tt) tables) h.0,
-  all_map (λ t. t.id ≤ greatest) f tables (all_weaker (λ t. t.id ≤ greatest) (λ t. (f t).id ≤ greatest) (λ t le. subst (λ (a : ℕ). a ≤ greatest) (sym (same t)) le) tables h.1),
+  all_map (λ t. (0 < t.id) × (t.id ≤ greatest)) f tables (all_weaker (λ t. (0 < t.id) × (t.id ≤ greatest)) (λ t. (0 < (f t).id) × ((f t).id ≤ greatest)) (λ t le. subst (λ (a : ℕ). (0 < a) × (a ≤ greatest)) (sym (same t)) le) tables h.1),
   all_map (λ t. RowsRise t.rows) f tables (all_weaker (λ t. RowsRise t.rows) (λ t. RowsRise (f t).rows) rise tables h.2),
 )
 
@@ -122,8 +122,8 @@ rise_map f (row ∷ rows) h = (all_map (λ other. key_cmp row.0 other.0 ≡ Less
 order_step : (state : DatabaseState) (made : SchemaStep) → has_next_numbers state made ≡ true → InOrderTo state.greatest_table state.tables → InOrderTo (greatest_table_after state.greatest_table made) (tables_after_step state.tables made)
 order_step state (step.CreateTable table name) numbers h =
     let next : table.0 ≡ state.greatest_table + 1 = same_number table.0 (state.greatest_table + 1) (and_left _ _ numbers) in (
-      each_append IdsRise state.tables (new_table table.0 name) h.0 (all_weaker (λ t. t.id ≤ state.greatest_table) (λ t. t.id < table.0) (λ t le. above t.id state.greatest_table table.0 le next) state.tables h.1),
-      all_append (λ t. t.id ≤ table.0) state.tables (new_table table.0 name ∷ []) (all_weaker (λ t. t.id ≤ state.greatest_table) (λ t. t.id ≤ table.0) (λ t le. below t.id state.greatest_table table.0 le next) state.tables h.1) (itself table.0, tt),
+      each_append IdsRise state.tables (new_table table.0 name) h.0 (all_weaker (λ t. (0 < t.id) × (t.id ≤ state.greatest_table)) (λ t. t.id < table.0) (λ t le. above t.id state.greatest_table table.0 le.1 next) state.tables h.1),
+      all_append (λ t. (0 < t.id) × (t.id ≤ table.0)) state.tables (new_table table.0 name ∷ []) (all_weaker (λ t. (0 < t.id) × (t.id ≤ state.greatest_table)) (λ t. (0 < t.id) × (t.id ≤ table.0)) (λ t le. (le.0, below t.id state.greatest_table table.0 le.1 next)) state.tables h.1) ((positive state.greatest_table table.0 next, itself table.0), tt),
       all_append (λ t. RowsRise t.rows) state.tables (new_table table.0 name ∷ []) h.2 (tt, tt),
     )
   where
@@ -133,11 +133,14 @@ order_step state (step.CreateTable table name) numbers h =
     below : (a g n : ℕ) → a ≤ g → n ≡ g + 1 → a ≤ n
     below a g n le e = omega arith
 
+    positive : (g n : ℕ) → n ≡ g + 1 → 0 < n
+    positive g n e = omega arith
+
     itself : (n : ℕ) → n ≤ n
     itself n = omega arith
 order_step state (step.DeleteTable table) numbers h = (
   each_filter IdsRise (λ t. not (t.id == table.0)) state.tables h.0,
-  all_filter (λ t. t.id ≤ state.greatest_table) (λ t. not (t.id == table.0)) state.tables h.1,
+  all_filter (λ t. (0 < t.id) × (t.id ≤ state.greatest_table)) (λ t. not (t.id == table.0)) state.tables h.1,
   all_filter (λ t. RowsRise t.rows) (λ t. not (t.id == table.0)) state.tables h.2,
 )
 order_step state (step.AddColumn table column) numbers h = with_order state.greatest_table table.0 (with_column column) (λ t. refl) (λ t r. r) state.tables h

@@ -10,7 +10,7 @@ use Rattle.index_derive.specs.declared.rules.Condition.{Condition}
 use Rattle.index_derive.specs.declared.rules.IndexRule.{IndexRule}
 use Rattle.index_derive.specs.declared.rules.Schema.{Schema}
 use Rattle.index_derive.specs.declared.rules.Segment.{Segment}
-use Rattle.index_derive.specs.Entries.{KeyRefusal, KeyTruncated, KeyValues, NullKeyDisallowed, all_key_values, columns_of_key, condition_columns, entries, has_double_number, has_ignore_flag, is_escrow_column, is_ignored, is_legal, is_multi_column, is_text_type, is_tuples_key, key_columns, key_list, keys_or_none, meets_conditions, parts_of_columns, parts_of_text, parts_of_texts, product, sorted_keys, type_of_column, values_or_null}
+use Rattle.index_derive.specs.Entries.{KeyRefusal, KeyTruncated, KeyValues, NullKeyDisallowed, all_key_values, columns_of_key, condition_columns, entries, has_double_number, has_ignore_flag, is_escrow_column, is_ignored, is_legal, is_multi_column, is_text_type, is_tuples_key, key_columns, keys_or_none, meets_conditions, parts_of_columns, parts_of_text, parts_of_texts, product, sorted_keys, type_of_column, values_or_null}
 use Rattle.database_state.specs.Conflicts.{yields_key}
 use Rattle.database_state.specs.SchemaChanges.{rule_columns}
 use Rattle.version_history.proofs.Lists.{all_weaker}

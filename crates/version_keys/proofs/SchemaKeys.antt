@@ -1,18 +1,17 @@
 -- Schema steps keep the indexes of all tables sound, and those that are unique so.
 use Rattle.std.proofs.Common.{◌≡◌, ℕ, ◌+◌, Bool, true, false, not, ◌&&◌, ◌||◌, cond, List, [], ◌∷◌, ◌++◌, Option, Some, None, refl, sym, ap, subst, ◌∙◌, bytes_eq, suc, arith}
-use Rattle.std.specs.Prelude.{◌==◌, filter, find, flat_map, is_none, is_some, length, map, nat_lt, option_map, unwrap_or, IfSome}
+use Rattle.std.specs.Prelude.{◌==◌, filter, flat_map, is_none, is_some, length, map, nat_lt, option_map, unwrap_or, IfSome}
 use Rattle.std.specs.List.{AllByRecursion, list_all, list_any}
 use Rattle.std.specs.Cmp.{unsigned_Decides, unsigned_ties}
 use Rattle.std.specs.Ordering.{nat_cmp, eq_by_cmp}
 use Rattle.std.specs.Cmp.Lexicographic.{slice_cmp}
-use Rattle.std.specs.FinMap.Entries.{find as find_entry}
 use Rattle.std.proofs.lemmas.Bool.Decides.{nat_tests}
 use Rattle.std.proofs.lemmas.List.Folds.{list_any-append}
 use Rattle.jet_base.specs.declared.ids.ColumnId.{ColumnId}
 use Rattle.jet_base.specs.declared.ids.TableId.{TableId}
 use Rattle.jet_base.specs.declared.replies.Jet.TheVariants as jet
 use Rattle.column_set.specs.declared.columns.Column.{Column}
-use Rattle.column_set.specs.RecordValues.{RecordFields, column_of_id, lookup_by_number, remove_by_number, values_of, with_values}
+use Rattle.column_set.specs.RecordValues.{RecordFields, column_of_id, lookup_by_number, remove_by_number, with_values}
 use Rattle.index_derive.specs.declared.rules.IndexRule.{IndexRule}
 use Rattle.index_derive.specs.declared.rules.Schema.{Schema}
 use Rattle.index_derive.specs.declared.schema_calls.SchemaStep.{SchemaStep}
@@ -20,13 +19,13 @@ use Rattle.index_derive.specs.declared.schema_calls.SchemaStep.TheVariants as st
 use Rattle.index_derive.specs.Entries.{condition_columns, has_double, has_double_key, is_legal, is_unique, key_columns, key_list}
 use Rattle.database_state.specs.Refusals.{Refusals, first_refusal}
 use Rattle.database_state.specs.Table.{Rows, Table, primary_first, primary_rule, row_at, rule_with_id, schema_of, table_with_id, with_table}
-use Rattle.database_state.specs.SchemaChanges.{columns_with, greatest_order, has_column, has_records, is_in_use, makes_table, new_table, next_index_id, record_refusals, rule_columns, schema_refusal, schema_refusals, step_refusals, step_table, tables_after_step, with_column, with_index, without_column, without_index}
+use Rattle.database_state.specs.SchemaChanges.{greatest_order, has_column, is_in_use, makes_table, new_table, next_index_id, rule_columns, schema_refusal, step_refusals, step_table, tables_after_step, with_column, with_index, without_column, without_index}
 use Rattle.database_state.specs.State.{DatabaseState, levels}
 use Rattle.database_state.specs.Conflicts.{yields_key}
 use Rattle.database_state.specs.Lawful.{has_next_numbers, is_name}
 use Rattle.database_state.proofs.Columns.{column_of_id-columns_with}
 use Rattle.derived_index.proofs.Standing.{same_test}
-use Rattle.record_changes.proofs.Tests.{and_left, and_right, and_second, contradicted, equal_bytes, impossible, not_true, or_second, same_bytes, same_number, self_equal}
+use Rattle.record_changes.proofs.Tests.{and_left, and_right, and_second, contradicted, equal_bytes, impossible, or_second, same_bytes, same_number, self_equal}
 use Rattle.version_history.proofs.Lists.{all_append, all_both, all_true, all_weaker}
 use Rattle.version_keys.specs.UniqueKeys.{HasOwnKey, IsSoundIndex}
 use Rattle.version_keys.proofs.FreeKeys.{in_any_order}
@@ -351,7 +350,7 @@ without_table P d tables id h =
 
 -- ---- steps
 
-unrefused : (refusals : Refusals) → is_none (first_refusal refusals) ≡ true → AllByRecursion (λ refusal. refusal.0 ≡ false) refusals
+pub unrefused : (refusals : Refusals) → is_none (first_refusal refusals) ≡ true → AllByRecursion (λ refusal. refusal.0 ≡ false) refusals
 unrefused [] h = tt
 unrefused (refusal ∷ refusals) h = elim (refusal.0) as (λ b. is_none (cond b (Some refusal.1) (first_refusal refusals)) ≡ true → (b ≡ false) × AllByRecursion (λ refusal. refusal.0 ≡ false) refusals) [
   | true ↦ λ g. impossible g

@@ -1,6 +1,6 @@
 -- Entries that are no schema steps keep the keys of all unique indexes.
-use Rattle.std.proofs.Common.{◌≡◌, ℕ, ◌+◌, Bool, true, false, not, ◌&&◌, ◌||◌, ◌-◌, cond, List, [], ◌∷◌, ◌++◌, Option, Some, None, refl, sym, ap, subst, ◌∙◌, bytes_eq}
-use Rattle.std.specs.Prelude.{◌==◌, nat_lt, find, is_some, map, filter, IfSome}
+use Rattle.std.proofs.Common.{◌≡◌, ℕ, ◌+◌, Bool, true, false, not, ◌||◌, ◌-◌, cond, List, [], ◌∷◌, ◌++◌, Option, Some, None, refl, sym, ap, subst, ◌∙◌, bytes_eq}
+use Rattle.std.specs.Prelude.{◌==◌, nat_lt, map, filter, IfSome}
 use Rattle.std.specs.List.{AllByRecursion, list_all}
 use Rattle.column_set.specs.declared.changes.Change.{Change}
 use Rattle.column_set.specs.declared.changes.Change.TheVariants.{Put, Drop, Hold, Add}
@@ -11,9 +11,9 @@ use Rattle.index_derive.specs.declared.log.EntryKind.{EntryKind}
 use Rattle.index_derive.specs.declared.log.EntryKind.TheVariants as entry
 use Rattle.index_derive.specs.Entries.{is_unique}
 use Rattle.database_state.specs.Table.{Rows, Table, primary_rule, row_at, rows_of, schema_of, table_with_id}
-use Rattle.database_state.specs.Changes.{changed_table, changed_bookmark, is_sum, without_copied, tables_after_all}
+use Rattle.database_state.specs.Changes.{changed_table, changed_bookmark, is_sum, without_copied}
 use Rattle.database_state.specs.Puts.{is_taken, new_keys}
-use Rattle.database_state.specs.State.{DatabaseState, PastChange, Transaction, is_open_change_of, levels, levels_of, open_changes_of, transaction_of, undone}
+use Rattle.database_state.specs.State.{DatabaseState, PastChange, Transaction, levels, levels_of, open_changes_of, transaction_of, undone}
 use Rattle.database_state.specs.View.{newest, view}
 use Rattle.database_state.specs.Conflicts.{has_key_conflict, has_write_conflict, is_concurrent, yields_key}
 use Rattle.database_state.specs.Step.{applied, every_change, is_at_level, with_changes_at, with_levels, with_transaction}
@@ -30,7 +30,7 @@ use Rattle.version_history.proofs.Keeping.{undone_change}
 use Rattle.version_history.proofs.Lists.{all_true, all_weaker}
 use Rattle.version_history.proofs.SeenRecords.{newest_records}
 use Rattle.version_history.proofs.Unhindered.{finds_newest}
-use Rattle.version_keys.specs.UniqueKeys.{BringsKey, HasBookmarkKeys, HasFreeKeys, HasOwnKey, HasUniqueIndexes, HasUniqueKeys, IsSoundIndex, IsUniqueIndex, MeetsKey}
+use Rattle.version_keys.specs.UniqueKeys.{BringsKey, HasBookmarkKeys, HasOwnKey, HasUniqueIndexes, HasUniqueKeys, IsSoundIndex, IsUniqueIndex, MeetsKey}
 use Rattle.version_keys.specs.Variants.{HasNoSums}
 use Rattle.version_keys.proofs.BookmarkKeys.{HasOneEntry, newest_own, own_appended, own_free, own_key, own_mapped, own_meets}
 use Rattle.version_keys.proofs.FreeKeys.{IsLawfulKey, in_any_order, put_free, put_meets, rules_pass}

@@ -1,6 +1,6 @@
 -- The keys of unique indexes: where they begin, and that entries and cleans keep them.
-use Rattle.std.proofs.Common.{◌≡◌, ◌⊎◌, inl, inr, ℕ, ◌+◌, Bool, true, false, not, ◌&&◌, cond, List, [], ◌∷◌, ◌++◌, Option, Some, None, refl, sym, ap, subst, ◌∙◌, bytes_eq}
-use Rattle.std.specs.Prelude.{◌==◌, if◌then◌else◌, is_none, IfSome}
+use Rattle.std.proofs.Common.{◌≡◌, inl, ℕ, true, false, not, List, [], ◌∷◌, Option, Some, None, refl, sym, ap, subst, ◌∙◌}
+use Rattle.std.specs.Prelude.{if◌then◌else◌, is_none, IfSome}
 use Rattle.std.specs.List.{AllByRecursion}
 use Rattle.column_set.specs.declared.changes.Change.{Change}
 use Rattle.column_set.specs.declared.changes.Change.TheVariants.{Put, Drop, Hold, Add}
@@ -14,7 +14,6 @@ use Rattle.index_derive.specs.Entries.{has_double_key, is_unique}
 use Rattle.database_state.specs.Table.{Table, row_at, rows_of, schema_of, table_with_id}
 use Rattle.database_state.specs.Changes.{changed_table, changed_bookmark, is_sum, without_copied}
 use Rattle.database_state.specs.State.{DatabaseState, PastChange, Status, Transaction, committed, is_undone, transaction_of, uncommitted, undone}
-use Rattle.database_state.specs.View.{newest}
 use Rattle.database_state.specs.Conflicts.{yields_key}
 use Rattle.database_state.specs.SchemaChanges.{schema_refusal, tables_after_step}
 use Rattle.database_state.specs.Step.{applied, state_after}
@@ -33,7 +32,7 @@ use Rattle.version_keys.specs.UniqueKeys.{AreUnique, HasBookmarkKeys, HasFreeKey
 use Rattle.version_keys.specs.Variants.{HasNoSums}
 use Rattle.version_keys.proofs.BookmarkKeys.{HasOneEntry, newest_own}
 use Rattle.version_keys.proofs.Finding.{unique_newest}
-use Rattle.version_keys.proofs.SchemaKeys.{AreTableIndexes, AreUniqueRows, IsTableIndex, step_keeps_indexes, unique_rows}
+use Rattle.version_keys.proofs.SchemaKeys.{AreTableIndexes, IsTableIndex, step_keeps_indexes, unique_rows}
 use Rattle.version_keys.proofs.UniqueKept.{id_of, some_at, unique_by_kind, unique_changed}
 use Rattle.version_keys.proofs.UniqueThroughout.{unique_throughout}
 

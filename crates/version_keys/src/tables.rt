@@ -7,7 +7,7 @@ ghost use Rattle.database_state.specs.Step.{state_after};
 ghost use Rattle.database_state.specs.Lawful.{is_lawful};
 ghost use Rattle.version_keys.specs.TableOrder.{HasTablesInOrder};
 
-/// The ids of the tables rise, none is above the greatest that was given, and the records of each table stand in the order of
+/// The ids of the tables rise from 1, none is above the greatest that was given, and the records of each table stand in the order of
 /// their bookmarks: in the empty state, and after every lawful entry.
 pub fn lawful_entries_keep_tables_in_order()
     ensures empty { HasTablesInOrder empty_state }

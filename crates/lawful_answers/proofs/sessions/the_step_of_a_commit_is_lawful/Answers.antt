@@ -1,0 +1,5 @@
+use Rattle.lawful_answers.proofs.SessionSteps.{commits}
+use Rattle.lawful_answers.proofs.sessions.the_step_of_a_commit_is_lawful.Goals as goal
+
+pub returns : goal.returns
+returns c = commits c.entries_rise.ensures

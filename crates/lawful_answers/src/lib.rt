@@ -1,0 +1,21 @@
+//! The step of an answer is lawful: what a call did not refuse is what the log asks of its entries. The functions do nothing:
+//! their contracts are the laws.
+#![tactic(auto)]
+
+mod changes;
+mod cursors;
+mod schema;
+mod sessions;
+
+pub use changes::{
+    a_change_alone_is_lawful, a_locked_record_meets_no_write_conflict,
+    a_session_meets_the_same_after_its_begin, the_step_of_a_delete_is_lawful,
+    the_step_of_a_lock_is_lawful, the_step_of_a_replace_is_lawful, the_step_of_an_update_is_lawful,
+};
+pub use cursors::{the_step_of_a_close_is_lawful, the_step_of_an_open_is_lawful};
+pub use schema::{
+    steps_of_columns_are_lawful, steps_of_indexes_are_lawful, steps_of_tables_are_lawful,
+};
+pub use sessions::{
+    steps_of_sessions_are_lawful, steps_of_transactions_are_lawful, the_step_of_a_commit_is_lawful,
+};
