@@ -20,7 +20,10 @@ struct Plain {
 }
 
 fn bookmark(rt: &impl Abort, alloc: Global, key: u8) -> Bookmark {
-    Bookmark::from_slice(alloc, &[key]).expect(rt, "memory")
+    match Bookmark::from_slice(alloc, &[key]) {
+        Ok(bookmark) => bookmark,
+        Err(_) => Bookmark::from_slice(alloc, &[key]).expect(rt, "memory"),
+    }
 }
 
 fn change(rt: &impl Abort, alloc: Global, key: u8, rewrites: bool) -> Change {
