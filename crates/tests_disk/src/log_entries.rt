@@ -4,10 +4,12 @@ use column_set::{Bookmark, Change};
 use index_derive::{Entry, EntryKind};
 use jet_base::{Session, TableId};
 use log_record::{EntryFault, Parsed, decode, encode, has_spelling, read_front};
-use std::test::Fail;
+use std::alloc::Global;
+use std::process::Abort;
+use std::test::*;
 
 /// One entry of each tag and of each kind of schema change, all of session 1.
-const ENTRIES: [&[u8]; 22] = [
+static ENTRIES: &[&[u8]] = &[
     &[5, 0, 0, 0, 1, 1, 0, 0, 0],
     &[5, 0, 0, 0, 2, 1, 0, 0, 0],
     &[9, 0, 0, 0, 3, 1, 0, 0, 0, 7, 0, 0, 0],
@@ -51,7 +53,7 @@ const ENTRIES: [&[u8]; 22] = [
 ];
 
 /// Bytes that begin with no entry, each for one reason.
-const BAD: [&[u8]; 15] = [
+static BAD: &[&[u8]] = &[
     // Tags that none has, and sessions that none has.
     &[5, 0, 0, 0, 0, 1, 0, 0, 0],
     &[5, 0, 0, 0, 16, 1, 0, 0, 0],
@@ -95,28 +97,45 @@ const BAD: [&[u8]; 15] = [
     ],
 ];
 
-#[test]
-fn entries_are_read_and_written(rt: HostRuntime) -> Result<(), Fail> {
-    for bytes in ENTRIES {
-        let mut followed = bytes.to_vec(rt.alloc())?;
-        followed.push(77)?;
-        let (entry, count) = read_front(rt.alloc(), &followed)?;
-        assert_eq!(rt; count, bytes.len());
-        assert!(rt; has_spelling(&entry));
-        assert_eq!(rt; encode(rt.alloc(), &entry)?.as_slice(), bytes);
+/// The bytes with another byte behind them.
+fn followed(rt: &impl Abort, alloc: Global, bytes: &[u8]) -> Vec<u8> {
+    let mut followed = bytes.to_vec(alloc).expect(rt, "memory");
+    followed.push(77).expect(rt, "memory");
+    followed
+}
+
+/// Whether the entry is written as these bytes.
+fn is_written(rt: &impl Abort, alloc: Global, entry: &Entry, bytes: &[u8]) -> bool {
+    if !has_spelling(entry) {
+        return false;
     }
-    Ok(())
+    encode(alloc, entry).expect(rt, "memory").as_slice() == bytes
+}
+
+/// Whether an entry that is written as the bytes is read from them where a byte follows.
+fn is_read(rt: &impl Abort, alloc: Global, bytes: &[u8]) -> bool {
+    match read_front(alloc, &followed(rt, alloc, bytes)) {
+        Ok((entry, count)) => count == bytes.len() && is_written(rt, alloc, &entry, bytes),
+        Err(_) => false,
+    }
+}
+
+#[test]
+fn entries_are_read_and_written(rt: HostRuntime) {
+    for bytes in ENTRIES {
+        assert!(&rt; is_read(&rt, rt.alloc(), bytes));
+    }
 }
 
 #[test]
 fn other_bytes_begin_with_no_entry(rt: HostRuntime) {
     for bytes in BAD {
-        assert!(rt; matches!(read_front(rt.alloc(), bytes), Err(EntryFault::BadEntry)));
+        assert!(&rt; matches!(read_front(rt.alloc(), bytes), Err(EntryFault::BadEntry)));
     }
 }
 
 /// Bytes that are less than the whole of no entry, each for one reason.
-const BAD_FRONTS: [&[u8]; 13] = [
+static BAD_FRONTS: &[&[u8]] = &[
     // A length that none has, tags that none of the length has, and sessions that none has.
     &[6, 0, 0, 0],
     &[5, 0, 0, 0, 16],
@@ -141,7 +160,7 @@ const BAD_FRONTS: [&[u8]; 13] = [
 ];
 
 /// Bytes that are less than the whole of some entry, though not of one above.
-const CUT_FRONTS: [&[u8]; 5] = [
+static CUT_FRONTS: &[&[u8]] = &[
     // Columns up to 65,535 may follow, and as many values of one column as there are.
     &[
         27, 0, 0, 0, 7, 1, 0, 0, 0, 1, 0, 0, 0, 1, 0, 9, 0, 2, 0, 0xff, 0xff, 0, 0, 0, 0, 0xff,
@@ -156,61 +175,77 @@ const CUT_FRONTS: [&[u8]; 5] = [
     &[14, 0, 0, 0, 15, 1, 0, 0, 0, 1, 1, 0, 0, 0, 3, 0xe2, 0x28],
 ];
 
+/// Whether the bytes are the front of an entry that is cut.
+fn is_cut(alloc: Global, bytes: &[u8]) -> bool {
+    matches!(decode(alloc, bytes), Ok(Parsed::Cut))
+}
+
 #[test]
 fn fronts_of_entries_are_cut(rt: HostRuntime) {
     for bytes in ENTRIES {
         for size in 0..bytes.len() {
-            let (front, _) = bytes.split_at(size);
-            assert!(rt; matches!(decode(rt.alloc(), front), Ok(Parsed::Cut)));
+            assert!(&rt; is_cut(rt.alloc(), &bytes[..size]));
         }
     }
     for bytes in CUT_FRONTS {
-        assert!(rt; matches!(decode(rt.alloc(), bytes), Ok(Parsed::Cut)));
+        assert!(&rt; is_cut(rt.alloc(), bytes));
+    }
+}
+
+/// Whether an entry that is written as the bytes is decoded from them where a byte follows.
+fn is_decoded(rt: &impl Abort, alloc: Global, bytes: &[u8]) -> bool {
+    match decode(alloc, &followed(rt, alloc, bytes)) {
+        Ok(Parsed::Whole(entry, count)) => count == bytes.len()
+            && is_written(rt, alloc, &entry, bytes),
+        _ => false,
     }
 }
 
 #[test]
-fn whole_entries_are_decoded(rt: HostRuntime) -> Result<(), Fail> {
+fn whole_entries_are_decoded(rt: HostRuntime) {
     for bytes in ENTRIES {
-        let mut followed = bytes.to_vec(rt.alloc())?;
-        followed.push(77)?;
-        let Parsed::Whole(entry, count) = decode(rt.alloc(), &followed)? else {
-            assert!(rt; false);
-            return Ok(());
-        };
-        assert_eq!(rt; count, bytes.len());
-        assert_eq!(rt; encode(rt.alloc(), &entry)?.as_slice(), bytes);
+        assert!(&rt; is_decoded(&rt, rt.alloc(), bytes));
     }
-    Ok(())
+}
+
+/// Whether the bytes are neither an entry nor the front of one.
+fn is_bad(alloc: Global, bytes: &[u8]) -> bool {
+    matches!(decode(alloc, bytes), Err(EntryFault::BadEntry))
 }
 
 #[test]
 fn other_bytes_are_no_front(rt: HostRuntime) {
     for bytes in BAD {
-        assert!(rt; matches!(decode(rt.alloc(), bytes), Err(EntryFault::BadEntry)));
+        assert!(&rt; is_bad(rt.alloc(), bytes));
     }
     for bytes in BAD_FRONTS {
-        assert!(rt; matches!(decode(rt.alloc(), bytes), Err(EntryFault::BadEntry)));
+        assert!(&rt; is_bad(rt.alloc(), bytes));
+    }
+}
+
+/// A begin of the session.
+fn begin(label: u32) -> Entry {
+    Entry {
+        session: Session(label),
+        kind: EntryKind::Begin,
     }
 }
 
 #[test]
-fn some_entries_have_no_spelling(rt: HostRuntime) -> Result<(), Fail> {
-    for label in [0, 100] {
-        let entry = Entry {
-            session: Session(label),
-            kind: EntryKind::Begin,
-        };
-        assert!(rt; !has_spelling(&entry));
-    }
+fn entries_of_other_sessions_have_no_spelling(rt: HostRuntime) {
+    assert!(rt; !has_spelling(&begin(0)));
+    assert!(rt; !has_spelling(&begin(100)));
+}
+
+#[test]
+fn an_entry_of_an_empty_bookmark_has_no_spelling(rt: HostRuntime) {
     let drop = Change::Drop {
         table: TableId(1),
-        bookmark: Bookmark::from_slice(rt.alloc(), &[])?,
+        bookmark: Bookmark::from_slice(rt.alloc(), &[]).expect(&rt, "memory"),
     };
     let entry = Entry {
         session: Session(1),
         kind: EntryKind::Change(drop),
     };
-    assert!(rt; !has_spelling(&entry));
-    Ok(())
+    assert!(&rt; !has_spelling(&entry));
 }

@@ -5,7 +5,8 @@ use jet_io::Failed;
 use jet_volume::{File, FileVolume, MemVolume, Volume};
 use std::alloc::Global;
 use std::fs;
-use std::test::Fail;
+use std::process::Abort;
+use std::test::*;
 
 fn assert_send<T: Send>(_object: &T) {}
 
@@ -22,37 +23,32 @@ fn run<V: Volume>(volume: &mut V) -> Result<(), Failed> {
 }
 
 #[test]
-fn each_call_of_a_run_fails_as_told(rt: HostRuntime) -> Result<(), Fail> {
-    let alloc = rt.alloc();
+fn each_call_of_a_run_fails_as_told(rt: HostRuntime) {
     for call in 1..=8u64 {
-        let failing = [call].to_vec(alloc)?;
-        let mut volume = MemVolume::new(alloc, failing, None);
-        let failed = run(&mut volume).is_err();
-        assert_eq!(rt;
-            (failed, volume.faults()),
-            (call <= 7, u64::from(call <= 7)),
-            "call {call}"
-        );
+        let failing = [call].to_vec(rt.alloc()).expect(&rt, "memory");
+        let mut volume = MemVolume::new(rt.alloc(), failing, None);
+        assert!(&rt; run(&mut volume).is_err() == (call <= 7), "call {call}");
+        assert!(&rt; volume.faults() == u64::from(call <= 7), "call {call}");
     }
-    Ok(())
+}
+
+// What the log has where a run stops at a call.
+fn log_at(stop: u64) -> &'static [u8] {
+    match stop {
+        1 => b"",
+        2..=4 => b"first",
+        _ => b"firsecond",
+    }
 }
 
 #[test]
-fn each_stop_of_a_run_ends_it(rt: HostRuntime) -> Result<(), Fail> {
-    let alloc = rt.alloc();
+fn each_stop_of_a_run_ends_it(rt: HostRuntime) {
     for stop in 1..=8u64 {
-        let mut volume = MemVolume::new(alloc, Vec::new(alloc), Some(stop));
-        let failed = run(&mut volume).is_err();
-        let fails_on = volume.size(File::Log).is_err();
-        let log = match stop {
-            1 => b"".as_slice(),
-            2..=4 => b"first".as_slice(),
-            _ => b"firsecond".as_slice(),
-        };
-        assert_eq!(rt; (failed, fails_on), (stop <= 7, true), "stop {stop}");
-        assert_eq!(rt; volume.bytes(File::Log), log, "stop {stop}");
+        let mut volume = MemVolume::new(rt.alloc(), Vec::new(rt.alloc()), Some(stop));
+        assert!(&rt; run(&mut volume).is_err() == (stop <= 7), "stop {stop}");
+        assert!(&rt; volume.size(File::Log).is_err(), "stop {stop}");
+        assert!(&rt; volume.bytes(File::Log) == log_at(stop), "stop {stop}");
     }
-    Ok(())
 }
 
 // A log that is written behind a gap, a read that is cut at its end, one behind it, and the size of a file that
@@ -68,56 +64,59 @@ fn look<V: Volume>(volume: &mut V, bytes: &mut [u8]) -> Result<[u64; 4], Failed>
     Ok([count as u64, past as u64, size, never])
 }
 
-#[test]
-fn a_volume_in_memory_reads_what_was_written(rt: HostRuntime) -> Result<(), Fail> {
-    let alloc = rt.alloc();
-    let log = b"log".to_vec(alloc)?;
-    let mut volume = MemVolume::of_files(
+// A volume whose log has these bytes, and whose other files are empty.
+fn with_log(rt: &impl Abort, alloc: Global, log: &[u8]) -> MemVolume {
+    let log = log.to_vec(alloc).expect(rt, "memory");
+    MemVolume::of_files(
         alloc,
         Vec::new(alloc),
         Vec::new(alloc),
         Vec::new(alloc),
         log,
-    );
+    )
+}
+
+#[test]
+fn a_volume_in_memory_reads_what_was_written(rt: HostRuntime) {
+    let mut volume = with_log(&rt, rt.alloc(), b"log");
     let mut bytes = [9; 10];
-    assert_eq!(rt; look(&mut volume, &mut bytes), Ok([8, 0, 9, 0]));
-    assert_eq!(rt; bytes.as_slice(), b"og\0\0tail\x09\x09".as_slice());
-    assert_eq!(rt; (volume.short(), volume.faults()), (0, 0));
+    assert!(&rt; look(&mut volume, &mut bytes) == Ok([8, 0, 9, 0]));
+    assert!(&rt; bytes.as_slice() == b"og\0\0tail\x09\x09".as_slice());
+    assert!(&rt; volume.short() == 0 && volume.faults() == 0);
     assert_send(&volume);
-    Ok(())
 }
 
 #[test]
-fn a_volume_over_real_files_reads_what_was_written(rt: HostRuntime) -> Result<(), Fail> {
-    let alloc = rt.alloc();
-    let mut volume = FileVolume::new(&rt, String::from_str(alloc, "volume_test")?);
+fn a_volume_over_real_files_reads_what_was_written(rt: HostRuntime) {
+    let name = String::from_str(rt.alloc(), "volume_test").expect(&rt, "memory");
+    let mut volume = FileVolume::new(&rt, name);
     let mut bytes = [9; 8];
-    let looked = look(&mut volume, &mut bytes);
-    // Opened again, it holds the same.
-    let mut again = FileVolume::new(&rt, String::from_str(alloc, "volume_test")?);
-    let mut same = [8; 9];
-    let count = again.read(File::Log, 0, &mut same);
-    fs::remove_file(&rt, "volume_test.log")?;
-    fs::remove_file(&rt, "volume_test0.chk")?;
-    assert_eq!(rt; looked, Ok([8, 0, 9, 0]));
-    assert_eq!(rt; bytes.as_slice(), b"\0\0\0\0tail".as_slice());
-    assert_eq!(rt; count, Ok(9));
-    assert_eq!(rt; same.as_slice(), b"\0\0\0\0\0tail".as_slice());
-    Ok(())
+    assert!(&rt; look(&mut volume, &mut bytes) == Ok([8, 0, 9, 0]));
+    assert!(&rt; bytes.as_slice() == b"\0\0\0\0tail".as_slice());
+    assert!(&rt; has_same(&rt));
+    fs::remove_file(&rt, "volume_test.log").expect(&rt, "the log");
+    fs::remove_file(&rt, "volume_test0.chk").expect(&rt, "the checkpoint");
+}
+
+// Whether the volume holds the same when it is opened again.
+fn has_same(rt: &HostRuntime) -> bool {
+    let Ok(name) = String::from_str(rt.alloc(), "volume_test") else {
+        return false;
+    };
+    let mut volume = FileVolume::new(rt, name);
+    let mut bytes = [8; 9];
+    volume.read(File::Log, 0, &mut bytes) == Ok(9)
+        && bytes.as_slice() == b"\0\0\0\0\0tail".as_slice()
 }
 
 #[test]
-fn a_folder_that_is_not_there_is_a_fault(rt: HostRuntime) -> Result<(), Fail> {
-    let alloc = rt.alloc();
-    let mut volume = FileVolume::new(&rt, String::from_str(alloc, "no_such_folder/volume")?);
-    let failed = (
-        volume.size(File::Database).is_err(),
-        volume.write_at(File::Log, 0, b"x").is_err(),
-    );
-    assert_eq!(rt; failed, (true, true));
-    assert_eq!(rt; volume.faults(), 2);
+fn a_folder_that_is_not_there_is_a_fault(rt: HostRuntime) {
+    let name = String::from_str(rt.alloc(), "no_such_folder/volume").expect(&rt, "memory");
+    let mut volume = FileVolume::new(&rt, name);
+    assert!(&rt; volume.size(File::Database).is_err());
+    assert!(&rt; volume.write_at(File::Log, 0, b"x").is_err());
+    assert!(&rt; volume.faults() == 2);
     assert_send(&volume);
-    Ok(())
 }
 
 // The log was synced with four bytes, and then written over from the second on, up to eight.
@@ -144,21 +143,26 @@ fn kinds(log: &[u8]) -> [bool; 5] {
 }
 
 #[test]
-fn a_crash_leaves_each_kind_of_image_and_no_other(rt: HostRuntime) -> Result<(), Fail> {
-    let alloc = rt.alloc();
+fn a_crash_leaves_each_kind_of_image_and_no_other(rt: HostRuntime) {
     let mut seen = [false; 5];
     for pick in 0..300 {
-        let left = torn_log(alloc, pick)?;
+        let left = torn_log(rt.alloc(), pick).expect(&rt, "memory");
         let log = left.bytes(File::Log);
-        let is_allowed = log.len() >= 4 && log.len() <= 8 && log.first() == Some(&b'a');
-        assert!(rt; is_allowed, "pick {pick}");
-        let now = kinds(log);
-        for i in 0..5 {
-            seen[i] |= now[i];
-        }
+        assert!(&rt; is_allowed(log), "pick {pick}");
+        mark(&mut seen, kinds(log));
     }
-    assert_eq!(rt; seen, [true; 5]);
-    Ok(())
+    assert!(&rt; seen == [true; 5]);
+}
+
+// From four to eight bytes, of which the first was written and synced.
+fn is_allowed(log: &[u8]) -> bool {
+    log.len() >= 4 && log.len() <= 8 && log.first() == Some(&b'a')
+}
+
+fn mark(seen: &mut [bool; 5], now: [bool; 5]) {
+    for i in 0..5 {
+        seen[i] |= now[i];
+    }
 }
 
 // The same where the write over it fails: it is the third call.
@@ -172,24 +176,29 @@ fn missed_log(alloc: Global) -> Result<MemVolume, OutOfMemory> {
     Ok(volume)
 }
 
+// Whether a crash leaves the log as it was synced.
+fn has_stayed(rt: &impl Abort, alloc: Global, pick: u64) -> bool {
+    let volume = missed_log(alloc).expect(rt, "memory");
+    assert!(rt; volume.bytes(File::Log) == b"abcd".as_slice());
+    assert!(rt; volume.faults() == 1 && volume.short() == 0);
+    let left = volume
+        .crash(pick, Vec::new(alloc), None)
+        .expect(rt, "memory");
+    let log = left.bytes(File::Log);
+    assert!(rt; is_allowed(log), "pick {pick}");
+    log == b"abcd".as_slice()
+}
+
 #[test]
-fn a_write_that_failed_may_have_come_in_part(rt: HostRuntime) -> Result<(), Fail> {
-    let alloc = rt.alloc();
-    let mut has_stayed = false;
-    let mut has_changed = false;
-    for pick in 0..50 {
-        let volume = missed_log(alloc)?;
-        assert_eq!(rt; volume.bytes(File::Log), b"abcd".as_slice());
-        assert_eq!(rt; (volume.faults(), volume.short()), (1, 0));
-        let left = volume.crash(pick, Vec::new(alloc), None)?;
-        let log = left.bytes(File::Log);
-        let is_allowed = log.len() >= 4 && log.len() <= 8 && log.first() == Some(&b'a');
-        assert!(rt; is_allowed, "pick {pick}");
-        has_stayed |= log == b"abcd".as_slice();
-        has_changed |= log != b"abcd".as_slice();
+fn a_write_that_failed_may_have_come_in_part(rt: HostRuntime) {
+    let mut stays = false;
+    let mut changes = false;
+    for pick in 0..50u64 {
+        let is_same = has_stayed(&rt, rt.alloc(), pick);
+        stays |= is_same;
+        changes |= !is_same;
     }
-    assert!(rt; has_stayed && has_changed);
-    Ok(())
+    assert!(&rt; stays && changes);
 }
 
 // Publishes a byte in the log: behind the closed gate, which is the first byte of the file and opens as 1.
@@ -201,36 +210,32 @@ fn publish<V: Volume>(volume: &mut V, byte: u8) -> Result<(), Failed> {
 }
 
 // The gate of the log is closed, and the fifth call of the volume would be behind the last of `publish`.
-fn publish_until(alloc: Global, stop: u64, pick: u64) -> Result<(bool, MemVolume), OutOfMemory> {
-    let closed = [0].to_vec(alloc)?;
-    let fresh = MemVolume::of_files(
-        alloc,
-        Vec::new(alloc),
-        Vec::new(alloc),
-        Vec::new(alloc),
-        closed,
-    );
-    let mut volume = fresh.crash(0, Vec::new(alloc), Some(stop))?;
+fn publish_until(rt: &impl Abort, alloc: Global, stop: u64, pick: u64) -> (bool, MemVolume) {
+    let fresh = with_log(rt, alloc, &[0]);
+    let mut volume = fresh
+        .crash(0, Vec::new(alloc), Some(stop))
+        .expect(rt, "memory");
     let is_ok = publish(&mut &mut volume, 77).is_ok();
-    Ok((is_ok, volume.crash(pick, Vec::new(alloc), None)?))
+    let left = volume.crash(pick, Vec::new(alloc), None);
+    (is_ok, left.expect(rt, "memory"))
+}
+
+// Whether a byte was published, if the log is open to it, and the log is open where all calls were done.
+fn is_published_or_not(rt: &impl Abort, alloc: Global, stop: u64, pick: u64) -> bool {
+    let (is_ok, left) = publish_until(rt, alloc, stop, pick);
+    let log = left.bytes(File::Log);
+    let is_open = log.first() == Some(&1);
+    is_ok == (stop == 5) && (!is_open || log.get(1) == Some(&77)) && (is_open || !is_ok)
 }
 
 #[test]
-fn a_byte_is_published_or_not_at_each_stop(rt: HostRuntime) -> Result<(), Fail> {
-    let alloc = rt.alloc();
+fn a_byte_is_published_or_not_at_each_stop(rt: HostRuntime) {
     for stop in 1..=5 {
         for pick in 0..20 {
-            let (is_ok, left) = publish_until(alloc, stop, pick)?;
-            let log = left.bytes(File::Log);
-            let is_open = log.first() == Some(&1);
-            let is_right = !is_open || log.get(1) == Some(&77);
-            assert_eq!(rt;
-                (is_ok, is_right),
-                (stop == 5, true),
-                "stop {stop} and pick {pick}"
+            assert!(&rt;
+                is_published_or_not(&rt, rt.alloc(), stop, pick),
+                "{stop} and {pick}"
             );
-            assert!(rt; is_open || !is_ok, "stop {stop} and pick {pick}");
         }
     }
-    Ok(())
 }

@@ -1,10 +1,11 @@
-//! Schema calls, each decided and made, with the answers that they get.
+//! Schema calls, each decided and made, where no script has them or none shows what they leave.
 
-use index_derive::{IndexFlags, NamedCondition, NamedSegment, SchemaCall, SchemaStep};
-use jet_base::{ColType, ColumnFlags, Items, Jet, Name, OutOfMemory, TableId};
+use index_derive::{IndexFlags, NamedCondition, NamedSegment, SchemaCall};
+use jet_base::{ColType, ColumnFlags, Items, Jet, Name, TableId};
 use jet_catalog::{Catalog, called_name};
 use std::alloc::Global;
-use std::test::Fail;
+use std::process::Abort;
+use std::test::*;
 
 const PLAIN: ColumnFlags = ColumnFlags {
     not_null: false,
@@ -13,6 +14,18 @@ const PLAIN: ColumnFlags = ColumnFlags {
     escrow: false,
     version: false,
     auto: false,
+};
+
+/// Several values in a column.
+const SEVERAL: ColumnFlags = ColumnFlags {
+    multi: true,
+    ..PLAIN
+};
+
+/// A sum.
+const SUM: ColumnFlags = ColumnFlags {
+    escrow: true,
+    ..PLAIN
 };
 
 const SECONDARY: IndexFlags = IndexFlags {
@@ -33,295 +46,264 @@ const PRIMARY: IndexFlags = IndexFlags {
     ..SECONDARY
 };
 
-// A catalog on which calls are made, with the memory that they take.
-#[derive(Drop)]
-struct Calls {
+fn name(rt: &impl Abort, alloc: Global, text: &str) -> Name {
+    Name::new(alloc, text).expect(rt, "memory")
+}
+
+fn create_table(rt: &impl Abort, alloc: Global, table: &str) -> SchemaCall {
+    SchemaCall::CreateTable {
+        table: name(rt, alloc, table),
+    }
+}
+
+fn delete_table(rt: &impl Abort, alloc: Global, table: &str) -> SchemaCall {
+    SchemaCall::DeleteTable {
+        table: name(rt, alloc, table),
+    }
+}
+
+/// A new column of table T.
+fn add_column(
+    rt: &impl Abort,
     alloc: Global,
-    catalog: Catalog,
-}
-
-impl Calls {
-    // An empty catalog.
-    fn new(alloc: Global) -> Calls {
-        Calls {
-            alloc,
-            catalog: Catalog::new(alloc),
-        }
-    }
-
-    // A table T with a Long `id`, a Text `a`, an index on `a` and a primary one on `id`.
-    fn on_table(alloc: Global) -> Result<Calls, OutOfMemory> {
-        let mut calls = Calls::new(alloc);
-        calls.create_table("T")?;
-        calls.add_column("id", ColType::Long, PLAIN)?;
-        calls.add_column("a", ColType::Text, PLAIN)?;
-        calls.create_index("by_a", SECONDARY, "a")?;
-        calls.create_index("pk", PRIMARY, "id")?;
-        Ok(calls)
-    }
-
-    // What the call is answered. Where nothing refuses it, its step is made.
-    fn answer(&mut self, call: &SchemaCall, has_records: bool) -> Result<Jet, OutOfMemory> {
-        match self.catalog.decide(call, has_records)? {
-            Ok(step) => {
-                self.catalog.make(&step)?;
-                Ok(Jet::Success)
-            }
-            Err(refusal) => Ok(refusal),
-        }
-    }
-
-    fn name(&self, text: &str) -> Result<Name, OutOfMemory> {
-        Name::new(self.alloc, text)
-    }
-
-    fn create_table(&mut self, table: &str) -> Result<Jet, OutOfMemory> {
-        let table = self.name(table)?;
-        self.answer(&SchemaCall::CreateTable { table }, false)
-    }
-
-    fn delete_table(&mut self, table: &str) -> Result<Jet, OutOfMemory> {
-        let table = self.name(table)?;
-        self.answer(&SchemaCall::DeleteTable { table }, true)
-    }
-
-    fn add_column(
-        &mut self,
-        column: &str,
-        kind: ColType,
-        flags: ColumnFlags,
-    ) -> Result<Jet, OutOfMemory> {
-        let table = self.name("T")?;
-        let column = self.name(column)?;
-        let call = SchemaCall::AddColumn {
-            table,
-            column,
-            kind,
-            flags,
-        };
-        self.answer(&call, true)
-    }
-
-    fn delete_column(&mut self, column: &str) -> Result<Jet, OutOfMemory> {
-        let table = self.name("T")?;
-        let column = self.name(column)?;
-        self.answer(&SchemaCall::DeleteColumn { table, column }, true)
-    }
-
-    // An index on one column of a table without a record.
-    fn create_index(
-        &mut self,
-        index: &str,
-        flags: IndexFlags,
-        column: &str,
-    ) -> Result<Jet, OutOfMemory> {
-        let table = self.name("T")?;
-        let index = self.name(index)?;
-        let call = SchemaCall::CreateIndex {
-            table,
-            index,
-            flags,
-            key_most: 255,
-            segments: self.segments(column)?,
-            conditions: Items::empty(self.alloc),
-        };
-        self.answer(&call, false)
-    }
-
-    fn segments(&self, column: &str) -> Result<Items<NamedSegment>, OutOfMemory> {
-        let mut segments = Items::empty(self.alloc);
-        segments.push(NamedSegment {
-            column: self.name(column)?,
-            descending: false,
-        })?;
-        Ok(segments)
-    }
-
-    fn delete_index(&mut self, index: &str) -> Result<Jet, OutOfMemory> {
-        let table = self.name("T")?;
-        let index = self.name(index)?;
-        self.answer(&SchemaCall::DeleteIndex { table, index }, true)
+    column: &str,
+    kind: ColType,
+    flags: ColumnFlags,
+) -> SchemaCall {
+    SchemaCall::AddColumn {
+        table: name(rt, alloc, "T"),
+        column: name(rt, alloc, column),
+        kind,
+        flags,
     }
 }
 
-#[test]
-fn a_table_is_found(rt: HostRuntime) -> Result<(), Fail> {
-    let calls = Calls::on_table(rt.alloc())?;
-    assert_eq!(rt; calls.catalog.len(), 1);
-    assert_eq!(rt; calls.catalog.greatest(), 1);
-    assert_eq!(rt; calls.catalog.tables().len(), 1);
-    assert!(rt; calls.catalog.by_id(TableId(1)).is_some());
-    assert!(rt; calls.catalog.lookup(b"t".as_slice()).is_none());
-    Ok(())
+fn delete_column(rt: &impl Abort, alloc: Global, column: &str) -> SchemaCall {
+    SchemaCall::DeleteColumn {
+        table: name(rt, alloc, "T"),
+        column: name(rt, alloc, column),
+    }
 }
 
-#[test]
-fn a_table_is_read(rt: HostRuntime) -> Result<(), Fail> {
-    let calls = Calls::on_table(rt.alloc())?;
-    let found = calls.catalog.lookup(b"T".as_slice()).ok_or("no table")?;
-    assert_eq!(rt; found.id(), TableId(1));
-    assert_eq!(rt; found.name().as_bytes(), b"T".as_slice());
-    assert_eq!(rt; found.columns().len(), 2);
-    assert_eq!(rt; found.greatest().variable, 128);
-    let schema = found.schema()?;
-    let first = schema.indexes.as_slice().first().ok_or("no index")?;
-    assert_eq!(rt; first.name.as_bytes(), b"pk".as_slice());
-    assert!(rt; found.primary().is_some());
-    Ok(())
-}
-
-#[test]
-fn calls_on_tables_are_refused(rt: HostRuntime) -> Result<(), Fail> {
-    let mut calls = Calls::on_table(rt.alloc())?;
-    assert_eq!(rt; calls.create_table("T")?, Jet::TableDuplicate);
-    assert_eq!(rt; calls.delete_table("U")?, Jet::ObjectNotFound);
-    assert_eq!(rt; calls.delete_table("T")?, Jet::Success);
-    assert_eq!(rt; calls.delete_index("pk")?, Jet::ObjectNotFound);
-    Ok(())
-}
-
-#[test]
-fn calls_on_columns_are_refused(rt: HostRuntime) -> Result<(), Fail> {
-    let mut calls = Calls::on_table(rt.alloc())?;
-    assert_eq!(rt;
-        calls.add_column("a", ColType::Long, PLAIN)?,
-        Jet::ColumnDuplicate
-    );
-    assert_eq!(rt; calls.delete_column("z")?, Jet::ColumnNotFound);
-    assert_eq!(rt; calls.delete_column("id")?, Jet::ColumnInUse);
-    Ok(())
-}
-
-#[test]
-fn kinds_of_columns_are_refused(rt: HostRuntime) -> Result<(), Fail> {
-    let mut calls = Calls::on_table(rt.alloc())?;
-    let several = ColumnFlags {
-        multi: true,
-        ..PLAIN
+fn segments(rt: &impl Abort, alloc: Global, column: &str) -> Items<NamedSegment> {
+    let mut segments = Items::empty(alloc);
+    let segment = NamedSegment {
+        column: name(rt, alloc, column),
+        descending: false,
     };
-    let sum = ColumnFlags {
-        escrow: true,
-        ..PLAIN
-    };
-    assert_eq!(rt;
-        calls.add_column("z", ColType::Long, several)?,
-        Jet::MultiValuedColumnMustBeTagged
-    );
-    assert_eq!(rt;
-        calls.add_column("z", ColType::Text, sum)?,
-        Jet::InvalidColumnType
-    );
-    assert_eq!(rt;
-        calls.add_column("z", ColType::Long, sum)?,
-        Jet::TableNotEmpty
-    );
-    assert_eq!(rt;
-        calls.add_column("z", ColType::LongText, several)?,
-        Jet::Success
-    );
-    Ok(())
+    segments.push(segment).expect(rt, "memory");
+    segments
 }
 
-#[test]
-fn calls_on_indexes_are_refused(rt: HostRuntime) -> Result<(), Fail> {
-    let mut calls = Calls::on_table(rt.alloc())?;
-    assert_eq!(rt;
-        calls.create_index("pk", SECONDARY, "a")?,
-        Jet::IndexDuplicate
-    );
-    assert_eq!(rt;
-        calls.create_index("p2", PRIMARY, "a")?,
-        Jet::IndexHasPrimary
-    );
-    assert_eq!(rt;
-        calls.create_index("i", SECONDARY, "z")?,
-        Jet::ColumnNotFound
-    );
-    assert_eq!(rt; calls.delete_index("i")?, Jet::IndexNotFound);
-    assert_eq!(rt; calls.delete_index("pk")?, Jet::IndexMustStay);
-    Ok(())
+/// A new index on one column of table T.
+fn create_index(
+    rt: &impl Abort,
+    alloc: Global,
+    index: &str,
+    flags: IndexFlags,
+    column: &str,
+) -> SchemaCall {
+    SchemaCall::CreateIndex {
+        table: name(rt, alloc, "T"),
+        index: name(rt, alloc, index),
+        flags,
+        key_most: 255,
+        segments: segments(rt, alloc, column),
+        conditions: Items::empty(alloc),
+    }
 }
 
-#[test]
-fn deleted_columns_keep_their_numbers(rt: HostRuntime) -> Result<(), Fail> {
-    let mut calls = Calls::new(rt.alloc());
-    calls.create_table("T")?;
-    for i in 0..127u8 {
-        let name = format!(in rt.alloc(); "c{i}")?;
-        assert_eq!(rt;
-            calls.add_column(name.as_str(), ColType::Bit, PLAIN)?,
+fn delete_index(rt: &impl Abort, alloc: Global, index: &str) -> SchemaCall {
+    SchemaCall::DeleteIndex {
+        table: name(rt, alloc, "T"),
+        index: name(rt, alloc, index),
+    }
+}
+
+/// What the call is answered on a table with records, or without one. Where nothing refuses it, its step is made.
+fn answer(rt: &impl Abort, catalog: &mut Catalog, call: SchemaCall, has_records: bool) -> Jet {
+    match catalog.decide(&call, has_records).expect(rt, "memory") {
+        Ok(step) => {
+            catalog.make(&step).expect(rt, "memory");
             Jet::Success
-        );
+        }
+        Err(refusal) => refusal,
     }
-    assert_eq!(rt; calls.delete_column("c0")?, Jet::Success);
-    assert_eq!(rt;
-        calls.add_column("z", ColType::Bit, PLAIN)?,
-        Jet::TooManyColumns
+}
+
+/// The same on a table without a record, where nothing refuses the call.
+fn make(rt: &impl Abort, catalog: &mut Catalog, call: SchemaCall) {
+    assert!(rt; answer(rt, catalog, call, false) == Jet::Success);
+}
+
+/// A table T with a Long `id`, a Text `a`, an index on `a` and a primary one on `id`.
+fn with_table(rt: &impl Abort, alloc: Global) -> Catalog {
+    let mut catalog = Catalog::new(alloc);
+    make(rt, &mut catalog, create_table(rt, alloc, "T"));
+    make(
+        rt,
+        &mut catalog,
+        add_column(rt, alloc, "id", ColType::Long, PLAIN),
     );
-    assert_eq!(rt; calls.add_column("z", ColType::Text, PLAIN)?, Jet::Success);
-    Ok(())
+    make(
+        rt,
+        &mut catalog,
+        add_column(rt, alloc, "a", ColType::Text, PLAIN),
+    );
+    make(
+        rt,
+        &mut catalog,
+        create_index(rt, alloc, "by_a", SECONDARY, "a"),
+    );
+    make(
+        rt,
+        &mut catalog,
+        create_index(rt, alloc, "pk", PRIMARY, "id"),
+    );
+    catalog
 }
 
 #[test]
-fn deleted_tables_keep_their_numbers(rt: HostRuntime) -> Result<(), Fail> {
-    let mut calls = Calls::new(rt.alloc());
-    for i in 0..64u8 {
-        let name = format!(in rt.alloc(); "t{i}")?;
-        assert_eq!(rt; calls.create_table(name.as_str())?, Jet::Success);
+fn a_table_is_found(rt: HostRuntime) {
+    let catalog = with_table(&rt, rt.alloc());
+    assert!(&rt; catalog.len() == 1 && catalog.greatest() == 1);
+    assert!(&rt; catalog.tables().len() == 1);
+    assert!(&rt; catalog.by_id(TableId(1)).is_some());
+    assert!(&rt; catalog.lookup(b"t".as_slice()).is_none());
+}
+
+#[test]
+fn a_table_is_read(rt: HostRuntime) {
+    let catalog = with_table(&rt, rt.alloc());
+    let found = catalog.lookup(b"T".as_slice()).expect(&rt, "the table");
+    assert!(&rt; found.id() == TableId(1));
+    assert!(&rt; found.name().as_bytes() == b"T".as_slice());
+    assert!(&rt; found.columns().len() == 2 && found.greatest().variable == 128);
+    assert!(&rt; found.primary().is_some());
+}
+
+#[test]
+fn a_schema_has_the_primary_index_first(rt: HostRuntime) {
+    let catalog = with_table(&rt, rt.alloc());
+    let found = catalog.lookup(b"T".as_slice()).expect(&rt, "the table");
+    let schema = found.schema().expect(&rt, "memory");
+    match schema.indexes.as_slice() {
+        [first, _] => assert!(&rt; first.name.as_bytes() == b"pk".as_slice()),
+        _ => assert!(&rt; false),
     }
-    assert_eq!(rt; calls.create_table("T")?, Jet::OutOfObjectIDs);
-    assert_eq!(rt; calls.delete_table("t63")?, Jet::Success);
-    assert_eq!(rt; calls.create_table("T")?, Jet::Success);
-    assert!(rt; calls.catalog.by_id(TableId(65)).is_some());
-    Ok(())
 }
 
 #[test]
-fn deleted_indexes_leave_their_numbers(rt: HostRuntime) -> Result<(), Fail> {
-    let mut calls = Calls::on_table(rt.alloc())?;
-    assert_eq!(rt; calls.delete_index("by_a")?, Jet::Success);
-    assert_eq!(rt; calls.create_index("again", SECONDARY, "a")?, Jet::Success);
-    let again = calls.name("again")?;
-    let found = calls.catalog.lookup(b"T".as_slice()).ok_or("no table")?;
-    let index = found.index_named(&again).ok_or("no index")?;
-    assert_eq!(rt; index.id.0, 1);
-    assert_eq!(rt; index.order, 3);
-    Ok(())
+fn columns_are_not_deleted(rt: HostRuntime) {
+    let mut catalog = with_table(&rt, rt.alloc());
+    let call = delete_column(&rt, rt.alloc(), "z");
+    assert!(&rt; answer(&rt, &mut catalog, call, true) == Jet::ColumnNotFound);
+    let call = delete_column(&rt, rt.alloc(), "id");
+    assert!(&rt; answer(&rt, &mut catalog, call, true) == Jet::ColumnInUse);
+}
+
+/// Columns of a table with records, and what each is answered.
+const COLUMNS: [(ColType, ColumnFlags, Jet); 4] = [
+    (ColType::Long, SEVERAL, Jet::MultiValuedColumnMustBeTagged),
+    (ColType::Text, SUM, Jet::InvalidColumnType),
+    (ColType::Long, SUM, Jet::TableNotEmpty),
+    (ColType::LongText, SEVERAL, Jet::Success),
+];
+
+#[test]
+fn kinds_of_columns_are_refused(rt: HostRuntime) {
+    let mut catalog = with_table(&rt, rt.alloc());
+    for (kind, flags, jet) in COLUMNS {
+        let call = add_column(&rt, rt.alloc(), "z", kind, flags);
+        assert!(&rt; answer(&rt, &mut catalog, call, true) == jet);
+    }
+}
+
+/// Secondary indexes that are refused: the name and the column.
+const INDEXES: [(&str, &str, Jet); 2] = [
+    ("pk", "a", Jet::IndexDuplicate),
+    ("i", "z", Jet::ColumnNotFound),
+];
+
+#[test]
+fn secondary_indexes_are_refused(rt: HostRuntime) {
+    let mut catalog = with_table(&rt, rt.alloc());
+    for (index, column, jet) in INDEXES {
+        let call = create_index(&rt, rt.alloc(), index, SECONDARY, column);
+        assert!(&rt; answer(&rt, &mut catalog, call, false) == jet);
+    }
 }
 
 #[test]
-fn an_index_has_conditions(rt: HostRuntime) -> Result<(), Fail> {
-    let mut calls = Calls::on_table(rt.alloc())?;
-    calls.add_column("b", ColType::Bit, PLAIN)?;
-    let mut conditions = Items::empty(rt.alloc());
-    conditions.push(NamedCondition {
-        column: calls.name("b")?,
+fn deleted_columns_keep_their_numbers(rt: HostRuntime) {
+    let mut catalog = Catalog::new(rt.alloc());
+    make(&rt, &mut catalog, create_table(&rt, rt.alloc(), "T"));
+    for i in 0..127u8 {
+        let column = format!(in rt.alloc(); "c{i}").expect(&rt, "memory");
+        let call = add_column(&rt, rt.alloc(), &column, ColType::Bit, PLAIN);
+        make(&rt, &mut catalog, call);
+    }
+    make(&rt, &mut catalog, delete_column(&rt, rt.alloc(), "c0"));
+    let call = add_column(&rt, rt.alloc(), "z", ColType::Bit, PLAIN);
+    assert!(&rt; answer(&rt, &mut catalog, call, true) == Jet::TooManyColumns);
+}
+
+#[test]
+fn deleted_tables_keep_their_numbers(rt: HostRuntime) {
+    let mut catalog = Catalog::new(rt.alloc());
+    make(&rt, &mut catalog, create_table(&rt, rt.alloc(), "T"));
+    make(&rt, &mut catalog, delete_table(&rt, rt.alloc(), "T"));
+    make(&rt, &mut catalog, create_table(&rt, rt.alloc(), "T"));
+    assert!(&rt; catalog.by_id(TableId(2)).is_some());
+}
+
+#[test]
+fn deleted_indexes_leave_their_numbers(rt: HostRuntime) {
+    let mut catalog = with_table(&rt, rt.alloc());
+    make(&rt, &mut catalog, delete_index(&rt, rt.alloc(), "by_a"));
+    let call = create_index(&rt, rt.alloc(), "again", SECONDARY, "a");
+    make(&rt, &mut catalog, call);
+    let again = name(&rt, rt.alloc(), "again");
+    let found = catalog.lookup(b"T".as_slice()).expect(&rt, "the table");
+    let index = found.index_named(&again).expect(&rt, "the index");
+    assert!(&rt; index.id.0 == 1 && index.order == 3);
+}
+
+/// An index on `a` of the records without a value in `b`.
+fn conditional_index(rt: &impl Abort, alloc: Global) -> SchemaCall {
+    let mut conditions = Items::empty(alloc);
+    let condition = NamedCondition {
+        column: name(rt, alloc, "b"),
         must_be_null: true,
-    })?;
-    let call = SchemaCall::CreateIndex {
-        table: calls.name("T")?,
-        index: calls.name("i")?,
+    };
+    conditions.push(condition).expect(rt, "memory");
+    SchemaCall::CreateIndex {
+        table: name(rt, alloc, "T"),
+        index: name(rt, alloc, "i"),
         flags: SECONDARY,
         key_most: 300,
-        segments: calls.segments("a")?,
+        segments: segments(rt, alloc, "a"),
         conditions,
-    };
-    assert_eq!(rt; called_name(&call).as_bytes(), b"T".as_slice());
-    assert_eq!(rt; calls.answer(&call, true)?, Jet::Success);
-    assert_eq!(rt; calls.delete_column("b")?, Jet::ColumnInUse);
-    Ok(())
+    }
 }
 
 #[test]
-fn a_new_table_is_taken_back(rt: HostRuntime) -> Result<(), Fail> {
+fn an_index_has_conditions(rt: HostRuntime) {
+    let mut catalog = with_table(&rt, rt.alloc());
+    let call = add_column(&rt, rt.alloc(), "b", ColType::Bit, PLAIN);
+    make(&rt, &mut catalog, call);
+    let call = conditional_index(&rt, rt.alloc());
+    assert!(&rt; called_name(&call).as_bytes() == b"T".as_slice());
+    assert!(&rt; answer(&rt, &mut catalog, call, true) == Jet::Success);
+    let call = delete_column(&rt, rt.alloc(), "b");
+    assert!(&rt; answer(&rt, &mut catalog, call, true) == Jet::ColumnInUse);
+}
+
+#[test]
+fn a_new_table_is_taken_back(rt: HostRuntime) {
     let mut catalog = Catalog::new(rt.alloc());
-    catalog.make(&SchemaStep::CreateTable {
-        table: TableId(1),
-        name: Name::new(rt.alloc(), "T")?,
-    })?;
-    assert_eq!(rt; catalog.len(), 1);
+    make(&rt, &mut catalog, create_table(&rt, rt.alloc(), "T"));
+    assert!(&rt; catalog.len() == 1);
     catalog.go_back(0, 0);
-    assert_eq!(rt; catalog.len(), 0);
-    assert_eq!(rt; catalog.greatest(), 0);
-    Ok(())
+    assert!(&rt; catalog.len() == 0 && catalog.greatest() == 0);
 }

@@ -1,11 +1,9 @@
-//! Tests of cursors, catalogs, a session's own state and the engine: of what no clause says and no script shows.
+//! Tests of cursors, catalogs and a session's own state: of what no clause says and no script shows.
 #![tactic(auto)]
 
 #[cfg(test)]
 mod catalogs;
 #[cfg(test)]
 mod cursors;
-#[cfg(test)]
-mod engines;
 #[cfg(test)]
 mod sessions;

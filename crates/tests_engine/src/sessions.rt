@@ -1,20 +1,19 @@
-//! Tests of a session's own state.
+//! A session's own state, at calls that no script has.
 
-ghost use Rattle.std.specs.Prelude.{IfOk};
+ghost use Rattle.std.specs.Prelude.{◌≡◌};
 ghost use Rattle.session_local.specs.WellFormed.{IsWellFormed};
 
 use column_set::Column;
-use index_derive::{Entry, EntryKind, IndexFlags, IndexRule, Schema, Segment, Step};
-use jet_base::{
-    ColType, ColumnId, CursorId, Given, IndexId, Items, Jet, Name, OutOfMemory, Prepare, Session,
-    TableId,
-};
+use index_derive::{Entry, EntryKind, Schema, Step};
+use jet_base::{ColType, ColumnId, CursorId, Given, Items, Jet, Name, Prepare, Session, TableId};
 use session_local::{
     Buffers, Decision, Local, Reply, Request, Value, finish, is_local, is_well_formed, local_step,
 };
 use std::alloc::Global;
-use std::test::Fail;
+use std::process::Abort;
+use std::test::*;
 
+/// What is decided where a call has one entry and no more.
 fn decided(kind: EntryKind) -> Decision {
     Decision {
         step: Some(Step::One(Entry {
@@ -32,17 +31,54 @@ fn decided(kind: EntryKind) -> Decision {
     }
 }
 
-fn begun(alloc: Global) -> Result<Local, Fail>
-    ensures { IfOk result (λ made. IsWellFormed made.state) }
+/// A session that is begun.
+fn begun(rt: &impl Abort, alloc: Global) -> Local
+    ensures { IsWellFormed result.state }
 {
     let mut local = Local::new(Session(1));
     let mut decision = decided(EntryKind::Enter);
-    decision.buffers = Some(Buffers::take(alloc)?);
+    decision.buffers = Some(Buffers::take(alloc).expect(rt, "memory"));
     finish(&mut local, &Request::BeginSession, decision);
-    Ok(local)
+    local
 }
 
-fn with_cursor(alloc: Global, local: &mut Local, label: u32) -> Result<(), Fail> {
+#[test]
+fn a_session_begins_and_ends(rt: HostRuntime) {
+    assert!(&rt; Local::new(Session(1)).reply().is_empty());
+    let mut local = begun(&rt, rt.alloc());
+    assert!(&rt; local.is_begun() && local.session() == Session(1));
+    assert!(&rt; local.reply().len() == 1_048_576);
+    finish(&mut local, &Request::EndSession, decided(EntryKind::Leave));
+    assert!(&rt; !local.is_begun() && local.reply().is_empty());
+}
+
+#[test]
+fn a_session_that_was_not_begun_does_not_end(rt: HostRuntime) {
+    let mut local = Local::new(Session(1));
+    let end = local_step(&mut local, &Request::EndSession).expect(&rt, "memory");
+    assert!(&rt; end.expect(&rt, "a local call").jet == Jet::InvalidSesid);
+}
+
+#[test]
+fn local_calls_are_told_from_the_others(rt: HostRuntime) {
+    let insert = prepare_insert();
+    let close = Request::CloseTable {
+        cursor: CursorId(7),
+    };
+    assert!(rt; is_local(&insert, Jet::Success));
+    assert!(rt; !is_local(&close, Jet::Success));
+    assert!(rt; is_local(&close, Jet::InvalidTableId));
+}
+
+fn prepare_insert() -> Request {
+    Request::PrepareUpdate {
+        cursor: CursorId(7),
+        how: Prepare::Insert,
+    }
+}
+
+/// Opens a cursor on a table without columns.
+fn with_cursor(rt: &impl Abort, alloc: Global, local: &mut Local, label: u32) {
     let mut decision = decided(EntryKind::Open(TableId(3)));
     let schema = Schema {
         columns: Items::empty(alloc),
@@ -51,306 +87,118 @@ fn with_cursor(alloc: Global, local: &mut Local, label: u32) -> Result<(), Fail>
     decision.table = Some((TableId(3), schema));
     let request = Request::OpenTable {
         cursor: CursorId(label),
-        table: Name::new(alloc, "load")?,
+        table: Name::new(alloc, "load").expect(rt, "memory"),
     };
     finish(local, &request, decision);
-    Ok(())
+}
+
+/// A session with cursors 7 and 9, the first of which was opened twice.
+fn with_two_cursors(rt: &impl Abort, alloc: Global) -> Local {
+    let mut local = begun(rt, alloc);
+    with_cursor(rt, alloc, &mut local, 7);
+    with_cursor(rt, alloc, &mut local, 9);
+    with_cursor(rt, alloc, &mut local, 7);
+    local
 }
 
 #[test]
-fn a_session_begins_and_ends(rt: HostRuntime) -> Result<(), Fail> {
-    assert!(rt; Local::new(Session(1)).reply().is_empty());
-    let mut local = begun(rt.alloc())?;
-    assert!(rt; local.is_begun());
-    assert_eq!(rt; local.session(), Session(1));
-    assert_eq!(rt; local.reply().len(), 1_048_576);
-    finish(&mut local, &Request::EndSession, decided(EntryKind::Leave));
-    assert!(rt; !local.is_begun());
-    assert!(rt; local.reply().is_empty());
-    Ok(())
-}
-
-#[test]
-fn cursors_are_opened_once_and_closed(rt: HostRuntime) -> Result<(), Fail> {
-    let mut local = begun(rt.alloc())?;
-    with_cursor(rt.alloc(), &mut local, 7)?;
-    with_cursor(rt.alloc(), &mut local, 9)?;
-    with_cursor(rt.alloc(), &mut local, 7)?;
-    assert_eq!(rt; local.cursors().len(), 2);
-    let request = Request::CloseTable {
+fn cursors_are_opened_once_and_closed(rt: HostRuntime) {
+    let mut local = with_two_cursors(&rt, rt.alloc());
+    assert!(&rt; local.cursors().len() == 2);
+    let close = Request::CloseTable {
         cursor: CursorId(7),
     };
-    finish(&mut local, &request, decided(EntryKind::Shut(TableId(3))));
-    assert!(rt; local.cursor(CursorId(7)).is_none());
+    finish(&mut local, &close, decided(EntryKind::Shut(TableId(3))));
+    assert!(&rt; local.cursors().len() == 1);
+    assert!(&rt; local.cursor(CursorId(7)).is_none());
+}
+
+#[test]
+fn an_open_cursor_has_its_label(rt: HostRuntime) {
+    let local = with_two_cursors(&rt, rt.alloc());
     match local.cursor(CursorId(9)) {
         Some(cursor) => {
-            assert_eq!(rt; cursor.label(), CursorId(9));
-            assert!(rt; cursor.prepared().is_none());
-            assert!(rt; cursor.schema().indexes.as_slice().is_empty());
+            assert!(&rt; cursor.label() == CursorId(9));
+            assert!(&rt; cursor.prepared().is_none());
+            assert!(&rt; cursor.schema().indexes.as_slice().is_empty());
         }
-        None => assert!(rt; false),
+        None => assert!(&rt; false),
     }
-    Ok(())
 }
 
-#[test]
-fn bytes_are_shown_at_the_front(rt: HostRuntime) -> Result<(), Fail> {
-    let mut local = begun(rt.alloc())?;
-    assert!(rt; local.is_begun());
-    let value = local.show(&[5, 6, 7], 9);
-    assert!(rt; value == Value::Bytes(3, 9));
-    assert_eq!(rt; &local.reply()[..3], [5, 6, 7].as_slice());
-    Ok(())
-}
-
-#[test]
-fn local_calls_are_told_from_the_others(rt: HostRuntime) -> Result<(), Fail> {
-    let insert = Request::PrepareUpdate {
-        cursor: CursorId(1),
-        how: Prepare::Insert,
-    };
-    let close = Request::CloseTable {
-        cursor: CursorId(1),
-    };
-    assert!(rt; is_local(&insert, Jet::Success));
-    assert!(rt; !is_local(&close, Jet::Success));
-    assert!(rt; is_local(&close, Jet::InvalidTableId));
-    Ok(())
-}
-
-const CURSOR: CursorId = CursorId(7);
-
-fn column(alloc: Global, id: u16, name: &str, kind: ColType) -> Result<Column, OutOfMemory> {
-    Ok(Column {
-        id: ColumnId(id),
-        name: Name::new(alloc, name)?,
-        kind,
+/// A table of one sum.
+fn schema_of_a_sum(rt: &impl Abort, alloc: Global) -> Schema {
+    let mut columns = Items::empty(alloc);
+    let column = Column {
+        id: ColumnId(1),
+        name: Name::new(alloc, "sum").expect(rt, "memory"),
+        kind: ColType::Long,
         tagged: false,
         multi: false,
         not_null: false,
-        escrow: id == 2,
+        escrow: true,
         version: false,
         auto: false,
-    })
-}
-
-// A table of a key, a sum and a text.
-fn schema(alloc: Global) -> Result<Schema, OutOfMemory> {
-    let mut columns = Items::empty(alloc);
-    columns.push(column(alloc, 1, "id", ColType::Long)?)?;
-    columns.push(column(alloc, 2, "sum", ColType::Long)?)?;
-    columns.push(column(alloc, 128, "text", ColType::Text)?)?;
-    let mut segments = Items::empty(alloc);
-    segments.push(Segment {
-        column: ColumnId(1),
-        descending: false,
-    })?;
-    let mut indexes = Items::empty(alloc);
-    indexes.push(IndexRule {
-        id: IndexId(1),
-        name: Name::new(alloc, "pk")?,
-        order: 1,
-        segments,
-        flags: IndexFlags {
-            primary: true,
-            unique: true,
-            disallownull: false,
-            ignorenull: false,
-            ignoreanynull: false,
-            ignorefirstnull: false,
-            sortnullshigh: false,
-            crossproduct: false,
-            disallowtruncation: false,
-            tuples: false,
-        },
-        conditions: Items::empty(alloc),
-        key_most: 255,
-    })?;
-    Ok(Schema { columns, indexes })
-}
-
-// A session with a cursor on that table.
-fn with_table(alloc: Global) -> Result<Local, Fail>
-    ensures { IfOk result (λ made. IsWellFormed made.state) }
-{
-    let mut local = begun(alloc)?;
-    let schema = schema(alloc)?;
-    if !is_well_formed(&schema) {
-        return Err(Fail::new("the schema is not well formed"));
+    };
+    columns.push(column).expect(rt, "memory");
+    Schema {
+        columns,
+        indexes: Items::empty(alloc),
     }
+}
+
+/// A session with a cursor on that table.
+fn with_a_sum(rt: &impl Abort, alloc: Global) -> Local
+    ensures { IsWellFormed result.state }
+{
+    let mut local = begun(rt, alloc);
+    let schema = schema_of_a_sum(rt, alloc);
+    assert!(rt; is_well_formed(&schema));
     let mut decision = decided(EntryKind::Open(TableId(3)));
     decision.table = Some((TableId(3), schema));
     let request = Request::OpenTable {
-        cursor: CURSOR,
-        table: Name::new(alloc, "load")?,
+        cursor: CursorId(7),
+        table: Name::new(alloc, "load").expect(rt, "memory"),
     };
     finish(&mut local, &request, decision);
-    Ok(local)
+    local
 }
 
-fn reply(jet: Jet, value: Value) -> Option<Reply> {
-    Some(Reply { jet, value })
-}
-
-fn plain(jet: Jet) -> Option<Reply> {
-    reply(jet, Value::Nothing)
-}
-
-#[test]
-fn a_session_that_was_not_begun_refuses_calls(rt: HostRuntime) -> Result<(), Fail> {
-    let mut local = Local::new(Session(1));
-    let begin = local_step(&mut local, &Request::BeginSession)?;
-    assert!(rt; begin.is_none());
-    let end = local_step(&mut local, &Request::EndSession)?;
-    assert_eq!(rt; end, plain(Jet::InvalidSesid));
-    Ok(())
-}
-
-fn open_again(alloc: Global) -> Result<Request, OutOfMemory> {
-    Ok(Request::OpenTable {
-        cursor: CURSOR,
-        table: Name::new(alloc, "load")?,
-    })
-}
-
-#[test]
-fn labels_are_taken_once(rt: HostRuntime) -> Result<(), Fail> {
-    let mut local = with_table(rt.alloc())?;
-    let again = open_again(rt.alloc())?;
-    assert_eq!(rt;
-        said(&mut local, &Request::BeginSession)?,
-        Jet::SessionInUse
-    );
-    assert_eq!(rt; said(&mut local, &again)?, Jet::InvalidTableId);
-    Ok(())
-}
-
-fn close(cursor: CursorId) -> Request {
-    Request::CloseTable { cursor }
-}
-
-#[test]
-fn labels_are_known(rt: HostRuntime) -> Result<(), Fail> {
-    let mut local = with_table(rt.alloc())?;
-    let mine = close(CURSOR);
-    let other = close(CursorId(9));
-    assert_eq!(rt; said(&mut local, &other)?, Jet::InvalidTableId);
-    let shared = local_step(&mut local, &mine)?;
-    assert!(rt; shared.is_none());
-    Ok(())
-}
-
-fn key(fresh: bool) -> Request {
-    Request::MakeKey {
-        cursor: CURSOR,
-        fresh,
-        value: Given::Number(5),
-    }
-}
-
-// The answer of a local call.
-fn said(local: &mut Local, request: &Request) -> Result<Jet, OutOfMemory>
+/// The reply to a local call.
+fn answered(rt: &impl Abort, local: &mut Local, request: &Request) -> Reply
     requires { IsWellFormed local.old.state }
     ensures { IsWellFormed local.new.state }
 {
-    match local_step(local, request)? {
-        Some(reply) => Ok(reply.jet),
-        None => Ok(Jet::OutOfMemory),
-    }
+    let reply = local_step(local, request).expect(rt, "memory");
+    reply.expect(rt, "a local call")
 }
 
-#[test]
-fn keys_are_made_and_ranges_removed(rt: HostRuntime) -> Result<(), Fail> {
-    let mut local = with_table(rt.alloc())?;
-    let first = key(true);
-    let next = key(false);
-    let remove = Request::RemoveIndexRange { cursor: CURSOR };
-    assert_eq!(rt; said(&mut local, &next)?, Jet::KeyNotMade);
-    assert_eq!(rt; said(&mut local, &first)?, Jet::Success);
-    assert_eq!(rt; said(&mut local, &next)?, Jet::KeyIsMade);
-    assert_eq!(rt; said(&mut local, &first)?, Jet::Success);
-    assert_eq!(rt; said(&mut local, &remove)?, Jet::Success);
-    Ok(())
-}
-
-fn prepare(how: Prepare) -> Request {
-    Request::PrepareUpdate {
-        cursor: CURSOR,
-        how,
-    }
-}
-
-fn set(alloc: Global, column: &str, value: Given) -> Result<Request, OutOfMemory> {
-    Ok(Request::SetColumn {
-        cursor: CURSOR,
-        column: Name::new(alloc, column)?,
+/// The sum of the record that is prepared, as it is set.
+fn set_sum(rt: &impl Abort, alloc: Global) -> Request {
+    Request::SetColumn {
+        cursor: CursorId(7),
+        column: Name::new(alloc, "sum").expect(rt, "memory"),
         sequence: 1,
-        value,
-    })
+        value: Given::Number(4),
+    }
 }
 
-#[test]
-fn updates_are_prepared_set_and_cancelled(rt: HostRuntime) -> Result<(), Fail> {
-    let mut local = with_table(rt.alloc())?;
-    let insert = prepare(Prepare::Insert);
-    let cancel = prepare(Prepare::Cancel);
-    let id = set(rt.alloc(), "id", Given::Number(4))?;
-    let sum = set(rt.alloc(), "sum", Given::Number(4))?;
-    let none = set(rt.alloc(), "none", Given::Number(4))?;
-    assert_eq!(rt; said(&mut local, &cancel)?, Jet::UpdateNotPrepared);
-    assert_eq!(rt; said(&mut local, &id)?, Jet::UpdateNotPrepared);
-    assert_eq!(rt; said(&mut local, &insert)?, Jet::Success);
-    assert_eq!(rt; said(&mut local, &insert)?, Jet::AlreadyPrepared);
-    assert_eq!(rt; said(&mut local, &none)?, Jet::ColumnNotFound);
-    assert_eq!(rt; said(&mut local, &sum)?, Jet::ColumnNotUpdatable);
-    assert_eq!(rt; said(&mut local, &id)?, Jet::Success);
-    assert_eq!(rt; said(&mut local, &cancel)?, Jet::Success);
-    assert_eq!(rt; said(&mut local, &cancel)?, Jet::UpdateNotPrepared);
-    Ok(())
-}
-
-fn copied(alloc: Global, column: &str, sequence: u32, most: u32) -> Result<Request, OutOfMemory> {
-    Ok(Request::RetrieveColumn {
-        cursor: CURSOR,
-        column: Name::new(alloc, column)?,
-        sequence,
+fn retrieve_sum(rt: &impl Abort, alloc: Global) -> Request {
+    Request::RetrieveColumn {
+        cursor: CursorId(7),
+        column: Name::new(alloc, "sum").expect(rt, "memory"),
+        sequence: 1,
         copy: true,
-        most,
-    })
+        most: 4,
+    }
 }
 
 #[test]
-fn copies_are_retrieved(rt: HostRuntime) -> Result<(), Fail> {
-    let mut local = with_table(rt.alloc())?;
-    let text = copied(rt.alloc(), "text", 1, 4)?;
-    assert_eq!(rt;
-        local_step(&mut local, &text)?,
-        plain(Jet::UpdateNotPrepared)
-    );
-    let insert = prepare(Prepare::Insert);
-    assert_eq!(rt; local_step(&mut local, &insert)?, plain(Jet::Success));
-    assert_eq!(rt; local_step(&mut local, &text)?, plain(Jet::ColumnNull));
-    let fill = set(rt.alloc(), "text", Given::Fill(10, 97))?;
-    assert_eq!(rt; local_step(&mut local, &fill)?, plain(Jet::Success));
-    assert_eq!(rt;
-        local_step(&mut local, &text)?,
-        reply(Jet::BufferTruncated, Value::Bytes(4, 10))
-    );
-    assert!(rt; local.reply().starts_with(b"aaaa"));
-    let whole = copied(rt.alloc(), "text", 1, 10)?;
-    assert_eq!(rt;
-        local_step(&mut local, &whole)?,
-        reply(Jet::Success, Value::Bytes(10, 10))
-    );
-    let count = copied(rt.alloc(), "text", 0, 4)?;
-    assert_eq!(rt;
-        local_step(&mut local, &count)?,
-        reply(Jet::Success, Value::Number(1))
-    );
-    let sum = copied(rt.alloc(), "sum", 1, 4)?;
-    assert_eq!(rt;
-        local_step(&mut local, &sum)?,
-        reply(Jet::Success, Value::Number(0))
-    );
-    Ok(())
+fn a_sum_is_0_and_not_set(rt: HostRuntime) {
+    let mut local = with_a_sum(&rt, rt.alloc());
+    assert!(&rt; answered(&rt, &mut local, &prepare_insert()).jet == Jet::Success);
+    let set = set_sum(&rt, rt.alloc());
+    assert!(&rt; answered(&rt, &mut local, &set).jet == Jet::ColumnNotUpdatable);
+    let retrieve = retrieve_sum(&rt, rt.alloc());
+    assert!(&rt; answered(&rt, &mut local, &retrieve).value == Value::Number(0));
 }

@@ -2,6 +2,7 @@
 ghost use Rattle.std.specs.Prelude.{◌≤◌, length};
 
 use std::process::Abort;
+use std::test::*;
 use version_bucket::Buckets;
 
 /// Bytes of which each piece is a run of its own.
@@ -27,20 +28,29 @@ fn piece(pattern: &[u8; 4_600], number: u64) -> &[u8]
     &pattern[start..start + len]
 }
 
-/// Pushes pieces, each once more where memory fails: the buckets are then as before.
+/// The number of the first piece, how many pieces there are, and in how many buckets.
+fn counts(buckets: &Buckets) -> (u64, u64, u64) {
+    (buckets.first(), buckets.len(), buckets.buckets())
+}
+
+/// Pushes a piece, and once more where memory fails: the buckets are then as before.
+fn push_one(rt: &impl Abort, buckets: &mut Buckets, piece: &[u8]) -> u64
+    requires { length piece.now ≤ 4096 }
+{
+    let before = counts(buckets);
+    match buckets.push(piece) {
+        Ok(number) => number,
+        Err(_) => {
+            assert!(rt; counts(buckets) == before);
+            buckets.push(piece).expect(rt, "memory")
+        }
+    }
+}
+
 fn push(rt: &impl Abort, buckets: &mut Buckets, pattern: &[u8; 4_600], count: u64) {
     for _ in 0..count {
         let number = buckets.first() + buckets.len();
-        let piece = piece(pattern, number);
-        let before = (buckets.first(), buckets.len(), buckets.buckets());
-        let answer = match buckets.push(piece) {
-            Ok(answer) => answer,
-            Err(_) => {
-                assert_eq!(rt; (buckets.first(), buckets.len(), buckets.buckets()), before);
-                buckets.push(piece).expect(rt, "memory")
-            }
-        };
-        assert_eq!(rt; answer, number);
+        assert!(rt; push_one(rt, buckets, piece(pattern, number)) == number);
     }
 }
 
@@ -63,43 +73,29 @@ fn every_piece_reads_as_it_was_pushed(rt: HostRuntime) {
     let pattern = pattern();
     let mut buckets = Buckets::new(rt.alloc());
     push(&rt, &mut buckets, &pattern, 400);
-    assert_eq!(&rt;
-        (buckets.first(), buckets.len(), buckets.buckets()),
-        (0, 400, 10)
-    );
+    assert!(&rt; counts(&buckets) == (0, 400, 10));
     read_all(&rt, &buckets, &pattern);
     pop(&rt, &mut buckets, 200);
-    assert_eq!(&rt; (buckets.first(), buckets.len()), (200, 200));
+    assert!(&rt; buckets.first() == 200 && buckets.len() == 200);
     read_all(&rt, &buckets, &pattern);
     pop(&rt, &mut buckets, 200);
-    assert_eq!(&rt;
-        (buckets.first(), buckets.len(), buckets.buckets()),
-        (400, 0, 0)
-    );
+    assert!(&rt; counts(&buckets) == (400, 0, 0));
     push(&rt, &mut buckets, &pattern, 400);
-    assert_eq!(&rt;
-        (buckets.first(), buckets.len(), buckets.buckets()),
-        (400, 400, 10)
-    );
+    assert!(&rt; counts(&buckets) == (400, 400, 10));
     read_all(&rt, &buckets, &pattern);
 }
 
 #[test]
 fn a_bucket_is_freed_with_its_last_piece(rt: HostRuntime) {
     let mut buckets = Buckets::new(rt.alloc());
-    for _ in 0..16 {
-        if buckets.push(&[7; 4_096]).is_err() {
-            buckets.push(&[7; 4_096]).expect(&rt, "memory");
-        }
+    for number in 0..16 {
+        assert!(&rt; push_one(&rt, &mut buckets, &[7; 4_096]) == number);
     }
-    assert_eq!(&rt; buckets.buckets(), 2);
+    assert!(&rt; buckets.buckets() == 2);
     pop(&rt, &mut buckets, 14);
-    assert_eq!(&rt; buckets.buckets(), 2);
+    assert!(&rt; buckets.buckets() == 2);
     pop(&rt, &mut buckets, 1);
-    assert_eq!(&rt;
-        (buckets.first(), buckets.len(), buckets.buckets()),
-        (15, 1, 1)
-    );
+    assert!(&rt; counts(&buckets) == (15, 1, 1));
 }
 
 fn crosses_threads<T: Send + Sync>(_: &T) {}

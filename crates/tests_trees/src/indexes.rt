@@ -1,6 +1,6 @@
 //! Indexes beside plain marks of which entries they have.
 
-ghost use Rattle.std.specs.Prelude.{◌≡◌, ◌+◌, ◌≤◌, ℕ, true, All, Contains, IfOk, length, slice_index};
+ghost use Rattle.std.specs.Prelude.{◌≡◌, ◌+◌, ◌≤◌, ◌<◌, ℕ, true, All, Contains, IfOk, length, slice_index};
 ghost use Rattle.btree_inplace.specs.Trees.{Exchanges};
 ghost use Rattle.index_tree.specs.IndexTrees.{IsIndexTree, entries_of, own_pages};
 
@@ -217,6 +217,43 @@ fn taken(space: &Space) -> usize {
         .count()
 }
 
+/// Compares which entries and keys an index has with the marks of its entries.
+fn check_entry(
+    rt: &impl Abort,
+    space: &Space,
+    index: &IndexTree,
+    marks: &[bool; COUNT],
+    number: usize,
+)
+    requires index { IsIndexTree space.now index.now }
+    requires number { number < 320 }
+{
+    let (key, bookmark) = (key_of(number / 4), bookmark_of(number));
+    let has_entry = index.has(space, key.as_bytes(), bookmark.as_bytes());
+    assert!(rt; has_entry == marks[number]);
+    let first = number / 4 * 4;
+    let has_mark = marks[first..first + 4].iter().any(|mark| *mark);
+    assert!(rt; index.has_key(space, key.as_bytes()) == has_mark);
+    assert!(rt; !index.has_key(space, shorter(&key).as_bytes()));
+}
+
+/// Compares what lies after a place and before it with the marks.
+fn check_place(
+    rt: &impl Abort,
+    space: &Space,
+    index: &IndexTree,
+    entries: &[IndexEntry],
+    marks: &[bool; COUNT],
+    place: &Place,
+)
+    requires { IsIndexTree space.now index.now }
+{
+    let after = index.after(space, place);
+    assert!(rt; is_entry(&after, next_of(entries, marks, place)));
+    let before = index.before(space, place);
+    assert!(rt; is_entry(&before, previous_of(entries, marks, place)));
+}
+
 /// Compares an index with the marks of its entries, at the places beside every so many of them.
 fn check_same(
     rt: &impl Abort,
@@ -231,31 +268,9 @@ fn check_same(
 {
     for number in (0..COUNT).step_by(step) {
         let number = number % COUNT;
-        let (key, bookmark) = (key_of(number / 4), bookmark_of(number));
-        assert_eq!(rt;
-            index.has(space, key.as_bytes(), bookmark.as_bytes()),
-            marks[number],
-            "{number}"
-        );
-        let first = number / 4 * 4;
-        assert_eq!(rt;
-            index.has_key(space, key.as_bytes()),
-            marks[first..first + 4].iter().any(|mark| *mark),
-            "{number}"
-        );
-        assert!(rt; !index.has_key(space, shorter(&key).as_bytes()), "{number}");
+        check_entry(rt, space, index, marks, number);
         for kind in 0..KINDS {
-            let place = place_of(kind, number);
-            let after = index.after(space, &place);
-            assert!(rt;
-                is_entry(&after, next_of(entries, marks, &place)),
-                "{kind} {number}"
-            );
-            let before = index.before(space, &place);
-            assert!(rt;
-                is_entry(&before, previous_of(entries, marks, &place)),
-                "{kind} {number}"
-            );
+            check_place(rt, space, index, entries, marks, &place_of(kind, number));
         }
     }
 }
@@ -301,7 +316,34 @@ fn an_index_has_the_entries_that_were_put(rt: HostRuntime) {
         }
     }
     check_same(&rt, &space, &index, entries.as_slice(), &marks, 40);
-    assert_eq!(&rt; taken(&space), 1);
+    assert!(&rt; taken(&space) == 1);
+}
+
+/// Puts an entry beside another index, or takes it out, and marks it so.
+fn change_both(
+    rt: &impl Abort,
+    space: &mut Space,
+    index: &mut IndexTree,
+    other: &IndexTree,
+    marks: &mut [bool; COUNT],
+    number: usize,
+    puts: bool,
+)
+    requires index { IsIndexTree space.old index.old }
+    requires sized { All (λ entry. slice_index entry.0 0 + 1 ≡ length entry.0) (entries_of space.old index.old) }
+    requires other { IsIndexTree space.old other.now }
+    requires others_sized { All (λ entry. slice_index entry.0 0 + 1 ≡ length entry.0) (entries_of space.old other.now) }
+    requires apart { (p : ℕ) → Contains (own_pages space.old other.now) p → ¬ Contains (own_pages space.old index.old) p }
+    requires number { number < 320 }
+    ensures index { IsIndexTree space.new index.new }
+    ensures sized { All (λ entry. slice_index entry.0 0 + 1 ≡ length entry.0) (entries_of space.new index.new) }
+    ensures other { IsIndexTree space.new other.now }
+    ensures others_sized { All (λ entry. slice_index entry.0 0 + 1 ≡ length entry.0) (entries_of space.new other.now) }
+    ensures apart { (p : ℕ) → Contains (own_pages space.new index.new) p → ¬ Contains (own_pages space.new other.now) p }
+{
+    let changes = marks[number] != puts;
+    assert!(rt; change_beside(space, index, other, number, puts) == changes);
+    marks[number] = puts;
 }
 
 #[test]
@@ -317,12 +359,26 @@ fn two_indexes_in_one_space_have_their_own_entries(rt: HostRuntime) {
         random = random.wrapping_mul(1_664_525).wrapping_add(1_013_904_223);
         let number = (random / 256) as usize % COUNT;
         let puts = !first_marks[number];
-        assert!(&rt; change_beside(&mut space, &mut first, &second, number, puts));
-        first_marks[number] = puts;
+        change_both(
+            &rt,
+            &mut space,
+            &mut first,
+            &second,
+            &mut first_marks,
+            number,
+            puts,
+        );
         let number = (random / 65_536) as usize % COUNT;
         let puts = !second_marks[number];
-        assert!(&rt; change_beside(&mut space, &mut second, &first, number, puts));
-        second_marks[number] = puts;
+        change_both(
+            &rt,
+            &mut space,
+            &mut second,
+            &first,
+            &mut second_marks,
+            number,
+            puts,
+        );
         if turn % 100 == 50 {
             check_same(&rt, &space, &first, entries.as_slice(), &first_marks, 23);
             check_same(&rt, &space, &second, entries.as_slice(), &second_marks, 23);
@@ -331,22 +387,28 @@ fn two_indexes_in_one_space_have_their_own_entries(rt: HostRuntime) {
     assert!(&rt; taken(&space) > 10);
     for turn in 0..COUNT {
         let number = turn * 77 % COUNT;
-        let there = first_marks[number];
-        assert_eq!(&rt;
-            change_beside(&mut space, &mut first, &second, number, false),
-            there
+        change_both(
+            &rt,
+            &mut space,
+            &mut first,
+            &second,
+            &mut first_marks,
+            number,
+            false,
         );
-        first_marks[number] = false;
-        let there = second_marks[number];
-        assert_eq!(&rt;
-            change_beside(&mut space, &mut second, &first, number, false),
-            there
+        change_both(
+            &rt,
+            &mut space,
+            &mut second,
+            &first,
+            &mut second_marks,
+            number,
+            false,
         );
-        second_marks[number] = false;
     }
     check_same(&rt, &space, &first, entries.as_slice(), &first_marks, 40);
     check_same(&rt, &space, &second, entries.as_slice(), &second_marks, 40);
-    assert_eq!(&rt; taken(&space), 2);
+    assert!(&rt; taken(&space) == 2);
 }
 
 /// Whichever allocation fails, an entry that was refused is not there, and all others are.
@@ -367,5 +429,5 @@ fn a_refused_entry_leaves_the_others(rt: HostRuntime) {
     }
     check_same(&rt, &space, &index, entries.as_slice(), &marks, 7);
     index.give_back(&mut space);
-    assert_eq!(&rt; taken(&space), 0);
+    assert!(&rt; taken(&space) == 0);
 }

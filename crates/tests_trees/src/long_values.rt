@@ -1,6 +1,6 @@
 //! Values that are put, read, shared and released.
 
-ghost use Rattle.std.specs.Prelude.{◌≡◌, ℕ, Contains, IfOk};
+ghost use Rattle.std.specs.Prelude.{◌≡◌, ◌<◌, ℕ, Contains, IfOk};
 ghost use Rattle.btree_inplace.specs.Trees.{Exchanges};
 ghost use Rattle.long_value.specs.Stores.{IsLongStore, own_pages};
 
@@ -135,7 +135,7 @@ fn values_are_kept_until_their_last_release(rt: HostRuntime) {
         assert!(&rt; !store.has(&space, id_of(i)));
     }
     assert!(&rt; !share(&mut store, &mut space, id_of(0)));
-    assert_eq!(&rt; taken(&space), 1);
+    assert!(&rt; taken(&space) == 1);
 }
 
 /// Run with each allocation failing in turn: a value that was refused is not there, and the others are.
@@ -149,17 +149,11 @@ fn a_refused_value_leaves_the_others(rt: HostRuntime) {
     let second = bytes_of(rt.alloc(), 20_000);
     let is_first = put(&mut store, &mut space, id_of(1), first.as_slice());
     let is_second = put(&mut store, &mut space, id_of(2), second.as_slice());
-    assert_eq!(&rt;
-        has_value(&store, &space, id_of(1), first.as_slice(), 1),
-        is_first
-    );
-    assert_eq!(&rt;
-        has_value(&store, &space, id_of(2), second.as_slice(), 1),
-        is_second
-    );
-    assert_eq!(&rt; release(&mut store, &mut space, id_of(1)), is_first);
-    assert_eq!(&rt; release(&mut store, &mut space, id_of(2)), is_second);
-    assert_eq!(&rt; taken(&space), 1);
+    assert!(&rt; has_value(&store, &space, id_of(1), first.as_slice(), 1) == is_first);
+    assert!(&rt; has_value(&store, &space, id_of(2), second.as_slice(), 1) == is_second);
+    assert!(&rt; release(&mut store, &mut space, id_of(1)) == is_first);
+    assert!(&rt; release(&mut store, &mut space, id_of(2)) == is_second);
+    assert!(&rt; taken(&space) == 1);
 }
 
 /// How many numbers two stores may have values under, and how many references a value may have.
@@ -317,9 +311,43 @@ fn check_same(
     }
 }
 
+/// Changes a store beside another one, and its list: as a number was drawn, or so that less is left.
+fn change_both(
+    rt: &impl Abort,
+    alloc: Global,
+    space: &mut Space,
+    store: &mut LongValues,
+    other: &LongValues,
+    list: &mut [Option<Kept>; COUNT],
+    number: usize,
+    drawn: Option<u32>,
+)
+    requires store { IsLongStore space.old store.old }
+    requires other { IsLongStore space.old other.now }
+    requires apart { (p : ℕ) → Contains (own_pages space.old other.now) p → ¬ Contains (own_pages space.old store.old) p }
+    requires number { number < 20 }
+    ensures store { IsLongStore space.new store.new }
+    ensures other { IsLongStore space.new other.now }
+    ensures apart { (p : ℕ) → Contains (own_pages space.new store.new) p → ¬ Contains (own_pages space.new other.now) p }
+{
+    let kept = list[number];
+    let change = match drawn {
+        Some(random) => change_of(kept, random),
+        None => one_less(kept),
+    };
+    assert!(rt; change_beside(alloc, space, store, other, id_of(number), change));
+    list[number] = after(kept, change);
+}
+
+/// Whether a list has no value.
+fn is_empty(list: &[Option<Kept>; COUNT]) -> bool {
+    list.iter().all(|kept| kept.is_none())
+}
+
 #[test]
 fn two_stores_in_one_space_are_their_lists(rt: HostRuntime) {
-    let mut space = Space::new(rt.alloc());
+    let alloc = rt.alloc();
+    let mut space = Space::new(alloc);
     let mut first = LongValues::new(&mut space).expect(&rt, "memory");
     let mut second = second_store(&mut space, &first).expect(&rt, "memory");
     let mut first_list = [None; COUNT];
@@ -328,68 +356,58 @@ fn two_stores_in_one_space_are_their_lists(rt: HostRuntime) {
     for turn in 0..400u32 {
         random = random.wrapping_mul(1_664_525).wrapping_add(1_013_904_223);
         let number = (random / 256) as usize % COUNT;
-        let change = change_of(first_list[number], random);
-        assert!(&rt;
-            change_beside(
-                rt.alloc(),
-                &mut space,
-                &mut first,
-                &second,
-                id_of(number),
-                change
-            )
+        change_both(
+            &rt,
+            alloc,
+            &mut space,
+            &mut first,
+            &second,
+            &mut first_list,
+            number,
+            Some(random),
         );
-        first_list[number] = after(first_list[number], change);
         let number = (random / 8_192) as usize % COUNT;
-        let change = change_of(second_list[number], random);
-        assert!(&rt;
-            change_beside(
-                rt.alloc(),
-                &mut space,
-                &mut second,
-                &first,
-                id_of(number),
-                change
-            )
+        change_both(
+            &rt,
+            alloc,
+            &mut space,
+            &mut second,
+            &first,
+            &mut second_list,
+            number,
+            Some(random),
         );
-        second_list[number] = after(second_list[number], change);
         if turn % 5 == 4 {
-            check_same(&rt, rt.alloc(), &space, &first, &first_list);
-            check_same(&rt, rt.alloc(), &space, &second, &second_list);
+            check_same(&rt, alloc, &space, &first, &first_list);
+            check_same(&rt, alloc, &space, &second, &second_list);
         }
     }
     assert!(&rt; taken(&space) > 10);
     for turn in 0..COUNT * MOST {
         let number = turn * 7 % COUNT;
-        let change = one_less(first_list[number]);
-        assert!(&rt;
-            change_beside(
-                rt.alloc(),
-                &mut space,
-                &mut first,
-                &second,
-                id_of(number),
-                change
-            )
+        change_both(
+            &rt,
+            alloc,
+            &mut space,
+            &mut first,
+            &second,
+            &mut first_list,
+            number,
+            None,
         );
-        first_list[number] = after(first_list[number], change);
-        let change = one_less(second_list[number]);
-        assert!(&rt;
-            change_beside(
-                rt.alloc(),
-                &mut space,
-                &mut second,
-                &first,
-                id_of(number),
-                change
-            )
+        change_both(
+            &rt,
+            alloc,
+            &mut space,
+            &mut second,
+            &first,
+            &mut second_list,
+            number,
+            None,
         );
-        second_list[number] = after(second_list[number], change);
     }
-    check_same(&rt, rt.alloc(), &space, &first, &first_list);
-    check_same(&rt, rt.alloc(), &space, &second, &second_list);
-    for number in 0..COUNT {
-        assert!(&rt; first_list[number].is_none() && second_list[number].is_none());
-    }
-    assert_eq!(&rt; taken(&space), 2);
+    check_same(&rt, alloc, &space, &first, &first_list);
+    check_same(&rt, alloc, &space, &second, &second_list);
+    assert!(&rt; is_empty(&first_list) && is_empty(&second_list));
+    assert!(&rt; taken(&space) == 2);
 }

@@ -5,33 +5,46 @@ ghost use Rattle.page_image.specs.Page.{node_size};
 
 use btree_node::{child, split_at};
 use page_image::Page;
+use std::process::Abort;
+use std::test::*;
 
 const INNER: u8 = 2;
 
+fn put(rt: &impl Abort, page: &mut Page, key: &[u8]) {
+    if key.len() > 755 {
+        return;
+    }
+    match page.find(key) {
+        Ok(_) => assert!(rt; false, "the key is there"),
+        Err(place) => assert!(rt; page.insert(place, key, b"1234", 1250).is_ok()),
+    }
+}
+
+/// A page with the keys "", "b" and "d".
+fn three_nodes(rt: &impl Abort) -> Page {
+    let mut page = Page::empty(0, INNER);
+    put(rt, &mut page, b"");
+    put(rt, &mut page, b"b");
+    put(rt, &mut page, b"d");
+    page
+}
+
+#[test]
+fn keys_belong_to_children(rt: HostRuntime) {
+    let page = three_nodes(&rt);
+    assert!(&rt; page.len() == 3 && page.key(0).is_empty());
+    assert!(&rt; child(&page, b"a") == 0);
+    assert!(&rt; child(&page, b"b") == 1);
+    assert!(&rt; child(&page, b"c") == 1);
+    assert!(&rt; child(&page, b"e") == 2);
+}
+
 #[test]
 fn a_full_page_is_cut(rt: HostRuntime) {
-    let mut page = Page::empty(0, INNER);
-    for key in ["", "b", "d"] {
-        match page.find(key.as_bytes()) {
-            Ok(_) => assert!(&rt; false, "the key is there"),
-            Err(place) => {
-                assert!(&rt; page.insert(place, key.as_bytes(), b"1234", 1250).is_ok());
-            }
-        }
-    }
-    assert_eq!(&rt; page.used(), 3802);
-    if page.len() == 3 && page.key(0).is_empty() {
-        let places = (
-            child(&page, b"a"),
-            child(&page, b"b"),
-            child(&page, b"c"),
-            child(&page, b"e"),
-        );
-        assert_eq!(&rt; places, (0, 1, 1, 2));
-    }
-    if page.used() == 3802 && page.len() == 3 && all_small(&page) {
-        assert_eq!(&rt; (split_at(&page, 3, 300), split_at(&page, 1, 300)), (3, 2));
-    }
+    let page = three_nodes(&rt);
+    assert!(&rt; page.used() == 3802 && page.len() == 3 && all_small(&page));
+    assert!(&rt; split_at(&page, 3, 300) == 3);
+    assert!(&rt; split_at(&page, 1, 300) == 2);
 }
 
 // Whether each node is as small as a tree wants it.

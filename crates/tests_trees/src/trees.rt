@@ -18,14 +18,18 @@ fn an_empty_tree_has_no_node(rt: HostRuntime) {
     let tree = Tree::new(&mut space).expect(&rt, "memory");
     nodes_fit_their_space();
     no_page_is_empty();
-    assert_eq!(&rt; space.len(), 1);
+    assert!(&rt; space.len() == 1);
     assert!(&rt; tree.get(&space, b"key").is_none());
-    assert!(&rt; tree.first(&space).is_none());
-    assert!(&rt; tree.last(&space).is_none());
+    assert!(&rt; tree.first(&space).is_none() && tree.last(&space).is_none());
+}
+
+#[test]
+fn no_node_lies_beside_a_key_in_an_empty_tree(rt: HostRuntime) {
+    let mut space = Space::new(rt.alloc());
+    let tree = Tree::new(&mut space).expect(&rt, "memory");
     assert!(&rt; tree.at_or_after(&space, b"").is_none());
     assert!(&rt; tree.at_or_before(&space, b"key").is_none());
-    assert!(&rt; tree.after(&space, b"").is_none());
-    assert!(&rt; tree.before(&space, b"key").is_none());
+    assert!(&rt; tree.after(&space, b"").is_none() && tree.before(&space, b"key").is_none());
 }
 
 /// What the plain list has under a number: data of so many equal bytes.
@@ -130,6 +134,22 @@ fn change(
     }
 }
 
+/// Whether a node was found, with this key and data.
+fn is_node(found: Option<(&[u8], &[u8])>, key: &[u8], data: &[u8]) -> bool {
+    match found {
+        Some((found_key, found_data)) => found_key == key && found_data == data,
+        None => false,
+    }
+}
+
+/// Whether the tree's first node from a key on is this one, and its last node up to this one's key.
+fn is_next(space: &Space, tree: &Tree, from: &[u8], key: &[u8], data: &[u8]) -> bool
+    requires { IsTree space.now tree.now }
+{
+    is_node(tree.at_or_after(space, from), key, data)
+        && is_node(tree.at_or_before(space, key), key, data)
+}
+
 /// Walks the tree and the list side by side, both ways.
 fn check_same(
     rt: &impl Abort,
@@ -145,14 +165,7 @@ fn check_same(
         let key = key_of(alloc, number);
         if let Some(kept) = kept {
             let data = data_of(alloc, *kept);
-            match tree.at_or_after(space, &past) {
-                Some((next, found)) => assert!(rt; *next == *key && *found == *data, "{number}"),
-                None => assert!(rt; false, "{number} is not there"),
-            }
-            match tree.at_or_before(space, &key) {
-                Some((last, found)) => assert!(rt; *last == *key && *found == *data, "{number}"),
-                None => assert!(rt; false, "{number} is not there"),
-            }
+            assert!(rt; is_next(space, tree, &past, &key, &data), "{number}");
             past = key;
             let _ = past.push(0);
         } else {
@@ -187,9 +200,9 @@ fn a_tree_is_its_list(rt: HostRuntime) {
         // 7 and the count have no common factor, so this goes over all numbers.
         let number = number * 7 % COUNT;
         let key = key_of(rt.alloc(), number);
-        assert_eq!(&rt; take(&mut space, &mut tree, &key), list[number].is_some());
+        assert!(&rt; take(&mut space, &mut tree, &key) == list[number].is_some());
     }
-    assert_eq!(&rt; pages_taken(&space), 1);
+    assert!(&rt; pages_taken(&space) == 1);
     assert!(&rt; tree.first(&space).is_none());
 }
 
@@ -245,12 +258,10 @@ fn a_tree_gives_its_pages_back(rt: HostRuntime) {
     assert!(&rt; pages_taken(&space) < before / 2);
     for number in 0..4_000 {
         let key = key_of(rt.alloc(), number);
-        match second.get(&space, &key) {
-            Some(data) => assert!(&rt; data == b"second".as_slice(), "{number}"),
-            None => assert!(&rt; false, "{number} is not there"),
-        }
+        let data = second.get(&space, &key);
+        assert!(&rt; data == Some(b"second".as_slice()), "{number}");
         assert!(&rt; take(&mut space, &mut second, &key));
     }
     // What is left is the empty tree's root: each page of the first tree is free.
-    assert_eq!(&rt; pages_taken(&space), 1);
+    assert!(&rt; pages_taken(&space) == 1);
 }

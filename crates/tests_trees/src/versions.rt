@@ -4,6 +4,7 @@ use column_set::{Bookmark, Change};
 use jet_base::{ColumnId, Session, TableId};
 use std::alloc::Global;
 use std::process::Abort;
+use std::test::*;
 use version_store::{By, Reader, Undone, Variant, VersionFault, Versions};
 
 /// A change of the plain list.
@@ -56,8 +57,7 @@ fn push(rt: &impl Abort, versions: &mut Versions, by: By, change: &Change, befor
     match versions.push(by, change, before) {
         Ok(()) => {}
         Err(error) => {
-            assert_eq!(rt; error, VersionFault::OutOfMemory);
-            assert_eq!(rt; versions.len(), len);
+            assert!(rt; error == VersionFault::OutOfMemory && versions.len() == len);
             assert!(rt; versions.push(by, change, before).is_ok());
         }
     }
@@ -107,17 +107,35 @@ fn undo_all(versions: &mut Versions, session: u32) {
     }
 }
 
+/// Compares what a session that began at a number sees of a record.
+fn compare_at(
+    rt: &impl Abort,
+    versions: &Versions,
+    plain: &[Plain],
+    key: u8,
+    session: u32,
+    begin: u64,
+) {
+    let reader = Reader {
+        session: Session(session),
+        begin: Some(begin),
+    };
+    let variant = versions.variant(TableId(1), &[key], reader);
+    assert!(rt; shown(variant) == seen(plain, key, session, begin));
+}
+
 fn compare(rt: &impl Abort, versions: &Versions, plain: &[Plain], number: u64) {
-    assert_eq!(rt; versions.len(), plain.len());
+    assert!(rt; versions.len() == plain.len());
     for key in 0..7u8 {
         for session in 1..4u32 {
-            let begin = number / u64::from(session);
-            let reader = Reader {
-                session: Session(session),
-                begin: Some(begin),
-            };
-            let variant = versions.variant(TableId(1), &[key], reader);
-            assert_eq!(rt; shown(variant), seen(plain, key, session, begin));
+            compare_at(
+                rt,
+                versions,
+                plain,
+                key,
+                session,
+                number / u64::from(session),
+            );
         }
     }
 }
@@ -198,10 +216,7 @@ fn spans_end_at_their_limit(rt: HostRuntime) {
         push(&rt, &mut versions, by, &change, None);
     }
     assert!(&rt; !versions.fits(by, &change, None));
-    assert_eq!(&rt;
-        versions.push(by, &change, None),
-        Err(VersionFault::OverSpan)
-    );
+    assert!(&rt; versions.push(by, &change, None) == Err(VersionFault::OverSpan));
     versions.commit(Session(1), 99);
     assert!(&rt; !versions.fits(by, &change, None));
     assert!(&rt; versions.fits(By { oldest: None, ..by }, &change, None));
@@ -213,10 +228,9 @@ fn the_oldest_goes_first(rt: HostRuntime) {
     let mut versions = Versions::new(alloc);
     let change = change(&rt, alloc, 9, true);
     push(&rt, &mut versions, by(1, 1, 4_096, None), &change, None);
-    assert_eq!(&rt; versions.oldest_table(), Some(TableId(1)));
-    assert!(&rt; versions.len() > 0);
+    assert!(&rt; versions.oldest_table() == Some(TableId(1)) && versions.len() > 0);
     versions.pop_oldest();
-    assert_eq!(&rt; versions.oldest_table(), None);
+    assert!(&rt; versions.oldest_table().is_none());
 }
 
 fn stands(rt: &impl Abort, alloc: Global, versions: &Versions, key: u8) -> bool {
@@ -234,53 +248,62 @@ fn undone_record(rt: &impl Abort, versions: &Versions, place: usize, key: u8, ro
     assert!(rt; versions.before_at(place) == Some([row].as_slice()));
 }
 
-#[test]
-fn levels_are_released_and_undone(rt: HostRuntime) {
-    let alloc = rt.alloc();
+/// Rewrites of a session: of record 4 at the first level, and of record 5 at the second.
+fn two_levels(rt: &impl Abort, alloc: Global) -> Versions {
     let mut versions = Versions::new(alloc);
+    let first = change(rt, alloc, 4, true);
     push(
-        &rt,
+        rt,
         &mut versions,
         by(1, 1, u64::MAX, None),
-        &change(&rt, alloc, 4, true),
+        &first,
         Some(40),
     );
+    let second = change(rt, alloc, 5, true);
     push(
-        &rt,
+        rt,
         &mut versions,
         by(1, 2, u64::MAX, None),
-        &change(&rt, alloc, 5, true),
+        &second,
         Some(50),
     );
+    versions
+}
+
+#[test]
+fn levels_are_released_and_undone(rt: HostRuntime) {
+    let mut versions = two_levels(&rt, rt.alloc());
     versions.release(Session(1), 2);
     assert!(&rt; versions.undo_level(Session(1), 2).is_none());
-    assert_eq!(&rt;
-        versions.undo_level(Session(1), 1),
-        Some(Undone {
-            table: TableId(1),
-            place: 1
-        })
-    );
+    let undone = Undone {
+        table: TableId(1),
+        place: 1,
+    };
+    assert!(&rt; versions.undo_level(Session(1), 1) == Some(undone));
     undone_record(&rt, &versions, 1, 5, 50);
-    assert!(&rt; stands(&rt, alloc, &versions, 4));
-    assert!(&rt; !stands(&rt, alloc, &versions, 5));
+    assert!(&rt; stands(&rt, rt.alloc(), &versions, 4));
+    assert!(&rt; !stands(&rt, rt.alloc(), &versions, 5));
+}
+
+/// A sum of record 4.
+fn add(rt: &impl Abort, alloc: Global) -> Change {
+    Change::Add {
+        table: TableId(1),
+        bookmark: bookmark(rt, alloc, 4),
+        column: ColumnId(2),
+        amount: 5,
+    }
 }
 
 #[test]
 fn two_sums_are_no_conflict(rt: HostRuntime) {
-    let alloc = rt.alloc();
-    let mut versions = Versions::new(alloc);
+    let mut versions = Versions::new(rt.alloc());
+    let add = add(&rt, rt.alloc());
+    push(&rt, &mut versions, by(1, 1, u64::MAX, None), &add, Some(40));
     let reader = Reader {
         session: Session(2),
         begin: None,
     };
-    let add = Change::Add {
-        table: TableId(1),
-        bookmark: bookmark(&rt, alloc, 4),
-        column: ColumnId(2),
-        amount: 5,
-    };
-    push(&rt, &mut versions, by(1, 1, u64::MAX, None), &add, Some(40));
     assert!(&rt; !versions.conflict(reader, &add));
-    assert!(&rt; versions.conflict(reader, &change(&rt, alloc, 4, false)));
+    assert!(&rt; versions.conflict(reader, &change(&rt, rt.alloc(), 4, false)));
 }

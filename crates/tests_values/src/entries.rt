@@ -9,13 +9,14 @@ use crate::entries::cases::{CASES, Case, PLAIN};
 use column_set::{Column, Values};
 use index_derive::derive::{entries, next_entry, yields};
 use index_derive::{
-    Condition, DeriveFault, IndexFlags, IndexRule, Schema, Segment, entries_rise, legal,
-    next_entries_are_entries,
+    Condition, DeriveFault, IndexFlags, IndexRule, Schema, Segment, a_primary_index_has_one_entry,
+    entries_rise, legal, next_entries_are_entries,
 };
 use jet_base::{ColType, ColumnId, IndexId, Items, Name, OutOfMemory};
 use key_normal::Key;
 use std::alloc::Global;
-use std::test::Fail;
+use std::process::Abort;
+use std::test::*;
 
 /// A record with values in columns 256 and 257.
 #[derive(Clone, Copy)]
@@ -106,121 +107,144 @@ fn rule(
     })
 }
 
-/// The keys, where the rule is legal, and where `yields` and `next_entry` tell of the same.
+/// The keys, which `yields` and `next_entry` tell of too.
 fn keys_of(
+    rt: &impl Abort,
     alloc: Global,
     rule: &IndexRule,
     schema: &Schema,
     pair: &Pair,
-) -> Result<Result<Items<Key>, DeriveFault>, Fail> {
-    if !legal(rule, schema) || rule.key_most > 255 {
-        return Err(Fail::new("the rule is not legal"));
-    }
+) -> Result<Items<Key>, DeriveFault> {
+    assert!(rt; legal(rule, schema) && rule.key_most <= 255);
     let keys = match entries(alloc, rule, schema, pair) {
         Ok(keys) => keys,
-        Err(fault) => return Ok(Err(fault)),
+        Err(fault) => return Err(fault),
     };
     let mut after = None;
     for key in keys.as_slice() {
         let next = next_entry(rule, schema, pair, after);
-        if next.as_ref() != Some(key) || !yields(rule, schema, pair, key) {
-            return Err(Fail::new("not the next key"));
-        }
+        assert!(rt; next.as_ref() == Some(key) && yields(rule, schema, pair, key));
         after = Some(key);
     }
-    if next_entry(rule, schema, pair, after).is_some() {
-        return Err(Fail::new("a key beyond the last"));
-    }
-    Ok(Ok(keys))
+    assert!(rt; next_entry(rule, schema, pair, after).is_none());
+    Ok(keys)
+}
+
+/// Whether the keys are these bytes.
+fn are(keys: &[Key], expected: &[&[u8]]) -> bool {
+    keys.len() == expected.len()
+        && keys
+            .iter()
+            .zip(expected.iter())
+            .all(|(key, bytes)| key.as_bytes() == *bytes)
 }
 
 /// Whether the record has what is expected.
-fn holds(alloc: Global, case: &Case) -> Result<bool, Fail> {
-    let schema = schema(alloc, case.kind, case.multi)?;
-    let rule = rule(alloc, case.flags, case.columns, case.conditions)?;
+fn holds(rt: &impl Abort, alloc: Global, case: &Case) -> bool {
+    let schema = schema(alloc, case.kind, case.multi).expect(rt, "memory");
+    let rule = rule(alloc, case.flags, case.columns, case.conditions).expect(rt, "memory");
     let pair = Pair {
         first: case.first,
         second: case.second,
     };
-    let found = keys_of(alloc, &rule, &schema, &pair)?;
-    Ok(match (&found, &case.expected) {
-        (Ok(keys), Ok(expected)) => {
-            keys.as_slice().len() == expected.len()
-                && keys
-                    .as_slice()
-                    .iter()
-                    .zip(expected.iter())
-                    .all(|(key, bytes)| key.as_bytes() == *bytes)
-        }
-        (Err(fault), Err(expected)) => fault == expected,
-        _ => false,
-    })
+    match keys_of(rt, alloc, &rule, &schema, &pair) {
+        Ok(keys) => case.refused.is_none() && are(keys.as_slice(), case.keys),
+        Err(fault) => case.refused == Some(fault),
+    }
 }
 
 #[test]
-fn entries_follow_the_rule(rt: HostRuntime) -> Result<(), Fail> {
+fn entries_follow_the_rule(rt: HostRuntime) {
     for (i, case) in CASES.iter().enumerate() {
-        assert!(rt; holds(rt.alloc(), case)?, "case {i}");
+        assert!(&rt; holds(&rt, rt.alloc(), case), "case {i}");
     }
     entries_rise();
     next_entries_are_entries();
-    Ok(())
+    a_primary_index_has_one_entry();
 }
 
 /// Bytes of which no two starts are alike, and none is a small letter.
-fn distinct_starts(alloc: Global, length: u16) -> Result<Vec<u8>, Fail>
+fn distinct_starts(rt: &impl Abort, alloc: Global, length: u16) -> Vec<u8>
     requires { length ≤ 4096 }
 {
     let mut bytes = Vec::new(alloc);
     for i in 0..length {
         let counter = i / 2;
-        bytes.push(if i % 2 == 0 {
+        let byte = if i % 2 == 0 {
             (counter % 64) as u8
         } else {
             64 + (counter / 64) as u8
-        })?;
+        };
+        bytes.push(byte).expect(rt, "memory");
     }
-    Ok(bytes)
+    bytes
 }
 
-#[test]
-fn parts_of_texts_have_entries(rt: HostRuntime) -> Result<(), Fail> {
+/// Texts of one record, and how many parts of them are keys.
+static TEXTS: &[(&[&[u8]], usize)] = &[
+    (&[], 0),
+    (&[b"ab"], 0),
+    (&[b"abc"], 1),
+    (&[b"abcdefghij"], 8),
+    (&[b"abcdefghijkl"], 10),
+    (&[b"ab", b"abcd", b"ABC"], 3),
+];
+
+/// The rule of an index on the parts of column 256.
+fn rule_of_parts(alloc: Global) -> Result<IndexRule, OutOfMemory> {
     let flags = IndexFlags {
         tuples: true,
         disallownull: true,
         ..PLAIN
     };
-    let schema = schema(rt.alloc(), ColType::LongText, true)?;
-    let rule = rule(rt.alloc(), flags, &[(256, false)], &[])?;
-    let long = distinct_starts(rt.alloc(), 1100)?;
-    let cases: [(&[&[u8]], usize); 7] = [
-        (&[], 0),
-        (&[b"ab"], 0),
-        (&[b"abc"], 1),
-        (&[b"abcdefghij"], 8),
-        (&[b"abcdefghijkl"], 10),
-        (&[b"ab", b"abcd", b"ABC"], 3),
-        (&[&long], 1022),
-    ];
-    for (i, (first, count)) in cases.iter().enumerate() {
-        assert!(rt; legal(&rule, &schema) && rule.key_most <= 255);
-        let pair = Pair { first, second: &[] };
-        let keys = entries(rt.alloc(), &rule, &schema, &pair)?;
-        assert_eq!(rt; keys.as_slice().len(), *count, "case {i}");
+    rule(alloc, flags, &[(256, false)], &[])
+}
+
+/// How many keys the parts of the texts have.
+fn count_of_parts(rt: &impl Abort, alloc: Global, texts: &[&[u8]]) -> usize {
+    let schema = schema(alloc, ColType::LongText, true).expect(rt, "memory");
+    let rule = rule_of_parts(alloc).expect(rt, "memory");
+    let pair = Pair {
+        first: texts,
+        second: &[],
+    };
+    assert!(rt; legal(&rule, &schema) && rule.key_most <= 255);
+    match entries(alloc, &rule, &schema, &pair) {
+        Ok(keys) => keys.as_slice().len(),
+        Err(_) => usize::MAX,
     }
+}
+
+#[test]
+fn parts_of_texts_are_counted(rt: HostRuntime) {
+    for (texts, count) in TEXTS {
+        assert!(&rt;
+            count_of_parts(&rt, rt.alloc(), texts) == *count,
+            "{count} parts"
+        );
+    }
+}
+
+#[test]
+fn parts_begin_in_the_first_1024_bytes(rt: HostRuntime) {
+    let long = distinct_starts(&rt, rt.alloc(), 1100);
+    assert!(&rt; count_of_parts(&rt, rt.alloc(), &[&long]) == 1022);
+}
+
+#[test]
+fn parts_of_texts_are_keys(rt: HostRuntime) {
+    let schema = schema(rt.alloc(), ColType::LongText, true).expect(&rt, "memory");
+    let rule = rule_of_parts(rt.alloc()).expect(&rt, "memory");
     let pair = Pair {
         first: &[b"abcdefghijk", b"XbcdefghijZ"],
         second: &[],
     };
-    match keys_of(rt.alloc(), &rule, &schema, &pair)? {
-        Ok(keys) => {
-            assert_eq!(rt; keys.as_slice().len(), 18);
-            assert_eq!(rt;
-                keys.as_slice()[0].as_bytes(),
-                b"\x7fABCDEFGH\x09IJ\0\0\0\0\0\0\x02".as_slice()
-            );
+    let keys = keys_of(&rt, rt.alloc(), &rule, &schema, &pair).expect(&rt, "not refused");
+    assert!(&rt; keys.as_slice().len() == 18);
+    match keys.as_slice().first() {
+        Some(key) => {
+            assert!(&rt; key.as_bytes() == b"\x7fABCDEFGH\x09IJ\0\0\0\0\0\0\x02".as_slice());
         }
-        Err(_) => assert!(rt; false),
+        None => assert!(&rt; false),
     }
-    Ok(())
 }

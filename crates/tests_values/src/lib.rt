@@ -8,8 +8,6 @@ mod entries;
 #[cfg(test)]
 mod keys;
 #[cfg(test)]
-mod primary_keys;
-#[cfg(test)]
 mod records;
 #[cfg(test)]
 mod rows;

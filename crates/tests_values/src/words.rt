@@ -1,55 +1,78 @@
-//! Names, byte strings, lists and the words of replies.
+//! Names, byte strings, lists and the types of columns.
 
-use jet_base::{ColType, Items, Jet, Name, Octets, name};
-use std::test::Fail;
+use jet_base::{ColType, Items, Name, Octets};
+use std::alloc::Global;
+use std::process::Abort;
+use std::test::*;
 
-#[test]
-fn names_are_made_and_copied(rt: HostRuntime) -> Result<(), Fail> {
-    let name = Name::new(rt.alloc(), "load")?;
-    let other = Name::new(rt.alloc(), "Load")?;
-    assert_eq!(rt; name.as_bytes(), b"load".as_slice());
-    assert!(rt; name.copy()? == name);
-    assert!(rt; name.clone()? == name);
-    assert!(rt; name != other);
-    assert!(rt; other < name);
-    Ok(())
+fn name(rt: &impl Abort, alloc: Global, text: &str) -> Name {
+    Name::new(alloc, text).expect(rt, "memory")
 }
 
 #[test]
-fn byte_strings_are_made_and_copied(rt: HostRuntime) -> Result<(), Fail> {
-    let octets = Octets::from_slice(rt.alloc(), &[0, 255])?;
-    assert_eq!(rt; octets.as_bytes(), [0, 255].as_slice());
-    assert!(rt; octets.copy()? == octets);
-    assert!(rt; octets.clone()? == octets);
-    assert!(rt; Octets::empty(rt.alloc()) < octets);
-    assert!(rt; Octets::new([0, 255].to_vec(rt.alloc())?) == octets);
-    Ok(())
+fn names_are_made_and_copied(rt: HostRuntime) {
+    let name = name(&rt, rt.alloc(), "load");
+    assert!(&rt; name.as_bytes() == b"load".as_slice());
+    assert!(&rt; name.copy().expect(&rt, "memory") == name);
+    assert!(&rt; name.clone().expect(&rt, "memory") == name);
 }
 
 #[test]
-fn lists_grow_and_are_copied(rt: HostRuntime) -> Result<(), Fail> {
+fn names_are_compared(rt: HostRuntime) {
+    let small = name(&rt, rt.alloc(), "load");
+    let large = name(&rt, rt.alloc(), "Load");
+    assert!(&rt; small != large && large < small);
+}
+
+fn octets(rt: &impl Abort, alloc: Global, bytes: &[u8]) -> Octets {
+    Octets::from_slice(alloc, bytes).expect(rt, "memory")
+}
+
+#[test]
+fn byte_strings_are_made_and_copied(rt: HostRuntime) {
+    let octets = octets(&rt, rt.alloc(), &[0, 255]);
+    assert!(&rt; octets.as_bytes() == [0, 255].as_slice());
+    assert!(&rt; octets.copy().expect(&rt, "memory") == octets);
+    assert!(&rt; octets.clone().expect(&rt, "memory") == octets);
+    assert!(&rt; Octets::empty(rt.alloc()) < octets);
+}
+
+#[test]
+fn byte_strings_are_those_of_a_vector(rt: HostRuntime) {
+    let bytes = [0, 255].to_vec(rt.alloc()).expect(&rt, "memory");
+    assert!(&rt; Octets::new(bytes) == octets(&rt, rt.alloc(), &[0, 255]));
+}
+
+fn two_names(rt: &impl Abort, alloc: Global) -> Vec<Name> {
+    let mut names = Vec::new(alloc);
+    names.push(name(rt, alloc, "id")).expect(rt, "memory");
+    names.push(name(rt, alloc, "name")).expect(rt, "memory");
+    names
+}
+
+#[test]
+fn lists_grow(rt: HostRuntime) {
     let mut names = Items::empty(rt.alloc());
-    names.push(Name::new(rt.alloc(), "id")?)?;
-    names.push(Name::new(rt.alloc(), "name")?)?;
-    assert_eq!(rt; names.as_slice().len(), 2);
-    assert!(rt; names.copy()? == names);
-    assert!(rt; names.clone()? == names);
-    let mut same = Vec::new(rt.alloc());
-    same.push(Name::new(rt.alloc(), "id")?)?;
-    same.push(Name::new(rt.alloc(), "name")?)?;
-    assert!(rt; Items::new(same) == names);
-    Ok(())
+    names
+        .push(name(&rt, rt.alloc(), "id"))
+        .expect(&rt, "memory");
+    names
+        .push(name(&rt, rt.alloc(), "name"))
+        .expect(&rt, "memory");
+    assert!(&rt; names.as_slice().len() == 2);
+    assert!(&rt; Items::new(two_names(&rt, rt.alloc())) == names);
 }
 
 #[test]
-fn names_have_their_prefix(rt: HostRuntime) {
-    assert_eq!(rt; name(Jet::Success), "JET_errSuccess");
-    assert_eq!(rt; name(Jet::SeekNotEqual), "JET_wrnSeekNotEqual");
+fn lists_are_copied(rt: HostRuntime) {
+    let names = Items::new(two_names(&rt, rt.alloc()));
+    assert!(&rt; names.copy().expect(&rt, "memory") == names);
+    assert!(&rt; names.clone().expect(&rt, "memory") == names);
 }
 
 #[test]
 fn long_and_variable_types_are_told(rt: HostRuntime) {
-    assert!(rt; ColType::LongText.is_long() && !ColType::Text.is_long());
-    assert!(rt; ColType::Text.is_variable() && !ColType::LongText.is_variable());
-    assert!(rt; !ColType::Guid.is_long() && !ColType::Guid.is_variable());
+    assert!(&rt; ColType::LongText.is_long() && !ColType::Text.is_long());
+    assert!(&rt; ColType::Text.is_variable() && !ColType::LongText.is_variable());
+    assert!(&rt; !ColType::Guid.is_long() && !ColType::Guid.is_variable());
 }

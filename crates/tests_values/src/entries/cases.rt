@@ -20,7 +20,9 @@ pub struct Case<'a> {
     pub first: &'a [&'a [u8]],
     /// The values of column 257.
     pub second: &'a [&'a [u8]],
-    pub expected: Result<&'a [&'a [u8]], DeriveFault>,
+    /// Why the record is refused, or its keys.
+    pub refused: Option<DeriveFault>,
+    pub keys: &'a [&'a [u8]],
 }
 
 /// No flag.
@@ -46,7 +48,8 @@ const CASE: Case = Case {
     conditions: &[],
     first: &[],
     second: &[],
-    expected: Ok(&[b"\0\0"]),
+    refused: None,
+    keys: &[b"\0\0"],
 };
 
 /// A value whose key is cut.
@@ -74,7 +77,7 @@ pub static CASES: &[Case] = &[
     Case {
         first: &[b"a", b"b", b"c"],
         second: &[b"x", b"y"],
-        expected: Ok(&[b"\x7fa\x7fx", b"\x7fb\x7fx", b"\x7fc\x7fx"]),
+        keys: &[b"\x7fa\x7fx", b"\x7fb\x7fx", b"\x7fc\x7fx"],
         ..CASE
     },
     // one for each combination
@@ -85,20 +88,20 @@ pub static CASES: &[Case] = &[
         },
         first: &[b"a", b"b", b"c"],
         second: &[b"x", b"y"],
-        expected: Ok(&[
+        keys: &[
             b"\x7fa\x7fx",
             b"\x7fa\x7fy",
             b"\x7fb\x7fx",
             b"\x7fb\x7fy",
             b"\x7fc\x7fx",
             b"\x7fc\x7fy",
-        ]),
+        ],
         ..CASE
     },
     // the first multi-valued column gives the entries, also where it has no value
     Case {
         second: &[b"x", b"y"],
-        expected: Ok(&[b"\0\x7fx"]),
+        keys: &[b"\0\x7fx"],
         ..CASE
     },
     // NULL counts as one value
@@ -108,7 +111,7 @@ pub static CASES: &[Case] = &[
             ..PLAIN
         },
         second: &[b"x", b"y"],
-        expected: Ok(&[b"\0\x7fx", b"\0\x7fy"]),
+        keys: &[b"\0\x7fx", b"\0\x7fy"],
         ..CASE
     },
     // in the second column too
@@ -118,7 +121,7 @@ pub static CASES: &[Case] = &[
             ..PLAIN
         },
         first: &[b"a", b"b", b"c"],
-        expected: Ok(&[b"\x7fa\0", b"\x7fb\0", b"\x7fc\0"]),
+        keys: &[b"\x7fa\0", b"\x7fb\0", b"\x7fc\0"],
         ..CASE
     },
     // columns of one value, in the order of records
@@ -130,7 +133,7 @@ pub static CASES: &[Case] = &[
         },
         first: &[b"a"],
         second: &[b"x"],
-        expected: Ok(&[b"\x7fa\x7fx"]),
+        keys: &[b"\x7fa\x7fx"],
         ..CASE
     },
     // no two records have an equal key, and one record has several
@@ -141,14 +144,14 @@ pub static CASES: &[Case] = &[
         },
         first: &[b"a", b"b", b"c"],
         second: &[b"x", b"y"],
-        expected: Ok(&[b"\x7fa\x7fx", b"\x7fb\x7fx", b"\x7fc\x7fx"]),
+        keys: &[b"\x7fa\x7fx", b"\x7fb\x7fx", b"\x7fc\x7fx"],
         ..CASE
     },
     // in rising order and each once
     Case {
         columns: &[(256, false)],
         first: &[b"c", b"a", b"b", b"a"],
-        expected: Ok(&[b"\x7fa", b"\x7fb", b"\x7fc"]),
+        keys: &[b"\x7fa", b"\x7fb", b"\x7fc"],
         ..CASE
     },
     // combinations too
@@ -159,7 +162,7 @@ pub static CASES: &[Case] = &[
         },
         first: &[b"a", b"a"],
         second: &[b"y", b"x", b"y"],
-        expected: Ok(&[b"\x7fa\x7fx", b"\x7fa\x7fy"]),
+        keys: &[b"\x7fa\x7fx", b"\x7fa\x7fy"],
         ..CASE
     },
     // letters without case
@@ -167,14 +170,14 @@ pub static CASES: &[Case] = &[
         kind: ColType::Text,
         columns: &[(256, false)],
         first: &[b"b", b"B", b"a"],
-        expected: Ok(&[b"\x7fA\0\0\0\0\0\0\0\x01", b"\x7fB\0\0\0\0\0\0\0\x01"]),
+        keys: &[b"\x7fA\0\0\0\0\0\0\0\x01", b"\x7fB\0\0\0\0\0\0\0\x01"],
         ..CASE
     },
     // greater values first
     Case {
         columns: &[(256, true)],
         first: &[b"\x01", b"\x02"],
-        expected: Ok(&[b"\x80\xfd", b"\x80\xfe"]),
+        keys: &[b"\x80\xfd", b"\x80\xfe"],
         ..CASE
     },
     // the columns in the order of the key
@@ -182,13 +185,13 @@ pub static CASES: &[Case] = &[
         columns: &[(257, false), (256, true)],
         first: &[b"\x01", b"\x02"],
         second: &[b"\x08", b"\x09"],
-        expected: Ok(&[b"\x7f\x08\x80\xfe", b"\x7f\x09\x80\xfe"]),
+        keys: &[b"\x7f\x08\x80\xfe", b"\x7f\x09\x80\xfe"],
         ..CASE
     },
     // a descending NULL
     Case {
         columns: &[(256, true)],
-        expected: Ok(&[b"\xff"]),
+        keys: &[b"\xff"],
         ..CASE
     },
     // a high NULL
@@ -197,7 +200,7 @@ pub static CASES: &[Case] = &[
             sortnullshigh: true,
             ..PLAIN
         },
-        expected: Ok(&[b"\xc0\xc0"]),
+        keys: &[b"\xc0\xc0"],
         ..CASE
     },
     // a descending high NULL
@@ -207,7 +210,7 @@ pub static CASES: &[Case] = &[
             ..PLAIN
         },
         columns: &[(256, true)],
-        expected: Ok(&[b"\x3f"]),
+        keys: &[b"\x3f"],
         ..CASE
     },
     // a descending high NULL beside one that ascends
@@ -217,7 +220,7 @@ pub static CASES: &[Case] = &[
             ..PLAIN
         },
         columns: &[(256, true), (257, false)],
-        expected: Ok(&[b"\x3f\xc0"]),
+        keys: &[b"\x3f\xc0"],
         ..CASE
     },
     // all columns are NULL
@@ -226,7 +229,7 @@ pub static CASES: &[Case] = &[
             ignorenull: true,
             ..PLAIN
         },
-        expected: Ok(&[]),
+        keys: &[],
         ..CASE
     },
     // one of several is not all
@@ -236,7 +239,7 @@ pub static CASES: &[Case] = &[
             ..PLAIN
         },
         second: &[b"x"],
-        expected: Ok(&[b"\0\x7fx"]),
+        keys: &[b"\0\x7fx"],
         ..CASE
     },
     // in no combination
@@ -247,7 +250,7 @@ pub static CASES: &[Case] = &[
             ..PLAIN
         },
         second: &[b"x", b"y"],
-        expected: Ok(&[b"\0\x7fx", b"\0\x7fy"]),
+        keys: &[b"\0\x7fx", b"\0\x7fy"],
         ..CASE
     },
     // any column is NULL
@@ -257,7 +260,7 @@ pub static CASES: &[Case] = &[
             ..PLAIN
         },
         first: &[b"a"],
-        expected: Ok(&[]),
+        keys: &[],
         ..CASE
     },
     // none is
@@ -268,7 +271,7 @@ pub static CASES: &[Case] = &[
         },
         first: &[b"a"],
         second: &[b"x"],
-        expected: Ok(&[b"\x7fa\x7fx"]),
+        keys: &[b"\x7fa\x7fx"],
         ..CASE
     },
     // the first column is NULL
@@ -278,7 +281,7 @@ pub static CASES: &[Case] = &[
             ..PLAIN
         },
         second: &[b"x"],
-        expected: Ok(&[]),
+        keys: &[],
         ..CASE
     },
     // the last is
@@ -288,7 +291,7 @@ pub static CASES: &[Case] = &[
             ..PLAIN
         },
         first: &[b"a"],
-        expected: Ok(&[b"\x7fa\0"]),
+        keys: &[b"\x7fa\0"],
         ..CASE
     },
     // a NULL is refused
@@ -298,7 +301,8 @@ pub static CASES: &[Case] = &[
             ..PLAIN
         },
         first: &[b"a"],
-        expected: Err(DeriveFault::NullKeyDisallowed),
+        refused: Some(DeriveFault::NullKeyDisallowed),
+        keys: &[],
         ..CASE
     },
     // none is there
@@ -309,7 +313,7 @@ pub static CASES: &[Case] = &[
         },
         first: &[b"a"],
         second: &[b"x"],
-        expected: Ok(&[b"\x7fa\x7fx"]),
+        keys: &[b"\x7fa\x7fx"],
         ..CASE
     },
     // a column without values counts as one NULL
@@ -320,7 +324,8 @@ pub static CASES: &[Case] = &[
             ..PLAIN
         },
         first: &[b"a", b"b", b"c"],
-        expected: Err(DeriveFault::NullKeyDisallowed),
+        refused: Some(DeriveFault::NullKeyDisallowed),
+        keys: &[],
         ..CASE
     },
     // what is left out is not refused: all columns are NULL
@@ -330,7 +335,7 @@ pub static CASES: &[Case] = &[
             ignorenull: true,
             ..PLAIN
         },
-        expected: Ok(&[]),
+        keys: &[],
         ..CASE
     },
     // any column is
@@ -341,7 +346,7 @@ pub static CASES: &[Case] = &[
             ..PLAIN
         },
         first: &[b"a"],
-        expected: Ok(&[]),
+        keys: &[],
         ..CASE
     },
     // the first column is
@@ -352,7 +357,7 @@ pub static CASES: &[Case] = &[
             ..PLAIN
         },
         second: &[b"x"],
-        expected: Ok(&[]),
+        keys: &[],
         ..CASE
     },
     // what is not left out is refused: not all columns are NULL
@@ -363,7 +368,8 @@ pub static CASES: &[Case] = &[
             ..PLAIN
         },
         first: &[b"a"],
-        expected: Err(DeriveFault::NullKeyDisallowed),
+        refused: Some(DeriveFault::NullKeyDisallowed),
+        keys: &[],
         ..CASE
     },
     // not the first is
@@ -374,14 +380,15 @@ pub static CASES: &[Case] = &[
             ..PLAIN
         },
         first: &[b"a"],
-        expected: Err(DeriveFault::NullKeyDisallowed),
+        refused: Some(DeriveFault::NullKeyDisallowed),
+        keys: &[],
         ..CASE
     },
     // a condition that is not met
     Case {
         conditions: &[(257, false)],
         first: &[b"a"],
-        expected: Ok(&[]),
+        keys: &[],
         ..CASE
     },
     // one that is met
@@ -389,7 +396,7 @@ pub static CASES: &[Case] = &[
         conditions: &[(257, false)],
         first: &[b"a"],
         second: &[b"x"],
-        expected: Ok(&[b"\x7fa\x7fx"]),
+        keys: &[b"\x7fa\x7fx"],
         ..CASE
     },
     // one that asks for NULL and is not met
@@ -397,14 +404,14 @@ pub static CASES: &[Case] = &[
         conditions: &[(256, false), (257, true)],
         first: &[b"a"],
         second: &[b"x"],
-        expected: Ok(&[]),
+        keys: &[],
         ..CASE
     },
     // one that asks for NULL and is met
     Case {
         conditions: &[(256, false), (257, true)],
         first: &[b"a"],
-        expected: Ok(&[b"\x7fa\0"]),
+        keys: &[b"\x7fa\0"],
         ..CASE
     },
     // a record that does not meet it is not refused
@@ -415,7 +422,7 @@ pub static CASES: &[Case] = &[
         },
         conditions: &[(257, false)],
         first: &[b"a"],
-        expected: Ok(&[]),
+        keys: &[],
         ..CASE
     },
     // nor for a key that would be cut
@@ -428,7 +435,7 @@ pub static CASES: &[Case] = &[
         columns: &[(256, false)],
         conditions: &[(257, false)],
         first: &[&LONG],
-        expected: Ok(&[]),
+        keys: &[],
         ..CASE
     },
     // a key is cut
@@ -436,7 +443,7 @@ pub static CASES: &[Case] = &[
         kind: ColType::LongBinary,
         columns: &[(256, false)],
         first: &[&LONG],
-        expected: Ok(&[CUT]),
+        keys: &[CUT],
         ..CASE
     },
     // or refused
@@ -448,7 +455,8 @@ pub static CASES: &[Case] = &[
         },
         columns: &[(256, false)],
         first: &[&LONG],
-        expected: Err(DeriveFault::KeyTruncated),
+        refused: Some(DeriveFault::KeyTruncated),
+        keys: &[],
         ..CASE
     },
     // a key that is just short enough is neither
@@ -460,7 +468,7 @@ pub static CASES: &[Case] = &[
         },
         columns: &[(256, false)],
         first: &[&[b'a'; 224]],
-        expected: Ok(&[WHOLE]),
+        keys: &[WHOLE],
         ..CASE
     },
     // the first 255 bytes of a value make its key
@@ -468,7 +476,7 @@ pub static CASES: &[Case] = &[
         kind: ColType::LongBinary,
         columns: &[(256, false)],
         first: &[&LONG, &[b'a'; 256], &[b'a'; 255]],
-        expected: Ok(&[CUT]),
+        keys: &[CUT],
         ..CASE
     },
     // a NULL is refused before a cut key
@@ -480,7 +488,8 @@ pub static CASES: &[Case] = &[
             ..PLAIN
         },
         first: &[&LONG],
-        expected: Err(DeriveFault::NullKeyDisallowed),
+        refused: Some(DeriveFault::NullKeyDisallowed),
+        keys: &[],
         ..CASE
     },
     // a cut key that is left out is not refused
@@ -492,7 +501,7 @@ pub static CASES: &[Case] = &[
             ..PLAIN
         },
         first: &[&LONG],
-        expected: Ok(&[]),
+        keys: &[],
         ..CASE
     },
     // each start of three bytes or more of a text
@@ -504,7 +513,7 @@ pub static CASES: &[Case] = &[
         },
         columns: &[(256, false)],
         first: &[b"abcd", b"ab"],
-        expected: Ok(&[b"\x7fABCD\0\0\0\0\x04", b"\x7fBCD\0\0\0\0\0\x03"]),
+        keys: &[b"\x7fABCD\0\0\0\0\x04", b"\x7fBCD\0\0\0\0\0\x03"],
         ..CASE
     },
     // NULL has no part, so none is refused
@@ -516,7 +525,7 @@ pub static CASES: &[Case] = &[
             ..PLAIN
         },
         columns: &[(256, false)],
-        expected: Ok(&[]),
+        keys: &[],
         ..CASE
     },
 ];
