@@ -56,9 +56,9 @@ fn a_first_checkpoint_has_these_bytes(rt: HostRuntime) -> Result<(), Fail> {
     let written = write(&mut volume, &mut image, START, &mut standing).is_ok();
     assert!(rt; written);
     let bytes: [u8; 61] = [
-        1, 0x4a, 0x45, 0x54, 0x43, 0x4b, 1, 0, 0, 0, 1, 0, 0, 0, 0, 0, 0, 0, 5, 0, 0, 0, 0, 0, 0, 0,
-        1, 0, 0, 0, 0, 0, 0, 0, 40, 0, 0, 0, 18, 0, 0, 0, 0, 0, 0, 0, 0, 0, 0, 0, 1, 0, 0, 0, 0, 2,
-        0, 0, 0, 9, 8,
+        1, 0x4a, 0x45, 0x54, 0x43, 0x4b, 1, 0, 0, 0, 1, 0, 0, 0, 0, 0, 0, 0, 5, 0, 0, 0, 0, 0, 0,
+        0, 1, 0, 0, 0, 0, 0, 0, 0, 40, 0, 0, 0, 18, 0, 0, 0, 0, 0, 0, 0, 0, 0, 0, 0, 1, 0, 0, 0, 0,
+        2, 0, 0, 0, 9, 8,
     ];
     assert_eq!(rt; volume.bytes(File::CheckpointA), bytes.as_slice());
     assert_eq!(rt; volume.bytes(File::Database).len(), 4096);
@@ -75,7 +75,11 @@ fn each_call_of_a_checkpoint_fails_as_told(rt: HostRuntime) -> Result<(), Fail> 
         let failed = write(&mut volume, &mut image, START, &mut standing).is_err();
         let told = (failed, standing.number, volume.faults());
         let fails = call <= 13;
-        assert_eq!(rt; told, (fails, u64::from(!fails), u64::from(fails)), "call {call}");
+        assert_eq!(rt;
+            told,
+            (fails, u64::from(!fails), u64::from(fails)),
+            "call {call}"
+        );
     }
     Ok(())
 }
