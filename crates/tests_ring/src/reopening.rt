@@ -11,11 +11,7 @@ use log_ring::{LogRing, scan, scans_once};
 use std::alloc::Global;
 
 /// Scans and seals a log that a crash left.
-pub fn open(
-    alloc: Global,
-    volume: &mut MemVolume,
-    from: LogStart,
-) -> Result<(LogRing, Vec<u8>), ()>
+pub fn open(alloc: Global, volume: &mut MemVolume, from: LogStart) -> Result<(LogRing, Vec<u8>), ()>
     requires first { 1 ≤ from.generation }
     requires generation { from.generation < 2 ^ 62 }
     requires position { from.position < 2 ^ 62 }
