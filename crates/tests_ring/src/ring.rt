@@ -43,7 +43,7 @@ fn of_log(alloc: Global, log: Vec<u8>) -> MemVolume {
     )
 }
 
-// Behind the first block, each call of an append fails or is the last, and each of some images of a crash.
+// Behind the first block an append, and each of some images of a crash.
 #[test]
 fn a_log_is_opened_again_after_each_crash(rt: HostRuntime) -> Result<(), Fail> {
     let alloc = rt.alloc();
@@ -54,6 +54,24 @@ fn a_log_is_opened_again_after_each_crash(rt: HostRuntime) -> Result<(), Fail> {
             .ok_or("not opened")?;
         assert!(rt; log.acknowledged);
         assert_eq!(rt; log.after.len(), 18);
+    }
+    Ok(())
+}
+
+// The calls 7 to 10 of the volume are those of the append: two writes, each with its sync.
+#[test]
+fn a_log_is_opened_again_after_each_stop(rt: HostRuntime) -> Result<(), Fail> {
+    let alloc = rt.alloc();
+    for stop in 7..=11u64 {
+        for pick in 0..6 {
+            let volume = of_log(alloc, LOG.to_vec(alloc)?).crash(0, Vec::new(alloc), Some(stop))?;
+            let log = reopen(alloc, volume, START, &ENTRY, pick)
+                .ok()
+                .ok_or("not opened")?;
+            assert_eq!(rt; log.acknowledged, stop == 11, "stop {stop}");
+            let len = log.after.len();
+            assert!(rt; len == 18 || (len == 9 && stop < 11), "stop {stop}");
+        }
     }
     Ok(())
 }
