@@ -1,0 +1,5 @@
+pub mod EntryNumbers
+pub mod EachRecord
+pub mod PrimaryKeys
+pub mod Touching
+pub mod Standing

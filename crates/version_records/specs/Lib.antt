@@ -1,0 +1,2 @@
+pub mod EachRecord
+pub mod Bookmarks
