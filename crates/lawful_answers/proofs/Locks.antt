@@ -137,7 +137,7 @@ all_clear transactions session table bookmark (l ∷ items) order lock =
       | false ↦ λ e f. ((λ mine. one_clear transactions session table bookmark l items f order.0 mine), all_clear transactions session table bookmark items order.1 f)
     ] refl lock
 
-none_meets : (test concurrent : PastChange → Bool) (items : List PastChange) → AllByRecursion (λ p. test p ≡ true → concurrent p ≡ false) items → list_any test (filter concurrent items) ≡ false
+pub none_meets : (test concurrent : PastChange → Bool) (items : List PastChange) → AllByRecursion (λ p. test p ≡ true → concurrent p ≡ false) items → list_any test (filter concurrent items) ≡ false
 none_meets test concurrent [] h = refl
 none_meets test concurrent (p ∷ items) h = elim (concurrent p) as (λ b. concurrent p ≡ b → list_any test (cond b (p ∷ filter concurrent items) (filter concurrent items)) ≡ false) [
   | true ↦ λ e. ap (λ b. b || list_any test (filter concurrent items)) (contradicted (test p) (λ t. sym e ∙ h.0 t)) ∙ none_meets test concurrent items h.1

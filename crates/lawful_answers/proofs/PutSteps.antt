@@ -15,16 +15,13 @@ use Rattle.database_state.specs.Puts.{is_cut_refusal, is_null_refusal, is_taken,
 use Rattle.database_state.specs.State.{DatabaseState}
 use Rattle.database_state.specs.Conflicts.{has_key_conflict, yields_key}
 use Rattle.record_changes.proofs.Tests.{and_both, contradicted, equal_bytes, impossible, or_first, or_second}
-use Rattle.version_keys.proofs.BookmarkKeys.{HasOneEntry}
+use Rattle.version_records.proofs.PrimaryKeys.{AreUnrefused}
 
 -- ---- lists
 
 pub parted : {X : Type 0} (P : X → Type 0) (xs ys : List X) → AllByRecursion P (xs ++ ys) → AllByRecursion P xs × AllByRecursion P ys
 parted P [] ys h = (tt, h)
 parted P (x ∷ xs) ys h = let rest = parted P xs ys h.1 in ((h.0, rest.0), rest.1)
-
-abbrev pub AreUnrefused : Refusals → Type 0
-AreUnrefused refusals = AllByRecursion (λ refusal. refusal.0 ≡ false) refusals
 
 pub no_first : (refusals : Refusals) → AreUnrefused refusals → is_none (first_refusal refusals) ≡ true
 no_first [] h = refl
@@ -99,19 +96,3 @@ free_rules state after session table schema rows bookmark own is values same (ru
         weaker true b f = refl
         weaker false b f = f
     other_ones (Some own) is key e = ap (λ (b : List ℕ). is_taken schema rows rule (Some b) key) (sym is) ∙ e
-
--- ---- a new record under its primary key
-
-pub primary_listed : HasOneEntry → (rule : IndexRule) (schema : Schema) (values : RecordFields) → is_legal rule schema ≡ true → rule.flags.primary ≡ true → is_null_refusal (entries rule schema values) ≡ false → is_cut_refusal (entries rule schema values) ≡ false
-    → list_any (bytes_eq (primary_key rule schema values)) (key_list rule schema values) ≡ true
-primary_listed one rule schema values legal primary whole uncut =
-    ap (λ found. list_any (bytes_eq (primary_key rule schema values)) (keys_or_none found)) (one rule schema values legal primary)
-    ∙ by (rule.flags.disallownull && list_any (λ column. not (has_value values column)) (key_columns rule)) (rule.flags.disallowtruncation && is_cut rule.key_most (whole_key rule schema (first_values rule values)))
-    (ap is_null_refusal (sym (one rule schema values legal primary)) ∙ whole) (ap is_cut_refusal (sym (one rule schema values legal primary)) ∙ uncut)
-  where
-    by : (a b : Bool) → is_null_refusal (elim a [ true ↦ Err NullKeyDisallowed | false ↦ elim b [ true ↦ Err KeyTruncated | false ↦ Ok (primary_key rule schema values ∷ []) ] ]) ≡ false
-        → is_cut_refusal (elim a [ true ↦ Err NullKeyDisallowed | false ↦ elim b [ true ↦ Err KeyTruncated | false ↦ Ok (primary_key rule schema values ∷ []) ] ]) ≡ false
-        → list_any (bytes_eq (primary_key rule schema values)) (keys_or_none (elim a [ true ↦ Err NullKeyDisallowed | false ↦ elim b [ true ↦ Err KeyTruncated | false ↦ Ok (primary_key rule schema values ∷ []) ] ])) ≡ true
-    by true b h k = impossible (sym h)
-    by false true h k = impossible (sym k)
-    by false false h k = ap (λ b. b || false) (equal_bytes (primary_key rule schema values) (primary_key rule schema values) refl)
