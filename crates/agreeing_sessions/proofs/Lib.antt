@@ -1,0 +1,4 @@
+pub mod Sessions
+pub mod Schemas
+pub mod Prepared
+pub mod OtherEntries
