@@ -99,8 +99,8 @@ pub others_live : (state : DatabaseState) (label : ℕ) (kind : EntryKind) (x : 
 others_live state label entry.Enter x other = from_path (live_session state x) (live_session (applied label entry.Enter (with_next_number state)) x) (insert_other (record { label = label; open_tables = []; transaction = None }) x state.sessions other)
 others_live state label entry.Leave x other =
     from_path (live_session state x) (live_session (applied label entry.Leave (with_next_number state)) x)
-    (found-left label x (map (λ s. if s.label == label then record s { transaction = None } else s) state.sessions)
-    ∙ ap (λ b. cond b None (labelled x (map (λ s. if s.label == label then record s { transaction = None } else s) state.sessions))) other
+    (found-left label x (all_undone label (with_next_number state)).sessions
+    ∙ ap (λ b. cond b None (labelled x (all_undone label (with_next_number state)).sessions)) other
     ∙ with_other label x (λ s. record s { transaction = None }) (λ s. refl) state.sessions other)
 others_live state label (entry.Open table) x other =
     from_path (live_session state x) (live_session (applied label (entry.Open table) (with_next_number state)) x) (with_other label x (λ s. record s { open_tables = with_one table.0 s.open_tables }) (λ s. refl) state.sessions other)
