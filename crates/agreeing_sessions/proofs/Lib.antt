@@ -1,8 +1,11 @@
 pub mod Counting
-pub mod Sessions
+pub mod LiveSessions
 pub mod Schemas
 pub mod Prepared
 pub mod OtherEntries
-pub mod Cursors
+pub mod OpenCursors
 pub mod Answering
 pub mod Moves
+pub mod OwnSessions
+pub mod Looking
+pub mod SchemaCalls

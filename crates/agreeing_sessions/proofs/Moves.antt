@@ -31,7 +31,7 @@ use Rattle.session_local.specs.Outcome.{Asked, current_refusals, entries_seen, r
 use Rattle.session_local.specs.RecordCalls.{cancel_update}
 use Rattle.agreeing_sessions.specs.InStep.{IsInStep, StaysInStep}
 use Rattle.agreeing_sessions.proofs.Answering.{at_found, past, when_begun}
-use Rattle.agreeing_sessions.proofs.Cursors.{moved_in_step, own_index, unprepared_in_step}
+use Rattle.agreeing_sessions.proofs.OpenCursors.{moved_in_step, own_index, unprepared_in_step}
 
 -- ---- a cursor keeps its table and its index
 

@@ -17,7 +17,7 @@ use Rattle.session_local.specs.Local.{LocalState, OpenCursor}
 use Rattle.agreeing_sessions.specs.InStep.{IsInStep}
 use Rattle.agreeing_sessions.proofs.Prepared.{AreStorable, all_anywhere, all_stay, same_locks, unlocked_outside}
 use Rattle.agreeing_sessions.proofs.Schemas.{HaveSchemas, definitions_stay, schemas_defined, schemas_kept}
-use Rattle.agreeing_sessions.proofs.Sessions.{others_live}
+use Rattle.agreeing_sessions.proofs.LiveSessions.{others_live}
 
 pub schemas_by_kind : (state : DatabaseState) (label session : ℕ) (local : LocalState) (kind : EntryKind) → is_lawful_kind state label kind ≡ true → Agrees state session local → HaveSchemas (applied label kind (with_next_number state)).tables local.cursors
 schemas_by_kind state label session local entry.Enter e agrees = agrees.schemas
