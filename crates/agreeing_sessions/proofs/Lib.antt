@@ -9,3 +9,5 @@ pub mod Moves
 pub mod OwnSessions
 pub mod Looking
 pub mod SchemaCalls
+pub mod OwnChanges
+pub mod ChangeCalls

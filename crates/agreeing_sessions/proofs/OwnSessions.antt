@@ -191,7 +191,7 @@ releases asked step = entry_keeps asked entry.Release refl refl step
     same = lowered_same asked.session (is_at_level (levels asked.state asked.session)) asked.state.past
 
 -- outside a transaction nothing depends on the state
-anywhere : (base : Records) (dropped kept : List PastChange) (asked : Asked) (after : DatabaseState) → IsHistory base dropped kept asked.state → is_outside asked ≡ true → IsInStep asked.state asked.session asked.local → AreStorable after asked.session asked.local.cursors
+pub anywhere : (base : Records) (dropped kept : List PastChange) (asked : Asked) (after : DatabaseState) → IsHistory base dropped kept asked.state → is_outside asked ≡ true → IsInStep asked.state asked.session asked.local → AreStorable after asked.session asked.local.cursors
 anywhere base dropped kept asked after h out step =
     all_anywhere asked.state after asked.session (unlocked_outside base dropped kept asked.state asked.session h (outside base dropped kept asked.state h asked.session out)) asked.local.cursors step.agrees.prepared
 

@@ -12,6 +12,8 @@ use Rattle.column_set.specs.RecordValues.{RecordFields, is_missing_a_value, reco
 use Rattle.index_derive.specs.declared.rules.IndexRule.{IndexRule}
 use Rattle.index_derive.specs.declared.rules.Schema.{Schema}
 use Rattle.index_derive.specs.Entries.{entries, is_legal, is_unique, key_list, primary_key}
+use Rattle.index_derive.specs.Steps.{entries_of_step}
+use Rattle.database_state.specs.Refusals.{Refusals}
 use Rattle.database_state.specs.Table.{Rows, Table, primary_rule, row_at, rows_of, rule_with_id, schema_of, table_with_id}
 use Rattle.database_state.specs.Puts.{is_cut_refusal, is_null_refusal, is_taken, null_refusals, put_refusals}
 use Rattle.database_state.specs.State.{DatabaseState, PastChange, transaction_of}
@@ -32,9 +34,9 @@ use Rattle.session_local.specs.declared.request.Request.TheVariants as call
 use Rattle.session_local.specs.Agreement.{Agrees, IsStorable, MayReplace, replaced_in}
 use Rattle.session_local.specs.Calls.{answer}
 use Rattle.session_local.specs.Local.{OpenCursor, PreparedFor, PreparedUpdate, cursor_labelled, inserting, replacing}
-use Rattle.session_local.specs.Outcome.{Asked, number_refusals, rows_seen, span_refusals}
+use Rattle.session_local.specs.Outcome.{Asked, number_refusals, rows_seen, span_refusals, step_of_change}
 use Rattle.session_local.specs.RecordCalls.{bookmark_for, copied_in, inserted_bookmark, is_other_key, is_primary_changed, number_of_change, on_prepared, put_of, replaced_by, update, update_with}
-use Rattle.lawful_answers.specs.LawfulSteps.{HasLawfulStep, IsReached, begin_of}
+use Rattle.lawful_answers.specs.LawfulSteps.{AreLawful, HasLawfulStep, IsReached, begin_of}
 use Rattle.lawful_answers.proofs.Alone.{key_conflict_after, view_after}
 use Rattle.lawful_answers.proofs.ChangeSteps.{IsAtTable, IsLawfulAtTable, after_tables, at_its_table, changes_lawful}
 use Rattle.lawful_answers.proofs.Locks.{locked_free}
@@ -127,12 +129,17 @@ free_of_conflict base dropped kept asked c (inserting copied) values reached may
 free_of_conflict base dropped kept asked c (replacing b) values reached may new =
     locked_free base dropped kept asked.state asked.session (put_of asked c (record { for = replacing b; values = values }) b) reached.history may.1
 
-update_lawful : HasOneEntry → KeysRise → (base : Records) (dropped kept : List PastChange) (asked : Asked) (label : ℕ) (c : OpenCursor) (for : PreparedFor) (values : RecordFields) → IsReached base dropped kept asked.state
+-- why an update is refused
+abbrev pub update_refusals : Asked → OpenCursor → PreparedFor → RecordFields → Refusals
+update_refusals asked c for values =
+    (is_missing_a_value c.schema.columns values, jet.NullInvalid) ∷ (is_primary_changed c.schema for values, jet.RecordPrimaryChanged) ∷ put_refusals asked.state asked.session c.cursor.table c.schema (rows_seen asked c) (replaced_by for) values ++ number_refusals asked ++ span_refusals asked (put_of asked c (record { for = for; values = values }) (bookmark_for asked c.schema for values))
+
+-- the entries of one that is not
+pub update_entries : HasOneEntry → KeysRise → (base : Records) (dropped kept : List PastChange) (asked : Asked) (label : ℕ) (c : OpenCursor) (for : PreparedFor) (values : RecordFields) → IsReached base dropped kept asked.state
     → Agrees asked.state asked.session asked.local → asked.local.begun ≡ true → cursor_labelled asked.local label ≡ Some c → IsStorable asked.state asked.session c (Some (record { for = for; values = values }))
-    → HasLawfulStep asked.state (update_with asked c (record { for = for; values = values }))
-update_lawful one rise base dropped kept asked label c for values reached agrees begun e storable =
-    past asked ((is_missing_a_value c.schema.columns values, jet.NullInvalid) ∷ (is_primary_changed c.schema for values, jet.RecordPrimaryChanged)
-    ∷ put_refusals asked.state asked.session c.cursor.table c.schema (rows_seen asked c) (replaced_by for) values ++ number_refusals asked ++ span_refusals asked put) _ (λ r.
+    → AreUnrefused (update_refusals asked c for values)
+    → AreLawful asked.state (entries_of_step (step_of_change asked (put_of asked c (record { for = for; values = values }) (bookmark_for asked c.schema for values))))
+update_entries one rise base dropped kept asked label c for values reached agrees begun e storable r =
     let first = parted (λ refusal. refusal.0 ≡ false) (put_refusals asked.state asked.session c.cursor.table c.schema (rows_seen asked c) (replaced_by for) values ++ number_refusals asked) (span_refusals asked put) r.1.1 in
     let second = parted (λ refusal. refusal.0 ≡ false) (put_refusals asked.state asked.session c.cursor.table c.schema (rows_seen asked c) (replaced_by for) values) (number_refusals asked) first.0 in
     let parts = parts_of_put asked.state asked.session c.cursor.table c.schema (rows_seen asked c) (replaced_by for) values second.0 in
@@ -141,7 +148,7 @@ update_lawful one rise base dropped kept asked label c for values reached agrees
     (λ inside. put_at asked c at asked.state refl bookmark copied values (fits asked.state (λ rule key. refl) (ap (λ b. asked.state.number + (if b then 2 else 1)) inside) r.0 r.1.0 parts.0 parts.1 new))
     (λ out. put_at asked c at begun_state (view_after base dropped kept asked.state asked.session reached.history live out) bookmark copied values
     (fits begun_state (key_conflict_after base dropped kept asked.state asked.session reached.history live out c.cursor.table c.schema)
-    (ap (λ b. asked.state.number + (if b then 2 else 1)) out ∙ two asked.state.number ∙ ap (λ n. n + 1) (sym (after_tables asked.state asked.session).1)) r.0 r.1.0 parts.0 parts.1 new)))
+    (ap (λ b. asked.state.number + (if b then 2 else 1)) out ∙ two asked.state.number ∙ ap (λ n. n + 1) (sym (after_tables asked.state asked.session).1)) r.0 r.1.0 parts.0 parts.1 new))
   where
     bookmark : List ℕ
     bookmark = bookmark_for asked c.schema for values
@@ -181,6 +188,12 @@ update_lawful one rise base dropped kept asked label c for values reached agrees
       where
         eight : (a b d e f g h i : Bool) → a ≡ true → b ≡ true → d ≡ true → e ≡ true → f ≡ true → g ≡ true → h ≡ true → i ≡ true → (a && b && d && e && f && g && h && i) ≡ true
         eight a b d e f g h i p q r s t u v w = and_both _ _ (and_both _ _ (and_both _ _ (and_both _ _ (and_both _ _ (and_both _ _ (and_both _ _ p q) r) s) t) u) v) w
+
+update_lawful : HasOneEntry → KeysRise → (base : Records) (dropped kept : List PastChange) (asked : Asked) (label : ℕ) (c : OpenCursor) (for : PreparedFor) (values : RecordFields) → IsReached base dropped kept asked.state
+    → Agrees asked.state asked.session asked.local → asked.local.begun ≡ true → cursor_labelled asked.local label ≡ Some c → IsStorable asked.state asked.session c (Some (record { for = for; values = values }))
+    → HasLawfulStep asked.state (update_with asked c (record { for = for; values = values }))
+update_lawful one rise base dropped kept asked label c for values reached agrees begun e storable =
+    past asked (update_refusals asked c for values) _ (λ r. update_entries one rise base dropped kept asked label c for values reached agrees begun e storable r)
 
 pub updates : HasOneEntry → KeysRise → (base : Records) (dropped kept : List PastChange) (asked : Asked) (cursor : CursorId) → IsReached base dropped kept asked.state → Agrees asked.state asked.session asked.local
     → HasLawfulStep asked.state (answer asked (call.Update cursor))
