@@ -1,20 +1,22 @@
 -- Entries of other sessions.
-use Rattle.std.proofs.Common.{◌≡◌, ℕ, true, false, List, Option, Some, None, refl, sym, ap, ◌∙◌}
+use Rattle.std.proofs.Common.{◌≡◌, ℕ, true, false, List, [], ◌∷◌, Option, Some, None, refl, sym, ap, ◌∙◌}
 use Rattle.std.specs.Prelude.{◌==◌, count_by, is_none, is_some}
+use Rattle.std.specs.List.{AllByRecursion}
 use Rattle.index_derive.specs.declared.log.Entry.{Entry}
 use Rattle.index_derive.specs.declared.log.EntryKind.{EntryKind}
 use Rattle.index_derive.specs.declared.log.EntryKind.TheVariants as entry
 use Rattle.database_state.specs.State.{DatabaseState, PastChange, Transaction, live_session, transaction_of}
-use Rattle.database_state.specs.Step.{applied, state_after}
+use Rattle.database_state.specs.Step.{applied, state_after, state_after_all}
 use Rattle.database_state.specs.Lawful.{has_number, is_lawful, is_lawful_kind}
 use Rattle.record_changes.specs.Records.{Records}
 use Rattle.record_changes.proofs.Tests.{and_left, and_right}
-use Rattle.version_history.specs.History.{IsHistory}
+use Rattle.version_history.specs.History.{HasHistory, IsHistory}
 use Rattle.version_history.specs.KeptSteps.{with_next_number}
+use Rattle.version_history.proofs.LawfulEntries.{keeps_some}
 use Rattle.version_history.proofs.OtherSessions.{stays_after, view_stays}
 use Rattle.session_local.specs.Agreement.{Agrees}
 use Rattle.session_local.specs.Local.{LocalState, OpenCursor}
-use Rattle.agreeing_sessions.specs.InStep.{IsInStep}
+use Rattle.lawful_answers.specs.LawfulSteps.{AreLawful}
 use Rattle.agreeing_sessions.proofs.Prepared.{AreStorable, all_anywhere, all_stay, same_locks, unlocked_outside}
 use Rattle.agreeing_sessions.proofs.Schemas.{HaveSchemas, definitions_stay, schemas_defined, schemas_kept}
 use Rattle.agreeing_sessions.proofs.LiveSessions.{others_live}
@@ -50,3 +52,11 @@ others_keep base dropped kept state session local made h lawful other agrees =
     by : (t : Option Transaction) → transaction_of state session ≡ t → AreStorable (state_after state made) session local.cursors
     by None e = all_anywhere state (state_after state made) session (unlocked_outside base dropped kept state session h e) local.cursors agrees.prepared
     by (Some t) e = all_stay state (state_after state made) session (view_stays state made session t e other lawful) (same_locks state (state_after state made) session (stays_after state made session other lawful).1) local.cursors agrees.prepared
+
+-- entries that are lawful each in its turn
+pub others_keep_all : (state : DatabaseState) (session : ℕ) (local : LocalState) (entries : List Entry) → HasHistory state → AreLawful state entries → AllByRecursion (λ made. (session == made.session.0) ≡ false) entries → Agrees state session local
+    → Agrees (state_after_all state entries) session local
+others_keep_all state session local [] h lawful other agrees = agrees
+others_keep_all state session local (made ∷ entries) h lawful other agrees =
+    others_keep_all (state_after state made) session local entries (keeps_some state made h lawful.0) lawful.1 other.1
+    (others_keep h.base h.dropped h.kept state session local made h.is_history lawful.0 other.0 agrees)

@@ -50,6 +50,17 @@ no_one : (o : Option LiveSession) → is_some o ≡ false → o ≡ None
 no_one None e = refl
 no_one (Some s) e = impossible (sym e)
 
+pub not_begun : (state : DatabaseState) (session : ℕ) → is_some (live_session state session) ≡ false → IsInStep state session no_session
+not_begun state session e = record {
+  agrees = record {
+    begun = sym e;
+    tables = λ id. sym (ap (λ (o : Option LiveSession). count_by (λ n. n == id) (open_tables_of o)) (no_one (live_session state session) e));
+    schemas = tt;
+    prepared = tt;
+  };
+  labels = refl;
+}
+
 begins : (asked : Asked) → IsInStep asked.state asked.session asked.local → StaysInStep asked (begin_session asked)
 unfolding state_after
 begins asked step = past asked step ((asked.local.begun, jet.SessionInUse) ∷ (nat_le 64 (length asked.state.sessions), jet.OutOfSessions) ∷ number_refusals asked) _ (λ r.
