@@ -32,7 +32,7 @@ use Rattle.agreeing_sessions.proofs.OwnChanges.{all_after, change_in_step, drops
 use Rattle.agreeing_sessions.proofs.Prepared.{AreStorable}
 
 -- the same state, as an entry or as its effect
-after_entry : (asked : Asked) (change : Change) → AreStorable (applied asked.session (entry.Change change) (with_next_number asked.state)) asked.session asked.local.cursors → AreStorable (state_after asked.state (entry_of asked (entry.Change change))) asked.session asked.local.cursors
+pub after_entry : (asked : Asked) (change : Change) → AreStorable (applied asked.session (entry.Change change) (with_next_number asked.state)) asked.session asked.local.cursors → AreStorable (state_after asked.state (entry_of asked (entry.Change change))) asked.session asked.local.cursors
 unfolding state_after
 after_entry asked change h = h
 

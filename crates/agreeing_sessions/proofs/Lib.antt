@@ -11,3 +11,4 @@ pub mod Looking
 pub mod SchemaCalls
 pub mod OwnChanges
 pub mod ChangeCalls
+pub mod Replacing

@@ -46,7 +46,7 @@ open_changes_more session past new own =
     ∙ map-append change_of (filter (is_open_change_of session) past) (filter (is_open_change_of session) (new ∷ []))
     ∙ ap (λ b. open_changes_of session past ++ map change_of (cond b (new ∷ []) [])) own
 
-view_changed : (state : DatabaseState) (session : ℕ) (change : Change) (t : Transaction) → transaction_of state session ≡ Some t → view (applied session (entry.Change change) (with_next_number state)) session ≡ tables_after (view state session) (without_copied change)
+pub view_changed : (state : DatabaseState) (session : ℕ) (change : Change) (t : Transaction) → transaction_of state session ≡ Some t → view (applied session (entry.Change change) (with_next_number state)) session ≡ tables_after (view state session) (without_copied change)
 unfolding view
 view_changed state session change t e =
     ap (view_in (applied session (entry.Change change) (with_next_number state)) session) e
@@ -65,7 +65,7 @@ locks_more state session change table bookmark h =
     left false b e = impossible e
 
 -- a record after a change of tables that have its table
-row_after : (tables : List Table) (change : Change) (table : ℕ) (bookmark : List ℕ) → is_some (table_with_id tables table) ≡ true → records_of (tables_after tables change) table bookmark ≡ records_after (records_of tables) change table bookmark
+pub row_after : (tables : List Table) (change : Change) (table : ℕ) (bookmark : List ℕ) → is_some (table_with_id tables table) ≡ true → records_of (tables_after tables change) table bookmark ≡ records_after (records_of tables) change table bookmark
 row_after tables change table bookmark there =
     elim (changed_table change == table) as (λ b. (changed_table change == table) ≡ b → records_of (tables_after tables change) table bookmark ≡ records_after (records_of tables) change table bookmark) [
       | true ↦ λ f. ap (λ (r : Records). r table bookmark) (projected tables change (ap (λ i. is_some (table_with_id tables i)) (same_number (changed_table change) table f) ∙ there))
@@ -77,7 +77,7 @@ row_after tables change table bookmark there =
     turned : (a b : ℕ) → (a == b) ≡ false → (b == a) ≡ false
     turned a b e = grind (arith, nat_tests)
 
-there_by_row : (o : Option Table) (bookmark : List ℕ) → IsSome (row_at (rows_of o) bookmark) → is_some o ≡ true
+pub there_by_row : (o : Option Table) (bookmark : List ℕ) → IsSome (row_at (rows_of o) bookmark) → is_some o ≡ true
 there_by_row None bookmark h = impossible h
 there_by_row (Some t) bookmark h = refl
 

@@ -1,5 +1,5 @@
 -- What every record has, as entries and cleans keep it.
-use Rattle.std.proofs.Common.{◌≡◌, ℕ, ◌+◌, ◌-◌, Bool, true, false, cond, List, [], ◌∷◌, ◌++◌, Option, Some, None, refl, sym, ap, subst, ◌∙◌}
+use Rattle.std.proofs.Common.{◌≡◌, ℕ, ◌+◌, ◌-◌, Bool, true, false, cond, List, [], ◌∷◌, Option, Some, None, refl, sym, ap, subst, ◌∙◌}
 use Rattle.std.specs.Prelude.{◌==◌, filter, fold, map, if◌then◌else◌, nat_lt, IfSome}
 use Rattle.std.specs.List.{AllByRecursion}
 use Rattle.column_set.specs.declared.changes.Change.{Change}
@@ -23,7 +23,7 @@ use Rattle.version_history.specs.Readers.{is_standing, sees, was_committed}
 use Rattle.version_history.proofs.Ending.{commit_before, commit_change, lower_before, lower_change}
 use Rattle.version_history.proofs.Entries.{history_later}
 use Rattle.version_history.proofs.Keeping.{some_map, undone_change}
-use Rattle.version_history.proofs.Lists.{all_append, all_both, all_map, all_weaker}
+use Rattle.version_history.proofs.Lists.{all_append, all_map, all_weaker}
 use Rattle.version_history.proofs.SeenRecords.{newest_records}
 use Rattle.version_history.proofs.Viewing.{view_records}
 use Rattle.version_keys.specs.Variants.{HasNoSums}

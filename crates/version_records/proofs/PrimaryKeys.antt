@@ -1,5 +1,5 @@
 -- The key of a record in the primary index.
-use Rattle.std.proofs.Common.{◌≡◌, Bool, true, false, not, ◌&&◌, ◌||◌, cond, List, [], ◌∷◌, Option, Some, None, Ok, Err, refl, sym, ap, subst, ◌∙◌, bytes_eq}
+use Rattle.std.proofs.Common.{◌≡◌, Bool, true, false, not, ◌&&◌, ◌||◌, cond, List, [], ◌∷◌, Some, None, Ok, Err, refl, sym, ap, subst, ◌∙◌, bytes_eq}
 use Rattle.std.specs.Prelude.{find, flat_map}
 use Rattle.std.specs.List.{AllByRecursion, list_any}
 use Rattle.jet_base.specs.declared.replies.Jet.TheVariants as jet

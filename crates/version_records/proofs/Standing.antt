@@ -1,7 +1,7 @@
 -- Every record stands under its bookmark, after each entry.
-use Rattle.std.proofs.Common.{◌≡◌, ℕ, ◌+◌, Bool, true, false, not, ◌&&◌, ◌||◌, List, [], ◌∷◌, ◌++◌, Option, Some, None, refl, sym, ap, subst, ◌∙◌, bytes_eq}
-use Rattle.std.specs.Prelude.{◌==◌, filter, find, is_none, is_some, option_map, map, unwrap_or, if◌then◌else◌, IfSome}
-use Rattle.std.specs.List.{AllByRecursion, list_all, list_any}
+use Rattle.std.proofs.Common.{◌≡◌, ℕ, ◌+◌, Bool, true, false, not, ◌&&◌, ◌||◌, List, [], ◌∷◌, Option, Some, None, refl, sym, ap, subst, ◌∙◌, bytes_eq}
+use Rattle.std.specs.Prelude.{◌==◌, is_none, is_some, option_map, unwrap_or, if◌then◌else◌, IfSome}
+use Rattle.std.specs.List.{AllByRecursion}
 use Rattle.jet_base.specs.ColumnType.{big_endian}
 use Rattle.column_set.specs.declared.changes.Change.{Change}
 use Rattle.column_set.specs.declared.changes.Change.TheVariants.{Put, Drop, Hold, Add}
@@ -14,19 +14,18 @@ use Rattle.index_derive.specs.declared.log.EntryKind.{EntryKind}
 use Rattle.index_derive.specs.declared.log.EntryKind.TheVariants as entry
 use Rattle.index_derive.specs.declared.schema_calls.SchemaStep.{SchemaStep}
 use Rattle.index_derive.specs.declared.schema_calls.SchemaStep.TheVariants as step
-use Rattle.index_derive.specs.Entries.{entries, is_legal, primary_key}
-use Rattle.database_state.specs.Refusals.{first_refusal}
-use Rattle.database_state.specs.Table.{Rows, Table, primary_rule, row_at, rule_with_id, schema_of, table_with_id}
+use Rattle.index_derive.specs.Entries.{entries, primary_key}
+use Rattle.database_state.specs.Table.{Rows, Table, primary_rule, row_at, schema_of, table_with_id}
 use Rattle.database_state.specs.Changes.{is_sum, without_copied}
 use Rattle.database_state.specs.Conflicts.{yields_key}
 use Rattle.database_state.specs.Puts.{is_cut_refusal, is_null_refusal, null_refusals}
-use Rattle.database_state.specs.SchemaChanges.{has_column, new_table, next_index_id, rule_columns, schema_refusal, tables_after_step, with_column, with_index, without_column, without_index}
+use Rattle.database_state.specs.SchemaChanges.{has_column, new_table, rule_columns, schema_refusal, tables_after_step, with_column, with_index, without_column, without_index}
 use Rattle.database_state.specs.State.{DatabaseState, PastChange, transaction_of}
 use Rattle.database_state.specs.View.{view}
 use Rattle.database_state.specs.Step.{applied, state_after}
-use Rattle.database_state.specs.Lawful.{has_next_numbers, has_number, is_bookmark_of, is_indexable, is_lawful, is_lawful_change, is_lawful_kind, is_lawful_put}
-use Rattle.record_changes.specs.Records.{Records, after_item, record_after, records_of}
-use Rattle.record_changes.proofs.Tests.{and_left, and_right, impossible, same_bytes, same_number}
+use Rattle.database_state.specs.Lawful.{has_number, is_bookmark_of, is_indexable, is_lawful, is_lawful_kind, is_lawful_put}
+use Rattle.record_changes.specs.Records.{Records, after_item, records_of}
+use Rattle.record_changes.proofs.Tests.{and_left, and_right, impossible, same_bytes}
 use Rattle.version_history.specs.History.{IsHistory, IsPlaced}
 use Rattle.version_history.specs.KeptSteps.{base_after, dropped_after, kept_after, new_change, with_next_number}
 use Rattle.version_history.specs.Readers.{is_standing}

@@ -1,5 +1,5 @@
 -- Every kept change touches a record.
-use Rattle.std.proofs.Common.{◌≡◌, ℕ, ◌+◌, Bool, true, false, ◌||◌, List, [], ◌∷◌, ◌++◌, Option, Some, None, refl, sym, ap, subst, ◌∙◌}
+use Rattle.std.proofs.Common.{◌≡◌, ℕ, ◌+◌, Bool, true, false, ◌||◌, List, [], ◌∷◌, Option, Some, None, refl, sym, ap, ◌∙◌}
 use Rattle.std.specs.Prelude.{is_some, map, nat_lt}
 use Rattle.std.specs.List.{AllByRecursion}
 use Rattle.column_set.specs.declared.changes.Change.{Change}
@@ -14,11 +14,10 @@ use Rattle.database_state.specs.View.{newest, view}
 use Rattle.database_state.specs.Conflicts.{has_write_conflict}
 use Rattle.database_state.specs.Step.{applied, every_change, is_at_level}
 use Rattle.database_state.specs.Lawful.{is_lawful_at, is_lawful_change, is_lawful_kind}
-use Rattle.record_changes.specs.Records.{Records, record_after, records_after_items, records_of}
+use Rattle.record_changes.specs.Records.{Records, record_after, records_of}
 use Rattle.record_changes.proofs.Tests.{and_left, and_right, impossible, not_true}
 use Rattle.version_history.specs.History.{IsHistory, IsPlaced}
 use Rattle.version_history.specs.KeptSteps.{base_after, committed_own, dropped_after, is_own_open, kept_after, lowered_own, new_change, undone_where, with_next_number}
-use Rattle.version_history.specs.Readers.{is_standing}
 use Rattle.version_history.proofs.EndEntries.{back}
 use Rattle.version_history.proofs.Entries.{history_later}
 use Rattle.version_history.proofs.Lists.{all_append, all_map, all_weaker}

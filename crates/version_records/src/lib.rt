@@ -6,6 +6,7 @@
 mod bookmarks;
 
 pub use bookmarks::{
-    a_clean_keeps_bookmarks, bookmarks_begin_with_those_of_tables, every_record_seen_has_its_bookmark,
-    lawful_entries_keep_bookmarks, numbers_of_later_entries_are_new,
+    a_clean_keeps_bookmarks, bookmarks_begin_with_those_of_tables,
+    every_record_seen_has_its_bookmark, lawful_entries_keep_bookmarks,
+    numbers_of_later_entries_are_new,
 };
