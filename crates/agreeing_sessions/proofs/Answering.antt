@@ -1,12 +1,12 @@
 -- Answers that were refused leave all as it was, and what follows where none is refused.
-use Rattle.std.proofs.Common.{◌≡◌, ℕ, Bool, true, false, Option, Some, None, refl, ap}
+use Rattle.std.proofs.Common.{◌≡◌, ℕ, true, false, Option, Some, None, refl}
 use Rattle.std.specs.Prelude.{is_none}
 use Rattle.std.specs.List.{AllByRecursion}
 use Rattle.jet_base.specs.declared.replies.Jet.{Jet}
 use Rattle.database_state.specs.Refusals.{Refusals, first_refusal}
 use Rattle.version_keys.proofs.SchemaKeys.{unrefused}
 use Rattle.session_local.specs.declared.request.Request.{Request}
-use Rattle.session_local.specs.Answer.{ShownValue, Nothing}
+use Rattle.session_local.specs.Answer.{ShownValue}
 use Rattle.session_local.specs.Calls.{answer, answer_begun, answer_not_begun}
 use Rattle.session_local.specs.Local.{OpenCursor, cursor_labelled}
 use Rattle.session_local.specs.Outcome.{Asked, Outcome, at_cursor, on_cursor, said, unless, unless_refused}

@@ -1,14 +1,13 @@
 -- The calls that change a record.
-use Rattle.std.proofs.Common.{◌≡◌, ℕ, Bool, true, false, List, ◌∷◌, ◌++◌, Option, Some, None, refl, sym, ap, subst, ◌∙◌}
+use Rattle.std.proofs.Common.{◌≡◌, ℕ, true, false, List, ◌++◌, Option, Some, None, refl, subst}
 use Rattle.std.specs.Prelude.{◌==◌, if◌then◌else◌}
-use Rattle.std.specs.List.{AllByRecursion}
 use Rattle.jet_base.specs.declared.ids.CursorId.{CursorId}
 use Rattle.column_set.specs.declared.changes.Change.{Change}
 use Rattle.column_set.specs.RecordValues.{RecordFields}
 use Rattle.index_derive.specs.declared.log.EntryKind.TheVariants as entry
 use Rattle.index_derive.specs.declared.log.Step.TheVariants.{Alone, One}
 use Rattle.index_derive.specs.Steps.{entries_of_step}
-use Rattle.database_state.specs.State.{DatabaseState, PastChange, Transaction, transaction_of}
+use Rattle.database_state.specs.State.{PastChange}
 use Rattle.database_state.specs.Step.{applied, state_after, state_after_all}
 use Rattle.database_state.specs.Lawful.{is_lawful}
 use Rattle.derived_index.proofs.Adding.{KeysRise}

@@ -1,11 +1,11 @@
 -- Entries of other sessions.
 use Rattle.std.proofs.Common.{◌≡◌, ℕ, true, false, List, [], ◌∷◌, Option, Some, None, refl, sym, ap, ◌∙◌}
-use Rattle.std.specs.Prelude.{◌==◌, count_by, is_none, is_some}
+use Rattle.std.specs.Prelude.{◌==◌, count_by}
 use Rattle.std.specs.List.{AllByRecursion}
 use Rattle.index_derive.specs.declared.log.Entry.{Entry}
 use Rattle.index_derive.specs.declared.log.EntryKind.{EntryKind}
 use Rattle.index_derive.specs.declared.log.EntryKind.TheVariants as entry
-use Rattle.database_state.specs.State.{DatabaseState, PastChange, Transaction, live_session, transaction_of}
+use Rattle.database_state.specs.State.{DatabaseState, PastChange, Transaction, transaction_of}
 use Rattle.database_state.specs.Step.{applied, state_after, state_after_all}
 use Rattle.database_state.specs.Lawful.{has_number, is_lawful, is_lawful_kind}
 use Rattle.record_changes.specs.Records.{Records}
@@ -15,7 +15,7 @@ use Rattle.version_history.specs.KeptSteps.{with_next_number}
 use Rattle.version_history.proofs.LawfulEntries.{keeps_some}
 use Rattle.version_history.proofs.OtherSessions.{stays_after, view_stays}
 use Rattle.session_local.specs.Agreement.{Agrees}
-use Rattle.session_local.specs.Local.{LocalState, OpenCursor}
+use Rattle.session_local.specs.Local.{LocalState}
 use Rattle.lawful_answers.specs.LawfulSteps.{AreLawful}
 use Rattle.agreeing_sessions.proofs.Prepared.{AreStorable, all_anywhere, all_stay, same_locks, unlocked_outside}
 use Rattle.agreeing_sessions.proofs.Schemas.{HaveSchemas, definitions_stay, schemas_defined, schemas_kept}

@@ -1,7 +1,7 @@
 -- A session's own changes of records: what it sees of the records that it has prepared to replace.
-use Rattle.std.proofs.Common.{◌≡◌, ℕ, ◌+◌, Bool, true, false, not, ◌&&◌, ◌||◌, cond, List, [], ◌∷◌, ◌++◌, Option, Some, None, refl, sym, ap, subst, ◌∙◌, arith, bytes_eq}
-use Rattle.std.specs.Prelude.{◌==◌, filter, is_none, is_some, map, nat_le, unwrap_or, if◌then◌else◌, IsSome, IsTrue}
-use Rattle.std.specs.List.{AllByRecursion, list_all, list_any}
+use Rattle.std.proofs.Common.{◌≡◌, ℕ, Bool, true, false, not, ◌&&◌, ◌||◌, cond, List, [], ◌∷◌, ◌++◌, Option, Some, None, refl, sym, ap, subst, ◌∙◌, arith, bytes_eq}
+use Rattle.std.specs.Prelude.{◌==◌, filter, is_some, map, if◌then◌else◌, IsSome, IsTrue}
+use Rattle.std.specs.List.{AllByRecursion, list_any}
 use Rattle.std.proofs.lemmas.Bool.Decides.{nat_tests}
 use Rattle.std.proofs.lemmas.List.{map-append}
 use Rattle.std.proofs.lemmas.List.Elements.{filter-append}
@@ -9,18 +9,18 @@ use Rattle.std.proofs.lemmas.List.Folds.{list_any-append}
 use Rattle.std.proofs.lemmas.List.Sums.{fold-append}
 use Rattle.jet_base.specs.declared.ids.TableId.{TableId}
 use Rattle.column_set.specs.declared.changes.Change.{Change}
-use Rattle.column_set.specs.declared.changes.Change.TheVariants.{Put, Drop, Hold, Add}
+use Rattle.column_set.specs.declared.changes.Change.TheVariants.{Put, Drop, Hold}
 use Rattle.column_set.specs.declared.columns.Column.{Column}
 use Rattle.column_set.specs.RecordValues.{RecordFields}
 use Rattle.index_derive.specs.declared.log.EntryKind.TheVariants as entry
 use Rattle.index_derive.specs.declared.log.Step.TheVariants.{Alone, One}
 use Rattle.index_derive.specs.Steps.{entries_of_step}
-use Rattle.database_state.specs.Table.{Table, row_at, rows_of, schema_of, table_with_id}
+use Rattle.database_state.specs.Table.{Table, row_at, rows_of, table_with_id}
 use Rattle.database_state.specs.Changes.{changed_bookmark, changed_table, escrow_bytes, rows_after, tables_after, tables_after_all, without_copied}
-use Rattle.database_state.specs.State.{DatabaseState, PastChange, Transaction, change_of, is_open_change_of, levels, levels_of, open_changes_of, transaction_of}
+use Rattle.database_state.specs.State.{DatabaseState, PastChange, Transaction, change_of, is_open_change_of, levels_of, open_changes_of, transaction_of}
 use Rattle.database_state.specs.View.{view, view_in}
 use Rattle.database_state.specs.Step.{applied, state_after, state_after_all}
-use Rattle.database_state.specs.Lawful.{has_number, is_lawful, is_lawful_at, is_lawful_change, is_lawful_kind, keeps_escrow}
+use Rattle.database_state.specs.Lawful.{has_number, is_lawful, is_lawful_at, is_lawful_change, keeps_escrow}
 use Rattle.record_changes.specs.Records.{Records, is_change_of, record_after, records_after, records_of}
 use Rattle.record_changes.proofs.Projecting.{projected}
 use Rattle.record_changes.proofs.Tests.{and_both, and_left, and_right, equal_bytes, impossible, same_bytes, same_number, self_equal}
@@ -31,11 +31,11 @@ use Rattle.version_keys.proofs.IndexNumbers.{none_of}
 use Rattle.version_keys.proofs.SchemaKeys.{other_table}
 use Rattle.version_keys.proofs.UniqueKept.{id_of}
 use Rattle.session_local.specs.Agreement.{HasSchemaOf, IsStorable, MayReplace, has_lock, is_lock_on, replaced_in}
-use Rattle.session_local.specs.Local.{OpenCursor, PreparedFor, PreparedUpdate, has_replace_of, inserting, is_replace_of, replacing}
+use Rattle.session_local.specs.Local.{OpenCursor, PreparedFor, PreparedUpdate, inserting, is_replace_of, replacing}
 use Rattle.session_local.specs.Outcome.{Asked, entry_of, is_outside, step_of_change}
 use Rattle.agreeing_sessions.specs.InStep.{IsInStep}
 use Rattle.agreeing_sessions.proofs.OwnSessions.{anywhere, entry_keeps}
-use Rattle.agreeing_sessions.proofs.Prepared.{AreStorable, locked_by_open}
+use Rattle.agreeing_sessions.proofs.Prepared.{AreStorable}
 use Rattle.agreeing_sessions.proofs.Schemas.{HaveSchemas}
 
 -- ---- the view after a change
@@ -187,10 +187,12 @@ put_allowed state session id bookmark copied values lawful c (Some p) has = by p
     by : (for : PreparedFor) → LeavesReplaced state session (Put id bookmark None values) c p for
     by (inserting was) = tt
     by (replacing b) = λ row e mine h.
-        let same_table : id.0 ≡ c.cursor.table = same_number id.0 c.cursor.table (and_left _ _ mine) in
-        (refl, same_sums c.schema.columns row values p.values
-        (sums b row e same_table (same_bytes bookmark b (and_right (id.0 == c.cursor.table) _ mine)) (table_with_id state.tables c.cursor.table) refl has
-        (ap (λ k. is_lawful_at state session (table_with_id state.tables k) (Put id bookmark copied values)) (sym same_table) ∙ lawful)) h.1)
+        let same_table : id.0 ≡ c.cursor.table = same_number id.0 c.cursor.table (and_left _ _ mine) in (
+          refl,
+          same_sums c.schema.columns row values p.values
+              (sums b row e same_table (same_bytes bookmark b (and_right (id.0 == c.cursor.table) _ mine)) (table_with_id state.tables c.cursor.table) refl has
+              (ap (λ k. is_lawful_at state session (table_with_id state.tables k) (Put id bookmark copied values)) (sym same_table) ∙ lawful)) h.1,
+        )
 
 pub puts_allowed : (state : DatabaseState) (session : ℕ) (id : TableId) (bookmark : List ℕ) (copied : Option (List ℕ)) (values : RecordFields) → is_lawful_at state session (table_with_id state.tables id.0) (Put id bookmark copied values) ≡ true
     → (cursors : List OpenCursor) → HaveSchemas state.tables cursors → AllByRecursion (λ c. AllowsChange state session (Put id bookmark None values) c c.prepared) cursors

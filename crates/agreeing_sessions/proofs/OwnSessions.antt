@@ -1,6 +1,6 @@
 -- A session's own entries that change no record: of sessions, transactions, schemas, and tables that are opened and closed.
-use Rattle.std.proofs.Common.{◌≡◌, ℕ, ◌+◌, ◌-◌, Bool, true, false, not, ◌&&◌, ◌||◌, cond, List, [], ◌∷◌, ◌++◌, Option, Some, None, refl, sym, ap, subst, ◌∙◌}
-use Rattle.std.specs.Prelude.{◌==◌, bytes_eq, count_by, filter, find, is_none, is_some, length, map, nat_le, nat_lt, option_map, if◌then◌else◌}
+use Rattle.std.proofs.Common.{◌≡◌, ℕ, ◌+◌, ◌-◌, Bool, true, false, not, ◌&&◌, cond, List, [], ◌∷◌, ◌++◌, Option, Some, None, refl, sym, ap, subst, ◌∙◌}
+use Rattle.std.specs.Prelude.{◌==◌, bytes_eq, count_by, filter, is_none, is_some, length, map, nat_le, nat_lt, option_map, if◌then◌else◌}
 use Rattle.std.specs.List.{AllByRecursion, list_any}
 use Rattle.jet_base.specs.declared.ids.CursorId.{CursorId}
 use Rattle.jet_base.specs.declared.replies.Jet.TheVariants as jet
@@ -25,11 +25,11 @@ use Rattle.version_keys.specs.TableOrder.{HasTablesInOrder}
 use Rattle.version_keys.proofs.OrderedTables.{found_each}
 use Rattle.version_records.proofs.PrimaryKeys.{found_passes, of_found}
 use Rattle.session_local.specs.declared.request.Request.TheVariants as call
-use Rattle.session_local.specs.Agreement.{Agrees, HasSchemaOf, IsStorable, SameCounts, cursor_table, open_tables_of}
+use Rattle.session_local.specs.Agreement.{HasSchemaOf, IsStorable, cursor_table, open_tables_of}
 use Rattle.session_local.specs.Answer.{Nothing}
 use Rattle.session_local.specs.Calls.{answer}
 use Rattle.session_local.specs.CursorCalls.{close_table, opened}
-use Rattle.session_local.specs.Local.{LocalState, OpenCursor, cursor_labelled, no_session, unprepared, with_new_cursor, without_cursor, without_prepared}
+use Rattle.session_local.specs.Local.{OpenCursor, cursor_labelled, no_session, unprepared, with_new_cursor, without_cursor, without_prepared}
 use Rattle.session_local.specs.Outcome.{Asked, done, entry_of, is_outside, number_refusals, one}
 use Rattle.session_local.specs.SchemaCalls.{schema_changed}
 use Rattle.session_local.specs.SessionCalls.{begin_session}
@@ -41,8 +41,8 @@ use Rattle.agreeing_sessions.proofs.Counting.{cancelled, counted, counted-last, 
 use Rattle.agreeing_sessions.proofs.OpenCursors.{counted-without, distinct_filtered, filtered_all, labels_with}
 use Rattle.agreeing_sessions.proofs.Moves.{primary_order_there}
 use Rattle.agreeing_sessions.proofs.Prepared.{AreStorable, all_anywhere, all_stay, same_locks, unlocked_outside}
-use Rattle.agreeing_sessions.proofs.Schemas.{HaveSchemas, definitions_stay, is_schema, schemas_defined, schemas_kept}
-use Rattle.agreeing_sessions.proofs.LiveSessions.{IsSameSession, insert_own, keeps_sessions, own_live, with_own}
+use Rattle.agreeing_sessions.proofs.Schemas.{definitions_stay, is_schema, schemas_defined, schemas_kept}
+use Rattle.agreeing_sessions.proofs.LiveSessions.{insert_own, keeps_sessions, own_live, with_own}
 
 -- ---- a session's begin and end
 

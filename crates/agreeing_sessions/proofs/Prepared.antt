@@ -1,9 +1,7 @@
 -- What is prepared on cursors, after an entry.
-use Rattle.std.proofs.Common.{◌≡◌, ℕ, Bool, true, false, ◌&&◌, ◌||◌, cond, List, [], ◌∷◌, Option, Some, None, refl, sym, ap, subst, ◌∙◌}
+use Rattle.std.proofs.Common.{◌≡◌, ℕ, true, false, ◌&&◌, ◌||◌, cond, List, [], ◌∷◌, Option, Some, None, refl, sym, ap, subst, ◌∙◌}
 use Rattle.std.specs.Prelude.{filter, map, IsSome, IsTrue}
 use Rattle.std.specs.List.{AllByRecursion, list_any}
-use Rattle.column_set.specs.declared.changes.Change.{Change}
-use Rattle.column_set.specs.RecordValues.{RecordFields}
 use Rattle.database_state.specs.Table.{Table, row_at, rows_of, table_with_id}
 use Rattle.database_state.specs.State.{DatabaseState, PastChange, change_of, is_open_change_of, open_changes_of, transaction_of}
 use Rattle.database_state.specs.View.{view}

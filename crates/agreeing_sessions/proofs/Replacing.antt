@@ -12,20 +12,20 @@ use Rattle.column_set.specs.RecordValues.{RecordFields, record_fits, record_size
 use Rattle.index_derive.specs.declared.log.EntryKind.TheVariants as entry
 use Rattle.index_derive.specs.declared.log.Step.TheVariants.{Alone, One}
 use Rattle.index_derive.specs.Steps.{entries_of_step}
-use Rattle.database_state.specs.Table.{Table, row_at, rows_of, table_with_id}
-use Rattle.database_state.specs.Changes.{escrow_bytes, tables_after}
+use Rattle.database_state.specs.Table.{Table, row_at, table_with_id}
+use Rattle.database_state.specs.Changes.{escrow_bytes}
 use Rattle.database_state.specs.State.{DatabaseState, PastChange, Transaction, is_open_change_of, levels_of, transaction_of}
 use Rattle.database_state.specs.View.{view}
 use Rattle.database_state.specs.Step.{applied, state_after, state_after_all}
 use Rattle.database_state.specs.Lawful.{keeps_escrow}
-use Rattle.record_changes.specs.Records.{Records, is_change_of, records_after, records_of}
+use Rattle.record_changes.specs.Records.{Records, is_change_of, records_of}
 use Rattle.record_changes.proofs.Tests.{and_both, equal_bytes, impossible, self_equal}
 use Rattle.version_history.specs.History.{IsHistory}
 use Rattle.version_history.specs.KeptSteps.{new_change, with_next_number}
 use Rattle.session_local.specs.declared.request.Request.TheVariants as call
 use Rattle.session_local.specs.Agreement.{IsStorable, has_lock, is_lock_on}
 use Rattle.session_local.specs.Calls.{answer}
-use Rattle.session_local.specs.Local.{OpenCursor, PreparedUpdate, cursor_labelled, replacing}
+use Rattle.session_local.specs.Local.{OpenCursor, cursor_labelled, replacing}
 use Rattle.session_local.specs.Outcome.{Asked, entry_of, is_outside, number_refusals, rows_seen, span_refusals, step_of_change}
 use Rattle.session_local.specs.RecordCalls.{bookmark_at, conflict_refusals, current, hold_at, own_refusals, prepare_replace, prepared_refusals, record_at, transaction_refusals, with_prepared}
 use Rattle.agreeing_sessions.specs.InStep.{IsInStep, MayBePrepared, StaysInStep}

@@ -1,11 +1,10 @@
 -- Schema calls, one by one.
-use Rattle.std.proofs.Common.{◌≡◌, ℕ, List}
+use Rattle.std.proofs.Common.{ℕ, List}
 use Rattle.jet_base.specs.declared.words.ColType.{ColType}
 use Rattle.jet_base.specs.declared.words.ColumnFlags.{ColumnFlags}
 use Rattle.index_derive.specs.declared.rules.IndexFlags.{IndexFlags}
 use Rattle.index_derive.specs.declared.schema_calls.NamedCondition.{NamedCondition}
 use Rattle.index_derive.specs.declared.schema_calls.NamedSegment.{NamedSegment}
-use Rattle.index_derive.specs.declared.schema_calls.SchemaStep.{SchemaStep}
 use Rattle.database_state.specs.SchemaSteps.{column_step, deleted_column_step, deleted_index_step, deleted_table_step, index_step, table_step}
 use Rattle.database_state.specs.State.{PastChange}
 use Rattle.record_changes.specs.Records.{Records}

@@ -1,29 +1,27 @@
 -- The bookmark of an insert is new: no record stands under it, and no concurrent change touches it.
-use Rattle.std.proofs.Common.{◌≡◌, ℕ, ◌+◌, ◌<◌, Bool, true, false, not, ◌&&◌, ◌||◌, cond, List, [], ◌∷◌, ◌++◌, Option, Some, None, refl, sym, ap, subst, ◌∙◌, arith, bytes_eq}
-use Rattle.std.specs.Prelude.{◌==◌, ◌^◌, filter, find, if◌then◌else◌, is_some, nat_le, IfSome}
+use Rattle.std.proofs.Common.{◌≡◌, ℕ, ◌+◌, ◌<◌, Bool, true, false, ◌&&◌, ◌||◌, cond, List, [], ◌∷◌, Option, Some, None, refl, sym, ap, subst, ◌∙◌, arith, bytes_eq}
+use Rattle.std.specs.Prelude.{◌==◌, ◌^◌, filter, if◌then◌else◌, is_some, nat_le, IfSome}
 use Rattle.std.specs.List.{AllByRecursion, list_any}
 use Rattle.std.proofs.lemmas.Bool.Decides.{nat_tests}
 use Rattle.jet_base.specs.ColumnType.{big_endian}
-use Rattle.column_set.specs.declared.changes.Change.{Change}
 use Rattle.column_set.specs.declared.changes.Change.TheVariants as change
 use Rattle.column_set.specs.RecordValues.{RecordFields}
 use Rattle.index_derive.specs.declared.rules.IndexRule.{IndexRule}
 use Rattle.index_derive.specs.declared.rules.Schema.{Schema}
 use Rattle.index_derive.specs.Entries.{entries, is_legal, is_unique, key_list, primary_key}
-use Rattle.database_state.specs.Table.{Rows, Table, primary_rule, row_at, rows_of, rule_with_id, schema_of, table_with_id}
+use Rattle.database_state.specs.Table.{Rows, Table, primary_rule, row_at, rule_with_id, schema_of, table_with_id}
 use Rattle.database_state.specs.Changes.{changed_bookmark, changed_table, is_sum}
 use Rattle.database_state.specs.Puts.{is_cut_refusal, is_null_refusal, is_taken, new_keys, null_refusals}
-use Rattle.database_state.specs.State.{DatabaseState, PastChange, transaction_of}
+use Rattle.database_state.specs.State.{PastChange, transaction_of}
 use Rattle.database_state.specs.View.{view}
 use Rattle.database_state.specs.Conflicts.{collide, has_key_conflict, has_write_conflict, is_concurrent, yields_key}
 use Rattle.database_state.specs.Lawful.{log_limit}
 use Rattle.derived_index.proofs.OtherRecords.{taken_primary}
 use Rattle.record_changes.specs.Records.{Records, records_of}
-use Rattle.record_changes.proofs.Tests.{and_both, and_left, and_right, contradicted, impossible, or_first, or_second, same_bytes, same_number}
+use Rattle.record_changes.proofs.Tests.{and_both, and_left, and_right, impossible, or_first, or_second, same_bytes, same_number}
 use Rattle.version_history.proofs.Concurrent.{key_conflict_kept, write_conflict_kept}
 use Rattle.version_history.proofs.EndEntries.{no_conflict}
 use Rattle.version_history.proofs.Lists.{all_both, all_weaker}
-use Rattle.version_keys.specs.Variants.{HasNoSums}
 use Rattle.version_keys.proofs.BookmarkKeys.{HasOneEntry}
 use Rattle.version_records.specs.Bookmarks.{StandsUnder, TouchesRecord, is_bookmark, is_entry_number}
 use Rattle.version_records.specs.EachRecord.{HasBoth}

@@ -1,20 +1,18 @@
 -- The step of an update.
-use Rattle.std.proofs.Common.{◌≡◌, ℕ, Bool, true, false, not, ◌&&◌, ◌||◌, cond, List, [], ◌∷◌, ◌++◌, Option, Some, None, Ok, Err, refl, sym, ap, ◌∙◌, bytes_eq}
+use Rattle.std.proofs.Common.{◌≡◌, ℕ, Bool, true, false, not, ◌&&◌, ◌||◌, cond, List, [], ◌∷◌, ◌++◌, Option, Some, None, refl, sym, ap, ◌∙◌, bytes_eq}
 use Rattle.std.specs.Prelude.{filter, flat_map, is_none}
 use Rattle.std.specs.List.{AllByRecursion, list_all, list_any}
 use Rattle.jet_base.specs.declared.replies.Jet.TheVariants as jet
-use Rattle.column_set.specs.RecordValues.{RecordFields, has_value}
-use Rattle.key_normal.specs.KeyBytes.{is_cut}
+use Rattle.column_set.specs.RecordValues.{RecordFields}
 use Rattle.index_derive.specs.declared.rules.IndexRule.{IndexRule}
 use Rattle.index_derive.specs.declared.rules.Schema.{Schema}
-use Rattle.index_derive.specs.Entries.{KeyTruncated, NullKeyDisallowed, entries, is_legal, is_unique, key_columns, key_list, keys_or_none, primary_key, whole_key}
-use Rattle.index_derive.specs.Primary.{first_values}
+use Rattle.index_derive.specs.Entries.{is_unique, key_list}
 use Rattle.database_state.specs.Refusals.{Refusals, first_refusal}
 use Rattle.database_state.specs.Table.{Rows, index_entries, row_at}
-use Rattle.database_state.specs.Puts.{is_cut_refusal, is_null_refusal, is_taken, key_refusals, new_keys, null_refusals, put_refusals, replaced_record}
+use Rattle.database_state.specs.Puts.{is_taken, key_refusals, new_keys, null_refusals, put_refusals, replaced_record}
 use Rattle.database_state.specs.State.{DatabaseState}
 use Rattle.database_state.specs.Conflicts.{has_key_conflict, yields_key}
-use Rattle.record_changes.proofs.Tests.{and_both, contradicted, equal_bytes, impossible, or_first, or_second}
+use Rattle.record_changes.proofs.Tests.{and_both, contradicted, or_first, or_second}
 use Rattle.version_records.proofs.PrimaryKeys.{AreUnrefused}
 
 -- ---- lists

@@ -1,5 +1,5 @@
 -- The states that lawful entries reach.
-use Rattle.std.proofs.Common.{◌≡◌, ℕ, ◌+◌, Bool, true, false, List, [], ◌∷◌, ◌++◌, refl, sym, ap, ◌∙◌}
+use Rattle.std.proofs.Common.{◌≡◌, ℕ, ◌+◌, true, false, List, [], ◌∷◌, ◌++◌, refl, ap, ◌∙◌}
 use Rattle.std.specs.Prelude.{map, if◌then◌else◌, IfSome}
 use Rattle.std.specs.List.{AllByRecursion}
 use Rattle.column_set.specs.declared.changes.Change.{Change}

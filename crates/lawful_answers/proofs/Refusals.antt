@@ -1,6 +1,6 @@
 -- What follows where nothing was refused.
-use Rattle.std.proofs.Common.{◌≡◌, ℕ, Bool, true, false, List, [], ◌∷◌, Some, None, refl, ap, subst}
-use Rattle.std.specs.Prelude.{find, if◌then◌else◌, is_none}
+use Rattle.std.proofs.Common.{◌≡◌, ℕ, true, false, Some, None, refl, ap}
+use Rattle.std.specs.Prelude.{is_none}
 use Rattle.std.specs.List.{AllByRecursion}
 use Rattle.database_state.specs.Refusals.{Refusals, first_refusal}
 use Rattle.version_keys.proofs.SchemaKeys.{unrefused}

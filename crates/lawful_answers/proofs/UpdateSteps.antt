@@ -1,7 +1,7 @@
 -- The step of an update is lawful.
-use Rattle.std.proofs.Common.{◌≡◌, ℕ, ◌+◌, ◌≤◌, Bool, true, false, not, ◌&&◌, ◌||◌, cond, List, [], ◌∷◌, ◌++◌, Option, Some, None, refl, sym, ap, subst, ◌∙◌, arith, bytes_eq}
-use Rattle.std.specs.Prelude.{◌==◌, filter, find, flat_map, if◌then◌else◌, is_some, nat_le, IfSome}
-use Rattle.std.specs.List.{AllByRecursion, list_any}
+use Rattle.std.proofs.Common.{◌≡◌, ℕ, ◌+◌, ◌≤◌, Bool, true, false, not, ◌&&◌, ◌||◌, List, ◌∷◌, ◌++◌, Option, Some, None, refl, sym, ap, subst, ◌∙◌, arith, bytes_eq}
+use Rattle.std.specs.Prelude.{◌==◌, filter, if◌then◌else◌, is_some, nat_le, IfSome}
+use Rattle.std.specs.List.{AllByRecursion}
 use Rattle.std.proofs.lemmas.Bool.Decides.{nat_tests}
 use Rattle.jet_base.specs.declared.ids.CursorId.{CursorId}
 use Rattle.jet_base.specs.declared.replies.Jet.TheVariants as jet
@@ -11,20 +11,19 @@ use Rattle.column_set.specs.declared.changes.Change.TheVariants as change
 use Rattle.column_set.specs.RecordValues.{RecordFields, is_missing_a_value, record_fits, record_size}
 use Rattle.index_derive.specs.declared.rules.IndexRule.{IndexRule}
 use Rattle.index_derive.specs.declared.rules.Schema.{Schema}
-use Rattle.index_derive.specs.Entries.{entries, is_legal, is_unique, key_list, primary_key}
+use Rattle.index_derive.specs.Entries.{is_legal, is_unique, primary_key}
 use Rattle.index_derive.specs.Steps.{entries_of_step}
 use Rattle.database_state.specs.Refusals.{Refusals}
 use Rattle.database_state.specs.Table.{Rows, Table, primary_rule, row_at, rows_of, rule_with_id, schema_of, table_with_id}
-use Rattle.database_state.specs.Puts.{is_cut_refusal, is_null_refusal, is_taken, null_refusals, put_refusals}
+use Rattle.database_state.specs.Puts.{null_refusals, put_refusals}
 use Rattle.database_state.specs.State.{DatabaseState, PastChange, transaction_of}
 use Rattle.database_state.specs.View.{view}
 use Rattle.database_state.specs.Conflicts.{has_key_conflict, has_write_conflict}
 use Rattle.database_state.specs.Step.{state_after}
 use Rattle.database_state.specs.Lawful.{has_free_keys, is_bookmark_of, is_copied_in, is_indexable, is_lawful_at, is_live, keeps_escrow}
 use Rattle.derived_index.proofs.Adding.{KeysRise}
-use Rattle.derived_index.proofs.OtherRecords.{taken_primary}
 use Rattle.record_changes.specs.Records.{Records}
-use Rattle.record_changes.proofs.Tests.{and_both, equal_bytes, impossible, or_first, or_second, same_bytes}
+use Rattle.record_changes.proofs.Tests.{and_both, equal_bytes, same_bytes}
 use Rattle.version_history.proofs.Lists.{all_weaker}
 use Rattle.version_keys.specs.UniqueKeys.{HasUniqueIndexes, IsSoundIndex, IsUniqueIndex}
 use Rattle.version_keys.proofs.BookmarkKeys.{HasOneEntry}

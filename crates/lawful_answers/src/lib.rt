@@ -15,7 +15,8 @@ pub use changes::{
 };
 pub use cursors::{the_step_of_a_close_is_lawful, the_step_of_an_open_is_lawful};
 pub use reached::{
-    a_clean_reaches_the_same_state, lawful_entries_reach_the_next_state, states_without_sessions_are_reached,
+    a_clean_reaches_the_same_state, lawful_entries_reach_the_next_state,
+    states_without_sessions_are_reached,
 };
 pub use schema::{
     steps_of_columns_are_lawful, steps_of_indexes_are_lawful, steps_of_tables_are_lawful,

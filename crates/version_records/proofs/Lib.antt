@@ -3,3 +3,4 @@ pub mod EachRecord
 pub mod PrimaryKeys
 pub mod Touching
 pub mod Standing
+pub mod Storing

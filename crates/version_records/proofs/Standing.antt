@@ -200,7 +200,7 @@ step_stands state label (step.DeleteIndex table index) free sound h id =
 
 -- ---- any entry
 
-plain_sum : (change : Change) → is_sum (without_copied change) ≡ false → is_sum change ≡ false
+pub plain_sum : (change : Change) → is_sum (without_copied change) ≡ false → is_sum change ≡ false
 plain_sum (Put table bookmark copied values) e = e
 plain_sum (Drop table bookmark) e = e
 plain_sum (Hold table bookmark) e = e

@@ -1,2 +1,3 @@
 pub mod EachRecord
 pub mod Bookmarks
+pub mod StoredRecords

@@ -1,16 +1,15 @@
 -- Records in the order of their bookmarks, as a map and as a walk has them.
-use Rattle.std.proofs.Common.{◌≡◌, ℕ, Bool, true, false, ◌&&◌, List, [], ◌∷◌, refl, sym, ap, subst, ◌∙◌}
+use Rattle.std.proofs.Common.{◌≡◌, ℕ, true, ◌&&◌, List, [], ◌∷◌, refl, sym, subst, ◌∙◌}
 use Rattle.std.specs.Prelude.{T}
-use Rattle.std.specs.List.{AllByRecursion, list_all}
+use Rattle.std.specs.List.{list_all}
 use Rattle.std.specs.declared.cmp.Ordering.{Ordering}
 use Rattle.std.specs.declared.cmp.Ordering.TheVariants.{Less, Equal, Greater}
 use Rattle.std.specs.Ordering.{is_lt, nat_cmp, ordering_then}
 use Rattle.std.specs.Cmp.Lexicographic.{slice_cmp}
 use Rattle.std.specs.FinMap.Entries.{below_all, is_sorted}
-use Rattle.column_set.specs.RecordValues.{RecordFields}
 use Rattle.cursor_nav.specs.Places.{are_sorted, pair_lt}
 use Rattle.index_derive.specs.Entries.{own_order}
-use Rattle.database_state.specs.Table.{Rows, Table}
+use Rattle.database_state.specs.Table.{Rows}
 use Rattle.database_state.specs.State.{DatabaseState}
 use Rattle.derived_index.proofs.PairOrder.{pair_lt-is}
 use Rattle.version_history.proofs.Lists.{all_weaker}
