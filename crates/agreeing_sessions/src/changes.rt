@@ -1,17 +1,19 @@
 //! Changes of records.
 
-ghost use Rattle.std.specs.Prelude.{◌≡◌, List, Some};
+ghost use Rattle.std.specs.Prelude.{List};
 ghost use Rattle.jet_base.specs.declared.ids.CursorId.{CursorId};
 ghost use Rattle.jet_base.specs.declared.words.Prepare.TheVariants as prepare;
 ghost use Rattle.database_state.specs.State.{PastChange};
 ghost use Rattle.record_changes.specs.Records.{Records};
 ghost use Rattle.version_history.specs.History.{IsHistory};
+ghost use Rattle.version_keys.specs.Variants.{HasNoSums};
+ghost use Rattle.version_records.specs.EachRecord.{EachRecordHas};
+ghost use Rattle.version_records.specs.StoredRecords.{IsStored};
 ghost use Rattle.session_local.specs.declared.request.Request.TheVariants as call;
 ghost use Rattle.session_local.specs.Calls.{answer};
-ghost use Rattle.session_local.specs.Local.{OpenCursor, cursor_labelled};
 ghost use Rattle.session_local.specs.Outcome.{Asked};
 ghost use Rattle.lawful_answers.specs.LawfulSteps.{IsReached};
-ghost use Rattle.agreeing_sessions.specs.InStep.{IsInStep, MayBePrepared, StaysInStep};
+ghost use Rattle.agreeing_sessions.specs.InStep.{IsInStep, StaysInStep};
 
 use index_derive::{a_primary_index_has_one_entry, entries_rise};
 
@@ -30,9 +32,9 @@ pub fn an_update_keeps_a_session_in_step()
     entries_rise();
 }
 
-/// A replace that is prepared is of a record of the view, which it locks; so it may be stored as it is, where that record is not too
-/// large and fits its columns.
+/// A replace that is prepared is of a record of the view, which it locks; so it may be stored as it is, where all records fit
+/// their row and their columns.
 pub fn a_replace_is_prepared_in_step()
-    ensures { (base : Records) (dropped kept : List PastChange) (asked : Asked) (cursor : CursorId) → IsHistory base dropped kept asked.state → IsInStep asked.state asked.session asked.local
-        → ((c : OpenCursor) → cursor_labelled asked.local cursor.0 ≡ Some c → MayBePrepared asked c) → StaysInStep asked (answer asked (call.PrepareUpdate cursor prepare.Replace)) }
+    ensures { (base : Records) (dropped kept : List PastChange) (asked : Asked) (cursor : CursorId) → IsHistory base dropped kept asked.state → HasNoSums kept → EachRecordHas IsStored base kept asked.state
+        → IsInStep asked.state asked.session asked.local → StaysInStep asked (answer asked (call.PrepareUpdate cursor prepare.Replace)) }
 {}
