@@ -13,7 +13,7 @@ use Rattle.index_derive.specs.declared.log.EntryKind.TheVariants as entry
 use Rattle.index_derive.specs.declared.log.Step.TheVariants.{Alone, One}
 use Rattle.index_derive.specs.declared.rules.Schema.{Schema}
 use Rattle.index_derive.specs.Steps.{entries_of_step}
-use Rattle.database_state.specs.Table.{Table, row_at, rows_of, schema_of, table_with_id}
+use Rattle.database_state.specs.Table.{Table, row_at, schema_of, table_with_id}
 use Rattle.database_state.specs.Changes.{escrow_bytes}
 use Rattle.database_state.specs.State.{DatabaseState, PastChange, Transaction, is_open_change_of, levels_of, transaction_of}
 use Rattle.database_state.specs.View.{view}

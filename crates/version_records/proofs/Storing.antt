@@ -1,10 +1,9 @@
 -- Every record fits its row and its columns, after each entry.
 use Rattle.std.proofs.Common.{◌≡◌, ℕ, ◌+◌, ◌≤◌, Bool, true, false, not, ◌&&◌, ◌||◌, cond, List, [], ◌∷◌, Option, Some, None, refl, sym, ap, subst, ◌∙◌, arith}
-use Rattle.std.specs.Prelude.{◌==◌, filter, is_none, is_some, length, map, nat_le, nat_lt, option_map, sum_by, unwrap_or, IfSome, IsTrue}
+use Rattle.std.specs.Prelude.{◌==◌, filter, is_none, is_some, length, nat_le, nat_lt, option_map, sum_by, unwrap_or, IfSome}
 use Rattle.std.specs.List.{list_all}
 use Rattle.std.proofs.lemmas.Bool.Decides.{nat_tests}
 use Rattle.std.proofs.lemmas.List.Filters.{sum_by-filter_both}
-use Rattle.column_set.specs.declared.changes.Change.{Change}
 use Rattle.column_set.specs.declared.columns.Column.{Column}
 use Rattle.column_set.specs.RecordValues.{RecordFields, column_of_id, has_value, is_kept_column, record_fits, record_size, remove_by_number, size_of_values, values_fit, with_values}
 use Rattle.index_derive.specs.declared.log.Entry.{Entry}
@@ -14,13 +13,13 @@ use Rattle.index_derive.specs.declared.schema_calls.SchemaStep.{SchemaStep}
 use Rattle.index_derive.specs.declared.schema_calls.SchemaStep.TheVariants as step
 use Rattle.database_state.specs.Table.{Table, row_at, schema_of, table_with_id}
 use Rattle.database_state.specs.Changes.{is_sum}
-use Rattle.database_state.specs.SchemaChanges.{columns_with, has_records, new_table, schema_refusal, tables_after_step, with_column, with_index, without_column, without_index}
+use Rattle.database_state.specs.SchemaChanges.{columns_with, new_table, schema_refusal, tables_after_step, with_column, with_index, without_column, without_index}
 use Rattle.database_state.specs.State.{DatabaseState, PastChange, transaction_of}
 use Rattle.database_state.specs.Step.{applied, state_after}
-use Rattle.database_state.specs.Lawful.{has_number, is_lawful, is_lawful_kind, is_lawful_put}
+use Rattle.database_state.specs.Lawful.{has_number, is_lawful, is_lawful_kind}
 use Rattle.database_state.proofs.Columns.{column_of_id-columns_with, list_all-columns_with}
 use Rattle.record_changes.specs.Records.{Records}
-use Rattle.record_changes.proofs.Tests.{and_both, and_left, and_right, and_second, impossible, not_true, or_first, or_second}
+use Rattle.record_changes.proofs.Tests.{and_both, and_left, and_right, and_second, impossible, not_true}
 use Rattle.version_history.specs.History.{IsHistory, IsPlaced}
 use Rattle.version_history.specs.KeptSteps.{base_after, dropped_after, kept_after, new_change, with_next_number}
 use Rattle.version_history.proofs.EndEntries.{back}
