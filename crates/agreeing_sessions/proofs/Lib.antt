@@ -12,3 +12,4 @@ pub mod SchemaCalls
 pub mod OwnChanges
 pub mod ChangeCalls
 pub mod Replacing
+pub mod AllSessions
