@@ -3,16 +3,16 @@
 ghost use Rattle.std.specs.Prelude.{◌≡◌, ◌==◌, ℕ, true, false, List, if◌then◌else◌};
 ghost use Rattle.std.specs.List.{AllByRecursion};
 ghost use Rattle.index_derive.specs.declared.log.Entry.{Entry};
+ghost use Rattle.index_derive.specs.Steps.{entries_of_step};
 ghost use Rattle.database_state.specs.State.{DatabaseState, PastChange};
 ghost use Rattle.database_state.specs.Step.{state_after, state_after_all};
 ghost use Rattle.database_state.specs.Lawful.{is_lawful};
 ghost use Rattle.record_changes.specs.Records.{Records};
 ghost use Rattle.version_history.specs.History.{HasHistory, IsHistory};
-ghost use Rattle.lawful_answers.specs.LawfulSteps.{AreLawful, HasLawfulStep};
-ghost use Rattle.index_derive.specs.Steps.{entries_of_step};
 ghost use Rattle.session_local.specs.Agreement.{Agrees};
 ghost use Rattle.session_local.specs.Local.{LocalState};
 ghost use Rattle.session_local.specs.Outcome.{Asked, Outcome};
+ghost use Rattle.lawful_answers.specs.LawfulSteps.{AreLawful, HasLawfulStep};
 ghost use Rattle.agreeing_sessions.specs.InStep.{IsInStep, StaysInStep};
 
 /// Whatever lawful entry another session makes, a session's own state goes on to agree with the database state. A schema step
