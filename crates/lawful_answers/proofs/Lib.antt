@@ -4,5 +4,7 @@ pub mod Alone
 pub mod ChangeSteps
 pub mod PutSteps
 pub mod Locks
+pub mod NewBookmarks
 pub mod UpdateSteps
 pub mod SchemaCallSteps
+pub mod ReachedStates

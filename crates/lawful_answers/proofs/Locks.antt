@@ -72,7 +72,7 @@ undone_apart session t p e = by p.status e
         none true = refl
         none false = refl
 
-is_own_lock : ℕ → ℕ → List ℕ → PastChange → Bool
+pub is_own_lock : ℕ → ℕ → List ℕ → PastChange → Bool
 is_own_lock session table bookmark item = is_open_change_of session item && is_lock_on table bookmark item.change
 
 open_status : (s : Status) → is_open s ≡ true → s ≡ uncommitted
@@ -137,7 +137,7 @@ all_clear transactions session table bookmark (l ∷ items) order lock =
       | false ↦ λ e f. ((λ mine. one_clear transactions session table bookmark l items f order.0 mine), all_clear transactions session table bookmark items order.1 f)
     ] refl lock
 
-none_meets : (test concurrent : PastChange → Bool) (items : List PastChange) → AllByRecursion (λ p. test p ≡ true → concurrent p ≡ false) items → list_any test (filter concurrent items) ≡ false
+pub none_meets : (test concurrent : PastChange → Bool) (items : List PastChange) → AllByRecursion (λ p. test p ≡ true → concurrent p ≡ false) items → list_any test (filter concurrent items) ≡ false
 none_meets test concurrent [] h = refl
 none_meets test concurrent (p ∷ items) h = elim (concurrent p) as (λ b. concurrent p ≡ b → list_any test (cond b (p ∷ filter concurrent items) (filter concurrent items)) ≡ false) [
   | true ↦ λ e. ap (λ b. b || list_any test (filter concurrent items)) (contradicted (test p) (λ t. sym e ∙ h.0 t)) ∙ none_meets test concurrent items h.1
@@ -145,7 +145,7 @@ none_meets test concurrent (p ∷ items) h = elim (concurrent p) as (λ b. concu
 ] refl
 
 -- the lock is among the kept changes
-lock_kept : (base : Records) (dropped kept : List PastChange) (state : DatabaseState) (session table : ℕ) (bookmark : List ℕ) → IsHistory base dropped kept state → has_lock state session table bookmark ≡ true → list_any (is_own_lock session table bookmark) kept ≡ true
+pub lock_kept : (base : Records) (dropped kept : List PastChange) (state : DatabaseState) (session table : ℕ) (bookmark : List ℕ) → IsHistory base dropped kept state → has_lock state session table bookmark ≡ true → list_any (is_own_lock session table bookmark) kept ≡ true
 unfolding is_own_lock
 lock_kept base dropped kept state session table bookmark h lock =
     sym (ap (λ b. b || list_any (is_own_lock session table bookmark) kept) (none dropped h.passed))

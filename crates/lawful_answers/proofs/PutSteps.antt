@@ -1,30 +1,25 @@
 -- The step of an update.
-use Rattle.std.proofs.Common.{◌≡◌, ℕ, Bool, true, false, not, ◌&&◌, ◌||◌, cond, List, [], ◌∷◌, ◌++◌, Option, Some, None, Ok, Err, refl, sym, ap, ◌∙◌, bytes_eq}
+use Rattle.std.proofs.Common.{◌≡◌, ℕ, Bool, true, false, not, ◌&&◌, ◌||◌, cond, List, [], ◌∷◌, ◌++◌, Option, Some, None, refl, sym, ap, ◌∙◌, bytes_eq}
 use Rattle.std.specs.Prelude.{filter, flat_map, is_none}
 use Rattle.std.specs.List.{AllByRecursion, list_all, list_any}
 use Rattle.jet_base.specs.declared.replies.Jet.TheVariants as jet
-use Rattle.column_set.specs.RecordValues.{RecordFields, has_value}
-use Rattle.key_normal.specs.KeyBytes.{is_cut}
+use Rattle.column_set.specs.RecordValues.{RecordFields}
 use Rattle.index_derive.specs.declared.rules.IndexRule.{IndexRule}
 use Rattle.index_derive.specs.declared.rules.Schema.{Schema}
-use Rattle.index_derive.specs.Entries.{KeyTruncated, NullKeyDisallowed, entries, is_legal, is_unique, key_columns, key_list, keys_or_none, primary_key, whole_key}
-use Rattle.index_derive.specs.Primary.{first_values}
+use Rattle.index_derive.specs.Entries.{is_unique, key_list}
 use Rattle.database_state.specs.Refusals.{Refusals, first_refusal}
 use Rattle.database_state.specs.Table.{Rows, index_entries, row_at}
-use Rattle.database_state.specs.Puts.{is_cut_refusal, is_null_refusal, is_taken, key_refusals, new_keys, null_refusals, put_refusals, replaced_record}
+use Rattle.database_state.specs.Puts.{is_taken, key_refusals, new_keys, null_refusals, put_refusals, replaced_record}
 use Rattle.database_state.specs.State.{DatabaseState}
 use Rattle.database_state.specs.Conflicts.{has_key_conflict, yields_key}
-use Rattle.record_changes.proofs.Tests.{and_both, contradicted, equal_bytes, impossible, or_first, or_second}
-use Rattle.version_keys.proofs.BookmarkKeys.{HasOneEntry}
+use Rattle.record_changes.proofs.Tests.{and_both, contradicted, or_first, or_second}
+use Rattle.version_records.proofs.PrimaryKeys.{AreUnrefused}
 
 -- ---- lists
 
 pub parted : {X : Type 0} (P : X → Type 0) (xs ys : List X) → AllByRecursion P (xs ++ ys) → AllByRecursion P xs × AllByRecursion P ys
 parted P [] ys h = (tt, h)
 parted P (x ∷ xs) ys h = let rest = parted P xs ys h.1 in ((h.0, rest.0), rest.1)
-
-abbrev pub AreUnrefused : Refusals → Type 0
-AreUnrefused refusals = AllByRecursion (λ refusal. refusal.0 ≡ false) refusals
 
 pub no_first : (refusals : Refusals) → AreUnrefused refusals → is_none (first_refusal refusals) ≡ true
 no_first [] h = refl
@@ -99,19 +94,3 @@ free_rules state after session table schema rows bookmark own is values same (ru
         weaker true b f = refl
         weaker false b f = f
     other_ones (Some own) is key e = ap (λ (b : List ℕ). is_taken schema rows rule (Some b) key) (sym is) ∙ e
-
--- ---- a new record under its primary key
-
-pub primary_listed : HasOneEntry → (rule : IndexRule) (schema : Schema) (values : RecordFields) → is_legal rule schema ≡ true → rule.flags.primary ≡ true → is_null_refusal (entries rule schema values) ≡ false → is_cut_refusal (entries rule schema values) ≡ false
-    → list_any (bytes_eq (primary_key rule schema values)) (key_list rule schema values) ≡ true
-primary_listed one rule schema values legal primary whole uncut =
-    ap (λ found. list_any (bytes_eq (primary_key rule schema values)) (keys_or_none found)) (one rule schema values legal primary)
-    ∙ by (rule.flags.disallownull && list_any (λ column. not (has_value values column)) (key_columns rule)) (rule.flags.disallowtruncation && is_cut rule.key_most (whole_key rule schema (first_values rule values)))
-    (ap is_null_refusal (sym (one rule schema values legal primary)) ∙ whole) (ap is_cut_refusal (sym (one rule schema values legal primary)) ∙ uncut)
-  where
-    by : (a b : Bool) → is_null_refusal (elim a [ true ↦ Err NullKeyDisallowed | false ↦ elim b [ true ↦ Err KeyTruncated | false ↦ Ok (primary_key rule schema values ∷ []) ] ]) ≡ false
-        → is_cut_refusal (elim a [ true ↦ Err NullKeyDisallowed | false ↦ elim b [ true ↦ Err KeyTruncated | false ↦ Ok (primary_key rule schema values ∷ []) ] ]) ≡ false
-        → list_any (bytes_eq (primary_key rule schema values)) (keys_or_none (elim a [ true ↦ Err NullKeyDisallowed | false ↦ elim b [ true ↦ Err KeyTruncated | false ↦ Ok (primary_key rule schema values ∷ []) ] ])) ≡ true
-    by true b h k = impossible (sym h)
-    by false true h k = impossible (sym k)
-    by false false h k = ap (λ b. b || false) (equal_bytes (primary_key rule schema values) (primary_key rule schema values) refl)

@@ -1,6 +1,6 @@
 -- What follows where nothing was refused.
-use Rattle.std.proofs.Common.{◌≡◌, ℕ, Bool, true, false, List, [], ◌∷◌, Some, None, refl, ap, subst}
-use Rattle.std.specs.Prelude.{find, if◌then◌else◌, is_none}
+use Rattle.std.proofs.Common.{◌≡◌, ℕ, true, false, Some, None, refl, ap}
+use Rattle.std.specs.Prelude.{is_none}
 use Rattle.std.specs.List.{AllByRecursion}
 use Rattle.database_state.specs.Refusals.{Refusals, first_refusal}
 use Rattle.version_keys.proofs.SchemaKeys.{unrefused}
@@ -29,17 +29,3 @@ pub when_begun : (asked : Asked) (request : Request) → (asked.local.begun ≡ 
 unfolding answer
 when_begun asked request f g =
     elim (asked.local.begun) as (λ b. asked.local.begun ≡ b → HasLawfulStep asked.state (elim b [ true ↦ answer_begun asked request | false ↦ answer_not_begun asked request ])) [ true ↦ f | false ↦ g ] refl
-
--- what holds of all cursors holds of the one that was found
-pub of_found : {X : Type 0} (P : X → Type 0) (test : X → Bool) (xs : List X) (x : X) → find test xs ≡ Some x → AllByRecursion P xs → P x
-of_found P test [] x e h = absurd (none x e)
-  where
-    none : {X : Type 0} (x : X) → None ≡ Some x → ⊥
-    none x e = cc
-of_found {X = X} P test (y ∷ xs) x e h = elim (test y) as (λ b. (if b then Some y else find test xs) ≡ Some x → P x) [
-  | true ↦ λ f. subst P (same y x f) h.0
-  | false ↦ λ f. of_found P test xs x f h.1
-] e
-  where
-    same : (a b : X) → Some a ≡ Some b → a ≡ b
-    same a b e = cc

@@ -25,7 +25,8 @@ use Rattle.session_local.specs.Calls.{answer}
 use Rattle.session_local.specs.Outcome.{Asked, done, number_refusals, one, unless, unless_refused}
 use Rattle.session_local.specs.SchemaCalls.{schema_changed}
 use Rattle.lawful_answers.specs.LawfulSteps.{HasLawfulStep}
-use Rattle.lawful_answers.proofs.Refusals.{of_found, past, when_begun}
+use Rattle.version_records.proofs.PrimaryKeys.{of_found}
+use Rattle.lawful_answers.proofs.Refusals.{past, when_begun}
 use Rattle.lawful_answers.proofs.SessionSteps.{below}
 
 schema_lawful : (asked : Asked) (made : SchemaStep) → Agrees asked.state asked.session asked.local → asked.local.begun ≡ true → has_next_numbers asked.state made ≡ true → HasLawfulStep asked.state (schema_changed asked made)

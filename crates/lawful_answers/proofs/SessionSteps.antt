@@ -153,7 +153,7 @@ some_counted p (x ∷ xs) e n = elim (p x) as (λ b. (b || list_any p xs) ≡ tr
     zero : (n : ℕ) → n ≡ n + 0
     zero n = omega arith
 
-same_members : (p : ℕ → Bool) (one other : List ℕ) → count_by p one ≡ count_by p other → list_any p one ≡ true → list_any p other ≡ true
+pub same_members : (p : ℕ → Bool) (one other : List ℕ) → count_by p one ≡ count_by p other → list_any p one ≡ true → list_any p other ≡ true
 same_members p one other e h = by (list_any p other) refl
   where
     by : (b : Bool) → list_any p other ≡ b → list_any p other ≡ true
@@ -163,7 +163,7 @@ same_members p one other e h = by (list_any p other) refl
         less : (n : ℕ) → 0 + 1 ≤ n → n ≡ 0 → ⊥
         less n le e = omega arith
 
-cursor_there : (label : ℕ) (cursors : List OpenCursor) (c : OpenCursor) → find (λ c. c.label == label) cursors ≡ Some c → list_any (λ n. n == c.cursor.table) (map cursor_table cursors) ≡ true
+pub cursor_there : (label : ℕ) (cursors : List OpenCursor) (c : OpenCursor) → find (λ c. c.label == label) cursors ≡ Some c → list_any (λ n. n == c.cursor.table) (map cursor_table cursors) ≡ true
 cursor_there label [] c e = absurd (none c e)
   where
     none : (c : OpenCursor) → None ≡ Some c → ⊥

@@ -1,7 +1,7 @@
 -- The step of an update is lawful.
-use Rattle.std.proofs.Common.{◌≡◌, ℕ, ◌+◌, ◌≤◌, Bool, true, false, not, ◌&&◌, ◌||◌, cond, List, [], ◌∷◌, ◌++◌, Option, Some, None, refl, sym, ap, subst, ◌∙◌, arith, bytes_eq}
-use Rattle.std.specs.Prelude.{◌==◌, filter, find, flat_map, if◌then◌else◌, is_some, nat_le, IfSome}
-use Rattle.std.specs.List.{AllByRecursion, list_any}
+use Rattle.std.proofs.Common.{◌≡◌, ℕ, ◌+◌, ◌≤◌, Bool, true, false, not, ◌&&◌, ◌||◌, List, ◌∷◌, ◌++◌, Option, Some, None, refl, sym, ap, subst, ◌∙◌, arith, bytes_eq}
+use Rattle.std.specs.Prelude.{◌==◌, filter, if◌then◌else◌, is_some, nat_le, IfSome}
+use Rattle.std.specs.List.{AllByRecursion}
 use Rattle.std.proofs.lemmas.Bool.Decides.{nat_tests}
 use Rattle.jet_base.specs.declared.ids.CursorId.{CursorId}
 use Rattle.jet_base.specs.declared.replies.Jet.TheVariants as jet
@@ -11,18 +11,19 @@ use Rattle.column_set.specs.declared.changes.Change.TheVariants as change
 use Rattle.column_set.specs.RecordValues.{RecordFields, is_missing_a_value, record_fits, record_size}
 use Rattle.index_derive.specs.declared.rules.IndexRule.{IndexRule}
 use Rattle.index_derive.specs.declared.rules.Schema.{Schema}
-use Rattle.index_derive.specs.Entries.{entries, is_legal, is_unique, key_list, primary_key}
+use Rattle.index_derive.specs.Entries.{is_legal, is_unique, primary_key}
+use Rattle.index_derive.specs.Steps.{entries_of_step}
+use Rattle.database_state.specs.Refusals.{Refusals}
 use Rattle.database_state.specs.Table.{Rows, Table, primary_rule, row_at, rows_of, rule_with_id, schema_of, table_with_id}
-use Rattle.database_state.specs.Puts.{is_cut_refusal, is_null_refusal, is_taken, null_refusals, put_refusals}
+use Rattle.database_state.specs.Puts.{null_refusals, put_refusals}
 use Rattle.database_state.specs.State.{DatabaseState, PastChange, transaction_of}
 use Rattle.database_state.specs.View.{view}
 use Rattle.database_state.specs.Conflicts.{has_key_conflict, has_write_conflict}
 use Rattle.database_state.specs.Step.{state_after}
 use Rattle.database_state.specs.Lawful.{has_free_keys, is_bookmark_of, is_copied_in, is_indexable, is_lawful_at, is_live, keeps_escrow}
 use Rattle.derived_index.proofs.Adding.{KeysRise}
-use Rattle.derived_index.proofs.OtherRecords.{taken_primary}
 use Rattle.record_changes.specs.Records.{Records}
-use Rattle.record_changes.proofs.Tests.{and_both, equal_bytes, impossible, or_first, or_second, same_bytes}
+use Rattle.record_changes.proofs.Tests.{and_both, equal_bytes, same_bytes}
 use Rattle.version_history.proofs.Lists.{all_weaker}
 use Rattle.version_keys.specs.UniqueKeys.{HasUniqueIndexes, IsSoundIndex, IsUniqueIndex}
 use Rattle.version_keys.proofs.BookmarkKeys.{HasOneEntry}
@@ -32,82 +33,16 @@ use Rattle.session_local.specs.declared.request.Request.TheVariants as call
 use Rattle.session_local.specs.Agreement.{Agrees, IsStorable, MayReplace, replaced_in}
 use Rattle.session_local.specs.Calls.{answer}
 use Rattle.session_local.specs.Local.{OpenCursor, PreparedFor, PreparedUpdate, cursor_labelled, inserting, replacing}
-use Rattle.session_local.specs.Outcome.{Asked, number_refusals, rows_seen, span_refusals}
+use Rattle.session_local.specs.Outcome.{Asked, number_refusals, rows_seen, span_refusals, step_of_change}
 use Rattle.session_local.specs.RecordCalls.{bookmark_for, copied_in, inserted_bookmark, is_other_key, is_primary_changed, number_of_change, on_prepared, put_of, replaced_by, update, update_with}
-use Rattle.lawful_answers.specs.LawfulSteps.{HasLawfulStep, IsNewFor, IsReached, begin_of}
+use Rattle.lawful_answers.specs.LawfulSteps.{AreLawful, HasLawfulStep, IsReached, begin_of}
 use Rattle.lawful_answers.proofs.Alone.{key_conflict_after, view_after}
 use Rattle.lawful_answers.proofs.ChangeSteps.{IsAtTable, IsLawfulAtTable, after_tables, at_its_table, changes_lawful}
 use Rattle.lawful_answers.proofs.Locks.{locked_free}
-use Rattle.lawful_answers.proofs.PutSteps.{AreUnrefused, IsFreeIn, IsOwn, free_rules, no_first, parted, parts_of_put, primary_listed}
-use Rattle.lawful_answers.proofs.Refusals.{at_found, of_found, past, when_begun}
-
--- ---- the record under a new bookmark
-
-each_null : (schema : Schema) (values : RecordFields) (rules : List IndexRule)
-    → AreUnrefused (flat_map (λ rule. (is_null_refusal (entries rule schema values), jet.NullKeyDisallowed) ∷ (is_cut_refusal (entries rule schema values), jet.KeyTruncated) ∷ []) rules)
-    → AllByRecursion (λ rule. (is_null_refusal (entries rule schema values) ≡ false) × (is_cut_refusal (entries rule schema values) ≡ false)) rules
-each_null schema values [] h = tt
-each_null schema values (rule ∷ rules) h = ((h.0, h.1.0), each_null schema values rules h.1.1)
-
-unfiltered : {X : Type 0} (P : X → Type 0) (p : X → Bool) (xs : List X) → AllByRecursion P (filter p xs) → AllByRecursion (λ x. p x ≡ true → P x) xs
-unfiltered P p [] h = tt
-unfiltered P p (x ∷ xs) h = elim (p x) as (λ b. AllByRecursion P (cond b (x ∷ filter p xs) (filter p xs)) → (b ≡ true → P x) × AllByRecursion (λ x. p x ≡ true → P x) xs) [
-  | true ↦ λ g. ((λ f. g.0), unfiltered P p xs g.1)
-  | false ↦ λ g. ((λ f. impossible f), unfiltered P p xs g)
-] h
-
-found_passes : (p : IndexRule → Bool) (rules : List IndexRule) (rule : IndexRule) → find p rules ≡ Some rule → p rule ≡ true
-found_passes p rules rule e = of_found (λ r. p r ≡ true → p r ≡ true) p rules rule e (all rules) (hit rules e)
-  where
-    all : (xs : List IndexRule) → AllByRecursion (λ r. p r ≡ true → p r ≡ true) xs
-    all [] = tt
-    all (x ∷ xs) = ((λ e. e), all xs)
-
-    same : (a b : IndexRule) → Some a ≡ Some b → a ≡ b
-    same a b e = cc
-
-    hit : (xs : List IndexRule) → find p xs ≡ Some rule → p rule ≡ true
-    hit [] e = absurd (none e)
-      where
-        none : None ≡ Some rule → ⊥
-        none e = cc
-    hit (x ∷ xs) e = elim (p x) as (λ b. p x ≡ b → cond b (Some x) (find p xs) ≡ Some rule → p rule ≡ true) [
-      | true ↦ λ f g. ap p (sym (same x rule g)) ∙ f
-      | false ↦ λ f g. hit xs g
-    ] refl e
-
-not_any : (p : List ℕ → Bool) (key : List ℕ) (keys : List (List ℕ)) → list_any (bytes_eq key) keys ≡ true → list_any p keys ≡ false → p key ≡ false
-not_any p key [] h k = impossible h
-not_any p key (x ∷ keys) h k = elim (bytes_eq key x) as (λ b. bytes_eq key x ≡ b → (b || list_any (bytes_eq key) keys) ≡ true → p key ≡ false) [
-  | true ↦ λ e g. ap p (same_bytes key x e) ∙ or_first (p x) _ k
-  | false ↦ λ e g. not_any p key keys g (or_second (p x) _ k)
-] refl h
-
-none_there : {X : Type 0} (o : Option X) → is_some o ≡ false → o ≡ None
-none_there None e = refl
-none_there (Some x) e = impossible (sym e)
-
-abbrev AreFound : Schema → Type 0
-AreFound schema = AllByRecursion (λ rule. (rule_with_id schema rule.id.0 ≡ Some rule) × (rule.flags.primary ≡ true → is_legal rule schema ≡ true)) schema.indexes
-
-new_row : HasOneEntry → (asked : Asked) (schema : Schema) (rows : Rows) (values : RecordFields) → AreFound schema → AreUnrefused (null_refusals schema values) → (table : ℕ)
-    → AllByRecursion (IsFreeIn asked.state asked.session table schema rows None values) (filter is_unique schema.indexes)
-    → (primary_rule schema ≡ None → row_at rows (big_endian 8 (number_of_change asked)) ≡ None) → row_at rows (inserted_bookmark asked schema (primary_rule schema) values) ≡ None
-new_row one asked schema rows values found whole table free hidden =
-    elim (primary_rule schema) as (λ o. primary_rule schema ≡ o → row_at rows (inserted_bookmark asked schema o values) ≡ None) [
-      | None ↦ λ e. hidden e
-      | Some rule ↦ λ e.
-          let is : (rule_with_id schema rule.id.0 ≡ Some rule) × (rule.flags.primary ≡ true → is_legal rule schema ≡ true) = of_found (λ rule. (rule_with_id schema rule.id.0 ≡ Some rule) × (rule.flags.primary ≡ true → is_legal rule schema ≡ true)) (λ r. r.flags.primary) schema.indexes rule e found in
-          let primary : rule.flags.primary ≡ true = found_passes (λ r. r.flags.primary) schema.indexes rule e in
-          let keys : (is_null_refusal (entries rule schema values) ≡ false) × (is_cut_refusal (entries rule schema values) ≡ false) =
-          of_found (λ rule. (is_null_refusal (entries rule schema values) ≡ false) × (is_cut_refusal (entries rule schema values) ≡ false)) (λ r. r.flags.primary) schema.indexes rule e (each_null schema values schema.indexes whole) in
-          let unique : is_unique rule ≡ true = ap (λ b. b || rule.flags.unique) primary in
-          let untaken : IsFreeIn asked.state asked.session table schema rows None values rule =
-          of_found (λ rule. is_unique rule ≡ true → IsFreeIn asked.state asked.session table schema rows None values rule) (λ r. r.flags.primary) schema.indexes rule e
-          (unfiltered (IsFreeIn asked.state asked.session table schema rows None values) is_unique schema.indexes free) unique in
-          none_there (row_at rows (primary_key rule schema values)) (sym (taken_primary schema rows rule (primary_key rule schema values) is.0 primary)
-          ∙ not_any (is_taken schema rows rule None) (primary_key rule schema values) (key_list rule schema values) (primary_listed one rule schema values (is.1 primary) primary keys.0 keys.1) untaken.1)
-    ] refl
+use Rattle.version_records.proofs.PrimaryKeys.{AreUnrefused, of_found}
+use Rattle.lawful_answers.proofs.NewBookmarks.{AreFound, IsNewFor, new_for, new_row}
+use Rattle.lawful_answers.proofs.PutSteps.{IsFreeIn, IsOwn, free_rules, no_first, parted, parts_of_put}
+use Rattle.lawful_answers.proofs.Refusals.{at_found, past, when_begun}
 
 -- ---- what the log asks of a put
 
@@ -175,38 +110,44 @@ sound_schema base dropped kept asked c reached at =
     (λ rule both. (both.0.0, λ primary. (both.0.2 primary).1)) at.table.indexes
     (subst (λ (o : Option Table). IfSome o (HasUniqueIndexes (transaction_of asked.state) base kept)) at.found (reached.unique.tables c.cursor.table))))
 
-escrow_is : HasOneEntry → (asked : Asked) (c : OpenCursor) (for : PreparedFor) (values : RecordFields) (prepared : PreparedUpdate) → AreFound c.schema → AreUnrefused (null_refusals c.schema values)
-    → AllByRecursion (IsFreeIn asked.state asked.session c.cursor.table c.schema (rows_seen asked c) (replaced_by for) values) (filter is_unique c.schema.indexes) → IsNewFor asked c prepared for
+escrow_is : HasOneEntry → (asked : Asked) (c : OpenCursor) (for : PreparedFor) (values : RecordFields) → AreFound c.schema → AreUnrefused (null_refusals c.schema values)
+    → AllByRecursion (IsFreeIn asked.state asked.session c.cursor.table c.schema (rows_seen asked c) (replaced_by for) values) (filter is_unique c.schema.indexes) → IsNewFor asked c for values
     → keeps_escrow c.schema.columns (replaced_in asked.state asked.session c for) values ≡ true → keeps_escrow c.schema.columns (row_at (rows_seen asked c) (bookmark_for asked c.schema for values)) values ≡ true
-escrow_is one asked c (inserting copied) values prepared found whole free new kept =
+escrow_is one asked c (inserting copied) values found whole free new kept =
     ap (λ o. keeps_escrow c.schema.columns o values) (new_row one asked c.schema (rows_seen asked c) values found whole c.cursor.table free new.1) ∙ kept
-escrow_is one asked c (replacing b) values prepared found whole free new kept = kept
+escrow_is one asked c (replacing b) values found whole free new kept = kept
 
 seen_is : (asked : Asked) (c : OpenCursor) (for : PreparedFor) → MayReplace asked.state asked.session c for → IsSeen (rows_seen asked c) for
 seen_is asked c (inserting copied) h = tt
 seen_is asked c (replacing b) h = h.0
 
 free_of_conflict : (base : Records) (dropped kept : List PastChange) (asked : Asked) (c : OpenCursor) (for : PreparedFor) (values : RecordFields) → IsReached base dropped kept asked.state → MayReplace asked.state asked.session c for
-    → IsNewFor asked c (record { for = for; values = values }) for
+    → IsNewFor asked c for values
     → has_write_conflict asked.state asked.session (put_of asked c (record { for = for; values = values }) (bookmark_for asked c.schema for values)) ≡ false
-free_of_conflict base dropped kept asked c (inserting copied) values reached may new = new.0
+free_of_conflict base dropped kept asked c (inserting copied) values reached may new = new.0 (copied_in (rows_seen asked c) (inserting copied))
 free_of_conflict base dropped kept asked c (replacing b) values reached may new =
     locked_free base dropped kept asked.state asked.session (put_of asked c (record { for = replacing b; values = values }) b) reached.history may.1
 
-update_lawful : HasOneEntry → KeysRise → (base : Records) (dropped kept : List PastChange) (asked : Asked) (label : ℕ) (c : OpenCursor) (for : PreparedFor) (values : RecordFields) → IsReached base dropped kept asked.state
-    → Agrees asked.state asked.session asked.local → asked.local.begun ≡ true → cursor_labelled asked.local label ≡ Some c → IsStorable asked.state asked.session c (Some (record { for = for; values = values })) → IsNewFor asked c (record { for = for; values = values }) for
-    → HasLawfulStep asked.state (update_with asked c (record { for = for; values = values }))
-update_lawful one rise base dropped kept asked label c for values reached agrees begun e storable new =
-    past asked ((is_missing_a_value c.schema.columns values, jet.NullInvalid) ∷ (is_primary_changed c.schema for values, jet.RecordPrimaryChanged)
-    ∷ put_refusals asked.state asked.session c.cursor.table c.schema (rows_seen asked c) (replaced_by for) values ++ number_refusals asked ++ span_refusals asked put) _ (λ r.
+-- why an update is refused
+abbrev pub update_refusals : Asked → OpenCursor → PreparedFor → RecordFields → Refusals
+update_refusals asked c for values =
+    (is_missing_a_value c.schema.columns values, jet.NullInvalid) ∷ (is_primary_changed c.schema for values, jet.RecordPrimaryChanged) ∷ put_refusals asked.state asked.session c.cursor.table c.schema (rows_seen asked c) (replaced_by for) values ++ number_refusals asked ++ span_refusals asked (put_of asked c (record { for = for; values = values }) (bookmark_for asked c.schema for values))
+
+-- the entries of one that is not
+pub update_entries : HasOneEntry → KeysRise → (base : Records) (dropped kept : List PastChange) (asked : Asked) (label : ℕ) (c : OpenCursor) (for : PreparedFor) (values : RecordFields) → IsReached base dropped kept asked.state
+    → Agrees asked.state asked.session asked.local → asked.local.begun ≡ true → cursor_labelled asked.local label ≡ Some c → IsStorable asked.state asked.session c (Some (record { for = for; values = values }))
+    → AreUnrefused (update_refusals asked c for values)
+    → AreLawful asked.state (entries_of_step (step_of_change asked (put_of asked c (record { for = for; values = values }) (bookmark_for asked c.schema for values))))
+update_entries one rise base dropped kept asked label c for values reached agrees begun e storable r =
     let first = parted (λ refusal. refusal.0 ≡ false) (put_refusals asked.state asked.session c.cursor.table c.schema (rows_seen asked c) (replaced_by for) values ++ number_refusals asked) (span_refusals asked put) r.1.1 in
     let second = parted (λ refusal. refusal.0 ≡ false) (put_refusals asked.state asked.session c.cursor.table c.schema (rows_seen asked c) (replaced_by for) values) (number_refusals asked) first.0 in
     let parts = parts_of_put asked.state asked.session c.cursor.table c.schema (rows_seen asked c) (replaced_by for) values second.0 in
+    let new = new_for one base dropped kept asked c for values reached at second.1.0 (sound_schema base dropped kept asked c reached at) parts.0 parts.1 in
     changes_lawful one rise base dropped kept asked put reached live second.1.0 refl (free_of_conflict base dropped kept asked c for values reached storable.3 new)
-    (λ inside. put_at asked c at asked.state refl bookmark copied values (fits asked.state (λ rule key. refl) (ap (λ b. asked.state.number + (if b then 2 else 1)) inside) r.0 r.1.0 parts.0 parts.1))
+    (λ inside. put_at asked c at asked.state refl bookmark copied values (fits asked.state (λ rule key. refl) (ap (λ b. asked.state.number + (if b then 2 else 1)) inside) r.0 r.1.0 parts.0 parts.1 new))
     (λ out. put_at asked c at begun_state (view_after base dropped kept asked.state asked.session reached.history live out) bookmark copied values
     (fits begun_state (key_conflict_after base dropped kept asked.state asked.session reached.history live out c.cursor.table c.schema)
-    (ap (λ b. asked.state.number + (if b then 2 else 1)) out ∙ two asked.state.number ∙ ap (λ n. n + 1) (sym (after_tables asked.state asked.session).1)) r.0 r.1.0 parts.0 parts.1)))
+    (ap (λ b. asked.state.number + (if b then 2 else 1)) out ∙ two asked.state.number ∙ ap (λ n. n + 1) (sym (after_tables asked.state asked.session).1)) r.0 r.1.0 parts.0 parts.1 new))
   where
     bookmark : List ℕ
     bookmark = bookmark_for asked c.schema for values
@@ -231,9 +172,9 @@ update_lawful one rise base dropped kept asked label c for values reached agrees
 
     fits : (as_seen : DatabaseState) → ((rule : IndexRule) (key : List ℕ) → has_key_conflict as_seen asked.session c.cursor.table c.schema rule key ≡ has_key_conflict asked.state asked.session c.cursor.table c.schema rule key)
         → number_of_change asked ≡ as_seen.number + 1 → is_missing_a_value c.schema.columns values ≡ false → is_primary_changed c.schema for values ≡ false → AreUnrefused (null_refusals c.schema values)
-        → AllByRecursion (IsFreeIn asked.state asked.session c.cursor.table c.schema (rows_seen asked c) (replaced_by for) values) (filter is_unique c.schema.indexes)
+        → AllByRecursion (IsFreeIn asked.state asked.session c.cursor.table c.schema (rows_seen asked c) (replaced_by for) values) (filter is_unique c.schema.indexes) → IsNewFor asked c for values
         → is_storable_put as_seen asked.session c.cursor.table c.schema (rows_seen asked c) (bookmark_for asked c.schema for values) (copied_in (rows_seen asked c) for) values ≡ true
-    fits as_seen same n missing kept_key whole free =
+    fits as_seen same n missing kept_key whole free new =
         eight (record_fits c.schema.columns values) (not (is_missing_a_value c.schema.columns values)) (nat_le (record_size values) 1700) (is_indexable c.schema values)
         (has_free_keys as_seen asked.session c.cursor.table c.schema (rows_seen asked c) (bookmark_for asked c.schema for values) values)
         (is_bookmark_of (as_seen.number + 1) c.schema (rows_seen asked c) (primary_rule c.schema) (bookmark_for asked c.schema for values) values)
@@ -241,20 +182,25 @@ update_lawful one rise base dropped kept asked label c for values reached agrees
         storable.1 (ap not missing) (short (record_size values) 1700 storable.0) (no_first (null_refusals c.schema values) whole)
         (free_rules asked.state as_seen asked.session c.cursor.table c.schema (rows_seen asked c) (bookmark_for asked c.schema for values) (replaced_by for) (own_of asked c.schema for values) values same (filter is_unique c.schema.indexes) free)
         (bookmark_is asked c.schema (rows_seen asked c) for values (as_seen.number + 1) n kept_key (seen_is asked c for storable.3))
-        (escrow_is one asked c for values (record { for = for; values = values }) (sound_schema base dropped kept asked c reached at) whole free new storable.2)
+        (escrow_is one asked c for values (sound_schema base dropped kept asked c reached at) whole free new storable.2)
         (copied_is (rows_seen asked c) for)
       where
         eight : (a b d e f g h i : Bool) → a ≡ true → b ≡ true → d ≡ true → e ≡ true → f ≡ true → g ≡ true → h ≡ true → i ≡ true → (a && b && d && e && f && g && h && i) ≡ true
         eight a b d e f g h i p q r s t u v w = and_both _ _ (and_both _ _ (and_both _ _ (and_both _ _ (and_both _ _ (and_both _ _ (and_both _ _ p q) r) s) t) u) v) w
 
+update_lawful : HasOneEntry → KeysRise → (base : Records) (dropped kept : List PastChange) (asked : Asked) (label : ℕ) (c : OpenCursor) (for : PreparedFor) (values : RecordFields) → IsReached base dropped kept asked.state
+    → Agrees asked.state asked.session asked.local → asked.local.begun ≡ true → cursor_labelled asked.local label ≡ Some c → IsStorable asked.state asked.session c (Some (record { for = for; values = values }))
+    → HasLawfulStep asked.state (update_with asked c (record { for = for; values = values }))
+update_lawful one rise base dropped kept asked label c for values reached agrees begun e storable =
+    past asked (update_refusals asked c for values) _ (λ r. update_entries one rise base dropped kept asked label c for values reached agrees begun e storable r)
+
 pub updates : HasOneEntry → KeysRise → (base : Records) (dropped kept : List PastChange) (asked : Asked) (cursor : CursorId) → IsReached base dropped kept asked.state → Agrees asked.state asked.session asked.local
-    → ((c : OpenCursor) (prepared : PreparedUpdate) → cursor_labelled asked.local cursor.0 ≡ Some c → c.prepared ≡ Some prepared → IsNewFor asked c prepared prepared.for) → HasLawfulStep asked.state (answer asked (call.Update cursor))
-updates one rise base dropped kept asked cursor reached agrees new = when_begun asked (call.Update cursor)
+    → HasLawfulStep asked.state (answer asked (call.Update cursor))
+updates one rise base dropped kept asked cursor reached agrees = when_begun asked (call.Update cursor)
     (λ begun. at_found asked cursor.0 (update asked) (λ c e.
     elim (c.prepared) as (λ o. c.prepared ≡ o → HasLawfulStep asked.state (on_prepared asked o (update_with asked c))) [
       | None ↦ λ f. tt
       | Some prepared ↦ λ f. update_lawful one rise base dropped kept asked cursor.0 c prepared.for prepared.values reached agrees begun e
           (subst (λ (o : Option PreparedUpdate). IsStorable asked.state asked.session c o) f (of_found (λ c. IsStorable asked.state asked.session c c.prepared) (λ c. c.label == cursor.0) asked.local.cursors c e agrees.prepared))
-          (new c prepared e f)
     ] refl))
     (λ e. tt)

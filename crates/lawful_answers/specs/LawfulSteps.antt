@@ -1,12 +1,11 @@
 -- Steps of which each entry may come in its turn, and the states in which calls are answered.
-use Rattle.std.specs.Prelude.{◌≡◌, ℕ, true, false, None, List, [], ◌∷◌}
-use Rattle.jet_base.specs.ColumnType.{big_endian}
+use Rattle.std.specs.Prelude.{◌≡◌, ℕ, Bool, true, false, List, [], ◌∷◌}
 use Rattle.index_derive.specs.declared.log.Entry.{Entry}
+use Rattle.index_derive.specs.declared.log.EntryKind.{EntryKind}
 use Rattle.index_derive.specs.declared.log.EntryKind.TheVariants as entry
 use Rattle.index_derive.specs.Steps.{entries_of_step}
-use Rattle.database_state.specs.Table.{primary_rule, row_at}
+use Rattle.database_state.specs.Changes.{is_sum}
 use Rattle.database_state.specs.State.{DatabaseState, PastChange}
-use Rattle.database_state.specs.Conflicts.{has_write_conflict}
 use Rattle.database_state.specs.Step.{state_after}
 use Rattle.database_state.specs.Lawful.{is_lawful}
 use Rattle.record_changes.specs.Records.{Records}
@@ -14,9 +13,8 @@ use Rattle.version_history.specs.History.{IsHistory}
 use Rattle.version_keys.specs.TableOrder.{HasTablesInOrder}
 use Rattle.version_keys.specs.UniqueKeys.{HasUniqueKeys}
 use Rattle.version_keys.specs.Variants.{HasNoSums}
-use Rattle.session_local.specs.Local.{OpenCursor, PreparedFor, PreparedUpdate, inserting, replacing}
-use Rattle.session_local.specs.Outcome.{Asked, Outcome, rows_seen}
-use Rattle.session_local.specs.RecordCalls.{bookmark_for, number_of_change, put_of}
+use Rattle.version_records.specs.Bookmarks.{HasBookmarks}
+use Rattle.session_local.specs.Outcome.{Outcome}
 
 -- each entry may come after those before it
 abbrev pub AreLawful : DatabaseState → List Entry → Type 0
@@ -31,18 +29,23 @@ HasLawfulStep state outcome = AreLawful state (entries_of_step outcome.step)
 abbrev pub begin_of : ℕ → Entry
 begin_of session = record { session = record { 0 = session }; kind = entry.Begin }
 
--- What holds of every state that lawful entries reach from tables that are in order and unique, where no escrow column was
--- changed.
+-- What holds of every state that lawful entries reach from tables that are in order and unique and whose records have their
+-- bookmarks, where no escrow column was changed.
 pub record IsReached (base : Records) (dropped kept : List PastChange) (state : DatabaseState) : Type 0 where
   pub history : IsHistory base dropped kept state
   pub no_sums : HasNoSums kept
   pub unique : HasUniqueKeys base kept state
   pub order : HasTablesInOrder state
+  pub bookmarks : HasBookmarks base kept state
 
--- What an insert must find under its new bookmark: no concurrent change, and where the bookmark is the number of its entry, no
--- record. Of a replace nothing more is asked.
-abbrev pub IsNewFor : Asked → OpenCursor → PreparedUpdate → PreparedFor → Type 0
-IsNewFor asked c prepared (inserting copied) =
-    (has_write_conflict asked.state asked.session (put_of asked c prepared (bookmark_for asked c.schema prepared.for prepared.values)) ≡ false)
-    × (primary_rule c.schema ≡ None → row_at (rows_seen asked c) (big_endian 8 (number_of_change asked)) ≡ None)
-IsNewFor asked c prepared (replacing bookmark) = Unit {0}
+-- a state that is reached, with whichever history
+pub record IsReachedState (state : DatabaseState) : Type 0 where
+  pub base : Records
+  pub dropped : List PastChange
+  pub kept : List PastChange
+  pub is_reached : IsReached base dropped kept state
+
+-- whether an entry changes an escrow column
+abbrev pub is_sum_entry : EntryKind → Bool
+is_sum_entry (entry.Change change) = is_sum change
+is_sum_entry _ = false

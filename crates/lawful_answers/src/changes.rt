@@ -20,9 +20,8 @@ ghost use Rattle.version_history.specs.History.{IsHistory};
 ghost use Rattle.session_local.specs.declared.request.Request.TheVariants as call;
 ghost use Rattle.session_local.specs.Agreement.{Agrees, has_lock};
 ghost use Rattle.session_local.specs.Calls.{answer};
-ghost use Rattle.session_local.specs.Local.{OpenCursor, PreparedUpdate, cursor_labelled};
 ghost use Rattle.session_local.specs.Outcome.{Asked};
-ghost use Rattle.lawful_answers.specs.LawfulSteps.{AreLawful, HasLawfulStep, IsNewFor, IsReached, begin_of};
+ghost use Rattle.lawful_answers.specs.LawfulSteps.{AreLawful, HasLawfulStep, IsReached, begin_of};
 
 use index_derive::{a_primary_index_has_one_entry, entries_rise};
 
@@ -81,11 +80,10 @@ pub fn a_locked_record_meets_no_write_conflict()
         → has_write_conflict state session change ≡ false }
 {}
 
-/// The step of an update, in a transaction or alone. A replace holds the lock of its record. Of an insert it is asked that its
-/// bookmark is new: no concurrent change touches it, and where it is the number of its entry no record stands under it.
+/// The step of an update, in a transaction or alone. A replace holds the lock of its record. The bookmark of an insert is new: no
+/// record stands under it, and no concurrent change touches it.
 pub fn the_step_of_an_update_is_lawful()
     ensures { (base : Records) (dropped kept : List PastChange) (asked : Asked) (cursor : CursorId) → IsReached base dropped kept asked.state → Agrees asked.state asked.session asked.local
-        → ((c : OpenCursor) (prepared : PreparedUpdate) → cursor_labelled asked.local cursor.0 ≡ Some c → c.prepared ≡ Some prepared → IsNewFor asked c prepared prepared.for)
         → HasLawfulStep asked.state (answer asked (call.Update cursor)) }
 {
     a_primary_index_has_one_entry();

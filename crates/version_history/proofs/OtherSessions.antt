@@ -79,43 +79,48 @@ turned a b e = grind (arith, nat_tests)
 
 -- ---- each entry of another session
 
-by_kind : (state : DatabaseState) (label : ℕ) (kind : EntryKind) (session : ℕ) (t : Transaction) → transaction_of state session ≡ Some t → (session == label) ≡ false → is_lawful_kind state label kind ≡ true
-    → view (applied label kind (with_next_number state)) session ≡ view (with_next_number state) session
-by_kind state label entry.Enter session t e other h =
-    by_parts (with_next_number state) (applied label entry.Enter (with_next_number state)) session t e (ap (λ (f : ℕ → Option Transaction). f session) (transaction-entered label (with_next_number state) (not_true (is_some (live_session state label)) (and_left _ _ h)))) refl
+-- the transaction of the session, and its open changes, are the same
+abbrev pub Stays : DatabaseState → DatabaseState → ℕ → Type 0
+Stays one other session = (transaction_of other session ≡ transaction_of one session) × (open_changes_of session other.past ≡ open_changes_of session one.past)
+
+stays_with : (one other : DatabaseState) (session : ℕ) → transaction_of other session ≡ transaction_of one session → open_changes_of session other.past ≡ open_changes_of session one.past → Stays one other session
+stays_with one other session same changes = (same, changes)
+
+pub stays_by_kind : (state : DatabaseState) (label : ℕ) (kind : EntryKind) (session : ℕ) → (session == label) ≡ false → is_lawful_kind state label kind ≡ true → Stays state (applied label kind (with_next_number state)) session
+stays_by_kind state label entry.Enter session other h =
+    stays_with (with_next_number state) (applied label entry.Enter (with_next_number state)) session (ap (λ (f : ℕ → Option Transaction). f session) (transaction-entered label (with_next_number state) (not_true (is_some (live_session state label)) (and_left _ _ h)))) refl
   where
     not_true : (b : Bool) → not b ≡ true → b ≡ false
     not_true true e = sym e
     not_true false e = refl
-by_kind state label entry.Leave session t e other h =
-    by_parts (with_next_number state) (applied label entry.Leave (with_next_number state)) session t e
+stays_by_kind state label entry.Leave session other h =
+    stays_with (with_next_number state) (applied label entry.Leave (with_next_number state)) session
     (ap (λ (f : ℕ → Option Transaction). f session) (transaction-left label (all_undone label (with_next_number state))) ∙ off session label other None (transaction_of (all_undone label (with_next_number state)))
     ∙ ap (λ (f : ℕ → Option Transaction). f session) (transaction-ended label (with_changes_at label every_change (λ item. record item { status = undone }) (with_next_number state))) ∙ off session label other None (transaction_of (with_next_number state)))
     (others_changes session label every_change (λ item. record item { status = undone }) other (λ item. refl) state.past)
-by_kind state label (entry.Open table) session t e other h =
-    by_parts (with_next_number state) (applied label (entry.Open table) (with_next_number state)) session t e (ap (λ (f : ℕ → Option Transaction). f session) (same-with label _ (λ s. refl) (λ s. refl) (with_next_number state))) refl
-by_kind state label (entry.Shut table) session t e other h =
-    by_parts (with_next_number state) (applied label (entry.Shut table) (with_next_number state)) session t e (ap (λ (f : ℕ → Option Transaction). f session) (same-with label _ (λ s. refl) (λ s. refl) (with_next_number state))) refl
-by_kind state label entry.Begin session t e other h =
-    by_parts (with_next_number state) (applied label entry.Begin (with_next_number state)) session t e
+stays_by_kind state label (entry.Open table) session other h =
+    stays_with (with_next_number state) (applied label (entry.Open table) (with_next_number state)) session (ap (λ (f : ℕ → Option Transaction). f session) (same-with label _ (λ s. refl) (λ s. refl) (with_next_number state))) refl
+stays_by_kind state label (entry.Shut table) session other h =
+    stays_with (with_next_number state) (applied label (entry.Shut table) (with_next_number state)) session (ap (λ (f : ℕ → Option Transaction). f session) (same-with label _ (λ s. refl) (λ s. refl) (with_next_number state))) refl
+stays_by_kind state label entry.Begin session other h =
+    stays_with (with_next_number state) (applied label entry.Begin (with_next_number state)) session
     (ap (λ (f : ℕ → Option Transaction). f session) (transaction-begun label (record { levels = 1; begin = state.number + 1; snapshot = state.tables }) (with_next_number state) (and_left _ _ h))
     ∙ off session label other (Some (record { levels = 1; begin = state.number + 1; snapshot = state.tables })) (transaction_of (with_next_number state))) refl
-by_kind state label entry.Save session t e other h =
-    by_parts (with_next_number state) (applied label entry.Save (with_next_number state)) session t e
+stays_by_kind state label entry.Save session other h =
+    stays_with (with_next_number state) (applied label entry.Save (with_next_number state)) session
     (ap (λ (f : ℕ → Option Transaction). f session) (transaction-levels label (λ n. n + 1) (with_next_number state)) ∙ off session label other (at_levels (λ n. n + 1) (transaction_of state label)) (transaction_of (with_next_number state))) refl
-by_kind state label (entry.Change change) session t e other h =
-    by_parts (with_next_number state) (applied label (entry.Change change) (with_next_number state)) session t e refl (one_more session state.past _ (turned session label other))
-by_kind state label entry.Release session t e other h =
-    let lowering : DatabaseState = with_changes_at label (is_at_level (levels state label)) (λ item. record item { level = item.level - 1 }) (with_next_number state) in
-    by_parts (with_next_number state) (applied label entry.Release (with_next_number state)) session t e
+stays_by_kind state label (entry.Change change) session other h =
+    stays_with (with_next_number state) (applied label (entry.Change change) (with_next_number state)) session refl (one_more session state.past _ (turned session label other))
+stays_by_kind state label entry.Release session other h =
+    stays_with (with_next_number state) (applied label entry.Release (with_next_number state)) session
     (ap (λ (f : ℕ → Option Transaction). f session) (transaction-levels label (λ n. n - 1) (with_changes_at label (is_at_level (levels state label)) (λ item. record item { level = item.level - 1 }) (with_next_number state)))
     ∙ off session label other (at_levels (λ n. n - 1) (transaction_of state label)) (transaction_of (with_next_number state)))
     (others_changes session label (is_at_level (levels state label)) (λ item. record item { level = item.level - 1 }) other (λ item. refl) state.past)
-by_kind state label entry.Undo session t e other h =
-    elim (nat_lt 1 (levels state label)) as (λ b. view (cond b (with_levels label (λ n. n - 1) undoing) (with_transaction label None undoing)) session ≡ view (with_next_number state) session) [
-      | true ↦ by_parts (with_next_number state) (with_levels label (λ n. n - 1) undoing) session t e
+stays_by_kind state label entry.Undo session other h =
+    elim (nat_lt 1 (levels state label)) as (λ b. Stays state (cond b (with_levels label (λ n. n - 1) undoing) (with_transaction label None undoing)) session) [
+      | true ↦ stays_with (with_next_number state) (with_levels label (λ n. n - 1) undoing) session
           (ap (λ (f : ℕ → Option Transaction). f session) (transaction-levels label (λ n. n - 1) undoing) ∙ off session label other (at_levels (λ n. n - 1) (transaction_of state label)) (transaction_of (with_next_number state))) changes
-      | false ↦ by_parts (with_next_number state) (with_transaction label None undoing) session t e
+      | false ↦ stays_with (with_next_number state) (with_transaction label None undoing) session
           (ap (λ (f : ℕ → Option Transaction). f session) (transaction-ended label undoing) ∙ off session label other None (transaction_of (with_next_number state))) changes
     ]
   where
@@ -124,18 +129,21 @@ by_kind state label entry.Undo session t e other h =
 
     changes : open_changes_of session (map (λ item. if is_open_change_of label item && is_at_level (levels state label) item then record item { status = undone } else item) state.past) ≡ open_changes_of session state.past
     changes = others_changes session label (is_at_level (levels state label)) (λ item. record item { status = undone }) other (λ item. refl) state.past
-by_kind state label entry.UndoAll session t e other h =
-    by_parts (with_next_number state) (applied label entry.UndoAll (with_next_number state)) session t e
+stays_by_kind state label entry.UndoAll session other h =
+    stays_with (with_next_number state) (applied label entry.UndoAll (with_next_number state)) session
     (ap (λ (f : ℕ → Option Transaction). f session) (transaction-ended label (with_changes_at label every_change (λ item. record item { status = undone }) (with_next_number state))) ∙ off session label other None (transaction_of (with_next_number state)))
     (others_changes session label every_change (λ item. record item { status = undone }) other (λ item. refl) state.past)
-by_kind state label entry.Commit session t e other h =
-    by_parts (with_next_number state) (applied label entry.Commit (with_next_number state)) session t e
+stays_by_kind state label entry.Commit session other h =
+    stays_with (with_next_number state) (applied label entry.Commit (with_next_number state)) session
     (ap (λ (f : ℕ → Option Transaction). f session) (transaction-ended label (with_changes_at label every_change (λ item. record item { status = committed (state.number + 1) }) (record (with_next_number state) { tables = tables_after_all state.tables (open_changes_of label state.past) })))
     ∙ off session label other None (transaction_of (with_next_number state)))
     (others_changes session label every_change (λ item. record item { status = committed (state.number + 1) }) other (λ item. refl) state.past)
-by_kind state label (entry.Schema made) session t e other h = by_parts (with_next_number state) (applied label (entry.Schema made) (with_next_number state)) session t e refl refl
+stays_by_kind state label (entry.Schema made) session other h = stays_with (with_next_number state) (applied label (entry.Schema made) (with_next_number state)) session refl refl
+
+pub stays_after : (state : DatabaseState) (made : Entry) (session : ℕ) → (session == made.session.0) ≡ false → is_lawful state made ≡ true → Stays state (state_after state made) session
+unfolding is_lawful state_after
+stays_after state made session other h = stays_by_kind state made.session.0 made.kind session other (and_right (has_number state.number made.kind) _ h)
 
 pub view_stays : (state : DatabaseState) (made : Entry) (session : ℕ) (t : Transaction) → transaction_of state session ≡ Some t → (session == made.session.0) ≡ false → is_lawful state made ≡ true
     → view (state_after state made) session ≡ view state session
-unfolding is_lawful state_after
-view_stays state made session t e other h = by_kind state made.session.0 made.kind session t e other (and_right (has_number state.number made.kind) _ h) ∙ by_parts state (with_next_number state) session t e refl refl
+view_stays state made session t e other h = let stays = stays_after state made session other h in by_parts state (state_after state made) session t e stays.0 stays.1

@@ -7,7 +7,7 @@ use Rattle.database_state.specs.Step.{insert_session, entered, left, with_transa
 use Rattle.record_changes.proofs.Tests.{impossible, same_number, self_equal}
 use Rattle.version_history.proofs.Keeping.{with_at}
 
-abbrev labelled : ℕ → List LiveSession → Option LiveSession
+abbrev pub labelled : ℕ → List LiveSession → Option LiveSession
 labelled x sessions = find (λ s. s.label == x) sessions
 
 abbrev pub transaction_in : Option LiveSession → Option Transaction
@@ -15,7 +15,7 @@ transaction_in found = option_and_then (λ s. s.transaction) found
 
 -- ---- a session changed
 
-found-with : (label x : ℕ) (change : LiveSession → LiveSession) → ((s : LiveSession) → (change s).label ≡ s.label) → (sessions : List LiveSession)
+pub found-with : (label x : ℕ) (change : LiveSession → LiveSession) → ((s : LiveSession) → (change s).label ≡ s.label) → (sessions : List LiveSession)
     → labelled x (map (λ s. if s.label == label then change s else s) sessions) ≡ cond (x == label) (option_map change (labelled x sessions)) (labelled x sessions)
 found-with label x change same [] = elim (x == label) as (λ b. labelled x [] ≡ cond b (option_map change (labelled x [])) (labelled x [])) [ true ↦ refl | false ↦ refl ]
 found-with label x change same (s ∷ sessions) =
@@ -106,7 +106,7 @@ transaction-entered label state none = λ i x. found-insert (record { label = la
     not_there None e = refl
     not_there (Some s) e = impossible (sym e)
 
-found-left : (label x : ℕ) (sessions : List LiveSession) → labelled x (filter (λ s. not (s.label == label)) sessions) ≡ cond (x == label) None (labelled x sessions)
+pub found-left : (label x : ℕ) (sessions : List LiveSession) → labelled x (filter (λ s. not (s.label == label)) sessions) ≡ cond (x == label) None (labelled x sessions)
 found-left label x [] = elim (x == label) as (λ b. labelled x [] ≡ cond b None (labelled x [])) [ true ↦ refl | false ↦ refl ]
 found-left label x (s ∷ sessions) =
     elim (s.label == label) as (λ b. (s.label == label) ≡ b → labelled x (cond (not b) (s ∷ filter (λ s. not (s.label == label)) sessions) (filter (λ s. not (s.label == label)) sessions))

@@ -73,7 +73,7 @@ kept_index one other rule found primary columns keys h = (
 
 -- ---- columns
 
-found_has : (columns : List Column) (id : ℕ) → is_some (column_of_id columns id) ≡ list_any (λ c. c.id.0 == id) columns
+pub found_has : (columns : List Column) (id : ℕ) → is_some (column_of_id columns id) ≡ list_any (λ c. c.id.0 == id) columns
 found_has [] id = refl
 found_has (c ∷ columns) id = elim (c.id.0 == id) as (λ b. is_some (cond b (Some c) (column_of_id columns id)) ≡ (b || list_any (λ c. c.id.0 == id) columns)) [ true ↦ refl | false ↦ found_has columns id ]
 
@@ -81,7 +81,7 @@ found_has (c ∷ columns) id = elim (c.id.0 == id) as (λ b. is_some (cond b (So
 same_has : (one other : Table) (id : ℕ) → column_of_id other.columns id ≡ column_of_id one.columns id → has_column one id ≡ true → has_column other id ≡ true
 same_has one other id e h = sym (found_has other.columns id) ∙ ap is_some e ∙ found_has one.columns id ∙ h
 
-each_column : (one other : Table) (ids : List ℕ) → list_all (has_column one) ids ≡ true → ((id : ℕ) → has_column one id ≡ true → column_of_id other.columns id ≡ column_of_id one.columns id)
+pub each_column : (one other : Table) (ids : List ℕ) → list_all (has_column one) ids ≡ true → ((id : ℕ) → has_column one id ≡ true → column_of_id other.columns id ≡ column_of_id one.columns id)
     → AllByRecursion (λ id. (column_of_id other.columns id ≡ column_of_id one.columns id) × (has_column one id ≡ true → has_column other id ≡ true)) ids
 each_column one other [] h f = tt
 each_column one other (id ∷ ids) h f =
@@ -109,7 +109,7 @@ added_column column table h = all_weaker (IsTableIndex table) (IsTableIndex (wit
 
 -- ---- a column goes
 
-other_values : (fields : RecordFields) (column id : ℕ) → (id == column) ≡ false → lookup_by_number id (remove_by_number column fields) ≡ lookup_by_number id fields
+pub other_values : (fields : RecordFields) (column id : ℕ) → (id == column) ≡ false → lookup_by_number id (remove_by_number column fields) ≡ lookup_by_number id fields
 other_values [] column id apart = refl
 other_values (field ∷ fields) column id apart =
     elim (field.0 == column) as (λ b. (field.0 == column) ≡ b → lookup_by_number id (cond (not b) (field ∷ remove_by_number column fields) (remove_by_number column fields)) ≡ cond (eq_by_cmp nat_cmp id field.0) (Some field.1) (lookup_by_number id fields)) [
@@ -119,7 +119,7 @@ other_values (field ∷ fields) column id apart =
       | false ↦ λ e. ap (λ rest. cond (eq_by_cmp nat_cmp id field.0) (Some field.1) rest) (other_values fields column id apart)
     ] refl
 
-mapped_row : (f : RecordFields → RecordFields) (rows : Rows) (bookmark : List ℕ) → row_at (map (λ row. (row.0, f row.1)) rows) bookmark ≡ option_map f (row_at rows bookmark)
+pub mapped_row : (f : RecordFields → RecordFields) (rows : Rows) (bookmark : List ℕ) → row_at (map (λ row. (row.0, f row.1)) rows) bookmark ≡ option_map f (row_at rows bookmark)
 mapped_row f [] bookmark = refl
 mapped_row f (row ∷ rows) bookmark =
     elim (eq_by_cmp (slice_cmp nat_cmp) bookmark row.0) as (λ b. cond b (Some (f row.1)) (row_at (map (λ row. (row.0, f row.1)) rows) bookmark) ≡ option_map f (cond b (Some row.1) (row_at rows bookmark))) [
@@ -127,24 +127,24 @@ mapped_row f (row ∷ rows) bookmark =
       | false ↦ mapped_row f rows bookmark
     ]
 
+pub other_column : (column : ℕ) (table : Table) (id : ℕ) → (id == column) ≡ false → column_of_id (without_column column table).columns id ≡ column_of_id table.columns id
+other_column column table id e = found_in_filter (λ c. c.id.0 == id) (λ c. not (c.id.0 == column)) table.columns
+    (all_true (λ c. (c.id.0 == id) ≡ true → not (c.id.0 == column) ≡ true) (λ c f. ap (λ k. not (k == column)) (same_number c.id.0 id f) ∙ ap not e) table.columns)
+
 removed_column : (column : ℕ) (table : Table) → AllByRecursion (λ rule. AllByRecursion (λ id. (id == column) ≡ false) (rule_columns rule)) table.indexes → AreTableIndexes table → AreTableIndexes (without_column column table)
 removed_column column table unused h = all_both (IsTableIndex table) (λ rule. AllByRecursion (λ id. (id == column) ≡ false) (rule_columns rule)) (IsTableIndex (without_column column table))
     (λ rule is apart. kept_index table (without_column column table) rule is.0.0 (λ primary. (is.0.2 primary).0)
     (all_weaker (λ id. (id == column) ≡ false) (λ id. (column_of_id (without_column column table).columns id ≡ column_of_id table.columns id) × (has_column table id ≡ true → has_column (without_column column table) id ≡ true))
-    (λ id e. (other_column id e, same_has table (without_column column table) id (other_column id e))) (rule_columns rule) apart)
+    (λ id e. (other_column column table id e, same_has table (without_column column table) id (other_column column table id e))) (rule_columns rule) apart)
     (λ key bookmark. ap (yields_key rule (schema_of (without_column column table)) key) (mapped_row (λ values. with_values values column []) table.rows bookmark) ∙ by rule apart key (row_at table.rows bookmark)) is)
     table.indexes h unused
   where
-    other_column : (id : ℕ) → (id == column) ≡ false → column_of_id (filter (λ c. not (c.id.0 == column)) table.columns) id ≡ column_of_id table.columns id
-    other_column id e = found_in_filter (λ c. c.id.0 == id) (λ c. not (c.id.0 == column)) table.columns
-        (all_true (λ c. (c.id.0 == id) ≡ true → not (c.id.0 == column) ≡ true) (λ c f. ap (λ k. not (k == column)) (same_number c.id.0 id f) ∙ ap not e) table.columns)
-
     by : (rule : IndexRule) → AllByRecursion (λ id. (id == column) ≡ false) (rule_columns rule) → (key : List ℕ) (found : Option RecordFields)
         → yields_key rule (schema_of (without_column column table)) key (option_map (λ values. with_values values column []) found) ≡ yields_key rule (schema_of table) key found
     by rule apart key None = refl
     by rule apart key (Some values) = yields_same rule (schema_of (without_column column table)) (schema_of table) key (remove_by_number column values) values
         (all_weaker (λ id. (id == column) ≡ false) (SameAt (schema_of (without_column column table)) (schema_of table) (remove_by_number column values) values)
-        (λ id e. (other_column id e, ap (λ (v : Option (List (List ℕ))). unwrap_or v []) (other_values values column id e))) (rule_columns rule) apart)
+        (λ id e. (other_column column table id e, ap (λ (v : Option (List (List ℕ))). unwrap_or v []) (other_values values column id e))) (rule_columns rule) apart)
 
 -- ---- an index comes
 
@@ -204,7 +204,7 @@ pub unique_rows : (rule : IndexRule) (schema : Schema) (rows : Rows) → has_dou
 unfolding has_double_key
 unique_rows rule schema rows none = undoubled rule schema rows none
 
-no_rows : (rows : Rows) → nat_lt 0 (length rows) ≡ false → (bookmark : List ℕ) → row_at rows bookmark ≡ None
+pub no_rows : (rows : Rows) → nat_lt 0 (length rows) ≡ false → (bookmark : List ℕ) → row_at rows bookmark ≡ None
 no_rows [] h bookmark = refl
 no_rows (row ∷ rows) h bookmark = impossible (sym h ∙ some (length rows))
   where
@@ -287,7 +287,7 @@ removed_index index table stays h = filtered (IsTableIndex table) (IsTableIndex 
 
 -- ---- tables by their ids
 
-other_table : (d : ℕ) (change : Table → Table) → ((t : Table) → (change t).id ≡ t.id) → (tables : List Table) (id : ℕ) → (id == d) ≡ false → table_with_id (with_table d change tables) id ≡ table_with_id tables id
+pub other_table : (d : ℕ) (change : Table → Table) → ((t : Table) → (change t).id ≡ t.id) → (tables : List Table) (id : ℕ) → (id == d) ≡ false → table_with_id (with_table d change tables) id ≡ table_with_id tables id
 other_table d change keeps [] id apart = refl
 other_table d change keeps (t ∷ tables) id apart =
     elim (t.id == d) as (λ b. (t.id == d) ≡ b → cond ((cond b (change t) t).id == id) (Some (cond b (change t) t)) (table_with_id (with_table d change tables) id) ≡ cond (t.id == id) (Some t) (table_with_id tables id)) [
@@ -302,7 +302,7 @@ other_table d change keeps (t ∷ tables) id apart =
     other : (a d id : ℕ) → (a == d) ≡ true → (id == d) ≡ false → (a == id) ≡ false
     other a d id e f = grind (arith, nat_tests)
 
-this_table : (d : ℕ) (change : Table → Table) → ((t : Table) → (change t).id ≡ t.id) → (tables : List Table) → table_with_id (with_table d change tables) d ≡ option_map change (table_with_id tables d)
+pub this_table : (d : ℕ) (change : Table → Table) → ((t : Table) → (change t).id ≡ t.id) → (tables : List Table) → table_with_id (with_table d change tables) d ≡ option_map change (table_with_id tables d)
 this_table d change keeps [] = refl
 this_table d change keeps (t ∷ tables) =
     elim (t.id == d) as (λ b. (t.id == d) ≡ b → cond ((cond b (change t) t).id == d) (Some (cond b (change t) t)) (table_with_id (with_table d change tables) d) ≡ option_map change (cond b (Some t) (table_with_id tables d))) [
@@ -310,7 +310,7 @@ this_table d change keeps (t ∷ tables) =
       | false ↦ λ e. ap (λ b. cond b (Some t) (table_with_id (with_table d change tables) d)) e ∙ this_table d change keeps tables
     ] refl
 
-at_table : (P : Table → Type 0) (d : ℕ) (change : Table → Table) → ((t : Table) → (change t).id ≡ t.id) → (tables : List Table) → ((t : Table) → table_with_id tables d ≡ Some t → P t → P (change t))
+pub at_table : (P : Table → Type 0) (d : ℕ) (change : Table → Table) → ((t : Table) → (change t).id ≡ t.id) → (tables : List Table) → ((t : Table) → table_with_id tables d ≡ Some t → P t → P (change t))
     → ((id : ℕ) → IfSome (table_with_id tables id) P) → (id : ℕ) → IfSome (table_with_id (with_table d change tables) id) P
 at_table P d change keeps tables f h id =
     elim (id == d) as (λ b. (id == d) ≡ b → IfSome (table_with_id (with_table d change tables) id) P) [
@@ -323,14 +323,14 @@ at_table P d change keeps tables f h id =
     by None e p = tt
     by (Some t) e p = f t e p
 
-with_last : (P : Table → Type 0) (new : Table) → P new → (tables : List Table) (id : ℕ) → IfSome (table_with_id tables id) P → IfSome (table_with_id (tables ++ new ∷ []) id) P
+pub with_last : (P : Table → Type 0) (new : Table) → P new → (tables : List Table) (id : ℕ) → IfSome (table_with_id tables id) P → IfSome (table_with_id (tables ++ new ∷ []) id) P
 with_last P new p [] id h = elim (new.id == id) as (λ b. IfSome (cond b (Some new) None) P) [ true ↦ p | false ↦ tt ]
 with_last P new p (t ∷ tables) id h = elim (t.id == id) as (λ b. IfSome (cond b (Some t) (table_with_id tables id)) P → IfSome (cond b (Some t) (table_with_id (tables ++ new ∷ []) id)) P) [
   | true ↦ λ g. g
   | false ↦ λ g. with_last P new p tables id g
 ] h
 
-without_table : (P : Table → Type 0) (d : ℕ) (tables : List Table) (id : ℕ) → IfSome (table_with_id tables id) P → IfSome (table_with_id (filter (λ t. not (t.id == d)) tables) id) P
+pub without_table : (P : Table → Type 0) (d : ℕ) (tables : List Table) (id : ℕ) → IfSome (table_with_id tables id) P → IfSome (table_with_id (filter (λ t. not (t.id == d)) tables) id) P
 without_table P d tables id h =
     elim (id == d) as (λ b. (id == d) ≡ b → IfSome (table_with_id (filter (λ t. not (t.id == d)) tables) id) P) [
       | true ↦ λ e. subst (λ (found : Option Table). IfSome found P) (sym (gone tables e)) tt
@@ -366,11 +366,11 @@ of_step state label made h =
     ∷ step_refusals state (unwrap_or (step_table state.tables made) (new_table 0 [])) made) h).1.1.1
 
 -- of the very table
-at_found : (state : DatabaseState) (label : ℕ) (made : SchemaStep) (t : Table) → is_none (schema_refusal state label made) ≡ true → step_table state.tables made ≡ Some t → AllByRecursion (λ refusal. refusal.0 ≡ false) (step_refusals state t made)
+pub at_found : (state : DatabaseState) (label : ℕ) (made : SchemaStep) (t : Table) → is_none (schema_refusal state label made) ≡ true → step_table state.tables made ≡ Some t → AllByRecursion (λ refusal. refusal.0 ≡ false) (step_refusals state t made)
 at_found state label made t h found =
     subst (λ (o : Option Table). AllByRecursion (λ refusal. refusal.0 ≡ false) (step_refusals state (unwrap_or o (new_table 0 [])) made)) found (of_step state label made h)
 
-unused_by : (column : ColumnId) (rules : List IndexRule) → list_any (λ rule. list_any (λ id. id == column.0) (key_columns rule ++ condition_columns rule)) (primary_first rules) ≡ false
+pub unused_by : (column : ColumnId) (rules : List IndexRule) → list_any (λ rule. list_any (λ id. id == column.0) (key_columns rule ++ condition_columns rule)) (primary_first rules) ≡ false
     → AllByRecursion (λ rule. AllByRecursion (λ id. (id == column.0) ≡ false) (rule_columns rule)) rules
 unused_by column rules h =
     in_any_order (λ rule. AllByRecursion (λ id. (id == column.0) ≡ false) (rule_columns rule)) rules
@@ -384,7 +384,7 @@ all_there table (id ∷ ids) h = elim (has_column table id) as (λ b. (not b || 
   | false ↦ λ g. impossible (sym g)
 ] h
 
-new_index : (state : DatabaseState) (id : TableId) (made : IndexRule) (t : Table) → AllByRecursion (λ refusal. refusal.0 ≡ false) (step_refusals state t (step.CreateIndex id made)) → made.id.0 ≡ next_index_id t.indexes → IsNewIndex t made
+pub new_index : (state : DatabaseState) (id : TableId) (made : IndexRule) (t : Table) → AllByRecursion (λ refusal. refusal.0 ≡ false) (step_refusals state t (step.CreateIndex id made)) → made.id.0 ≡ next_index_id t.indexes → IsNewIndex t made
 new_index state id made t refused number = record {
   number = subst (λ (n : ℕ). AllByRecursion (λ rule. (rule.id.0 == n) ≡ false) t.indexes) (sym number) (next_is_free t.indexes);
   primary = by_primary (made.flags.primary) refused.1.1.0;

@@ -72,10 +72,10 @@ id_of (x ∷ tables) id t e = elim (x.id == id) as (λ b. (x.id == id) ≡ b →
 
 -- ---- entries that change no record
 
-undone_before : (gone : PastChange → Bool) (item : PastChange) → (undone_where gone item).before ≡ item.before
+pub undone_before : (gone : PastChange → Bool) (item : PastChange) → (undone_where gone item).before ≡ item.before
 undone_before gone item = elim (gone item) as (λ b. (cond b (record item { status = undone }) item).before ≡ item.before) [ true ↦ refl | false ↦ refl ]
 
-undone_after : (gone : PastChange → Bool) (item : PastChange) → (undone_where gone item).after ≡ item.after
+pub undone_after : (gone : PastChange → Bool) (item : PastChange) → (undone_where gone item).after ≡ item.after
 undone_after gone item = elim (gone item) as (λ b. (cond b (record item { status = undone }) item).after ≡ item.after) [ true ↦ refl | false ↦ refl ]
 
 own_undone : (rule : IndexRule) (schema : Schema) (table : ℕ) (base : Records) (kept : List PastChange) (gone : PastChange → Bool) → HasBookmarkKeys rule schema table base kept → HasBookmarkKeys rule schema table base (map (undone_where gone) kept)
@@ -98,7 +98,7 @@ own_by_kind rule schema table base kept state label entry.Commit plain h =
     own_mapped rule schema table base kept (committed_own label (state.number + 1)) (commit_change label (state.number + 1)) (commit_before label (state.number + 1)) (commit_after label (state.number + 1)) h
 own_by_kind rule schema table base kept state label (entry.Schema made) plain h = impossible (sym plain)
 
-same_tables : (state : DatabaseState) (label : ℕ) (kind : EntryKind) → changes_records kind ≡ false → map without_rows (applied label kind (with_next_number state)).tables ≡ map without_rows state.tables
+pub same_tables : (state : DatabaseState) (label : ℕ) (kind : EntryKind) → changes_records kind ≡ false → map without_rows (applied label kind (with_next_number state)).tables ≡ map without_rows state.tables
 same_tables state label entry.Enter plain = refl
 same_tables state label entry.Leave plain = refl
 same_tables state label (entry.Open opened) plain = refl

@@ -14,3 +14,4 @@ pub mod Telling
 pub mod TellingKeys
 pub mod Walking
 pub mod VariantKeys
+pub mod TablesInOrder

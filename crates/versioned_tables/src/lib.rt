@@ -21,7 +21,7 @@ pub use steps::{
     a_change_is_made_and_held, a_clean_leaves_the_state, a_schema_step_changes_the_tables,
     entries_leave_records_in_order, entries_of_a_session_leave_the_tables,
     releases_and_commits_leave_the_tables, tables_alone_hold_a_state,
-    undone_changes_are_taken_back,
+    tables_in_order_have_records_that_rise, undone_changes_are_taken_back,
 };
 pub use variants::{
     a_change_adds_the_keys_that_it_leaves, a_clean_takes_the_keys_that_no_variant_has,

@@ -1,11 +1,17 @@
 //! What entries make of versioned tables.
 
 ghost use Rattle.std.specs.Prelude.{◌≡◌, ◌+◌, ℕ, true, false, List, [], ◌∷◌, ◌++◌, map, if◌then◌else◌};
+ghost use Rattle.std.specs.Ordering.{nat_cmp};
+ghost use Rattle.std.specs.Cmp.Lexicographic.{slice_cmp};
+ghost use Rattle.std.specs.FinMap.Entries.{is_sorted};
 ghost use Rattle.column_set.specs.declared.changes.Change.{Change};
+ghost use Rattle.cursor_nav.specs.Places.{are_sorted};
+ghost use Rattle.index_derive.specs.Entries.{own_order};
 ghost use Rattle.index_derive.specs.declared.log.Entry.{Entry};
 ghost use Rattle.index_derive.specs.declared.log.EntryKind.{EntryKind};
 ghost use Rattle.index_derive.specs.declared.log.EntryKind.TheVariants as entry;
 ghost use Rattle.index_derive.specs.declared.schema_calls.SchemaStep.{SchemaStep};
+ghost use Rattle.database_state.specs.Table.{Rows};
 ghost use Rattle.database_state.specs.SchemaChanges.{tables_after_step};
 ghost use Rattle.database_state.specs.State.{DatabaseState, PastChange, levels};
 ghost use Rattle.database_state.specs.VersionStore.{is_needed};
@@ -14,6 +20,7 @@ ghost use Rattle.database_state.specs.Lawful.{is_lawful};
 ghost use Rattle.record_changes.specs.Records.{Records, after_item, records_of};
 ghost use Rattle.version_history.specs.KeptSteps.{new_change, committed_own, is_own_open, lowered_own, undone_where, with_next_number};
 ghost use Rattle.version_history.specs.Readers.{is_standing};
+ghost use Rattle.version_keys.specs.TableOrder.{HasTablesInOrder};
 ghost use Rattle.version_keys.specs.Variants.{HasNoSums};
 ghost use Rattle.version_store.specs.declared.calls.By.{By};
 ghost use Rattle.versioned_tables.specs.HeldRecords.{is_open_at, is_open_of};
@@ -23,6 +30,13 @@ ghost use Rattle.versioned_tables.specs.Holding.{AllRise, Holds, RecordsRise};
 /// Every entry leaves the records of the committed tables and of each snapshot in the order of their bookmarks.
 pub fn entries_leave_records_in_order()
     ensures { (state : DatabaseState) (made : Entry) → RecordsRise state → RecordsRise (state_after state made) }
+{}
+
+/// That bookmarks rise, as a map of records has it, is that the walk over them is in order. So the committed records rise where the
+/// tables are in order, as they are after every lawful entry.
+pub fn tables_in_order_have_records_that_rise()
+    ensures rows { (rows : Rows) → is_sorted (slice_cmp nat_cmp) rows ≡ are_sorted (own_order rows) }
+    ensures tables { (state : DatabaseState) → HasTablesInOrder state → AllRise state.tables }
 {}
 
 /// An entry that tells of a session, its open tables or its levels alone leaves the tables and the held changes.

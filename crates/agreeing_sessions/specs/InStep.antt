@@ -1,0 +1,18 @@
+-- A session's own state beside the database state, and after an answer.
+use Rattle.std.specs.Prelude.{◌≡◌, ℕ, true, map}
+use Rattle.index_derive.specs.Steps.{entries_of_step}
+use Rattle.database_state.specs.State.{DatabaseState}
+use Rattle.database_state.specs.Step.{state_after_all}
+use Rattle.session_local.specs.Agreement.{Agrees}
+use Rattle.session_local.specs.Local.{LocalState}
+use Rattle.session_local.specs.Outcome.{Asked, Outcome}
+use Rattle.session_local.specs.SessionSide.{are_distinct, label_of}
+
+-- A session is in step with the database where its own state agrees with it and no two of its cursors have one label.
+pub record IsInStep (state : DatabaseState) (session : ℕ) (local : LocalState) : Type 0 where
+  pub agrees : Agrees state session local
+  pub labels : are_distinct (map label_of local.cursors) ≡ true
+
+-- It is so after an answer: its own state as the answer leaves it, beside the state after the entries that the answer made.
+abbrev pub StaysInStep : Asked → Outcome → Type 0
+StaysInStep asked outcome = IsInStep (state_after_all asked.state (entries_of_step outcome.step)) asked.session outcome.local

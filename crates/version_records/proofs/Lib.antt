@@ -1,0 +1,6 @@
+pub mod EntryNumbers
+pub mod EachRecord
+pub mod PrimaryKeys
+pub mod Touching
+pub mod Standing
+pub mod Storing

@@ -1,0 +1,67 @@
+-- The key of a record in the primary index.
+use Rattle.std.proofs.Common.{◌≡◌, Bool, true, false, not, ◌&&◌, ◌||◌, cond, List, [], ◌∷◌, Some, None, Ok, Err, refl, sym, ap, subst, ◌∙◌, bytes_eq}
+use Rattle.std.specs.Prelude.{find, flat_map}
+use Rattle.std.specs.List.{AllByRecursion, list_any}
+use Rattle.jet_base.specs.declared.replies.Jet.TheVariants as jet
+use Rattle.column_set.specs.RecordValues.{RecordFields, has_value}
+use Rattle.key_normal.specs.KeyBytes.{is_cut}
+use Rattle.index_derive.specs.declared.rules.IndexRule.{IndexRule}
+use Rattle.index_derive.specs.declared.rules.Schema.{Schema}
+use Rattle.index_derive.specs.Entries.{KeyTruncated, NullKeyDisallowed, entries, is_legal, key_columns, key_list, keys_or_none, primary_key, whole_key}
+use Rattle.index_derive.specs.Primary.{first_values}
+use Rattle.database_state.specs.Refusals.{Refusals}
+use Rattle.database_state.specs.Puts.{is_cut_refusal, is_null_refusal}
+use Rattle.record_changes.proofs.Tests.{equal_bytes, impossible}
+use Rattle.version_keys.proofs.BookmarkKeys.{HasOneEntry}
+
+-- what holds of all holds of the one that was found
+pub of_found : {X : Type 0} (P : X → Type 0) (test : X → Bool) (xs : List X) (x : X) → find test xs ≡ Some x → AllByRecursion P xs → P x
+of_found P test [] x e h = absurd (none x e)
+  where
+    none : {X : Type 0} (x : X) → None ≡ Some x → ⊥
+    none x e = cc
+of_found {X = X} P test (y ∷ xs) x e h = elim (test y) as (λ b. (cond b (Some y) (find test xs)) ≡ Some x → P x) [
+  | true ↦ λ f. subst P (same y x f) h.0
+  | false ↦ λ f. of_found P test xs x f h.1
+] e
+  where
+    same : (a b : X) → Some a ≡ Some b → a ≡ b
+    same a b e = cc
+
+-- and passes the test
+pub found_passes : {X : Type 0} (test : X → Bool) (xs : List X) (x : X) → find test xs ≡ Some x → test x ≡ true
+found_passes test [] x e = absurd (none x e)
+  where
+    none : {X : Type 0} (x : X) → None ≡ Some x → ⊥
+    none x e = cc
+found_passes {X = X} test (y ∷ xs) x e = elim (test y) as (λ b. test y ≡ b → cond b (Some y) (find test xs) ≡ Some x → test x ≡ true) [
+  | true ↦ λ f g. ap test (sym (same y x g)) ∙ f
+  | false ↦ λ f g. found_passes test xs x g
+] refl e
+  where
+    same : (a b : X) → Some a ≡ Some b → a ≡ b
+    same a b e = cc
+
+abbrev pub AreUnrefused : Refusals → Type 0
+AreUnrefused refusals = AllByRecursion (λ refusal. refusal.0 ≡ false) refusals
+
+-- no index refuses the record
+pub each_null : (schema : Schema) (values : RecordFields) (rules : List IndexRule)
+    → AreUnrefused (flat_map (λ rule. (is_null_refusal (entries rule schema values), jet.NullKeyDisallowed) ∷ (is_cut_refusal (entries rule schema values), jet.KeyTruncated) ∷ []) rules)
+    → AllByRecursion (λ rule. (is_null_refusal (entries rule schema values) ≡ false) × (is_cut_refusal (entries rule schema values) ≡ false)) rules
+each_null schema values [] h = tt
+each_null schema values (rule ∷ rules) h = ((h.0, h.1.0), each_null schema values rules h.1.1)
+
+pub primary_listed : HasOneEntry → (rule : IndexRule) (schema : Schema) (values : RecordFields) → is_legal rule schema ≡ true → rule.flags.primary ≡ true → is_null_refusal (entries rule schema values) ≡ false → is_cut_refusal (entries rule schema values) ≡ false
+    → list_any (bytes_eq (primary_key rule schema values)) (key_list rule schema values) ≡ true
+primary_listed one rule schema values legal primary whole uncut =
+    ap (λ found. list_any (bytes_eq (primary_key rule schema values)) (keys_or_none found)) (one rule schema values legal primary)
+    ∙ by (rule.flags.disallownull && list_any (λ column. not (has_value values column)) (key_columns rule)) (rule.flags.disallowtruncation && is_cut rule.key_most (whole_key rule schema (first_values rule values)))
+    (ap is_null_refusal (sym (one rule schema values legal primary)) ∙ whole) (ap is_cut_refusal (sym (one rule schema values legal primary)) ∙ uncut)
+  where
+    by : (a b : Bool) → is_null_refusal (elim a [ true ↦ Err NullKeyDisallowed | false ↦ elim b [ true ↦ Err KeyTruncated | false ↦ Ok (primary_key rule schema values ∷ []) ] ]) ≡ false
+        → is_cut_refusal (elim a [ true ↦ Err NullKeyDisallowed | false ↦ elim b [ true ↦ Err KeyTruncated | false ↦ Ok (primary_key rule schema values ∷ []) ] ]) ≡ false
+        → list_any (bytes_eq (primary_key rule schema values)) (keys_or_none (elim a [ true ↦ Err NullKeyDisallowed | false ↦ elim b [ true ↦ Err KeyTruncated | false ↦ Ok (primary_key rule schema values ∷ []) ] ])) ≡ true
+    by true b h k = impossible (sym h)
+    by false true h k = impossible (sym k)
+    by false false h k = ap (λ b. b || false) (equal_bytes (primary_key rule schema values) (primary_key rule schema values) refl)

@@ -1,0 +1,5 @@
+use Rattle.version_records.proofs.Standing.{bookmarks_kept}
+use Rattle.version_records.proofs.bookmarks.lawful_entries_keep_bookmarks.Goals as goal
+
+pub returns : goal.returns
+returns c = bookmarks_kept c.a_primary_index_has_one_entry.ensures

@@ -1,0 +1,3 @@
+pub mod EachRecord
+pub mod Bookmarks
+pub mod StoredRecords
