@@ -1,3 +1,4 @@
+pub mod FileParts
 pub mod Files
 pub mod Follows
 pub mod Gates
@@ -6,3 +7,5 @@ pub mod ReadsBack
 pub mod Regions
 pub mod Stands
 pub mod Writes
+pub mod Fronts
+pub mod Quiet
