@@ -2,6 +2,7 @@ pub mod FileParts
 pub mod Files
 pub mod Follows
 pub mod Gates
+pub mod Loads
 pub mod Pieces
 pub mod ReadsBack
 pub mod Regions

@@ -7,6 +7,7 @@ mod file;
 mod gate;
 mod image;
 mod laws;
+mod loading;
 mod looking;
 mod pages;
 mod rest;
@@ -18,5 +19,6 @@ pub use image::{Found, Image, Standing};
 pub use laws::{
     first_checkpoint_file, new_volumes, what_is_written_is_read, which_file_is_looked_at,
 };
+pub use loading::{copy_pages, read_pages};
 pub use looking::look;
 pub use writing::{VolumeFault, write};
