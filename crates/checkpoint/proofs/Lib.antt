@@ -7,6 +7,7 @@ pub mod Pieces
 pub mod ReadsBack
 pub mod Regions
 pub mod Stands
+pub mod WhatIsTold
 pub mod Writes
 pub mod Fronts
 pub mod Quiet

@@ -3,7 +3,7 @@ use Rattle.std.specs.Prelude.{◌≡◌, ◌<◌, ◌≤◌, ℕ, ◌+◌, ◌-�
 use Rattle.std.specs.List.{list_all}
 use Rattle.jet_volume.specs.declared.files.File.{File}
 use Rattle.jet_volume.specs.Crash.{LeavesOnly}
-use Rattle.jet_volume.specs.Image.{Image as Files}
+use Rattle.jet_volume.specs.Image.{Image as Files, file_bytes}
 use Rattle.page_image.specs.Page.{PageContents}
 use Rattle.checkpoint.specs.declared.looking.Fixed.{Fixed}
 use Rattle.checkpoint.specs.declared.file.Slots.{Slots}
@@ -11,8 +11,8 @@ use Rattle.checkpoint.specs.declared.file.Told.{Told}
 use Rattle.checkpoint.specs.declared.fault.CheckFault.{CheckFault}
 use Rattle.checkpoint.specs.declared.fault.CheckFault.TheVariants.{CheckpointCorrupt, LogSequenceEnd, ReadVerifyFailure, VolumeFault, OutOfMemory}
 use Rattle.checkpoint.specs.Contents.{Contents, contents_in, has_head, has_slots, is_checkpoint_file, is_slot, live_length, page_count, slot_bytes}
-use Rattle.checkpoint.specs.Opening.{Verdict, file_verdict, HoldsPage, SlotSays}
-use Rattle.checkpoint.specs.Opening.Verdict.{Corrupt, SequenceEnd}
+use Rattle.checkpoint.specs.Opening.{file_verdict, looked_at, HoldsPage, SlotSays}
+use Rattle.checkpoint.specs.Opening.Verdict.{Corrupt, SequenceEnd, Stands}
 use Rattle.checkpoint.specs.Shape.{contents_with}
 
 -- a crash at any moment from old to new leaves what one before them might have left
@@ -40,6 +40,13 @@ pub record IsSlotsOf (slots : Slots) (bytes : List ℕ) : Type 0 where
 pub record IsToldOf (told : Told) (file : File) (bytes : List ℕ) : Type 0 where
   pub is_file : is_checkpoint_file file bytes ≡ true
   pub says : contents_with told.head told.slots.items told.live.items ≡ contents_in bytes
+
+-- what was told is what the file that is looked at says, and its numbers may go on
+pub record IsToldBy (told : Told) (files : Files) : Type 0 where
+  pub file : File
+  pub looked_at : looked_at files ≡ Some file
+  pub verdict : file_verdict file (file_bytes file files) ≡ Stands (contents_with told.head told.slots.items told.live.items)
+  pub says : IsToldOf told file (file_bytes file files)
 
 -- what a refusal says of the file that is looked at
 abbrev pub ExplainsFile : File → List ℕ → CheckFault → Type 0

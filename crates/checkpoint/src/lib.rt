@@ -10,15 +10,16 @@ mod laws;
 mod loading;
 mod looking;
 mod pages;
+mod reading;
 mod rest;
 mod writing;
 
 pub use fault::CheckFault;
-pub use file::{Told, read_file};
+
 pub use image::{Found, Image, Standing};
 pub use laws::{
     first_checkpoint_file, new_volumes, what_is_written_is_read, which_file_is_looked_at,
 };
-pub use loading::{copy_pages, read_pages};
-pub use looking::look;
+
+pub use reading::read;
 pub use writing::{VolumeFault, write};
