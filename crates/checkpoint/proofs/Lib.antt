@@ -3,6 +3,7 @@ pub mod Files
 pub mod Follows
 pub mod Gates
 pub mod Loads
+pub mod OneAnswer
 pub mod Pieces
 pub mod ReadsBack
 pub mod Regions

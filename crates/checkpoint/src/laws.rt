@@ -1,10 +1,15 @@
 //! What holds of the bytes of checkpoint files, and worked examples of the definitions.
 
-ghost use Rattle.std.specs.Prelude.{◌≡◌, ◌++◌, ℕ, List, [], ◌∷◌, Some, None, true, false, replicate};
-ghost use Rattle.jet_volume.specs.Image.{no_bytes};
-ghost use Rattle.checkpoint.specs.Contents.{Contents, IsLawful, bytes_behind_gate, contents_in, file_of, is_checkpoint_file};
-ghost use Rattle.checkpoint.specs.Opening.{looked_at, verdict};
-ghost use Rattle.checkpoint.specs.Opening.Verdict.{New, Corrupt, Stands};
+ghost use Rattle.std.specs.Prelude.{◌≡◌, ◌++◌, ℕ, List, [], ◌∷◌, Option, Some, None, true, false, replicate};
+ghost use Rattle.jet_volume.specs.Image.{Image, no_bytes};
+ghost use Rattle.checkpoint.specs.Contents.{Contents, IsLawful, bytes_behind_gate, contents_in, file_of, is_checkpoint_file, may_go_on};
+ghost use Rattle.checkpoint.specs.Opening.{HasCheckpoint, looked_at, verdict};
+ghost use Rattle.checkpoint.specs.Opening.Verdict.{New, Corrupt, SequenceEnd, Stands};
+ghost use Rattle.page_image.specs.Page.{PageContents};
+ghost use Rattle.checkpoint.specs.declared.fault.CheckFault.{CheckFault};
+ghost use Rattle.checkpoint.specs.declared.image.Found.{Found};
+ghost use Rattle.checkpoint.specs.declared.image.Standing.{Standing};
+ghost use Rattle.checkpoint.specs.Found.{Explains, Finds, IsFromOutside, IsRead};
 
 use jet_volume::File;
 
@@ -12,6 +17,15 @@ use jet_volume::File;
 pub fn what_is_written_is_read()
     ensures { (gate : ℕ) (c : Contents) (tail : List ℕ) → IsLawful c
         → (is_checkpoint_file (file_of c.number) (gate ∷ (bytes_behind_gate c ++ tail)) ≡ true) × (contents_in (gate ∷ (bytes_behind_gate c ++ tail)) ≡ c) }
+{}
+
+/// What stands is read: a checkpoint whose numbers are below 2^62 is answered with its image and its pages, and the
+/// files give no cause to refuse it.
+pub fn what_stands_is_read()
+    ensures found { (files : Image) (c : Contents) (pages : List (Option PageContents)) → HasCheckpoint files c pages → may_go_on c ≡ true
+        → (answer : Found) (standing : Standing) → Finds files answer standing → IsRead c pages answer standing }
+    ensures not_refused { (files : Image) (c : Contents) (pages : List (Option PageContents)) → HasCheckpoint files c pages → may_go_on c ≡ true
+        → (fault : CheckFault) → Explains files fault → IsFromOutside fault }
 {}
 
 /// The file of a first checkpoint: five log entries, the log goes on in generation 1 at offset 40 and stream
