@@ -3,3 +3,5 @@
 
 #[cfg(test)]
 mod checkpoints;
+#[cfg(test)]
+mod readings;
