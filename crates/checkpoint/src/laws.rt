@@ -19,10 +19,10 @@ pub fn what_is_written_is_read()
         → (is_checkpoint_file (file_of c.number) (gate ∷ (bytes_behind_gate c ++ tail)) ≡ true) × (contents_in (gate ∷ (bytes_behind_gate c ++ tail)) ≡ c) }
 {}
 
-/// What stands is read: a checkpoint whose numbers are below 2^62 is answered with its image and its pages, and the
-/// files give no cause to refuse it.
+/// What stands is read: an answer is the image of the checkpoint that stands, with its pages. Where its numbers are
+/// below 2^62, the files give no cause to refuse it.
 pub fn what_stands_is_read()
-    ensures found { (files : Image) (c : Contents) (pages : List (Option PageContents)) → HasCheckpoint files c pages → may_go_on c ≡ true
+    ensures found { (files : Image) (c : Contents) (pages : List (Option PageContents)) → HasCheckpoint files c pages
         → (answer : Found) (standing : Standing) → Finds files answer standing → IsRead c pages answer standing }
     ensures not_refused { (files : Image) (c : Contents) (pages : List (Option PageContents)) → HasCheckpoint files c pages → may_go_on c ≡ true
         → (fault : CheckFault) → Explains files fault → IsFromOutside fault }

@@ -1,6 +1,6 @@
 //! The checkpoint that stands on a volume is read.
 
-ghost use Rattle.std.specs.Prelude.{◌≡◌, ◌<◌, ◌≤◌, ℕ, true, Some, None, length, IfOk, MatchResult};
+ghost use Rattle.std.specs.Prelude.{◌≡◌, ◌<◌, ◌≤◌, ◌^◌, ℕ, true, Some, None, length, IfOk, MatchResult};
 ghost use Rattle.std.specs.List.{list_all};
 ghost use Rattle.checkpoint.specs.Contents.{is_slot};
 ghost use Rattle.checkpoint.specs.Opening.{looked_at};
@@ -43,6 +43,7 @@ fn read_new<V: Volume>(
 ) -> Result<(Found, Standing), CheckFault>
     ensures answer { V.tells_contents → looked_at (V.seen volume.old) ≡ None → MatchResult result (λ r. Finds (V.seen volume.old) r.0 r.1) (Explains (V.seen volume.old)) }
     ensures form { IfOk result (λ r. IsAnswer r.0 r.1) }
+    ensures bounds { IfOk result (λ r. (r.1.number < 2 ^ 62) × (1 ≤ r.1.start.generation) × (r.1.start.generation < 2 ^ 62) × (r.1.start.offset ≤ 1048575) × (r.1.start.position < 2 ^ 62)) }
     ensures seen { V.seen volume.new ≡ V.seen volume.old }
     ensures quiet { LooksOnly V.moment V.left_at volume.old volume.new }
     ensures faults { CountsCheckFault result (V.faults volume.old) (V.faults volume.new) }
@@ -106,6 +107,7 @@ fn read_image<V: Volume>(
     requires live { length told.live.items ≤ 4294967295 }
     ensures answer { V.tells_contents → IsToldBy told (V.seen volume.old) → MatchResult result (λ r. Finds (V.seen volume.old) r.0 r.1) (Explains (V.seen volume.old)) }
     ensures form { IfOk result (λ r. IsAnswer r.0 r.1) }
+    ensures bounds { IfOk result (λ r. (r.1.number < 2 ^ 62) × (1 ≤ r.1.start.generation) × (r.1.start.generation < 2 ^ 62) × (r.1.start.offset ≤ 1048575) × (r.1.start.position < 2 ^ 62)) }
     ensures seen { V.seen volume.new ≡ V.seen volume.old }
     ensures quiet { LooksOnly V.moment V.left_at volume.old volume.new }
     ensures faults { CountsCheckFault result (V.faults volume.old) (V.faults volume.new) }
@@ -127,6 +129,7 @@ fn read_old<V: Volume>(
 ) -> Result<(Found, Standing), CheckFault>
     ensures answer { V.tells_contents → looked_at (V.seen volume.old) ≡ Some file → MatchResult result (λ r. Finds (V.seen volume.old) r.0 r.1) (Explains (V.seen volume.old)) }
     ensures form { IfOk result (λ r. IsAnswer r.0 r.1) }
+    ensures bounds { IfOk result (λ r. (r.1.number < 2 ^ 62) × (1 ≤ r.1.start.generation) × (r.1.start.generation < 2 ^ 62) × (r.1.start.offset ≤ 1048575) × (r.1.start.position < 2 ^ 62)) }
     ensures seen { V.seen volume.new ≡ V.seen volume.old }
     ensures quiet { LooksOnly V.moment V.left_at volume.old volume.new }
     ensures faults { CountsCheckFault result (V.faults volume.old) (V.faults volume.new) }
@@ -148,6 +151,7 @@ pub fn read<V: Volume>(
 ) -> Result<(Found, Standing), CheckFault>
     ensures answer { V.tells_contents → MatchResult result (λ r. Finds (V.seen volume.old) r.0 r.1) (Explains (V.seen volume.old)) }
     ensures form { IfOk result (λ r. IsAnswer r.0 r.1) }
+    ensures bounds { IfOk result (λ r. (r.1.number < 2 ^ 62) × (1 ≤ r.1.start.generation) × (r.1.start.generation < 2 ^ 62) × (r.1.start.offset ≤ 1048575) × (r.1.start.position < 2 ^ 62)) }
     ensures stands { V.tells_contents → IfOk result (λ r. IsStanding r.1 (V.seen volume.old)) }
     ensures seen { V.seen volume.new ≡ V.seen volume.old }
     ensures quiet { LooksOnly V.moment V.left_at volume.old volume.new }
