@@ -9,9 +9,9 @@ use Rattle.checkpoint.specs.declared.image.Standing.{Standing}
 use Rattle.checkpoint.specs.declared.fault.CheckFault.{CheckFault}
 use Rattle.checkpoint.specs.declared.fault.CheckFault.TheVariants.{CheckpointCorrupt, LogSequenceEnd, ReadVerifyFailure, VolumeFault, OutOfMemory}
 use Rattle.checkpoint.specs.Contents.{Contents, contents_in, file_of, is_checkpoint_file, may_go_on}
-use Rattle.checkpoint.specs.Opening.{Verdict, file_verdict, verdict, verdict_at, HasBadSlot, HasCheckpoint, HoldsPage, HoldsPages, SlotSays}
+use Rattle.checkpoint.specs.Opening.{Verdict, file_verdict, verdict, verdict_at, is_empty, HasBadSlot, HasCheckpoint, IsNew, HoldsPage, HoldsPages, SlotSays}
 use Rattle.checkpoint.specs.Opening.Verdict.{New, Corrupt, SequenceEnd, Stands}
-use Rattle.checkpoint.specs.Found.{contents_read, Explains, Finds, IsFromOutside, IsRead}
+use Rattle.checkpoint.specs.Found.{contents_read, Explains, Finds, IsFromOutside, IsNewAnswer, IsRead}
 
 stands_once : (a b : Contents) → Stands a ≡ Stands b → a ≡ b
 stands_once a b same = cc
@@ -21,6 +21,15 @@ not_corrupt c same = cc
 
 not_end : (c : Contents) → SequenceEnd ≡ Stands c → ⊥
 not_end c same = cc
+
+new_stands : (c : Contents) → New ≡ Stands c → ⊥
+new_stands c same = cc
+
+new_corrupt : New ≡ Corrupt → ⊥
+new_corrupt same = cc
+
+new_end : New ≡ SequenceEnd → ⊥
+new_end same = cc
 
 -- the verdict where a checkpoint stands: its contents, where its numbers may go on
 abbrev pub goes_or_ends : Bool → Contents → Verdict
@@ -70,3 +79,18 @@ module _ (files : Files) (c : Contents) (pages : List (Option PageContents)) (ha
         none_bad files.database c.slots pages has.holds (subst (λ (k : Contents). HasBadSlot files.database k.slots) same says.2)
     no_refusal VolumeFault says = tt
     no_refusal OutOfMemory says = tt
+
+module _ (files : Files) (new : IsNew files) where
+  is_new : verdict files ≡ New
+  is_new = ap (λ f. verdict_at f files) new.no_gate ∙ ap (λ (log : List ℕ). if is_empty log then New else Corrupt) new.no_log
+
+  pub new_answer : (answer : Found) (standing : Standing) → Finds files answer standing → IsNewAnswer answer
+  new_answer found.New standing finds = tt
+  new_answer (found.Old image) standing finds = new_stands (contents_read image standing) (sym is_new ∙ finds.stands)
+
+  pub new_no_refusal : (fault : CheckFault) → Explains files fault → IsFromOutside fault
+  new_no_refusal CheckpointCorrupt says = new_corrupt (sym is_new ∙ says)
+  new_no_refusal LogSequenceEnd says = new_end (sym is_new ∙ says)
+  new_no_refusal ReadVerifyFailure says = new_stands says.0 (sym is_new ∙ says.1)
+  new_no_refusal VolumeFault says = tt
+  new_no_refusal OutOfMemory says = tt

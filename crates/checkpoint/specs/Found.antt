@@ -95,3 +95,8 @@ CountsCheckFault (Err OutOfMemory) before now = now ≡ before
 abbrev pub IsRead : Contents → List (Option PageContents) → Found → Standing → Type 0
 IsRead c pages found.New standing = ⊥
 IsRead c pages (found.Old image) standing = (contents_read image standing ≡ c) × (image.pages.items ≡ pages)
+
+-- the answer is a new volume
+abbrev pub IsNewAnswer : Found → Type 0
+IsNewAnswer found.New = Unit {0}
+IsNewAnswer (found.Old image) = ⊥

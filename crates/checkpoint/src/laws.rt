@@ -3,13 +3,13 @@
 ghost use Rattle.std.specs.Prelude.{◌≡◌, ◌++◌, ℕ, List, [], ◌∷◌, Option, Some, None, true, false, replicate};
 ghost use Rattle.jet_volume.specs.Image.{Image, no_bytes};
 ghost use Rattle.checkpoint.specs.Contents.{Contents, IsLawful, bytes_behind_gate, contents_in, file_of, is_checkpoint_file, may_go_on};
-ghost use Rattle.checkpoint.specs.Opening.{HasCheckpoint, looked_at, verdict};
-ghost use Rattle.checkpoint.specs.Opening.Verdict.{New, Corrupt, SequenceEnd, Stands};
+ghost use Rattle.checkpoint.specs.Opening.{HasCheckpoint, IsNew, looked_at, verdict};
+ghost use Rattle.checkpoint.specs.Opening.Verdict.{New, Corrupt, Stands};
 ghost use Rattle.page_image.specs.Page.{PageContents};
 ghost use Rattle.checkpoint.specs.declared.fault.CheckFault.{CheckFault};
 ghost use Rattle.checkpoint.specs.declared.image.Found.{Found};
 ghost use Rattle.checkpoint.specs.declared.image.Standing.{Standing};
-ghost use Rattle.checkpoint.specs.Found.{Explains, Finds, IsFromOutside, IsRead};
+ghost use Rattle.checkpoint.specs.Found.{Explains, Finds, IsFromOutside, IsNewAnswer, IsRead};
 
 use jet_volume::File;
 
@@ -20,12 +20,14 @@ pub fn what_is_written_is_read()
 {}
 
 /// What stands is read: an answer is the image of the checkpoint that stands, with its pages. Where its numbers are
-/// below 2^62, the files give no cause to refuse it.
+/// below 2^62, the files give no cause to refuse it. A new volume is answered as new.
 pub fn what_stands_is_read()
     ensures found { (files : Image) (c : Contents) (pages : List (Option PageContents)) → HasCheckpoint files c pages
         → (answer : Found) (standing : Standing) → Finds files answer standing → IsRead c pages answer standing }
     ensures not_refused { (files : Image) (c : Contents) (pages : List (Option PageContents)) → HasCheckpoint files c pages → may_go_on c ≡ true
         → (fault : CheckFault) → Explains files fault → IsFromOutside fault }
+    ensures new { (files : Image) → IsNew files → (answer : Found) (standing : Standing) → Finds files answer standing → IsNewAnswer answer }
+    ensures new_not_refused { (files : Image) → IsNew files → (fault : CheckFault) → Explains files fault → IsFromOutside fault }
 {}
 
 /// The file of a first checkpoint: five log entries, the log goes on in generation 1 at offset 40 and stream

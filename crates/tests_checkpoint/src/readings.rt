@@ -1,9 +1,7 @@
 //! Checkpoints that are read: bytes that are changed, files that are cut, and slots that are bad.
 
-ghost use Rattle.std.specs.Prelude.{◌≡◌, ◌⊎◌};
-
 use checkpoint::CheckFault::{CheckpointCorrupt, LogSequenceEnd, ReadVerifyFailure};
-use checkpoint::{CheckFault, Found, read};
+use checkpoint::{CheckFault, Found, Image, read};
 use jet_volume::MemVolume;
 use page_image::Page;
 use std::alloc::{AllocError, Global};
@@ -51,15 +49,22 @@ fn number_in(alloc: Global, edits: &[(usize, u8)]) -> Result<Result<u64, CheckFa
     Ok(number_on(alloc, Vec::new(alloc), file, none, Vec::new(alloc)))
 }
 
+/// The image that was found.
+fn image_in(found: Found) -> Option<Image> {
+    match found {
+        Found::Old(image) => Some(image),
+        Found::New => None,
+    }
+}
+
 #[test]
 fn an_image_is_read(rt: HostRuntime) -> Result<(), Fail> {
     let alloc = rt.alloc();
     let page = Page::empty(0, 1).bytes().to_vec(alloc)?;
     let file = edited(alloc, 64, &[(54, 0)])?;
     let mut volume = MemVolume::of_files(alloc, page, file, Vec::new(alloc), Vec::new(alloc));
-    let Ok((Found::Old(image), standing)) = read(alloc, &mut volume) else {
-        return Err("no image")?;
-    };
+    let (found, standing) = read(alloc, &mut volume)?;
+    let image = image_in(found).ok_or("no image")?;
     assert_eq!(rt; (image.number, image.catalog_root), (5, 3));
     assert_eq!(rt; image.live.as_slice(), [9, 8, 7, 6].as_slice());
     assert_eq!(rt; image.slots.as_slice(), [0].as_slice());
