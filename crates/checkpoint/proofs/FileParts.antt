@@ -1,6 +1,6 @@
 -- What the pieces of a checkpoint file say of the whole.
-use Rattle.std.proofs.Common.{◌≡◌, ℕ, ◌+◌, ◌≤◌, ◌<◌, List, Bool, true, false, ◌&&◌, Option, Some, None, MatchOption, leb, length, take, drop, refl, sym, ◌∙◌, ap, arith}
-use Rattle.std.proofs.lemmas.Bool.{and_from, and_left, and_right, le-leb, lt-leb}
+use Rattle.std.proofs.Common.{◌≡◌, ℕ, ◌+◌, ◌≤◌, List, true, false, ◌&&◌, Option, Some, None, MatchOption, leb, length, take, drop, sym, ◌∙◌, ap, arith}
+use Rattle.std.proofs.lemmas.Bool.{and_from, and_right, le-leb}
 use Rattle.std.proofs.lemmas.List.{drop-drop, take-take}
 use Rattle.std.specs.List.{list_all}
 use Rattle.byteorder.specs.Endian.{little_number}
@@ -37,11 +37,6 @@ slots_found (Some s) bytes piece count is read good =
       items = items;
       live_length = good.2 ∙ length_of_piece bytes piece count is read.1;
     }
-
--- a file without the bytes of its slots has not its slots
-pub slots_missing : (bytes : List ℕ) (count : ℕ) → count ≡ page_count bytes → length bytes < 54 + (count + 4) → has_slots bytes ≡ false
-slots_missing bytes count is short =
-    and_left (leb (58 + page_count bytes) (length bytes)) (list_all is_slot (slot_bytes bytes)) (lt-leb (58 + page_count bytes) (length bytes) (omega (arith, short, is)))
 
 -- the fixed part, the slots and the live part are all of a checkpoint file
 pub told_is_file : (file : File) (bytes : List ℕ) (count n : ℕ) → has_head file bytes ≡ true → has_slots bytes ≡ true → count ≡ page_count bytes → n ≡ live_length bytes → 58 + count + n ≤ length bytes

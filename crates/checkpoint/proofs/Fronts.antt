@@ -1,5 +1,5 @@
 -- What the front of a file says of the file.
-use Rattle.std.proofs.Common.{◌≡◌, ⊎_elim, ℕ, ◌+◌, ◌-◌, ◌<◌, ◌≤◌, min, List, Bool, true, false, ◌&&◌, Option, Some, None, if◌then◌else◌, eqb, leb, length, get_or, take, drop, refl, sym, ◌∙◌, ap, subst, arith, length-take, codes}
+use Rattle.std.proofs.Common.{◌≡◌, ⊎_elim, ℕ, ◌+◌, ◌-◌, ◌<◌, ◌≤◌, min, List, Bool, ◌&&◌, Some, None, if◌then◌else◌, eqb, leb, length, get_or, take, drop, sym, ◌∙◌, ap, arith, length-take, codes}
 use Rattle.std.proofs.lemmas.Bool.{cases_lt, le-leb, lt-leb}
 use Rattle.std.proofs.lemmas.List.{get_or-take, drop-take, take-take, take_min}
 use Rattle.byteorder.specs.Endian.{little_number}

@@ -1,13 +1,11 @@
 -- What is read of page slots.
-use Rattle.std.proofs.Common.{◌≡◌, ⊎_elim, ℕ, suc, ◌+◌, ◌<◌, ◌≤◌, List, [], ◌∷◌, ◌++◌, Bool, true, Option, Some, None, IfSome, length, get_or, take, drop, refl, sym, ◌∙◌, ap, subst, arith}
-use Rattle.std.specs.List.{list_all}
+use Rattle.std.proofs.Common.{◌≡◌, ⊎_elim, ℕ, suc, ◌+◌, ◌<◌, ◌≤◌, List, [], ◌∷◌, ◌++◌, Option, Some, None, IfSome, length, get_or, take, drop, refl, sym, ◌∙◌, ap, subst, arith}
 use Rattle.std.proofs.lemmas.Bool.{cases_lt}
 use Rattle.std.proofs.lemmas.List.{get_or_append_left, get_or_default, get_or_past, get_or_push, take_all}
 use Rattle.page_image.specs.Page.{IsPage, PageContents, page_bytes}
 use Rattle.checkpoint.specs.declared.fault.CheckFault.{CheckFault}
 use Rattle.checkpoint.specs.declared.fault.CheckFault.TheVariants.{CheckpointCorrupt, LogSequenceEnd, ReadVerifyFailure, VolumeFault, OutOfMemory}
-use Rattle.checkpoint.specs.Contents.{is_slot}
-use Rattle.checkpoint.specs.Opening.{HasBadSlot, HoldsPage, HoldsPages, slot_of, slot_start}
+use Rattle.checkpoint.specs.Opening.{HasBadSlot, HoldsPage, slot_of, slot_start}
 use Rattle.checkpoint.specs.Shape.{HasOwnNumber}
 use Rattle.checkpoint.specs.Found.{HoldsOnly}
 use Rattle.checkpoint.specs.Parts.{BearsNumber, ExplainsSlots, IsBadSlot, SaysOnly}
@@ -46,8 +44,8 @@ pub holds_only : (database slots : List ℕ) (pages : List (Option PageContents)
 holds_only database slots pages count says = (
   record { count = sym count; each = λ p lt. (says p (omega (arith, lt, count))).says },
   λ others holds.
-  same_list others pages (sym holds.count ∙ sym count)
-  (λ p lt. (says p (omega (arith, lt, count))).only (get_or others p None) (holds.each p (omega (arith, lt, count, holds.count)))),
+      same_list others pages (sym holds.count ∙ sym count)
+      (λ p lt. (says p (omega (arith, lt, count))).only (get_or others p None) (holds.each p (omega (arith, lt, count, holds.count)))),
 )
 
 pub own_numbers : (pages : List (Option PageContents)) (n : ℕ) → length pages ≡ n → ((p : ℕ) → p < n → BearsNumber p (get_or pages p None)) → (p : ℕ) → HasOwnNumber pages p

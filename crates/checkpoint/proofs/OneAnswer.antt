@@ -1,5 +1,5 @@
 -- What stands on a volume has one answer.
-use Rattle.std.proofs.Common.{◌≡◌, ℕ, ◌<◌, List, Bool, true, false, Option, Some, None, if◌then◌else◌, get_or, length, refl, sym, ◌∙◌, ap, subst, arith}
+use Rattle.std.proofs.Common.{◌≡◌, ℕ, ◌<◌, List, Bool, true, false, Option, Some, None, if◌then◌else◌, get_or, sym, ◌∙◌, ap, subst, arith}
 use Rattle.jet_volume.specs.declared.files.File.{File}
 use Rattle.jet_volume.specs.Image.{Image as Files, file_bytes}
 use Rattle.page_image.specs.Page.{PageContents}

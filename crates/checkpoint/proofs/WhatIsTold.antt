@@ -7,7 +7,7 @@ use Rattle.jet_volume.specs.Image.{Image as Files, file_bytes, is_file}
 use Rattle.page_image.specs.Page.{PageContents}
 use Rattle.checkpoint.specs.declared.image.Image.{Image}
 use Rattle.checkpoint.specs.declared.image.Standing.{Standing}
-use Rattle.checkpoint.specs.declared.file.Told.{Told}
+use Rattle.checkpoint.specs.declared.file.FileContents.{FileContents}
 use Rattle.checkpoint.specs.declared.fault.CheckFault.{CheckFault}
 use Rattle.checkpoint.specs.declared.fault.CheckFault.TheVariants.{CheckpointCorrupt, LogSequenceEnd, ReadVerifyFailure, VolumeFault, OutOfMemory}
 use Rattle.checkpoint.specs.Contents.{Contents, contents_in, file_of, has_head, has_live, has_slots, is_checkpoint_file, number_at}
@@ -15,7 +15,7 @@ use Rattle.checkpoint.specs.Opening.{verdict, verdict_at, HasBadSlot, HasCheckpo
 use Rattle.checkpoint.specs.Opening.Verdict.{Stands}
 use Rattle.checkpoint.specs.Shape.{contents_with}
 use Rattle.checkpoint.specs.Found.{contents_read, Explains, FindsImage, HoldsOnly}
-use Rattle.checkpoint.specs.Parts.{ExplainsSlots, IsToldBy}
+use Rattle.checkpoint.specs.Parts.{ExplainsSlots, IsLookedAt}
 
 pub first_true : (a b : Bool) → (a && b) ≡ true → a ≡ true
 first_true true b both = refl
@@ -62,7 +62,7 @@ head_file file bytes head =
     (second_true (eqb (number_at 4 6 bytes) 1) from_number
     (second_true mark from_format (second_true (leb 54 (length bytes)) (mark && from_format) head)))))
 
-module _ (told : Told) (files : Files) (by : IsToldBy told files) where
+module _ (told : FileContents) (files : Files) (by : IsLookedAt told files) where
   abbrev pub contents : Contents
   contents = contents_with told.head told.slots.items told.live.items
 

@@ -1,6 +1,5 @@
 -- What reading a volume answers.
-use Rattle.std.specs.Prelude.{◌≡◌, ◌<◌, ◌≤◌, ◌^◌, ℕ, List, [], Option, Bool, true, false, Result, Ok, Err, MatchOption}
-use Rattle.jet_volume.specs.declared.files.File.{File}
+use Rattle.std.specs.Prelude.{◌≡◌, ◌<◌, ◌≤◌, ◌^◌, ℕ, List, [], Option, Result, Ok, Err}
 use Rattle.jet_volume.specs.declared.files.LogStart.{LogStart}
 use Rattle.jet_volume.specs.Image.{Image as Files}
 use Rattle.page_image.specs.Page.{PageContents}
@@ -11,7 +10,7 @@ use Rattle.checkpoint.specs.declared.image.Found.TheVariants as found
 use Rattle.checkpoint.specs.declared.fault.CheckFault.{CheckFault}
 use Rattle.checkpoint.specs.declared.fault.CheckFault.TheVariants.{CheckpointCorrupt, LogSequenceEnd, ReadVerifyFailure, VolumeFault, OutOfMemory}
 use Rattle.checkpoint.specs.Contents.{Contents}
-use Rattle.checkpoint.specs.Opening.{Verdict, verdict, IsNew, HasCheckpoint, HoldsPages, HasBadSlot}
+use Rattle.checkpoint.specs.Opening.{verdict, IsNew, HasCheckpoint, HoldsPages, HasBadSlot}
 use Rattle.checkpoint.specs.Opening.Verdict.{New, Corrupt, SequenceEnd, Stands}
 use Rattle.checkpoint.specs.Shape.{IsInShape, contents_of}
 

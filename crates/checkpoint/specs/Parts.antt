@@ -1,16 +1,15 @@
 -- What each part of reading answers.
-use Rattle.std.specs.Prelude.{◌≡◌, ◌<◌, ◌≤◌, ℕ, ◌+◌, ◌-◌, List, Option, None, Some, Bool, true, false, length, take, drop, MatchOption}
-use Rattle.std.specs.List.{list_all}
+use Rattle.std.specs.Prelude.{◌≡◌, ◌<◌, ℕ, List, Option, Some, true, MatchOption}
 use Rattle.jet_volume.specs.declared.files.File.{File}
 use Rattle.jet_volume.specs.Crash.{LeavesOnly}
 use Rattle.jet_volume.specs.Image.{Image as Files, file_bytes}
 use Rattle.page_image.specs.Page.{PageContents}
 use Rattle.checkpoint.specs.declared.looking.Fixed.{Fixed}
 use Rattle.checkpoint.specs.declared.file.Slots.{Slots}
-use Rattle.checkpoint.specs.declared.file.Told.{Told}
+use Rattle.checkpoint.specs.declared.file.FileContents.{FileContents}
 use Rattle.checkpoint.specs.declared.fault.CheckFault.{CheckFault}
 use Rattle.checkpoint.specs.declared.fault.CheckFault.TheVariants.{CheckpointCorrupt, LogSequenceEnd, ReadVerifyFailure, VolumeFault, OutOfMemory}
-use Rattle.checkpoint.specs.Contents.{Contents, contents_in, has_head, has_slots, is_checkpoint_file, is_slot, live_length, page_count, slot_bytes}
+use Rattle.checkpoint.specs.Contents.{contents_in, has_head, has_slots, is_checkpoint_file, live_length, page_count, slot_bytes}
 use Rattle.checkpoint.specs.Opening.{file_verdict, looked_at, HoldsPage, SlotSays}
 use Rattle.checkpoint.specs.Opening.Verdict.{Corrupt, SequenceEnd, Stands}
 use Rattle.checkpoint.specs.Shape.{contents_with}
@@ -18,11 +17,6 @@ use Rattle.checkpoint.specs.Shape.{contents_with}
 -- a crash at any moment from old to new leaves what one before them might have left
 abbrev pub LooksOnly : {V : Type 0} → (V → ℕ) → (V → ℕ → Files → Type 0) → V → V → Type 0
 LooksOnly moment left_at old new = LeavesOnly moment left_at old new (left_at old (moment old))
-
--- the bytes of a file from a place on, none where it has not so many
-abbrev pub IsPiece : List ℕ → ℕ → ℕ → Option (List ℕ) → Type 0
-IsPiece bytes at n None = length bytes < at + n
-IsPiece bytes at n (Some piece) = (at + n ≤ length bytes) × (piece ≡ take n (drop at bytes))
 
 -- the numbers of a fixed part are those of a file
 pub record IsFixedOf (fixed : Fixed) (file : File) (bytes : List ℕ) : Type 0 where
@@ -37,16 +31,16 @@ pub record IsSlotsOf (slots : Slots) (bytes : List ℕ) : Type 0 where
   pub live_length : slots.live_length ≡ live_length bytes
 
 -- what was told is what a checkpoint file says
-pub record IsToldOf (told : Told) (file : File) (bytes : List ℕ) : Type 0 where
+pub record IsContentsOf (told : FileContents) (file : File) (bytes : List ℕ) : Type 0 where
   pub is_file : is_checkpoint_file file bytes ≡ true
   pub says : contents_with told.head told.slots.items told.live.items ≡ contents_in bytes
 
 -- what was told is what the file that is looked at says, and its numbers may go on
-pub record IsToldBy (told : Told) (files : Files) : Type 0 where
+pub record IsLookedAt (told : FileContents) (files : Files) : Type 0 where
   pub file : File
   pub looked_at : looked_at files ≡ Some file
   pub verdict : file_verdict file (file_bytes file files) ≡ Stands (contents_with told.head told.slots.items told.live.items)
-  pub says : IsToldOf told file (file_bytes file files)
+  pub says : IsContentsOf told file (file_bytes file files)
 
 -- what a refusal says of the file that is looked at
 abbrev pub ExplainsFile : File → List ℕ → CheckFault → Type 0

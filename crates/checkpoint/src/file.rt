@@ -10,7 +10,7 @@ ghost use Rattle.checkpoint.specs.Opening.Verdict.{Stands};
 ghost use Rattle.checkpoint.specs.Opening.{file_verdict};
 ghost use Rattle.checkpoint.specs.Shape.{contents_with};
 ghost use Rattle.checkpoint.specs.Found.{CountsCheckFault, IsFromOutside, IsWithinBounds};
-ghost use Rattle.checkpoint.specs.Parts.{ExplainsFile, IsFixedOf, IsPiece, IsSlotsOf, IsToldOf, LooksOnly};
+ghost use Rattle.checkpoint.specs.Parts.{ExplainsFile, IsFixedOf, IsSlotsOf, IsContentsOf, LooksOnly};
 
 use crate::fault::CheckFault;
 use crate::looking::{Fixed, read_fixed, u32_at};
@@ -40,12 +40,7 @@ fn has_bytes<V: Volume>(volume: &mut V, file: File, end: u64) -> Result<bool, Fa
 }
 
 /// Fills a buffer with the bytes of a file from a place on. Answers whether the file has as many.
-fn fill<V: Volume>(
-    volume: &mut V,
-    file: File,
-    at: u64,
-    into: &mut [u8],
-) -> Result<bool, Failed>
+fn fill<V: Volume>(volume: &mut V, file: File, at: u64, into: &mut [u8]) -> Result<bool, Failed>
     ensures whole { IfOk result (λ whole. V.tells_contents → whole ≡ nat_le (length into.old) (length (file_bytes file (V.seen volume.old)) - at)) }
     ensures filled { IfOk result (λ whole. V.tells_contents → OnTrue whole (into.new ≡ take (length into.old) (drop at (file_bytes file (V.seen volume.old))))) }
     ensures seen { V.seen volume.new ≡ V.seen volume.old }
@@ -168,7 +163,7 @@ fn read_slots<V: Volume>(
 
 /// What a checkpoint file says.
 #[derive(Drop)]
-pub struct Told {
+pub struct FileContents {
     pub head: Head,
     pub slots: Vec<u8>,
     pub live: Vec<u8>,
@@ -181,10 +176,10 @@ fn read_live<V: Volume>(
     file: File,
     fixed: Fixed,
     slots: Slots,
-) -> Result<Option<Told>, CheckFault>
+) -> Result<Option<FileContents>, CheckFault>
     requires { fixed.count ≤ 16777216 }
     ensures told { IfOk result (λ found. V.tells_contents → IsFixedOf fixed file (file_bytes file (V.seen volume.old)) → IsSlotsOf slots (file_bytes file (V.seen volume.old))
-        → MatchOption found (is_checkpoint_file file (file_bytes file (V.seen volume.old)) ≡ false) (λ told. IsToldOf told file (file_bytes file (V.seen volume.old)))) }
+        → MatchOption found (is_checkpoint_file file (file_bytes file (V.seen volume.old)) ≡ false) (λ told. IsContentsOf told file (file_bytes file (V.seen volume.old)))) }
     ensures parts { IfOk result (λ found. IfSome found (λ told. (told.head ≡ fixed.head) × (told.slots.items ≡ slots.items.items) × (length told.live.items ≤ 4294967295))) }
     ensures outside { IfErr result IsFromOutside }
     ensures seen { V.seen volume.new ≡ V.seen volume.old }
@@ -193,7 +188,7 @@ fn read_live<V: Volume>(
 {
     let at = (SLOTS_AT + LENGTH_BYTES) as u64 + fixed.count as u64;
     match read_piece(alloc, volume, file, at, slots.live_length as usize) {
-        Ok(Some(live)) => Ok(Some(Told {
+        Ok(Some(live)) => Ok(Some(FileContents {
             head: fixed.head,
             slots: slots.items,
             live,
@@ -209,10 +204,10 @@ fn read_behind<V: Volume>(
     volume: &mut V,
     file: File,
     fixed: Fixed,
-) -> Result<Option<Told>, CheckFault>
+) -> Result<Option<FileContents>, CheckFault>
     requires { fixed.count ≤ 16777216 }
     ensures told { IfOk result (λ found. V.tells_contents → IsFixedOf fixed file (file_bytes file (V.seen volume.old))
-        → MatchOption found (is_checkpoint_file file (file_bytes file (V.seen volume.old)) ≡ false) (λ told. IsToldOf told file (file_bytes file (V.seen volume.old)))) }
+        → MatchOption found (is_checkpoint_file file (file_bytes file (V.seen volume.old)) ≡ false) (λ told. IsContentsOf told file (file_bytes file (V.seen volume.old)))) }
     ensures parts { IfOk result (λ found. IfSome found (λ told. (told.head ≡ fixed.head) × (list_all is_slot told.slots.items ≡ true) × (length told.slots.items ≤ 16777216) × (length told.live.items ≤ 4294967295))) }
     ensures outside { IfErr result IsFromOutside }
     ensures seen { V.seen volume.new ≡ V.seen volume.old }
@@ -231,9 +226,9 @@ fn read_whole<V: Volume>(
     alloc: Global,
     volume: &mut V,
     file: File,
-) -> Result<Option<Told>, CheckFault>
+) -> Result<Option<FileContents>, CheckFault>
     ensures told { IfOk result (λ found. V.tells_contents
-        → MatchOption found (is_checkpoint_file file (file_bytes file (V.seen volume.old)) ≡ false) (λ told. IsToldOf told file (file_bytes file (V.seen volume.old)))) }
+        → MatchOption found (is_checkpoint_file file (file_bytes file (V.seen volume.old)) ≡ false) (λ told. IsContentsOf told file (file_bytes file (V.seen volume.old)))) }
     ensures bounds { IfOk result (λ found. IfSome found (λ told. (1 ≤ told.head.number) × (1 ≤ told.head.start.generation) × (told.head.start.offset ≤ 1048575))) }
     ensures parts { IfOk result (λ found. IfSome found (λ told. (list_all is_slot told.slots.items ≡ true) × (length told.slots.items ≤ 16777216) × (length told.live.items ≤ 4294967295))) }
     ensures outside { IfErr result IsFromOutside }
@@ -263,8 +258,8 @@ pub fn read_file<V: Volume>(
     alloc: Global,
     volume: &mut V,
     file: File,
-) -> Result<Told, CheckFault>
-    ensures told { V.tells_contents → MatchResult result (λ told. IsToldOf told file (file_bytes file (V.seen volume.old))) (ExplainsFile file (file_bytes file (V.seen volume.old))) }
+) -> Result<FileContents, CheckFault>
+    ensures told { V.tells_contents → MatchResult result (λ told. IsContentsOf told file (file_bytes file (V.seen volume.old))) (ExplainsFile file (file_bytes file (V.seen volume.old))) }
     ensures stands { IfOk result (λ told. V.tells_contents → file_verdict file (file_bytes file (V.seen volume.old)) ≡ Stands (contents_with told.head told.slots.items told.live.items)) }
     ensures bounds { IfOk result (λ told. IsWithinBounds told.head.number told.head.entries told.head.start) }
     ensures parts { IfOk result (λ told. (list_all is_slot told.slots.items ≡ true) × (length told.slots.items ≤ 16777216) × (length told.live.items ≤ 4294967295)) }

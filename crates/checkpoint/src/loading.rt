@@ -36,11 +36,7 @@ fn page_in(bytes: [u8; 4096], number: usize) -> Option<Page>
 }
 
 /// Reads the page in a slot, `None` where the slot is not whole, or holds no page of this number.
-fn read_page<V: Volume>(
-    volume: &mut V,
-    number: usize,
-    slot: u8,
-) -> Result<Option<Page>, Failed>
+fn read_page<V: Volume>(volume: &mut V, number: usize, slot: u8) -> Result<Option<Page>, Failed>
     requires few { number < 16777216 }
     requires slot { slot < 2 }
     ensures holds { IfOk result (λ found. V.tells_contents → IfSome found (HoldsPage (V.seen volume.old).database number slot)) }
@@ -64,11 +60,7 @@ fn read_page<V: Volume>(
 }
 
 /// Reads what a slot says of its page: `None` where the page is free.
-fn read_slot<V: Volume>(
-    volume: &mut V,
-    number: usize,
-    slot: u8,
-) -> Result<Option<Page>, CheckFault>
+fn read_slot<V: Volume>(volume: &mut V, number: usize, slot: u8) -> Result<Option<Page>, CheckFault>
     requires few { number < 16777216 }
     requires slot { slot ≤ 2 }
     ensures says { V.tells_contents → MatchResult result (SaysOnly (V.seen volume.old).database number slot) (ExplainsSlots (IsBadSlot (V.seen volume.old).database number slot)) }

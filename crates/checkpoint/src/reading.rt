@@ -6,10 +6,10 @@ ghost use Rattle.checkpoint.specs.Contents.{is_slot};
 ghost use Rattle.checkpoint.specs.Opening.{looked_at};
 ghost use Rattle.checkpoint.specs.Shape.{HasOwnNumber, IsStanding, contents_with};
 ghost use Rattle.checkpoint.specs.Found.{CountsCheckFault, Explains, Finds, FindsImage, IsAnswer, IsImageOf, IsNothing, IsWithinBounds, contents_read};
-ghost use Rattle.checkpoint.specs.Parts.{IsToldBy, LooksOnly};
+ghost use Rattle.checkpoint.specs.Parts.{IsLookedAt, LooksOnly};
 
 use crate::fault::CheckFault;
-use crate::file::{Told, read_file};
+use crate::file::{FileContents, read_file};
 use crate::image::{Found, Image, Standing};
 use crate::loading::{copy_pages, read_pages};
 use crate::looking::look;
@@ -37,10 +37,7 @@ fn nothing(alloc: Global) -> Standing
 }
 
 /// Reads a volume where no gate is open: it is new where its log has no byte.
-fn read_new<V: Volume>(
-    alloc: Global,
-    volume: &mut V,
-) -> Result<(Found, Standing), CheckFault>
+fn read_new<V: Volume>(alloc: Global, volume: &mut V) -> Result<(Found, Standing), CheckFault>
     ensures answer { V.tells_contents → looked_at (V.seen volume.old) ≡ None → MatchResult result (λ r. Finds (V.seen volume.old) r.0 r.1) (Explains (V.seen volume.old)) }
     ensures form { IfOk result (λ r. IsAnswer r.0 r.1) }
     ensures bounds { IfOk result (λ r. (r.1.number < 2 ^ 62) × (1 ≤ r.1.start.generation) × (r.1.start.generation < 2 ^ 62) × (r.1.start.offset ≤ 1048575) × (r.1.start.position < 2 ^ 62)) }
@@ -63,7 +60,7 @@ fn read_new<V: Volume>(
 /// The image that a file tells, with its pages, and the standing checkpoint with copies of them.
 fn image_of(
     alloc: Global,
-    told: Told,
+    told: FileContents,
     pages: Vec<Option<Page>>,
 ) -> Result<(Image, Standing), OutOfMemory>
     requires bounds { IsWithinBounds told.head.number told.head.entries told.head.start }
@@ -99,13 +96,13 @@ fn image_of(
 fn read_image<V: Volume>(
     alloc: Global,
     volume: &mut V,
-    told: Told,
+    told: FileContents,
 ) -> Result<(Found, Standing), CheckFault>
     requires bounds { IsWithinBounds told.head.number told.head.entries told.head.start }
     requires slots { list_all is_slot told.slots.items ≡ true }
     requires few { length told.slots.items ≤ 16777216 }
     requires live { length told.live.items ≤ 4294967295 }
-    ensures answer { V.tells_contents → IsToldBy told (V.seen volume.old) → MatchResult result (λ r. Finds (V.seen volume.old) r.0 r.1) (Explains (V.seen volume.old)) }
+    ensures answer { V.tells_contents → IsLookedAt told (V.seen volume.old) → MatchResult result (λ r. Finds (V.seen volume.old) r.0 r.1) (Explains (V.seen volume.old)) }
     ensures form { IfOk result (λ r. IsAnswer r.0 r.1) }
     ensures bounds { IfOk result (λ r. (r.1.number < 2 ^ 62) × (1 ≤ r.1.start.generation) × (r.1.start.generation < 2 ^ 62) × (r.1.start.offset ≤ 1048575) × (r.1.start.position < 2 ^ 62)) }
     ensures seen { V.seen volume.new ≡ V.seen volume.old }
@@ -145,10 +142,7 @@ fn read_old<V: Volume>(
 /// A volume is new where no gate is open and the log has no byte. Else the refusals come in this order: no gate is
 /// open, or the file that is looked at is no checkpoint file; a number of its is 2^62 or more; a slot in use is bad.
 /// What the bytes of the pages and of the live part mean is not looked at.
-pub fn read<V: Volume>(
-    alloc: Global,
-    volume: &mut V,
-) -> Result<(Found, Standing), CheckFault>
+pub fn read<V: Volume>(alloc: Global, volume: &mut V) -> Result<(Found, Standing), CheckFault>
     ensures answer { V.tells_contents → MatchResult result (λ r. Finds (V.seen volume.old) r.0 r.1) (Explains (V.seen volume.old)) }
     ensures form { IfOk result (λ r. IsAnswer r.0 r.1) }
     ensures bounds { IfOk result (λ r. (r.1.number < 2 ^ 62) × (1 ≤ r.1.start.generation) × (r.1.start.generation < 2 ^ 62) × (r.1.start.offset ≤ 1048575) × (r.1.start.position < 2 ^ 62)) }

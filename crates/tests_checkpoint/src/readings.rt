@@ -71,7 +71,10 @@ fn an_image_is_read(rt: HostRuntime) -> Result<(), Fail> {
     assert_eq!(rt; (image.pages.len(), standing.pages.len()), (1, 1));
     assert_eq!(rt; (standing.number, standing.format), (1, 1));
     let start = standing.start;
-    assert_eq!(rt; (start.generation, start.offset, start.position), (1, 40, 18));
+    assert_eq!(rt;
+        (start.generation, start.offset, start.position),
+        (1, 40, 18)
+    );
     Ok(())
 }
 
@@ -137,7 +140,11 @@ fn one_of_two_files_is_looked_at(rt: HostRuntime) -> Result<(), Fail> {
         let a = edited(alloc, 64, &[])?;
         let b = edited(alloc, len, &[(10, number)])?;
         let none = Vec::new(alloc);
-        assert_eq!(rt; number_on(alloc, Vec::new(alloc), a, b, none), want, "{len} bytes");
+        assert_eq!(rt;
+            number_on(alloc, Vec::new(alloc), a, b, none),
+            want,
+            "{len} bytes"
+        );
     }
     Ok(())
 }

@@ -1,6 +1,4 @@
-use Rattle.std.proofs.Common.{◌≡◌, ◌∙◌, arith}
-use Rattle.page_image.specs.Page.{page_bytes}
-use Rattle.checkpoint.specs.Opening.{slot_of}
+use Rattle.std.proofs.Common.{◌∙◌, arith}
 use Rattle.checkpoint.proofs.Loads.{page_holds, slot_read}
 use Rattle.checkpoint.proofs.loading.read_page.Goals as goal
 

@@ -1,4 +1,4 @@
-use Rattle.std.proofs.Common.{◌≡◌, List, [], ℕ, true, take, sym, ◌∙◌, ap, arith}
+use Rattle.std.proofs.Common.{◌≡◌, List, [], ℕ, take, sym, ◌∙◌, ap, arith}
 use Rattle.jet_volume.specs.Image.{file_bytes}
 use Rattle.checkpoint.specs.Contents.{Contents, contents_in, has_head, number_at}
 use Rattle.checkpoint.proofs.Fronts.{front_is, head_front, number_front, says_front}
@@ -24,8 +24,7 @@ returns-clause-fixed g c tells =
 
 pub returns-clause-bounds : goal.returns-clause-bounds
 returns-clause-bounds g c =
-    let says = c.head_in.ensures [] [] in
-    (
+    let says = c.head_in.ensures [] [] in (
       omega (arith, ap (λ (k : Contents). k.number) says, c.has_head.ensures.number c.if-not-has_head.false),
       omega (arith, ap (λ (k : Contents). k.start.generation) says, c.has_head.ensures.generation c.if-not-has_head.false),
       omega (arith, ap (λ (k : Contents). k.start.offset) says, c.has_head.ensures.offset c.if-not-has_head.false),

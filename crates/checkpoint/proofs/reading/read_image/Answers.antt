@@ -1,4 +1,4 @@
-use Rattle.std.proofs.Common.{◌≡◌, ℕ, List, subst}
+use Rattle.std.proofs.Common.{ℕ, List, subst}
 use Rattle.checkpoint.specs.Opening.{HasBadSlot}
 use Rattle.checkpoint.specs.Found.{HoldsOnly}
 use Rattle.checkpoint.specs.Parts.{ExplainsSlots}

@@ -57,13 +57,12 @@ returns-in-Ok-read-clause-acknowledged c settled told =
     λ image was. settled image (was_left c.args.volume c.read.new.volume c.read.ensures.quiet image was) in
     let stands =
     on_ok_at c.write.result _ (sym c.is_ok-acknowledged.ensures.value ∙ told) c.write.ensures.written tt
-    (λ image was. subst (λ (i : Files). IsStanding c.in-Ok.standing i) (sym (same image was)) (c.in-Ok.ensures.stands tt)) in
-    (
+    (λ image was. subst (λ (i : Files). IsStanding c.in-Ok.standing i) (sym (same image was)) (c.in-Ok.ensures.stands tt)) in (
       c.in-Ok.standing,
       c.in-Ok.ensures.stands tt,
       c.write.new.standing.slots.items,
       c.what_stands_is_read.ensures.found left (contents_of (c.in-Ok.standing.number + 1) c.args.start c.write.new.standing.slots.items c.args.image.now) pages
-      (stands left c.in-Ok-crash.ensures.image) c.in-Ok-read.found c.in-Ok-read.standing (c.in-Ok-read.ensures.answer tt),
+          (stands left c.in-Ok-crash.ensures.image) c.in-Ok-read.found c.in-Ok-read.standing (c.in-Ok-read.ensures.answer tt),
     )
 
 pub returns-in-Ok-read-clause-stands : goal.returns-in-Ok-read-clause-stands
