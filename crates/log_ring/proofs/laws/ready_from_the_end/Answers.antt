@@ -1,8 +1,7 @@
-use Rattle.std.proofs.Common.{◌≡◌, ℕ, ◌+◌, ◌<◌, true, None, List, [], refl, arith}
+use Rattle.std.proofs.Common.{◌≡◌, ℕ, ◌+◌, true, None, List, [], refl, arith}
 use Rattle.jet_volume.specs.declared.files.LogStart.{LogStart}
 use Rattle.log_ring.specs.Blocks.{next_generation, open_payload, Scans}
 use Rattle.log_ring.specs.Gates.{is_barred}
-use Rattle.log_ring.specs.Ready.{IsReady}
 use Rattle.log_ring.proofs.Paths.{next_none, none_here}
 use Rattle.log_ring.proofs.Barring.{barred_none}
 use Rattle.log_ring.proofs.laws.ready_from_the_end.Goals as goal
