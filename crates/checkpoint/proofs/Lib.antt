@@ -1,8 +1,14 @@
+pub mod FileParts
 pub mod Files
 pub mod Follows
 pub mod Gates
+pub mod Loads
+pub mod OneAnswer
 pub mod Pieces
 pub mod ReadsBack
 pub mod Regions
 pub mod Stands
+pub mod WhatIsTold
 pub mod Writes
+pub mod Fronts
+pub mod Quiet

@@ -1,10 +1,15 @@
 //! What holds of the bytes of checkpoint files, and worked examples of the definitions.
 
-ghost use Rattle.std.specs.Prelude.{◌≡◌, ◌++◌, ℕ, List, [], ◌∷◌, Some, None, true, false, replicate};
-ghost use Rattle.jet_volume.specs.Image.{no_bytes};
-ghost use Rattle.checkpoint.specs.Contents.{Contents, IsLawful, bytes_behind_gate, contents_in, file_of, is_checkpoint_file};
-ghost use Rattle.checkpoint.specs.Opening.{looked_at, verdict};
-ghost use Rattle.checkpoint.specs.Opening.Verdict.{New, Corrupt, Stands};
+ghost use Rattle.std.specs.Prelude.{◌≡◌, ◌++◌, ℕ, List, [], ◌∷◌, Option, Some, None, true, false, drop, replicate, take};
+ghost use Rattle.jet_volume.specs.Image.{Image, no_bytes};
+ghost use Rattle.checkpoint.specs.Contents.{Contents, IsLawful, bytes_behind_gate, contents_in, file_of, is_checkpoint_file, may_go_on};
+ghost use Rattle.checkpoint.specs.Opening.{HasCheckpoint, IsNew, looked_at, verdict};
+ghost use Rattle.checkpoint.specs.Opening.Verdict.{New, Corrupt, SequenceEnd, Stands};
+ghost use Rattle.page_image.specs.Page.{PageContents};
+ghost use Rattle.checkpoint.specs.declared.fault.CheckFault.{CheckFault};
+ghost use Rattle.checkpoint.specs.declared.image.Found.{Found};
+ghost use Rattle.checkpoint.specs.declared.image.Standing.{Standing};
+ghost use Rattle.checkpoint.specs.Found.{Explains, Finds, IsFromOutside, IsNewAnswer, IsRead};
 
 use jet_volume::File;
 
@@ -12,6 +17,17 @@ use jet_volume::File;
 pub fn what_is_written_is_read()
     ensures { (gate : ℕ) (c : Contents) (tail : List ℕ) → IsLawful c
         → (is_checkpoint_file (file_of c.number) (gate ∷ (bytes_behind_gate c ++ tail)) ≡ true) × (contents_in (gate ∷ (bytes_behind_gate c ++ tail)) ≡ c) }
+{}
+
+/// What stands is read: an answer is the image of the checkpoint that stands, with its pages. Where its numbers are
+/// below 2^62, the files give no cause to refuse it. A new volume is answered as new.
+pub fn what_stands_is_read()
+    ensures found { (files : Image) (c : Contents) (pages : List (Option PageContents)) → HasCheckpoint files c pages
+        → (answer : Found) (standing : Standing) → Finds files answer standing → IsRead c pages answer standing }
+    ensures not_refused { (files : Image) (c : Contents) (pages : List (Option PageContents)) → HasCheckpoint files c pages → may_go_on c ≡ true
+        → (fault : CheckFault) → Explains files fault → IsFromOutside fault }
+    ensures new { (files : Image) → IsNew files → (answer : Found) (standing : Standing) → Finds files answer standing → IsNewAnswer answer }
+    ensures new_not_refused { (files : Image) → IsNew files → (fault : CheckFault) → Explains files fault → IsFromOutside fault }
 {}
 
 /// The file of a first checkpoint: five log entries, the log goes on in generation 1 at offset 40 and stream
@@ -29,6 +45,23 @@ pub fn first_checkpoint_file()
     ensures other_file { is_checkpoint_file File.CheckpointB FIRST ≡ false }
     ensures says { contents_in FIRST ≡ record { number = 1; entries = 5; start = record { generation = 1; offset = 40; position = 18 }; catalog_root = 0; slots = 2 ∷ []; live = 9 ∷ 8 ∷ 7 ∷ 6 ∷ [] } }
     ensures stands { verdict (record no_bytes { checkpoint_a = FIRST }) ≡ Stands (record { number = 1; entries = 5; start = record { generation = 1; offset = 40; position = 18 }; catalog_root = 0; slots = 2 ∷ []; live = 9 ∷ 8 ∷ 7 ∷ 6 ∷ [] }) }
+{}
+
+/// The first cause is answered: a field that is not as it must be, or a part that is not there, and behind these a
+/// number of 2^62. The byte behind the live part is not looked at.
+#[tactic(auto, unfolding(crate::specs::Contents::number_at, crate::specs::Contents::has_head))]
+pub fn why_a_file_is_refused()
+    ensures other_file { verdict (record no_bytes { checkpoint_b = FIRST }) ≡ Corrupt }
+    ensures generation { verdict (record no_bytes { checkpoint_a = take 26 FIRST ++ 0 ∷ drop 27 FIRST }) ≡ Corrupt }
+    ensures offset { verdict (record no_bytes { checkpoint_a = take 34 FIRST ++ 0 ∷ 0 ∷ 16 ∷ drop 37 FIRST }) ≡ Corrupt }
+    ensures slot { verdict (record no_bytes { checkpoint_a = take 54 FIRST ++ 3 ∷ drop 55 FIRST }) ≡ Corrupt }
+    ensures live { verdict (record no_bytes { checkpoint_a = take 62 FIRST }) ≡ Corrupt }
+    ensures behind { verdict (record no_bytes { checkpoint_a = take 63 FIRST }) ≡ verdict (record no_bytes { checkpoint_a = FIRST }) }
+    ensures number_ends { verdict (record no_bytes { checkpoint_a = take 17 FIRST ++ 64 ∷ drop 18 FIRST }) ≡ SequenceEnd }
+    ensures entries_end { verdict (record no_bytes { checkpoint_a = take 25 FIRST ++ 64 ∷ drop 26 FIRST }) ≡ SequenceEnd }
+    ensures generation_ends { verdict (record no_bytes { checkpoint_a = take 33 FIRST ++ 64 ∷ drop 34 FIRST }) ≡ SequenceEnd }
+    ensures position_ends { verdict (record no_bytes { checkpoint_a = take 45 FIRST ++ 64 ∷ drop 46 FIRST }) ≡ SequenceEnd }
+    ensures both { verdict (record no_bytes { checkpoint_a = take 45 FIRST ++ 64 ∷ take 16 (drop 46 FIRST) }) ≡ Corrupt }
 {}
 
 /// A volume is new without an open gate and without a log. A gate is one only where a byte follows it.

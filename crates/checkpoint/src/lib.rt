@@ -2,15 +2,23 @@
 //! back with exact refusals.
 #![tactic(auto)]
 
+mod fault;
+mod file;
 mod gate;
 mod image;
 mod laws;
+mod loading;
+mod looking;
 mod pages;
+mod reading;
 mod rest;
 mod writing;
 
+pub use fault::CheckFault;
 pub use image::{Found, Image, Standing};
 pub use laws::{
-    first_checkpoint_file, new_volumes, what_is_written_is_read, which_file_is_looked_at,
+    first_checkpoint_file, new_volumes, what_is_written_is_read, what_stands_is_read,
+    which_file_is_looked_at, why_a_file_is_refused,
 };
+pub use reading::read;
 pub use writing::{VolumeFault, write};

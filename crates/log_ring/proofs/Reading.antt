@@ -1,5 +1,5 @@
 -- Steps of a scan.
-use Rattle.std.proofs.Common.{◌≡◌, ℕ, ◌+◌, ◌<◌, Option, Some, None, List, [], ◌∷◌, ◌++◌, length, refl, sym, ◌∙◌, ap, subst, arith}
+use Rattle.std.proofs.Common.{◌≡◌, ℕ, ◌+◌, ◌*◌, ◌≤◌, ◌<◌, Option, Some, None, List, [], ◌∷◌, ◌++◌, length, refl, sym, ◌∙◌, ap, subst, arith}
 use Rattle.std.proofs.lemmas.List.{append-nil}
 use Rattle.std.specs.Prelude.{MatchOption}
 use Rattle.jet_volume.specs.declared.files.LogStart.{LogStart}
@@ -41,11 +41,16 @@ found_more log log_now from place next old new same so_far found =
     )
 
 pub near_more : (from place next : LogStart) (old new : List ℕ) → EndsNear from old place → MovesOn from.generation place (Some next) old new → EndsNear from new next
-near_more from place next old new near moves = record {
-  from_start = omega (arith, near.from_start, moves.0);
-  near = moves.1;
-  inside = λ is. moves.2;
-  position = omega (arith, near.position, moves.3);
-  few = omega (arith, near.bytes_bound, moves.5, moves.1, moves.2);
-  bytes_bound = omega (arith, near.bytes_bound, moves.5);
-}
+near_more from place next old new near moves =
+    let inside : from.offset < 1048576 → length new + 1048576 * from.generation + from.offset ≤ 1048576 * next.generation + next.offset =
+    λ is. let here = near.inside is in let so_far = near.bytes_inside is in let more = moves.6 here in omega (arith, so_far, more) in
+    record {
+      from_start = omega (arith, near.from_start, moves.0);
+      near = moves.1;
+      inside = λ is. moves.2;
+      position = omega (arith, near.position, moves.3);
+      few = omega (arith, near.bytes_bound, moves.5, moves.1, moves.2);
+      bytes_bound = omega (arith, near.bytes_bound, moves.5);
+      few_inside = λ is. let all = inside is in omega (arith, all, moves.1, moves.2);
+      bytes_inside = inside;
+    }

@@ -106,9 +106,10 @@ MovesOn first place None old new = new ≡ old
 MovesOn first place (Some next) old new =
     (place.generation ≤ next.generation) × (next.generation < first + 8) × (next.offset < 1048576) × (next.position + length old ≡ place.position + length new) × (length old < length new)
     × (length new + 4294967296 * place.generation + place.offset ≤ length old + 4294967296 * next.generation + next.offset)
+    × (place.offset < 1048576 → length new + 1048576 * place.generation + place.offset ≤ length old + 1048576 * next.generation + next.offset)
 
 -- where a scan ends: less than 8 generations above its start, inside the slot where it began so, and as many bytes on as
--- it gave
+-- it gave; these are at most those of eight slots where it began inside one
 pub record EndsNear (from : LogStart) (bytes : List ℕ) (end : LogStart) : Type 0 where
   pub from_start : from.generation ≤ end.generation
   pub near : end.generation < from.generation + 8
@@ -116,3 +117,5 @@ pub record EndsNear (from : LogStart) (bytes : List ℕ) (end : LogStart) : Type
   pub position : end.position ≡ from.position + length bytes
   pub few : length bytes ≤ 34359738368
   pub bytes_bound : length bytes + 4294967296 * from.generation + from.offset ≤ 4294967296 * end.generation + end.offset
+  pub few_inside : from.offset < 1048576 → length bytes ≤ 8388608
+  pub bytes_inside : from.offset < 1048576 → length bytes + 1048576 * from.generation + from.offset ≤ 1048576 * end.generation + end.offset

@@ -9,7 +9,7 @@ mod scanning;
 mod writing;
 
 pub use fault::{RingFault, ScanFault, VolumeFault};
-pub use laws::{first_block, room, scans_once};
+pub use laws::{first_block, ready_from_the_end, room, scans_once};
 pub use places::{MAX_PAYLOAD, SLOT_LEN};
 pub use ring::LogRing;
 pub use scanning::scan;

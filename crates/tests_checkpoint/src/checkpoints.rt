@@ -3,7 +3,8 @@
 ghost use Rattle.std.specs.Prelude.{◌≡◌, ◌⊎◌, ◌<◌, IfOk, IfSome};
 ghost use Rattle.checkpoint.specs.Shape.{IsInShape};
 
-use checkpoint::{Image, Standing, write};
+use crate::reopening::{Reopened, reopen};
+use checkpoint::{CheckFault, Found, Image, Standing, write};
 use jet_volume::{File, LogStart, MemVolume, Volume};
 use page_image::Page;
 use std::alloc::{AllocError, Global};
@@ -113,4 +114,72 @@ fn image_of(alloc: Global, kind: u8) -> Result<Option<Image>, AllocError>
     } else {
         Ok(None)
     }
+}
+
+/// A volume with two checkpoints, of a page of kind 1 and then of kind 2.
+fn with_two(alloc: Global) -> Result<MemVolume, Fail> {
+    let volume = MemVolume::new(alloc, Vec::new(alloc), None);
+    let first = reopen(alloc, volume, &mut one_page(alloc, 1)?, START, 0)?;
+    let second = reopen(alloc, first.volume, &mut one_page(alloc, 2)?, START, 0)?;
+    Ok(second.volume)
+}
+
+/// The kind of the first page that was read.
+fn kind_in(found: &Found) -> Option<u8> {
+    match found {
+        Found::Old(image) => match image.pages.first() {
+            Some(Some(page)) => Some(page.kind()),
+            _ => None,
+        },
+        Found::New => None,
+    }
+}
+
+// The calls 1 to 8 are those of reading, and 9 to 21 those of writing the third checkpoint.
+#[test]
+fn a_stop_leaves_the_old_checkpoint_or_the_new_one(rt: HostRuntime) -> Result<(), Fail> {
+    let alloc = rt.alloc();
+    for stop in 9..=22u64 {
+        for pick in 0..6 {
+            let volume = with_two(alloc)?.crash(0, Vec::new(alloc), Some(stop))?;
+            let left = reopen(alloc, volume, &mut one_page(alloc, 1)?, START, pick)?;
+            assert_eq!(rt; left.acknowledged, stop == 22, "stop {stop}");
+            assert!(rt; is_one_of_two(&left));
+        }
+    }
+    Ok(())
+}
+
+#[test]
+fn a_fault_leaves_the_old_checkpoint_or_the_new_one(rt: HostRuntime) -> Result<(), Fail> {
+    let alloc = rt.alloc();
+    for call in 9..=22u64 {
+        for pick in 0..6 {
+            let volume = with_two(alloc)?.crash(0, [call].to_vec(alloc)?, None)?;
+            let left = reopen(alloc, volume, &mut one_page(alloc, 1)?, START, pick)?;
+            assert_eq!(rt; left.acknowledged, call == 22, "call {call}");
+            assert!(rt; is_one_of_two(&left));
+        }
+    }
+    Ok(())
+}
+
+/// The second checkpoint is there with a page of kind 2, or the third with one of kind 1.
+fn is_one_of_two(left: &Reopened) -> bool {
+    match (left.standing.number, kind_in(&left.found)) {
+        (2, Some(kind)) => kind == 2 && !left.acknowledged,
+        (3, Some(kind)) => kind == 1,
+        _ => false,
+    }
+}
+
+#[test]
+fn each_call_of_reading_fails_as_told(rt: HostRuntime) -> Result<(), Fail> {
+    let alloc = rt.alloc();
+    for call in 1..=8u64 {
+        let volume = with_two(alloc)?.crash(0, [call].to_vec(alloc)?, None)?;
+        let fault = reopen(alloc, volume, &mut one_page(alloc, 1)?, START, 0).err();
+        assert_eq!(rt; fault, Some(CheckFault::VolumeFault), "call {call}");
+    }
+    Ok(())
 }

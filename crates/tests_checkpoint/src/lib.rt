@@ -1,5 +1,10 @@
-//! Tests of checkpoints over volumes in memory.
+//! Tests of checkpoints over volumes in memory: written, cut short at each call, crashed, and read again.
 #![tactic(auto)]
 
 #[cfg(test)]
 mod checkpoints;
+#[cfg(test)]
+mod readings;
+mod reopening;
+
+pub use reopening::{Reopened, reopen};

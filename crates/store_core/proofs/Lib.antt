@@ -1,0 +1,4 @@
+pub mod Shows
+pub mod Crashes
+pub mod Ways
+pub mod Opens

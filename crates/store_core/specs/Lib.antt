@@ -1,0 +1,3 @@
+pub mod Stands
+pub mod Store
+pub mod Runs
