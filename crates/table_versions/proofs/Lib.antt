@@ -1,0 +1,4 @@
+pub mod NodeRecords
+pub mod SeenRecords
+pub mod Tables
+pub mod Told

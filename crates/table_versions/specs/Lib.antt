@@ -1,0 +1,4 @@
+pub mod RecordRows
+pub mod StoredVersions
+pub mod VersionsView
+pub mod VersionsKept

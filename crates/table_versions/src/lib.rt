@@ -1,0 +1,9 @@
+//! The tables of a database with versions: the newest records in trees beside the changes of the past that are held, and what
+//! each reader sees of them.
+#![tactic(auto)]
+
+mod reading;
+mod store;
+mod telling;
+
+pub use store::TableVersions;
