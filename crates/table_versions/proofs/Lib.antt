@@ -2,3 +2,12 @@ pub mod NodeRecords
 pub mod SeenRecords
 pub mod Tables
 pub mod Told
+pub mod Order
+pub mod Neighbours
+pub mod OwnOrder
+pub mod ShownEntries
+pub mod StoredRules
+pub mod Span
+pub mod ChangesKept
+pub mod Ends
+pub mod Held

@@ -102,7 +102,7 @@ newest_is_row tables trees held kept id bookmark = by (table_with_id tables id) 
   where
     rows : (t : Table) (row : Option (List ℕ)) → IfSome row (IsRowUnder t bookmark) → IfSome row IsRecordRow
     rows t None is = tt
-    rows t (Some row) is = is.row
+    rows t (Some row) is = is.fits.row
 
     by : (o : Option Table) → table_with_id tables id ≡ o → IfSome o (IsKeptTable trees (table_nodes trees id) (map held_record held)) → IfSome (row_under (table_nodes trees id) bookmark) IsRecordRow
     by None e is = subst (λ nodes. IfSome (row_under nodes bookmark) IsRecordRow) (sym (no_nodes trees tables id kept.numbers e)) tt

@@ -2,3 +2,4 @@ pub mod RecordRows
 pub mod StoredVersions
 pub mod VersionsView
 pub mod VersionsKept
+pub mod Walks

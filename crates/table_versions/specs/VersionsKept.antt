@@ -12,7 +12,8 @@ use Rattle.index_derive.specs.Entries.{is_legal, primary_key}
 use Rattle.jet_catalog.specs.Catalog.{without_rows}
 use Rattle.page_image.specs.Page.{Node}
 use Rattle.table_trees.specs.StoredTables.{StoredTable, index_entries, table_nodes}
-use Rattle.version_store.specs.HeldChanges.{HeldChange, is_rewrite}
+use Rattle.version_store.specs.declared.calls.ChangeKind.TheVariants as kind
+use Rattle.version_store.specs.HeldChanges.{HeldChange, is_add, is_rewrite}
 use Rattle.versioned_tables.specs.HeldRecords.{HeldRecord}
 use Rattle.versioned_tables.specs.Variants.{HoldsVariants, has_variant}
 use Rattle.table_versions.specs.RecordRows.{IsRecordRow, held_record, record_of, row_under, rows_of_nodes}
@@ -45,10 +46,14 @@ abbrev pub IsBookmarkOf : Table → RecordFields → List ℕ → Type 0
 IsBookmarkOf table values bookmark =
     MatchOption (primary_rule (schema_of table)) (length bookmark ≡ 8) (λ rule. bookmark ≡ primary_key rule (schema_of table) values)
 
--- The row under a bookmark of a table: its record fits the columns and is refused by no index, and the bookmark is its own.
-pub record IsRowUnder (table : Table) (bookmark bytes : List ℕ) : Type 0 where
+-- A row of a table: its record fits the columns.
+pub record IsRowOf (table : Table) (bytes : List ℕ) : Type 0 where
   pub row : IsRecordRow bytes
-  pub fits : record_fits table.columns (record_of bytes) ≡ true
+  pub columns : record_fits table.columns (record_of bytes) ≡ true
+
+-- The row under a bookmark of a table: no index refuses its record, and the bookmark is its own.
+pub record IsRowUnder (table : Table) (bookmark bytes : List ℕ) : Type 0 where
+  pub fits : IsRowOf table bytes
   pub indexable : is_indexable (schema_of table) (record_of bytes) ≡ true
   pub own : IsBookmarkOf table (record_of bytes) bookmark
 
@@ -58,13 +63,17 @@ pub record IsRowUnder (table : Table) (bookmark bytes : List ℕ) : Type 0 where
 abbrev pub is_standing : HeldChange → Bool
 is_standing held = is_rewrite held.kind && not (is_undone held.status)
 
--- A held change is of a table of the catalog. The record before a standing put or drop is one of that table, and while the
--- change is open its node has room for it. A lock and a sum hold no row.
+-- A held change is of a table of the catalog, and the row before it is one of that table. Before a put or drop that stands it
+-- is one that stood under the bookmark, and a drop has one; while the change is open its node has room for it. A lock holds no
+-- row, and a sum of an escrow column is not held: these are not built.
 pub record IsKeptChange (tables : List Table) (trees : List StoredTable) (held : HeldChange) : Type 0 where
   pub named : is_some (table_with_id tables held.table) ≡ true
+  pub row : IfSome (table_with_id tables held.table) (λ table. IfSome held.before (IsRowOf table))
   pub before : is_standing held ≡ true → IfSome (table_with_id tables held.table) (λ table. IfSome held.before (IsRowUnder table held.bookmark))
+  pub drop : is_standing held ≡ true → held.kind ≡ kind.Drop → is_some held.before ≡ true
   pub room : is_open held.status ≡ true → IfSome held.before (λ row. IsSomeAnd (extent_in (table_nodes trees held.table) held.bookmark) (λ extent. length row ≤ extent))
   pub other : is_rewrite held.kind ≡ false → held.before ≡ None
+  pub sum : is_add held.kind ≡ false
 
 -- ---- tables
 

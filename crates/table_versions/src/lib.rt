@@ -2,8 +2,10 @@
 //! each reader sees of them.
 #![tactic(auto)]
 
+mod ending;
 mod reading;
 mod store;
 mod telling;
+mod walking;
 
 pub use store::TableVersions;

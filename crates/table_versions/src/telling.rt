@@ -1,12 +1,14 @@
 //! What the held changes tell of conflicts and of the version store's span.
 
 ghost use Rattle.std.specs.Prelude.{◌≡◌, length};
+ghost use Rattle.database_state.specs.Changes.{changed_bookmark, changed_table};
 ghost use Rattle.versioned_tables.specs.HeldRecords.{has_conflict};
-ghost use Rattle.table_versions.specs.StoredVersions.{next_to_forget};
+ghost use Rattle.table_versions.specs.StoredVersions.{has_room, next_to_forget};
 
 use crate::store::TableVersions;
-use column_set::Change;
-use version_store::Reader;
+use column_set::{Change, size_of_a_row, values_here_are_the_record};
+use jet_base::TableId;
+use version_store::{By, Reader};
 
 impl TableVersions {
     /// How many changes are held.
@@ -24,6 +26,17 @@ impl TableVersions {
         self.versions.conflict(reader, change)
     }
 
+    /// Whether the span of the version store stays within its limit with this change, which holds the newest record of its own
+    /// where it is a put or a drop.
+    pub fn fits(&self, by: By, change: &Change) -> bool
+        ensures { result ≡ has_room by change.now self.now.store }
+    {
+        size_of_a_row();
+        values_here_are_the_record();
+        let before = self.newest_row(table_of(change), bookmark_of(change));
+        self.versions.fits(by, change, before)
+    }
+
     /// The number of the oldest held change, where it can be forgotten: it is neither open nor committed after the oldest open
     /// transaction began.
     pub fn next_to_forget(&self, oldest: Option<u64>) -> Option<u64>
@@ -36,5 +49,29 @@ impl TableVersions {
         } else {
             Some(self.versions.number_at(0))
         }
+    }
+}
+
+// The table of the record that the change touches.
+fn table_of(change: &Change) -> TableId
+    ensures { result.0 ≡ changed_table change.now }
+{
+    match change {
+        Change::Put { table, .. } => *table,
+        Change::Drop { table, .. } => *table,
+        Change::Hold { table, .. } => *table,
+        Change::Add { table, .. } => *table,
+    }
+}
+
+// Its bookmark.
+fn bookmark_of(change: &Change) -> &[u8]
+    ensures { result.now ≡ changed_bookmark change.now }
+{
+    match change {
+        Change::Put { bookmark, .. } => bookmark.as_bytes(),
+        Change::Drop { bookmark, .. } => bookmark.as_bytes(),
+        Change::Hold { bookmark, .. } => bookmark.as_bytes(),
+        Change::Add { bookmark, .. } => bookmark.as_bytes(),
     }
 }
