@@ -1,5 +1,5 @@
 -- What is kept where held changes change without a record.
-use Rattle.std.proofs.Common.{◌≡◌, ℕ, Bool, true, false, not, ◌&&◌, ◌||◌, List, [], ◌∷◌, ◌++◌, Option, Some, None, map, refl, sym, ap, ◌∙◌}
+use Rattle.std.proofs.Common.{◌≡◌, ℕ, Bool, ◌&&◌, ◌||◌, List, [], ◌∷◌, Option, Some, None, map, refl, sym, ap, ◌∙◌}
 use Rattle.std.specs.Prelude.{IfSome, is_some}
 use Rattle.std.specs.List.{AllByRecursion, list_any}
 use Rattle.column_set.specs.RecordValues.{RecordFields}
@@ -11,7 +11,7 @@ use Rattle.table_trees.specs.StoredTables.{StoredTable, index_entries, table_nod
 use Rattle.version_store.specs.HeldChanges.{HeldChange}
 use Rattle.versioned_tables.specs.HeldRecords.{HeldRecord, is_standing_rewrite}
 use Rattle.versioned_tables.specs.Variants.{HoldsVariants}
-use Rattle.table_versions.specs.RecordRows.{held_record, row_under, rows_of_nodes}
+use Rattle.table_versions.specs.RecordRows.{held_record, rows_of_nodes}
 use Rattle.table_versions.specs.VersionsKept.{AreKept, IsKeptChange, IsKeptTable, secondary_rule}
 
 -- what the held changes add to the variants of a record, as far as a test tells
@@ -21,7 +21,6 @@ some_before test table bookmark held = list_any (λ change. is_standing_rewrite 
 -- held changes with the same records before them, for every record
 abbrev pub SameVariants : List HeldRecord → List HeldRecord → Type 0
 SameVariants one other = (test : Option RecordFields → Bool) (table : ℕ) (bookmark : List ℕ) → some_before test table bookmark one ≡ some_before test table bookmark other
-
 
 same_entries : (trees : List StoredTable) (nodes : List Node) (table : Table) (index : ℕ) (one other : List HeldRecord) → SameVariants one other → (rule : Option IndexRule)
     → IfSome rule (λ rule. HoldsVariants (rows_of_nodes nodes) other rule (schema_of table) table.id (index_entries trees table.id index))

@@ -1,13 +1,12 @@
 -- Levels that are released and sessions that commit.
-use Rattle.std.proofs.Common.{◌≡◌, ℕ, ◌-◌, Bool, true, false, not, ◌&&◌, cond, List, Option, Some, None, option_map, refl, sym, ap, ◌∙◌}
+use Rattle.std.proofs.Common.{◌≡◌, ℕ, ◌-◌, Bool, true, false, not, ◌&&◌, cond, List, None, option_map, refl, sym, ap, ◌∙◌}
 use Rattle.std.specs.Prelude.{◌==◌}
-use Rattle.column_set.specs.RecordValues.{RecordFields}
 use Rattle.database_state.specs.State.{Status, uncommitted, committed, undone, is_open, is_undone}
 use Rattle.database_state.specs.Table.{Table}
 use Rattle.record_changes.proofs.Tests.{and_both, and_left, and_right, impossible, same_number}
 use Rattle.table_trees.specs.StoredTables.{StoredTable}
 use Rattle.version_store.specs.HeldChanges.{HeldChange, committed_change, is_open_at, is_open_of, is_rewrite, released_change, with_status}
-use Rattle.versioned_tables.specs.HeldRecords.{HeldRecord, committed_change as committed_record, is_change_at, is_open_at as is_record_open_at, is_open_of as is_record_open_of, is_standing_rewrite, released_change as released_record}
+use Rattle.versioned_tables.specs.HeldRecords.{committed_change as committed_record, is_change_at, is_standing_rewrite, released_change as released_record}
 use Rattle.table_versions.specs.RecordRows.{held_record, record_of}
 use Rattle.table_versions.specs.VersionsKept.{IsKeptChange, is_standing}
 use Rattle.table_versions.proofs.ChangesKept.{LeavesBefore}

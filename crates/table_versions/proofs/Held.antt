@@ -1,21 +1,19 @@
 -- A lock that is held behind the other changes.
 use Rattle.std.proofs.Common.{◌≡◌, ℕ, Bool, true, false, not, ◌&&◌, ◌||◌, cond, List, [], ◌∷◌, ◌++◌, Option, Some, None, Result, Ok, Err, map, refl, sym, ap, ◌∙◌}
 use Rattle.std.specs.Prelude.{◌+◌, ◌==◌, IfSome, OnErr, OnOk, is_some, nat_lt, option_map}
-use Rattle.std.specs.List.{AllByRecursion, list_any}
 use Rattle.column_set.specs.declared.changes.Change.{Change}
 use Rattle.column_set.specs.declared.changes.Change.TheVariants.{Put, Drop, Hold, Add}
-use Rattle.column_set.specs.RecordValues.{RecordFields}
-use Rattle.database_state.specs.Changes.{changed_bookmark, changed_table}
+use Rattle.database_state.specs.Changes.{changed_table}
 use Rattle.database_state.specs.State.{is_undone}
 use Rattle.database_state.specs.Table.{Table, table_with_id, with_table}
-use Rattle.derived_index.proofs.Members.{all_append}
+use Rattle.table_versions.proofs.Lists.{all_append}
 use Rattle.record_changes.proofs.Tests.{and_left, impossible}
 use Rattle.table_trees.specs.StoredTables.{StoredTable}
 use Rattle.version_store.specs.declared.calls.By.{By}
 use Rattle.version_store.specs.declared.calls.ChangeKind.{ChangeKind}
 use Rattle.version_store.specs.declared.calls.ChangeKind.TheVariants as kind
 use Rattle.version_store.specs.HeldChanges.{HeldChange, has_room as has_room_for_row, is_add, is_rewrite, kind_of, new_change}
-use Rattle.versioned_tables.specs.HeldRecords.{HeldRecord, is_change_at, is_standing_rewrite, span as span_of_records}
+use Rattle.versioned_tables.specs.HeldRecords.{is_change_at, is_standing_rewrite, span as span_of_records}
 use Rattle.versioned_tables.specs.VersionedTables.{VersionedTables, with_change}
 use Rattle.table_versions.specs.RecordRows.{held_record}
 use Rattle.table_versions.specs.StoredVersions.{has_room}

@@ -1,3 +1,4 @@
+pub mod Lists
 pub mod NodeRecords
 pub mod SeenRecords
 pub mod Tables

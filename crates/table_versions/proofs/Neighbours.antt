@@ -1,12 +1,11 @@
 -- The neighbours of a place among some of the entries, found by going over all of them.
-use Rattle.std.proofs.Common.{◌≡◌, ℕ, suc, ◌<◌, ◌≤◌, Bool, true, false, cond, ◌⊎◌, inl, inr, List, [], ◌∷◌, length, Option, Some, None, filter, find, refl, sym, ap, subst, ◌∙◌, arith}
+use Rattle.std.proofs.Common.{◌≡◌, ℕ, suc, ◌<◌, ◌≤◌, Bool, true, false, cond, ◌⊎◌, inl, inr, List, [], ◌∷◌, length, Option, Some, None, filter, find, refl, sym, ap, ◌∙◌, arith}
 use Rattle.std.specs.Prelude.{unwrap_or}
 use Rattle.std.specs.List.{AllByRecursion, last_or, list_all}
 use Rattle.index_derive.specs.declared.entries.Place.{Place}
 use Rattle.index_derive.specs.declared.entries.Place.TheVariants.{On}
 use Rattle.cursor_nav.specs.Places.{Pair, are_sorted, entry_after, entry_before, is_beyond, is_short_of, pair_lt}
-use Rattle.derived_index.proofs.Filtering.{filter_none}
-use Rattle.derived_index.proofs.Members.{all_filter}
+use Rattle.table_versions.proofs.Lists.{all_filter, filter_none}
 use Rattle.record_changes.proofs.Tests.{and_left, and_right, impossible}
 use Rattle.table_versions.proofs.Order.{beyond_more, lt_trans, not_back, not_itself, short_more}
 

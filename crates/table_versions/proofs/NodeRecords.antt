@@ -1,5 +1,5 @@
 -- The newest records of a table, by its nodes.
-use Rattle.std.proofs.Common.{◌≡◌, ℕ, suc, length, Bool, true, false, ◌&&◌, ◌||◌, cond, List, [], ◌∷◌, Option, Some, None, find, option_map, refl, sym, ap, subst, ◌∙◌, arith}
+use Rattle.std.proofs.Common.{◌≡◌, ℕ, suc, length, Bool, true, false, ◌&&◌, ◌||◌, cond, List, [], ◌∷◌, Option, Some, None, find, option_map, refl, sym, ap, ◌∙◌, arith}
 use Rattle.std.proofs.lemmas.Bool.Decides.{nat_tests}
 use Rattle.std.specs.Prelude.{◌==◌, bytes_eq, option_and_then}
 use Rattle.std.specs.List.{list_all}
@@ -7,14 +7,14 @@ use Rattle.std.specs.Ordering.{eq_by_cmp, nat_cmp, is_eq}
 use Rattle.std.specs.Cmp.Lexicographic.{slice_cmp, texts_ties}
 use Rattle.page_image.specs.Page.{Node}
 use Rattle.btree_inplace.specs.Order.{get_in, has_key}
-use Rattle.column_set.specs.RecordValues.{RecordFields, bytes_lt}
+use Rattle.column_set.specs.RecordValues.{bytes_lt}
 use Rattle.cursor_nav.specs.Places.{are_sorted, pair_lt}
 use Rattle.database_state.specs.Table.{row_at}
 use Rattle.common_lemmas.proofs.Orders.{less-irreflexive}
-use Rattle.derived_index.proofs.PairOrder.{is_less}
 use Rattle.record_changes.proofs.Tests.{and_left, and_right, equal_bytes, impossible, refuted, same_bytes}
 use Rattle.table_trees.specs.StoredNodes.{bookmark_entries}
 use Rattle.table_versions.specs.RecordRows.{record_of, row_in_node, row_under, rows_of_nodes, with_record}
+use Rattle.table_versions.proofs.Order.{is_less}
 
 -- ---- tests of bookmarks
 

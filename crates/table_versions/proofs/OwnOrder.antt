@@ -1,16 +1,15 @@
 -- The order of the bookmarks of the records that a reader sees, by the nodes.
-use Rattle.std.proofs.Common.{◌≡◌, ℕ, Bool, true, false, not, ◌&&◌, ◌||◌, cond, List, [], ◌∷◌, Option, Some, None, filter, find, map, option_map, refl, sym, ap, subst, ◌∙◌}
+use Rattle.std.proofs.Common.{◌≡◌, ℕ, Bool, true, false, not, ◌&&◌, ◌||◌, cond, List, [], ◌∷◌, Option, Some, None, filter, find, option_map, refl, sym, ap, ◌∙◌}
 use Rattle.std.specs.Prelude.{T, bytes_eq, is_some}
-use Rattle.std.specs.List.{list_all, list_any}
+use Rattle.std.specs.List.{list_all}
 use Rattle.std.specs.Ordering.{eq_by_cmp, nat_cmp, is_lt}
-use Rattle.std.specs.Cmp.Lexicographic.{slice_cmp, texts_ties}
-use Rattle.std.specs.FinMap.Entries.{below_all}
+use Rattle.std.specs.Cmp.Lexicographic.{slice_cmp, nat_list_cmp_total, texts_ties}
+use Rattle.std.specs.FinMap.Entries.{below_all, is_sorted-put, is_sorted-where_key}
 use Rattle.btree_inplace.specs.Order.{get_in, has_key}
 use Rattle.column_set.specs.RecordValues.{RecordFields, bytes_lt}
 use Rattle.cursor_nav.specs.Places.{Pair, are_sorted, pair_lt}
 use Rattle.database_state.specs.Table.{Rows, row_at}
 use Rattle.derived_index.specs.KeptEntries.{has_entry}
-use Rattle.derived_index.proofs.SameEntries.{same_sorted, sorted_filter}
 use Rattle.index_derive.specs.Entries.{own_order}
 use Rattle.page_image.specs.Page.{Node}
 use Rattle.record_changes.proofs.Tests.{and_both, and_left, and_right, impossible, same_bytes}
@@ -18,15 +17,22 @@ use Rattle.table_trees.specs.StoredNodes.{bookmark_entries}
 use Rattle.version_store.specs.declared.calls.Reader.{Reader}
 use Rattle.version_store.specs.HeldChanges.{is_rewrite}
 use Rattle.versioned_tables.specs.HeldRecords.{HeldRecord, before_or, hides, is_change_at, is_standing_rewrite, seen_record}
-use Rattle.versioned_tables.specs.VersionedTables.{seen_rows}
+use Rattle.versioned_tables.specs.VersionedTables.{hides_in, rows_with, seen_rows}
 use Rattle.versioned_tables.specs.Variants.{has_variant}
 use Rattle.versioned_tables.specs.Holding.{RowsRise}
-use Rattle.versioned_tables.proofs.Rising.{seen_rise}
-use Rattle.versioned_tables.proofs.SeenRows.{seen_at}
-use Rattle.versioned_tables.proofs.Walking.{order_is}
-use Rattle.table_versions.specs.RecordRows.{record_of, row_in_node, rows_of_nodes, with_record}
+use Rattle.table_versions.specs.RecordRows.{row_in_node, rows_of_nodes, with_record}
 use Rattle.table_versions.proofs.NodeRecords.{turned}
 use Rattle.table_versions.proofs.SeenRecords.{unseen_stands}
+
+-- ---- tests
+
+or_left : (a b : Bool) → a ≡ true → (a || b) ≡ true
+or_left true b e = refl
+or_left false b e = impossible e
+
+or_right : (a b : Bool) → b ≡ true → (a || b) ≡ true
+or_right true b e = refl
+or_right false b e = e
 
 -- ---- the records rise as the nodes do
 
@@ -55,15 +61,42 @@ rows_rise (n ∷ nodes) sorted = by (row_in_node n.data) (rows_rise nodes (and_r
     by None rest = rest
     by (Some row) rest = both _ _ (below_is n.key nodes (and_left _ _ sorted)) rest
 
+-- rows that rise are in the order of their bookmarks
+first : (a b : Bool) → T (a && b) → T a
+first true b h = tt
+first false b h = h
+
+second : (a b : Bool) → T (a && b) → T b
+second true b h = h
+second false b h = absurd h
+
+is_true : (b : Bool) → T b → b ≡ true
+is_true true h = refl
+is_true false h = absurd h
+
+below_all_is : (key : List ℕ) (rows : Rows) → T (below_all (slice_cmp nat_cmp) key rows) → list_all (pair_lt (key, key)) (own_order rows) ≡ true
+below_all_is key [] h = refl
+below_all_is key (row ∷ rows) h =
+    and_both _ _ (or_left _ _ (is_true (is_lt (slice_cmp nat_cmp key row.0)) (first _ _ h))) (below_all_is key rows (second (is_lt (slice_cmp nat_cmp key row.0)) _ h))
+
+order_is : (rows : Rows) → RowsRise rows → are_sorted (own_order rows) ≡ true
+order_is [] h = refl
+order_is (row ∷ rows) h = and_both _ _ (below_all_is row.0 rows (first _ _ h)) (order_is rows (second (below_all (slice_cmp nat_cmp) row.0 rows) _ h))
+
+-- what is taken back leaves the order
+with_rises : (rows : Rows) (bookmark : List ℕ) (values : Option RecordFields) → RowsRise rows → RowsRise (rows_with rows bookmark values)
+with_rises rows bookmark None h = is_sorted-where_key (slice_cmp nat_cmp) (λ key. not (bytes_eq key bookmark)) rows h
+with_rises rows bookmark (Some values) h = is_sorted-put (slice_cmp nat_cmp) nat_list_cmp_total bookmark values rows h
+
+seen_rise : (table : ℕ) (reader : Reader) (held : List HeldRecord) (rows : Rows) → RowsRise rows → RowsRise (seen_rows table reader held rows)
+seen_rise table reader [] rows h = h
+seen_rise table reader (change ∷ held) rows h = by (hides_in table reader change) (seen_rise table reader held rows h)
+  where
+    by : (b : Bool) → RowsRise (seen_rows table reader held rows) → RowsRise (cond b (rows_with (seen_rows table reader held rows) change.bookmark change.before) (seen_rows table reader held rows))
+    by true later = with_rises (seen_rows table reader held rows) change.bookmark change.before later
+    by false later = later
+
 -- ---- a record that is seen has a node
-
-or_left : (a b : Bool) → a ≡ true → (a || b) ≡ true
-or_left true b e = refl
-or_left false b e = impossible e
-
-or_right : (a b : Bool) → b ≡ true → (a || b) ≡ true
-or_right true b e = refl
-or_right false b e = e
 
 pub seen_is_variant : (reader : Reader) (table : ℕ) (bookmark : List ℕ) (newest : Option RecordFields) (held : List HeldRecord)
     → is_some (seen_record table bookmark reader newest held) ≡ true → has_variant newest held table bookmark ≡ true
@@ -179,18 +212,24 @@ there-nodes f key bookmark (n ∷ nodes) = by (bytes_eq n.key bookmark) (f n.key
 
 -- ---- the order of the bookmarks that a reader sees
 
+-- laws of entries and of readers
+pub record Laws : Type 0 where
+  pub same : (one other : List Pair) → are_sorted one ≡ true → are_sorted other ≡ true → ((key bookmark : List ℕ) → has_entry key bookmark one ≡ has_entry key bookmark other) → one ≡ other
+  pub some : (test : Pair → Bool) (entries : List Pair) → are_sorted entries ≡ true → are_sorted (filter test entries) ≡ true
+  pub seen : (table : ℕ) (reader : Reader) (held : List HeldRecord) (rows : Rows) (bookmark : List ℕ) → row_at (seen_rows table reader held rows) bookmark ≡ seen_record table bookmark reader (row_at rows bookmark) held
+
 -- where nodes stand for the variants of records
-pub own_order_is : (table : ℕ) (reader : Reader) (held : List HeldRecord) (nodes : List Node) → are_sorted (bookmark_entries nodes) ≡ true
+pub own_order_is : Laws → (table : ℕ) (reader : Reader) (held : List HeldRecord) (nodes : List Node) → are_sorted (bookmark_entries nodes) ≡ true
     → ((bookmark : List ℕ) → is_some (get_in nodes bookmark) ≡ has_variant (row_at (rows_of_nodes nodes) bookmark) held table bookmark)
     → own_order (seen_rows table reader held (rows_of_nodes nodes))
     ≡ filter (λ entry. is_some (seen_record table entry.1 reader (row_at (rows_of_nodes nodes) entry.1) held)) (bookmark_entries nodes)
-own_order_is table reader held nodes sorted stands =
-    same_sorted (own_order (seen_rows table reader held rows)) (filter (λ entry. f entry.1) (bookmark_entries nodes))
+own_order_is laws table reader held nodes sorted stands =
+    laws.same (own_order (seen_rows table reader held rows)) (filter (λ entry. f entry.1) (bookmark_entries nodes))
     (order_is (seen_rows table reader held rows) (seen_rise table reader held rows (rows_rise nodes sorted)))
-    (sorted_filter (λ entry. f entry.1) (bookmark_entries nodes) sorted)
+    (laws.some (λ entry. f entry.1) (bookmark_entries nodes) sorted)
     (λ key bookmark.
     there-rows key bookmark (seen_rows table reader held rows)
-    ∙ ap (λ (o : Option RecordFields). bytes_eq key bookmark && is_some o) (seen_at table reader held rows bookmark)
+    ∙ ap (λ (o : Option RecordFields). bytes_eq key bookmark && is_some o) (laws.seen table reader held rows bookmark)
     ∙ ap (λ b. bytes_eq key bookmark && b) (within (f bookmark) (is_some (get_in nodes bookmark)) (λ e. stands bookmark ∙ seen_is_variant reader table bookmark (row_at rows bookmark) held e))
     ∙ sym (there-nodes f key bookmark nodes))
   where

@@ -1,5 +1,5 @@
 -- What a reader sees of a record among held changes, by their rows.
-use Rattle.std.proofs.Common.{◌≡◌, ℕ, Bool, true, false, not, ◌&&◌, cond, List, [], ◌∷◌, Option, Some, None, find, map, option_map, refl, sym, ap, subst, ◌∙◌}
+use Rattle.std.proofs.Common.{◌≡◌, ℕ, Bool, true, false, not, ◌&&◌, cond, List, [], ◌∷◌, Option, Some, None, find, map, option_map, refl, ap, ◌∙◌}
 use Rattle.std.specs.Prelude.{IfSome, is_some}
 use Rattle.std.specs.List.{AllByRecursion}
 use Rattle.column_set.specs.RecordValues.{RecordFields}
@@ -10,7 +10,7 @@ use Rattle.table_trees.specs.StoredTables.{StoredTable}
 use Rattle.version_store.specs.declared.calls.Reader.{Reader}
 use Rattle.version_store.specs.HeldChanges.{HeldChange, SeenRow, current, row_before, absent, hides, is_record, is_rewrite, is_unseen_status, seen_at, seen_before, seen_row}
 use Rattle.versioned_tables.specs.HeldRecords.{before_or, hides as hides_record, seen_record}
-use Rattle.table_versions.specs.RecordRows.{IsRecordRow, held_record, record_before, record_of}
+use Rattle.table_versions.specs.RecordRows.{IsRecordRow, held_record, record_of}
 use Rattle.table_versions.specs.VersionsKept.{IsKeptChange, IsRowUnder, is_standing}
 
 -- the record that is seen, given the newest one

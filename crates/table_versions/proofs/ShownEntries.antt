@@ -13,7 +13,7 @@ use Rattle.table_trees.specs.StoredTables.{StoredTable, index_entries as entries
 use Rattle.version_store.specs.declared.calls.Reader.{Reader}
 use Rattle.version_store.specs.HeldChanges.{HeldChange}
 use Rattle.versioned_tables.specs.HeldRecords.{HeldRecord, seen_record}
-use Rattle.versioned_tables.specs.VersionedTables.{VersionedTables, seen_rows, seen_table, seen_tables}
+use Rattle.versioned_tables.specs.VersionedTables.{VersionedTables, seen_rows, seen_table}
 use Rattle.versioned_tables.specs.Variants.{HoldsVariants, shown_entries}
 use Rattle.versioned_tables.specs.Holding.{RowsRise}
 use Rattle.table_versions.specs.RecordRows.{held_record, rows_of_nodes}
@@ -21,14 +21,18 @@ use Rattle.table_versions.specs.StoredVersions.{StoredVersions, entries_in, seen
 use Rattle.table_versions.specs.VersionsView.{stored_versions, with_newest}
 use Rattle.table_versions.specs.VersionsKept.{AreKept, IsKeptTable, only_secondary}
 use Rattle.table_versions.specs.Walks.{is_entry_of, is_shown, stored_entries}
-use Rattle.table_versions.proofs.OwnOrder.{own_order_is, rows_rise}
+use Rattle.table_versions.proofs.OwnOrder.{Laws, own_order_is, rows_rise}
 use Rattle.table_versions.proofs.Tables.{found_number, table_at}
 
--- a law of versioned tables
 abbrev pub WalksSeen : Type 0
 WalksSeen =
     (table : ℕ) (reader : Reader) (held : List HeldRecord) (rows : Rows) (rule : IndexRule) (schema : Schema) (entries : List Pair) → RowsRise rows → HoldsVariants rows held rule schema table entries → are_sorted entries ≡ true
     → shown_entries table reader held rows rule schema entries ≡ derive rule schema (seen_rows table reader held rows)
+
+-- the laws that it rests on
+pub record WalkLaws : Type 0 where
+  pub walks : WalksSeen
+  pub own : Laws
 
 seen_at_id : (reader : Reader) (held : List HeldRecord) (tables : List Table) (id : ℕ) → table_with_id (map (seen_table reader held) tables) id ≡ option_map (seen_table reader held) (table_with_id tables id)
 seen_at_id reader held [] id = refl
@@ -52,12 +56,12 @@ rule_number index (r ∷ rules) rule e = by (r.id.0 == index) refl (rule_number 
     by false h rest e = rest e
 
 -- the entries that are derived of the records which the reader sees
-derived_is : WalksSeen → (trees : List StoredTable) (held : List HeldRecord) (t : Table) (reader : Reader) (index : ℕ)
+derived_is : WalkLaws → (trees : List StoredTable) (held : List HeldRecord) (t : Table) (reader : Reader) (index : ℕ)
     → are_sorted (bookmark_entries (table_nodes trees t.id)) ≡ true → ((index : ℕ) → are_sorted (entries_in_tree trees t.id index) ≡ true) → IsKeptTable trees (table_nodes trees t.id) held t
     → (rule : Option IndexRule) → rule_with_id (schema_of t) index ≡ rule
     → entries_of_rule (schema_of t) (seen_rows t.id reader held (rows_of_nodes (table_nodes trees t.id))) rule
     ≡ filter (λ entry. is_entry_of (only_secondary rule) (schema_of t) entry.0 (seen_record t.id entry.1 reader (row_at (rows_of_nodes (table_nodes trees t.id)) entry.1) held)) (stored_entries trees t.id (only_secondary rule))
-derived_is walks trees held t reader index sorted each kept None e = own_order_is t.id reader held (table_nodes trees t.id) sorted kept.stands
+derived_is walks trees held t reader index sorted each kept None e = own_order_is walks.own t.id reader held (table_nodes trees t.id) sorted kept.stands
 derived_is walks trees held t reader index sorted each kept (Some rule) e = by rule.flags.primary refl
   where
     rows : Rows
@@ -76,14 +80,14 @@ derived_is walks trees held t reader index sorted each kept (Some rule) e = by r
     by : (b : Bool) → rule.flags.primary ≡ b
         → cond b (own_order (seen_rows t.id reader held rows)) (derive rule schema (seen_rows t.id reader held rows))
         ≡ filter (λ entry. is_entry_of (cond b None (Some rule)) schema entry.0 (seen_record t.id entry.1 reader (row_at rows entry.1) held)) (stored_entries trees t.id (cond b None (Some rule)))
-    by true p = own_order_is t.id reader held (table_nodes trees t.id) sorted kept.stands
-    by false p = sym (walks t.id reader held rows rule schema (entries_in_tree trees t.id rule.id.0) (rows_rise (table_nodes trees t.id) sorted) (holds p) (each rule.id.0))
+    by true p = own_order_is walks.own t.id reader held (table_nodes trees t.id) sorted kept.stands
+    by false p = sym (walks.walks t.id reader held rows rule schema (entries_in_tree trees t.id rule.id.0) (rows_rise (table_nodes trees t.id) sorted) (holds p) (each rule.id.0))
 
 -- the same of the tables of the catalog
 abbrev store_of : List StoredTable → List Table → List HeldChange → VersionedTables
 store_of trees tables held = record { tables = map (with_newest trees) tables; held = map held_record held }
 
-at_id : WalksSeen → (tables : List Table) (trees : List StoredTable) (held : List HeldChange) → AreKept tables trees held → ((table : ℕ) → are_sorted (bookmark_entries (table_nodes trees table)) ≡ true) → ((table index : ℕ) → are_sorted (entries_in_tree trees table index) ≡ true)
+at_id : WalkLaws → (tables : List Table) (trees : List StoredTable) (held : List HeldChange) → AreKept tables trees held → ((table : ℕ) → are_sorted (bookmark_entries (table_nodes trees table)) ≡ true) → ((table index : ℕ) → are_sorted (entries_in_tree trees table index) ≡ true)
     → (t : Table) → table_with_id tables t.id ≡ Some t → (reader : Reader) (index : ℕ)
     → seen_entries reader (store_of trees tables held) t.id index
     ≡ filter (is_shown reader (store_of trees tables held) t.id (schema_of t) (only_secondary (rule_with_id (schema_of t) index))) (stored_entries trees t.id (only_secondary (rule_with_id (schema_of t) index)))
@@ -105,7 +109,7 @@ at_id walks tables trees held kept sorted each t e reader index =
     P : Option Table → Type 0
     P o = IfSome o (IsKeptTable trees (table_nodes trees t.id) records)
 
-pub shown_is_seen : WalksSeen → (tables : List Table) (trees : List StoredTable) (held : List HeldChange) → AreKept tables trees held → ((table : ℕ) → are_sorted (bookmark_entries (table_nodes trees table)) ≡ true) → ((table index : ℕ) → are_sorted (entries_in_tree trees table index) ≡ true)
+pub shown_is_seen : WalkLaws → (tables : List Table) (trees : List StoredTable) (held : List HeldChange) → AreKept tables trees held → ((table : ℕ) → are_sorted (bookmark_entries (table_nodes trees table)) ≡ true) → ((table index : ℕ) → are_sorted (entries_in_tree trees table index) ≡ true)
     → (table : ℕ) (schema : Schema) → IsSomeAnd (table_with_id (map (with_newest trees) tables) table) (λ t. schema ≡ schema_of t) → (reader : Reader) (index : ℕ)
     → seen_entries reader (store_of trees tables held) table index
     ≡ filter (is_shown reader (store_of trees tables held) table schema (only_secondary (rule_with_id schema index))) (stored_entries trees table (only_secondary (rule_with_id schema index)))
@@ -132,7 +136,7 @@ stored_sorted trees table nodes entries None = nodes table
 stored_sorted trees table nodes entries (Some rule) = entries table rule.id.0
 
 -- the entries that the reader sees are those of the stored ones that are shown
-pub seen_of_stored : WalksSeen → (catalog : CatalogState) (trees : List StoredTable) (held : List HeldChange) → AreKept catalog.tables trees held → ((table : ℕ) → are_sorted (bookmark_entries (table_nodes trees table)) ≡ true) → ((table index : ℕ) → are_sorted (entries_in_tree trees table index) ≡ true)
+pub seen_of_stored : WalkLaws → (catalog : CatalogState) (trees : List StoredTable) (held : List HeldChange) → AreKept catalog.tables trees held → ((table : ℕ) → are_sorted (bookmark_entries (table_nodes trees table)) ≡ true) → ((table index : ℕ) → are_sorted (entries_in_tree trees table index) ≡ true)
     → (now : StoredVersions) → stored_versions catalog trees held ≡ now → (table : ℕ) (schema : Schema) → IsSomeAnd (table_with_id now.store.tables table) (λ t. schema ≡ schema_of t) → (reader : Reader) (index : ℕ)
     → (rule : Option IndexRule) → rule ≡ only_secondary (rule_with_id schema index)
     → seen_entries reader now.store table index ≡ filter (is_shown reader now.store table schema rule) (stored_entries trees table rule)

@@ -1,12 +1,12 @@
 -- What the parts of the store keep of one another.
-use Rattle.std.specs.Prelude.{◌≡◌, ◌≤◌, ℕ, Bool, true, false, not, ◌&&◌, List, [], ◌∷◌, map, filter, length, Option, Some, None, if◌then◌else◌, IfSome, IsSomeAnd, MatchOption, is_some}
+use Rattle.std.specs.Prelude.{◌≡◌, ◌≤◌, ℕ, Bool, true, false, not, ◌&&◌, List, map, filter, length, Option, Some, None, if◌then◌else◌, IfSome, IsSomeAnd, MatchOption, is_some}
 use Rattle.std.specs.List.{AllByRecursion, list_all}
 use Rattle.btree_inplace.specs.Order.{extent_in, get_in}
 use Rattle.column_set.specs.RecordValues.{RecordFields, record_fits}
 use Rattle.database_state.specs.Lawful.{is_indexable}
 use Rattle.database_state.specs.SchemaChanges.{has_column, rule_columns}
 use Rattle.database_state.specs.State.{is_open, is_undone}
-use Rattle.database_state.specs.Table.{Table, Rows, row_at, primary_rule, rule_with_id, schema_of, table_with_id}
+use Rattle.database_state.specs.Table.{Table, row_at, primary_rule, rule_with_id, schema_of, table_with_id}
 use Rattle.index_derive.specs.declared.rules.IndexRule.{IndexRule}
 use Rattle.index_derive.specs.Entries.{is_legal, primary_key}
 use Rattle.jet_catalog.specs.Catalog.{without_rows}

@@ -54,13 +54,7 @@ fn row_in_node(bytes: Option<&[u8]>) -> Option<&[u8]>
     ensures { option_copied result ≡ option_and_then row_in_node (option_copied bytes.entry) }
 {
     match bytes {
-        Some(row) => {
-            if row.is_empty() {
-                None
-            } else {
-                Some(row)
-            }
-        }
+        Some(row) => { if row.is_empty() { None } else { Some(row) } }
         None => None,
     }
 }

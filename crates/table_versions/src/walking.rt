@@ -10,13 +10,16 @@ ghost use Rattle.table_versions.specs.VersionsKept.{only_secondary};
 ghost use Rattle.table_versions.specs.Walks.{is_entry_of, stored_entries};
 
 use crate::store::TableVersions;
+use derived_index::entries_in_order_are_told_by_those_that_are_there;
 use index_derive::derive::yields;
 use index_derive::{IndexEntry, IndexRule, Place, Schema};
 use jet_base::{IndexId, TableId};
 use key_normal::Key;
 use table_trees::{TableTrees, neighbours_are_those_of_bookmarks};
 use version_store::Reader;
-use versioned_tables::a_reader_walks_the_index_of_what_it_sees;
+use versioned_tables::{
+    a_reader_is_shown_the_records_that_it_sees, a_reader_walks_the_index_of_what_it_sees,
+};
 
 impl TableVersions {
     /// The least entry of an index beyond a place, as the reader sees the table. The primary index, and the number 0 that no
@@ -34,7 +37,9 @@ impl TableVersions {
         requires { IsSomeAnd (table_with_id self.now.store.tables table.0) (λ t. schema.now ≡ schema_of t) }
         ensures { found_pair result ≡ entry_after place.now (seen_entries reader self.now.store table.0 index.0) }
     {
+        a_reader_is_shown_the_records_that_it_sees();
         a_reader_walks_the_index_of_what_it_sees();
+        entries_in_order_are_told_by_those_that_are_there();
         self.trees.nodes_are_in_order();
         self.trees.entries_are_in_order();
         let rule = secondary_rule(schema, index);
@@ -61,7 +66,9 @@ impl TableVersions {
         requires { IsSomeAnd (table_with_id self.now.store.tables table.0) (λ t. schema.now ≡ schema_of t) }
         ensures { found_pair result ≡ entry_before place.now (seen_entries reader self.now.store table.0 index.0) }
     {
+        a_reader_is_shown_the_records_that_it_sees();
         a_reader_walks_the_index_of_what_it_sees();
+        entries_in_order_are_told_by_those_that_are_there();
         self.trees.nodes_are_in_order();
         self.trees.entries_are_in_order();
         let rule = secondary_rule(schema, index);
@@ -103,13 +110,7 @@ fn secondary_rule(schema: &Schema, index: IndexId) -> Option<&IndexRule>
     ensures { option_copied result ≡ only_secondary (rule_with_id schema.now index.0) }
 {
     match schema.rule_with_id(index) {
-        Some(rule) => {
-            if rule.flags.primary {
-                None
-            } else {
-                Some(rule)
-            }
-        }
+        Some(rule) => { if rule.flags.primary { None } else { Some(rule) } }
         None => None,
     }
 }

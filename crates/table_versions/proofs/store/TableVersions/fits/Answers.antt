@@ -1,4 +1,4 @@
-use Rattle.std.proofs.Common.{sym, ap, ◌∙◌}
+use Rattle.std.proofs.Common.{ap, ◌∙◌}
 use Rattle.std.specs.Prelude.{option_copied}
 use Rattle.database_state.specs.Changes.{changed_table}
 use Rattle.database_state.specs.Table.{record_in}

@@ -1,9 +1,9 @@
-use Rattle.std.proofs.Common.{◌≡◌, Bool, false, true, None, List, [], ◌∷◌, ◌++◌, map, refl, sym, ap, subst, ◌∙◌}
+use Rattle.std.proofs.Common.{◌≡◌, Bool, false, true, List, map, sym, ap, subst, ◌∙◌}
 use Rattle.std.specs.Prelude.{◌↔◌, IsErrOf, is_some}
 use Rattle.database_state.specs.Changes.{changed_table}
-use Rattle.database_state.specs.Table.{Table, table_with_id}
+use Rattle.database_state.specs.Table.{table_with_id}
 use Rattle.version_store.specs.declared.fault.VersionFault.TheVariants as fault
-use Rattle.version_store.specs.HeldChanges.{HeldChange, new_change}
+use Rattle.version_store.specs.HeldChanges.{HeldChange}
 use Rattle.versioned_tables.specs.VersionedTables.{VersionedTables, with_change}
 use Rattle.table_versions.specs.StoredVersions.{StoredVersions}
 use Rattle.table_versions.specs.VersionsView.{stored_versions, with_newest}

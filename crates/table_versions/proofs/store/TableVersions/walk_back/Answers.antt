@@ -1,6 +1,6 @@
-use Rattle.std.proofs.Common.{◌≡◌, Bool, true, false, cond, List, Option, Some, None, filter, sym, ap, subst, ◌∙◌}
+use Rattle.std.proofs.Common.{◌≡◌, Bool, cond, List, Option, Some, filter, sym, ap, subst, ◌∙◌}
 use Rattle.std.specs.Prelude.{◌<◌, option_copied}
-use Rattle.cursor_nav.specs.Places.{Pair, are_sorted, entry_before, found_pair}
+use Rattle.cursor_nav.specs.Places.{Pair, entry_before, found_pair}
 use Rattle.index_derive.specs.declared.entries.IndexEntry.{IndexEntry}
 use Rattle.index_derive.specs.declared.entries.Place.TheVariants.{On}
 use Rattle.table_versions.specs.StoredVersions.{seen_entries}
@@ -29,7 +29,7 @@ returns-then-shows c =
     let test : Pair → Bool = is_shown c.args.reader c.args.self.now.store c.args.table.0 c.args.schema.now rule in
     let entry : Pair = (c.in-Some.entry.key, c.in-Some.entry.bookmark) in
     let seen : seen_entries c.args.reader c.args.self.now.store c.args.table.0 c.args.index.0 ≡ filter test entries =
-    seen_of_stored c.a_reader_walks_the_index_of_what_it_sees.ensures c.self.inside.catalog c.self.inside.trees c.self.inside.versions c.self.invariant c.nodes_are_in_order.ensures.sorted c.entries_are_in_order.ensures.sorted
+    seen_of_stored (record { walks = c.a_reader_walks_the_index_of_what_it_sees.ensures; own = record { same = c.entries_in_order_are_told_by_those_that_are_there.ensures.same; some = c.entries_in_order_are_told_by_those_that_are_there.ensures.some; seen = c.a_reader_is_shown_the_records_that_it_sees.ensures } }) c.self.inside.catalog c.self.inside.trees c.self.inside.versions c.self.invariant c.nodes_are_in_order.ensures.sorted c.entries_are_in_order.ensures.sorted
     c.args.self.now c.self.view_is c.args.table.0 c.args.schema.now c.requires c.args.reader c.args.index.0 rule c.secondary_rule-rule.ensures in
     sym (ap (λ b. cond b (Some entry) (entry_before (On entry.0 entry.1) (filter test entries))) (sym c.shows.ensures ∙ c.if-shows.true))
     ∙ ap (λ (found : Option IndexEntry). shown_to test entries (found_pair found)) (sym c.in-Some.is)
@@ -62,7 +62,7 @@ returns c =
     let entries : List Pair = stored_entries c.self.inside.trees c.args.table.0 rule in
     let test : Pair → Bool = is_shown c.args.reader c.args.self.now.store c.args.table.0 c.args.schema.now rule in
     let seen : seen_entries c.args.reader c.args.self.now.store c.args.table.0 c.args.index.0 ≡ filter test entries =
-    seen_of_stored c.a_reader_walks_the_index_of_what_it_sees.ensures c.self.inside.catalog c.self.inside.trees c.self.inside.versions c.self.invariant c.nodes_are_in_order.ensures.sorted c.entries_are_in_order.ensures.sorted
+    seen_of_stored (record { walks = c.a_reader_walks_the_index_of_what_it_sees.ensures; own = record { same = c.entries_in_order_are_told_by_those_that_are_there.ensures.same; some = c.entries_in_order_are_told_by_those_that_are_there.ensures.some; seen = c.a_reader_is_shown_the_records_that_it_sees.ensures } }) c.self.inside.catalog c.self.inside.trees c.self.inside.versions c.self.invariant c.nodes_are_in_order.ensures.sorted c.entries_are_in_order.ensures.sorted
     c.args.self.now c.self.view_is c.args.table.0 c.args.schema.now c.requires c.args.reader c.args.index.0 rule c.secondary_rule-rule.ensures in
     ap (λ (found : Option IndexEntry). shown_to test entries (found_pair found)) (sym c.in_default.is)
     ∙ sym c.loop-found.invariant
