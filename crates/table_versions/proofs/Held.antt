@@ -75,7 +75,7 @@ lock_is_kept tables trees held by made lock named kept =
 
 -- ---- what it shows
 
-appended : (held : List HeldChange) (made : HeldChange) → map held_record (held ++ made ∷ []) ≡ map held_record held ++ held_record made ∷ []
+pub appended : (held : List HeldChange) (made : HeldChange) → map held_record (held ++ made ∷ []) ≡ map held_record held ++ held_record made ∷ []
 appended [] made = refl
 appended (h ∷ held) made = ap (λ rest. held_record h ∷ rest) (appended held made)
 

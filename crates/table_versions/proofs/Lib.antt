@@ -12,3 +12,5 @@ pub mod Span
 pub mod ChangesKept
 pub mod Ends
 pub mod Held
+pub mod Dropped
+pub mod DroppedRecords

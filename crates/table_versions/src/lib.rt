@@ -2,6 +2,7 @@
 //! each reader sees of them.
 #![tactic(auto)]
 
+mod changing;
 mod ending;
 mod reading;
 mod store;

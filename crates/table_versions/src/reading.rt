@@ -50,7 +50,7 @@ impl TableVersions {
 }
 
 // The row in a node's bytes.
-fn row_in_node(bytes: Option<&[u8]>) -> Option<&[u8]>
+pub(crate) fn row_in_node(bytes: Option<&[u8]>) -> Option<&[u8]>
     ensures { option_copied result ≡ option_and_then row_in_node (option_copied bytes.entry) }
 {
     match bytes {

@@ -53,7 +53,7 @@ impl TableVersions {
 }
 
 // The table of the record that the change touches.
-fn table_of(change: &Change) -> TableId
+pub(crate) fn table_of(change: &Change) -> TableId
     ensures { result.0 ≡ changed_table change.now }
 {
     match change {
@@ -65,7 +65,7 @@ fn table_of(change: &Change) -> TableId
 }
 
 // Its bookmark.
-fn bookmark_of(change: &Change) -> &[u8]
+pub(crate) fn bookmark_of(change: &Change) -> &[u8]
     ensures { result.now ≡ changed_bookmark change.now }
 {
     match change {
