@@ -1,33 +1,15 @@
 -- A drop leaves a node without a byte, and holds the row that was there.
-use Rattle.std.proofs.Common.{◌≡◌, ◌≢◌, ℕ, ◌+◌, ◌≤◌, Bool, true, false, not, ◌&&◌, ◌||◌, cond, if◌then◌else◌, List, [], ◌∷◌, ◌++◌, length, Option, Some, None, filter, find, map, option_map, refl, sym, ap, subst, ◌∙◌, arith}
-use Rattle.std.specs.Prelude.{◌==◌, All, IfSome, IsSomeAnd, bytes_eq, is_some, option_and_then}
-use Rattle.std.specs.List.{AllByRecursion, list_any}
-use Rattle.std.specs.Cmp.Lexicographic.{texts_ties}
-use Rattle.std.proofs.lemmas.List.Folds.{list_any-append}
+use Rattle.std.proofs.Common.{◌≡◌, ◌≢◌, ℕ, Bool, true, false, ◌&&◌, ◌||◌, cond, if◌then◌else◌, List, [], ◌∷◌, Option, Some, None, find, map, option_map, refl, sym, ap, ◌∙◌}
+use Rattle.std.specs.Prelude.{◌==◌, bytes_eq, is_some, option_and_then}
 use Rattle.btree_inplace.specs.Changes.{with_data_at}
 use Rattle.btree_inplace.specs.Order.{extent_in, get_in, has_key}
-use Rattle.column_set.specs.declared.changes.Change.TheVariants.{Drop}
-use Rattle.column_set.specs.RecordValues.{RecordFields}
-use Rattle.cursor_nav.specs.Places.{are_sorted}
-use Rattle.database_state.specs.Conflicts.{yields_key}
-use Rattle.database_state.specs.Table.{Rows, Table, row_at, schema_of, table_with_id, without_row}
-use Rattle.derived_index.specs.KeptEntries.{has_entry}
-use Rattle.index_derive.specs.declared.rules.IndexRule.{IndexRule}
-use Rattle.jet_base.specs.declared.ids.TableId.{TableId}
+use Rattle.database_state.specs.Table.{Table, table_with_id}
 use Rattle.page_image.specs.Page.{Node}
-use Rattle.record_changes.proofs.Tests.{and_left, and_right, impossible, same_bytes, same_number, self_equal}
-use Rattle.table_trees.specs.StoredNodes.{bookmark_entries, put_data}
-use Rattle.table_trees.specs.StoredTables.{StoredIndex, StoredTable, has_table, index_entries, is_index, is_table, part_of, put_nodes, table_indexes, table_nodes, with_nodes}
-use Rattle.version_store.specs.declared.calls.By.{By}
-use Rattle.version_store.specs.HeldChanges.{HeldChange, new_change}
-use Rattle.versioned_tables.specs.HeldRecords.{HeldRecord, is_standing_rewrite}
-use Rattle.versioned_tables.specs.Variants.{HoldsVariants}
-use Rattle.table_versions.specs.RecordRows.{held_record, record_of, row_in_node, row_under, rows_of_nodes, with_record}
-use Rattle.table_versions.specs.VersionsKept.{AreKept, IsKeptChange, IsKeptTable, IsRowUnder, needed_trees, secondary_rule, tree_numbers}
-use Rattle.table_versions.proofs.ChangesKept.{some_before}
-use Rattle.table_versions.proofs.Held.{appended}
-use Rattle.table_versions.proofs.NodeRecords.{record_at}
-use Rattle.table_versions.proofs.Tables.{found_number}
+use Rattle.record_changes.proofs.Tests.{impossible, same_number, self_equal}
+use Rattle.table_trees.specs.StoredNodes.{put_data}
+use Rattle.table_trees.specs.StoredTables.{StoredTable, has_table, is_table, put_nodes, table_indexes, table_nodes, with_nodes}
+use Rattle.table_versions.specs.RecordRows.{row_in_node, row_under}
+use Rattle.table_versions.specs.VersionsKept.{needed_trees, tree_numbers}
 
 -- laws of tables and nodes
 pub record TreeLaws : Type 0 where
@@ -41,7 +23,6 @@ abbrev pub emptied : List StoredTable → ℕ → List ℕ → List StoredTable
 emptied trees id bookmark = with_nodes id (with_data_at (table_nodes trees id) bookmark []) trees
 
 -- ---- look-ups
-
 
 pub nodes_are : TreeLaws → (trees : List StoredTable) (id : ℕ) (bookmark : List ℕ) → has_table trees id ≡ true → (other : ℕ)
     → table_nodes (emptied trees id bookmark) other ≡ cond (id == other) (with_data_at (table_nodes trees other) bookmark []) (table_nodes trees other)

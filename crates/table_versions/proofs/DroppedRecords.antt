@@ -1,16 +1,16 @@
 -- A drop keeps what trees, catalog and held changes keep of one another.
-use Rattle.std.proofs.Common.{◌≡◌, ℕ, ◌≤◌, Bool, true, false, not, ◌&&◌, ◌||◌, cond, List, [], ◌∷◌, ◌++◌, length, Option, Some, None, filter, find, map, option_map, refl, sym, ap, subst, ◌∙◌, arith}
+use Rattle.std.proofs.Common.{◌≡◌, ℕ, ◌≤◌, Bool, true, false, not, ◌&&◌, ◌||◌, cond, List, [], ◌∷◌, ◌++◌, length, Option, Some, None, find, map, option_map, refl, sym, ap, subst, ◌∙◌, arith}
 use Rattle.std.specs.Prelude.{◌==◌, All, IfSome, IsSomeAnd, bytes_eq, is_some, option_and_then}
 use Rattle.std.specs.List.{AllByRecursion, list_any}
 use Rattle.std.proofs.lemmas.List.Folds.{list_any-append}
 use Rattle.std.specs.Cmp.Lexicographic.{texts_ties}
 use Rattle.std.proofs.lemmas.List.Elements.{All-head, All-tail}
 use Rattle.btree_inplace.specs.Changes.{with_data_at}
-use Rattle.btree_inplace.specs.Order.{extent_in, get_in, has_key}
+use Rattle.btree_inplace.specs.Order.{extent_in, has_key}
 use Rattle.column_set.specs.declared.changes.Change.{Change}
 use Rattle.column_set.specs.declared.changes.Change.TheVariants.{Put, Drop, Hold, Add}
 use Rattle.column_set.specs.RecordValues.{RecordFields}
-use Rattle.cursor_nav.specs.Places.{Pair, are_sorted}
+use Rattle.cursor_nav.specs.Places.{are_sorted}
 use Rattle.database_state.specs.Changes.{changed_bookmark, changed_table, tables_after}
 use Rattle.database_state.specs.Conflicts.{yields_key}
 use Rattle.database_state.specs.Table.{Rows, Table, record_in, row_at, rows_of, schema_of, table_with_id, without_row}
@@ -21,7 +21,7 @@ use Rattle.jet_base.specs.declared.ids.TableId.{TableId}
 use Rattle.page_image.specs.Page.{Node}
 use Rattle.record_changes.proofs.Tests.{and_left, and_right, impossible, same_bytes, same_number, self_equal}
 use Rattle.table_trees.specs.StoredNodes.{IsShortNode, bookmark_entries}
-use Rattle.table_trees.specs.StoredTables.{StoredIndex, StoredTable, has_table, index_entries, is_index, part_of, table_indexes, table_nodes, with_nodes}
+use Rattle.table_trees.specs.StoredTables.{StoredIndex, StoredTable, has_table, index_entries, is_index, part_of, table_nodes, with_nodes}
 use Rattle.version_store.specs.declared.calls.By.{By}
 use Rattle.version_store.specs.declared.calls.ChangeKind.{ChangeKind}
 use Rattle.version_store.specs.declared.calls.ChangeKind.TheVariants as kind

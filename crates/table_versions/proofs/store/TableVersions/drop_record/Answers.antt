@@ -1,9 +1,9 @@
-use Rattle.std.proofs.Common.{◌≡◌, ℕ, ◌≤◌, Bool, true, false, List, [], ◌∷◌, ◌++◌, length, Option, option_map, sym, ap, subst, ◌∙◌}
+use Rattle.std.proofs.Common.{◌≡◌, ℕ, ◌≤◌, List, [], ◌∷◌, ◌++◌, length, Option, option_map, sym, ap, subst, ◌∙◌}
 use Rattle.std.specs.Prelude.{IfSome, is_some, option_and_then, option_copied, unwrap_or}
 use Rattle.database_state.specs.Changes.{changed_bookmark, changed_table}
 use Rattle.database_state.specs.Table.{record_in}
-use Rattle.table_trees.specs.StoredTables.{StoredTable, table_nodes}
-use Rattle.version_store.specs.HeldChanges.{HeldChange, has_room as has_room_for_row, new_change}
+use Rattle.table_trees.specs.StoredTables.{table_nodes}
+use Rattle.version_store.specs.HeldChanges.{has_room as has_room_for_row, new_change}
 use Rattle.table_versions.specs.RecordRows.{IsRecordRow, record_of, row_in_node, row_under}
 use Rattle.table_versions.specs.StoredVersions.{StoredVersions, has_room}
 use Rattle.table_versions.proofs.Dropped.{TreeLaws, emptied}
