@@ -14,3 +14,5 @@ pub mod Telling
 pub mod TellingKeys
 pub mod Walking
 pub mod VariantKeys
+pub mod OneByOne
+pub mod SeenTables
