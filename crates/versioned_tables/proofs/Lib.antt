@@ -15,3 +15,5 @@ pub mod TellingKeys
 pub mod Walking
 pub mod VariantKeys
 pub mod TablesInOrder
+pub mod OneByOne
+pub mod SeenTables

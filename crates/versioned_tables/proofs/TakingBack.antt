@@ -22,7 +22,7 @@ use Rattle.version_history.proofs.FoundRecord.{fold-at}
 use Rattle.version_history.proofs.Viewing.{same_there}
 use Rattle.version_keys.specs.Variants.{HasNoSums}
 use Rattle.version_store.specs.HeldChanges.{kind_of}
-use Rattle.versioned_tables.specs.HeldRecords.{HeldRecord, inverse, inverse_of, undone_change}
+use Rattle.versioned_tables.specs.HeldRecords.{HeldRecord, as_undone, inverse, inverse_of, undone_change}
 use Rattle.versioned_tables.specs.VersionedTables.{tables_taken_back}
 use Rattle.versioned_tables.specs.Holding.{AllMatch, AllRise, Matches}
 use Rattle.versioned_tables.proofs.Rising.{tables_rise}
@@ -51,9 +51,9 @@ abbrev pub SameTest : (PastChange → Bool) → (HeldRecord → Bool) → Type 0
 SameTest gone test = (item : PastChange) (h : HeldRecord) → Matches item h → test h ≡ gone item
 
 one_undone : (gone : PastChange → Bool) (test : HeldRecord → Bool) → SameTest gone test → (item : PastChange) (h : HeldRecord) → Matches item h → Matches (undone_where gone item) (undone_change test h)
-one_undone gone test same item h m = subst (λ b. Matches (undone_where gone item) (cond b (record h { status = undone }) h)) (sym (same item h m)) (by (gone item))
+one_undone gone test same item h m = subst (λ b. Matches (undone_where gone item) (cond b (as_undone h) h)) (sym (same item h m)) (by (gone item))
   where
-    by : (b : Bool) → Matches (cond b (record item { status = undone }) item) (cond b (record h { status = undone }) h)
+    by : (b : Bool) → Matches (cond b (record item { status = undone }) item) (cond b (as_undone h) h)
     by true = record { number = m.number; session = m.session; level = m.level; kind = m.kind; table = m.table; bookmark = m.bookmark; status = refl; before = λ live rewrite. impossible live; cost = m.cost }
     by false = m
 

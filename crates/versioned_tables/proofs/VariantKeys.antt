@@ -1,11 +1,10 @@
 -- The keys of all variants of a record after a change, an undo of one change, and a clean.
-use Rattle.std.proofs.Common.{◌≡◌, ℕ, Bool, true, false, ◌&&◌, ◌||◌, List, [], ◌∷◌, ◌++◌, Option, refl, sym, ap, ◌∙◌}
+use Rattle.std.proofs.Common.{◌≡◌, ℕ, Bool, true, false, ◌&&◌, ◌||◌, List, [], ◌∷◌, ◌++◌, Option, None, refl, sym, ap, ◌∙◌}
 use Rattle.std.specs.List.{list_any}
 use Rattle.std.proofs.lemmas.List.Folds.{list_any-append}
 use Rattle.column_set.specs.RecordValues.{RecordFields}
-use Rattle.database_state.specs.State.{undone}
 use Rattle.version_store.specs.HeldChanges.{is_rewrite}
-use Rattle.versioned_tables.specs.HeldRecords.{HeldRecord, is_change_at, is_standing_rewrite}
+use Rattle.versioned_tables.specs.HeldRecords.{HeldRecord, as_undone, is_change_at, is_standing_rewrite}
 
 -- a test of the records before, for keys and for whether there is one
 abbrev pub TestOf : Type 0
@@ -49,13 +48,13 @@ after_other test newest held new table bookmark other =
 -- ---- one change undone: the record that it left is no variant any more, and the one before it is the newest
 
 pub before_undo : (test : TestOf) (newest : Option RecordFields) (front : List HeldRecord) (gone : HeldRecord) (rest : List HeldRecord) (table : ℕ) (bookmark : List ℕ) → is_standing_rewrite table bookmark gone ≡ true
-    → some_variant test newest (front ++ gone ∷ rest) table bookmark ≡ (some_variant test gone.before (front ++ record gone { status = undone } ∷ rest) table bookmark || test newest)
+    → some_variant test newest (front ++ gone ∷ rest) table bookmark ≡ (some_variant test gone.before (front ++ as_undone gone ∷ rest) table bookmark || test newest)
 before_undo test newest front gone rest table bookmark standing =
     ap (λ b. test newest || b) (list_any-append passes front (gone ∷ rest) ∙ ap (λ b. list_any passes front || ((b && test gone.before) || list_any passes rest)) standing)
     ∙ moved (test newest) (list_any passes front) (test gone.before) (list_any passes rest)
     ∙ ap (λ b. b || test newest)
     (sym (ap (λ b. test gone.before || b)
-    (list_any-append passes front (record gone { status = undone } ∷ rest) ∙ ap (λ b. list_any passes front || ((b && test gone.before) || list_any passes rest)) (never (is_change_at table bookmark gone && is_rewrite gone.kind)))))
+    (list_any-append passes front (as_undone gone ∷ rest) ∙ ap (λ b. list_any passes front || ((b && test None) || list_any passes rest)) (never (is_change_at table bookmark gone && is_rewrite gone.kind)))))
   where
     passes : HeldRecord → Bool
     passes change = is_standing_rewrite table bookmark change && test change.before

@@ -99,9 +99,13 @@ released_change session level held = if is_open_at session level held then recor
 abbrev pub committed_change : ℕ → ℕ → HeldRecord → HeldRecord
 committed_change session number held = if is_open_of session held then record held { status = committed number } else held
 
+-- an undone change, which holds no record any more
+abbrev pub as_undone : HeldRecord → HeldRecord
+as_undone held = record held { status = undone; before = None }
+
 -- the changes that pass become undone
 abbrev pub undone_change : (HeldRecord → Bool) → HeldRecord → HeldRecord
-undone_change test held = if test held then record held { status = undone } else held
+undone_change test held = if test held then as_undone held else held
 
 -- The change that takes a held one back: it puts the record before it back, or the amount of a sum out again.
 abbrev pub inverse_of : ChangeKind → ℕ → List ℕ → Option RecordFields → Change

@@ -1,5 +1,6 @@
 -- The tables with their newest records beside the changes of the past that are held, and what a reader is shown of them.
-use Rattle.std.specs.Prelude.{ℕ, ◌==◌, ◌&&◌, Bool, true, false, List, [], ◌∷◌, ◌++◌, map, drop, Option, Some, None, if◌then◌else◌}
+use Rattle.std.specs.Prelude.{◌≡◌, ℕ, ◌==◌, ◌&&◌, Bool, true, false, List, [], ◌∷◌, ◌++◌, map, drop, Option, Some, None, if◌then◌else◌}
+use Rattle.std.specs.List.{list_any}
 use Rattle.column_set.specs.declared.changes.Change.{Change}
 use Rattle.column_set.specs.RecordValues.{RecordFields}
 use Rattle.index_derive.specs.declared.log.EntryKind.{EntryKind}
@@ -11,7 +12,7 @@ use Rattle.database_state.specs.SchemaChanges.{tables_after_step}
 use Rattle.version_store.specs.declared.calls.By.{By}
 use Rattle.version_store.specs.declared.calls.Reader.{Reader}
 use Rattle.version_store.specs.HeldChanges.{is_rewrite}
-use Rattle.versioned_tables.specs.HeldRecords.{HeldRecord, is_unseen, new_change, released_change, committed_change, undone_change, inverse}
+use Rattle.versioned_tables.specs.HeldRecords.{HeldRecord, as_undone, is_unseen, new_change, released_change, committed_change, undone_change, inverse}
 
 -- The tables, each with its newest records, and the held changes, oldest first.
 pub record VersionedTables : Type 0 where
@@ -79,6 +80,26 @@ with_changes_undone test store = record {
   tables = tables_taken_back test store.held store.tables;
   held = map (undone_change test) store.held;
 }
+
+-- the last held change that passes is taken back, and undone
+abbrev pub tables_with_last_back : (HeldRecord → Bool) → List HeldRecord → List Table → List Table
+tables_with_last_back test [] tables = tables
+tables_with_last_back test (held ∷ changes) tables =
+    if list_any test changes then tables_with_last_back test changes tables else if test held then tables_after tables (inverse held) else tables
+
+abbrev pub last_undone : (HeldRecord → Bool) → List HeldRecord → List HeldRecord
+last_undone test [] = []
+last_undone test (held ∷ changes) = if list_any test changes then held ∷ last_undone test changes else undone_change test held ∷ changes
+
+abbrev pub with_last_undone : (HeldRecord → Bool) → VersionedTables → VersionedTables
+with_last_undone test store = record {
+  tables = tables_with_last_back test store.held store.tables;
+  held = last_undone test store.held;
+}
+
+-- no change that is undone passes
+abbrev pub LeavesUndone : (HeldRecord → Bool) → Type 0
+LeavesUndone test = (held : HeldRecord) → test (as_undone held) ≡ false
 
 -- ---- schema steps
 

@@ -4,6 +4,7 @@
 
 mod conflicts;
 mod examples;
+mod one_by_one;
 mod readers;
 mod steps;
 mod variants;
@@ -16,7 +17,11 @@ pub use examples::{
     a_reader_that_began_before_sees_the_old_record, a_replaced_record_is_in_conflict,
     an_undone_replace_gives_the_old_record_back,
 };
-pub use readers::{a_reader_is_shown_the_records_that_it_sees, a_session_is_shown_its_view};
+pub use one_by_one::changes_undone_one_by_one_are_undone_at_once;
+pub use readers::{
+    a_reader_finds_the_records_that_it_is_shown, a_reader_is_shown_the_records_that_it_sees,
+    a_session_is_shown_its_view,
+};
 pub use steps::{
     a_change_is_made_and_held, a_clean_leaves_the_state, a_schema_step_changes_the_tables,
     entries_leave_records_in_order, entries_of_a_session_leave_the_tables,

@@ -1,8 +1,8 @@
 //! What a reader is shown.
 
-ghost use Rattle.std.specs.Prelude.{◌≡◌, ℕ, List};
+ghost use Rattle.std.specs.Prelude.{◌≡◌, ℕ, List, is_some, true};
 ghost use Rattle.database_state.specs.State.{DatabaseState, PastChange, transaction_of};
-ghost use Rattle.database_state.specs.Table.{Rows, row_at, table_with_id};
+ghost use Rattle.database_state.specs.Table.{Rows, record_in, row_at, table_with_id};
 ghost use Rattle.database_state.specs.View.{view};
 ghost use Rattle.record_changes.specs.Records.{Records};
 ghost use Rattle.version_keys.specs.Variants.{HasNoSums};
@@ -17,6 +17,12 @@ use version_keys::a_session_finds_its_very_record;
 pub fn a_reader_is_shown_the_records_that_it_sees()
     ensures { (table : ℕ) (reader : Reader) (held : List HeldRecord) (rows : Rows) (bookmark : List ℕ)
         → row_at (seen_rows table reader held rows) bookmark ≡ seen_record table bookmark reader (row_at rows bookmark) held }
+{}
+
+/// A record of the tables that a reader sees is the one that it is shown.
+pub fn a_reader_finds_the_records_that_it_is_shown()
+    ensures { (reader : Reader) (store : VersionedTables) (table : ℕ) (bookmark : List ℕ) → is_some (table_with_id store.tables table) ≡ true
+        → record_in (seen_tables reader store) table bookmark ≡ seen_record table bookmark reader (record_in store.tables table bookmark) store.held }
 {}
 
 /// Each table is shown to a session as the session's view has it, where no escrow column was changed.

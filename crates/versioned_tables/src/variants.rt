@@ -5,8 +5,7 @@ ghost use Rattle.column_set.specs.RecordValues.{RecordFields};
 ghost use Rattle.index_derive.specs.declared.rules.IndexRule.{IndexRule};
 ghost use Rattle.index_derive.specs.declared.rules.Schema.{Schema};
 ghost use Rattle.database_state.specs.Conflicts.{yields_key};
-ghost use Rattle.database_state.specs.State.{undone};
-ghost use Rattle.versioned_tables.specs.HeldRecords.{HeldRecord, is_standing_rewrite};
+ghost use Rattle.versioned_tables.specs.HeldRecords.{HeldRecord, as_undone, is_standing_rewrite};
 ghost use Rattle.versioned_tables.specs.Variants.{has_variant, is_variant_key};
 
 /// A put or a drop of a record adds the keys of the record that it leaves; any other change adds none.
@@ -23,9 +22,9 @@ pub fn a_change_adds_the_keys_that_it_leaves()
 pub fn an_undo_takes_the_keys_that_no_variant_has()
     ensures keys { (newest : Option RecordFields) (front : List HeldRecord) (gone : HeldRecord) (rest : List HeldRecord) (rule : IndexRule) (schema : Schema) (table : ℕ) (key bookmark : List ℕ) → is_standing_rewrite table bookmark gone ≡ true
         → is_variant_key newest (front ++ gone ∷ rest) rule schema table key bookmark
-        ≡ (is_variant_key gone.before (front ++ record gone { status = undone } ∷ rest) rule schema table key bookmark || yields_key rule schema key newest) }
+        ≡ (is_variant_key gone.before (front ++ as_undone gone ∷ rest) rule schema table key bookmark || yields_key rule schema key newest) }
     ensures there { (newest : Option RecordFields) (front : List HeldRecord) (gone : HeldRecord) (rest : List HeldRecord) (table : ℕ) (bookmark : List ℕ) → is_standing_rewrite table bookmark gone ≡ true
-        → has_variant newest (front ++ gone ∷ rest) table bookmark ≡ (has_variant gone.before (front ++ record gone { status = undone } ∷ rest) table bookmark || is_some newest) }
+        → has_variant newest (front ++ gone ∷ rest) table bookmark ≡ (has_variant gone.before (front ++ as_undone gone ∷ rest) table bookmark || is_some newest) }
 {}
 
 /// Once the oldest change is forgotten, the keys of the record before it are gone, but for those that another variant has.

@@ -1,0 +1,386 @@
+-- A drop keeps what trees, catalog and held changes keep of one another.
+use Rattle.std.proofs.Common.{◌≡◌, ℕ, ◌≤◌, Bool, true, false, not, ◌&&◌, ◌||◌, cond, List, [], ◌∷◌, ◌++◌, length, Option, Some, None, find, map, option_map, refl, sym, ap, subst, ◌∙◌, arith}
+use Rattle.std.specs.Prelude.{◌==◌, All, IfSome, IsSomeAnd, bytes_eq, is_some, option_and_then}
+use Rattle.std.specs.List.{AllByRecursion, list_any}
+use Rattle.std.proofs.lemmas.List.Folds.{list_any-append}
+use Rattle.std.specs.Cmp.Lexicographic.{texts_ties}
+use Rattle.std.proofs.lemmas.List.Elements.{All-head, All-tail}
+use Rattle.btree_inplace.specs.Changes.{with_data_at}
+use Rattle.btree_inplace.specs.Order.{extent_in, has_key}
+use Rattle.column_set.specs.declared.changes.Change.{Change}
+use Rattle.column_set.specs.declared.changes.Change.TheVariants.{Put, Drop, Hold, Add}
+use Rattle.column_set.specs.RecordValues.{RecordFields}
+use Rattle.cursor_nav.specs.Places.{are_sorted}
+use Rattle.database_state.specs.Changes.{changed_bookmark, changed_table, tables_after}
+use Rattle.database_state.specs.Conflicts.{yields_key}
+use Rattle.database_state.specs.Table.{Rows, Table, record_in, row_at, rows_of, schema_of, table_with_id, without_row}
+use Rattle.derived_index.specs.KeptEntries.{has_entry}
+use Rattle.index_derive.specs.declared.rules.IndexRule.{IndexRule}
+use Rattle.jet_catalog.specs.Catalog.{CatalogState}
+use Rattle.jet_base.specs.declared.ids.TableId.{TableId}
+use Rattle.page_image.specs.Page.{Node}
+use Rattle.record_changes.proofs.Tests.{and_left, and_right, impossible, same_bytes, same_number, self_equal}
+use Rattle.table_trees.specs.StoredNodes.{IsShortNode, bookmark_entries}
+use Rattle.table_trees.specs.StoredTables.{StoredIndex, StoredTable, has_table, index_entries, is_index, part_of, table_nodes, with_nodes}
+use Rattle.version_store.specs.declared.calls.By.{By}
+use Rattle.version_store.specs.declared.calls.ChangeKind.{ChangeKind}
+use Rattle.version_store.specs.declared.calls.ChangeKind.TheVariants as kind
+use Rattle.version_store.specs.HeldChanges.{HeldChange, kind_of, new_change}
+use Rattle.versioned_tables.specs.HeldRecords.{HeldRecord, is_standing_rewrite, new_change as new_record}
+use Rattle.versioned_tables.specs.VersionedTables.{VersionedTables, with_change}
+use Rattle.versioned_tables.specs.Variants.{HoldsVariants}
+use Rattle.table_versions.specs.RecordRows.{IsRecordRow, held_record, record_of, row_in_node, row_under, rows_of_nodes, with_record}
+use Rattle.table_versions.specs.StoredVersions.{StoredVersions}
+use Rattle.table_versions.specs.VersionsView.{stored_versions, with_newest}
+use Rattle.table_versions.specs.VersionsKept.{AreKept, IsKeptChange, IsKeptTable, IsRowOf, IsRowUnder, secondary_rule}
+use Rattle.table_versions.proofs.ChangesKept.{some_before}
+use Rattle.table_versions.proofs.Dropped.{TreeLaws, emptied, emptied_where, extent_at, has_trees, nodes_are, row_then, same_numbers, there_at}
+use Rattle.table_versions.proofs.Held.{appended}
+use Rattle.table_versions.proofs.Lists.{all_append}
+use Rattle.table_versions.proofs.NodeRecords.{record_at}
+use Rattle.table_versions.proofs.Span.{RowSizes, same_cost}
+use Rattle.table_versions.proofs.Tables.{found_number, newest_at, newest_is_row, table_at}
+
+-- what is known of the trees before and after
+pub record Emptied (laws : TreeLaws) (trees : List StoredTable) (id : ℕ) (bookmark : List ℕ) : Type 0 where
+  pub there : has_table trees id ≡ true
+  pub sorted : (table : ℕ) → are_sorted (bookmark_entries (table_nodes trees table)) ≡ true
+  pub sorted_then : (table : ℕ) → are_sorted (bookmark_entries (table_nodes (emptied trees id bookmark) table)) ≡ true
+
+-- the drop that is held
+abbrev pub dropped : By → TableId → List ℕ → List StoredTable → HeldChange
+dropped by table bookmark trees = new_change by (Drop table bookmark) (row_under (table_nodes trees table.0) bookmark)
+
+pub record_then : (laws : TreeLaws) (trees : List StoredTable) (id : ℕ) (bookmark : List ℕ) → Emptied laws trees id bookmark → (other : ℕ) (own : List ℕ)
+    → row_at (rows_of_nodes (table_nodes (emptied trees id bookmark) other)) own ≡ cond ((id == other) && bytes_eq bookmark own) None (row_at (rows_of_nodes (table_nodes trees other)) own)
+record_then laws trees id bookmark known other own =
+    record_at (table_nodes (emptied trees id bookmark) other) (known.sorted_then other) own
+    ∙ ap (option_map record_of) (row_then laws trees id bookmark known.there other own)
+    ∙ by ((id == other) && bytes_eq bookmark own)
+  where
+    by : (b : Bool) → option_map record_of (cond b None (row_under (table_nodes trees other) own)) ≡ cond b None (row_at (rows_of_nodes (table_nodes trees other)) own)
+    by true = refl
+    by false = sym (record_at (table_nodes trees other) (known.sorted other) own)
+
+-- the variants of each record, as far as a test tells that passes no record that is not there
+abbrev pub variants : (Option RecordFields → Bool) → Option RecordFields → ℕ → List ℕ → List HeldRecord → Bool
+variants test newest table bookmark held = test newest || some_before test table bookmark held
+
+same_variants : (laws : TreeLaws) (trees : List StoredTable) (by : By) (table : TableId) (bookmark : List ℕ) → Emptied laws trees table.0 bookmark → (held : List HeldChange) (test : Option RecordFields → Bool) → test None ≡ false → (other : ℕ) (own : List ℕ)
+    → variants test (row_at (rows_of_nodes (table_nodes (emptied trees table.0 bookmark) other)) own) other own (map held_record (held ++ dropped by table bookmark trees ∷ []))
+    ≡ variants test (row_at (rows_of_nodes (table_nodes trees other)) own) other own (map held_record held)
+same_variants laws trees by table bookmark known held test none other own =
+    ap (λ newest. variants test newest other own (map held_record (held ++ new ∷ []))) (record_then laws trees table.0 bookmark known other own)
+    ∙ ap (λ records. variants test (cond hit None newest) other own records) (appended held new)
+    ∙ ap (λ b. test (cond hit None newest) || b) (list_any-append passes (map held_record held) (held_record new ∷ []))
+    ∙ cases hit refl
+  where
+    new : HeldChange
+    new = dropped by table bookmark trees
+
+    hit : Bool
+    hit = (table.0 == other) && bytes_eq bookmark own
+
+    newest : Option RecordFields
+    newest = row_at (rows_of_nodes (table_nodes trees other)) own
+
+    passes : HeldRecord → Bool
+    passes change = is_standing_rewrite other own change && test change.before
+
+    before_is : hit ≡ true → (held_record new).before ≡ newest
+    before_is e =
+        (λ i. option_map record_of (row_under (table_nodes trees (same_number table.0 other (and_left (table.0 == other) _ e) i)) (same_bytes bookmark own (and_right (table.0 == other) _ e) i)))
+        ∙ sym (record_at (table_nodes trees other) (known.sorted other) own)
+
+    moved : (a b : Bool) → (false || (b || (((true && true) && true) && a || false))) ≡ (a || b)
+    moved true true = refl
+    moved true false = refl
+    moved false true = refl
+    moved false false = refl
+
+    kept : (a b c : Bool) → (a || (b || (((false && true) && true) && c || false))) ≡ (a || b)
+    kept true b c = refl
+    kept false true c = refl
+    kept false false c = refl
+
+    cases : (b : Bool) → hit ≡ b → (test (cond b None newest) || (list_any passes (map held_record held) || (passes (held_record new) || false))) ≡ (test newest || list_any passes (map held_record held))
+    cases true e =
+        (λ i. none i || (list_any passes (map held_record held) || (((e i && true) && true) && test (before_is e i) || false)))
+        ∙ moved (test newest) (list_any passes (map held_record held))
+    cases false e =
+        (λ i. test newest || (list_any passes (map held_record held) || (((e i && true) && true) && test (held_record new).before || false)))
+        ∙ kept (test newest) (list_any passes (map held_record held)) (test (held_record new).before)
+
+-- ---- tables
+
+same_rows : (table : Table) (own : List ℕ) (b : Bool) (row : Option (List ℕ)) → IfSome row (IsRowUnder table own) → IfSome (cond b None row) (IsRowUnder table own)
+same_rows table own true row is = tt
+same_rows table own false row is = is
+
+same_index : (laws : TreeLaws) (trees : List StoredTable) (id : ℕ) (nodes : List Node) (other index : ℕ) → index_entries (with_nodes id nodes trees) other index ≡ index_entries trees other index
+same_index laws trees id nodes other index = ap (λ (indexes : List StoredIndex). part_of (is_index index) (λ x. x.1) indexes) (laws.indexes trees id other nodes)
+
+dropped_table : (laws : TreeLaws) (trees : List StoredTable) (by : By) (table : TableId) (bookmark : List ℕ) → Emptied laws trees table.0 bookmark → (held : List HeldChange) (t : Table)
+    → IsKeptTable trees (table_nodes trees t.id) (map held_record held) t
+    → IsKeptTable (emptied trees table.0 bookmark) (table_nodes (emptied trees table.0 bookmark) t.id) (map held_record (held ++ dropped by table bookmark trees ∷ [])) t
+dropped_table laws trees by table bookmark known held t kept = record {
+  rules = kept.rules;
+  rows = λ own.
+      subst (λ (row : Option (List ℕ)). IfSome row (IsRowUnder t own)) (sym (row_then laws trees table.0 bookmark known.there t.id own))
+      (same_rows t own ((table.0 == t.id) && bytes_eq bookmark own) (row_under (table_nodes trees t.id) own) (kept.rows own));
+  stands = λ own.
+      there_at laws trees table.0 bookmark known.there t.id own ∙ kept.stands own
+      ∙ sym (same_variants laws trees by table bookmark known held is_some refl t.id own);
+  entries = λ index. each index (secondary_rule t index) (kept.entries index);
+}
+  where
+    each : (index : ℕ) (rule : Option IndexRule)
+        → IfSome rule (λ rule. HoldsVariants (rows_of_nodes (table_nodes trees t.id)) (map held_record held) rule (schema_of t) t.id (index_entries trees t.id index))
+        → IfSome rule (λ rule. HoldsVariants (rows_of_nodes (table_nodes (emptied trees table.0 bookmark) t.id)) (map held_record (held ++ dropped by table bookmark trees ∷ [])) rule (schema_of t) t.id (index_entries (emptied trees table.0 bookmark) t.id index))
+    each index None holds = tt
+    each index (Some rule) holds = λ key own.
+        ap (has_entry key own) (same_index laws trees table.0 _ t.id index) ∙ holds key own
+        ∙ sym (same_variants laws trees by table bookmark known held (yields_key rule (schema_of t) key) refl t.id own)
+
+-- ---- held changes
+
+room_then : (laws : TreeLaws) (trees : List StoredTable) (id : ℕ) (bookmark : List ℕ) → has_table trees id ≡ true → (tables : List Table) (h : HeldChange) → IsKeptChange tables trees h → IsKeptChange tables (emptied trees id bookmark) h
+room_then laws trees id bookmark there tables h kept = record {
+  named = kept.named;
+  row = kept.row;
+  before = kept.before;
+  drop = kept.drop;
+  room = λ uncommitted. subst (λ (extent : Option ℕ). IfSome h.before (λ row. IsSomeAnd extent (λ n. length row ≤ n))) (sym (extent_at laws trees id bookmark there h.table h.bookmark)) (kept.room uncommitted);
+  other = kept.other;
+  sum = kept.sum;
+}
+
+all_room : (laws : TreeLaws) (trees : List StoredTable) (id : ℕ) (bookmark : List ℕ) → has_table trees id ≡ true → (tables : List Table) (held : List HeldChange) → AllByRecursion (IsKeptChange tables trees) held → AllByRecursion (IsKeptChange tables (emptied trees id bookmark)) held
+all_room laws trees id bookmark there tables [] kept = tt
+all_room laws trees id bookmark there tables (h ∷ held) kept = (room_then laws trees id bookmark there tables h kept.0, all_room laws trees id bookmark there tables held kept.1)
+
+-- ---- the drop itself
+
+-- a row has room in its node
+room_in : (nodes : List Node) → All IsShortNode nodes → (own : List ℕ) → IfSome (row_under nodes own) (λ row. IsSomeAnd (extent_in nodes own) (λ n. length row ≤ n))
+room_in [] short own = tt
+room_in (n ∷ nodes) short own = by (has_key own n) (All-head IsShortNode n nodes short) (room_in nodes (All-tail IsShortNode n nodes short) own)
+  where
+    fits : (bytes : List ℕ) (extent : ℕ) → length bytes ≤ extent → IfSome (row_in_node bytes) (λ row. length row ≤ extent)
+    fits [] extent h = tt
+    fits (byte ∷ bytes) extent h = h
+
+    by : (b : Bool) → IsShortNode n → IfSome (row_under nodes own) (λ row. IsSomeAnd (extent_in nodes own) (λ n. length row ≤ n))
+        → IfSome (option_and_then row_in_node (option_map (λ (n : Node). n.data) (cond b (Some n) (find (has_key own) nodes)))) (λ row. IsSomeAnd (option_map (λ (n : Node). n.extent) (cond b (Some n) (find (has_key own) nodes))) (λ n. length row ≤ n))
+    by true is rest = fits n.data n.extent is.row
+    by false is rest = rest
+
+new_kept : (laws : TreeLaws) (trees : List StoredTable) (by : By) (table : TableId) (bookmark : List ℕ) → Emptied laws trees table.0 bookmark → All IsShortNode (table_nodes trees table.0) → (tables : List Table) (held : List HeldRecord)
+    → is_some (table_with_id tables table.0) ≡ true → is_some (row_under (table_nodes trees table.0) bookmark) ≡ true → IfSome (table_with_id tables table.0) (IsKeptTable trees (table_nodes trees table.0) held)
+    → IsKeptChange tables (emptied trees table.0 bookmark) (dropped by table bookmark trees)
+new_kept laws trees by table bookmark known short tables held named there kept = record {
+  named = named;
+  row = row_of (table_with_id tables table.0) kept;
+  before = λ standing. before_of (table_with_id tables table.0) kept;
+  drop = λ standing dropped. there;
+  room = λ uncommitted.
+      subst (λ (extent : Option ℕ). IfSome (row_under (table_nodes trees table.0) bookmark) (λ row. IsSomeAnd extent (λ n. length row ≤ n))) (sym (extent_at laws trees table.0 bookmark known.there table.0 bookmark))
+      (room_in (table_nodes trees table.0) short bookmark);
+  other = λ e. impossible (sym e);
+  sum = refl;
+}
+  where
+    fits : (t : Table) (row : Option (List ℕ)) → IfSome row (IsRowUnder t bookmark) → IfSome row (IsRowOf t)
+    fits t None is = tt
+    fits t (Some row) is = is.fits
+
+    row_of : (o : Option Table) → IfSome o (IsKeptTable trees (table_nodes trees table.0) held) → IfSome o (λ t. IfSome (row_under (table_nodes trees table.0) bookmark) (IsRowOf t))
+    row_of None is = tt
+    row_of (Some t) is = fits t (row_under (table_nodes trees table.0) bookmark) (is.rows bookmark)
+
+    before_of : (o : Option Table) → IfSome o (IsKeptTable trees (table_nodes trees table.0) held) → IfSome o (λ t. IfSome (row_under (table_nodes trees table.0) bookmark) (IsRowUnder t bookmark))
+    before_of None is = tt
+    before_of (Some t) is = is.rows bookmark
+
+drop_kept : (laws : TreeLaws) (trees : List StoredTable) (by : By) (table : TableId) (bookmark : List ℕ) → Emptied laws trees table.0 bookmark → All IsShortNode (table_nodes trees table.0) → (tables : List Table) (held : List HeldChange)
+    → is_some (table_with_id tables table.0) ≡ true → is_some (row_under (table_nodes trees table.0) bookmark) ≡ true → AreKept tables trees held
+    → AreKept tables (emptied trees table.0 bookmark) (held ++ dropped by table bookmark trees ∷ [])
+drop_kept laws trees by table bookmark known short tables held named there kept = record {
+  plain = kept.plain;
+  numbers = same_numbers table.0 (with_data_at (table_nodes trees table.0) bookmark []) trees ∙ kept.numbers;
+  each = λ other. each other (table_with_id tables other) refl (kept.each other);
+  changes =
+      all_append (IsKeptChange tables (emptied trees table.0 bookmark)) held (dropped by table bookmark trees ∷ []) (all_room laws trees table.0 bookmark known.there tables held kept.changes)
+      (new_kept laws trees by table bookmark known short tables (map held_record held) named there (kept.each table.0), tt);
+}
+  where
+    each : (other : ℕ) (o : Option Table) → table_with_id tables other ≡ o → IfSome o (IsKeptTable trees (table_nodes trees other) (map held_record held))
+        → IfSome o (IsKeptTable (emptied trees table.0 bookmark) (table_nodes (emptied trees table.0 bookmark) other) (map held_record (held ++ dropped by table bookmark trees ∷ [])))
+    each other None e is = tt
+    each other (Some t) e is =
+        let found = found_number other tables t e in
+        subst (λ (n : ℕ). IsKeptTable (emptied trees table.0 bookmark) (table_nodes (emptied trees table.0 bookmark) n) (map held_record (held ++ dropped by table bookmark trees ∷ [])) t) found
+        (dropped_table laws trees by table bookmark known held t (subst (λ (n : ℕ). IsKeptTable trees (table_nodes trees n) (map held_record held) t) (sym found) is))
+
+-- ---- what it shows
+
+turned_number : (a b : ℕ) → (a == b) ≡ (b == a)
+turned_number a b = by (a == b) (b == a) refl refl
+  where
+    by : (x y : Bool) → (a == b) ≡ x → (b == a) ≡ y → (a == b) ≡ (b == a)
+    by true y e f = e ∙ sym (ap (λ n. n == a) (sym (same_number a b e)) ∙ self_equal a)
+    by false true e f = ap (λ n. n == b) (sym (same_number b a f)) ∙ self_equal b ∙ sym f
+    by false false e f = e ∙ sym f
+
+rows_emptied : (bookmark : List ℕ) (nodes : List Node) → rows_of_nodes (with_data_at nodes bookmark []) ≡ without_row (rows_of_nodes nodes) bookmark
+rows_emptied bookmark [] = refl
+rows_emptied bookmark (n ∷ nodes) =
+    node (has_key bookmark n) ∙ by (has_key bookmark n) refl (row_in_node n.data) (rows_emptied bookmark nodes)
+  where
+    node : (b : Bool) → with_record (emptied_where b n).key (row_in_node (emptied_where b n).data) (rows_of_nodes (with_data_at nodes bookmark [])) ≡ with_record n.key (cond b None (row_in_node n.data)) (rows_of_nodes (with_data_at nodes bookmark []))
+    node true = refl
+    node false = refl
+
+    test : (b : Bool) → has_key bookmark n ≡ b → bytes_eq n.key bookmark ≡ b
+    test b e = texts_ties n.key bookmark ∙ e
+
+    by : (b : Bool) → has_key bookmark n ≡ b → (row : Option (List ℕ)) → rows_of_nodes (with_data_at nodes bookmark []) ≡ without_row (rows_of_nodes nodes) bookmark
+        → with_record n.key (cond b None row) (rows_of_nodes (with_data_at nodes bookmark [])) ≡ without_row (with_record n.key row (rows_of_nodes nodes)) bookmark
+    by true e None rest = rest
+    by true e (Some row) rest = rest ∙ sym (ap (λ b. cond (not b) ((n.key, record_of row) ∷ without_row (rows_of_nodes nodes) bookmark) (without_row (rows_of_nodes nodes) bookmark)) (test true e))
+    by false e None rest = rest
+    by false e (Some row) rest =
+        ap (λ rows. (n.key, record_of row) ∷ rows) rest
+        ∙ sym (ap (λ b. cond (not b) ((n.key, record_of row) ∷ without_row (rows_of_nodes nodes) bookmark) (without_row (rows_of_nodes nodes) bookmark)) (test false e))
+
+rows_then : (laws : TreeLaws) (trees : List StoredTable) (id : ℕ) (bookmark : List ℕ) → has_table trees id ≡ true → (other : ℕ)
+    → rows_of_nodes (table_nodes (emptied trees id bookmark) other) ≡ cond (other == id) (without_row (rows_of_nodes (table_nodes trees other)) bookmark) (rows_of_nodes (table_nodes trees other))
+rows_then laws trees id bookmark there other =
+    ap rows_of_nodes (nodes_are laws trees id bookmark there other) ∙ by (id == other)
+    ∙ ap (λ b. cond b (without_row (rows_of_nodes (table_nodes trees other)) bookmark) (rows_of_nodes (table_nodes trees other))) (turned_number id other)
+  where
+    by : (b : Bool) → rows_of_nodes (cond b (with_data_at (table_nodes trees other) bookmark []) (table_nodes trees other)) ≡ cond b (without_row (rows_of_nodes (table_nodes trees other)) bookmark) (rows_of_nodes (table_nodes trees other))
+    by true = rows_emptied bookmark (table_nodes trees other)
+    by false = refl
+
+tables_then : (laws : TreeLaws) (trees : List StoredTable) (table : TableId) (bookmark : List ℕ) → has_table trees table.0 ≡ true → (tables : List Table)
+    → map (with_newest (emptied trees table.0 bookmark)) tables ≡ tables_after (map (with_newest trees) tables) (Drop table bookmark)
+tables_then laws trees table bookmark there [] = refl
+tables_then laws trees table bookmark there (t ∷ tables) =
+    λ i. (ap (λ (rows : Rows). record t { rows = rows }) (rows_then laws trees table.0 bookmark there t.id) ∙ by (t.id == table.0)) i ∷ tables_then laws trees table bookmark there tables i
+  where
+    by : (b : Bool) → record t { rows = cond b (without_row (rows_of_nodes (table_nodes trees t.id)) bookmark) (rows_of_nodes (table_nodes trees t.id)) }
+        ≡ cond b (record (with_newest trees t) { rows = without_row (rows_of_nodes (table_nodes trees t.id)) bookmark }) (with_newest trees t)
+    by true = refl
+    by false = refl
+
+dropped_record : (sizes : RowSizes) (by : By) (table : TableId) (bookmark : List ℕ) (row : Option (List ℕ)) → IfSome row IsRecordRow → held_record (new_change by (Drop table bookmark) row) ≡ new_record by (Drop table bookmark) (option_map record_of row)
+dropped_record sizes by table bookmark row is = λ i. record (held_record (new_change by (Drop table bookmark) row)) { cost = same_cost sizes (Drop table bookmark) row is i }
+
+-- the trees and the held changes after a drop show the versioned tables after it
+drop_shown : (sizes : RowSizes) (laws : TreeLaws) (trees : List StoredTable) (by : By) (table : TableId) (bookmark : List ℕ) → Emptied laws trees table.0 bookmark → (tables : List Table) (held : List HeldChange) → AreKept tables trees held
+    → record { tables = map (with_newest (emptied trees table.0 bookmark)) tables; held = map held_record (held ++ dropped by table bookmark trees ∷ []) }
+    ≡ with_change by (Drop table bookmark) (record { tables = map (with_newest trees) tables; held = map held_record held })
+drop_shown sizes laws trees by table bookmark known tables held kept =
+    λ i. record {
+      tables = tables_then laws trees table bookmark known.there tables i;
+      held = (appended held (dropped by table bookmark trees) ∙ ap (λ r. map held_record held ++ r ∷ []) last) i;
+    }
+  where
+    row : Option (List ℕ)
+    row = row_under (table_nodes trees table.0) bookmark
+
+    last : held_record (dropped by table bookmark trees) ≡ new_record by (Drop table bookmark) (record_in (map (with_newest trees) tables) table.0 bookmark)
+    last =
+        dropped_record sizes by table bookmark row (newest_is_row tables trees held kept table.0 bookmark)
+        ∙ ap (new_record by (Drop table bookmark)) (sym (newest_at trees tables kept.numbers known.sorted table.0 bookmark))
+
+-- ---- any change that is a drop
+
+abbrev is_drop : ChangeKind → Bool
+is_drop kind.Put = false
+is_drop kind.Drop = true
+is_drop kind.Hold = false
+is_drop (kind.Add column amount) = false
+
+-- what the trees and the held changes are after it, and what they show
+pub record IsDropped (tables : List Table) (trees : List StoredTable) (held : List HeldChange) (by : By) (made : Change) : Type 0 where
+  pub kept : AreKept tables (emptied trees (changed_table made) (changed_bookmark made)) (held ++ new_change by made (row_under (table_nodes trees (changed_table made)) (changed_bookmark made)) ∷ [])
+  pub shown : record { tables = map (with_newest (emptied trees (changed_table made) (changed_bookmark made))) tables; held = map held_record (held ++ new_change by made (row_under (table_nodes trees (changed_table made)) (changed_bookmark made)) ∷ []) }
+      ≡ with_change by made (record { tables = map (with_newest trees) tables; held = map held_record held })
+
+pub is_dropped : (sizes : RowSizes) (laws : TreeLaws) (trees : List StoredTable) (by : By) (made : Change) → kind_of made ≡ kind.Drop → Emptied laws trees (changed_table made) (changed_bookmark made) → All IsShortNode (table_nodes trees (changed_table made))
+    → (tables : List Table) (held : List HeldChange) → is_some (table_with_id tables (changed_table made)) ≡ true → is_some (row_under (table_nodes trees (changed_table made)) (changed_bookmark made)) ≡ true → AreKept tables trees held → IsDropped tables trees held by made
+is_dropped sizes laws trees by (Put table bookmark copied values) is known short tables held named there kept = impossible (ap is_drop is)
+is_dropped sizes laws trees by (Drop table bookmark) is known short tables held named there kept = record {
+  kept = drop_kept laws trees by table bookmark known short tables held named there kept;
+  shown = drop_shown sizes laws trees by table bookmark known tables held kept;
+}
+is_dropped sizes laws trees by (Hold table bookmark) is known short tables held named there kept = impossible (ap is_drop is)
+is_dropped sizes laws trees by (Add table bookmark column amount) is known short tables held named there kept = impossible (ap is_drop is)
+
+-- ---- in a store
+
+mapped : (o : Option (List ℕ)) → is_some (option_map record_of o) ≡ true → is_some o ≡ true
+mapped None e = e
+mapped (Some row) e = refl
+
+pub row_there : (catalog : CatalogState) (trees : List StoredTable) (held : List HeldChange) → AreKept catalog.tables trees held → ((table : ℕ) → are_sorted (bookmark_entries (table_nodes trees table)) ≡ true) → (now : StoredVersions) → stored_versions catalog trees held ≡ now
+    → (id : ℕ) (bookmark : List ℕ) → is_some (record_in now.store.tables id bookmark) ≡ true → is_some (row_under (table_nodes trees id) bookmark) ≡ true
+row_there catalog trees held kept sorted now shows id bookmark there =
+    mapped (row_under (table_nodes trees id) bookmark)
+    (sym (ap is_some (newest_at trees catalog.tables kept.numbers sorted id bookmark)) ∙ ap (λ (v : StoredVersions). is_some (record_in v.store.tables id bookmark)) shows ∙ there)
+
+table_there : (catalog : CatalogState) (trees : List StoredTable) (held : List HeldChange) (now : StoredVersions) → stored_versions catalog trees held ≡ now → (id : ℕ) (bookmark : List ℕ) → is_some (record_in now.store.tables id bookmark) ≡ true
+    → is_some (table_with_id catalog.tables id) ≡ true
+table_there catalog trees held now shows id bookmark there =
+    by (table_with_id catalog.tables id)
+    (sym (ap (λ (o : Option Table). is_some (row_at (rows_of o) bookmark)) (table_at trees catalog.tables id)) ∙ ap (λ (v : StoredVersions). is_some (record_in v.store.tables id bookmark)) shows ∙ there)
+  where
+    by : (o : Option Table) → is_some (row_at (rows_of (option_map (with_newest trees) o)) bookmark) ≡ true → is_some o ≡ true
+    by None e = e
+    by (Some t) e = refl
+
+-- what was there has room for no byte
+pub has_extent : (nodes : List Node) (own : List ℕ) → is_some (row_under nodes own) ≡ true → IsSomeAnd (extent_in nodes own) (λ n. 0 ≤ n)
+has_extent nodes own there = by (find (has_key own) nodes) there
+  where
+    by : (o : Option Node) → is_some (option_and_then row_in_node (option_map (λ (n : Node). n.data) o)) ≡ true → IsSomeAnd (option_map (λ (n : Node). n.extent) o) (λ n. 0 ≤ n)
+    by None e = impossible e
+    by (Some n) e = omega arith
+
+-- the store after a drop
+pub record IsAfterDrop (catalog : CatalogState) (trees : List StoredTable) (held : List HeldChange) (by : By) (made : Change) (now : StoredVersions) : Type 0 where
+  pub kept : AreKept catalog.tables trees held
+  pub shown : stored_versions catalog trees held ≡ record now { store = with_change by made now.store }
+
+pub after_drop : (sizes : RowSizes) (laws : TreeLaws) (catalog : CatalogState) (trees : List StoredTable) (held : List HeldChange) → AreKept catalog.tables trees held
+    → ((table : ℕ) → are_sorted (bookmark_entries (table_nodes trees table)) ≡ true) → ((table : ℕ) → All IsShortNode (table_nodes trees table)) → (now : StoredVersions) → stored_versions catalog trees held ≡ now
+    → (by : By) (made : Change) → kind_of made ≡ kind.Drop → is_some (record_in now.store.tables (changed_table made) (changed_bookmark made)) ≡ true
+    → (new_trees : List StoredTable) → new_trees ≡ emptied trees (changed_table made) (changed_bookmark made) → ((table : ℕ) → are_sorted (bookmark_entries (table_nodes new_trees table)) ≡ true)
+    → (new_held : List HeldChange) → new_held ≡ held ++ new_change by made (row_under (table_nodes trees (changed_table made)) (changed_bookmark made)) ∷ []
+    → IsAfterDrop catalog new_trees new_held by made now
+after_drop sizes laws catalog trees held kept sorted short now shows by made is there new_trees trees_are sorted_then new_held held_are = record {
+  kept =
+      subst (λ (t : List StoredTable). AreKept catalog.tables t new_held) (sym trees_are)
+      (subst (λ (h : List HeldChange). AreKept catalog.tables (emptied trees (changed_table made) (changed_bookmark made)) h) (sym held_are) dropped_so.kept);
+  shown =
+      (λ i. stored_versions catalog (trees_are i) (held_are i))
+      ∙ ap (λ (store : VersionedTables). record { greatest_table = catalog.greatest_table; store = store }) dropped_so.shown
+      ∙ ap (λ (v : StoredVersions). record v { store = with_change by made v.store }) shows;
+}
+  where
+    named : is_some (table_with_id catalog.tables (changed_table made)) ≡ true
+    named = table_there catalog trees held now shows (changed_table made) (changed_bookmark made) there
+
+    known : Emptied laws trees (changed_table made) (changed_bookmark made)
+    known = record {
+      there = has_trees trees catalog.tables (changed_table made) kept.numbers ∙ named;
+      sorted = sorted;
+      sorted_then = λ table. subst (λ (t : List StoredTable). are_sorted (bookmark_entries (table_nodes t table)) ≡ true) trees_are (sorted_then table);
+    }
+
+    dropped_so : IsDropped catalog.tables trees held by made
+    dropped_so =
+        is_dropped sizes laws trees by made is known (short (changed_table made)) catalog.tables held named
+        (row_there catalog trees held kept sorted now shows (changed_table made) (changed_bookmark made) there) kept

@@ -1,0 +1,117 @@
+-- A lock that is held behind the other changes.
+use Rattle.std.proofs.Common.{◌≡◌, ℕ, Bool, true, false, not, ◌&&◌, ◌||◌, cond, List, [], ◌∷◌, ◌++◌, Option, Some, None, Result, Ok, Err, map, refl, sym, ap, ◌∙◌}
+use Rattle.std.specs.Prelude.{◌+◌, ◌==◌, IfSome, OnErr, OnOk, is_some, nat_lt, option_map}
+use Rattle.column_set.specs.declared.changes.Change.{Change}
+use Rattle.column_set.specs.declared.changes.Change.TheVariants.{Put, Drop, Hold, Add}
+use Rattle.database_state.specs.Changes.{changed_table}
+use Rattle.database_state.specs.State.{is_undone}
+use Rattle.database_state.specs.Table.{Table, table_with_id, with_table}
+use Rattle.table_versions.proofs.Lists.{all_append}
+use Rattle.record_changes.proofs.Tests.{and_left, impossible}
+use Rattle.table_trees.specs.StoredTables.{StoredTable}
+use Rattle.version_store.specs.declared.calls.By.{By}
+use Rattle.version_store.specs.declared.calls.ChangeKind.{ChangeKind}
+use Rattle.version_store.specs.declared.calls.ChangeKind.TheVariants as kind
+use Rattle.version_store.specs.HeldChanges.{HeldChange, has_room as has_room_for_row, is_add, is_rewrite, kind_of, new_change}
+use Rattle.versioned_tables.specs.HeldRecords.{is_change_at, is_standing_rewrite, span as span_of_records}
+use Rattle.versioned_tables.specs.VersionedTables.{VersionedTables, with_change}
+use Rattle.table_versions.specs.RecordRows.{held_record}
+use Rattle.table_versions.specs.StoredVersions.{has_room}
+use Rattle.table_versions.specs.VersionsView.{with_newest}
+use Rattle.table_versions.specs.VersionsKept.{AreKept, IsKeptChange, IsRowOf}
+use Rattle.table_versions.proofs.Span.{same_span}
+use Rattle.table_versions.proofs.Tables.{table_at}
+use Rattle.table_versions.proofs.ChangesKept.{SameVariants, changes_kept}
+
+pub either : {A B P Q R : Type 0} (r : Result A B) → OnOk r Q → OnErr r R → (Q → P) → (R → P) → P
+either (Ok x) ok err f g = f ok
+either (Err e) ok err f g = g err
+
+pub on_ok : {A B Q P : Type 0} (r : Result A B) → OnOk r Q → (Q → P) → OnOk r P
+on_ok (Ok x) ok f = f ok
+on_ok (Err e) ok f = tt
+
+pub on_err : {A B Q P : Type 0} (r : Result A B) → OnErr r Q → (Q → P) → OnErr r P
+on_err (Ok x) err f = tt
+on_err (Err e) err f = f err
+
+-- ---- the lock is kept
+
+not_rewrite : (what : ChangeKind) → what ≡ kind.Hold → is_rewrite what ≡ false
+not_rewrite what e = ap is_rewrite e
+
+no_row : (o : Option Table) → IfSome o (λ table. IfSome None (IsRowOf table))
+no_row None = tt
+no_row (Some table) = tt
+
+lock_kept : (tables : List Table) (trees : List StoredTable) (by : By) (made : Change) → kind_of made ≡ kind.Hold → is_some (table_with_id tables (changed_table made)) ≡ true → IsKeptChange tables trees (new_change by made None)
+lock_kept tables trees by made lock named = record {
+  named = named;
+  row = no_row (table_with_id tables (changed_table made));
+  drop = λ standing dropped. impossible (sym (not_rewrite (kind_of made) lock) ∙ and_left (is_rewrite (kind_of made)) _ standing);
+  before = λ standing. impossible (sym (not_rewrite (kind_of made) lock) ∙ and_left (is_rewrite (kind_of made)) _ standing);
+  room = λ is_uncommitted. tt;
+  other = λ e. refl;
+  sum = ap is_add lock;
+}
+
+no_variant : (made : HeldChange) → is_rewrite made.kind ≡ false → (held : List HeldChange) → SameVariants (map held_record (held ++ made ∷ [])) (map held_record held)
+no_variant made other [] test table bookmark =
+    ap (λ w. ((is_change_at table bookmark (held_record made) && w && not (is_undone made.status)) && test (held_record made).before) || false) other
+    ∙ never (is_change_at table bookmark (held_record made))
+  where
+    never : (a : Bool) → (((a && false && not (is_undone made.status)) && test (held_record made).before) || false) ≡ false
+    never true = refl
+    never false = refl
+no_variant made other (h ∷ held) test table bookmark =
+    ap (λ b. (is_standing_rewrite table bookmark (held_record h) && test (held_record h).before) || b) (no_variant made other held test table bookmark)
+
+pub lock_is_kept : (tables : List Table) (trees : List StoredTable) (held : List HeldChange) (by : By) (made : Change) → kind_of made ≡ kind.Hold → is_some (table_with_id tables (changed_table made)) ≡ true → AreKept tables trees held
+    → AreKept tables trees (held ++ new_change by made None ∷ [])
+lock_is_kept tables trees held by made lock named kept =
+    changes_kept tables trees held (held ++ new_change by made None ∷ []) kept
+    (all_append (IsKeptChange tables trees) held (new_change by made None ∷ []) kept.changes (lock_kept tables trees by made lock named, tt))
+    (no_variant (new_change by made None) (not_rewrite (kind_of made) lock) held)
+
+-- ---- what it shows
+
+pub appended : (held : List HeldChange) (made : HeldChange) → map held_record (held ++ made ∷ []) ≡ map held_record held ++ held_record made ∷ []
+appended [] made = refl
+appended (h ∷ held) made = ap (λ rest. held_record h ∷ rest) (appended held made)
+
+unchanged : (id : ℕ) (tables : List Table) → with_table id (λ table. record table { rows = table.rows }) tables ≡ tables
+unchanged id [] = refl
+unchanged id (t ∷ tables) = λ i. same (t.id == id) i ∷ unchanged id tables i
+  where
+    same : (b : Bool) → cond b (record t { rows = t.rows }) t ≡ t
+    same true = refl
+    same false = refl
+
+abbrev is_hold : ChangeKind → Bool
+is_hold kind.Put = false
+is_hold kind.Drop = false
+is_hold kind.Hold = true
+is_hold (kind.Add column amount) = false
+
+-- a lock leaves the tables, and is held without a record
+pub lock_shown : (tables : List Table) (held : List HeldChange) (by : By) (made : Change) → kind_of made ≡ kind.Hold
+    → record { tables = tables; held = map held_record (held ++ new_change by made None ∷ []) } ≡ with_change by made (record { tables = tables; held = map held_record held })
+lock_shown tables held by (Put table bookmark copied values) lock = impossible (ap is_hold lock)
+lock_shown tables held by (Drop table bookmark) lock = impossible (ap is_hold lock)
+lock_shown tables held by (Hold table bookmark) lock = λ i. record { tables = sym (unchanged table.0 tables) i; held = appended held (new_change by (Hold table bookmark) None) i }
+lock_shown tables held by (Add table bookmark column amount) lock = impossible (ap is_hold lock)
+
+-- ---- its room and its table
+
+pub lock_room : (by : By) (made : Change) → kind_of made ≡ kind.Hold → (held : List HeldChange) (store : VersionedTables) → map held_record held ≡ store.held → has_room_for_row by made None held ≡ has_room by made store
+lock_room by (Put table bookmark copied values) lock held store same = impossible (ap is_hold lock)
+lock_room by (Drop table bookmark) lock held store same = impossible (ap is_hold lock)
+lock_room by (Hold table bookmark) lock held store same = ap (λ n. not (nat_lt by.limit (n + 64))) (same_span by.oldest held ∙ ap (span_of_records by.oldest) same)
+lock_room by (Add table bookmark column amount) lock held store same = impossible (ap is_hold lock)
+
+pub named_in_catalog : (trees : List StoredTable) (tables : List Table) (id : ℕ) → is_some (table_with_id (map (with_newest trees) tables) id) ≡ true → is_some (table_with_id tables id) ≡ true
+named_in_catalog trees tables id named = by (table_with_id tables id) (sym (ap is_some (table_at trees tables id)) ∙ named)
+  where
+    by : (o : Option Table) → is_some (option_map (with_newest trees) o) ≡ true → is_some o ≡ true
+    by None e = e
+    by (Some t) e = refl

@@ -1,0 +1,16 @@
+pub mod Lists
+pub mod NodeRecords
+pub mod SeenRecords
+pub mod Tables
+pub mod Told
+pub mod Order
+pub mod Neighbours
+pub mod OwnOrder
+pub mod ShownEntries
+pub mod StoredRules
+pub mod Span
+pub mod ChangesKept
+pub mod Ends
+pub mod Held
+pub mod Dropped
+pub mod DroppedRecords

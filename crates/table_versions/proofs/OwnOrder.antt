@@ -1,0 +1,244 @@
+-- The order of the bookmarks of the records that a reader sees, by the nodes.
+use Rattle.std.proofs.Common.{◌≡◌, ℕ, Bool, true, false, not, ◌&&◌, ◌||◌, cond, List, [], ◌∷◌, Option, Some, None, filter, find, option_map, refl, sym, ap, ◌∙◌}
+use Rattle.std.specs.Prelude.{T, bytes_eq, is_some}
+use Rattle.std.specs.List.{list_all}
+use Rattle.std.specs.Ordering.{eq_by_cmp, nat_cmp, is_lt}
+use Rattle.std.specs.Cmp.Lexicographic.{slice_cmp, nat_list_cmp_total, texts_ties}
+use Rattle.std.specs.FinMap.Entries.{below_all, is_sorted-put, is_sorted-where_key}
+use Rattle.btree_inplace.specs.Order.{get_in, has_key}
+use Rattle.column_set.specs.RecordValues.{RecordFields, bytes_lt}
+use Rattle.cursor_nav.specs.Places.{Pair, are_sorted, pair_lt}
+use Rattle.database_state.specs.Table.{Rows, row_at}
+use Rattle.derived_index.specs.KeptEntries.{has_entry}
+use Rattle.index_derive.specs.Entries.{own_order}
+use Rattle.page_image.specs.Page.{Node}
+use Rattle.record_changes.proofs.Tests.{and_both, and_left, and_right, impossible, same_bytes}
+use Rattle.table_trees.specs.StoredNodes.{bookmark_entries}
+use Rattle.version_store.specs.declared.calls.Reader.{Reader}
+use Rattle.version_store.specs.HeldChanges.{is_rewrite}
+use Rattle.versioned_tables.specs.HeldRecords.{HeldRecord, before_or, hides, is_change_at, is_standing_rewrite, seen_record}
+use Rattle.versioned_tables.specs.VersionedTables.{hides_in, rows_with, seen_rows}
+use Rattle.versioned_tables.specs.Variants.{has_variant}
+use Rattle.versioned_tables.specs.Holding.{RowsRise}
+use Rattle.table_versions.specs.RecordRows.{row_in_node, rows_of_nodes, with_record}
+use Rattle.table_versions.proofs.NodeRecords.{turned}
+use Rattle.table_versions.proofs.SeenRecords.{unseen_stands}
+
+-- ---- tests
+
+or_left : (a b : Bool) → a ≡ true → (a || b) ≡ true
+or_left true b e = refl
+or_left false b e = impossible e
+
+or_right : (a b : Bool) → b ≡ true → (a || b) ≡ true
+or_right true b e = refl
+or_right false b e = e
+
+-- ---- the records rise as the nodes do
+
+own_below : (a b : Bool) → (a || (b && a)) ≡ true → T a
+own_below true b h = tt
+own_below false true h = impossible h
+own_below false false h = impossible h
+
+both : (a b : Bool) → T a → T b → T (a && b)
+both true b p q = q
+both false b p q = p
+
+below_is : (key : List ℕ) (nodes : List Node) → list_all (pair_lt (key, key)) (bookmark_entries nodes) ≡ true → T (below_all (slice_cmp nat_cmp) key (rows_of_nodes nodes))
+below_is key [] low = tt
+below_is key (n ∷ nodes) low = by (row_in_node n.data) (below_is key nodes (and_right (pair_lt (key, key) (n.key, n.key)) _ low))
+  where
+    by : (row : Option (List ℕ)) → T (below_all (slice_cmp nat_cmp) key (rows_of_nodes nodes)) → T (below_all (slice_cmp nat_cmp) key (with_record n.key row (rows_of_nodes nodes)))
+    by None rest = rest
+    by (Some row) rest = both _ _ (own_below (bytes_lt key n.key) (bytes_eq key n.key) (and_left (pair_lt (key, key) (n.key, n.key)) _ low)) rest
+
+pub rows_rise : (nodes : List Node) → are_sorted (bookmark_entries nodes) ≡ true → RowsRise (rows_of_nodes nodes)
+rows_rise [] sorted = tt
+rows_rise (n ∷ nodes) sorted = by (row_in_node n.data) (rows_rise nodes (and_right (list_all (pair_lt (n.key, n.key)) (bookmark_entries nodes)) _ sorted))
+  where
+    by : (row : Option (List ℕ)) → RowsRise (rows_of_nodes nodes) → RowsRise (with_record n.key row (rows_of_nodes nodes))
+    by None rest = rest
+    by (Some row) rest = both _ _ (below_is n.key nodes (and_left _ _ sorted)) rest
+
+-- rows that rise are in the order of their bookmarks
+first : (a b : Bool) → T (a && b) → T a
+first true b h = tt
+first false b h = h
+
+second : (a b : Bool) → T (a && b) → T b
+second true b h = h
+second false b h = absurd h
+
+is_true : (b : Bool) → T b → b ≡ true
+is_true true h = refl
+is_true false h = absurd h
+
+below_all_is : (key : List ℕ) (rows : Rows) → T (below_all (slice_cmp nat_cmp) key rows) → list_all (pair_lt (key, key)) (own_order rows) ≡ true
+below_all_is key [] h = refl
+below_all_is key (row ∷ rows) h =
+    and_both _ _ (or_left _ _ (is_true (is_lt (slice_cmp nat_cmp key row.0)) (first _ _ h))) (below_all_is key rows (second (is_lt (slice_cmp nat_cmp key row.0)) _ h))
+
+order_is : (rows : Rows) → RowsRise rows → are_sorted (own_order rows) ≡ true
+order_is [] h = refl
+order_is (row ∷ rows) h = and_both _ _ (below_all_is row.0 rows (first _ _ h)) (order_is rows (second (below_all (slice_cmp nat_cmp) row.0 rows) _ h))
+
+-- what is taken back leaves the order
+with_rises : (rows : Rows) (bookmark : List ℕ) (values : Option RecordFields) → RowsRise rows → RowsRise (rows_with rows bookmark values)
+with_rises rows bookmark None h = is_sorted-where_key (slice_cmp nat_cmp) (λ key. not (bytes_eq key bookmark)) rows h
+with_rises rows bookmark (Some values) h = is_sorted-put (slice_cmp nat_cmp) nat_list_cmp_total bookmark values rows h
+
+seen_rise : (table : ℕ) (reader : Reader) (held : List HeldRecord) (rows : Rows) → RowsRise rows → RowsRise (seen_rows table reader held rows)
+seen_rise table reader [] rows h = h
+seen_rise table reader (change ∷ held) rows h = by (hides_in table reader change) (seen_rise table reader held rows h)
+  where
+    by : (b : Bool) → RowsRise (seen_rows table reader held rows) → RowsRise (cond b (rows_with (seen_rows table reader held rows) change.bookmark change.before) (seen_rows table reader held rows))
+    by true later = with_rises (seen_rows table reader held rows) change.bookmark change.before later
+    by false later = later
+
+-- ---- a record that is seen has a node
+
+pub seen_is_variant : (reader : Reader) (table : ℕ) (bookmark : List ℕ) (newest : Option RecordFields) (held : List HeldRecord)
+    → is_some (seen_record table bookmark reader newest held) ≡ true → has_variant newest held table bookmark ≡ true
+seen_is_variant reader table bookmark newest [] e = or_left (is_some newest) false e
+seen_is_variant reader table bookmark newest (h ∷ held) e = by (hides table bookmark reader h) refl (seen_is_variant reader table bookmark newest held) e
+  where
+    later : (a b c : Bool) → (a || c) ≡ true → (a || (b || c)) ≡ true
+    later true b c e = refl
+    later false true c e = refl
+    later false false c e = e
+
+    by : (b : Bool) → hides table bookmark reader h ≡ b → (is_some (seen_record table bookmark reader newest held) ≡ true → has_variant newest held table bookmark ≡ true)
+        → is_some (before_or newest (cond b (Some h) (find (hides table bookmark reader) held))) ≡ true → has_variant newest (h ∷ held) table bookmark ≡ true
+    by true hit rest g =
+        let touched : (is_change_at table bookmark h && is_rewrite h.kind) ≡ true = and_left _ _ hit in
+        let live = unseen_stands reader h.session h.status (and_right (is_change_at table bookmark h && is_rewrite h.kind) _ hit) in
+        or_right (is_some newest) _ (or_left (is_standing_rewrite table bookmark h && is_some h.before) _ (and_both _ _ (and_both _ _ touched live) g))
+    by false miss rest g = later (is_some newest) (is_standing_rewrite table bookmark h && is_some h.before) _ (rest g)
+
+-- ---- entries that are there
+
+-- an own pair is the pair asked where both are its bookmark
+own_pair : (key bookmark own : List ℕ) → bytes_eq own bookmark ≡ true → bytes_eq own key ≡ bytes_eq key bookmark
+own_pair key bookmark own e = ap (λ (k : List ℕ). bytes_eq k key) (same_bytes own bookmark e) ∙ turned bookmark key
+
+pub there-rows : (key bookmark : List ℕ) (rows : Rows) → has_entry key bookmark (own_order rows) ≡ (bytes_eq key bookmark && is_some (row_at rows bookmark))
+there-rows key bookmark [] = never (bytes_eq key bookmark)
+  where
+    never : (b : Bool) → false ≡ (b && false)
+    never true = refl
+    never false = refl
+there-rows key bookmark (row ∷ rows) = by (bytes_eq row.0 bookmark) refl (there-rows key bookmark rows)
+  where
+    test : (b : Bool) → bytes_eq row.0 bookmark ≡ b → eq_by_cmp (slice_cmp nat_cmp) bookmark row.0 ≡ b
+    test b e = sym (texts_ties bookmark row.0) ∙ turned bookmark row.0 ∙ e
+
+    first : (a c : Bool) → ((a && true) || (a && c)) ≡ (a && true)
+    first true c = refl
+    first false c = refl
+
+    none : (a c : Bool) → ((a && false) || c) ≡ c
+    none true c = refl
+    none false c = refl
+
+    by : (b : Bool) → bytes_eq row.0 bookmark ≡ b → has_entry key bookmark (own_order rows) ≡ (bytes_eq key bookmark && is_some (row_at rows bookmark))
+        → ((bytes_eq row.0 key && bytes_eq row.0 bookmark) || has_entry key bookmark (own_order rows)) ≡ (bytes_eq key bookmark && is_some (cond (eq_by_cmp (slice_cmp nat_cmp) bookmark row.0) (Some row.1) (row_at rows bookmark)))
+    by true e rest =
+        (λ i. ((own_pair key bookmark row.0 e i && e i) || rest i))
+        ∙ first (bytes_eq key bookmark) (is_some (row_at rows bookmark))
+        ∙ ap (λ b. bytes_eq key bookmark && is_some (cond b (Some row.1) (row_at rows bookmark))) (sym (test true e))
+    by false e rest =
+        (λ i. ((bytes_eq row.0 key && e i) || rest i))
+        ∙ none (bytes_eq row.0 key) _
+        ∙ ap (λ b. bytes_eq key bookmark && is_some (cond b (Some row.1) (row_at rows bookmark))) (sym (test false e))
+
+pub there-nodes : (f : List ℕ → Bool) (key bookmark : List ℕ) (nodes : List Node)
+    → has_entry key bookmark (filter (λ entry. f entry.1) (bookmark_entries nodes)) ≡ (bytes_eq key bookmark && (f bookmark && is_some (get_in nodes bookmark)))
+there-nodes f key bookmark [] = never (bytes_eq key bookmark) (f bookmark)
+  where
+    never : (a b : Bool) → false ≡ (a && (b && false))
+    never true true = refl
+    never true false = refl
+    never false b = refl
+there-nodes f key bookmark (n ∷ nodes) = by (bytes_eq n.key bookmark) (f n.key) refl refl (there-nodes f key bookmark nodes)
+  where
+    rest : List Pair
+    rest = filter (λ entry. f entry.1) (bookmark_entries nodes)
+
+    test : (b : Bool) → bytes_eq n.key bookmark ≡ b → has_key bookmark n ≡ b
+    test b e = sym (texts_ties n.key bookmark) ∙ e
+
+    found : (b : Bool) → has_key bookmark n ≡ b → is_some (cond b (Some n.data) (get_in nodes bookmark)) ≡ is_some (get_in (n ∷ nodes) bookmark)
+    found true e = sym (ap (λ b. is_some (option_map (λ (n : Node). n.data) (cond b (Some n) (find (has_key bookmark) nodes)))) e)
+    found false e = sym (ap (λ b. is_some (option_map (λ (n : Node). n.data) (cond b (Some n) (find (has_key bookmark) nodes)))) e)
+
+    first : (a c : Bool) → ((a && true) || (a && (true && c))) ≡ (a && (true && true))
+    first true c = refl
+    first false c = refl
+
+    hidden : (a c : Bool) → (a && (false && c)) ≡ (a && (false && true))
+    hidden true c = refl
+    hidden false c = refl
+
+    none : (a c : Bool) → ((a && false) || c) ≡ c
+    none true c = refl
+    none false c = refl
+
+    by : (b c : Bool) → bytes_eq n.key bookmark ≡ b → f n.key ≡ c → has_entry key bookmark rest ≡ (bytes_eq key bookmark && (f bookmark && is_some (get_in nodes bookmark)))
+        → has_entry key bookmark (filter (λ entry. f entry.1) (bookmark_entries (n ∷ nodes))) ≡ (bytes_eq key bookmark && (f bookmark && is_some (get_in (n ∷ nodes) bookmark)))
+    by true true e s ih =
+        let here : f bookmark ≡ true = sym (ap f (same_bytes n.key bookmark e)) ∙ s in
+        ap (λ c. has_entry key bookmark (cond c ((n.key, n.key) ∷ rest) rest)) s
+        ∙ (λ i. ((own_pair key bookmark n.key e i && e i) || ih i))
+        ∙ ap (λ d. (bytes_eq key bookmark && true) || (bytes_eq key bookmark && (d && is_some (get_in nodes bookmark)))) here
+        ∙ first (bytes_eq key bookmark) (is_some (get_in nodes bookmark))
+        ∙ (λ i. bytes_eq key bookmark && (sym here i && found true (test true e) i))
+    by true false e s ih =
+        let here : f bookmark ≡ false = sym (ap f (same_bytes n.key bookmark e)) ∙ s in
+        ap (λ c. has_entry key bookmark (cond c ((n.key, n.key) ∷ rest) rest)) s
+        ∙ ih
+        ∙ ap (λ d. bytes_eq key bookmark && (d && is_some (get_in nodes bookmark))) here
+        ∙ hidden (bytes_eq key bookmark) (is_some (get_in nodes bookmark))
+        ∙ (λ i. bytes_eq key bookmark && (sym here i && found true (test true e) i))
+    by false true e s ih =
+        ap (λ c. has_entry key bookmark (cond c ((n.key, n.key) ∷ rest) rest)) s
+        ∙ (λ i. ((bytes_eq n.key key && e i) || ih i))
+        ∙ none (bytes_eq n.key key) _
+        ∙ (λ i. bytes_eq key bookmark && (f bookmark && found false (test false e) i))
+    by false false e s ih =
+        ap (λ c. has_entry key bookmark (cond c ((n.key, n.key) ∷ rest) rest)) s
+        ∙ ih
+        ∙ (λ i. bytes_eq key bookmark && (f bookmark && found false (test false e) i))
+
+-- ---- the order of the bookmarks that a reader sees
+
+-- laws of entries and of readers
+pub record Laws : Type 0 where
+  pub same : (one other : List Pair) → are_sorted one ≡ true → are_sorted other ≡ true → ((key bookmark : List ℕ) → has_entry key bookmark one ≡ has_entry key bookmark other) → one ≡ other
+  pub some : (test : Pair → Bool) (entries : List Pair) → are_sorted entries ≡ true → are_sorted (filter test entries) ≡ true
+  pub seen : (table : ℕ) (reader : Reader) (held : List HeldRecord) (rows : Rows) (bookmark : List ℕ) → row_at (seen_rows table reader held rows) bookmark ≡ seen_record table bookmark reader (row_at rows bookmark) held
+
+-- where nodes stand for the variants of records
+pub own_order_is : Laws → (table : ℕ) (reader : Reader) (held : List HeldRecord) (nodes : List Node) → are_sorted (bookmark_entries nodes) ≡ true
+    → ((bookmark : List ℕ) → is_some (get_in nodes bookmark) ≡ has_variant (row_at (rows_of_nodes nodes) bookmark) held table bookmark)
+    → own_order (seen_rows table reader held (rows_of_nodes nodes))
+    ≡ filter (λ entry. is_some (seen_record table entry.1 reader (row_at (rows_of_nodes nodes) entry.1) held)) (bookmark_entries nodes)
+own_order_is laws table reader held nodes sorted stands =
+    laws.same (own_order (seen_rows table reader held rows)) (filter (λ entry. f entry.1) (bookmark_entries nodes))
+    (order_is (seen_rows table reader held rows) (seen_rise table reader held rows (rows_rise nodes sorted)))
+    (laws.some (λ entry. f entry.1) (bookmark_entries nodes) sorted)
+    (λ key bookmark.
+    there-rows key bookmark (seen_rows table reader held rows)
+    ∙ ap (λ (o : Option RecordFields). bytes_eq key bookmark && is_some o) (laws.seen table reader held rows bookmark)
+    ∙ ap (λ b. bytes_eq key bookmark && b) (within (f bookmark) (is_some (get_in nodes bookmark)) (λ e. stands bookmark ∙ seen_is_variant reader table bookmark (row_at rows bookmark) held e))
+    ∙ sym (there-nodes f key bookmark nodes))
+  where
+    rows : Rows
+    rows = rows_of_nodes nodes
+
+    f : List ℕ → Bool
+    f bookmark = is_some (seen_record table bookmark reader (row_at rows bookmark) held)
+
+    within : (a b : Bool) → (a ≡ true → b ≡ true) → a ≡ (a && b)
+    within true b h = sym (h refl)
+    within false b h = refl

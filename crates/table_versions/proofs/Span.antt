@@ -1,0 +1,87 @@
+-- What held changes cost, by the records before them.
+use Rattle.std.proofs.Common.{◌≡◌, ℕ, ◌+◌, ◌*◌, ◌/◌, ◌≤◌, Bool, true, false, ◌&&◌, not, cond, List, [], ◌∷◌, length, Option, Some, None, map, option_map, refl, sym, ap, ◌∙◌, arith}
+use Rattle.std.specs.Prelude.{IfSome, IsTrue, nat_le, nat_lt, sum_by, unwrap_or}
+use Rattle.std.specs.List.{list_all}
+use Rattle.std.proofs.lemmas.List.Sums.{sum_by-cons}
+use Rattle.column_set.specs.declared.rows.RowValue.TheVariants.{Here}
+use Rattle.column_set.specs.declared.changes.Change.{Change}
+use Rattle.column_set.specs.declared.changes.Change.TheVariants.{Put, Drop, Hold, Add}
+use Rattle.column_set.specs.RecordValues.{RecordFields, record_size}
+use Rattle.column_set.specs.Rows.{RowFields, all_here, are_short, field_fits_row, is_all_here, is_row, is_well_formed, row_bytes, row_size, value_fits_row}
+use Rattle.column_set.specs.RowReading.{row_in}
+use Rattle.database_state.specs.Table.{record_in}
+use Rattle.database_state.specs.Changes.{changed_bookmark, changed_table}
+use Rattle.database_state.specs.VersionStore.{cost_of as cost_of_change}
+use Rattle.record_changes.proofs.Tests.{and_both, and_left, and_right}
+use Rattle.version_store.specs.declared.calls.By.{By}
+use Rattle.version_store.specs.HeldChanges.{HeldChange, cost, cost_of, from_oldest_kept, has_room as has_room_for_row, is_kept, kind_of, span}
+use Rattle.versioned_tables.specs.HeldRecords.{HeldRecord, from_oldest_kept as from_oldest_record, span as span_of_records}
+use Rattle.versioned_tables.specs.VersionedTables.{VersionedTables}
+use Rattle.table_versions.specs.RecordRows.{IsRecordRow, held_record, record_of}
+use Rattle.table_versions.specs.StoredVersions.{has_room}
+
+-- ---- the span
+
+sum_same : (held : List HeldChange) → sum_by cost_of held ≡ sum_by (λ (r : HeldRecord). r.cost) (map held_record held)
+sum_same [] = refl
+sum_same (h ∷ held) =
+    sum_by-cons cost_of h held ∙ ap (λ n. cost_of h + n) (sum_same held)
+    ∙ sym (sum_by-cons (λ (r : HeldRecord). r.cost) (held_record h) (map held_record held))
+
+pub same_span : (oldest : Option ℕ) (held : List HeldChange) → span oldest held ≡ span_of_records oldest (map held_record held)
+same_span oldest [] = refl
+same_span oldest (h ∷ held) = by (is_kept oldest h) (same_span oldest held)
+  where
+    by : (b : Bool) → span oldest held ≡ span_of_records oldest (map held_record held)
+        → sum_by cost_of (cond b (h ∷ held) (from_oldest_kept oldest held)) ≡ sum_by (λ (r : HeldRecord). r.cost) (cond b (map held_record (h ∷ held)) (from_oldest_record oldest (map held_record held)))
+    by true rest = sum_same (h ∷ held)
+    by false rest = rest
+
+-- ---- a row has the size of its record
+
+-- laws of rows
+pub record RowSizes : Type 0 where
+  pub bytes : (row : RowFields) → length (row_bytes row) ≡ row_size row
+  pub size : (fields : RecordFields) → IsTrue (is_all_here fields) → row_size (all_here fields) ≡ record_size fields
+
+values_short : (values : List (List ℕ)) → list_all value_fits_row (map (λ value. Here value) values) ≡ are_short values
+values_short [] = refl
+values_short (value ∷ values) = ap (λ b. nat_le (length value) 255 && b) (values_short values)
+
+fields_short : (fields : RecordFields) → list_all field_fits_row (all_here fields) ≡ true → is_all_here fields ≡ true
+fields_short [] h = refl
+fields_short (field ∷ fields) h =
+    and_both (are_short field.1) (is_all_here fields)
+    (sym (values_short field.1) ∙ and_right _ (list_all value_fits_row (map (λ value. Here value) field.1)) (and_left (field_fits_row (field.0, map (λ value. Here value) field.1)) (list_all field_fits_row (all_here fields)) h))
+    (fields_short fields (and_right (field_fits_row (field.0, map (λ value. Here value) field.1)) (list_all field_fits_row (all_here fields)) h))
+
+pub size_of : RowSizes → (row : List ℕ) → IsRecordRow row → length row ≡ record_size (record_of row)
+size_of sizes row is =
+    ap (λ (bytes : List ℕ). length bytes) is.spelled ∙ sizes.bytes (row_in row) ∙ ap row_size is.whole ∙ sizes.size (record_of row) (fields_short (record_of row) fit)
+  where
+    formed : is_row (all_here (record_of row)) ≡ true
+    formed = ap is_row (sym is.whole) ∙ is.formed
+
+    fit : list_all field_fits_row (all_here (record_of row)) ≡ true
+    fit = and_right _ (list_all field_fits_row (all_here (record_of row))) (and_left (is_well_formed (all_here (record_of row))) _ formed)
+
+-- ---- the cost of a change
+
+pub same_cost : RowSizes → (made : Change) (row : Option (List ℕ)) → IfSome row IsRecordRow → cost (kind_of made) row ≡ cost_of_change made (option_map record_of row)
+same_cost sizes (Put table bookmark copied values) None is = refl
+same_cost sizes (Put table bookmark copied values) (Some row) is = ap (λ n. 64 + (n + 7) / 8 * 8) (size_of sizes row is)
+same_cost sizes (Drop table bookmark) None is = refl
+same_cost sizes (Drop table bookmark) (Some row) is = ap (λ n. 64 + (n + 7) / 8 * 8) (size_of sizes row is)
+same_cost sizes (Hold table bookmark) row is = refl
+same_cost sizes (Add table bookmark column amount) row is = refl
+
+-- the room for a change that holds a row is the room for one that holds its record
+pub same_room : RowSizes → (by : By) (made : Change) (row : Option (List ℕ)) → IfSome row IsRecordRow → (held : List HeldChange) (store : VersionedTables) → map held_record held ≡ store.held
+    → option_map record_of row ≡ record_in store.tables (changed_table made) (changed_bookmark made) → has_room_for_row by made row held ≡ has_room by made store
+same_room sizes by made row is held store same before =
+    ap (λ n. not (nat_lt by.limit (n + cost (kind_of made) row))) (same_span by.oldest held ∙ ap (span_of_records by.oldest) same)
+    ∙ ap (λ n. not (nat_lt by.limit (span_of_records by.oldest store.held + n))) (same_cost sizes made row is ∙ ap (cost_of_change made) before)
+
+pub small_row : (row : Option (List ℕ)) → IfSome row IsRecordRow → length (unwrap_or row []) ≤ 4096
+small_row None is = omega arith
+small_row (Some row) is = omega (arith, is.small)

@@ -1,0 +1,64 @@
+-- The rules of a table's indexes.
+use Rattle.std.proofs.Common.{◌≡◌, ℕ, ◌≤◌, Bool, true, false, not, cond, List, [], ◌∷◌, Option, Some, None, filter, find, map, option_map, refl, sym, ap, subst}
+use Rattle.std.specs.Prelude.{◌==◌, IfSome, IsSomeAnd, unwrap_or}
+use Rattle.std.specs.List.{AllByRecursion}
+use Rattle.database_state.specs.Table.{Table, rule_with_id, schema_of, table_with_id}
+use Rattle.table_versions.proofs.Lists.{all_append, all_filter}
+use Rattle.index_derive.specs.declared.rules.IndexRule.{IndexRule}
+use Rattle.index_derive.specs.declared.rules.Schema.{Schema}
+use Rattle.index_derive.specs.Entries.{is_legal}
+use Rattle.jet_catalog.specs.Catalog.{CatalogState}
+use Rattle.table_trees.specs.StoredTables.{StoredTable, table_nodes}
+use Rattle.version_store.specs.HeldChanges.{HeldChange}
+use Rattle.table_versions.specs.RecordRows.{held_record}
+use Rattle.table_versions.specs.StoredVersions.{StoredVersions}
+use Rattle.table_versions.specs.VersionsKept.{AreKept, IsKeptTable, IsStoredRule, only_secondary}
+use Rattle.table_versions.specs.VersionsView.{stored_versions, with_newest}
+use Rattle.table_versions.proofs.Tables.{table_at}
+
+found_all : {X : Type 0} (P : X → Type 0) (q : X → Bool) (x : X) (xs : List X) → AllByRecursion P xs → find q xs ≡ Some x → P x
+found_all P q x [] all e = cc
+found_all {X} P q x (y ∷ xs) all e = by (q y) e (found_all P q x xs all.1)
+  where
+    by : (b : Bool) → cond b (Some y) (find q xs) ≡ Some x → (find q xs ≡ Some x → P x) → P x
+    by true e rest = subst P (ap (λ (o : Option X). unwrap_or o y) e) all.0
+    by false e rest = rest e
+
+-- an index that is found is one of the table's
+stored_rule : (table : Table) (index : ℕ) (rule : IndexRule) → AllByRecursion (IsStoredRule table) table.indexes → rule_with_id (schema_of table) index ≡ Some rule → IsStoredRule table rule
+stored_rule table index rule all =
+    found_all (IsStoredRule table) (λ r. r.id.0 == index) rule (schema_of table).indexes
+    (all_append (IsStoredRule table) (filter (λ r. r.flags.primary) table.indexes) (filter (λ r. not r.flags.primary) table.indexes)
+    (all_filter (IsStoredRule table) (λ r. r.flags.primary) table.indexes all) (all_filter (IsStoredRule table) (λ r. not r.flags.primary) table.indexes all))
+
+abbrev pub IsLegalRule : Schema → IndexRule → Type 0
+IsLegalRule schema rule = (is_legal rule schema ≡ true) × (rule.key_most ≤ 255)
+
+legal_rule : (table : Table) (index : ℕ) → AllByRecursion (IsStoredRule table) table.indexes → IfSome (only_secondary (rule_with_id (schema_of table) index)) (IsLegalRule (schema_of table))
+legal_rule table index all = by (rule_with_id (schema_of table) index) refl
+  where
+    by : (o : Option IndexRule) → rule_with_id (schema_of table) index ≡ o → IfSome (only_secondary o) (IsLegalRule (schema_of table))
+    by None e = tt
+    by (Some rule) e = secondary rule.flags.primary
+      where
+        secondary : (b : Bool) → IfSome (cond b None (Some rule)) (IsLegalRule (schema_of table))
+        secondary true = tt
+        secondary false = let stored = stored_rule table index rule all e in (stored.legal, stored.short)
+
+-- the secondary index of a number is legal, where the schema is the table's
+pub legal_secondary : (tables : List Table) (trees : List StoredTable) (held : List HeldChange) → AreKept tables trees held → (table : ℕ) (schema : Schema) → IsSomeAnd (table_with_id (map (with_newest trees) tables) table) (λ t. schema ≡ schema_of t)
+    → (index : ℕ) → IfSome (only_secondary (rule_with_id schema index)) (IsLegalRule schema)
+legal_secondary tables trees held kept table schema known index =
+    by (table_with_id tables table) (kept.each table) (subst (λ (o : Option Table). IsSomeAnd o (λ t. schema ≡ schema_of t)) (table_at trees tables table) known)
+  where
+    by : (o : Option Table) → IfSome o (IsKeptTable trees (table_nodes trees table) (map held_record held)) → IsSomeAnd (option_map (with_newest trees) o) (λ t. schema ≡ schema_of t)
+        → IfSome (only_secondary (rule_with_id schema index)) (IsLegalRule schema)
+    by None is_kept is = absurd is
+    by (Some t) is_kept is = subst (λ (s : Schema). IfSome (only_secondary (rule_with_id s index)) (IsLegalRule s)) (sym is) (legal_rule t index is_kept.rules)
+
+-- the same of what the store shows
+pub legal_in_store : (catalog : CatalogState) (trees : List StoredTable) (held : List HeldChange) → AreKept catalog.tables trees held → (now : StoredVersions) → stored_versions catalog trees held ≡ now
+    → (table : ℕ) (schema : Schema) → IsSomeAnd (table_with_id now.store.tables table) (λ t. schema ≡ schema_of t) → (index : ℕ) (rule : Option IndexRule) → rule ≡ only_secondary (rule_with_id schema index) → IfSome rule (IsLegalRule schema)
+legal_in_store catalog trees held kept now shows table schema known index rule found =
+    subst (λ (o : Option IndexRule). IfSome o (IsLegalRule schema)) (sym found)
+    (legal_secondary catalog.tables trees held kept table schema (subst (λ (v : StoredVersions). IsSomeAnd (table_with_id v.store.tables table) (λ t. schema ≡ schema_of t)) (sym shows) known) index)

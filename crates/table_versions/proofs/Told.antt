@@ -1,0 +1,34 @@
+-- What held changes tell, by the records that they hold.
+use Rattle.std.proofs.Common.{◌≡◌, ℕ, suc, Bool, true, false, ◌||◌, cond, List, [], ◌∷◌, length, Option, Some, None, map, refl, sym, ap, ◌∙◌, arith}
+use Rattle.std.proofs.lemmas.Bool.Decides.{nat_tests}
+use Rattle.std.specs.Prelude.{◌==◌, slice_get, unwrap_or}
+use Rattle.std.specs.List.{list_any}
+use Rattle.column_set.specs.declared.changes.Change.{Change}
+use Rattle.record_changes.proofs.Tests.{impossible}
+use Rattle.version_store.specs.declared.calls.Reader.{Reader}
+use Rattle.version_store.specs.HeldChanges.{HeldChange, conflicts, is_kept}
+use Rattle.versioned_tables.specs.HeldRecords.{conflicts as conflicts_with}
+use Rattle.table_versions.specs.RecordRows.{held_record}
+use Rattle.table_versions.specs.StoredVersions.{next_to_forget}
+
+pub same_conflicts : (reader : Reader) (made : Change) (held : List HeldChange) → list_any (conflicts reader made) held ≡ list_any (conflicts_with reader made) (map held_record held)
+same_conflicts reader made [] = refl
+same_conflicts reader made (h ∷ held) = ap (λ b. conflicts reader made h || b) (same_conflicts reader made held)
+
+-- ---- the oldest change
+
+pub none_held : (oldest : Option ℕ) (held : List HeldChange) → (length held == 0) ≡ true → None ≡ next_to_forget oldest (map held_record held)
+none_held oldest [] e = refl
+none_held oldest (h ∷ held) e = impossible (sym (not_zero (length held)) ∙ e)
+  where
+    not_zero : (n : ℕ) → (suc n == 0) ≡ false
+    not_zero n = grind (arith, nat_tests)
+
+pub kept_first : (oldest : Option ℕ) (held : List HeldChange) (b : Bool) → slice_get (map (is_kept oldest) held) 0 ≡ Some b → b ≡ true → None ≡ next_to_forget oldest (map held_record held)
+kept_first oldest [] b e is = refl
+kept_first oldest (h ∷ held) b e is = sym (ap (λ t. cond t None (Some h.number)) (ap (λ (o : Option Bool). unwrap_or o false) e ∙ is))
+
+pub forgotten : (oldest : Option ℕ) (held : List HeldChange) (b : Bool) (number : ℕ) → slice_get (map (is_kept oldest) held) 0 ≡ Some b → b ≡ false → slice_get (map (λ h. h.number) held) 0 ≡ Some number
+    → Some number ≡ next_to_forget oldest (map held_record held)
+forgotten oldest [] b number e low n = sym n
+forgotten oldest (h ∷ held) b number e low n = sym n ∙ sym (ap (λ t. cond t None (Some h.number)) (ap (λ (o : Option Bool). unwrap_or o false) e ∙ low))

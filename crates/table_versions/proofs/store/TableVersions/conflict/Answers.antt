@@ -1,0 +1,10 @@
+use Rattle.std.proofs.Common.{ap, ◌∙◌}
+use Rattle.versioned_tables.specs.HeldRecords.{has_conflict}
+use Rattle.table_versions.specs.StoredVersions.{StoredVersions}
+use Rattle.table_versions.proofs.Told.{same_conflicts}
+use Rattle.table_versions.proofs.store.TableVersions.conflict.Goals as goal
+
+pub returns : goal.returns
+returns c =
+    c.conflict.ensures ∙ same_conflicts c.args.reader c.args.change.now c.self.inside.versions
+    ∙ ap (λ (v : StoredVersions). has_conflict c.args.reader c.args.change.now v.store.held) c.self.view_is

@@ -1,0 +1,42 @@
+use Rattle.std.proofs.Common.{◌≡◌, Bool, false, true, List, map, sym, ap, subst, ◌∙◌}
+use Rattle.std.specs.Prelude.{◌↔◌, IsErrOf, is_some}
+use Rattle.database_state.specs.Changes.{changed_table}
+use Rattle.database_state.specs.Table.{table_with_id}
+use Rattle.version_store.specs.declared.fault.VersionFault.TheVariants as fault
+use Rattle.version_store.specs.HeldChanges.{HeldChange}
+use Rattle.versioned_tables.specs.VersionedTables.{VersionedTables, with_change}
+use Rattle.table_versions.specs.StoredVersions.{StoredVersions}
+use Rattle.table_versions.specs.VersionsView.{stored_versions, with_newest}
+use Rattle.table_versions.specs.VersionsKept.{AreKept}
+use Rattle.table_versions.proofs.Held.{either, lock_is_kept, lock_room, lock_shown, named_in_catalog, on_err, on_ok}
+use Rattle.table_versions.proofs.store.TableVersions.hold.Goals as goal
+
+pub invariant_of-self : goal.invariant_of-self
+invariant_of-self c =
+    let tables = c.self.inside.catalog.tables in
+    let trees = c.self.inside.trees in
+    let held = c.self.inside.versions in
+    let P : List HeldChange → Type 0 = λ changed. AreKept tables trees changed in
+    let named = named_in_catalog trees tables (changed_table c.args.change.now) (subst (λ (v : StoredVersions). is_some (table_with_id v.store.tables (changed_table c.args.change.now)) ≡ true) (sym c.self.view_is) c.requires.named) in
+    either c.push.result c.push.ensures.ok c.push.ensures.err
+    (λ e. subst P (sym e) (lock_is_kept tables trees held c.args.by c.args.change.now c.requires.lock named c.self.invariant))
+    (λ e. subst P (sym e) c.self.invariant)
+
+pub returns-clause-over : goal.returns-clause-over
+returns-clause-over c =
+    subst (λ (b : Bool). IsErrOf c.push.result fault.OverSpan ↔ (b ≡ false))
+    (lock_room c.args.by c.args.change.now c.requires.lock c.self.inside.versions c.args.self.now.store (ap (λ (v : StoredVersions). v.store.held) c.self.view_is)) c.push.ensures.over
+
+pub returns-clause-ok : goal.returns-clause-ok
+returns-clause-ok c =
+    on_ok c.push.result c.push.ensures.ok
+    (λ e.
+    ap (λ (held : List HeldChange). stored_versions c.self.inside.catalog c.self.inside.trees held) e
+    ∙ ap (λ (store : VersionedTables). record { greatest_table = c.self.inside.catalog.greatest_table; store = store })
+    (lock_shown (map (with_newest c.self.inside.trees) c.self.inside.catalog.tables) c.self.inside.versions c.args.by c.args.change.now c.requires.lock)
+    ∙ ap (λ (v : StoredVersions). record v { store = with_change c.args.by c.args.change.now v.store }) c.self.view_is)
+
+pub returns-clause-err : goal.returns-clause-err
+returns-clause-err c =
+    on_err c.push.result c.push.ensures.err
+    (λ e. ap (λ (held : List HeldChange). stored_versions c.self.inside.catalog c.self.inside.trees held) e ∙ c.self.view_is)

@@ -1,0 +1,10 @@
+use Rattle.std.proofs.Common.{map, sym, ap, ◌∙◌}
+use Rattle.jet_catalog.specs.Catalog.{without_rows}
+use Rattle.table_versions.specs.StoredVersions.{StoredVersions}
+use Rattle.table_versions.proofs.Tables.{definitions}
+use Rattle.table_versions.proofs.store.TableVersions.tables.Goals as goal
+
+pub returns : goal.returns
+returns c =
+    c.tables.ensures.tables ∙ sym c.self.invariant.plain ∙ sym (definitions c.self.inside.trees c.self.inside.catalog.tables)
+    ∙ ap (λ (v : StoredVersions). map without_rows v.store.tables) c.self.view_is

@@ -1,0 +1,5 @@
+pub mod RecordRows
+pub mod StoredVersions
+pub mod VersionsView
+pub mod VersionsKept
+pub mod Walks

@@ -1,0 +1,12 @@
+//! The tables of a database with versions: the newest records in trees beside the changes of the past that are held, and what
+//! each reader sees of them.
+#![tactic(auto)]
+
+mod changing;
+mod ending;
+mod reading;
+mod store;
+mod telling;
+mod walking;
+
+pub use store::TableVersions;

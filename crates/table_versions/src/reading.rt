@@ -1,0 +1,71 @@
+//! What a reader sees of records.
+
+ghost use Rattle.std.specs.Prelude.{◌≡◌, IfSome, option_and_then, option_copied, option_map};
+ghost use Rattle.column_set.specs.Rows.{here_fields};
+ghost use Rattle.database_state.specs.Table.{record_in};
+ghost use Rattle.versioned_tables.specs.HeldRecords.{seen_record};
+ghost use Rattle.table_versions.specs.RecordRows.{IsRecordRow, record_of, row_in_node};
+
+use crate::store::TableVersions;
+use column_set::RowRef;
+use jet_base::TableId;
+use version_store::{Reader, Variant};
+
+impl TableVersions {
+    /// The record that the reader sees under a bookmark, read in place: the one before the oldest put or drop that it does not
+    /// see, or else the newest one.
+    pub fn look_up(&self, table: TableId, bookmark: &[u8], reader: Reader) -> Option<RowRef<'_>>
+        ensures { option_map here_fields result ≡ seen_record table.0 bookmark.now reader (record_in self.now.store.tables table.0 bookmark.now) self.now.store.held }
+    {
+        in_place(self.seen_row(table, bookmark, reader))
+    }
+
+    /// The newest record under a bookmark, read in place.
+    pub fn newest(&self, table: TableId, bookmark: &[u8]) -> Option<RowRef<'_>>
+        ensures { option_map here_fields result ≡ record_in self.now.store.tables table.0 bookmark.now }
+    {
+        in_place(self.newest_row(table, bookmark))
+    }
+
+    // The row that the reader sees.
+    fn seen_row(&self, table: TableId, bookmark: &[u8], reader: Reader) -> Option<&[u8]>
+        ensures values { option_map record_of (option_copied result) ≡ seen_record table.0 bookmark.now reader (record_in self.now.store.tables table.0 bookmark.now) self.now.store.held }
+        ensures row { IfSome (option_copied result) IsRecordRow }
+    {
+        match self.versions.variant(table, bookmark, reader) {
+            Variant::Current => self.newest_row(table, bookmark),
+            Variant::Before(row) => Some(row),
+            Variant::Absent => None,
+        }
+    }
+
+    // The newest row.
+    pub(crate) fn newest_row(&self, table: TableId, bookmark: &[u8]) -> Option<&[u8]>
+        ensures values { option_map record_of (option_copied result) ≡ record_in self.now.store.tables table.0 bookmark.now }
+        ensures row { IfSome (option_copied result) IsRecordRow }
+    {
+        self.trees.nodes_are_in_order();
+        row_in_node(self.trees.get(table, bookmark))
+    }
+}
+
+// The row in a node's bytes.
+pub(crate) fn row_in_node(bytes: Option<&[u8]>) -> Option<&[u8]>
+    ensures { option_copied result ≡ option_and_then row_in_node (option_copied bytes.entry) }
+{
+    match bytes {
+        Some(row) => { if row.is_empty() { None } else { Some(row) } }
+        None => None,
+    }
+}
+
+// The record of a row.
+fn in_place(row: Option<&[u8]>) -> Option<RowRef<'_>>
+    requires { IfSome (option_copied row) IsRecordRow }
+    ensures { option_map here_fields result ≡ option_map record_of (option_copied row.entry) }
+{
+    match row {
+        Some(row) => Some(RowRef::new(row)),
+        None => None,
+    }
+}

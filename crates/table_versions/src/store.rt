@@ -1,0 +1,81 @@
+//! The store and its tables.
+
+ghost use Rattle.std.specs.Prelude.{◌≡◌, [], map, option_copied, option_map};
+ghost use Rattle.database_state.specs.Table.{table_named, table_with_id};
+ghost use Rattle.jet_catalog.specs.Catalog.{without_rows};
+
+use jet_base::TableId;
+use jet_catalog::{Catalog, TableDef, tables_are_found_without_records};
+use std::alloc::Global;
+use std::marker::Model;
+use table_trees::TableTrees;
+use version_store::Versions;
+
+/// The tables of a database: their definitions, their newest records with the entries of their indexes, and the changes of
+/// the past that some reader may not see or that may be undone.
+///
+/// Contracts see the greatest table id ever given, each table with its newest records, and the held changes, oldest first,
+/// each put or drop with the record before it while it is not undone. A node of a table stands as long as any of these is a
+/// record, and an index has the keys of all of them. Reading takes no memory.
+#[derive(Drop)]
+pub struct TableVersions {
+    pub(crate) catalog: Catalog,
+    pub(crate) trees: TableTrees,
+    pub(crate) versions: Versions,
+}
+
+impl Model for TableVersions {
+    ghost use Rattle.table_versions.specs.StoredVersions.{StoredVersions};
+
+    ghost Value = { StoredVersions };
+
+    ghost use Rattle.table_versions.specs.VersionsView.{stored_versions};
+    ghost use Rattle.table_versions.specs.VersionsKept.{AreKept};
+
+    ghost view = { λ a. stored_versions a.catalog a.trees a.versions };
+
+    ghost invariant = { λ a. AreKept a.catalog.tables a.trees a.versions };
+}
+
+impl TableVersions {
+    /// No table. It takes no memory.
+    pub fn new(alloc: Global) -> TableVersions
+        ensures { result ≡ record { greatest_table = 0; store = record { tables = []; held = [] } } }
+    {
+        TableVersions {
+            catalog: Catalog::new(alloc),
+            trees: TableTrees::new(alloc),
+            versions: Versions::new(alloc),
+        }
+    }
+
+    /// The greatest number that a table was ever given, 0 where there was none.
+    pub fn greatest(&self) -> u32
+        ensures { result ≡ self.now.greatest_table }
+    {
+        self.catalog.greatest()
+    }
+
+    /// The tables, in the order of their making, by which their numbers rise; each without its records.
+    pub fn tables(&self) -> &[TableDef]
+        ensures { result.now ≡ map without_rows self.now.store.tables }
+    {
+        self.catalog.tables()
+    }
+
+    /// The table of this name, without its records.
+    pub fn lookup(&self, name: &[u8]) -> Option<&TableDef>
+        ensures { option_copied result ≡ option_map without_rows (table_named self.now.store.tables name.now) }
+    {
+        tables_are_found_without_records();
+        self.catalog.lookup(name)
+    }
+
+    /// The table of this number, without its records.
+    pub fn by_id(&self, table: TableId) -> Option<&TableDef>
+        ensures { option_copied result ≡ option_map without_rows (table_with_id self.now.store.tables table.0) }
+    {
+        tables_are_found_without_records();
+        self.catalog.by_id(table)
+    }
+}

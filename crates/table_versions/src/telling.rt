@@ -1,0 +1,77 @@
+//! What the held changes tell of conflicts and of the version store's span.
+
+ghost use Rattle.std.specs.Prelude.{◌≡◌, length};
+ghost use Rattle.database_state.specs.Changes.{changed_bookmark, changed_table};
+ghost use Rattle.versioned_tables.specs.HeldRecords.{has_conflict};
+ghost use Rattle.table_versions.specs.StoredVersions.{has_room, next_to_forget};
+
+use crate::store::TableVersions;
+use column_set::{Change, size_of_a_row, values_here_are_the_record};
+use jet_base::TableId;
+use version_store::{By, Reader};
+
+impl TableVersions {
+    /// How many changes are held.
+    pub fn held(&self) -> usize
+        ensures { result ≡ length self.now.store.held }
+    {
+        self.versions.len()
+    }
+
+    /// Whether a write conflict stands against the change: a change of another session that is open, or was committed after the
+    /// reader's begin, touches the same record, unless both are sums.
+    pub fn conflict(&self, reader: Reader, change: &Change) -> bool
+        ensures { result ≡ has_conflict reader change.now self.now.store.held }
+    {
+        self.versions.conflict(reader, change)
+    }
+
+    /// Whether the span of the version store stays within its limit with this change, which holds the newest record of its own
+    /// where it is a put or a drop.
+    pub fn fits(&self, by: By, change: &Change) -> bool
+        ensures { result ≡ has_room by change.now self.now.store }
+    {
+        size_of_a_row();
+        values_here_are_the_record();
+        let before = self.newest_row(table_of(change), bookmark_of(change));
+        self.versions.fits(by, change, before)
+    }
+
+    /// The number of the oldest held change, where it can be forgotten: it is neither open nor committed after the oldest open
+    /// transaction began.
+    pub fn next_to_forget(&self, oldest: Option<u64>) -> Option<u64>
+        ensures { result ≡ next_to_forget oldest self.now.store.held }
+    {
+        if self.versions.is_empty() {
+            None
+        } else if self.versions.is_kept_at(0, oldest) {
+            None
+        } else {
+            Some(self.versions.number_at(0))
+        }
+    }
+}
+
+// The table of the record that the change touches.
+pub(crate) fn table_of(change: &Change) -> TableId
+    ensures { result.0 ≡ changed_table change.now }
+{
+    match change {
+        Change::Put { table, .. } => *table,
+        Change::Drop { table, .. } => *table,
+        Change::Hold { table, .. } => *table,
+        Change::Add { table, .. } => *table,
+    }
+}
+
+// Its bookmark.
+pub(crate) fn bookmark_of(change: &Change) -> &[u8]
+    ensures { result.now ≡ changed_bookmark change.now }
+{
+    match change {
+        Change::Put { bookmark, .. } => bookmark.as_bytes(),
+        Change::Drop { bookmark, .. } => bookmark.as_bytes(),
+        Change::Hold { bookmark, .. } => bookmark.as_bytes(),
+        Change::Add { bookmark, .. } => bookmark.as_bytes(),
+    }
+}

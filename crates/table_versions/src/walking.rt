@@ -1,0 +1,167 @@
+//! The neighbours of a place in an index as a reader sees it.
+
+ghost use Rattle.std.specs.Prelude.{◌≡◌, ◌≤◌, length, IfSome, IsSomeAnd, option_copied, true};
+ghost use Rattle.cursor_nav.specs.Places.{entry_after, entry_before, found_pair};
+ghost use Rattle.database_state.specs.Table.{record_in, rule_with_id, schema_of, table_with_id};
+ghost use Rattle.index_derive.specs.Entries.{is_legal};
+ghost use Rattle.versioned_tables.specs.HeldRecords.{seen_record};
+ghost use Rattle.table_versions.specs.StoredVersions.{seen_entries};
+ghost use Rattle.table_versions.specs.VersionsKept.{only_secondary};
+ghost use Rattle.table_versions.specs.Walks.{is_entry_of, stored_entries};
+
+use crate::store::TableVersions;
+use derived_index::entries_in_order_are_told_by_those_that_are_there;
+use index_derive::derive::yields;
+use index_derive::{IndexEntry, IndexRule, Place, Schema};
+use jet_base::{IndexId, TableId};
+use key_normal::Key;
+use table_trees::{TableTrees, neighbours_are_those_of_bookmarks};
+use version_store::Reader;
+use versioned_tables::{
+    a_reader_is_shown_the_records_that_it_sees, a_reader_walks_the_index_of_what_it_sees,
+};
+
+impl TableVersions {
+    /// The least entry of an index beyond a place, as the reader sees the table. The primary index, and the number 0 that no
+    /// rule has, are the order of the bookmarks. The schema is that of the table.
+    ///
+    /// It goes over the entries of all variants of records, from the place on to the first that the reader is shown.
+    pub fn walk(
+        &self,
+        table: TableId,
+        schema: &Schema,
+        index: IndexId,
+        place: &Place,
+        reader: Reader,
+    ) -> Option<IndexEntry>
+        requires { IsSomeAnd (table_with_id self.now.store.tables table.0) (λ t. schema.now ≡ schema_of t) }
+        ensures { found_pair result ≡ entry_after place.now (seen_entries reader self.now.store table.0 index.0) }
+    {
+        a_reader_is_shown_the_records_that_it_sees();
+        a_reader_walks_the_index_of_what_it_sees();
+        entries_in_order_are_told_by_those_that_are_there();
+        self.trees.nodes_are_in_order();
+        self.trees.entries_are_in_order();
+        let rule = secondary_rule(schema, index);
+        let mut found = stored_after(&self.trees, table, rule, place);
+        while let Some(entry) = found {
+            if self.shows(table, schema, rule, &entry, reader) {
+                return Some(entry);
+            }
+            let last = Place::On(entry.key, entry.bookmark);
+            found = stored_after(&self.trees, table, rule, &last);
+        }
+        None
+    }
+
+    /// The greatest entry of an index before a place, as the reader sees the table; else as `walk`.
+    pub fn walk_back(
+        &self,
+        table: TableId,
+        schema: &Schema,
+        index: IndexId,
+        place: &Place,
+        reader: Reader,
+    ) -> Option<IndexEntry>
+        requires { IsSomeAnd (table_with_id self.now.store.tables table.0) (λ t. schema.now ≡ schema_of t) }
+        ensures { found_pair result ≡ entry_before place.now (seen_entries reader self.now.store table.0 index.0) }
+    {
+        a_reader_is_shown_the_records_that_it_sees();
+        a_reader_walks_the_index_of_what_it_sees();
+        entries_in_order_are_told_by_those_that_are_there();
+        self.trees.nodes_are_in_order();
+        self.trees.entries_are_in_order();
+        let rule = secondary_rule(schema, index);
+        let mut found = stored_before(&self.trees, table, rule, place);
+        while let Some(entry) = found {
+            if self.shows(table, schema, rule, &entry, reader) {
+                return Some(entry);
+            }
+            let last = Place::On(entry.key, entry.bookmark);
+            found = stored_before(&self.trees, table, rule, &last);
+        }
+        None
+    }
+
+    // Whether an entry of the index stands for the record that the reader sees under its bookmark.
+    fn shows(
+        &self,
+        table: TableId,
+        schema: &Schema,
+        rule: Option<&IndexRule>,
+        entry: &IndexEntry,
+        reader: Reader,
+    ) -> bool
+        requires { IfSome (option_copied rule) (λ r. (is_legal r schema.now ≡ true) × (r.key_most ≤ 255)) }
+        ensures { result ≡ is_entry_of (option_copied rule.entry) schema.now entry.now.key (seen_record table.0 entry.now.bookmark reader (record_in self.now.store.tables table.0 entry.now.bookmark) self.now.store.held) }
+    {
+        match self.look_up(table, entry.bookmark.as_bytes(), reader) {
+            Some(row) => match rule {
+                Some(rule) => yields(rule, schema, &row, &entry.key),
+                None => true,
+            },
+            None => false,
+        }
+    }
+}
+
+// The rule of an index that has a tree of its own.
+fn secondary_rule(schema: &Schema, index: IndexId) -> Option<&IndexRule>
+    ensures { option_copied result ≡ only_secondary (rule_with_id schema.now index.0) }
+{
+    match schema.rule_with_id(index) {
+        Some(rule) => { if rule.flags.primary { None } else { Some(rule) } }
+        None => None,
+    }
+}
+
+// The least stored entry beyond a place.
+fn stored_after(
+    trees: &TableTrees,
+    table: TableId,
+    rule: Option<&IndexRule>,
+    place: &Place,
+) -> Option<IndexEntry>
+    ensures { found_pair result ≡ entry_after place.now (stored_entries trees.now table.0 (option_copied rule.entry)) }
+{
+    neighbours_are_those_of_bookmarks();
+    match rule {
+        Some(rule) => trees.entry_after(table, rule.id, place),
+        None => match trees.node_after(table, place) {
+            Some((bookmark, _)) => Some(own_entry(bookmark)),
+            None => None,
+        },
+    }
+}
+
+// The greatest stored entry before a place.
+fn stored_before(
+    trees: &TableTrees,
+    table: TableId,
+    rule: Option<&IndexRule>,
+    place: &Place,
+) -> Option<IndexEntry>
+    ensures { found_pair result ≡ entry_before place.now (stored_entries trees.now table.0 (option_copied rule.entry)) }
+{
+    neighbours_are_those_of_bookmarks();
+    match rule {
+        Some(rule) => trees.entry_before(table, rule.id, place),
+        None => match trees.node_before(table, place) {
+            Some((bookmark, _)) => Some(own_entry(bookmark)),
+            None => None,
+        },
+    }
+}
+
+// A bookmark is its own key.
+fn own_entry(bookmark: &[u8]) -> IndexEntry
+    requires { length bookmark.now ≤ 255 }
+    ensures key { result.key ≡ bookmark.now }
+    ensures bookmark { result.bookmark ≡ bookmark.now }
+{
+    let key = Key::from_slice(bookmark);
+    IndexEntry {
+        bookmark: key.copy(),
+        key,
+    }
+}
