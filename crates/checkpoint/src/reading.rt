@@ -140,8 +140,8 @@ fn read_old<V: Volume>(
 /// Reads the checkpoint that stands on a volume. It writes nothing, and any bytes are safe to read.
 ///
 /// A volume is new where no gate is open and the log has no byte. Else the refusals come in this order: no gate is
-/// open, or the file that is looked at is no checkpoint file; a number of its is 2^62 or more; a slot in use is bad.
-/// What the bytes of the pages and of the live part mean is not looked at.
+/// open, or the file that is looked at is no checkpoint file; one of its numbers is 2^62 or more; a slot in use is bad.
+/// What the pages and the live part mean is not looked at.
 pub fn read<V: Volume>(alloc: Global, volume: &mut V) -> Result<(Found, Standing), CheckFault>
     ensures answer { V.tells_contents → MatchResult result (λ r. Finds (V.seen volume.old) r.0 r.1) (Explains (V.seen volume.old)) }
     ensures form { IfOk result (λ r. IsAnswer r.0 r.1) }
