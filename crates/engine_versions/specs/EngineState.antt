@@ -1,8 +1,8 @@
 -- What an engine with versions holds, as contracts see it.
-use Rattle.std.specs.Prelude.{◌≡◌, ℕ, List, [], map, option_map}
-use Rattle.jet_catalog.specs.Catalog.{without_rows}
+use Rattle.std.specs.Prelude.{◌≡◌, ℕ, ◌+◌, ◌^◌, ◌≤◌, ◌==◌, Bool, false, List, [], ◌∷◌, length, map, Option, Some, None}
 use Rattle.database_state.specs.Table.{Table}
-use Rattle.version_cleanup.specs.LiveSessions.{LiveState, oldest_begin}
+use Rattle.database_state.specs.State.{DatabaseState}
+use Rattle.version_cleanup.specs.LiveSessions.{LiveState, has_open, levels_of, oldest_begin}
 use Rattle.versioned_tables.specs.HeldRecords.{from_oldest_kept}
 use Rattle.versioned_tables.specs.VersionedTables.{VersionedTables}
 
@@ -19,6 +19,31 @@ pub record EngineState : Type 0 where
 abbrev pub empty_engine : ℕ → EngineState
 empty_engine limit = record { limit = limit; number = 0; greatest_table = 0; sessions = []; store = record { tables = []; held = [] } }
 
+-- the engine of a database without sessions, as it stands on disk
+abbrev pub engine_of : ℕ → DatabaseState → EngineState
+engine_of limit state = record { limit = limit; number = state.number; greatest_table = state.greatest_table; sessions = []; store = record { tables = state.tables; held = [] } }
+
 -- without the held changes before the oldest one that must be kept
 abbrev pub cleaned : EngineState → EngineState
 cleaned engine = record engine { store = record engine.store { held = from_oldest_kept (oldest_begin engine.sessions) engine.store.held } }
+
+-- whether any session has the table open
+abbrev pub has_table_open : List LiveState → Option Table → Bool
+has_table_open sessions None = false
+has_table_open sessions (Some table) = has_open table.id sessions
+
+-- ---- the number of the log
+
+-- how much a session may still end: itself, its open tables and its levels
+abbrev pub ends_of : LiveState → ℕ
+ends_of session = 1 + length session.open_tables + levels_of session.transaction
+
+abbrev pub ends_in : List LiveState → ℕ
+ends_in [] = 0
+ends_in (session ∷ sessions) = ends_of session + ends_in sessions
+
+-- The number has room for all that is to end: no more is to end than was begun, and all of it can end below 2^36. An entry
+-- that begins something comes only below 2^34, and a change up to there.
+pub record HasRoomForEnds (engine : EngineState) : Type 0 where
+  pub begun : ends_in engine.sessions ≤ engine.number
+  pub room : engine.number + ends_in engine.sessions ≤ 2 ^ 35 + 1

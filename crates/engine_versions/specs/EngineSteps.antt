@@ -85,3 +85,8 @@ step_cleans (Alone made) = cleans_first made.kind
 -- the engine after a step
 abbrev pub engine_after_step : EngineState → Step → EngineState
 engine_after_step engine step = engine_after_all (cleaned_for (step_cleans step) engine) (entries_of_step (Some step))
+
+-- the engine after an answer, which may have no step
+abbrev pub engine_after_answer : EngineState → Option Step → EngineState
+engine_after_answer engine None = engine
+engine_after_answer engine (Some step) = engine_after_step engine step

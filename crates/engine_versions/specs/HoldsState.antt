@@ -1,7 +1,9 @@
 -- When an engine with versions holds a database state.
 use Rattle.std.specs.Prelude.{◌≡◌, ℕ, true, List, map}
+use Rattle.index_derive.specs.declared.log.Entry.{Entry}
 use Rattle.database_state.specs.State.{DatabaseState, PastChange}
 use Rattle.record_changes.specs.Records.{Records}
+use Rattle.version_history.specs.History.{EachTwo, LabelsRise}
 use Rattle.version_records.specs.EachRecord.{EachRecordHas}
 use Rattle.version_records.specs.StoredRecords.{IsStored}
 use Rattle.version_cleanup.specs.LiveSessions.{live_state}
@@ -10,11 +12,12 @@ use Rattle.lawful_answers.specs.LawfulSteps.{IsReached}
 use Rattle.session_local.specs.Local.{LocalState}
 use Rattle.session_local.specs.Outcome.{Asked}
 use Rattle.agreeing_sessions.specs.InStep.{IsInStep}
-use Rattle.engine_versions.specs.BuiltTables.{are_built}
+use Rattle.engine_versions.specs.BuiltTables.{are_built, have_own_numbers}
 use Rattle.engine_versions.specs.EngineState.{EngineState}
 
 -- The engine holds a state that lawful entries reach: its tables and held changes hold it, its sessions are those of the state
--- without their snapshots, and its number is that of the state. Each record fits its row and its columns, and all is built.
+-- without their snapshots, and its number is that of the state. Each record fits its row and its columns, each column has a
+-- number of its own, and all is built.
 pub record HoldsState (engine : EngineState) (state : DatabaseState) : Type 0 where
   pub base : Records
   pub dropped : List PastChange
@@ -25,7 +28,9 @@ pub record HoldsState (engine : EngineState) (state : DatabaseState) : Type 0 wh
   pub number : state.number ≡ engine.number
   pub greatest : state.greatest_table ≡ engine.greatest_table
   pub sessions : map live_state state.sessions ≡ engine.sessions
+  pub labels : EachTwo LabelsRise state.sessions
   pub built : are_built state.tables ≡ true
+  pub columns : have_own_numbers state.tables ≡ true
 
 -- a call as it is asked of a state that the engine holds
 abbrev pub asked_of : EngineState → DatabaseState → ℕ → LocalState → Asked

@@ -1,4 +1,5 @@
 pub mod EngineState
 pub mod EngineSteps
-pub mod HoldsState
 pub mod BuiltTables
+pub mod BuiltCalls
+pub mod HoldsState

@@ -1,0 +1,27 @@
+//! Where it begins.
+
+ghost use Rattle.std.specs.Prelude.{◌≡◌, ℕ, true, List, [], IfSome};
+ghost use Rattle.database_state.specs.Table.{row_at, schema_of, table_with_id};
+ghost use Rattle.database_state.specs.State.{DatabaseState, empty_state};
+ghost use Rattle.version_keys.specs.TableOrder.{HasTablesInOrder};
+ghost use Rattle.version_keys.specs.UniqueKeys.{IsUniqueTable};
+ghost use Rattle.version_records.specs.Bookmarks.{StandsUnder};
+ghost use Rattle.version_records.specs.StoredRecords.{IsStored};
+ghost use Rattle.engine_versions.specs.BuiltTables.{are_built, have_own_numbers};
+ghost use Rattle.engine_versions.specs.EngineState.{HasRoomForEnds, empty_engine, engine_of};
+ghost use Rattle.engine_versions.specs.HoldsState.{HoldsState};
+
+/// An empty engine holds the empty state.
+pub fn an_empty_engine_holds_the_empty_state()
+    ensures holds { (limit : ℕ) → HoldsState (empty_engine limit) empty_state }
+    ensures room { (limit : ℕ) → HasRoomForEnds (empty_engine limit) }
+{}
+
+/// An engine of tables alone holds each state without sessions and past changes whose tables these are: they are in order,
+/// unique and built, their columns have numbers of their own, and their records have their bookmarks and fit.
+pub fn an_engine_of_tables_alone_holds_their_state()
+    ensures { (limit : ℕ) (state : DatabaseState) → state.sessions ≡ [] → state.past ≡ [] → HasTablesInOrder state → ((id : ℕ) → IfSome (table_with_id state.tables id) IsUniqueTable)
+        → ((id : ℕ) → IfSome (table_with_id state.tables id) (λ table. (bookmark : List ℕ) → IfSome (row_at table.rows bookmark) (StandsUnder state.number (schema_of table) bookmark)))
+        → ((id : ℕ) → IfSome (table_with_id state.tables id) (λ table. (bookmark : List ℕ) → IfSome (row_at table.rows bookmark) (IsStored state.number (schema_of table) bookmark)))
+        → are_built state.tables ≡ true → have_own_numbers state.tables ≡ true → HoldsState (engine_of limit state) state }
+{}

@@ -1,0 +1,54 @@
+//! What entries and cleans leave.
+
+ghost use Rattle.std.specs.Prelude.{◌≡◌, ◌+◌, ◌^◌, ◌≤◌, true, List, Some};
+ghost use Rattle.index_derive.specs.declared.log.Entry.{Entry};
+ghost use Rattle.index_derive.specs.declared.log.Step.{Step};
+ghost use Rattle.index_derive.specs.Steps.{entries_of_step};
+ghost use Rattle.database_state.specs.State.{DatabaseState};
+ghost use Rattle.database_state.specs.Step.{state_after, state_after_all};
+ghost use Rattle.database_state.specs.Lawful.{is_lawful};
+ghost use Rattle.lawful_answers.specs.LawfulSteps.{AreLawful};
+ghost use Rattle.engine_versions.specs.BuiltTables.{AllMakeBuilt, makes_built};
+ghost use Rattle.engine_versions.specs.EngineState.{EngineState, HasRoomForEnds, cleaned};
+ghost use Rattle.engine_versions.specs.EngineSteps.{engine_after, engine_after_all, engine_after_step};
+ghost use Rattle.engine_versions.specs.HoldsState.{HoldsState};
+
+use index_derive::a_primary_index_has_one_entry;
+use version_cleanup::{entries_change_the_sessions_alike, needed_changes_are_kept};
+
+/// An engine that holds a state holds the next one after a lawful entry that makes only what is built. So it does after
+/// entries that are lawful each in its turn.
+pub fn a_lawful_entry_makes_the_next_state()
+    ensures one { (engine : EngineState) (state : DatabaseState) (made : Entry) → HoldsState engine state → is_lawful state made ≡ true → makes_built made.kind ≡ true → HoldsState (engine_after engine made) (state_after state made) }
+    ensures many { (engine : EngineState) (state : DatabaseState) (entries : List Entry) → HoldsState engine state → AreLawful state entries → AllMakeBuilt entries → HoldsState (engine_after_all engine entries) (state_after_all state entries) }
+{
+    a_primary_index_has_one_entry();
+    entries_change_the_sessions_alike();
+}
+
+/// A clean of the oldest held changes leaves the state that the engine holds.
+pub fn a_clean_leaves_the_state()
+    ensures { (engine : EngineState) (state : DatabaseState) → HoldsState engine state → HoldsState (cleaned engine) state }
+{
+    needed_changes_are_kept();
+}
+
+/// So an engine holds the next state after a whole step.
+pub fn a_lawful_step_makes_the_next_state()
+    ensures { (engine : EngineState) (state : DatabaseState) (step : Step) → HoldsState engine state → AreLawful state (entries_of_step (Some step)) → AllMakeBuilt (entries_of_step (Some step))
+        → HoldsState (engine_after_step engine step) (state_after_all state (entries_of_step (Some step))) }
+{
+    a_lawful_entry_makes_the_next_state();
+    a_clean_leaves_the_state();
+}
+
+/// No more is to end than was begun, and so the number of the log has room for all ends: it stays below 2^36.
+pub fn ends_always_find_room()
+    ensures one { (engine : EngineState) (state : DatabaseState) (made : Entry) → HoldsState engine state → is_lawful state made ≡ true → HasRoomForEnds engine → HasRoomForEnds (engine_after engine made) }
+    ensures many { (engine : EngineState) (state : DatabaseState) (entries : List Entry) → HoldsState engine state → AreLawful state entries → AllMakeBuilt entries → HasRoomForEnds engine → HasRoomForEnds (engine_after_all engine entries) }
+    ensures step { (engine : EngineState) (state : DatabaseState) (step : Step) → HoldsState engine state → AreLawful state (entries_of_step (Some step)) → AllMakeBuilt (entries_of_step (Some step)) → HasRoomForEnds engine → HasRoomForEnds (engine_after_step engine step) }
+    ensures most { (engine : EngineState) → HasRoomForEnds engine → engine.number ≤ 2 ^ 35 + 1 }
+{
+    a_lawful_entry_makes_the_next_state();
+    a_clean_leaves_the_state();
+}

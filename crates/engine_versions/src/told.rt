@@ -1,0 +1,74 @@
+//! What the engine tells of a state that it holds.
+
+ghost use Rattle.std.specs.Prelude.{◌≡◌, ◌==◌, ℕ, Bool, true, false, ◌||◌, List, length, map, Option, option_map};
+ghost use Rattle.column_set.specs.declared.changes.Change.{Change};
+ghost use Rattle.index_derive.specs.declared.rules.IndexRule.{IndexRule};
+ghost use Rattle.index_derive.specs.declared.rules.Schema.{Schema};
+ghost use Rattle.database_state.specs.Table.{Table, record_in, schema_of, table_named, table_with_id};
+ghost use Rattle.database_state.specs.State.{DatabaseState, levels, transaction_of};
+ghost use Rattle.database_state.specs.View.{newest, view};
+ghost use Rattle.database_state.specs.Conflicts.{has_key_conflict as has_key_conflict_in, has_write_conflict};
+ghost use Rattle.database_state.specs.Lawful.{is_live as is_live_in};
+ghost use Rattle.database_state.specs.SchemaChanges.{is_in_use};
+ghost use Rattle.database_state.specs.VersionStore.{version_span};
+ghost use Rattle.jet_catalog.specs.Catalog.{catalog_of, without_rows};
+ghost use Rattle.record_changes.specs.Records.{records_of};
+ghost use Rattle.version_cleanup.specs.Cleaning.{reader_in};
+ghost use Rattle.version_cleanup.specs.LiveSessions.{has_other_transaction, is_live, levels_in, oldest_begin, transaction_in, without_snapshot};
+ghost use Rattle.versioned_tables.specs.HeldRecords.{has_conflict, has_key_conflict, span};
+ghost use Rattle.versioned_tables.specs.Holding.{begin_of};
+ghost use Rattle.versioned_tables.specs.VersionedTables.{seen_tables};
+ghost use Rattle.engine_versions.specs.EngineState.{EngineState, has_table_open};
+ghost use Rattle.engine_versions.specs.HoldsState.{HoldsState};
+
+use version_keys::{a_session_finds_its_very_record, variants_tell_key_conflicts};
+
+/// Which sessions are live, and their transactions.
+pub fn sessions_are_told()
+    ensures live { (engine : EngineState) (state : DatabaseState) → HoldsState engine state → (session : ℕ) → is_live session engine.sessions ≡ is_live_in state session }
+    ensures count { (engine : EngineState) (state : DatabaseState) → HoldsState engine state → length engine.sessions ≡ length state.sessions }
+    ensures transaction { (engine : EngineState) (state : DatabaseState) → HoldsState engine state → (session : ℕ) → transaction_in session engine.sessions ≡ option_map without_snapshot (transaction_of state session) }
+    ensures levels { (engine : EngineState) (state : DatabaseState) → HoldsState engine state → (session : ℕ) → levels_in session engine.sessions ≡ levels state session }
+    ensures begin { (engine : EngineState) (state : DatabaseState) → HoldsState engine state → (session : ℕ) → (reader_in session engine.sessions).begin ≡ begin_of (transaction_of state session) }
+{}
+
+/// Whether another session is in a transaction, or any session has the table open.
+pub fn uses_are_told()
+    ensures { (engine : EngineState) (state : DatabaseState) → HoldsState engine state → (session : ℕ) (table : Option Table)
+        → is_in_use state session table ≡ (has_other_transaction session engine.sessions || has_table_open engine.sessions table) }
+{}
+
+/// The committed tables are those of the engine but for their records.
+pub fn tables_are_told()
+    ensures tables { (engine : EngineState) (state : DatabaseState) → HoldsState engine state → map without_rows engine.store.tables ≡ map without_rows state.tables }
+    ensures catalog { (engine : EngineState) (state : DatabaseState) → HoldsState engine state → catalog_of state ≡ record { greatest_table = engine.greatest_table; tables = map without_rows engine.store.tables } }
+    ensures numbered { (engine : EngineState) (state : DatabaseState) → HoldsState engine state → (table : ℕ) → option_map without_rows (table_with_id engine.store.tables table) ≡ option_map without_rows (table_with_id state.tables table) }
+    ensures named { (engine : EngineState) (state : DatabaseState) → HoldsState engine state → (name : List ℕ) → option_map without_rows (table_named engine.store.tables name) ≡ option_map without_rows (table_named state.tables name) }
+    ensures schema { (engine : EngineState) (state : DatabaseState) → HoldsState engine state → (table : ℕ) → option_map schema_of (table_with_id engine.store.tables table) ≡ option_map schema_of (table_with_id state.tables table) }
+{}
+
+/// A session is shown its view.
+pub fn a_session_sees_its_view()
+    ensures table { (engine : EngineState) (state : DatabaseState) → HoldsState engine state → (session table : ℕ) → table_with_id (seen_tables (reader_in session engine.sessions) engine.store) table ≡ table_with_id (view state session) table }
+    ensures tables { (engine : EngineState) (state : DatabaseState) → HoldsState engine state → (session : ℕ) → seen_tables (reader_in session engine.sessions) engine.store ≡ view state session }
+{
+    a_session_finds_its_very_record();
+}
+
+/// The held changes tell write conflicts, key conflicts and the version store's span.
+pub fn conflicts_are_told()
+    ensures write { (engine : EngineState) (state : DatabaseState) → HoldsState engine state → (session : ℕ) (change : Change)
+        → has_conflict (reader_in session engine.sessions) change engine.store.held ≡ has_write_conflict state session change }
+    ensures key { (engine : EngineState) (state : DatabaseState) → HoldsState engine state → (session table : ℕ) (schema : Schema) (rule : IndexRule) (key : List ℕ)
+        → has_key_conflict (reader_in session engine.sessions) (records_of engine.store.tables) table rule schema key engine.store.held ≡ has_key_conflict_in state session table schema rule key }
+    ensures span { (engine : EngineState) (state : DatabaseState) → HoldsState engine state → span (oldest_begin engine.sessions) engine.store.held ≡ version_span state }
+{
+    variants_tell_key_conflicts();
+}
+
+/// The records of the engine's tables are the newest ones. Where no session is in a transaction they are the committed ones,
+/// and the tables are the committed tables.
+pub fn newest_records_are_told()
+    ensures newest { (engine : EngineState) (state : DatabaseState) → HoldsState engine state → (table : ℕ) (bookmark : List ℕ) → record_in engine.store.tables table bookmark ≡ record_in (newest state) table bookmark }
+    ensures committed { (engine : EngineState) (state : DatabaseState) → HoldsState engine state → (session : ℕ) → (levels state session == 0) ≡ true → has_other_transaction session engine.sessions ≡ false → engine.store.tables ≡ state.tables }
+{}
