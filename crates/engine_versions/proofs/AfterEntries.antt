@@ -1,0 +1,203 @@
+-- The engine after an entry, after a clean and after a step.
+use Rattle.std.proofs.Common.{◌≡◌, ℕ, ◌+◌, ◌-◌, ◌||◌, Bool, true, false, not, ◌&&◌, cond, List, [], ◌∷◌, ◌++◌, map, Option, Some, None, refl, sym, ap, subst, ◌∙◌}
+use Rattle.std.specs.Prelude.{◌==◌, nat_lt, is_some, IfSome}
+use Rattle.std.specs.List.{list_all}
+use Rattle.jet_base.specs.Ids.{session_id}
+use Rattle.column_set.specs.declared.columns.Column.{Column}
+use Rattle.column_set.specs.declared.changes.Change.{Change}
+use Rattle.column_set.specs.declared.changes.Change.TheVariants.{Put, Drop, Hold, Add}
+use Rattle.column_set.specs.RecordValues.{column_of_id}
+use Rattle.index_derive.specs.declared.log.Entry.{Entry}
+use Rattle.index_derive.specs.declared.log.EntryKind.{EntryKind}
+use Rattle.index_derive.specs.declared.log.EntryKind.TheVariants as entry
+use Rattle.index_derive.specs.declared.schema_calls.SchemaStep.{SchemaStep}
+use Rattle.index_derive.specs.declared.schema_calls.SchemaStep.TheVariants as step
+use Rattle.index_derive.specs.Entries.{is_escrow_column}
+use Rattle.database_state.specs.Table.{Table, row_at, rows_of, schema_of, table_with_id}
+use Rattle.database_state.specs.Changes.{changed_table, is_sum}
+use Rattle.database_state.specs.SchemaChanges.{greatest_table_after, is_long_type}
+use Rattle.database_state.specs.State.{DatabaseState, LiveSession, PastChange, levels, undone}
+use Rattle.database_state.specs.Step.{applied, innermost_undone, is_at_level, state_after, state_after_all, with_changes_at, with_levels, with_transaction}
+use Rattle.database_state.specs.View.{view}
+use Rattle.database_state.specs.Lawful.{has_number, is_lawful, is_lawful_at, is_lawful_kind}
+use Rattle.record_changes.specs.Records.{Records}
+use Rattle.record_changes.proofs.Tests.{and_left, and_right, impossible}
+use Rattle.version_history.specs.History.{EachTwo}
+use Rattle.version_history.specs.KeptSteps.{base_after, committed_own, dropped_after, kept_after, lowered_own, with_next_number}
+use Rattle.version_history.proofs.Labels.{labels_rise}
+use Rattle.version_keys.specs.TableOrder.{IdsRise}
+use Rattle.version_keys.specs.Variants.{HasNoSums}
+use Rattle.version_keys.proofs.BookmarkKeys.{HasOneEntry}
+use Rattle.version_records.specs.StoredRecords.{leaves_records_short}
+use Rattle.version_records.proofs.Storing.{stored_kept}
+use Rattle.version_cleanup.specs.LiveSessions.{LiveState, levels_in, live_state, sessions_after}
+use Rattle.versioned_tables.specs.HeldRecords.{is_open_at}
+use Rattle.versioned_tables.specs.VersionedTables.{VersionedTables, with_changes_undone, with_level_released, with_session_committed}
+use Rattle.versioned_tables.specs.Holding.{Holds}
+use Rattle.versioned_tables.proofs.Changing.{changed_holds, committed_holds, released_holds}
+use Rattle.versioned_tables.proofs.SchemaStepping.{stepped_holds}
+use Rattle.versioned_tables.proofs.Unchanged.{unchanged_holds}
+use Rattle.versioned_tables.proofs.Undoing.{all_undone_holds, left_holds, undone_holds}
+use Rattle.lawful_answers.specs.LawfulSteps.{AreLawful, IsReached, is_sum_entry}
+use Rattle.lawful_answers.proofs.ReachedStates.{reaches}
+use Rattle.engine_versions.specs.BuiltTables.{AllMakeBuilt, is_built_column, is_built_rule, is_built_table, makes_built}
+use Rattle.engine_versions.specs.EngineState.{EngineState}
+use Rattle.engine_versions.specs.EngineSteps.{engine_after, engine_after_all, greatest_after, maker, store_after}
+use Rattle.engine_versions.specs.HoldsState.{HoldsState}
+use Rattle.engine_versions.proofs.Sessions.{levels_alike}
+use Rattle.engine_versions.proofs.Tables.{all_found, built_stay, numbers_stay}
+
+abbrev pub entry_by : ℕ → EntryKind → Entry
+entry_by session kind = record { session = record { 0 = session }; kind = kind }
+
+pub levels_told : (engine : EngineState) (state : DatabaseState) → HoldsState engine state → (session : ℕ) → levels_in session engine.sessions ≡ levels state session
+levels_told engine state h session = ap (levels_in session) (sym h.sessions) ∙ levels_alike session state
+
+-- ---- no sum comes
+
+kind_lawful : (state : DatabaseState) (made : Entry) → is_lawful state made ≡ true → is_lawful_kind state made.session.0 made.kind ≡ true
+unfolding is_lawful
+kind_lawful state made e = and_right (has_number state.number made.kind) _ e
+
+plain_column : (columns : List Column) (id : ℕ) → list_all is_built_column columns ≡ true → elim (column_of_id columns id) [ Some column ↦ column.escrow | None ↦ false ] ≡ false
+plain_column [] id h = refl
+plain_column (c ∷ columns) id h = elim (c.id.0 == id) as (λ b. elim (cond b (Some c) (column_of_id columns id)) [ Some column ↦ column.escrow | None ↦ false ] ≡ false) [
+  | true ↦ by (is_long_type c.kind) c.escrow c.version c.auto (and_left (is_built_column c) (list_all is_built_column columns) h)
+  | false ↦ plain_column columns id (and_right (is_built_column c) (list_all is_built_column columns) h)
+]
+  where
+    by : (l e v a : Bool) → (not l && not (e || (v || a))) ≡ true → e ≡ false
+    by true e v a f = impossible f
+    by false true v a f = impossible f
+    by false false v a f = refl
+
+pub no_sum_comes : (engine : EngineState) (state : DatabaseState) → HoldsState engine state → (session : ℕ) (kind : EntryKind) → is_lawful_kind state session kind ≡ true → is_sum_entry kind ≡ false
+no_sum_comes engine state h session (entry.Change (Put table bookmark copied values)) e = refl
+no_sum_comes engine state h session (entry.Change (Drop table bookmark)) e = refl
+no_sum_comes engine state h session (entry.Change (Hold table bookmark)) e = refl
+no_sum_comes engine state h session (entry.Change (Add table bookmark column amount)) e = absurd (at (table_with_id state.tables table.0) refl (and_right _ _ e))
+  where
+    at : (found : Option Table) → table_with_id state.tables table.0 ≡ found → is_lawful_at state session found (Add table bookmark column amount) ≡ true → ⊥
+    at None found f = impossible f
+    at (Some t) found f =
+        impossible
+        (sym (plain_column t.columns column.0
+        (and_left (list_all is_built_column t.columns) (list_all is_built_rule t.indexes)
+        (subst (λ (o : Option Table). IfSome o (λ t. is_built_table t ≡ true)) found (all_found is_built_table state.tables h.built table.0))))
+        ∙ and_right (is_some (row_at (rows_of (table_with_id (view state session) t.id)) bookmark)) (is_escrow_column (schema_of t) column.0) f)
+no_sum_comes engine state h session _ e = refl
+
+-- ---- the tables and the held changes
+
+store_holds : (engine : EngineState) (state : DatabaseState) (session : ℕ) (kind : EntryKind) → (h : HoldsState engine state) → is_lawful state (entry_by session kind) ≡ true
+    → Holds (base_after state kind h.base) (dropped_after kind h.dropped h.kept) (kept_after state session kind h.kept) (store_after engine session kind) (state_after state (entry_by session kind))
+store_holds engine state session entry.Enter h e = unchanged_holds h.base h.dropped h.kept engine.store state session entry.Enter refl h.holds e
+store_holds engine state session (entry.Open table) h e = unchanged_holds h.base h.dropped h.kept engine.store state session (entry.Open table) refl h.holds e
+store_holds engine state session (entry.Shut table) h e = unchanged_holds h.base h.dropped h.kept engine.store state session (entry.Shut table) refl h.holds e
+store_holds engine state session entry.Begin h e = unchanged_holds h.base h.dropped h.kept engine.store state session entry.Begin refl h.holds e
+store_holds engine state session entry.Save h e = unchanged_holds h.base h.dropped h.kept engine.store state session entry.Save refl h.holds e
+store_holds engine state session entry.Leave h e = left_holds h.base h.dropped h.kept engine.store state session h.holds h.reached.no_sums e
+store_holds engine state session entry.UndoAll h e = all_undone_holds h.base h.dropped h.kept engine.store state session h.holds h.reached.no_sums e
+store_holds engine state session entry.Undo h e =
+    subst (λ (n : ℕ). Holds h.base h.dropped (kept_after state session entry.Undo h.kept) (with_changes_undone (is_open_at session n) engine.store) (state_after state (entry_by session entry.Undo)))
+    (sym (levels_told engine state h session)) (undone_holds h.base h.dropped h.kept engine.store state session h.holds h.reached.no_sums e)
+store_holds engine state session entry.Release h e =
+    subst (λ (n : ℕ). Holds h.base h.dropped (kept_after state session entry.Release h.kept) (with_level_released session n engine.store) (state_after state (entry_by session entry.Release)))
+    (sym (levels_told engine state h session)) (released_holds h.base h.dropped h.kept engine.store state session h.holds e)
+store_holds engine state session entry.Commit h e =
+    subst (λ (n : ℕ). Holds h.base h.dropped (kept_after state session entry.Commit h.kept) (with_session_committed session (n + 1) engine.store) (state_after state (entry_by session entry.Commit)))
+    h.number (committed_holds h.base h.dropped h.kept engine.store state session h.holds e)
+store_holds engine state session (entry.Change change) h e =
+    changed_holds h.base h.dropped h.kept engine.store state (maker engine session) change h.holds (ap (λ (n : ℕ). n + 1) (sym h.number)) (levels_told engine state h session) e
+store_holds engine state session (entry.Schema made) h e = stepped_holds h.base h.dropped h.kept engine.store state session made h.holds e
+
+-- ---- an entry
+
+-- what an undone level leaves, but for the past and the sessions
+undone_rest : (state : DatabaseState) (session : ℕ) (kind : EntryKind) → kind ≡ entry.Undo → {X : Type 0} (field : DatabaseState → X) → ((one : List PastChange) (other : List LiveSession) → field (record state { number = state.number + 1; past = one; sessions = other }) ≡ field (record state { number = state.number + 1 }))
+    → field (innermost_undone session (with_next_number state)) ≡ field (record state { number = state.number + 1 })
+undone_rest state session kind is field same = either (nat_lt 1 (levels state session))
+  where
+    undoing : DatabaseState
+    undoing = with_changes_at session (is_at_level (levels state session)) (λ item. record item { status = undone }) (with_next_number state)
+
+    either : (b : Bool) → field (cond b (with_levels session (λ n. n - 1) undoing) (with_transaction session None undoing)) ≡ field (record state { number = state.number + 1 })
+    either true = same undoing.past (with_levels session (λ n. n - 1) undoing).sessions
+    either false = same undoing.past (with_transaction session None undoing).sessions
+
+number_after : (state : DatabaseState) (session : ℕ) (kind : EntryKind) → (applied session kind (with_next_number state)).number ≡ state.number + 1
+number_after state session entry.Enter = refl
+number_after state session entry.Leave = refl
+number_after state session (entry.Open table) = refl
+number_after state session (entry.Shut table) = refl
+number_after state session entry.Begin = refl
+number_after state session entry.Save = refl
+number_after state session (entry.Change change) = refl
+number_after state session entry.Release = refl
+number_after state session entry.Undo = undone_rest state session entry.Undo refl (λ (s : DatabaseState). s.number) (λ one other. refl)
+number_after state session entry.UndoAll = refl
+number_after state session entry.Commit = refl
+number_after state session (entry.Schema made) = refl
+
+greatest_stays : (state : DatabaseState) (session : ℕ) (kind : EntryKind) → (applied session kind (with_next_number state)).greatest_table ≡ greatest_after state.greatest_table kind
+greatest_stays state session entry.Enter = refl
+greatest_stays state session entry.Leave = refl
+greatest_stays state session (entry.Open table) = refl
+greatest_stays state session (entry.Shut table) = refl
+greatest_stays state session entry.Begin = refl
+greatest_stays state session entry.Save = refl
+greatest_stays state session (entry.Change change) = refl
+greatest_stays state session entry.Release = refl
+greatest_stays state session entry.Undo = undone_rest state session entry.Undo refl (λ (s : DatabaseState). s.greatest_table) (λ one other. refl)
+greatest_stays state session entry.UndoAll = refl
+greatest_stays state session entry.Commit = refl
+greatest_stays state session (entry.Schema made) = refl
+
+-- an entry that makes only what is built leaves no record short
+short_of : (kind : EntryKind) → makes_built kind ≡ true → leaves_records_short kind ≡ false
+short_of (entry.Schema (step.AddColumn table column)) e = by (is_long_type column.kind) column.escrow column.version column.auto e
+  where
+    by : (l e v a : Bool) → (not l && not (e || (v || a))) ≡ true → (v || a) ≡ false
+    by true e v a f = impossible f
+    by false true v a f = impossible f
+    by false false true a f = impossible f
+    by false false false true f = impossible f
+    by false false false false f = refl
+short_of (entry.Schema (step.CreateTable table name)) e = refl
+short_of (entry.Schema (step.DeleteTable table)) e = refl
+short_of (entry.Schema (step.DeleteColumn table column)) e = refl
+short_of (entry.Schema (step.CreateIndex table rule)) e = refl
+short_of (entry.Schema (step.DeleteIndex table index)) e = refl
+short_of _ e = refl
+
+-- the law that an entry changes the sessions alike
+abbrev pub ChangesSessionsAlike : Type 0
+ChangesSessionsAlike =
+    (state : DatabaseState) (made : Entry) → map live_state (state_after state made).sessions ≡ sessions_after (state.number + 1) made.session.0 made.kind (map live_state state.sessions)
+
+pub entry_holds : HasOneEntry → ChangesSessionsAlike → (engine : EngineState) (state : DatabaseState) (made : Entry) → HoldsState engine state → is_lawful state made ≡ true → makes_built made.kind ≡ true → HoldsState (engine_after engine made) (state_after state made)
+unfolding state_after
+entry_holds one alike engine state made h e built =
+    let session = made.session.0 in
+    let lawful : is_lawful_kind state session made.kind ≡ true = kind_lawful state made e in
+    let plain : is_sum_entry made.kind ≡ false = no_sum_comes engine state h session made.kind lawful in
+    let reached : IsReached (base_after state made.kind h.base) (dropped_after made.kind h.dropped h.kept) (kept_after state session made.kind h.kept) (state_after state made) = reaches one h.base h.dropped h.kept state made h.reached e plain in
+    record {
+      base = base_after state made.kind h.base;
+      dropped = dropped_after made.kind h.dropped h.kept;
+      kept = kept_after state session made.kind h.kept;
+      reached = reached;
+      holds = store_holds engine state session made.kind h e;
+      stored = stored_kept h.base h.dropped h.kept state made h.reached.history e h.reached.no_sums reached.no_sums (short_of made.kind built) h.stored;
+      number = number_after state session made.kind ∙ ap (λ (n : ℕ). n + 1) h.number;
+      greatest = greatest_stays state session made.kind ∙ ap (λ (n : ℕ). greatest_after n made.kind) h.greatest;
+      sessions = alike state made ∙ (λ i. sessions_after (h.number i + 1) session made.kind (h.sessions i));
+      labels = labels_rise state made h.labels e;
+      built = built_stay state session made.kind reached.order.ids built h.built;
+      columns = numbers_stay state session made.kind reached.order.ids lawful h.columns;
+    }
+
+pub entries_hold : HasOneEntry → ChangesSessionsAlike → (engine : EngineState) (state : DatabaseState) (entries : List Entry) → HoldsState engine state → AreLawful state entries → AllMakeBuilt entries → HoldsState (engine_after_all engine entries) (state_after_all state entries)
+entries_hold one alike engine state [] h lawful built = h
+entries_hold one alike engine state (made ∷ entries) h lawful built =
+    entries_hold one alike (engine_after engine made) (state_after state made) entries (entry_holds one alike engine state made h lawful.0 built.0) lawful.1 built.1

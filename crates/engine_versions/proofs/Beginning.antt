@@ -1,0 +1,41 @@
+-- An engine of tables alone.
+use Rattle.std.proofs.Common.{◌≡◌, ℕ, true, List, [], map, refl, sym, ap, subst}
+use Rattle.std.specs.Prelude.{IfSome}
+use Rattle.database_state.specs.Table.{row_at, schema_of, table_with_id}
+use Rattle.database_state.specs.State.{DatabaseState, empty_state}
+use Rattle.record_changes.specs.Records.{records_of}
+use Rattle.version_history.specs.History.{EachTwo, LabelsRise}
+use Rattle.version_keys.specs.TableOrder.{HasTablesInOrder}
+use Rattle.version_keys.specs.UniqueKeys.{IsUniqueTable}
+use Rattle.version_records.specs.Bookmarks.{StandsUnder}
+use Rattle.version_records.specs.StoredRecords.{IsStored}
+use Rattle.version_records.proofs.EachRecord.{each_begun}
+use Rattle.version_cleanup.specs.LiveSessions.{live_state}
+use Rattle.versioned_tables.proofs.Alone.{alone_holds}
+use Rattle.versioned_tables.proofs.TablesInOrder.{in_order_rise}
+use Rattle.lawful_answers.proofs.ReachedStates.{begins}
+use Rattle.engine_versions.specs.BuiltTables.{are_built, have_own_numbers}
+use Rattle.engine_versions.specs.EngineState.{empty_engine, engine_of}
+use Rattle.engine_versions.specs.HoldsState.{HoldsState}
+
+pub tables_hold : (limit : ℕ) (state : DatabaseState) → state.sessions ≡ [] → state.past ≡ [] → HasTablesInOrder state → ((id : ℕ) → IfSome (table_with_id state.tables id) IsUniqueTable)
+    → ((id : ℕ) → IfSome (table_with_id state.tables id) (λ table. (bookmark : List ℕ) → IfSome (row_at table.rows bookmark) (StandsUnder state.number (schema_of table) bookmark)))
+    → ((id : ℕ) → IfSome (table_with_id state.tables id) (λ table. (bookmark : List ℕ) → IfSome (row_at table.rows bookmark) (IsStored state.number (schema_of table) bookmark)))
+    → are_built state.tables ≡ true → have_own_numbers state.tables ≡ true → HoldsState (engine_of limit state) state
+tables_hold limit state sessions past order unique marks stored built columns = record {
+  base = records_of state.tables;
+  dropped = [];
+  kept = [];
+  reached = begins state sessions past order unique marks;
+  holds = alone_holds state sessions past (in_order_rise state order);
+  stored = each_begun IsStored state stored;
+  number = refl;
+  greatest = refl;
+  sessions = ap (map live_state) sessions;
+  labels = subst (EachTwo LabelsRise) (sym sessions) tt;
+  built = built;
+  columns = columns;
+}
+
+pub empty_holds : (limit : ℕ) → HoldsState (empty_engine limit) empty_state
+empty_holds limit = tables_hold limit empty_state refl refl (record { ids = tt; given = tt; rows = tt }) (λ id. tt) (λ id. tt) (λ id. tt) refl refl

@@ -1,0 +1,10 @@
+pub mod Sessions
+pub mod InUse
+pub mod ColumnNumbers
+pub mod Tables
+pub mod AfterEntries
+pub mod Cleans
+pub mod SameTables
+pub mod Telling
+pub mod WellFormed
+pub mod Beginning

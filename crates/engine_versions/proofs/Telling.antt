@@ -1,0 +1,107 @@
+-- What the engine tells of records and conflicts.
+use Rattle.std.proofs.Common.{◌≡◌, ℕ, Bool, true, false, not, ◌&&◌, ◌||◌, cond, List, [], ◌∷◌, map, Option, Some, None, refl, sym, ap, ◌∙◌}
+use Rattle.std.specs.Prelude.{◌==◌, filter, find, fold, is_none, is_some, option_and_then}
+use Rattle.std.specs.List.{AllByRecursion, list_any}
+use Rattle.database_state.specs.Table.{Table, table_with_id}
+use Rattle.database_state.specs.State.{DatabaseState, LiveSession, PastChange, Status, Transaction, uncommitted, committed, undone, levels, transaction_of}
+use Rattle.database_state.specs.View.{newest, view}
+use Rattle.record_changes.specs.Records.{Records, after_item, records_after_items, records_of}
+use Rattle.record_changes.proofs.Tests.{impossible, same_number}
+use Rattle.version_history.specs.History.{IsOpenIn, IsPlaced, IsPlacedBy, without_rows}
+use Rattle.version_history.specs.Readers.{is_standing, was_committed, was_committed_status}
+use Rattle.version_history.proofs.LawfulEntries.{outside}
+use Rattle.version_history.proofs.SeenRecords.{newest_records}
+use Rattle.version_cleanup.specs.Cleaning.{reader_in}
+use Rattle.version_cleanup.specs.LiveSessions.{has_other_transaction}
+use Rattle.versioned_tables.specs.VersionedTables.{seen_tables}
+use Rattle.versioned_tables.specs.Holding.{begin_of}
+use Rattle.versioned_tables.proofs.Rising.{same_table}
+use Rattle.versioned_tables.proofs.Views.{FindsItsRecord, is_shown, seen_defined, view_defined}
+use Rattle.engine_versions.specs.EngineState.{EngineState}
+use Rattle.engine_versions.specs.HoldsState.{HoldsState}
+use Rattle.engine_versions.proofs.SameTables.{ids_rise_alike, same_tables}
+use Rattle.engine_versions.proofs.Sessions.{begin_alike, other_alike}
+use Rattle.version_cleanup.specs.LiveSessions.{LiveState, transaction_in}
+use Rattle.std.specs.Prelude.{option_map}
+
+pub begin_told : (engine : EngineState) (state : DatabaseState) → HoldsState engine state → (session : ℕ) → (reader_in session engine.sessions).begin ≡ begin_of (transaction_of state session)
+begin_told engine state h session = ap (λ (sessions : List LiveState). (reader_in session sessions).begin) (sym h.sessions) ∙ begin_alike session state
+
+-- ---- the view
+
+pub table_seen : FindsItsRecord → (engine : EngineState) (state : DatabaseState) → HoldsState engine state → (session table : ℕ) → table_with_id (seen_tables (reader_in session engine.sessions) engine.store) table ≡ table_with_id (view state session) table
+table_seen finds engine state h session table =
+    is_shown finds h.base h.dropped h.kept engine.store state h.holds h.reached.no_sums (reader_in session engine.sessions) (begin_told engine state h session) table
+
+pub view_seen : FindsItsRecord → (engine : EngineState) (state : DatabaseState) → HoldsState engine state → (session : ℕ) → seen_tables (reader_in session engine.sessions) engine.store ≡ view state session
+view_seen finds engine state h session =
+    let viewed : map without_rows (view state session) ≡ map without_rows state.tables = view_defined h.base h.dropped h.kept engine.store state h.holds session in
+    same_tables (seen_tables (reader_in session engine.sessions) engine.store) (view state session)
+    (seen_defined (reader_in session engine.sessions) engine.store.held engine.store.tables ∙ h.holds.defined ∙ sym viewed)
+    (ids_rise_alike (view state session) state.tables viewed h.reached.order.ids)
+    (table_seen finds engine state h session)
+
+-- ---- no transaction is open
+
+none_elsewhere : (label : ℕ) (sessions : List LiveSession) → list_any (λ s. not (s.label == label) && is_some s.transaction) sessions ≡ false → (x : ℕ) → (x == label) ≡ false
+    → option_and_then (λ (s : LiveSession). s.transaction) (find (λ s. s.label == x) sessions) ≡ None
+none_elsewhere label [] h x e = refl
+none_elsewhere label (s ∷ sessions) h x e =
+    by (s.label == x) refl (none_elsewhere label sessions (later (not (s.label == label) && is_some s.transaction) _ h) x e) (earlier_one (not (s.label == label) && is_some s.transaction) _ h)
+  where
+    later : (a b : Bool) → (a || b) ≡ false → b ≡ false
+    later true b f = impossible (sym f)
+    later false b f = f
+
+    earlier_one : (a b : Bool) → (a || b) ≡ false → a ≡ false
+    earlier_one true b f = f
+    earlier_one false b f = refl
+
+    none_of : (o : Option Transaction) → is_some o ≡ false → o ≡ None
+    none_of None f = refl
+    none_of (Some t) f = impossible (sym f)
+
+    apart : (b : Bool) → (s.label == label) ≡ b → b ≡ false → (not (s.label == label) && is_some s.transaction) ≡ false → is_some s.transaction ≡ false
+    apart b f g k = sym (ap (λ (c : Bool). not c && is_some s.transaction) (f ∙ g)) ∙ k
+
+    by : (b : Bool) → (s.label == x) ≡ b → option_and_then (λ (s : LiveSession). s.transaction) (find (λ s. s.label == x) sessions) ≡ None → (not (s.label == label) && is_some s.transaction) ≡ false
+        → option_and_then (λ (s : LiveSession). s.transaction) (cond b (Some s) (find (λ s. s.label == x) sessions)) ≡ None
+    by true f rest k = none_of s.transaction (apart (s.label == label) refl (ap (λ (n : ℕ). n == label) (same_number s.label x f) ∙ e) k)
+    by false f rest k = rest
+
+pub all_closed : (engine : EngineState) (state : DatabaseState) → HoldsState engine state → (session : ℕ) → (levels state session == 0) ≡ true → has_other_transaction session engine.sessions ≡ false → (x : ℕ) → transaction_of state x ≡ None
+all_closed engine state h session e f x =
+    elim (x == session) as (λ b. (x == session) ≡ b → transaction_of state x ≡ None) [
+      | true ↦ λ g. ap (transaction_of state) (same_number x session g) ∙ outside h.base h.dropped h.kept state h.reached.history session e
+      | false ↦ λ g. none_elsewhere session state.sessions (sym (other_alike session state.sessions) ∙ ap (has_other_transaction session) h.sessions ∙ f) x g
+    ] refl
+
+-- then what stands is what was committed
+all_settled : (number : ℕ) (tables : List Table) (transactions : ℕ → Option Transaction) → ((x : ℕ) → transactions x ≡ None) → (kept : List PastChange) → AllByRecursion (IsPlaced number tables transactions) kept → (base : Records)
+    → records_after_items is_standing base kept ≡ records_after_items (was_committed None) base kept
+all_settled number tables transactions none [] placed base = refl
+all_settled number tables transactions none (item ∷ kept) placed base =
+    ap (λ b. fold after_item base (cond b (item ∷ filter is_standing kept) (filter is_standing kept))) (same item.status placed.0.2)
+    ∙ by (was_committed None item) (all_settled number tables transactions none kept placed.1 (after_item base item)) (all_settled number tables transactions none kept placed.1 base)
+  where
+    closed : (t : Option Transaction) → t ≡ None → IsOpenIn item t → ⊥
+    closed None e h = h
+    closed (Some t) e h = impossible (ap is_none e)
+
+    same : (s : Status) → IsPlacedBy number transactions item s → is_standing (record item { status = s }) ≡ was_committed_status None s
+    same uncommitted h = absurd (closed (transactions item.session) (none item.session) h)
+    same (committed n) h = refl
+    same undone h = refl
+
+    by : (b : Bool) → records_after_items is_standing (after_item base item) kept ≡ records_after_items (was_committed None) (after_item base item) kept → records_after_items is_standing base kept ≡ records_after_items (was_committed None) base kept
+        → fold after_item base (cond b (item ∷ filter is_standing kept) (filter is_standing kept)) ≡ fold after_item base (cond b (item ∷ filter (was_committed None) kept) (filter (was_committed None) kept))
+    by true with_it without = with_it
+    by false with_it without = without
+
+pub tables_settled : (engine : EngineState) (state : DatabaseState) → HoldsState engine state → ((x : ℕ) → transaction_of state x ≡ None) → engine.store.tables ≡ state.tables
+tables_settled engine state h none =
+    let settled : records_of engine.store.tables ≡ records_of state.tables =
+    h.holds.newest ∙ newest_records h.base h.dropped h.kept state h.reached.history
+    ∙ all_settled state.number state.tables (transaction_of state) none h.kept h.reached.history.keeps.placed h.base ∙ sym h.reached.history.keeps.committed in
+    same_tables engine.store.tables state.tables h.holds.defined h.reached.order.ids
+    (λ id. same_table engine.store.tables state.tables id h.holds.defined h.holds.in_order h.holds.rise.committed (λ bookmark. ap (λ (r : Records). r id bookmark) settled))

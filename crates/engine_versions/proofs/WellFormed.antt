@@ -1,0 +1,89 @@
+-- Schemas of tables and sessions in step are well formed.
+use Rattle.std.proofs.Common.{◌≡◌, ℕ, ◌≤◌, Bool, true, false, not, ◌&&◌, ◌||◌, cond, List, [], ◌∷◌, ◌++◌, map, filter, length, Option, Some, None, refl, sym, ap, subst, ◌∙◌, arith}
+use Rattle.std.specs.Prelude.{nat_le, IfSome, IsTrue}
+use Rattle.std.specs.List.{AllByRecursion, list_all}
+use Rattle.std.proofs.lemmas.Bool.Decides.{nat_tests}
+use Rattle.jet_base.specs.TypeKinds.{is_long_type}
+use Rattle.column_set.specs.declared.columns.Column.{Column}
+use Rattle.column_set.specs.RecordValues.{has_value, is_kept_column, record_size}
+use Rattle.index_derive.specs.declared.rules.IndexRule.{IndexRule}
+use Rattle.database_state.specs.Table.{Table, primary_first, schema_of, table_with_id}
+use Rattle.database_state.specs.SchemaChanges.{is_type_long}
+use Rattle.database_state.specs.State.{DatabaseState}
+use Rattle.record_changes.proofs.Tests.{and_left, and_right, and_both, impossible}
+use Rattle.session_local.specs.Agreement.{HasSchemaOf, IsStorable}
+use Rattle.session_local.specs.Local.{LocalState, OpenCursor, PreparedUpdate}
+use Rattle.session_local.specs.SessionSide.{are_distinct}
+use Rattle.session_local.specs.WellFormed.{has_short_keys, is_long_if_sum, is_sum, is_well_formed_cursor, is_well_formed_record, is_well_formed_schema, is_well_formed_update, number_of_column, stands_in}
+use Rattle.agreeing_sessions.specs.InStep.{IsInStep}
+use Rattle.engine_versions.specs.BuiltTables.{are_in_range, has_own_numbers, is_built_column, is_built_rule, is_built_table, is_given_number}
+use Rattle.engine_versions.specs.EngineState.{EngineState}
+use Rattle.engine_versions.specs.HoldsState.{HoldsState}
+use Rattle.engine_versions.proofs.ColumnNumbers.{all_mono}
+use Rattle.engine_versions.proofs.Tables.{all_filtered, all_found}
+
+-- ---- schemas
+
+no_sum : (c : Column) → is_built_column c ≡ true → c.escrow ≡ false
+no_sum c h = by (is_long_type c.kind) c.escrow c.version c.auto h
+  where
+    by : (l e v a : Bool) → (not l && not (e || (v || a))) ≡ true → e ≡ false
+    by true e v a f = impossible f
+    by false true v a f = impossible f
+    by false false v a f = refl
+
+no_sums : (columns : List Column) → list_all is_built_column columns ≡ true → filter is_sum columns ≡ []
+no_sums [] h = refl
+no_sums (c ∷ columns) h =
+    ap (λ b. cond b (c ∷ filter is_sum columns) (filter is_sum columns)) (no_sum c (and_left (is_built_column c) (list_all is_built_column columns) h)) ∙ no_sums columns (and_right (is_built_column c) (list_all is_built_column columns) h)
+
+all_joined : (p : IndexRule → Bool) (xs ys : List IndexRule) → list_all p xs ≡ true → list_all p ys ≡ true → list_all p (xs ++ ys) ≡ true
+all_joined p [] ys h g = g
+all_joined p (x ∷ xs) ys h g = and_both (p x) (list_all p (xs ++ ys)) (and_left (p x) (list_all p xs) h) (all_joined p xs ys (and_right (p x) (list_all p xs) h) g)
+
+pub schema_formed : (t : Table) → is_built_table t ≡ true → has_own_numbers t ≡ true → is_well_formed_schema (schema_of t) ≡ true
+schema_formed t built own =
+    let columns = and_left (list_all is_built_column t.columns) (list_all is_built_rule t.indexes) built in
+    let rules = and_right (list_all is_built_column t.columns) (list_all is_built_rule t.indexes) built in
+    let distinct = and_right (are_in_range t.greatest && list_all (is_given_number t.greatest) t.columns) (are_distinct (map number_of_column t.columns)) own in
+    let sums = list_all is_long_if_sum t.columns in
+    let few = nat_le (length (filter is_sum t.columns)) 127 in
+    and_both (are_distinct (map number_of_column t.columns) && sums && few) (list_all has_short_keys (primary_first t.indexes))
+    (and_both (are_distinct (map number_of_column t.columns) && sums) few
+    (and_both (are_distinct (map number_of_column t.columns)) sums distinct (all_mono is_built_column is_long_if_sum (λ c h. ap (λ b. not b || is_type_long c.kind) (no_sum c h)) t.columns columns))
+    (ap (λ (l : List Column). nat_le (length l) 127) (no_sums t.columns columns)))
+    (all_joined has_short_keys (filter (λ r. r.flags.primary) t.indexes) (filter (λ r. not r.flags.primary) t.indexes) (all_filtered is_built_rule (λ r. r.flags.primary) t.indexes rules) (all_filtered is_built_rule (λ r. not r.flags.primary) t.indexes rules))
+
+pub table_formed : (engine : EngineState) (state : DatabaseState) → HoldsState engine state → (table : ℕ) → IfSome (table_with_id state.tables table) (λ t. is_well_formed_schema (schema_of t) ≡ true)
+table_formed engine state h table = by (table_with_id state.tables table) (all_found is_built_table state.tables h.built table) (all_found has_own_numbers state.tables h.columns table)
+  where
+    by : (o : Option Table) → IfSome o (λ t. is_built_table t ≡ true) → IfSome o (λ t. has_own_numbers t ≡ true) → IfSome o (λ t. is_well_formed_schema (schema_of t) ≡ true)
+    by None built own = tt
+    by (Some t) built own = schema_formed t built own
+
+-- ---- sessions
+
+le_test : (a b : ℕ) → a ≤ b → nat_le a b ≡ true
+le_test a b h = grind (arith, nat_tests)
+
+update_formed : (state : DatabaseState) (session : ℕ) (c : OpenCursor) (prepared : Option PreparedUpdate) → IsStorable state session c prepared → is_well_formed_update c.schema.columns prepared ≡ true
+update_formed state session c None s = refl
+update_formed state session c (Some prepared) s =
+    and_both (list_all (stands_in c.schema.columns) prepared.values) (nat_le (record_size prepared.values) 1700)
+    (and_left (list_all (stands_in c.schema.columns) prepared.values) (list_all (λ column. not (is_kept_column column) || has_value prepared.values column.id.0) c.schema.columns) s.1.0)
+    (le_test (record_size prepared.values) 1700 s.0)
+
+schema_of_found : (c : OpenCursor) (o : Option Table) → HasSchemaOf c o → IfSome o (λ t. is_well_formed_schema (schema_of t) ≡ true) → is_well_formed_schema c.schema ≡ true
+schema_of_found c None has formed = absurd has
+schema_of_found c (Some t) has formed = ap is_well_formed_schema has.0 ∙ formed
+
+cursors_formed : (state : DatabaseState) (session : ℕ) → ((table : ℕ) → IfSome (table_with_id state.tables table) (λ t. is_well_formed_schema (schema_of t) ≡ true))
+    → (cursors : List OpenCursor) → AllByRecursion (λ c. HasSchemaOf c (table_with_id state.tables c.cursor.table)) cursors → AllByRecursion (λ c. IsStorable state session c c.prepared) cursors → list_all is_well_formed_cursor cursors ≡ true
+cursors_formed state session formed [] has storable = refl
+cursors_formed state session formed (c ∷ cursors) has storable =
+    and_both (is_well_formed_cursor c) (list_all is_well_formed_cursor cursors)
+    (and_both (is_well_formed_schema c.schema) (is_well_formed_update c.schema.columns c.prepared) (schema_of_found c (table_with_id state.tables c.cursor.table) has.0 (formed c.cursor.table)) (update_formed state session c c.prepared storable.0))
+    (cursors_formed state session formed cursors has.1 storable.1)
+
+pub session_formed : (engine : EngineState) (state : DatabaseState) → HoldsState engine state → (session : ℕ) (local : LocalState) → IsInStep state session local → list_all is_well_formed_cursor local.cursors ≡ true
+session_formed engine state h session local step = cursors_formed state session (table_formed engine state h) local.cursors step.agrees.schemas step.agrees.prepared
