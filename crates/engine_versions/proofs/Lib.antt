@@ -8,3 +8,4 @@ pub mod SameTables
 pub mod Telling
 pub mod WellFormed
 pub mod Beginning
+pub mod Room

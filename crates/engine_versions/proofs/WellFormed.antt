@@ -70,7 +70,7 @@ update_formed : (state : DatabaseState) (session : ℕ) (c : OpenCursor) (prepar
 update_formed state session c None s = refl
 update_formed state session c (Some prepared) s =
     and_both (list_all (stands_in c.schema.columns) prepared.values) (nat_le (record_size prepared.values) 1700)
-    (and_left (list_all (stands_in c.schema.columns) prepared.values) (list_all (λ column. not (is_kept_column column) || has_value prepared.values column.id.0) c.schema.columns) s.1.0)
+    (and_left (list_all (stands_in c.schema.columns) prepared.values) (list_all (λ column. not (is_kept_column column) || has_value prepared.values column.id.0) c.schema.columns) s.1)
     (le_test (record_size prepared.values) 1700 s.0)
 
 schema_of_found : (c : OpenCursor) (o : Option Table) → HasSchemaOf c o → IfSome o (λ t. is_well_formed_schema (schema_of t) ≡ true) → is_well_formed_schema c.schema ≡ true
