@@ -1,38 +1,30 @@
 -- The engine after an entry, after a clean and after a step.
-use Rattle.std.proofs.Common.{◌≡◌, ℕ, ◌+◌, ◌-◌, ◌||◌, Bool, true, false, not, ◌&&◌, cond, List, [], ◌∷◌, ◌++◌, map, Option, Some, None, refl, sym, ap, subst, ◌∙◌}
+use Rattle.std.proofs.Common.{◌≡◌, ℕ, ◌+◌, ◌-◌, ◌||◌, Bool, true, false, not, ◌&&◌, cond, List, [], ◌∷◌, map, Option, Some, None, refl, sym, ap, subst, ◌∙◌}
 use Rattle.std.specs.Prelude.{◌==◌, nat_lt, is_some, IfSome}
 use Rattle.std.specs.List.{list_all}
-use Rattle.jet_base.specs.Ids.{session_id}
 use Rattle.column_set.specs.declared.columns.Column.{Column}
-use Rattle.column_set.specs.declared.changes.Change.{Change}
 use Rattle.column_set.specs.declared.changes.Change.TheVariants.{Put, Drop, Hold, Add}
 use Rattle.column_set.specs.RecordValues.{column_of_id}
 use Rattle.index_derive.specs.declared.log.Entry.{Entry}
 use Rattle.index_derive.specs.declared.log.EntryKind.{EntryKind}
 use Rattle.index_derive.specs.declared.log.EntryKind.TheVariants as entry
-use Rattle.index_derive.specs.declared.schema_calls.SchemaStep.{SchemaStep}
 use Rattle.index_derive.specs.declared.schema_calls.SchemaStep.TheVariants as step
 use Rattle.index_derive.specs.Entries.{is_escrow_column}
 use Rattle.database_state.specs.Table.{Table, row_at, rows_of, schema_of, table_with_id}
-use Rattle.database_state.specs.Changes.{changed_table, is_sum}
-use Rattle.database_state.specs.SchemaChanges.{greatest_table_after, is_long_type}
+use Rattle.database_state.specs.SchemaChanges.{is_long_type}
 use Rattle.database_state.specs.State.{DatabaseState, LiveSession, PastChange, levels, undone}
 use Rattle.database_state.specs.Step.{applied, innermost_undone, is_at_level, state_after, state_after_all, with_changes_at, with_levels, with_transaction}
 use Rattle.database_state.specs.View.{view}
 use Rattle.database_state.specs.Lawful.{has_number, is_lawful, is_lawful_at, is_lawful_kind}
-use Rattle.record_changes.specs.Records.{Records}
 use Rattle.record_changes.proofs.Tests.{and_left, and_right, impossible}
-use Rattle.version_history.specs.History.{EachTwo}
-use Rattle.version_history.specs.KeptSteps.{base_after, committed_own, dropped_after, kept_after, lowered_own, with_next_number}
+use Rattle.version_history.specs.KeptSteps.{base_after, dropped_after, kept_after, with_next_number}
 use Rattle.version_history.proofs.Labels.{labels_rise}
-use Rattle.version_keys.specs.TableOrder.{IdsRise}
-use Rattle.version_keys.specs.Variants.{HasNoSums}
 use Rattle.version_keys.proofs.BookmarkKeys.{HasOneEntry}
 use Rattle.version_records.specs.StoredRecords.{leaves_records_short}
 use Rattle.version_records.proofs.Storing.{stored_kept}
-use Rattle.version_cleanup.specs.LiveSessions.{LiveState, levels_in, live_state, sessions_after}
+use Rattle.version_cleanup.specs.LiveSessions.{levels_in, live_state, sessions_after}
 use Rattle.versioned_tables.specs.HeldRecords.{is_open_at}
-use Rattle.versioned_tables.specs.VersionedTables.{VersionedTables, with_changes_undone, with_level_released, with_session_committed}
+use Rattle.versioned_tables.specs.VersionedTables.{with_changes_undone, with_level_released, with_session_committed}
 use Rattle.versioned_tables.specs.Holding.{Holds}
 use Rattle.versioned_tables.proofs.Changing.{changed_holds, committed_holds, released_holds}
 use Rattle.versioned_tables.proofs.SchemaStepping.{stepped_holds}

@@ -1,8 +1,7 @@
 -- The engine after a clean, and after a whole step.
-use Rattle.std.proofs.Common.{◌≡◌, ℕ, Bool, true, false, cond, List, [], ◌∷◌, ◌++◌, map, Option, Some, None, refl, sym, ap, ◌∙◌}
+use Rattle.std.proofs.Common.{◌≡◌, ℕ, Bool, true, false, cond, List, [], ◌∷◌, ◌++◌, map, Option, Some, refl, sym, ◌∙◌}
 use Rattle.index_derive.specs.declared.log.Entry.{Entry}
 use Rattle.index_derive.specs.declared.log.Step.{Step}
-use Rattle.index_derive.specs.declared.log.Step.TheVariants.{One, Alone}
 use Rattle.index_derive.specs.Steps.{entries_of_step}
 use Rattle.database_state.specs.Table.{Table}
 use Rattle.database_state.specs.State.{DatabaseState, LiveSession, PastChange, Status}
@@ -17,7 +16,7 @@ use Rattle.version_store.specs.HeldChanges.{is_kept_status}
 use Rattle.version_cleanup.specs.LiveSessions.{live_state, oldest_begin}
 use Rattle.versioned_tables.specs.HeldRecords.{HeldRecord, from_oldest_kept}
 use Rattle.versioned_tables.specs.VersionedTables.{VersionedTables}
-use Rattle.versioned_tables.specs.Holding.{AllMatch, Holds, Matches}
+use Rattle.versioned_tables.specs.Holding.{Holds, Matches}
 use Rattle.versioned_tables.proofs.Changing.{cleaned as held_cleaned}
 use Rattle.lawful_answers.specs.LawfulSteps.{AreLawful, IsReached}
 use Rattle.lawful_answers.proofs.ReachedStates.{cleaned as reached_cleaned}

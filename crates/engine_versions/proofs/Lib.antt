@@ -9,3 +9,6 @@ pub mod Telling
 pub mod WellFormed
 pub mod Beginning
 pub mod Room
+pub mod Replies
+pub mod Preparing
+pub mod Answering

@@ -1,5 +1,5 @@
 -- The number of the log has room for all that is to end.
-use Rattle.std.proofs.Common.{◌≡◌, ℕ, suc, ◌+◌, ◌-◌, ◌^◌, ◌<◌, ◌≤◌, Bool, true, false, not, ◌&&◌, ◌||◌, cond, List, [], ◌∷◌, map, filter, length, Option, Some, None, refl, sym, ap, subst, ◌∙◌, arith}
+use Rattle.std.proofs.Common.{◌≡◌, ℕ, suc, ◌+◌, ◌-◌, ◌^◌, ◌<◌, ◌≤◌, Bool, true, false, not, ◌||◌, cond, List, [], ◌∷◌, map, length, Option, Some, None, refl, sym, ap, subst, ◌∙◌, arith}
 use Rattle.std.specs.Prelude.{◌==◌, nat_le, nat_lt, find, is_some, option_and_then, option_map}
 use Rattle.std.specs.List.{AllByRecursion, list_any}
 use Rattle.std.proofs.lemmas.Bool.Decides.{nat_tests}
@@ -8,17 +8,17 @@ use Rattle.index_derive.specs.declared.log.EntryKind.{EntryKind}
 use Rattle.index_derive.specs.declared.log.EntryKind.TheVariants as entry
 use Rattle.index_derive.specs.declared.log.Step.{Step}
 use Rattle.index_derive.specs.Steps.{entries_of_step}
-use Rattle.database_state.specs.State.{DatabaseState, LiveSession, levels, live_session}
+use Rattle.database_state.specs.State.{DatabaseState, LiveSession, levels}
 use Rattle.database_state.specs.Step.{state_after, with_one, without_one}
 use Rattle.database_state.specs.Lawful.{has_number, has_open as has_open_in, is_lawful, is_lawful_kind, log_limit}
 use Rattle.record_changes.proofs.Tests.{and_left, and_right, impossible}
 use Rattle.version_history.specs.History.{EachTwo, LabelsRise}
 use Rattle.version_history.proofs.Lists.{each_map, all_true}
 use Rattle.version_cleanup.specs.declared.live.Transaction.{Transaction}
-use Rattle.version_cleanup.specs.LiveSessions.{LiveState, at_levels, began, ended, entered, insert_session, left, level_ended, levels_in, levels_of, live_state, lowered, new_session, opened, saved, session_in, sessions_after, shut, with_session}
+use Rattle.version_cleanup.specs.LiveSessions.{LiveState, at_levels, began, ended, entered, insert_session, left, levels_in, levels_of, live_state, lowered, new_session, opened, saved, session_in, sessions_after, shut, with_session}
 use Rattle.lawful_answers.specs.LawfulSteps.{AreLawful}
 use Rattle.engine_versions.specs.BuiltTables.{AllMakeBuilt, makes_built}
-use Rattle.engine_versions.specs.EngineState.{EngineState, HasRoomForEnds, cleaned, ends_in, ends_of}
+use Rattle.engine_versions.specs.EngineState.{EngineState, HasRoomForEnds, ends_in, ends_of}
 use Rattle.engine_versions.specs.EngineSteps.{cleaned_for, engine_after, engine_after_all, engine_after_step, step_cleans}
 use Rattle.engine_versions.specs.HoldsState.{HoldsState}
 use Rattle.engine_versions.proofs.AfterEntries.{levels_told}

@@ -1,9 +1,8 @@
 -- Lists of tables with the same definitions and the same tables under each id.
 use Rattle.std.proofs.Common.{◌≡◌, ℕ, Bool, true, false, cond, List, [], ◌∷◌, map, Option, Some, None, refl, sym, ap, subst, ◌∙◌}
-use Rattle.std.specs.Prelude.{◌==◌, find, option_map, unwrap_or, bytes_eq}
+use Rattle.std.specs.Prelude.{◌==◌, option_map, unwrap_or, bytes_eq}
 use Rattle.std.specs.List.{AllByRecursion}
 use Rattle.database_state.specs.Table.{Table, schema_of, table_named, table_with_id}
-use Rattle.index_derive.specs.declared.rules.Schema.{Schema}
 use Rattle.version_history.specs.History.{EachTwo, without_rows}
 use Rattle.version_keys.specs.TableOrder.{IdsRise}
 use Rattle.version_keys.proofs.OrderedTables.{found_each}

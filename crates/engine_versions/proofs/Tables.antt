@@ -1,14 +1,13 @@
 -- The tables stay built, and their columns keep numbers of their own.
-use Rattle.std.proofs.Common.{◌≡◌, ℕ, ◌+◌, ◌-◌, Bool, true, false, not, ◌&&◌, ◌||◌, cond, List, [], ◌∷◌, ◌++◌, map, filter, Option, Some, None, refl, sym, ap, subst, ◌∙◌}
-use Rattle.std.specs.Prelude.{◌==◌, nat_le, nat_lt, IfSome, is_none, unwrap_or, length}
+use Rattle.std.proofs.Common.{◌≡◌, ℕ, ◌-◌, Bool, true, false, not, ◌&&◌, ◌||◌, cond, List, [], ◌∷◌, ◌++◌, map, filter, Option, Some, None, refl, sym, ap, subst, ◌∙◌}
+use Rattle.std.specs.Prelude.{◌==◌, nat_lt, IfSome, is_none, unwrap_or}
 use Rattle.std.specs.List.{AllByRecursion, list_all, list_any}
 use Rattle.column_set.specs.declared.columns.Column.{Column}
-use Rattle.index_derive.specs.declared.rules.IndexRule.{IndexRule}
 use Rattle.index_derive.specs.declared.log.EntryKind.{EntryKind}
 use Rattle.index_derive.specs.declared.log.EntryKind.TheVariants as entry
 use Rattle.index_derive.specs.declared.schema_calls.SchemaStep.{SchemaStep}
 use Rattle.index_derive.specs.declared.schema_calls.SchemaStep.TheVariants as step
-use Rattle.database_state.specs.Table.{Table, table_with_id, with_table}
+use Rattle.database_state.specs.Table.{Table, table_with_id}
 use Rattle.database_state.specs.SchemaChanges.{has_column_id, new_table, next_column_id, schema_refusal, tables_after_step, with_column, without_column, with_index, without_index}
 use Rattle.database_state.specs.State.{DatabaseState, levels, open_changes_of, undone}
 use Rattle.database_state.specs.Step.{applied, is_at_level, with_changes_at, with_levels, with_transaction}

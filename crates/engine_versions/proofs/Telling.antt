@@ -4,7 +4,7 @@ use Rattle.std.specs.Prelude.{◌==◌, filter, find, fold, is_none, is_some, op
 use Rattle.std.specs.List.{AllByRecursion, list_any}
 use Rattle.database_state.specs.Table.{Table, table_with_id}
 use Rattle.database_state.specs.State.{DatabaseState, LiveSession, PastChange, Status, Transaction, uncommitted, committed, undone, levels, transaction_of}
-use Rattle.database_state.specs.View.{newest, view}
+use Rattle.database_state.specs.View.{view}
 use Rattle.record_changes.specs.Records.{Records, after_item, records_after_items, records_of}
 use Rattle.record_changes.proofs.Tests.{impossible, same_number}
 use Rattle.version_history.specs.History.{IsOpenIn, IsPlaced, IsPlacedBy, without_rows}
@@ -21,8 +21,7 @@ use Rattle.engine_versions.specs.EngineState.{EngineState}
 use Rattle.engine_versions.specs.HoldsState.{HoldsState}
 use Rattle.engine_versions.proofs.SameTables.{ids_rise_alike, same_tables}
 use Rattle.engine_versions.proofs.Sessions.{begin_alike, other_alike}
-use Rattle.version_cleanup.specs.LiveSessions.{LiveState, transaction_in}
-use Rattle.std.specs.Prelude.{option_map}
+use Rattle.version_cleanup.specs.LiveSessions.{LiveState}
 
 pub begin_told : (engine : EngineState) (state : DatabaseState) → HoldsState engine state → (session : ℕ) → (reader_in session engine.sessions).begin ≡ begin_of (transaction_of state session)
 begin_told engine state h session = ap (λ (sessions : List LiveState). (reader_in session sessions).begin) (sym h.sessions) ∙ begin_alike session state

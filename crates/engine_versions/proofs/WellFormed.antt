@@ -1,6 +1,6 @@
 -- Schemas of tables and sessions in step are well formed.
-use Rattle.std.proofs.Common.{◌≡◌, ℕ, ◌≤◌, Bool, true, false, not, ◌&&◌, ◌||◌, cond, List, [], ◌∷◌, ◌++◌, map, filter, length, Option, Some, None, refl, sym, ap, subst, ◌∙◌, arith}
-use Rattle.std.specs.Prelude.{nat_le, IfSome, IsTrue}
+use Rattle.std.proofs.Common.{◌≡◌, ℕ, ◌≤◌, Bool, true, false, not, ◌&&◌, ◌||◌, cond, List, [], ◌∷◌, ◌++◌, map, filter, length, Option, Some, None, refl, ap, ◌∙◌, arith}
+use Rattle.std.specs.Prelude.{nat_le, IfSome}
 use Rattle.std.specs.List.{AllByRecursion, list_all}
 use Rattle.std.proofs.lemmas.Bool.Decides.{nat_tests}
 use Rattle.jet_base.specs.TypeKinds.{is_long_type}
@@ -14,7 +14,7 @@ use Rattle.record_changes.proofs.Tests.{and_left, and_right, and_both, impossibl
 use Rattle.session_local.specs.Agreement.{HasSchemaOf, IsStorable}
 use Rattle.session_local.specs.Local.{LocalState, OpenCursor, PreparedUpdate}
 use Rattle.session_local.specs.SessionSide.{are_distinct}
-use Rattle.session_local.specs.WellFormed.{has_short_keys, is_long_if_sum, is_sum, is_well_formed_cursor, is_well_formed_record, is_well_formed_schema, is_well_formed_update, number_of_column, stands_in}
+use Rattle.session_local.specs.WellFormed.{has_short_keys, is_long_if_sum, is_sum, is_well_formed_cursor, is_well_formed_schema, is_well_formed_update, number_of_column, stands_in}
 use Rattle.agreeing_sessions.specs.InStep.{IsInStep}
 use Rattle.engine_versions.specs.BuiltTables.{are_in_range, has_own_numbers, is_built_column, is_built_rule, is_built_table, is_given_number}
 use Rattle.engine_versions.specs.EngineState.{EngineState}
@@ -32,7 +32,7 @@ no_sum c h = by (is_long_type c.kind) c.escrow c.version c.auto h
     by false true v a f = impossible f
     by false false v a f = refl
 
-no_sums : (columns : List Column) → list_all is_built_column columns ≡ true → filter is_sum columns ≡ []
+pub no_sums : (columns : List Column) → list_all is_built_column columns ≡ true → filter is_sum columns ≡ []
 no_sums [] h = refl
 no_sums (c ∷ columns) h =
     ap (λ b. cond b (c ∷ filter is_sum columns) (filter is_sum columns)) (no_sum c (and_left (is_built_column c) (list_all is_built_column columns) h)) ∙ no_sums columns (and_right (is_built_column c) (list_all is_built_column columns) h)

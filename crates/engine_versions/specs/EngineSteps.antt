@@ -10,7 +10,7 @@ use Rattle.index_derive.specs.Steps.{entries_of_step}
 use Rattle.database_state.specs.SchemaChanges.{greatest_table_after}
 use Rattle.version_store.specs.declared.calls.By.{By}
 use Rattle.version_cleanup.specs.declared.live.Transaction.{Transaction}
-use Rattle.version_cleanup.specs.LiveSessions.{LiveState, levels_in, transaction_in, oldest_begin, sessions_after}
+use Rattle.version_cleanup.specs.LiveSessions.{levels_in, transaction_in, oldest_begin, sessions_after}
 use Rattle.versioned_tables.specs.HeldRecords.{is_open_at, is_open_of}
 use Rattle.versioned_tables.specs.VersionedTables.{VersionedTables, with_change, with_changes_undone, with_level_released, with_session_committed, with_schema_step}
 use Rattle.engine_versions.specs.EngineState.{EngineState, cleaned}

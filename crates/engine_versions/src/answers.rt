@@ -3,6 +3,7 @@
 ghost use Rattle.std.specs.Prelude.{◌≡◌, ℕ, true, Some, None};
 ghost use Rattle.index_derive.specs.Steps.{entries_of_step};
 ghost use Rattle.database_state.specs.State.{DatabaseState};
+ghost use Rattle.database_state.specs.Step.{state_after_all};
 ghost use Rattle.session_local.specs.declared.request.Request.{Request};
 ghost use Rattle.session_local.specs.Calls.{answer};
 ghost use Rattle.session_local.specs.Local.{LocalState};
@@ -14,13 +15,21 @@ ghost use Rattle.engine_versions.specs.EngineState.{EngineState};
 ghost use Rattle.engine_versions.specs.EngineSteps.{engine_after_answer};
 ghost use Rattle.engine_versions.specs.HoldsState.{HoldsInStep, HoldsState, asked_of};
 
+use crate::entries::a_lawful_step_makes_the_next_state;
+use index_derive::{a_primary_index_has_one_entry, entries_rise};
+use session_local::local_calls_keep_well_formed;
+
 /// The step of an answer is lawful, and the session that was answered stays in step.
 pub fn an_answer_is_lawful_and_stays_in_step()
     ensures lawful { (engine : EngineState) (state : DatabaseState) → HoldsState engine state → (session : ℕ) (local : LocalState) (request : Request) → IsInStep state session local → is_built_request request ≡ true
         → HasLawfulStep state (answer (asked_of engine state session local) request) }
     ensures in_step { (engine : EngineState) (state : DatabaseState) → HoldsState engine state → (session : ℕ) (local : LocalState) (request : Request) → IsInStep state session local → is_built_request request ≡ true
         → StaysInStep (asked_of engine state session local) (answer (asked_of engine state session local) request) }
-{}
+{
+    a_primary_index_has_one_entry();
+    entries_rise();
+    local_calls_keep_well_formed();
+}
 
 /// The entries of an answer make only what is built.
 pub fn an_answer_makes_what_is_built()
@@ -29,9 +38,12 @@ pub fn an_answer_makes_what_is_built()
 
 /// So the engine holds the state after an answer, and the session is in step with it.
 pub fn an_answer_is_held_in_step()
-    ensures { (engine : EngineState) (session : ℕ) (local : LocalState) (request : Request) → (h : HoldsInStep engine session local) → is_built_request request ≡ true
+    ensures holds { (engine : EngineState) (state : DatabaseState) → HoldsState engine state → (session : ℕ) (local : LocalState) (request : Request) → IsInStep state session local → is_built_request request ≡ true
+        → HoldsState (engine_after_answer engine (answer (asked_of engine state session local) request).step) (state_after_all state (entries_of_step (answer (asked_of engine state session local) request).step)) }
+    ensures in_step { (engine : EngineState) (session : ℕ) (local : LocalState) (request : Request) (h : HoldsInStep engine session local) → is_built_request request ≡ true
         → HoldsInStep (engine_after_answer engine (answer (asked_of engine h.state session local) request).step) session (answer (asked_of engine h.state session local) request).local }
 {
     an_answer_is_lawful_and_stays_in_step();
     an_answer_makes_what_is_built();
+    a_lawful_step_makes_the_next_state();
 }

@@ -1,4 +1,4 @@
-use Rattle.std.proofs.Common.{sym, ap, ◌∙◌, length, Option}
+use Rattle.std.proofs.Common.{sym, ap, ◌∙◌, length}
 use Rattle.std.specs.Prelude.{option_map}
 use Rattle.version_cleanup.specs.LiveSessions.{is_live, levels_in, transaction_in}
 use Rattle.version_cleanup.specs.declared.live.Transaction.{Transaction}

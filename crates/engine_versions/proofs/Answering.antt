@@ -1,0 +1,122 @@
+-- Answers: their steps are lawful, and the sessions stay in step.
+use Rattle.std.proofs.Common.{◌≡◌, ℕ, true, false, not, ◌&&◌, Option, Some, None, refl, sym}
+use Rattle.std.specs.Prelude.{nat_le}
+use Rattle.jet_base.specs.declared.words.Prepare.TheVariants as prepare
+use Rattle.jet_base.specs.TypeKinds.{is_long_type}
+use Rattle.index_derive.specs.declared.log.Step.{Step}
+use Rattle.index_derive.specs.Steps.{entries_of_step}
+use Rattle.database_state.specs.Lawful.{is_name}
+use Rattle.database_state.specs.State.{DatabaseState}
+use Rattle.database_state.specs.Step.{state_after_all}
+use Rattle.derived_index.proofs.Adding.{KeysRise}
+use Rattle.record_changes.proofs.Tests.{and_left, impossible}
+use Rattle.version_keys.proofs.BookmarkKeys.{HasOneEntry}
+use Rattle.session_local.specs.declared.request.Request.{Request}
+use Rattle.session_local.specs.declared.request.Request.TheVariants as call
+use Rattle.session_local.specs.Calls.{answer}
+use Rattle.session_local.specs.Local.{LocalState}
+use Rattle.session_local.specs.Outcome.{Asked}
+use Rattle.lawful_answers.specs.LawfulSteps.{AreLawful, HasLawfulStep}
+use Rattle.lawful_answers.proofs.ChangeSteps as lawful_changes
+use Rattle.lawful_answers.proofs.SchemaCallSteps as lawful_schema
+use Rattle.lawful_answers.proofs.SessionSteps as lawful_sessions
+use Rattle.lawful_answers.proofs.UpdateSteps as lawful_updates
+use Rattle.agreeing_sessions.specs.InStep.{IsInStep, StaysInStep}
+use Rattle.agreeing_sessions.proofs.ChangeCalls as own_changes
+use Rattle.agreeing_sessions.proofs.Looking.{counts_entries, shows_bookmark, shows_key, shows_value}
+use Rattle.agreeing_sessions.proofs.Moves.{cancels, chooses_index, goes_to, makes_keys, moves, ranges, seeks, unranges}
+use Rattle.agreeing_sessions.proofs.OwnSessions.{closes, commits, opens, rolls_back, session_begins, session_ends, transaction_begins}
+use Rattle.agreeing_sessions.proofs.Replacing.{replaces}
+use Rattle.agreeing_sessions.proofs.SchemaCalls.{column_added, column_deleted, index_created, index_deleted, table_created, table_deleted}
+use Rattle.engine_versions.specs.BuiltCalls.{is_built_request}
+use Rattle.engine_versions.specs.BuiltTables.{AllMakeBuilt}
+use Rattle.engine_versions.specs.EngineState.{EngineState}
+use Rattle.engine_versions.specs.EngineSteps.{engine_after_answer, engine_after_step}
+use Rattle.engine_versions.specs.HoldsState.{HoldsState, asked_of}
+use Rattle.engine_versions.proofs.Preparing.{KeepWellFormed, column_is_set, copy_prepared, insert_prepared}
+use Rattle.engine_versions.proofs.Replies.{takes_no_step, without_step}
+
+-- ---- lawful steps
+
+pub answer_lawful : HasOneEntry → KeysRise → (engine : EngineState) (state : DatabaseState) → HoldsState engine state → (session : ℕ) (local : LocalState) (request : Request) → IsInStep state session local → is_built_request request ≡ true
+    → HasLawfulStep state (answer (asked_of engine state session local) request)
+answer_lawful one rise engine state h session local request step built = elim (takes_no_step request) as (λ b. takes_no_step request ≡ b → HasLawfulStep state (answer asked request)) [
+  | true ↦ λ e. without_step (HasLawfulStep state) (λ answered after. tt) asked request e
+  | false ↦ λ e. stepping request built e
+] refl
+  where
+    asked : Asked
+    asked = asked_of engine state session local
+
+    stepping : (request : Request) → is_built_request request ≡ true → takes_no_step request ≡ false → HasLawfulStep state (answer (asked_of engine state session local) request)
+    stepping call.BeginSession b e = lawful_sessions.session_begins (asked_of engine state session local) step.agrees
+    stepping call.EndSession b e = lawful_sessions.session_ends (asked_of engine state session local) step.agrees
+    stepping call.BeginTransaction b e = lawful_sessions.transaction_begins (asked_of engine state session local) step.agrees
+    stepping (call.CommitTransaction lazy) b e = lawful_sessions.commits rise h.base h.dropped h.kept (asked_of engine state session local) lazy h.reached step.agrees
+    stepping (call.Rollback all) b e = lawful_sessions.rolled_back (asked_of engine state session local) all step.agrees
+    stepping (call.CreateTable table) b e = lawful_schema.table_made (asked_of engine state session local) table step.agrees b
+    stepping (call.DeleteTable table) b e = lawful_schema.table_deleted (asked_of engine state session local) table step.agrees
+    stepping (call.AddColumn table column kind flags) b e =
+        lawful_schema.column_made (asked_of engine state session local) table column kind flags step.agrees h.reached.order (and_left (is_name column) _ (and_left (is_name column && not (is_long_type kind)) _ b))
+    stepping (call.DeleteColumn table column) b e = lawful_schema.column_deleted (asked_of engine state session local) table column step.agrees
+    stepping (call.CreateIndex table index flags key_most segments conditions) b e =
+        lawful_schema.index_made (asked_of engine state session local) table index flags key_most segments conditions step.agrees h.reached.order (and_left (is_name index) (nat_le key_most 255) b)
+    stepping (call.DeleteIndex table index) b e = lawful_schema.index_deleted (asked_of engine state session local) table index step.agrees
+    stepping (call.OpenTable cursor table) b e = lawful_sessions.table_opens (asked_of engine state session local) cursor table step.agrees
+    stepping (call.CloseTable cursor) b e = lawful_sessions.table_closes (asked_of engine state session local) cursor step.agrees
+    stepping (call.PrepareUpdate cursor prepare.Replace) b e = lawful_changes.replaces one rise h.base h.dropped h.kept (asked_of engine state session local) cursor h.reached step.agrees
+    stepping (call.Update cursor) b e = lawful_updates.updates one rise h.base h.dropped h.kept (asked_of engine state session local) cursor h.reached step.agrees
+    stepping (call.Delete cursor) b e = lawful_changes.deletes one rise h.base h.dropped h.kept (asked_of engine state session local) cursor h.reached step.agrees
+    stepping (call.GetLock cursor) b e = lawful_changes.locks one rise h.base h.dropped h.kept (asked_of engine state session local) cursor h.reached step.agrees
+    stepping (call.EscrowUpdate cursor column amount) b e = impossible b
+    stepping _ b e = impossible (sym e)
+
+-- ---- the session's own state
+
+pub answer_in_step : HasOneEntry → KeysRise → KeepWellFormed → (engine : EngineState) (state : DatabaseState) → HoldsState engine state → (session : ℕ) (local : LocalState) (request : Request) → IsInStep state session local → is_built_request request ≡ true
+    → StaysInStep (asked_of engine state session local) (answer (asked_of engine state session local) request)
+answer_in_step one rise keeps engine state h session local call.BeginSession step b = session_begins (asked_of engine state session local) step
+answer_in_step one rise keeps engine state h session local call.EndSession step b = session_ends (asked_of engine state session local) step
+answer_in_step one rise keeps engine state h session local call.BeginTransaction step b = transaction_begins h.base h.dropped h.kept (asked_of engine state session local) h.reached.history step
+answer_in_step one rise keeps engine state h session local (call.CommitTransaction lazy) step b = commits (asked_of engine state session local) lazy step
+answer_in_step one rise keeps engine state h session local (call.Rollback all) step b = rolls_back (asked_of engine state session local) all step
+answer_in_step one rise keeps engine state h session local (call.CreateTable table) step b = table_created h.base h.dropped h.kept (asked_of engine state session local) table h.reached.history step
+answer_in_step one rise keeps engine state h session local (call.DeleteTable table) step b = table_deleted h.base h.dropped h.kept (asked_of engine state session local) table h.reached.history step
+answer_in_step one rise keeps engine state h session local (call.AddColumn table column kind flags) step b = column_added h.base h.dropped h.kept (asked_of engine state session local) table column kind flags h.reached.history step
+answer_in_step one rise keeps engine state h session local (call.DeleteColumn table column) step b = column_deleted h.base h.dropped h.kept (asked_of engine state session local) table column h.reached.history step
+answer_in_step one rise keeps engine state h session local (call.CreateIndex table index flags key_most segments conditions) step b =
+    index_created h.base h.dropped h.kept (asked_of engine state session local) table index flags key_most segments conditions h.reached.history step
+answer_in_step one rise keeps engine state h session local (call.DeleteIndex table index) step b = index_deleted h.base h.dropped h.kept (asked_of engine state session local) table index h.reached.history step
+answer_in_step one rise keeps engine state h session local (call.OpenTable cursor table) step b = opens (asked_of engine state session local) cursor table step h.reached.order
+answer_in_step one rise keeps engine state h session local (call.CloseTable cursor) step b = closes (asked_of engine state session local) cursor step
+answer_in_step one rise keeps engine state h session local (call.SetCurrentIndex cursor index) step b = chooses_index (asked_of engine state session local) cursor index step
+answer_in_step one rise keeps engine state h session local (call.Move cursor way) step b = moves (asked_of engine state session local) cursor way step
+answer_in_step one rise keeps engine state h session local (call.MakeKey cursor fresh value) step b = makes_keys (asked_of engine state session local) cursor fresh value step
+answer_in_step one rise keeps engine state h session local (call.Seek cursor seek) step b = seeks (asked_of engine state session local) cursor seek step
+answer_in_step one rise keeps engine state h session local (call.SetIndexRange cursor upper inclusive) step b = ranges (asked_of engine state session local) cursor upper inclusive step
+answer_in_step one rise keeps engine state h session local (call.RemoveIndexRange cursor) step b = unranges (asked_of engine state session local) cursor step
+answer_in_step one rise keeps engine state h session local (call.IndexRecordCount cursor most) step b = counts_entries (asked_of engine state session local) cursor most step
+answer_in_step one rise keeps engine state h session local (call.RetrieveKey cursor) step b = shows_key (asked_of engine state session local) cursor step
+answer_in_step one rise keeps engine state h session local (call.GetBookmark cursor) step b = shows_bookmark (asked_of engine state session local) cursor step
+answer_in_step one rise keeps engine state h session local (call.GotoBookmark cursor bookmark) step b = goes_to (asked_of engine state session local) cursor bookmark step
+answer_in_step one rise keeps engine state h session local (call.PrepareUpdate cursor prepare.Insert) step b = insert_prepared keeps engine state session local cursor h step
+answer_in_step one rise keeps engine state h session local (call.PrepareUpdate cursor prepare.InsertCopy) step b = copy_prepared engine state session local cursor h step
+answer_in_step one rise keeps engine state h session local (call.PrepareUpdate cursor prepare.Replace) step b = replaces h.base h.dropped h.kept (asked_of engine state session local) cursor h.reached.history h.reached.no_sums h.stored step
+answer_in_step one rise keeps engine state h session local (call.PrepareUpdate cursor prepare.Cancel) step b = cancels (asked_of engine state session local) cursor step
+answer_in_step one rise keeps engine state h session local (call.SetColumn cursor column sequence value) step b = column_is_set keeps engine state session local cursor column sequence value h step
+answer_in_step one rise keeps engine state h session local (call.RetrieveColumn cursor column sequence copy most) step b = shows_value (asked_of engine state session local) cursor column sequence copy most step
+answer_in_step one rise keeps engine state h session local (call.Update cursor) step b = own_changes.updates one rise h.base h.dropped h.kept (asked_of engine state session local) cursor h.reached step
+answer_in_step one rise keeps engine state h session local (call.Delete cursor) step b = own_changes.deletes h.base h.dropped h.kept (asked_of engine state session local) cursor h.reached.history step
+answer_in_step one rise keeps engine state h session local (call.GetLock cursor) step b = own_changes.locks h.base h.dropped h.kept (asked_of engine state session local) cursor h.reached.history step
+answer_in_step one rise keeps engine state h session local (call.EscrowUpdate cursor column amount) step b = impossible b
+
+-- ---- what the engine holds then
+
+-- the law that an engine holds the next state after a step
+abbrev pub StepHolds : Type 0
+StepHolds =
+    (engine : EngineState) (state : DatabaseState) (step : Step) → HoldsState engine state → AreLawful state (entries_of_step (Some step)) → AllMakeBuilt (entries_of_step (Some step)) → HoldsState (engine_after_step engine step) (state_after_all state (entries_of_step (Some step)))
+
+pub held_after : StepHolds → (engine : EngineState) (state : DatabaseState) (o : Option Step) → HoldsState engine state → AreLawful state (entries_of_step o) → AllMakeBuilt (entries_of_step o) → HoldsState (engine_after_answer engine o) (state_after_all state (entries_of_step o))
+held_after holds engine state None h lawful built = h
+held_after holds engine state (Some step) h lawful built = holds engine state step h lawful built
