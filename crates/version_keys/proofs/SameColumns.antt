@@ -10,7 +10,7 @@ use Rattle.index_derive.specs.declared.rules.Condition.{Condition}
 use Rattle.index_derive.specs.declared.rules.IndexRule.{IndexRule}
 use Rattle.index_derive.specs.declared.rules.Schema.{Schema}
 use Rattle.index_derive.specs.declared.rules.Segment.{Segment}
-use Rattle.index_derive.specs.Entries.{KeyRefusal, KeyTruncated, KeyValues, NullKeyDisallowed, all_key_values, columns_of_key, condition_columns, entries, has_double_number, has_ignore_flag, is_escrow_column, is_ignored, is_legal, is_multi_column, is_text_type, is_tuples_key, key_columns, keys_or_none, meets_conditions, parts_of_columns, parts_of_text, parts_of_texts, product, sorted_keys, type_of_column, values_or_null}
+use Rattle.index_derive.specs.Entries.{KeyRefusal, KeyTruncated, KeyValues, NullKeyDisallowed, all_key_values, columns_of_key, condition_columns, entries, first_or_null, has_double_number, has_ignore_flag, is_escrow_column, is_ignored, is_legal, is_multi_column, is_text_type, is_tuples_key, key_columns, keys_or_none, meets_conditions, parts_of_columns, parts_of_text, parts_of_texts, primary_key, product, sorted_keys, type_of_column, values_or_null}
 use Rattle.database_state.specs.Conflicts.{yields_key}
 use Rattle.database_state.specs.SchemaChanges.{rule_columns}
 use Rattle.version_history.proofs.Lists.{all_weaker}
@@ -91,7 +91,8 @@ entries_are : (rule : IndexRule) (schema : Schema) (fields : RecordFields) → e
 unfolding entries
 entries_are rule schema fields = refl
 
-entries_same : (rule : IndexRule) (one other : Schema) (left right : RecordFields) → AllByRecursion (SameAt one other left right) (rule_columns rule) → entries rule one left ≡ entries rule other right
+-- the entries of a record, or why it is refused
+pub entries_same : (rule : IndexRule) (one other : Schema) (left right : RecordFields) → AllByRecursion (SameAt one other left right) (rule_columns rule) → entries rule one left ≡ entries rule other right
 entries_same rule one other left right h =
     let both = parted (SameAt one other left right) (key_columns rule) (condition_columns rule) h in
     entries_are rule one left
@@ -101,6 +102,17 @@ entries_same rule one other left right h =
 -- the keys of a record
 pub yields_same : (rule : IndexRule) (one other : Schema) (key : List ℕ) (left right : RecordFields) → AllByRecursion (SameAt one other left right) (rule_columns rule) → yields_key rule one key (Some left) ≡ yields_key rule other key (Some right)
 yields_same rule one other key left right h = ap (λ found. list_any (bytes_eq key) (keys_or_none found)) (entries_same rule one other left right h)
+
+firsts_same : (one other : Schema) (left right : RecordFields) (columns : List ℕ) → AllByRecursion (SameAt one other left right) columns → map (λ column. first_or_null (values_of left column)) columns ≡ map (λ column. first_or_null (values_of right column)) columns
+firsts_same one other left right [] h = refl
+firsts_same one other left right (column ∷ columns) h = λ i. first_or_null (h.0.1 i) ∷ firsts_same one other left right columns h.1 i
+
+-- its bookmark
+pub primary_key_same : (rule : IndexRule) (one other : Schema) (left right : RecordFields) → AllByRecursion (SameAt one other left right) (rule_columns rule) → primary_key rule one left ≡ primary_key rule other right
+unfolding primary_key
+primary_key_same rule one other left right h =
+    let both = parted (SameAt one other left right) (key_columns rule) (condition_columns rule) h in
+    λ i. cut_key rule.key_most (key_bytes (columns_same one other left right rule.segments both.0 i) rule.flags.sortnullshigh (firsts_same one other left right (key_columns rule) both.0 i))
 
 -- ---- which rules are legal
 
