@@ -14,3 +14,7 @@ pub mod Ends
 pub mod Held
 pub mod Dropped
 pub mod DroppedRecords
+pub mod RisingKeys
+pub mod StandingChanges
+pub mod EntryTrees
+pub mod LostKeys
