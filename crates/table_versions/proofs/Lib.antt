@@ -14,3 +14,10 @@ pub mod Ends
 pub mod Held
 pub mod Dropped
 pub mod DroppedRecords
+pub mod RisingKeys
+pub mod StandingChanges
+pub mod EntryTrees
+pub mod LostKeys
+pub mod LeftNodes
+pub mod LostNodes
+pub mod Forgotten

@@ -3,3 +3,5 @@ pub mod StoredVersions
 pub mod VersionsView
 pub mod VersionsKept
 pub mod Walks
+pub mod GoneKeys
+pub mod LeftVariants

@@ -4,9 +4,12 @@
 
 mod changing;
 mod ending;
+mod forgetting;
+mod keys;
 mod reading;
 mod store;
 mod telling;
+mod variants;
 mod walking;
 
 pub use store::TableVersions;
