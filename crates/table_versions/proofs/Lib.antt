@@ -14,3 +14,7 @@ pub mod Ends
 pub mod Held
 pub mod Dropped
 pub mod DroppedRecords
+pub mod WithKey
+pub mod KeyConflicts
+pub mod RecordConflicts
+pub mod StoredConflicts

@@ -4,6 +4,7 @@
 
 mod changing;
 mod ending;
+mod keys;
 mod reading;
 mod store;
 mod telling;

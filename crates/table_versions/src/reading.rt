@@ -60,7 +60,7 @@ pub(crate) fn row_in_node(bytes: Option<&[u8]>) -> Option<&[u8]>
 }
 
 // The record of a row.
-fn in_place(row: Option<&[u8]>) -> Option<RowRef<'_>>
+pub(crate) fn in_place(row: Option<&[u8]>) -> Option<RowRef<'_>>
     requires { IfSome (option_copied row) IsRecordRow }
     ensures { option_map here_fields result ≡ option_map record_of (option_copied row.entry) }
 {
