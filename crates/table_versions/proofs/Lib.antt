@@ -21,3 +21,7 @@ pub mod LostKeys
 pub mod LeftNodes
 pub mod LostNodes
 pub mod Forgotten
+pub mod WithKey
+pub mod KeyConflicts
+pub mod RecordConflicts
+pub mod StoredConflicts

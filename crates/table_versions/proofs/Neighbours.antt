@@ -21,7 +21,7 @@ abbrev pub IsIn : Pair → List Pair → Type 0
 IsIn e [] = ⊥
 IsIn e (x ∷ xs) = (x ≡ e) ⊎ IsIn e xs
 
-all_in : (p : Pair → Bool) (e : Pair) (xs : List Pair) → list_all p xs ≡ true → IsIn e xs → p e ≡ true
+pub all_in : (p : Pair → Bool) (e : Pair) (xs : List Pair) → list_all p xs ≡ true → IsIn e xs → p e ≡ true
 all_in p e [] h i = absurd i
 all_in p e (x ∷ xs) h (inl same) = sym (ap p same) ∙ and_left (p x) _ h
 all_in p e (x ∷ xs) h (inr later) = all_in p e xs (and_right (p x) _ h) later
@@ -108,7 +108,7 @@ alike : (q r : Pair → Bool) (xs : List Pair) → AllByRecursion (λ y. q y ≡
 alike q r [] h = refl
 alike q r (x ∷ xs) h = λ i. cond (h.0 i) (Some x) (alike q r xs h.1 i)
 
-above_all : (place : Place) (x : Pair) (ys : List Pair) → is_beyond place x ≡ true → list_all (pair_lt x) ys ≡ true → AllByRecursion (λ y. is_beyond place y ≡ pair_lt x y) ys
+pub above_all : (place : Place) (x : Pair) (ys : List Pair) → is_beyond place x ≡ true → list_all (pair_lt x) ys ≡ true → AllByRecursion (λ y. is_beyond place y ≡ pair_lt x y) ys
 above_all place x [] h low = tt
 above_all place x (y ∷ ys) h low =
     let here = and_left (pair_lt x y) _ low in

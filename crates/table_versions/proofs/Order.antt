@@ -10,7 +10,7 @@ use Rattle.index_derive.specs.declared.entries.Place.{Place}
 use Rattle.index_derive.specs.declared.entries.Place.TheVariants.{Before, After, On, Gap}
 use Rattle.column_set.specs.RecordValues.{bytes_le, bytes_lt}
 use Rattle.cursor_nav.specs.Places.{Pair, is_beyond, is_short_of, pair_lt}
-use Rattle.record_changes.proofs.Tests.{and_left, impossible, refuted, same_bytes}
+use Rattle.record_changes.proofs.Tests.{and_left, equal_bytes, impossible, refuted, same_bytes}
 
 -- ---- entries
 
@@ -58,7 +58,7 @@ le_of_lt a b h = ap is_le (is_less (slice_cmp nat_cmp a b) h)
 lt_lt : (a b c : List ℕ) → bytes_lt a b ≡ true → bytes_lt b c ≡ true → bytes_lt a c ≡ true
 lt_lt a b c h g = lt_of a c (nat_list_cmp_total.trans a b c (is_less (slice_cmp nat_cmp a b) h) (is_less (slice_cmp nat_cmp b c) g))
 
-lt_le : (a b c : List ℕ) → bytes_lt a b ≡ true → bytes_le b c ≡ true → bytes_lt a c ≡ true
+pub lt_le : (a b c : List ℕ) → bytes_lt a b ≡ true → bytes_le b c ≡ true → bytes_lt a c ≡ true
 lt_le a b c h g = by (slice_cmp nat_cmp b c) refl g
   where
     by : (r : Ordering) → slice_cmp nat_cmp b c ≡ r → is_le r ≡ true → bytes_lt a c ≡ true
@@ -74,8 +74,22 @@ le_lt a b c h g = by (slice_cmp nat_cmp a b) refl h
     by Equal e h = let P : List ℕ → Type 0 = λ k. bytes_lt k c ≡ true in subst P (sym (exact_bytes a b e)) g
     by Greater e h = impossible h
 
+pub le_itself : (a : List ℕ) → bytes_le a a ≡ true
+le_itself a = ap is_le (self_cmp (slice_cmp nat_cmp a a) (sym (texts_ties a a) ∙ equal_bytes a a refl))
+  where
+    self_cmp : (r : Ordering) → is_eq r ≡ true → r ≡ Equal
+    self_cmp Less e = impossible e
+    self_cmp Equal e = refl
+    self_cmp Greater e = impossible e
+
+pub not_below_itself : (a : List ℕ) → bytes_lt a a ≡ true → ⊥
+not_below_itself a h = no (sym (not_itself (a, a)) ∙ ap (λ b. b || (bytes_eq a a && bytes_lt a a)) h)
+  where
+    no : false ≡ true → ⊥
+    no e = cc
+
 -- the key of the lower of two entries is below the other's, or is the same
-keys_of : (x y : Pair) → pair_lt x y ≡ true → (bytes_lt x.0 y.0 ≡ true) ⊎ (x.0 ≡ y.0)
+pub keys_of : (x y : Pair) → pair_lt x y ≡ true → (bytes_lt x.0 y.0 ≡ true) ⊎ (x.0 ≡ y.0)
 keys_of x y h = by (bytes_lt x.0 y.0) refl h
   where
     by : (b : Bool) → bytes_lt x.0 y.0 ≡ b → (b || (bytes_eq x.0 y.0 && bytes_lt x.1 y.1)) ≡ true → (bytes_lt x.0 y.0 ≡ true) ⊎ (x.0 ≡ y.0)

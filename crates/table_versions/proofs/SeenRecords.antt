@@ -49,7 +49,7 @@ seen_is table bookmark reader newest (h ∷ held) = by (hides table bookmark rea
 
 -- ---- the rows before standing changes are rows
 
-before_is_row : (found : Option Table) (bookmark : List ℕ) (row : Option (List ℕ)) → is_some found ≡ true → IfSome found (λ table. IfSome row (IsRowUnder table bookmark)) → IfSome row IsRecordRow
+pub before_is_row : (found : Option Table) (bookmark : List ℕ) (row : Option (List ℕ)) → is_some found ≡ true → IfSome found (λ table. IfSome row (IsRowUnder table bookmark)) → IfSome row IsRecordRow
 before_is_row None bookmark row named is = impossible named
 before_is_row (Some table) bookmark None named is = tt
 before_is_row (Some table) bookmark (Some row) named is = is.fits.row

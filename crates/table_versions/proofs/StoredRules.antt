@@ -25,7 +25,7 @@ found_all {X} P q x (y ∷ xs) all e = by (q y) e (found_all P q x xs all.1)
     by false e rest = rest e
 
 -- an index that is found is one of the table's
-stored_rule : (table : Table) (index : ℕ) (rule : IndexRule) → AllByRecursion (IsStoredRule table) table.indexes → rule_with_id (schema_of table) index ≡ Some rule → IsStoredRule table rule
+pub stored_rule : (table : Table) (index : ℕ) (rule : IndexRule) → AllByRecursion (IsStoredRule table) table.indexes → rule_with_id (schema_of table) index ≡ Some rule → IsStoredRule table rule
 stored_rule table index rule all =
     found_all (IsStoredRule table) (λ r. r.id.0 == index) rule (schema_of table).indexes
     (all_append (IsStoredRule table) (filter (λ r. r.flags.primary) table.indexes) (filter (λ r. not r.flags.primary) table.indexes)

@@ -1,11 +1,11 @@
 -- What the parts of the store keep of one another.
-use Rattle.std.specs.Prelude.{◌≡◌, ◌≤◌, ℕ, Bool, true, false, not, ◌&&◌, List, map, filter, length, Option, Some, None, if◌then◌else◌, IfSome, IsSomeAnd, MatchOption, is_some}
+use Rattle.std.specs.Prelude.{◌≡◌, ◌≤◌, ℕ, true, false, not, List, map, filter, length, Option, Some, None, if◌then◌else◌, IfSome, IsSomeAnd, MatchOption, is_some}
 use Rattle.std.specs.List.{AllByRecursion, list_all}
 use Rattle.btree_inplace.specs.Order.{extent_in, get_in}
 use Rattle.column_set.specs.RecordValues.{RecordFields, record_fits}
 use Rattle.database_state.specs.Lawful.{is_indexable}
 use Rattle.database_state.specs.SchemaChanges.{has_column, rule_columns}
-use Rattle.database_state.specs.State.{is_open, is_undone}
+use Rattle.database_state.specs.State.{is_open}
 use Rattle.database_state.specs.Table.{Table, row_at, primary_rule, rule_with_id, schema_of, table_with_id}
 use Rattle.index_derive.specs.declared.rules.IndexRule.{IndexRule}
 use Rattle.index_derive.specs.Entries.{is_legal, primary_key}
@@ -13,6 +13,7 @@ use Rattle.jet_catalog.specs.Catalog.{without_rows}
 use Rattle.page_image.specs.Page.{Node}
 use Rattle.table_trees.specs.StoredTables.{StoredTable, index_entries, table_nodes}
 use Rattle.version_store.specs.declared.calls.ChangeKind.TheVariants as kind
+pub use Rattle.version_store.specs.HeldChanges.{is_standing}
 use Rattle.version_store.specs.HeldChanges.{HeldChange, is_add, is_rewrite}
 use Rattle.versioned_tables.specs.HeldRecords.{HeldRecord}
 use Rattle.versioned_tables.specs.Variants.{HoldsVariants, has_variant}
@@ -59,13 +60,9 @@ pub record IsRowUnder (table : Table) (bookmark bytes : List ℕ) : Type 0 where
 
 -- ---- held changes
 
--- a put or a drop that is not undone
-abbrev pub is_standing : HeldChange → Bool
-is_standing held = is_rewrite held.kind && not (is_undone held.status)
-
--- A held change is of a table of the catalog, and the row before it is one of that table. Before a put or drop it
--- is one that stood under the bookmark, and a drop that stands has one; while the change is open its node has room for it. A
--- lock holds no row, and a sum of an escrow column is not held: these are not built.
+-- A held change is of a table of the catalog, and the row before it is one of that table. Before a put or a drop it is one that
+-- stood under the bookmark, and a drop that stands has one; while the change is open its node has room for it. A lock holds no
+-- row, and a sum of an escrow column is not held: these are not built.
 pub record IsKeptChange (tables : List Table) (trees : List StoredTable) (held : HeldChange) : Type 0 where
   pub named : is_some (table_with_id tables held.table) ≡ true
   pub row : IfSome (table_with_id tables held.table) (λ table. IfSome held.before (IsRowOf table))

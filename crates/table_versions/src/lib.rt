@@ -9,6 +9,7 @@ mod keys;
 mod reading;
 mod store;
 mod telling;
+mod unique_keys;
 mod variants;
 mod walking;
 

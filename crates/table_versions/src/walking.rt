@@ -1,9 +1,11 @@
 //! The neighbours of a place in an index as a reader sees it.
 
-ghost use Rattle.std.specs.Prelude.{◌≡◌, ◌≤◌, length, IfSome, IsSomeAnd, option_copied, true};
-ghost use Rattle.cursor_nav.specs.Places.{entry_after, entry_before, found_pair};
+ghost use Rattle.std.specs.Prelude.{◌≡◌, ℕ, ◌≤◌, length, IfSome, IsSomeAnd, option_copied, true};
+ghost use Rattle.cursor_nav.specs.Places.{are_sorted, entry_after, entry_before, found_pair};
 ghost use Rattle.database_state.specs.Table.{record_in, rule_with_id, schema_of, table_with_id};
+ghost use Rattle.index_derive.specs.declared.rules.Schema.{Schema};
 ghost use Rattle.index_derive.specs.Entries.{is_legal};
+ghost use Rattle.version_store.specs.declared.calls.Reader.{Reader};
 ghost use Rattle.versioned_tables.specs.HeldRecords.{seen_record};
 ghost use Rattle.table_versions.specs.StoredVersions.{seen_entries};
 ghost use Rattle.table_versions.specs.VersionsKept.{only_secondary};
@@ -81,6 +83,18 @@ impl TableVersions {
             found = stored_before(&self.trees, table, rule, &last);
         }
         None
+    }
+
+    // The entries that a reader sees of an index of a table are in order.
+    pub(crate) fn seen_entries_are_in_order(&self)
+        ensures { (reader : Reader) (table : ℕ) (schema : Schema) (index : ℕ) → IsSomeAnd (table_with_id self.now.store.tables table) (λ t. schema ≡ schema_of t)
+            → are_sorted (seen_entries reader self.now.store table index) ≡ true }
+    {
+        a_reader_is_shown_the_records_that_it_sees();
+        a_reader_walks_the_index_of_what_it_sees();
+        entries_in_order_are_told_by_those_that_are_there();
+        self.trees.nodes_are_in_order();
+        self.trees.entries_are_in_order();
     }
 
     // Whether an entry of the index stands for the record that the reader sees under its bookmark.

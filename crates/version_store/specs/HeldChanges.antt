@@ -78,9 +78,13 @@ is_record table bookmark held = (held.table == table) && bytes_eq held.bookmark 
 abbrev pub collides : Change → HeldChange → Bool
 collides made held = is_record (changed_table made) (changed_bookmark made) held && not (is_add held.kind && is_sum made)
 
+-- a change of another session that is open, or was committed after the reader's begin
+abbrev pub is_concurrent : Reader → HeldChange → Bool
+is_concurrent reader held = not (held.session == reader.session.0) && is_unseen reader held
+
 -- A write conflict: a concurrent change of another session touches the same record, unless both are sums.
 abbrev pub conflicts : Reader → Change → HeldChange → Bool
-conflicts reader made held = not (held.session == reader.session.0) && is_unseen reader held && collides made held
+conflicts reader made held = is_concurrent reader held && collides made held
 
 abbrev pub has_conflict : Reader → Change → List HeldChange → Bool
 has_conflict reader made changes = list_any (conflicts reader made) changes
@@ -88,6 +92,10 @@ has_conflict reader made changes = list_any (conflicts reader made) changes
 -- a put or a drop of the record that the reader does not see
 abbrev pub hides : ℕ → List ℕ → Reader → HeldChange → Bool
 hides table bookmark reader held = is_record table bookmark held && is_rewrite held.kind && is_unseen reader held
+
+-- a put or a drop that is not undone
+abbrev pub is_standing : HeldChange → Bool
+is_standing held = is_rewrite held.kind && not (is_undone held.status)
 
 -- A put or a drop of the record that is not undone: the row before it is one that some reader may see, or that an undo may
 -- bring back.

@@ -1,7 +1,7 @@
 //! A held change but for its row.
 
 ghost use Rattle.std.specs.Prelude.{◌≡◌, ◌≤◌, [], option_copied, length, unwrap_or};
-ghost use Rattle.version_store.specs.HeldChanges.{kind_of, is_add, is_rewrite, cost, is_after, is_record, is_unseen, is_standing_rewrite, hides, conflicts, is_kept, is_open_of, is_open_at};
+ghost use Rattle.version_store.specs.HeldChanges.{kind_of, is_add, is_rewrite, cost, is_after, is_record, is_unseen, is_concurrent, is_standing, is_standing_rewrite, hides, conflicts, is_kept, is_open_of, is_open_at};
 ghost use Rattle.database_state.specs.Changes.{changed_table, changed_bookmark};
 ghost use Rattle.version_store.specs.Items.{held_change, row_of, released_item, committed_item};
 
@@ -132,8 +132,8 @@ fn is_later(begin: Option<u64>, number: u64) -> bool
 }
 
 impl Item {
-    /// The slot's record.
-    fn is_record(&self, table: TableId, bookmark: &[u8]) -> bool
+    /// Whether it touches the record.
+    pub(crate) fn is_record(&self, table: TableId, bookmark: &[u8]) -> bool
         ensures { result ≡ is_record table.0 bookmark.now (held_change self.now []) }
     {
         self.table.0 == table.0 && self.bookmark.as_bytes() == bookmark
@@ -157,23 +157,36 @@ impl Item {
         self.is_record(table, bookmark) && rewrites(self.kind) && self.is_unseen(reader)
     }
 
-    /// Whether it is a put or a drop of the record that is not undone.
-    pub(crate) fn is_standing_rewrite(&self, table: TableId, bookmark: &[u8]) -> bool
-        ensures { result ≡ is_standing_rewrite table.0 bookmark.now (held_change self.now []) }
+    /// Whether it is a put or a drop that is not undone.
+    pub(crate) fn is_standing(&self) -> bool
+        ensures { result ≡ is_standing (held_change self.now []) }
     {
         let stands = match self.status {
             Status::Uncommitted | Status::Committed(_) => true,
             Status::Undone => false,
         };
-        stands && rewrites(self.kind) && self.is_record(table, bookmark)
+        stands && rewrites(self.kind)
+    }
+
+    /// Whether it is a put or a drop of the record that is not undone.
+    pub(crate) fn is_standing_rewrite(&self, table: TableId, bookmark: &[u8]) -> bool
+        ensures { result ≡ is_standing_rewrite table.0 bookmark.now (held_change self.now []) }
+    {
+        self.is_standing() && self.is_record(table, bookmark)
+    }
+
+    /// Whether another session made it, and it is open or was committed after the reader's begin.
+    pub(crate) fn is_concurrent(&self, reader: Reader) -> bool
+        ensures { result ≡ is_concurrent reader (held_change self.now []) }
+    {
+        self.session.0 != reader.session.0 && self.is_unseen(reader)
     }
 
     /// Whether it stands against the change of this reader.
     pub(crate) fn conflicts(&self, reader: Reader, change: &Change) -> bool
         ensures { result ≡ conflicts reader change.now (held_change self.now []) }
     {
-        self.session.0 != reader.session.0
-            && self.is_unseen(reader)
+        self.is_concurrent(reader)
             && self.is_record(table_of(change), bookmark_of(change).as_bytes())
             && !(adds(self.kind) && adds(what(change)))
     }

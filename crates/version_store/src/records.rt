@@ -1,9 +1,9 @@
-//! The standing puts and drops of a record, from the newest back.
+//! The changes of a record, from the newest back: all of them, and its standing puts and drops alone.
 
 ghost use Rattle.std.specs.Prelude.{◌≡◌, ℕ, ◌≤◌, ◌<◌, List, length, map, take, Some, slice_get, IfSome};
 ghost use Rattle.std.specs.List.{list_any};
 ghost use Rattle.version_store.specs.Chained.{Walk};
-ghost use Rattle.version_store.specs.HeldChanges.{last_place, is_standing_rewrite};
+ghost use Rattle.version_store.specs.HeldChanges.{last_place, is_record, is_standing_rewrite};
 ghost use Rattle.version_store.specs.Items.{held_changes, item_slot};
 ghost use Rattle.version_store.specs.Slots.{slot_of as the_slot};
 
@@ -29,6 +29,30 @@ pub(crate) fn newest_standing(
     while end > 0 {
         let place = end - 1;
         if items[place].is_standing_rewrite(table, bookmark) {
+            return Some(place);
+        }
+        end = chains.before(place);
+    }
+    None
+}
+
+/// The place of the newest change of the record among the items up to `from`, behind an item of the record's slot.
+pub(crate) fn newest_touching(
+    items: &VecDeque<Item>,
+    chains: &Chains,
+    from: usize,
+    table: TableId,
+    bookmark: &[u8],
+) -> Option<usize>
+    requires slots { chains.now ≡ map item_slot items.now.items }
+    requires walk { Walk (the_slot table.0 bookmark.now) chains.now from }
+    ensures place { (rows : List (List ℕ)) → length rows ≡ length items.now.items → result ≡ last_place (is_record table.0 bookmark.now) (take from (held_changes items.now.items rows)) }
+    ensures within { IfSome result (λ place. place < from) }
+{
+    let mut end = from;
+    while end > 0 {
+        let place = end - 1;
+        if items[place].is_record(table, bookmark) {
             return Some(place);
         }
         end = chains.before(place);

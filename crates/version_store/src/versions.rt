@@ -4,7 +4,7 @@ ghost use Rattle.std.specs.Prelude.{◌≡◌, ℕ, ◌≤◌, ◌<◌, ◌↔�
 ghost use Rattle.std.specs.List.{list_any};
 ghost use Rattle.version_store.specs.declared.fault.VersionFault.TheVariants as fault;
 ghost use Rattle.version_store.specs.Answers.{change_at};
-ghost use Rattle.version_store.specs.HeldChanges.{HeldChange, is_kept, is_standing_rewrite, new_change, has_conflict, has_room, span as the_span, seen_row, shown, hides, conflicts, last_place, is_open_at, newest_undone, released_change, committed_change};
+ghost use Rattle.version_store.specs.HeldChanges.{HeldChange, is_concurrent, is_kept, is_record, is_standing, is_standing_rewrite, new_change, has_conflict, has_room, span as the_span, seen_row, shown, hides, conflicts, last_place, is_open_at, newest_undone, released_change, committed_change};
 
 use crate::calls::{By, ChangeKind, Reader, Undone, Variant};
 use crate::chains::Chains;
@@ -14,7 +14,7 @@ use crate::ends::{
 };
 use crate::fault::VersionFault;
 use crate::item::{Item, Status, bookmark_of, cost_of, row_parts, table_of, what};
-use crate::records::newest_standing;
+use crate::records::{newest_standing, newest_touching};
 use crate::slot::slot_of;
 use column_set::{Bookmark, Change};
 use jet_base::{OutOfMemory, Session, TableId};
@@ -264,6 +264,49 @@ impl Versions {
         ensures { slice_get (map (is_kept oldest) self.now) place ≡ Some result }
     {
         self.items[place].is_kept(oldest)
+    }
+
+    /// Whether the change at this place is a put or a drop that is not undone.
+    pub fn is_standing_at(&self, place: usize) -> bool
+        requires { place < length self.now }
+        ensures { slice_get (map is_standing self.now) place ≡ Some result }
+    {
+        self.items[place].is_standing()
+    }
+
+    /// Whether another session made the change at this place, and it is open or was committed after the reader's begin.
+    pub fn is_concurrent_at(&self, place: usize, reader: Reader) -> bool
+        requires { place < length self.now }
+        ensures { slice_get (map (is_concurrent reader) self.now) place ≡ Some result }
+    {
+        self.items[place].is_concurrent(reader)
+    }
+
+    /// The place of the newest change of the record, of whatever kind. Each of the others is `older_change` of the one behind
+    /// it.
+    pub fn newest_change(&self, table: TableId, bookmark: &[u8]) -> Option<usize>
+        ensures place { result ≡ last_place (is_record table.0 bookmark.now) self.now }
+        ensures within { IfSome result (λ place. place < length self.now) }
+    {
+        let from = self.chains.newest(slot_of(table, bookmark));
+        newest_touching(&self.items, &self.chains, from, table, bookmark)
+    }
+
+    /// The place of the newest change of the record of the change at this place, among the changes before it.
+    pub fn older_change(&self, place: usize) -> Option<usize>
+        requires { place < length self.now }
+        ensures place { (h : HeldChange) → slice_get self.now place ≡ Some h → result ≡ last_place (is_record h.table h.bookmark) (take place self.now) }
+        ensures within { IfSome result (λ older. older < place) }
+    {
+        let from = self.chains.before(place);
+        let item = &self.items[place];
+        newest_touching(
+            &self.items,
+            &self.chains,
+            from,
+            item.table,
+            item.bookmark.as_bytes(),
+        )
     }
 
     /// The place of the newest put or drop of the record that is not undone. Each of the others is `older_rewrite` of the one

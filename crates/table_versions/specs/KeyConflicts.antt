@@ -1,0 +1,47 @@
+-- Key conflicts record by record, and keys that a record of the view has.
+use Rattle.std.specs.Prelude.{◌≡◌, ℕ, Bool, true, false, not, ◌&&◌, ◌||◌, List, [], ◌∷◌, Option, Some, None, bytes_eq, find, slice_get, IfSome, if◌then◌else◌, option_map}
+use Rattle.std.specs.List.{list_any}
+use Rattle.database_state.specs.Conflicts.{yields_key}
+use Rattle.database_state.specs.Puts.{is_replaced}
+use Rattle.index_derive.specs.declared.rules.IndexRule.{IndexRule}
+use Rattle.index_derive.specs.declared.rules.Schema.{Schema}
+use Rattle.version_store.specs.declared.calls.Reader.{Reader}
+use Rattle.version_store.specs.HeldChanges.{HeldChange, is_standing}
+use Rattle.versioned_tables.specs.HeldRecords.{HeldRecord, is_change_at, is_concurrent, is_standing_rewrite}
+use Rattle.versioned_tables.specs.VersionedTables.{VersionedTables}
+use Rattle.table_versions.specs.RecordRows.{IsRecordRow, record_of}
+use Rattle.table_versions.specs.StoredVersions.{seen_entries}
+
+-- ---- conflicts
+
+-- whether the record before a change has the key, or the newest one where there is no such change
+abbrev pub yields_before : IndexRule → Schema → List ℕ → Bool → Option HeldRecord → Bool
+yields_before rule schema key newest None = newest
+yields_before rule schema key newest (Some held) = yields_key rule schema key held.before
+
+-- whether the record before the next put or drop of it has the key, or the newest one, given whether that has it
+abbrev pub next_yields : IndexRule → Schema → List ℕ → Bool → ℕ → List ℕ → List HeldRecord → Bool
+next_yields rule schema key newest table bookmark changes = yields_before rule schema key newest (find (is_standing_rewrite table bookmark) changes)
+
+-- A key conflict with the changes of one record: some concurrent one has the key in the record before it, or in the one after
+-- it.
+abbrev pub conflicts_under : Reader → IndexRule → Schema → List ℕ → Bool → ℕ → List ℕ → List HeldRecord → Bool
+conflicts_under reader rule schema key newest table bookmark [] = false
+conflicts_under reader rule schema key newest table bookmark (held ∷ changes) =
+    (is_concurrent reader held && (is_change_at table bookmark held
+    && (next_yields rule schema key newest table bookmark (held ∷ changes) || next_yields rule schema key newest table bookmark changes)))
+    || conflicts_under reader rule schema key newest table bookmark changes
+
+-- The rows before the puts and drops that stand are rows.
+abbrev pub AreRowsBefore : List HeldChange → Type 0
+AreRowsBefore held = (place : ℕ) (h : HeldChange) → slice_get held place ≡ Some h → is_standing h ≡ true → IfSome h.before IsRecordRow
+
+-- whether the row before the change has the key, where the change is a put or a drop that stands; any other leaves it as it is
+abbrev pub yields_before_change : IndexRule → Schema → List ℕ → Bool → HeldChange → Bool
+yields_before_change rule schema key after h = if is_standing h then yields_key rule schema key (option_map record_of h.before) else after
+
+-- ---- double keys
+
+-- whether some record that the reader sees has the key in an index, another than the one under the bookmark
+abbrev pub is_taken_for : Reader → VersionedTables → ℕ → ℕ → Option (List ℕ) → List ℕ → Bool
+is_taken_for reader store table index own key = list_any (λ entry. bytes_eq entry.0 key && not (is_replaced own entry.1)) (seen_entries reader store table index)
