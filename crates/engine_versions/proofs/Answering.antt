@@ -32,7 +32,7 @@ use Rattle.agreeing_sessions.proofs.Replacing.{replaces}
 use Rattle.agreeing_sessions.proofs.SchemaCalls.{column_added, column_deleted, index_created, index_deleted, table_created, table_deleted}
 use Rattle.engine_versions.specs.BuiltCalls.{is_built_request}
 use Rattle.engine_versions.specs.BuiltTables.{AllMakeBuilt}
-use Rattle.engine_versions.specs.EngineState.{EngineState}
+use Rattle.engine_versions.specs.EngineState.{EngineState, HasRoomForEnds}
 use Rattle.engine_versions.specs.EngineSteps.{engine_after_answer, engine_after_step}
 use Rattle.engine_versions.specs.HoldsState.{HoldsAllInStep, HoldsState, asked_of, with_local}
 use Rattle.engine_versions.proofs.Preparing.{KeepWellFormed, column_is_set, copy_prepared, insert_prepared}
@@ -130,3 +130,12 @@ all_held_after holds engine locals session outcome h lawful built own step = rec
   holds = held_after holds engine h.state outcome.step h.holds lawful built;
   in_step = all_in_step (asked_of engine h.state session (locals session)) outcome (record { base = h.holds.base; dropped = h.holds.dropped; kept = h.holds.kept; is_history = h.holds.reached.history }) lawful own step locals h.in_step;
 }
+
+-- the law that a step leaves room
+abbrev pub StepHasRoom : Type 0
+StepHasRoom =
+    (engine : EngineState) (state : DatabaseState) (step : Step) → HoldsState engine state → AreLawful state (entries_of_step (Some step)) → AllMakeBuilt (entries_of_step (Some step)) → HasRoomForEnds engine → HasRoomForEnds (engine_after_step engine step)
+
+pub room_after : StepHasRoom → (engine : EngineState) (state : DatabaseState) (o : Option Step) → HoldsState engine state → AreLawful state (entries_of_step o) → AllMakeBuilt (entries_of_step o) → HasRoomForEnds engine → HasRoomForEnds (engine_after_answer engine o)
+room_after leaves engine state None h lawful built room = room
+room_after leaves engine state (Some step) h lawful built room = leaves engine state step h lawful built room

@@ -2,7 +2,7 @@ use Rattle.database_state.specs.Step.{state_after_all}
 use Rattle.index_derive.specs.Steps.{entries_of_step}
 use Rattle.session_local.specs.Calls.{answer}
 use Rattle.engine_versions.specs.HoldsState.{asked_of}
-use Rattle.engine_versions.proofs.Answering.{all_held_after, held_after}
+use Rattle.engine_versions.proofs.Answering.{all_held_after, held_after, room_after}
 use Rattle.engine_versions.proofs.answers.an_answer_is_held_in_step.Goals as goal
 
 pub returns-clause-holds : goal.returns-clause-holds
@@ -26,3 +26,8 @@ returns-clause-all c = λ engine locals session request h built.
     (c.an_answer_makes_what_is_built.ensures.built engine h.state session (locals session) request built)
     (c.an_answer_makes_what_is_built.ensures.own engine h.state session (locals session) request built)
     (c.an_answer_is_lawful_and_stays_in_step.ensures.in_step engine h.state h.holds session (locals session) request (h.in_step session) built)
+
+pub returns-clause-room : goal.returns-clause-room
+returns-clause-room c = λ engine state h session local request step built room.
+    room_after c.ends_always_find_room.ensures.step engine state (answer (asked_of engine state session local) request).step h
+    (c.an_answer_is_lawful_and_stays_in_step.ensures.lawful engine state h session local request step built) (c.an_answer_makes_what_is_built.ensures.built engine state session local request built) room
