@@ -1,6 +1,7 @@
 -- Answers: their steps are lawful, and the sessions stay in step.
 use Rattle.std.proofs.Common.{◌≡◌, ℕ, true, false, not, ◌&&◌, Option, Some, None, refl, sym}
 use Rattle.std.specs.Prelude.{nat_le}
+use Rattle.std.specs.List.{AllByRecursion}
 use Rattle.jet_base.specs.declared.words.Prepare.TheVariants as prepare
 use Rattle.jet_base.specs.TypeKinds.{is_long_type}
 use Rattle.index_derive.specs.declared.log.Step.{Step}
@@ -15,13 +16,14 @@ use Rattle.session_local.specs.declared.request.Request.{Request}
 use Rattle.session_local.specs.declared.request.Request.TheVariants as call
 use Rattle.session_local.specs.Calls.{answer}
 use Rattle.session_local.specs.Local.{LocalState}
-use Rattle.session_local.specs.Outcome.{Asked}
+use Rattle.session_local.specs.Outcome.{Asked, Outcome}
 use Rattle.lawful_answers.specs.LawfulSteps.{AreLawful, HasLawfulStep}
 use Rattle.lawful_answers.proofs.ChangeSteps as lawful_changes
 use Rattle.lawful_answers.proofs.SchemaCallSteps as lawful_schema
 use Rattle.lawful_answers.proofs.SessionSteps as lawful_sessions
 use Rattle.lawful_answers.proofs.UpdateSteps as lawful_updates
 use Rattle.agreeing_sessions.specs.InStep.{IsInStep, StaysInStep}
+use Rattle.agreeing_sessions.proofs.AllSessions.{all_in_step}
 use Rattle.agreeing_sessions.proofs.ChangeCalls as own_changes
 use Rattle.agreeing_sessions.proofs.Looking.{counts_entries, shows_bookmark, shows_key, shows_value}
 use Rattle.agreeing_sessions.proofs.Moves.{cancels, chooses_index, goes_to, makes_keys, moves, ranges, seeks, unranges}
@@ -30,9 +32,9 @@ use Rattle.agreeing_sessions.proofs.Replacing.{replaces}
 use Rattle.agreeing_sessions.proofs.SchemaCalls.{column_added, column_deleted, index_created, index_deleted, table_created, table_deleted}
 use Rattle.engine_versions.specs.BuiltCalls.{is_built_request}
 use Rattle.engine_versions.specs.BuiltTables.{AllMakeBuilt}
-use Rattle.engine_versions.specs.EngineState.{EngineState}
+use Rattle.engine_versions.specs.EngineState.{EngineState, HasRoomForEnds}
 use Rattle.engine_versions.specs.EngineSteps.{engine_after_answer, engine_after_step}
-use Rattle.engine_versions.specs.HoldsState.{HoldsState, asked_of}
+use Rattle.engine_versions.specs.HoldsState.{HoldsAllInStep, HoldsState, asked_of, with_local}
 use Rattle.engine_versions.proofs.Preparing.{KeepWellFormed, column_is_set, copy_prepared, insert_prepared}
 use Rattle.engine_versions.proofs.Replies.{takes_no_step, without_step}
 
@@ -120,3 +122,20 @@ StepHolds =
 pub held_after : StepHolds → (engine : EngineState) (state : DatabaseState) (o : Option Step) → HoldsState engine state → AreLawful state (entries_of_step o) → AllMakeBuilt (entries_of_step o) → HoldsState (engine_after_answer engine o) (state_after_all state (entries_of_step o))
 held_after holds engine state None h lawful built = h
 held_after holds engine state (Some step) h lawful built = holds engine state step h lawful built
+
+pub all_held_after : StepHolds → (engine : EngineState) (locals : ℕ → LocalState) (session : ℕ) (outcome : Outcome) (h : HoldsAllInStep engine locals) → HasLawfulStep h.state outcome → AllMakeBuilt (entries_of_step outcome.step)
+    → AllByRecursion (λ made. made.session.0 ≡ session) (entries_of_step outcome.step) → StaysInStep (asked_of engine h.state session (locals session)) outcome → HoldsAllInStep (engine_after_answer engine outcome.step) (with_local session outcome.local locals)
+all_held_after holds engine locals session outcome h lawful built own step = record {
+  state = state_after_all h.state (entries_of_step outcome.step);
+  holds = held_after holds engine h.state outcome.step h.holds lawful built;
+  in_step = all_in_step (asked_of engine h.state session (locals session)) outcome (record { base = h.holds.base; dropped = h.holds.dropped; kept = h.holds.kept; is_history = h.holds.reached.history }) lawful own step locals h.in_step;
+}
+
+-- the law that a step leaves room
+abbrev pub StepHasRoom : Type 0
+StepHasRoom =
+    (engine : EngineState) (state : DatabaseState) (step : Step) → HoldsState engine state → AreLawful state (entries_of_step (Some step)) → AllMakeBuilt (entries_of_step (Some step)) → HasRoomForEnds engine → HasRoomForEnds (engine_after_step engine step)
+
+pub room_after : StepHasRoom → (engine : EngineState) (state : DatabaseState) (o : Option Step) → HoldsState engine state → AreLawful state (entries_of_step o) → AllMakeBuilt (entries_of_step o) → HasRoomForEnds engine → HasRoomForEnds (engine_after_answer engine o)
+room_after leaves engine state None h lawful built room = room
+room_after leaves engine state (Some step) h lawful built room = leaves engine state step h lawful built room

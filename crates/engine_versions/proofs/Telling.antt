@@ -4,7 +4,7 @@ use Rattle.std.specs.Prelude.{◌==◌, filter, find, fold, is_none, is_some, op
 use Rattle.std.specs.List.{AllByRecursion, list_any}
 use Rattle.database_state.specs.Table.{Table, table_with_id}
 use Rattle.database_state.specs.State.{DatabaseState, LiveSession, PastChange, Status, Transaction, uncommitted, committed, undone, levels, transaction_of}
-use Rattle.database_state.specs.View.{view}
+use Rattle.database_state.specs.View.{view, view_in}
 use Rattle.record_changes.specs.Records.{Records, after_item, records_after_items, records_of}
 use Rattle.record_changes.proofs.Tests.{impossible, same_number}
 use Rattle.version_history.specs.History.{IsOpenIn, IsPlaced, IsPlacedBy, without_rows}
@@ -39,6 +39,13 @@ view_seen finds engine state h session =
     (seen_defined (reader_in session engine.sessions) engine.store.held engine.store.tables ∙ h.holds.defined ∙ sym viewed)
     (ids_rise_alike (view state session) state.tables viewed h.reached.order.ids)
     (table_seen finds engine state h session)
+
+outside_view : (state : DatabaseState) (session : ℕ) → transaction_of state session ≡ None → view state session ≡ state.tables
+unfolding view
+outside_view state session e = ap (view_in state session) e
+
+pub outside_seen : FindsItsRecord → (engine : EngineState) (state : DatabaseState) → HoldsState engine state → (session : ℕ) → (levels state session == 0) ≡ true → seen_tables (reader_in session engine.sessions) engine.store ≡ state.tables
+outside_seen finds engine state h session e = view_seen finds engine state h session ∙ outside_view state session (outside h.base h.dropped h.kept state h.reached.history session e)
 
 -- ---- no transaction is open
 

@@ -1,5 +1,5 @@
 -- When an engine with versions holds a database state.
-use Rattle.std.specs.Prelude.{◌≡◌, ℕ, true, List, map}
+use Rattle.std.specs.Prelude.{◌≡◌, ℕ, ◌==◌, true, List, map, if◌then◌else◌}
 use Rattle.database_state.specs.State.{DatabaseState, PastChange}
 use Rattle.record_changes.specs.Records.{Records}
 use Rattle.version_history.specs.History.{EachTwo, LabelsRise}
@@ -40,3 +40,15 @@ pub record HoldsInStep (engine : EngineState) (session : ℕ) (local : LocalStat
   pub state : DatabaseState
   pub holds : HoldsState engine state
   pub in_step : IsInStep state session local
+
+-- ---- all sessions
+
+-- a state that the engine holds, with which the own states of all sessions are in step
+pub record HoldsAllInStep (engine : EngineState) (locals : ℕ → LocalState) : Type 0 where
+  pub state : DatabaseState
+  pub holds : HoldsState engine state
+  pub in_step : (session : ℕ) → IsInStep state session (locals session)
+
+-- the own states of the sessions with that of one changed
+abbrev pub with_local : ℕ → LocalState → (ℕ → LocalState) → ℕ → LocalState
+with_local session local locals other = if other == session then local else locals other

@@ -1,6 +1,7 @@
 //! Answers.
 
-ghost use Rattle.std.specs.Prelude.{◌≡◌, ℕ, true, Some, None};
+ghost use Rattle.std.specs.Prelude.{◌≡◌, ℕ, true};
+ghost use Rattle.std.specs.List.{AllByRecursion};
 ghost use Rattle.index_derive.specs.Steps.{entries_of_step};
 ghost use Rattle.database_state.specs.State.{DatabaseState};
 ghost use Rattle.database_state.specs.Step.{state_after_all};
@@ -11,11 +12,11 @@ ghost use Rattle.lawful_answers.specs.LawfulSteps.{HasLawfulStep};
 ghost use Rattle.agreeing_sessions.specs.InStep.{IsInStep, StaysInStep};
 ghost use Rattle.engine_versions.specs.BuiltCalls.{is_built_request};
 ghost use Rattle.engine_versions.specs.BuiltTables.{AllMakeBuilt};
-ghost use Rattle.engine_versions.specs.EngineState.{EngineState};
+ghost use Rattle.engine_versions.specs.EngineState.{EngineState, HasRoomForEnds};
 ghost use Rattle.engine_versions.specs.EngineSteps.{engine_after_answer};
-ghost use Rattle.engine_versions.specs.HoldsState.{HoldsInStep, HoldsState, asked_of};
+ghost use Rattle.engine_versions.specs.HoldsState.{HoldsAllInStep, HoldsInStep, HoldsState, asked_of, with_local};
 
-use crate::entries::a_lawful_step_makes_the_next_state;
+use crate::entries::{a_lawful_step_makes_the_next_state, ends_always_find_room};
 use index_derive::{a_primary_index_has_one_entry, entries_rise};
 use session_local::local_calls_keep_well_formed;
 
@@ -31,19 +32,26 @@ pub fn an_answer_is_lawful_and_stays_in_step()
     local_calls_keep_well_formed();
 }
 
-/// The entries of an answer make only what is built.
+/// The entries of an answer make only what is built, and are of the session that was answered.
 pub fn an_answer_makes_what_is_built()
-    ensures { (engine : EngineState) (state : DatabaseState) (session : ℕ) (local : LocalState) (request : Request) → is_built_request request ≡ true → AllMakeBuilt (entries_of_step (answer (asked_of engine state session local) request).step) }
+    ensures built { (engine : EngineState) (state : DatabaseState) (session : ℕ) (local : LocalState) (request : Request) → is_built_request request ≡ true → AllMakeBuilt (entries_of_step (answer (asked_of engine state session local) request).step) }
+    ensures own { (engine : EngineState) (state : DatabaseState) (session : ℕ) (local : LocalState) (request : Request) → is_built_request request ≡ true
+        → AllByRecursion (λ made. made.session.0 ≡ session) (entries_of_step (answer (asked_of engine state session local) request).step) }
 {}
 
-/// So the engine holds the state after an answer, and the session is in step with it.
+/// So the engine holds the state after an answer, and the session is in step with it, as are all others that were.
 pub fn an_answer_is_held_in_step()
     ensures holds { (engine : EngineState) (state : DatabaseState) → HoldsState engine state → (session : ℕ) (local : LocalState) (request : Request) → IsInStep state session local → is_built_request request ≡ true
         → HoldsState (engine_after_answer engine (answer (asked_of engine state session local) request).step) (state_after_all state (entries_of_step (answer (asked_of engine state session local) request).step)) }
+    ensures room { (engine : EngineState) (state : DatabaseState) → HoldsState engine state → (session : ℕ) (local : LocalState) (request : Request) → IsInStep state session local → is_built_request request ≡ true → HasRoomForEnds engine
+        → HasRoomForEnds (engine_after_answer engine (answer (asked_of engine state session local) request).step) }
     ensures in_step { (engine : EngineState) (session : ℕ) (local : LocalState) (request : Request) (h : HoldsInStep engine session local) → is_built_request request ≡ true
         → HoldsInStep (engine_after_answer engine (answer (asked_of engine h.state session local) request).step) session (answer (asked_of engine h.state session local) request).local }
+    ensures all { (engine : EngineState) (locals : ℕ → LocalState) (session : ℕ) (request : Request) (h : HoldsAllInStep engine locals) → is_built_request request ≡ true
+        → HoldsAllInStep (engine_after_answer engine (answer (asked_of engine h.state session (locals session)) request).step) (with_local session (answer (asked_of engine h.state session (locals session)) request).local locals) }
 {
     an_answer_is_lawful_and_stays_in_step();
     an_answer_makes_what_is_built();
     a_lawful_step_makes_the_next_state();
+    ends_always_find_room();
 }

@@ -7,13 +7,15 @@ ghost use Rattle.version_keys.specs.TableOrder.{HasTablesInOrder};
 ghost use Rattle.version_keys.specs.UniqueKeys.{IsUniqueTable};
 ghost use Rattle.version_records.specs.Bookmarks.{StandsUnder};
 ghost use Rattle.version_records.specs.StoredRecords.{IsStored};
+ghost use Rattle.session_local.specs.Local.{no_session};
 ghost use Rattle.engine_versions.specs.BuiltTables.{are_built, have_own_numbers};
 ghost use Rattle.engine_versions.specs.EngineState.{HasRoomForEnds, empty_engine, engine_of};
-ghost use Rattle.engine_versions.specs.HoldsState.{HoldsState};
+ghost use Rattle.engine_versions.specs.HoldsState.{HoldsAllInStep, HoldsState};
 
-/// An empty engine holds the empty state.
+/// An empty engine holds the empty state, and all sessions that have not begun are in step with it.
 pub fn an_empty_engine_holds_the_empty_state()
     ensures holds { (limit : ℕ) → HoldsState (empty_engine limit) empty_state }
+    ensures in_step { (limit : ℕ) → HoldsAllInStep (empty_engine limit) (λ session. no_session) }
     ensures room { (limit : ℕ) → HasRoomForEnds (empty_engine limit) }
 {}
 

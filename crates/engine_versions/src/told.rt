@@ -47,10 +47,11 @@ pub fn tables_are_told()
     ensures schema { (engine : EngineState) (state : DatabaseState) → HoldsState engine state → (table : ℕ) → option_map schema_of (table_with_id engine.store.tables table) ≡ option_map schema_of (table_with_id state.tables table) }
 {}
 
-/// A session is shown its view.
+/// A session is shown its view, which outside a transaction is the committed tables.
 pub fn a_session_sees_its_view()
     ensures table { (engine : EngineState) (state : DatabaseState) → HoldsState engine state → (session table : ℕ) → table_with_id (seen_tables (reader_in session engine.sessions) engine.store) table ≡ table_with_id (view state session) table }
     ensures tables { (engine : EngineState) (state : DatabaseState) → HoldsState engine state → (session : ℕ) → seen_tables (reader_in session engine.sessions) engine.store ≡ view state session }
+    ensures outside { (engine : EngineState) (state : DatabaseState) → HoldsState engine state → (session : ℕ) → (levels state session == 0) ≡ true → seen_tables (reader_in session engine.sessions) engine.store ≡ state.tables }
 {
     a_session_finds_its_very_record();
 }
