@@ -1,6 +1,6 @@
 //! Numbers as a script writes them.
 
-ghost use Rattle.std.specs.Prelude.{◌≡◌, ℕ, pos, neg_ℤ, ◌≤ℤ◌, ◌<ℤ◌, ◌^◌, ◌-◌, ◌<◌, ◌≤◌, Some, IfOk, MatchResult};
+ghost use Rattle.std.specs.Prelude.{◌≡◌, ℕ, pos, neg_ℤ, ◌≤ℤ◌, ◌<ℤ◌, ◌^◌, ◌-◌, ◌<◌, ◌≤◌, Some, IfOk, IsOkUnless, MatchResult};
 ghost use Rattle.script_words.specs.Reading.{Reads};
 ghost use Rattle.script_words.specs.Words.{number_from, is_badly_led, number_within, label_of, signed_number_of};
 
@@ -13,9 +13,10 @@ const GREATEST: u64 = 9_223_372_036_854_775_808;
 /// The number that decimal digits stand for, if it is at most `most`.
 fn digits_up_to(most: u64, digits: &[u8]) -> Result<u64, Refusal>
     requires { most ≤ GREATEST }
-    ensures { MatchResult result
+    ensures number { MatchResult result
         (λ n. (number_from 0 digits.now ≡ Some n) × (n ≤ most))
         (λ _. (n : ℕ) → number_from 0 digits.now ≡ Some n → most < n) }
+    ensures bad { IsOkUnless result Refusal.Bad }
 {
     let mut number: u64 = 0;
     for digit in digits {
@@ -49,6 +50,8 @@ pub fn number_within(least: u64, most: u64, word: &[u8]) -> Result<u64, Refusal>
     requires { most ≤ GREATEST }
     ensures number { Reads (λ n. n) result (number_within least most word.now) }
     ensures most { IfOk result (λ n. n ≤ most) }
+    // It takes no memory.
+    ensures bad { IsOkUnless result Refusal.Bad }
 {
     if is_badly_led(word) {
         return Err(Refusal::Bad);
