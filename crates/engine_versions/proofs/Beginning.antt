@@ -1,5 +1,5 @@
 -- An engine of tables alone.
-use Rattle.std.proofs.Common.{◌≡◌, ℕ, true, List, [], map, refl, sym, ap, subst}
+use Rattle.std.proofs.Common.{◌≡◌, ℕ, ◌+◌, ◌^◌, ◌≤◌, true, List, [], map, refl, sym, ap, subst, arith}
 use Rattle.std.specs.Prelude.{IfSome}
 use Rattle.database_state.specs.Table.{row_at, schema_of, table_with_id}
 use Rattle.database_state.specs.State.{DatabaseState, empty_state}
@@ -15,7 +15,7 @@ use Rattle.versioned_tables.proofs.Alone.{alone_holds}
 use Rattle.versioned_tables.proofs.TablesInOrder.{in_order_rise}
 use Rattle.lawful_answers.proofs.ReachedStates.{begins}
 use Rattle.engine_versions.specs.BuiltTables.{are_built, have_own_numbers}
-use Rattle.engine_versions.specs.EngineState.{empty_engine, engine_of}
+use Rattle.engine_versions.specs.EngineState.{HasRoomForEnds, empty_engine, engine_of}
 use Rattle.engine_versions.specs.HoldsState.{HoldsState}
 
 pub tables_hold : (limit : ℕ) (state : DatabaseState) → state.sessions ≡ [] → state.past ≡ [] → HasTablesInOrder state → ((id : ℕ) → IfSome (table_with_id state.tables id) IsUniqueTable)
@@ -39,3 +39,12 @@ tables_hold limit state sessions past order unique marks stored built columns = 
 
 pub empty_holds : (limit : ℕ) → HoldsState (empty_engine limit) empty_state
 empty_holds limit = tables_hold limit empty_state refl refl (record { ids = tt; given = tt; rows = tt }) (λ id. tt) (λ id. tt) (λ id. tt) refl refl
+
+pub tables_have_room : (limit : ℕ) (state : DatabaseState) → state.number ≤ 2 ^ 35 + 1 → HasRoomForEnds (engine_of limit state)
+tables_have_room limit state h = record { begun = least state.number; room = same state.number (2 ^ 35 + 1) h }
+  where
+    least : (n : ℕ) → 0 ≤ n
+    least n = omega arith
+
+    same : (n b : ℕ) → n ≤ b → n + 0 ≤ b
+    same n b h = omega (arith, h)
