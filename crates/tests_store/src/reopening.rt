@@ -50,7 +50,9 @@ pub fn reopen(
             if number == 0 {
                 return Err(());
             }
-            let acknowledged = seal_flush_checkpoint_flush(&mut store, first, image, second).is_ok();
+            let acknowledged = seal_flush_checkpoint_flush(
+                &mut store, first, image, second,
+            ).is_ok();
             match store.into_volume().crash(pick, Vec::new(alloc), None) {
                 Ok(left) => match Store::open(alloc, left) {
                     Ok((_found_after, after, store_after)) => {
