@@ -18,3 +18,4 @@ pub mod WithKey
 pub mod KeyConflicts
 pub mod RecordConflicts
 pub mod StoredConflicts
+pub mod RisingKeys

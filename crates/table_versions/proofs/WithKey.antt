@@ -28,7 +28,7 @@ none_within p test out (x ∷ xs) = by (p x) refl (none_within p test out xs)
     by true e rest = ap (λ b. b || list_any test (filter p xs)) (out x e) ∙ rest
     by false e rest = rest
 
-filter_alike : (q r : Pair → Bool) (xs : List Pair) → AllByRecursion (λ y. q y ≡ r y) xs → filter q xs ≡ filter r xs
+pub filter_alike : {X : Type 0} (q r : X → Bool) (xs : List X) → AllByRecursion (λ y. q y ≡ r y) xs → filter q xs ≡ filter r xs
 filter_alike q r [] h = refl
 filter_alike q r (x ∷ xs) h = λ i. cond (h.0 i) (x ∷ filter_alike q r xs h.1 i) (filter_alike q r xs h.1 i)
 

@@ -8,6 +8,7 @@ mod keys;
 mod reading;
 mod store;
 mod telling;
+mod unique;
 mod walking;
 
 pub use store::TableVersions;
