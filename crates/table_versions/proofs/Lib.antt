@@ -19,3 +19,4 @@ pub mod KeyConflicts
 pub mod RecordConflicts
 pub mod StoredConflicts
 pub mod RisingKeys
+pub mod AskedOfTheState

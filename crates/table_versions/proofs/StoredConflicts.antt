@@ -28,7 +28,7 @@ use Rattle.table_versions.specs.VersionsKept.{AreKept, IsBookmarkOf, IsKeptChang
 use Rattle.table_versions.specs.VersionsView.{stored_versions, with_newest}
 use Rattle.table_versions.proofs.KeyConflicts.{conflict_at_entries, conflict_under_one}
 use Rattle.table_versions.proofs.SeenRecords.{before_is_row}
-use Rattle.table_versions.proofs.StoredRules.{IsLegalRule, stored_rule}
+use Rattle.table_versions.proofs.StoredRules.{IsLegalRule, rule_at, stored_rule}
 use Rattle.table_versions.proofs.Tables.{found_number, newest_at, table_at}
 use Rattle.table_versions.proofs.WithKey.{has_key_and}
 
@@ -79,6 +79,15 @@ rule_in_store catalog trees held kept now shows table schema known rule found =
   where
     P : StoredVersions → ℕ → Schema → Type 0
     P v n s = (rule : IndexRule) → rule_with_id s rule.id.0 ≡ Some rule → IsLegalRule s rule
+
+-- and a rule that stands in the schema is found by its number
+pub rule_is_found : (catalog : CatalogState) (trees : List StoredTable) (held : List HeldChange) → AreKept catalog.tables trees held → (now : StoredVersions) → stored_versions catalog trees held ≡ now
+    → (table : ℕ) (schema : Schema) → IsSomeAnd (table_with_id now.store.tables table) (λ t. schema ≡ schema_of t) → (place : ℕ) (rule : IndexRule) → slice_get schema.indexes place ≡ Some rule → rule_with_id schema rule.id.0 ≡ Some rule
+rule_is_found catalog trees held kept now shows table schema known place rule at =
+    in_store P catalog trees held kept (λ t named is place rule e. (rule_at t place rule is.rules e).found) now shows table schema known place rule at
+  where
+    P : StoredVersions → ℕ → Schema → Type 0
+    P v n s = (place : ℕ) (rule : IndexRule) → slice_get s.indexes place ≡ Some rule → rule_with_id s rule.id.0 ≡ Some rule
 
 -- ---- an index with a tree
 

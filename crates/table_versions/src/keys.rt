@@ -1,12 +1,10 @@
 //! Keys of records: conflicts over them with the changes of other sessions, and keys that another record of the view has.
 
-ghost use Rattle.std.specs.Prelude.{◌≡◌, ℕ, ◌≤◌, ◌<◌, ◌&&◌, ◌||◌, false, length, map, slice_get, true, IsSomeAnd, Some, option_copied, option_map};
+ghost use Rattle.std.specs.Prelude.{◌≡◌, ◌≤◌, ◌<◌, ◌&&◌, ◌||◌, false, length, map, slice_get, true, IsSomeAnd, Some, option_copied, option_map};
 ghost use Rattle.column_set.specs.Rows.{here_fields};
 ghost use Rattle.database_state.specs.Conflicts.{yields_key};
 ghost use Rattle.database_state.specs.Puts.{is_replaced};
 ghost use Rattle.database_state.specs.Table.{record_in, rule_with_id, schema_of, table_with_id};
-ghost use Rattle.index_derive.specs.declared.rules.IndexRule.{IndexRule};
-ghost use Rattle.index_derive.specs.declared.rules.Schema.{Schema};
 ghost use Rattle.index_derive.specs.Entries.{is_legal};
 ghost use Rattle.version_store.specs.HeldChanges.{HeldChange};
 ghost use Rattle.versioned_tables.specs.HeldRecords.{has_key_conflict};
@@ -47,13 +45,6 @@ impl TableVersions {
         } else {
             self.conflict_at_entries(reader, table, schema, rule, key)
         }
-    }
-
-    // A rule of a table is legal, and its keys are short.
-    pub(crate) fn rules_are_legal(&self)
-        ensures { (table : ℕ) (schema : Schema) (rule : IndexRule) → IsSomeAnd (table_with_id self.now.store.tables table) (λ t. schema ≡ schema_of t) → rule_with_id schema rule.id.0 ≡ Some rule → (is_legal rule schema ≡ true) × (rule.key_most ≤ 255) }
-    {
-        let _ = &self.catalog;
     }
 
     // The same for an index that has a tree.

@@ -12,3 +12,4 @@ mod unique;
 mod walking;
 
 pub use store::TableVersions;
+pub use unique::unique_keys_are_asked_as_of_the_state;

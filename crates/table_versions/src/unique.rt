@@ -1,13 +1,23 @@
 //! What an update asks of a unique index.
 
-ghost use Rattle.std.specs.Prelude.{◌≡◌, ◌≤◌, ◌&&◌, not, true, IsOk, IsSomeAnd, Some, option_copied, option_map};
+ghost use Rattle.std.specs.Prelude.{◌≡◌, ℕ, ◌≤◌, ◌&&◌, not, true, List, [], ◌∷◌, IsOk, IsSomeAnd, Option, Some, option_copied, option_map};
 ghost use Rattle.std.specs.List.{list_any};
+ghost use Rattle.jet_base.specs.declared.replies.Jet.TheVariants as jet;
+ghost use Rattle.column_set.specs.RecordValues.{RecordFields};
 ghost use Rattle.column_set.specs.Refusals.{first_refusal};
 ghost use Rattle.column_set.specs.Rows.{here_fields};
-ghost use Rattle.database_state.specs.Conflicts.{yields_key};
-ghost use Rattle.database_state.specs.Puts.{new_keys};
-ghost use Rattle.database_state.specs.Table.{rule_with_id, schema_of, table_with_id};
+ghost use Rattle.database_state.specs.Conflicts.{has_key_conflict, yields_key};
+ghost use Rattle.database_state.specs.Puts.{is_taken, new_keys, replaced_record};
+ghost use Rattle.database_state.specs.State.{DatabaseState, PastChange, transaction_of};
+ghost use Rattle.database_state.specs.Table.{Table, rule_with_id, schema_of, table_with_id};
+ghost use Rattle.database_state.specs.View.{view};
+ghost use Rattle.index_derive.specs.declared.rules.IndexRule.{IndexRule};
 ghost use Rattle.index_derive.specs.Entries.{entries, is_legal, key_list};
+ghost use Rattle.record_changes.specs.Records.{Records};
+ghost use Rattle.version_keys.specs.Variants.{HasNoSums};
+ghost use Rattle.version_store.specs.declared.calls.Reader.{Reader};
+ghost use Rattle.versioned_tables.specs.Holding.{Holds, begin_of};
+ghost use Rattle.versioned_tables.specs.VersionedTables.{VersionedTables};
 ghost use Rattle.table_versions.specs.KeyConflicts.{has_conflict_over, is_taken_for, replaced_seen, unique_refusals};
 
 use crate::store::TableVersions;
@@ -17,6 +27,10 @@ use index_derive::{IndexRule, Schema, entries_rise};
 use jet_base::{Jet, TableId};
 use key_normal::Key;
 use version_store::Reader;
+use versioned_tables::{
+    a_reader_finds_the_records_that_it_is_shown, a_session_is_shown_its_view,
+    held_changes_tell_key_conflicts,
+};
 
 impl TableVersions {
     /// Why a record may not be put for its keys in a unique index, which does not refuse the record itself: first a key conflict
@@ -147,4 +161,19 @@ fn lacks_key(rule: &IndexRule, schema: &Schema, row: &Option<RowRef<'_>>, key: &
         Some(row) => !yields(rule, schema, row, key),
         None => true,
     }
+}
+
+/// What an update asks of a unique index by the held changes is what it asks of the state: the table is one of the session's
+/// view, and no escrow column was changed.
+pub fn unique_keys_are_asked_as_of_the_state()
+    ensures { (base : Records) (dropped kept : List PastChange) (store : VersionedTables) (state : DatabaseState) → Holds base dropped kept store state → HasNoSums kept
+        → (reader : Reader) → reader.begin ≡ begin_of (transaction_of state reader.session.0)
+        → (table : ℕ) (seen : Table) → table_with_id (view state reader.session.0) table ≡ Some seen → (rule : IndexRule) (own : Option (List ℕ)) (values : RecordFields)
+        → unique_refusals reader store table (schema_of seen) rule own values
+        ≡ (list_any (has_key_conflict state reader.session.0 table (schema_of seen) rule) (new_keys rule (schema_of seen) (replaced_record seen.rows own) values), jet.WriteConflict)
+        ∷ (list_any (is_taken (schema_of seen) seen.rows rule own) (key_list rule (schema_of seen) values), jet.KeyDuplicate) ∷ [] }
+{
+    held_changes_tell_key_conflicts();
+    a_session_is_shown_its_view();
+    a_reader_finds_the_records_that_it_is_shown();
 }
