@@ -3,11 +3,10 @@ use Rattle.std.proofs.Common.{◌≡◌, ℕ, zero, suc, Bool, true, false, not,
 use Rattle.std.specs.Prelude.{◌==◌, bytes_eq, slice_get, unwrap_or, IfSome, IsSomeAnd, MatchOption}
 use Rattle.std.specs.List.{AllByRecursion, list_any}
 use Rattle.column_set.specs.RecordValues.{RecordFields, has_value}
-use Rattle.cursor_nav.specs.Places.{Pair, are_sorted}
+use Rattle.cursor_nav.specs.Places.{are_sorted}
 use Rattle.database_state.specs.Conflicts.{yields_key}
 use Rattle.database_state.specs.State.{is_undone}
 use Rattle.database_state.specs.Table.{Table, primary_rule, record_in, row_at, rows_of, rule_with_id, schema_of, table_with_id}
-use Rattle.derived_index.specs.KeptEntries.{has_entry}
 use Rattle.index_derive.specs.declared.rules.IndexRule.{IndexRule}
 use Rattle.index_derive.specs.declared.rules.Schema.{Schema}
 use Rattle.index_derive.specs.Entries.{NullKeyDisallowed, KeyTruncated, entries, is_legal, key_columns, keys_or_none, primary_key, whole_key}
@@ -24,7 +23,7 @@ use Rattle.versioned_tables.specs.Variants.{HoldsVariants, is_variant_key}
 use Rattle.table_versions.specs.KeyConflicts.{AreRowsBefore, conflicts_under}
 use Rattle.table_versions.specs.RecordRows.{held_record, record_of, row_under, rows_of_nodes}
 use Rattle.table_versions.specs.StoredVersions.{StoredVersions}
-use Rattle.table_versions.specs.VersionsKept.{AreKept, IsBookmarkOf, IsKeptChange, IsKeptTable, IsRowUnder, only_secondary, secondary_rule}
+use Rattle.table_versions.specs.VersionsKept.{AreKept, IsKeptChange, IsKeptTable, IsRowUnder, only_secondary}
 use Rattle.table_versions.specs.VersionsView.{stored_versions, with_newest}
 use Rattle.table_versions.proofs.KeyConflicts.{conflict_at_entries, conflict_under_one}
 use Rattle.table_versions.proofs.SeenRecords.{before_is_row}

@@ -1,4 +1,4 @@
-use Rattle.std.proofs.Common.{List, ℕ, Bool, Option, not, ◌&&◌, ◌≡◌, option_map, sym, ap, ◌∙◌}
+use Rattle.std.proofs.Common.{List, ℕ, Bool, Option, not, ◌&&◌, sym, ap, ◌∙◌}
 use Rattle.std.specs.Prelude.{option_copied}
 use Rattle.column_set.specs.RecordValues.{RecordFields}
 use Rattle.database_state.specs.Conflicts.{yields_key}

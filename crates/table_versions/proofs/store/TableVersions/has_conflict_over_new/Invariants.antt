@@ -1,4 +1,4 @@
-use Rattle.std.proofs.Common.{List, ℕ, not, ◌&&◌, option_map}
+use Rattle.std.proofs.Common.{List, ℕ, not, ◌&&◌}
 use Rattle.std.specs.Prelude.{option_copied}
 use Rattle.database_state.specs.Conflicts.{yields_key}
 use Rattle.index_derive.specs.Entries.{key_list}

@@ -1,6 +1,5 @@
-use Rattle.std.proofs.Common.{List, ℕ, Bool, sym, ap, ◌∙◌}
+use Rattle.std.proofs.Common.{List, ℕ, Bool, sym, ◌∙◌}
 use Rattle.std.specs.Prelude.{option_copied}
-use Rattle.index_derive.specs.Derived.{next_in}
 use Rattle.index_derive.specs.Entries.{key_list}
 use Rattle.table_versions.specs.KeyConflicts.{is_taken_for}
 use Rattle.table_versions.proofs.RisingKeys.{fewer_keys, keys_begin, keys_end, keys_find, keys_go_on}
