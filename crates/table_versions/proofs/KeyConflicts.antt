@@ -8,7 +8,7 @@ use Rattle.database_state.specs.Conflicts.{yields_key}
 use Rattle.derived_index.specs.KeptEntries.{has_entry}
 use Rattle.index_derive.specs.declared.rules.IndexRule.{IndexRule}
 use Rattle.index_derive.specs.declared.rules.Schema.{Schema}
-use Rattle.record_changes.proofs.Tests.{and_both, and_left, and_right, equal_bytes, impossible, same_bytes, same_number, self_equal}
+use Rattle.record_changes.proofs.Tests.{and_both, and_left, and_right, equal_bytes, impossible, same_bytes, same_number}
 use Rattle.version_store.specs.declared.calls.Reader.{Reader}
 use Rattle.versioned_tables.specs.HeldRecords.{HeldRecord, before_or, has_key_conflict, is_change_at, is_concurrent, is_standing_rewrite, next_variant}
 use Rattle.versioned_tables.specs.Variants.{is_variant_key}

@@ -25,3 +25,5 @@ pub mod WithKey
 pub mod KeyConflicts
 pub mod RecordConflicts
 pub mod StoredConflicts
+pub mod KeyWalks
+pub mod AskedOfTheState

@@ -9,15 +9,15 @@ use Rattle.table_versions.proofs.Lists.{all_filter, filter_none}
 use Rattle.record_changes.proofs.Tests.{and_left, and_right, impossible}
 use Rattle.table_versions.proofs.Order.{beyond_more, lt_trans, not_back, not_itself, short_more}
 
-same_some : (x y : Pair) → Some x ≡ Some y → x ≡ y
-same_some x y e = ap (λ (o : Option Pair). unwrap_or o x) e
+same_some : {X : Type 0} (x y : X) → Some x ≡ Some y → x ≡ y
+same_some {X} x y e = ap (λ (o : Option X). unwrap_or o x) e
 
-none_some : {A : Type 0} (x : Pair) → None ≡ Some x → A
+none_some : {A : Type 0} {X : Type 0} (x : X) → None ≡ Some x → A
 none_some x e = cc
 
 -- ---- members
 
-abbrev pub IsIn : Pair → List Pair → Type 0
+abbrev pub IsIn : {X : Type 0} → X → List X → Type 0
 IsIn e [] = ⊥
 IsIn e (x ∷ xs) = (x ≡ e) ⊎ IsIn e xs
 
@@ -27,7 +27,7 @@ all_in p e (x ∷ xs) h (inl same) = sym (ap p same) ∙ and_left (p x) _ h
 all_in p e (x ∷ xs) h (inr later) = all_in p e xs (and_right (p x) _ h) later
 
 -- what was found is there and passes
-pub found_in : (q : Pair → Bool) (e : Pair) (xs : List Pair) → find q xs ≡ Some e → IsIn e xs × (q e ≡ true)
+pub found_in : {X : Type 0} (q : X → Bool) (e : X) (xs : List X) → find q xs ≡ Some e → IsIn e xs × (q e ≡ true)
 found_in q e [] h = none_some e h
 found_in q e (x ∷ xs) h = by (q x) refl h (found_in q e xs)
   where
@@ -57,7 +57,7 @@ last_in q e xs h = elim (last_found q e None xs h) [ inl none ↦ none_some e no
 
 -- ---- fewer entries beyond the next one
 
-no_more : (q r : Pair → Bool) → ((y : Pair) → q y ≡ true → r y ≡ true) → (xs : List Pair) → length (filter q xs) ≤ length (filter r xs)
+no_more : {X : Type 0} (q r : X → Bool) → ((y : X) → q y ≡ true → r y ≡ true) → (xs : List X) → length (filter q xs) ≤ length (filter r xs)
 no_more q r sub [] = omega arith
 no_more q r sub (x ∷ xs) = by (q x) (r x) refl refl (no_more q r sub xs)
   where
@@ -67,7 +67,7 @@ no_more q r sub (x ∷ xs) = by (q x) (r x) refl refl (no_more q r sub xs)
     by false true s t rest = omega (arith, rest)
     by false false s t rest = rest
 
-fewer : (q r : Pair → Bool) (e : Pair) → ((y : Pair) → q y ≡ true → r y ≡ true) → q e ≡ false → r e ≡ true → (xs : List Pair) → IsIn e xs → length (filter q xs) < length (filter r xs)
+pub fewer : {X : Type 0} (q r : X → Bool) (e : X) → ((y : X) → q y ≡ true → r y ≡ true) → q e ≡ false → r e ≡ true → (xs : List X) → IsIn e xs → length (filter q xs) < length (filter r xs)
 fewer q r e sub out within [] i = absurd i
 fewer q r e sub out within (x ∷ xs) (inl same) =
     by (q x) (r x) (ap q same ∙ out) (ap r same ∙ within) (no_more q r sub xs)

@@ -55,7 +55,7 @@ lt_of a b h = ap is_lt h
 le_of_lt : (a b : List ℕ) → bytes_lt a b ≡ true → bytes_le a b ≡ true
 le_of_lt a b h = ap is_le (is_less (slice_cmp nat_cmp a b) h)
 
-lt_lt : (a b c : List ℕ) → bytes_lt a b ≡ true → bytes_lt b c ≡ true → bytes_lt a c ≡ true
+pub lt_lt : (a b c : List ℕ) → bytes_lt a b ≡ true → bytes_lt b c ≡ true → bytes_lt a c ≡ true
 lt_lt a b c h g = lt_of a c (nat_list_cmp_total.trans a b c (is_less (slice_cmp nat_cmp a b) h) (is_less (slice_cmp nat_cmp b c) g))
 
 pub lt_le : (a b c : List ℕ) → bytes_lt a b ≡ true → bytes_le b c ≡ true → bytes_lt a c ≡ true

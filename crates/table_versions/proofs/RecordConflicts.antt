@@ -1,6 +1,6 @@
 -- Going over the held changes of one record, from the newest back.
 use Rattle.std.proofs.Common.{◌≡◌, ℕ, zero, suc, ◌<◌, Bool, true, false, not, ◌&&◌, ◌||◌, cond, List, [], ◌∷◌, length, Option, Some, None, find, map, drop, take, option_map, refl, sym, ap, subst, ◌∙◌, arith}
-use Rattle.std.specs.Prelude.{◌==◌, bytes_eq, slice_get, unwrap_or, IfSome}
+use Rattle.std.specs.Prelude.{◌==◌, slice_get, unwrap_or, IfSome}
 use Rattle.database_state.specs.Conflicts.{yields_key}
 use Rattle.database_state.specs.State.{is_undone}
 use Rattle.index_derive.specs.declared.rules.IndexRule.{IndexRule}
@@ -8,7 +8,7 @@ use Rattle.index_derive.specs.declared.rules.Schema.{Schema}
 use Rattle.record_changes.proofs.Tests.{and_false, and_left, and_right, same_bytes, same_number}
 use Rattle.version_store.specs.declared.calls.Reader.{Reader}
 use Rattle.version_store.specs.HeldChanges.{HeldChange, is_concurrent, is_record, is_rewrite, is_standing, last_place, later_place}
-use Rattle.versioned_tables.specs.HeldRecords.{HeldRecord, is_standing_rewrite}
+use Rattle.versioned_tables.specs.HeldRecords.{is_standing_rewrite}
 use Rattle.table_versions.specs.KeyConflicts.{conflicts_under, next_yields, yields_before, yields_before_change}
 use Rattle.table_versions.specs.RecordRows.{held_record, record_of}
 

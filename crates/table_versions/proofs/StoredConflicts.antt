@@ -3,11 +3,10 @@ use Rattle.std.proofs.Common.{◌≡◌, ℕ, zero, suc, Bool, true, false, not,
 use Rattle.std.specs.Prelude.{◌==◌, bytes_eq, slice_get, unwrap_or, IfSome, IsSomeAnd, MatchOption}
 use Rattle.std.specs.List.{AllByRecursion, list_any}
 use Rattle.column_set.specs.RecordValues.{RecordFields, has_value}
-use Rattle.cursor_nav.specs.Places.{Pair, are_sorted}
+use Rattle.cursor_nav.specs.Places.{are_sorted}
 use Rattle.database_state.specs.Conflicts.{yields_key}
 use Rattle.database_state.specs.State.{is_undone}
 use Rattle.database_state.specs.Table.{Table, primary_rule, record_in, row_at, rows_of, rule_with_id, schema_of, table_with_id}
-use Rattle.derived_index.specs.KeptEntries.{has_entry}
 use Rattle.index_derive.specs.declared.rules.IndexRule.{IndexRule}
 use Rattle.index_derive.specs.declared.rules.Schema.{Schema}
 use Rattle.index_derive.specs.Entries.{NullKeyDisallowed, KeyTruncated, entries, is_legal, key_columns, keys_or_none, primary_key, whole_key}
@@ -24,11 +23,11 @@ use Rattle.versioned_tables.specs.Variants.{HoldsVariants, is_variant_key}
 use Rattle.table_versions.specs.KeyConflicts.{AreRowsBefore, conflicts_under}
 use Rattle.table_versions.specs.RecordRows.{held_record, record_of, row_under, rows_of_nodes}
 use Rattle.table_versions.specs.StoredVersions.{StoredVersions}
-use Rattle.table_versions.specs.VersionsKept.{AreKept, IsBookmarkOf, IsKeptChange, IsKeptTable, IsRowUnder, only_secondary, secondary_rule}
+use Rattle.table_versions.specs.VersionsKept.{AreKept, IsKeptChange, IsKeptTable, IsRowUnder, only_secondary}
 use Rattle.table_versions.specs.VersionsView.{stored_versions, with_newest}
 use Rattle.table_versions.proofs.KeyConflicts.{conflict_at_entries, conflict_under_one}
 use Rattle.table_versions.proofs.SeenRecords.{before_is_row}
-use Rattle.table_versions.proofs.StoredRules.{IsLegalRule, stored_rule}
+use Rattle.table_versions.proofs.StoredRules.{IsLegalRule, rule_at, stored_rule}
 use Rattle.table_versions.proofs.Tables.{found_number, newest_at, table_at}
 use Rattle.table_versions.proofs.WithKey.{has_key_and}
 
@@ -42,7 +41,7 @@ rows_before tables trees [] kept place h e standing = none_some h e
 rows_before tables trees (x ∷ held) kept zero h e standing =
     let same : x ≡ h = ap (λ (o : Option HeldChange). unwrap_or o x) e in
     let is : IsKeptChange tables trees h = subst (IsKeptChange tables trees) same kept.0 in
-    before_is_row (table_with_id tables h.table) h.bookmark h.before is.named (is.before standing)
+    before_is_row (table_with_id tables h.table) h.bookmark h.before is.named (is.before (and_left (is_rewrite h.kind) (not (is_undone h.status)) standing))
 rows_before tables trees (x ∷ held) kept (suc place) h e standing = rows_before tables trees held kept.1 place h e standing
 
 -- ---- the table of a number
@@ -79,6 +78,15 @@ rule_in_store catalog trees held kept now shows table schema known rule found =
   where
     P : StoredVersions → ℕ → Schema → Type 0
     P v n s = (rule : IndexRule) → rule_with_id s rule.id.0 ≡ Some rule → IsLegalRule s rule
+
+-- and a rule that stands in the schema is found by its number
+pub rule_is_found : (catalog : CatalogState) (trees : List StoredTable) (held : List HeldChange) → AreKept catalog.tables trees held → (now : StoredVersions) → stored_versions catalog trees held ≡ now
+    → (table : ℕ) (schema : Schema) → IsSomeAnd (table_with_id now.store.tables table) (λ t. schema ≡ schema_of t) → (place : ℕ) (rule : IndexRule) → slice_get schema.indexes place ≡ Some rule → rule_with_id schema rule.id.0 ≡ Some rule
+rule_is_found catalog trees held kept now shows table schema known place rule at =
+    in_store P catalog trees held kept (λ t named is place rule e. (rule_at t place rule is.rules e).found) now shows table schema known place rule at
+  where
+    P : StoredVersions → ℕ → Schema → Type 0
+    P v n s = (place : ℕ) (rule : IndexRule) → slice_get s.indexes place ≡ Some rule → rule_with_id s rule.id.0 ≡ Some rule
 
 -- ---- an index with a tree
 
@@ -160,7 +168,7 @@ changed_key law tables trees t named rule key bookmark legal primary first (h �
         let own : h.bookmark ≡ bookmark = same_bytes h.bookmark bookmark (and_right (h.table == t.id) _ at) in
         let standing : is_standing h ≡ true = and_both (is_rewrite h.kind) (not (is_undone h.status)) (and_right (is_record t.id bookmark h) _ touched) (and_right (is_record t.id bookmark h && is_rewrite h.kind) _ rewrite) in
         let R : Option Table → List ℕ → Type 0 = λ o b. IfSome o (λ table. IfSome h.before (IsRowUnder table b)) in
-        let row : IfSome h.before (IsRowUnder t bookmark) = subst (λ (o : Option Table). R o bookmark) (ap (table_with_id tables) number ∙ named) (subst (R (table_with_id tables h.table)) own (kept.0.before standing)) in
+        let row : IfSome h.before (IsRowUnder t bookmark) = subst (λ (o : Option Table). R o bookmark) (ap (table_with_id tables) number ∙ named) (subst (R (table_with_id tables h.table)) own (kept.0.before (and_right (is_record t.id bookmark h) _ touched))) in
         row_key law t rule key bookmark legal primary first h.before row
         (sym (ap (λ b. yields_key rule (schema_of t) key (cond b (option_map record_of h.before) None)) standing) ∙ and_right (is_standing_rewrite t.id bookmark (held_record h)) _ e)
 

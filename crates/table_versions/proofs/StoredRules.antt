@@ -1,6 +1,6 @@
 -- The rules of a table's indexes.
-use Rattle.std.proofs.Common.{◌≡◌, ℕ, ◌≤◌, Bool, true, false, not, cond, List, [], ◌∷◌, Option, Some, None, filter, find, map, option_map, refl, sym, ap, subst}
-use Rattle.std.specs.Prelude.{◌==◌, IfSome, IsSomeAnd, unwrap_or}
+use Rattle.std.proofs.Common.{◌≡◌, ℕ, zero, suc, ◌≤◌, Bool, true, false, not, cond, List, [], ◌∷◌, Option, Some, None, filter, find, map, option_map, refl, sym, ap, subst}
+use Rattle.std.specs.Prelude.{◌==◌, slice_get, IfSome, IsSomeAnd, unwrap_or}
 use Rattle.std.specs.List.{AllByRecursion}
 use Rattle.database_state.specs.Table.{Table, rule_with_id, schema_of, table_with_id}
 use Rattle.table_versions.proofs.Lists.{all_append, all_filter}
@@ -16,7 +16,7 @@ use Rattle.table_versions.specs.VersionsKept.{AreKept, IsKeptTable, IsStoredRule
 use Rattle.table_versions.specs.VersionsView.{stored_versions, with_newest}
 use Rattle.table_versions.proofs.Tables.{table_at}
 
-found_all : {X : Type 0} (P : X → Type 0) (q : X → Bool) (x : X) (xs : List X) → AllByRecursion P xs → find q xs ≡ Some x → P x
+pub found_all : {X : Type 0} (P : X → Type 0) (q : X → Bool) (x : X) (xs : List X) → AllByRecursion P xs → find q xs ≡ Some x → P x
 found_all P q x [] all e = cc
 found_all {X} P q x (y ∷ xs) all e = by (q y) e (found_all P q x xs all.1)
   where
@@ -30,6 +30,18 @@ stored_rule table index rule all =
     found_all (IsStoredRule table) (λ r. r.id.0 == index) rule (schema_of table).indexes
     (all_append (IsStoredRule table) (filter (λ r. r.flags.primary) table.indexes) (filter (λ r. not r.flags.primary) table.indexes)
     (all_filter (IsStoredRule table) (λ r. r.flags.primary) table.indexes all) (all_filter (IsStoredRule table) (λ r. not r.flags.primary) table.indexes all))
+
+-- and so is one that stands in its schema
+pub rule_at : (table : Table) (place : ℕ) (rule : IndexRule) → AllByRecursion (IsStoredRule table) table.indexes → slice_get (schema_of table).indexes place ≡ Some rule → IsStoredRule table rule
+rule_at table place rule all =
+    all_at (schema_of table).indexes place
+    (all_append (IsStoredRule table) (filter (λ r. r.flags.primary) table.indexes) (filter (λ r. not r.flags.primary) table.indexes)
+    (all_filter (IsStoredRule table) (λ r. r.flags.primary) table.indexes all) (all_filter (IsStoredRule table) (λ r. not r.flags.primary) table.indexes all))
+  where
+    all_at : (rules : List IndexRule) (n : ℕ) → AllByRecursion (IsStoredRule table) rules → slice_get rules n ≡ Some rule → IsStoredRule table rule
+    all_at [] n h e = cc
+    all_at (r ∷ rules) zero h e = subst (IsStoredRule table) (ap (λ (o : Option IndexRule). unwrap_or o r) e) h.0
+    all_at (r ∷ rules) (suc n) h e = all_at rules n h.1 e
 
 abbrev pub IsLegalRule : Schema → IndexRule → Type 0
 IsLegalRule schema rule = (is_legal rule schema ≡ true) × (rule.key_most ≤ 255)

@@ -7,7 +7,7 @@ use Rattle.cursor_nav.specs.Places.{Pair, are_sorted, entry_after, is_beyond, pa
 use Rattle.index_derive.specs.declared.entries.Place.{Place}
 use Rattle.index_derive.specs.declared.entries.Place.TheVariants.{Gap, On}
 use Rattle.record_changes.proofs.Tests.{and_false, and_left, and_right, impossible, refuted, same_bytes}
-use Rattle.table_versions.proofs.Neighbours.{IsIn, above_all, all_in, found_in}
+use Rattle.table_versions.proofs.Neighbours.{above_all, all_in, found_in}
 use Rattle.table_versions.proofs.Order.{beyond_more, keys_of, le_itself, lt_le, not_back, not_below_itself, not_itself}
 
 -- ---- some entries of a list
@@ -28,7 +28,7 @@ none_within p test out (x ∷ xs) = by (p x) refl (none_within p test out xs)
     by true e rest = ap (λ b. b || list_any test (filter p xs)) (out x e) ∙ rest
     by false e rest = rest
 
-filter_alike : (q r : Pair → Bool) (xs : List Pair) → AllByRecursion (λ y. q y ≡ r y) xs → filter q xs ≡ filter r xs
+pub filter_alike : {X : Type 0} (q r : X → Bool) (xs : List X) → AllByRecursion (λ y. q y ≡ r y) xs → filter q xs ≡ filter r xs
 filter_alike q r [] h = refl
 filter_alike q r (x ∷ xs) h = λ i. cond (h.0 i) (x ∷ filter_alike q r xs h.1 i) (filter_alike q r xs h.1 i)
 

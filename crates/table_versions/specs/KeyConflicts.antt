@@ -1,13 +1,18 @@
 -- Key conflicts record by record, and keys that a record of the view has.
 use Rattle.std.specs.Prelude.{◌≡◌, ℕ, Bool, true, false, not, ◌&&◌, ◌||◌, List, [], ◌∷◌, Option, Some, None, bytes_eq, find, slice_get, IfSome, if◌then◌else◌, option_map}
 use Rattle.std.specs.List.{list_any}
+use Rattle.column_set.specs.RecordValues.{RecordFields}
 use Rattle.database_state.specs.Conflicts.{yields_key}
-use Rattle.database_state.specs.Puts.{is_replaced}
+use Rattle.database_state.specs.Puts.{is_replaced, new_keys}
+use Rattle.database_state.specs.Refusals.{Refusals}
+use Rattle.database_state.specs.Table.{record_in}
 use Rattle.index_derive.specs.declared.rules.IndexRule.{IndexRule}
 use Rattle.index_derive.specs.declared.rules.Schema.{Schema}
+use Rattle.index_derive.specs.Entries.{key_list}
+use Rattle.jet_base.specs.declared.replies.Jet.TheVariants as jet
 use Rattle.version_store.specs.declared.calls.Reader.{Reader}
 use Rattle.version_store.specs.HeldChanges.{HeldChange, is_standing}
-use Rattle.versioned_tables.specs.HeldRecords.{HeldRecord, is_change_at, is_concurrent, is_standing_rewrite}
+use Rattle.versioned_tables.specs.HeldRecords.{HeldRecord, has_key_conflict, is_change_at, is_concurrent, is_standing_rewrite, seen_record}
 use Rattle.versioned_tables.specs.VersionedTables.{VersionedTables}
 use Rattle.table_versions.specs.RecordRows.{IsRecordRow, record_of}
 use Rattle.table_versions.specs.StoredVersions.{seen_entries}
@@ -45,3 +50,19 @@ yields_before_change rule schema key after h = if is_standing h then yields_key 
 -- whether some record that the reader sees has the key in an index, another than the one under the bookmark
 abbrev pub is_taken_for : Reader → VersionedTables → ℕ → ℕ → Option (List ℕ) → List ℕ → Bool
 is_taken_for reader store table index own key = list_any (λ entry. bytes_eq entry.0 key && not (is_replaced own entry.1)) (seen_entries reader store table index)
+
+-- ---- what an update asks of a unique index
+
+-- the record in whose place another comes, as the reader sees it
+abbrev pub replaced_seen : Reader → VersionedTables → ℕ → Option (List ℕ) → Option RecordFields
+replaced_seen reader store table None = None
+replaced_seen reader store table (Some own) = seen_record table own reader (record_in store.tables table own) store.held
+
+abbrev pub has_conflict_over : Reader → VersionedTables → ℕ → IndexRule → Schema → List ℕ → Bool
+has_conflict_over reader store table rule schema key = has_key_conflict reader (record_in store.tables) table rule schema key store.held
+
+-- First a conflict over a key that is new to the record, then a key that another record of the view has.
+abbrev pub unique_refusals : Reader → VersionedTables → ℕ → Schema → IndexRule → Option (List ℕ) → RecordFields → Refusals
+unique_refusals reader store table schema rule own values =
+    (list_any (has_conflict_over reader store table rule schema) (new_keys rule schema (replaced_seen reader store table own) values), jet.WriteConflict)
+    ∷ (list_any (is_taken_for reader store table rule.id.0 own) (key_list rule schema values), jet.KeyDuplicate) ∷ []

@@ -3,14 +3,16 @@
 #![tactic(auto)]
 
 mod changing;
+mod conflicting_keys;
 mod ending;
 mod forgetting;
 mod keys;
 mod reading;
 mod store;
 mod telling;
-mod unique_keys;
+mod unique;
 mod variants;
 mod walking;
 
 pub use store::TableVersions;
+pub use unique::unique_keys_are_asked_as_of_the_state;

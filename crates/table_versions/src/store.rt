@@ -1,7 +1,10 @@
 //! The store and its tables.
 
-ghost use Rattle.std.specs.Prelude.{◌≡◌, [], map, option_copied, option_map};
-ghost use Rattle.database_state.specs.Table.{table_named, table_with_id};
+ghost use Rattle.std.specs.Prelude.{◌≡◌, ℕ, ◌≤◌, true, [], map, slice_get, IsSomeAnd, Some, option_copied, option_map};
+ghost use Rattle.database_state.specs.Table.{rule_with_id, schema_of, table_named, table_with_id};
+ghost use Rattle.index_derive.specs.declared.rules.IndexRule.{IndexRule};
+ghost use Rattle.index_derive.specs.declared.rules.Schema.{Schema};
+ghost use Rattle.index_derive.specs.Entries.{is_legal};
 ghost use Rattle.jet_catalog.specs.Catalog.{without_rows};
 
 use jet_base::TableId;
@@ -77,5 +80,15 @@ impl TableVersions {
     {
         tables_are_found_without_records();
         self.catalog.by_id(table)
+    }
+
+    /// The rules of a table's schema: each is found by its number, is legal, and has keys of 255 bytes at most.
+    pub fn rules_are_legal(&self)
+        ensures found { (table : ℕ) (schema : Schema) → IsSomeAnd (table_with_id self.now.store.tables table) (λ t. schema ≡ schema_of t) → (place : ℕ) (rule : IndexRule) → slice_get schema.indexes place ≡ Some rule
+            → rule_with_id schema rule.id.0 ≡ Some rule }
+        ensures legal { (table : ℕ) (schema : Schema) → IsSomeAnd (table_with_id self.now.store.tables table) (λ t. schema ≡ schema_of t) → (rule : IndexRule) → rule_with_id schema rule.id.0 ≡ Some rule
+            → (is_legal rule schema ≡ true) × (rule.key_most ≤ 255) }
+    {
+        let _ = &self.catalog;
     }
 }

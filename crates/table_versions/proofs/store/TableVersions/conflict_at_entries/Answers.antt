@@ -1,4 +1,4 @@
-use Rattle.std.proofs.Common.{◌≡◌, ℕ, Bool, true, false, List, Option, Some, sym, ap, subst, ◌∙◌, bytes_eq}
+use Rattle.std.proofs.Common.{ℕ, Bool, false, List, Option, sym, ap, subst, ◌∙◌, bytes_eq}
 use Rattle.std.specs.Prelude.{◌<◌}
 use Rattle.cursor_nav.specs.Places.{Pair, entry_after, found_pair}
 use Rattle.index_derive.specs.declared.entries.IndexEntry.{IndexEntry}

@@ -1,4 +1,3 @@
-use Rattle.std.proofs.Common.{List, ℕ}
 use Rattle.cursor_nav.specs.Places.{found_pair}
 use Rattle.table_trees.specs.StoredTables.{index_entries}
 use Rattle.table_versions.proofs.Neighbours.{left_from}

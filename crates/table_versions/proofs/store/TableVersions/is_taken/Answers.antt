@@ -1,4 +1,4 @@
-use Rattle.std.proofs.Common.{◌≡◌, ℕ, Bool, true, false, not, List, Option, Some, sym, ap, subst, ◌∙◌, bytes_eq}
+use Rattle.std.proofs.Common.{ℕ, Bool, false, not, List, Option, sym, ap, subst, ◌∙◌, bytes_eq}
 use Rattle.std.specs.Prelude.{◌<◌, option_copied}
 use Rattle.cursor_nav.specs.Places.{Pair, entry_after, found_pair}
 use Rattle.database_state.specs.Puts.{is_replaced}

@@ -1,5 +1,5 @@
 use Rattle.table_versions.proofs.RecordConflicts.{Walks, up_to}
-use Rattle.table_versions.proofs.unique_keys.conflict_in.Given as goal
+use Rattle.table_versions.proofs.conflicting_keys.conflict_in.Given as goal
 
 abbrev pub invariant-loop-found : goal.invariant-loop-found
 invariant-loop-found l =

@@ -1,6 +1,6 @@
-use Rattle.std.proofs.Common.{◌≡◌, ℕ, Bool, true, Option, Some, sym, subst, ◌∙◌}
+use Rattle.std.proofs.Common.{ℕ, Option, Some, sym, subst, ◌∙◌}
 use Rattle.table_versions.proofs.RecordConflicts.{Asked, Walks, falls, walk_begins, walk_ends, walk_finds, walk_goes_on}
-use Rattle.table_versions.proofs.unique_keys.conflict_in.Goals as goal
+use Rattle.table_versions.proofs.conflicting_keys.conflict_in.Goals as goal
 
 pub loop-found-init : goal.loop-found-init
 loop-found-init c =

@@ -1,0 +1,179 @@
+//! What an update asks of a unique index.
+
+ghost use Rattle.std.specs.Prelude.{◌≡◌, ℕ, ◌≤◌, ◌&&◌, not, true, List, [], ◌∷◌, IsOk, IsSomeAnd, Option, Some, option_copied, option_map};
+ghost use Rattle.std.specs.List.{list_any};
+ghost use Rattle.jet_base.specs.declared.replies.Jet.TheVariants as jet;
+ghost use Rattle.column_set.specs.RecordValues.{RecordFields};
+ghost use Rattle.column_set.specs.Refusals.{first_refusal};
+ghost use Rattle.column_set.specs.Rows.{here_fields};
+ghost use Rattle.database_state.specs.Conflicts.{has_key_conflict, yields_key};
+ghost use Rattle.database_state.specs.Puts.{is_taken, new_keys, replaced_record};
+ghost use Rattle.database_state.specs.State.{DatabaseState, PastChange, transaction_of};
+ghost use Rattle.database_state.specs.Table.{Table, rule_with_id, schema_of, table_with_id};
+ghost use Rattle.database_state.specs.View.{view};
+ghost use Rattle.index_derive.specs.declared.rules.IndexRule.{IndexRule};
+ghost use Rattle.index_derive.specs.Entries.{entries, is_legal, key_list};
+ghost use Rattle.record_changes.specs.Records.{Records};
+ghost use Rattle.version_keys.specs.Variants.{HasNoSums};
+ghost use Rattle.version_store.specs.declared.calls.Reader.{Reader};
+ghost use Rattle.versioned_tables.specs.Holding.{Holds, begin_of};
+ghost use Rattle.versioned_tables.specs.VersionedTables.{VersionedTables};
+ghost use Rattle.table_versions.specs.KeyConflicts.{has_conflict_over, is_taken_for, replaced_seen, unique_refusals};
+
+use crate::store::TableVersions;
+use column_set::{RowRef, Values};
+use index_derive::derive::{next_entry, yields};
+use index_derive::{IndexRule, Schema, entries_rise};
+use jet_base::{Jet, TableId};
+use key_normal::Key;
+use version_store::Reader;
+use versioned_tables::{
+    a_reader_finds_the_records_that_it_is_shown, a_session_is_shown_its_view,
+    held_changes_tell_key_conflicts,
+};
+
+impl TableVersions {
+    /// Why a record may not be put for its keys in a unique index, which does not refuse the record itself: first a key conflict
+    /// over a key that is new to the record, and then a key that another record has which the reader sees. The record comes in
+    /// the place of the one under the bookmark of `own`, if one is given, and only keys that this one lacks are new. The schema is
+    /// that of the table, and the rule is one of its rules. It takes no memory.
+    pub fn key_refusal<R: Values>(
+        &self,
+        reader: Reader,
+        table: TableId,
+        schema: &Schema,
+        rule: &IndexRule,
+        own: Option<&[u8]>,
+        record: &R,
+    ) -> Option<Jet>
+        requires named { IsSomeAnd (table_with_id self.now.store.tables table.0) (λ t. schema.now ≡ schema_of t) }
+        requires rule { rule_with_id schema.now rule.now.id.0 ≡ Some rule.now }
+        requires taken { IsOk (entries rule.now schema.now (R.fields «record».now)) }
+        ensures { result ≡ first_refusal (unique_refusals reader self.now.store table.0 schema.now rule.now (option_copied own.entry) (R.fields «record».now)) }
+    {
+        self.rules_are_legal();
+        if self.has_conflict_over_new(reader, table, schema, rule, own, record) {
+            Some(Jet::WriteConflict)
+        } else if self.has_taken_key(reader, table, schema, rule, own, record) {
+            Some(Jet::KeyDuplicate)
+        } else {
+            None
+        }
+    }
+
+    // Whether a key conflict stands over a key that is new to the record.
+    fn has_conflict_over_new<R: Values>(
+        &self,
+        reader: Reader,
+        table: TableId,
+        schema: &Schema,
+        rule: &IndexRule,
+        own: Option<&[u8]>,
+        record: &R,
+    ) -> bool
+        requires named { IsSomeAnd (table_with_id self.now.store.tables table.0) (λ t. schema.now ≡ schema_of t) }
+        requires rule { rule_with_id schema.now rule.now.id.0 ≡ Some rule.now }
+        requires legal { is_legal rule.now schema.now ≡ true }
+        requires short { rule.now.key_most ≤ 255 }
+        requires taken { IsOk (entries rule.now schema.now (R.fields «record».now)) }
+        ensures { result ≡ list_any (has_conflict_over reader self.now.store table.0 rule.now schema.now) (new_keys rule.now schema.now (replaced_seen reader self.now.store table.0 (option_copied own.entry)) (R.fields «record».now)) }
+    {
+        entries_rise();
+        let seen = self.replaced_row(reader, table, own);
+        let mut found = next_entry(rule, schema, record, None);
+        while let Some(key) = found {
+            if self.is_new_conflict(reader, table, schema, rule, &seen, &key) {
+                return true;
+            }
+            found = next_entry(rule, schema, record, Some(&key));
+        }
+        false
+    }
+
+    // Whether the row lacks the key, and a key conflict stands over it.
+    fn is_new_conflict(
+        &self,
+        reader: Reader,
+        table: TableId,
+        schema: &Schema,
+        rule: &IndexRule,
+        seen: &Option<RowRef<'_>>,
+        key: &Key,
+    ) -> bool
+        requires named { IsSomeAnd (table_with_id self.now.store.tables table.0) (λ t. schema.now ≡ schema_of t) }
+        requires rule { rule_with_id schema.now rule.now.id.0 ≡ Some rule.now }
+        requires legal { is_legal rule.now schema.now ≡ true }
+        requires short { rule.now.key_most ≤ 255 }
+        ensures { result ≡ (not (yields_key rule.now schema.now key.now (option_map here_fields seen.now)) && has_conflict_over reader self.now.store table.0 rule.now schema.now key.now) }
+    {
+        if lacks_key(rule, schema, seen, key) {
+            self.key_conflict(reader, table, schema, rule, key)
+        } else {
+            false
+        }
+    }
+
+    // The row that the reader sees under the bookmark, where one is given.
+    fn replaced_row(&self, reader: Reader, table: TableId, own: Option<&[u8]>) -> Option<RowRef<'_>>
+        ensures { option_map here_fields result ≡ replaced_seen reader self.now.store table.0 (option_copied own.entry) }
+    {
+        match own {
+            Some(own) => self.look_up(table, own, reader),
+            None => None,
+        }
+    }
+
+    // Whether another record that the reader sees has one of the keys.
+    fn has_taken_key<R: Values>(
+        &self,
+        reader: Reader,
+        table: TableId,
+        schema: &Schema,
+        rule: &IndexRule,
+        own: Option<&[u8]>,
+        record: &R,
+    ) -> bool
+        requires named { IsSomeAnd (table_with_id self.now.store.tables table.0) (λ t. schema.now ≡ schema_of t) }
+        requires legal { is_legal rule.now schema.now ≡ true }
+        requires short { rule.now.key_most ≤ 255 }
+        requires taken { IsOk (entries rule.now schema.now (R.fields «record».now)) }
+        ensures { result ≡ list_any (is_taken_for reader self.now.store table.0 rule.now.id.0 (option_copied own.entry)) (key_list rule.now schema.now (R.fields «record».now)) }
+    {
+        entries_rise();
+        let mut found = next_entry(rule, schema, record, None);
+        while let Some(key) = found {
+            if self.is_taken(reader, table, schema, rule.id, own, &key) {
+                return true;
+            }
+            found = next_entry(rule, schema, record, Some(&key));
+        }
+        false
+    }
+}
+
+// Whether there is no row, or it lacks the key in the index.
+fn lacks_key(rule: &IndexRule, schema: &Schema, row: &Option<RowRef<'_>>, key: &Key) -> bool
+    requires legal { is_legal rule.now schema.now ≡ true }
+    requires short { rule.now.key_most ≤ 255 }
+    ensures { result ≡ not (yields_key rule.now schema.now key.now (option_map here_fields row.now)) }
+{
+    match row {
+        Some(row) => !yields(rule, schema, row, key),
+        None => true,
+    }
+}
+
+/// What an update asks of a unique index by the held changes is what it asks of the state: the table is one of the session's
+/// view, and no escrow column was changed.
+pub fn unique_keys_are_asked_as_of_the_state()
+    ensures { (base : Records) (dropped kept : List PastChange) (store : VersionedTables) (state : DatabaseState) → Holds base dropped kept store state → HasNoSums kept
+        → (reader : Reader) → reader.begin ≡ begin_of (transaction_of state reader.session.0)
+        → (table : ℕ) (seen : Table) → table_with_id (view state reader.session.0) table ≡ Some seen → (rule : IndexRule) (own : Option (List ℕ)) (values : RecordFields)
+        → unique_refusals reader store table (schema_of seen) rule own values
+        ≡ (list_any (has_key_conflict state reader.session.0 table (schema_of seen) rule) (new_keys rule (schema_of seen) (replaced_record seen.rows own) values), jet.WriteConflict)
+        ∷ (list_any (is_taken (schema_of seen) seen.rows rule own) (key_list rule (schema_of seen) values), jet.KeyDuplicate) ∷ [] }
+{
+    held_changes_tell_key_conflicts();
+    a_session_is_shown_its_view();
+    a_reader_finds_the_records_that_it_is_shown();
+}
