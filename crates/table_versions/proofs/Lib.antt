@@ -21,3 +21,10 @@ pub mod LostKeys
 pub mod LeftNodes
 pub mod LostNodes
 pub mod Forgotten
+pub mod Refilled
+pub mod LastUndone
+pub mod PutBack
+pub mod UndoneThere
+pub mod OpenUndone
+pub mod UndoneLevel
+pub mod PutsBack

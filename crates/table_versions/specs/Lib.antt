@@ -5,3 +5,4 @@ pub mod VersionsKept
 pub mod Walks
 pub mod GoneKeys
 pub mod LeftVariants
+pub mod UndoneChanges

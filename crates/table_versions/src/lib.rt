@@ -9,6 +9,7 @@ mod keys;
 mod reading;
 mod store;
 mod telling;
+mod undoing;
 mod variants;
 mod walking;
 
