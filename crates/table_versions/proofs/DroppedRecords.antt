@@ -224,7 +224,7 @@ drop_kept laws trees by table bookmark known short tables held named there kept 
 
 -- ---- what it shows
 
-turned_number : (a b : ℕ) → (a == b) ≡ (b == a)
+pub turned_number : (a b : ℕ) → (a == b) ≡ (b == a)
 turned_number a b = by (a == b) (b == a) refl refl
   where
     by : (x y : Bool) → (a == b) ≡ x → (b == a) ≡ y → (a == b) ≡ (b == a)
@@ -232,7 +232,7 @@ turned_number a b = by (a == b) (b == a) refl refl
     by false true e f = ap (λ n. n == b) (sym (same_number b a f)) ∙ self_equal b ∙ sym f
     by false false e f = e ∙ sym f
 
-rows_emptied : (bookmark : List ℕ) (nodes : List Node) → rows_of_nodes (with_data_at nodes bookmark []) ≡ without_row (rows_of_nodes nodes) bookmark
+pub rows_emptied : (bookmark : List ℕ) (nodes : List Node) → rows_of_nodes (with_data_at nodes bookmark []) ≡ without_row (rows_of_nodes nodes) bookmark
 rows_emptied bookmark [] = refl
 rows_emptied bookmark (n ∷ nodes) =
     node (has_key bookmark n) ∙ by (has_key bookmark n) refl (row_in_node n.data) (rows_emptied bookmark nodes)

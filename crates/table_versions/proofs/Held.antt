@@ -79,7 +79,7 @@ pub appended : (held : List HeldChange) (made : HeldChange) → map held_record 
 appended [] made = refl
 appended (h ∷ held) made = ap (λ rest. held_record h ∷ rest) (appended held made)
 
-unchanged : (id : ℕ) (tables : List Table) → with_table id (λ table. record table { rows = table.rows }) tables ≡ tables
+pub unchanged : (id : ℕ) (tables : List Table) → with_table id (λ table. record table { rows = table.rows }) tables ≡ tables
 unchanged id [] = refl
 unchanged id (t ∷ tables) = λ i. same (t.id == id) i ∷ unchanged id tables i
   where

@@ -27,3 +27,10 @@ pub mod RecordConflicts
 pub mod StoredConflicts
 pub mod KeyWalks
 pub mod AskedOfTheState
+pub mod Refilled
+pub mod LastUndone
+pub mod PutBack
+pub mod UndoneThere
+pub mod OpenUndone
+pub mod UndoneLevel
+pub mod PutsBack

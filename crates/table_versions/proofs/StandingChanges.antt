@@ -64,7 +64,7 @@ between_from p q only (suc from) (suc end) (h ∷ held) = by (last_place p (take
     by None true rest = rest
     by None false rest = rest
 
-take_all : (held : List HeldChange) → take (length held) held ≡ held
+pub take_all : (held : List HeldChange) → take (length held) held ≡ held
 take_all [] = refl
 take_all (h ∷ held) = ap (λ hs. h ∷ hs) (take_all held)
 
@@ -73,7 +73,7 @@ abbrev pub StandsAt : (HeldChange → Bool) → List HeldChange → Option ℕ �
 StandsAt p held None = Unit {0}
 StandsAt p held (Some place) = IsSomeAnd (slice_get held place) (λ h. p h ≡ true)
 
-last_stands : (p : HeldChange → Bool) (end : ℕ) (held : List HeldChange) → StandsAt p held (last_place p (take end held))
+pub last_stands : (p : HeldChange → Bool) (end : ℕ) (held : List HeldChange) → StandsAt p held (last_place p (take end held))
 last_stands p zero [] = tt
 last_stands p (suc end) [] = tt
 last_stands p zero (h ∷ held) = tt

@@ -6,3 +6,4 @@ pub mod Walks
 pub mod GoneKeys
 pub mod LeftVariants
 pub mod KeyConflicts
+pub mod UndoneChanges

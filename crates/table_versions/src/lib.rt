@@ -10,6 +10,7 @@ mod keys;
 mod reading;
 mod store;
 mod telling;
+mod undoing;
 mod unique;
 mod variants;
 mod walking;

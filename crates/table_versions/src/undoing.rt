@@ -1,0 +1,170 @@
+//! Open changes are undone.
+
+ghost use Rattle.std.specs.Prelude.{◌≡◌, ℕ, true, List, Some, [], map, IfSome, option_copied, option_map, slice_get, unwrap_or};
+ghost use Rattle.std.specs.List.{list_any};
+ghost use Rattle.database_state.specs.Table.{Table, schema_of, table_with_id};
+ghost use Rattle.table_trees.specs.StoredTables.{table_nodes};
+ghost use Rattle.version_store.specs.HeldChanges.{HeldChange, is_rewrite};
+ghost use Rattle.versioned_tables.specs.HeldRecords.{is_open_at};
+ghost use Rattle.versioned_tables.specs.VersionedTables.{with_changes_undone, with_last_undone};
+ghost use Rattle.table_versions.specs.GoneKeys.{AreRows};
+ghost use Rattle.table_versions.specs.LeftVariants.{DistinctIds};
+ghost use Rattle.table_versions.specs.RecordRows.{row_under};
+ghost use Rattle.table_versions.specs.UndoneChanges.{CanPutBack, IsBack, IsUndone, WasOpen, tables_put_back};
+ghost use Rattle.table_versions.specs.VersionsKept.{AreKept};
+ghost use Rattle.table_versions.specs.VersionsView.{with_newest};
+
+use crate::reading::row_in_node;
+use crate::store::TableVersions;
+use crate::variants::take_variant;
+use arrayvec::ArrayVec;
+use column_set::RowRef;
+use index_derive::Schema;
+use jet_base::{Session, TableId};
+use jet_catalog::Catalog;
+use table_trees::{TableTrees, nodes_after_a_change, nodes_by_bookmark};
+use version_store::{ChangeKind, Versions};
+use versioned_tables::changes_undone_one_by_one_are_undone_at_once;
+
+/// The most bytes of a row.
+const LARGEST_ROW: usize = 1700;
+
+impl TableVersions {
+    /// The session's open changes at the level are undone, the newest first: each record is again the one before it. It takes
+    /// no memory.
+    pub fn undo_level(&mut self, session: Session, level: u8)
+        ensures { self.new ≡ record self.old { store = with_changes_undone (is_open_at session.0 level) self.old.store } }
+    {
+        changes_undone_one_by_one_are_undone_at_once();
+        let mut more = self.undo_newest(session, level);
+        while more {
+            more = self.undo_newest(session, level);
+        }
+    }
+
+    /// The newest of the session's open changes at the level is undone. Tells whether there was one.
+    pub fn undo_newest(&mut self, session: Session, level: u8) -> bool
+        ensures store { self.new ≡ record self.old { store = with_last_undone (is_open_at session.0 level) self.old.store } }
+        ensures found { result ≡ list_any (is_open_at session.0 level) self.old.store.held }
+    {
+        match self.versions.undo_level(session, level) {
+            Some(undone) => {
+                put_back(&self.catalog, &mut self.trees, &self.versions, undone.table, undone.place);
+                true
+            }
+            None => false,
+        }
+    }
+}
+
+// The record before a change that has become undone is again the newest one.
+fn put_back(
+    catalog: &Catalog,
+    trees: &mut TableTrees,
+    versions: &Versions,
+    table: TableId,
+    place: usize,
+)
+    requires { (held : List HeldChange) × ((h : HeldChange) × WasOpen catalog.now.tables trees.old versions.now place table.0 held h) }
+    ensures { (held : List HeldChange) (h : HeldChange) → WasOpen catalog.now.tables trees.old versions.now place table.0 held h → IsBack catalog.now.tables trees.old trees.new versions.now h }
+{
+    if is_rewrite(versions.kind_at(place)) {
+        put_back_of(catalog, trees, versions, table, place);
+    }
+}
+
+// Whether it sets or removes the record.
+fn is_rewrite(kind: ChangeKind) -> bool
+    ensures { result ≡ is_rewrite kind }
+{
+    match kind {
+        ChangeKind::Put => true,
+        ChangeKind::Drop => true,
+        ChangeKind::Hold => false,
+        ChangeKind::Add(_, _) => false,
+    }
+}
+
+// The same of a put or a drop.
+fn put_back_of(
+    catalog: &Catalog,
+    trees: &mut TableTrees,
+    versions: &Versions,
+    table: TableId,
+    place: usize,
+)
+    requires was { (held : List HeldChange) × ((h : HeldChange) × WasOpen catalog.now.tables trees.old versions.now place table.0 held h) }
+    requires rewrites { (h : HeldChange) → slice_get versions.now place ≡ Some h → is_rewrite h.kind ≡ true }
+    ensures { (held : List HeldChange) (h : HeldChange) → WasOpen catalog.now.tables trees.old versions.now place table.0 held h → IsBack catalog.now.tables trees.old trees.new versions.now h }
+{
+    let _ = catalog.tables();
+    match catalog.by_id(table) {
+        Some(named) => put_back_in(trees, versions, table, named.schema(), place),
+        None => {}
+    }
+}
+
+// The row before a change comes back, and what is left of the newest one goes. The schema is that of its table.
+fn put_back_in(
+    trees: &mut TableTrees,
+    versions: &Versions,
+    table: TableId,
+    schema: &Schema,
+    place: usize,
+)
+    requires can { (h : HeldChange) × CanPutBack schema.now table.0 trees.old versions.now place h }
+    requires rows { AreRows versions.now }
+    ensures kept { (tables : List Table) (held : List HeldChange) (h : HeldChange) → DistinctIds tables → IfSome (table_with_id tables table.0) (λ t. schema.now ≡ schema_of t) → IsUndone held place h versions.now → h.table ≡ table.0 → AreKept tables trees.old held → AreKept tables trees.new versions.now }
+    ensures shown { (tables : List Table) (h : HeldChange) → slice_get versions.now place ≡ Some h → map (with_newest trees.new) tables ≡ tables_put_back (map (with_newest trees.old) tables) h }
+{
+    nodes_after_a_change();
+    nodes_by_bookmark();
+    trees.nodes_are_in_order();
+    let bookmark = versions.bookmark_at(place);
+    let row = bytes_of(versions.before_at(place));
+    match copied_row(trees, table, bookmark) {
+        Some(newest) => {
+            trees.replace(table, bookmark, row);
+            trees.nodes_are_in_order();
+            let gone = RowRef::new(newest.as_slice());
+            take_variant(trees, versions, 0, table, schema, bookmark, &gone);
+        }
+        None => {
+            if !row.is_empty() {
+                trees.replace(table, bookmark, row);
+                trees.nodes_are_in_order();
+            }
+        }
+    }
+}
+
+// The bytes of a row, none where there is none.
+fn bytes_of(row: Option<&[u8]>) -> &[u8]
+    ensures { result.now ≡ unwrap_or (option_copied row.entry) [] }
+{
+    match row {
+        Some(bytes) => bytes,
+        None => &[],
+    }
+}
+
+// A copy of the newest row under a bookmark.
+fn copied_row(
+    trees: &TableTrees,
+    table: TableId,
+    bookmark: &[u8],
+) -> Option<ArrayVec<u8, LARGEST_ROW>>
+    ensures { option_map (λ copy. copy.items) result ≡ row_under (table_nodes trees.now table.0) bookmark.now }
+{
+    trees.nodes_are_in_order();
+    match row_in_node(trees.get(table, bookmark)) {
+        Some(row) => {
+            let mut copy = ArrayVec::new();
+            match copy.try_extend_from_slice(row) {
+                Ok(()) => Some(copy),
+                Err(_) => unreachable!(),
+            }
+        }
+        None => None,
+    }
+}
