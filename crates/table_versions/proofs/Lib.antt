@@ -14,3 +14,13 @@ pub mod Ends
 pub mod Held
 pub mod Dropped
 pub mod DroppedRecords
+pub mod Stepping
+pub mod MadeTables
+pub mod ChangedColumns
+pub mod MadeColumns
+pub mod TreeNumbers
+pub mod OtherRules
+pub mod MadeIndexes
+pub mod NewIndexes
+pub mod StepInStore
+pub mod EmptyIndexes

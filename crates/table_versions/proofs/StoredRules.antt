@@ -16,7 +16,7 @@ use Rattle.table_versions.specs.VersionsKept.{AreKept, IsKeptTable, IsStoredRule
 use Rattle.table_versions.specs.VersionsView.{stored_versions, with_newest}
 use Rattle.table_versions.proofs.Tables.{table_at}
 
-found_all : {X : Type 0} (P : X → Type 0) (q : X → Bool) (x : X) (xs : List X) → AllByRecursion P xs → find q xs ≡ Some x → P x
+pub found_all : {X : Type 0} (P : X → Type 0) (q : X → Bool) (x : X) (xs : List X) → AllByRecursion P xs → find q xs ≡ Some x → P x
 found_all P q x [] all e = cc
 found_all {X} P q x (y ∷ xs) all e = by (q y) e (found_all P q x xs all.1)
   where

@@ -3,3 +3,4 @@ pub mod StoredVersions
 pub mod VersionsView
 pub mod VersionsKept
 pub mod Walks
+pub mod SchemaSteps

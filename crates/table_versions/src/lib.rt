@@ -5,6 +5,7 @@
 mod changing;
 mod ending;
 mod reading;
+mod schema;
 mod store;
 mod telling;
 mod walking;
