@@ -1,10 +1,9 @@
 -- A table whose columns change, but for those that its indexes read.
-use Rattle.std.proofs.Common.{◌≡◌, ℕ, Bool, true, false, not, ◌&&◌, ◌||◌, cond, List, [], ◌∷◌, ◌++◌, Option, Some, None, length, filter, map, option_map, refl, sym, ap, subst, ◌∙◌}
-use Rattle.std.specs.Prelude.{◌==◌, IfSome, MatchOption, is_none, is_some}
-use Rattle.std.specs.List.{AllByRecursion, flat_map, list_all, list_any}
+use Rattle.std.proofs.Common.{◌≡◌, ℕ, Bool, true, false, not, ◌||◌, List, [], ◌∷◌, Option, Some, None, length, refl, sym, ap, ◌∙◌}
+use Rattle.std.specs.Prelude.{MatchOption, is_none, is_some}
+use Rattle.std.specs.List.{AllByRecursion, flat_map, list_all}
 use Rattle.column_set.specs.declared.columns.Column.{Column}
 use Rattle.column_set.specs.RecordValues.{RecordFields, column_of_id, has_value, is_kept_column, record_fits, values_fit, values_of}
-use Rattle.database_state.specs.Conflicts.{yields_key}
 use Rattle.database_state.specs.Lawful.{is_indexable}
 use Rattle.database_state.specs.Puts.{is_cut_refusal, is_null_refusal}
 use Rattle.database_state.specs.Refusals.{Refusals, first_refusal}
@@ -18,7 +17,7 @@ use Rattle.jet_base.specs.declared.replies.Jet.TheVariants as jet
 use Rattle.record_changes.proofs.Tests.{and_both, and_left, and_right}
 use Rattle.version_history.proofs.Lists.{all_both, all_weaker}
 use Rattle.version_keys.proofs.IndexNumbers.{all_primary_first}
-use Rattle.version_keys.proofs.SameColumns.{SameAt, entries_same, legal_same, primary_key_same}
+use Rattle.version_keys.proofs.SameColumns.{entries_same, legal_same, primary_key_same}
 use Rattle.version_keys.proofs.SchemaKeys.{each_column, found_has}
 use Rattle.table_versions.specs.VersionsKept.{IsBookmarkOf, IsStoredRule}
 use Rattle.table_versions.proofs.StoredRules.{found_all}

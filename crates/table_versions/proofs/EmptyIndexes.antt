@@ -3,7 +3,7 @@ use Rattle.std.proofs.Common.{◌≡◌, ◌≢◌, ℕ, Bool, true, false, not,
 use Rattle.std.specs.Prelude.{◌==◌, IsSomeAnd, is_some, unwrap_or}
 use Rattle.std.specs.List.{list_any}
 use Rattle.std.proofs.lemmas.List.Elements.{filter-append}
-use Rattle.cursor_nav.specs.Places.{Pair, are_sorted}
+use Rattle.cursor_nav.specs.Places.{are_sorted}
 use Rattle.database_state.specs.Conflicts.{yields_key}
 use Rattle.database_state.specs.SchemaChanges.{with_index}
 use Rattle.database_state.specs.Table.{Rows, Table, row_at, schema_of, table_with_id}
@@ -13,18 +13,18 @@ use Rattle.index_derive.specs.declared.schema_calls.SchemaStep.{SchemaStep}
 use Rattle.index_derive.specs.declared.schema_calls.SchemaStep.TheVariants as step
 use Rattle.jet_base.specs.declared.ids.TableId.{TableId}
 use Rattle.jet_catalog.specs.Catalog.{CatalogState, IsNumbered, catalog_after, ids_rise}
-use Rattle.record_changes.proofs.Tests.{impossible, or_first, or_second, self_equal}
+use Rattle.record_changes.proofs.Tests.{or_first, or_second, self_equal}
 use Rattle.table_trees.specs.StoredNodes.{bookmark_entries}
 use Rattle.table_trees.specs.StoredTables.{StoredIndex, StoredTable, changed_where, has_index, has_table, index_entries, is_index, is_table, put_indexes, table_indexes, table_nodes, with_indexes, with_new_index, without_index as without_tree, without_where}
 use Rattle.table_versions.specs.RecordRows.{rows_of_nodes}
 use Rattle.table_versions.specs.SchemaSteps.{IsEmptyFor, IsIndexFor, IsMade}
-use Rattle.table_versions.specs.VersionsKept.{AreKept, needed_trees, secondary_rules, tree_numbers}
+use Rattle.table_versions.specs.VersionsKept.{AreKept, needed_trees, secondary_rules}
 use Rattle.table_versions.specs.VersionsView.{with_newest}
 use Rattle.table_versions.proofs.MadeIndexes.{apart_from, tree_of_index}
 use Rattle.table_versions.proofs.NewIndexes.{AreWithIndex, index_created}
 use Rattle.table_versions.proofs.Stepping.{map_last}
 use Rattle.table_versions.proofs.Tables.{found_number, table_at}
-use Rattle.table_versions.proofs.TreeNumbers.{changed_numbers, index_numbers, same_indexes}
+use Rattle.table_versions.proofs.TreeNumbers.{changed_numbers, same_indexes}
 
 pub record NewIndexLaws : Type 0 where
   pub named : (tables : List StoredTable) (table : ℕ) (indexes : List StoredIndex) → has_table tables table ≡ true → table_indexes (with_indexes table indexes tables) table ≡ indexes

@@ -1,6 +1,6 @@
 -- A column comes.
 use Rattle.std.proofs.Common.{◌≡◌, ℕ, Bool, true, false, ◌||◌, cond, List, [], ◌∷◌, Option, Some, None, map, option_map, refl, sym, ap, subst, ◌∙◌}
-use Rattle.std.specs.Prelude.{◌==◌, IfSome, is_some}
+use Rattle.std.specs.Prelude.{◌==◌, IfSome}
 use Rattle.std.specs.List.{AllByRecursion}
 use Rattle.column_set.specs.declared.columns.Column.{Column}
 use Rattle.column_set.specs.RecordValues.{RecordFields, column_of_id, is_kept_column, values_of}
@@ -12,9 +12,8 @@ use Rattle.index_derive.specs.declared.rules.IndexRule.{IndexRule}
 use Rattle.index_derive.specs.declared.schema_calls.SchemaStep.{SchemaStep}
 use Rattle.index_derive.specs.declared.schema_calls.SchemaStep.TheVariants as step
 use Rattle.jet_base.specs.declared.ids.TableId.{TableId}
-use Rattle.jet_catalog.specs.Catalog.{CatalogState, catalog_after, without_rows}
+use Rattle.jet_catalog.specs.Catalog.{CatalogState, catalog_after}
 use Rattle.page_image.specs.Page.{Node}
-use Rattle.record_changes.proofs.Tests.{impossible, same_number}
 use Rattle.table_trees.specs.StoredNodes.{bookmark_entries}
 use Rattle.table_trees.specs.StoredTables.{StoredTable, index_entries, table_nodes}
 use Rattle.version_history.proofs.Lists.{all_weaker}
@@ -23,7 +22,7 @@ use Rattle.version_keys.proofs.SameColumns.{yields_same}
 use Rattle.versioned_tables.specs.Variants.{HoldsVariants}
 use Rattle.table_versions.specs.RecordRows.{record_of, row_under, rows_of_nodes}
 use Rattle.table_versions.specs.SchemaSteps.{IsMade, TakesColumn}
-use Rattle.table_versions.specs.VersionsKept.{AreKept, IsKeptTable, IsRowUnder, needed_trees, only_secondary, secondary_rule, tree_numbers}
+use Rattle.table_versions.specs.VersionsKept.{AreKept, IsRowUnder, needed_trees, only_secondary}
 use Rattle.table_versions.specs.VersionsView.{with_newest}
 use Rattle.table_versions.proofs.ChangedColumns.{SameColumns, SameFields, added_columns, fits_with, indexable_then, own_then, rules_then}
 use Rattle.table_versions.proofs.NodeRecords.{record_at}

@@ -1,5 +1,5 @@
 -- An index goes.
-use Rattle.std.proofs.Common.{◌≡◌, ◌≢◌, ℕ, Bool, true, false, not, ◌&&◌, ◌||◌, cond, List, [], ◌∷◌, ◌++◌, Option, Some, None, filter, find, map, option_map, refl, sym, ap, subst, ◌∙◌}
+use Rattle.std.proofs.Common.{◌≡◌, ◌≢◌, ℕ, Bool, true, false, not, ◌||◌, cond, List, [], ◌∷◌, ◌++◌, Option, Some, None, filter, find, map, option_map, refl, sym, ap, subst, ◌∙◌}
 use Rattle.std.specs.Prelude.{◌==◌, IfSome, IsSomeAnd, is_some, unwrap_or}
 use Rattle.std.specs.List.{AllByRecursion, list_any}
 use Rattle.database_state.specs.SchemaChanges.{without_index}
@@ -10,7 +10,7 @@ use Rattle.index_derive.specs.declared.schema_calls.SchemaStep.{SchemaStep}
 use Rattle.index_derive.specs.declared.schema_calls.SchemaStep.TheVariants as step
 use Rattle.jet_base.specs.declared.ids.IndexId.{IndexId}
 use Rattle.jet_base.specs.declared.ids.TableId.{TableId}
-use Rattle.jet_catalog.specs.Catalog.{CatalogState, IsNumbered, catalog_after, ids_rise, without_rows}
+use Rattle.jet_catalog.specs.Catalog.{CatalogState, IsNumbered, catalog_after, ids_rise}
 use Rattle.page_image.specs.Page.{Node}
 use Rattle.record_changes.proofs.Tests.{impossible, not_true, same_number, self_equal}
 use Rattle.table_trees.specs.StoredTables.{StoredIndex, StoredTable, has_index, index_entries, is_index, is_table, table_indexes, table_nodes, with_indexes, without_index as without_tree, without_where}
@@ -21,9 +21,9 @@ use Rattle.table_versions.specs.RecordRows.{record_of, row_under, rows_of_nodes}
 use Rattle.table_versions.specs.SchemaSteps.{IsMade}
 use Rattle.table_versions.specs.VersionsKept.{AreKept, IsKeptTable, IsRowUnder, IsStoredRule, needed_trees, only_secondary, secondary_rule, secondary_rules, tree_numbers}
 use Rattle.table_versions.specs.VersionsView.{with_newest}
-use Rattle.table_versions.proofs.OtherRules.{Takes, row_as, rule_as, with_rules, yields_as}
+use Rattle.table_versions.proofs.OtherRules.{Takes, row_as, rule_as, yields_as}
 use Rattle.table_versions.proofs.Stepping.{IsSettled, StepsTo, changed_at, is_made, kept_of, map_filter, map_same, map_table, moved, newest_same, plain_table, settled_of}
-use Rattle.table_versions.proofs.Tables.{found_number, table_at}
+use Rattle.table_versions.proofs.Tables.{found_number}
 use Rattle.table_versions.proofs.TreeNumbers.{changed_numbers, first_or_none, index_numbers, others}
 
 -- ---- lists

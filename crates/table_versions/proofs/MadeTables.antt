@@ -1,5 +1,5 @@
 -- A table comes or goes.
-use Rattle.std.proofs.Common.{◌≡◌, ◌≢◌, ◌<◌, ℕ, Bool, true, false, not, ◌||◌, ◌&&◌, cond, List, [], ◌∷◌, ◌++◌, Option, Some, None, filter, map, refl, sym, ap, subst, ◌∙◌, arith}
+use Rattle.std.proofs.Common.{◌≡◌, ◌≢◌, ◌<◌, ℕ, Bool, true, false, not, cond, List, [], ◌∷◌, ◌++◌, Option, Some, None, filter, map, refl, sym, ap, subst, ◌∙◌, arith}
 use Rattle.std.specs.Prelude.{◌==◌, IfSome, is_some, nat_le, nat_lt}
 use Rattle.std.proofs.lemmas.Bool.Decides.{nat_tests}
 use Rattle.database_state.specs.SchemaChanges.{new_table}
@@ -10,7 +10,7 @@ use Rattle.jet_base.specs.declared.ids.TableId.{TableId}
 use Rattle.jet_catalog.specs.Catalog.{CatalogState, IsNumbered, catalog_after, ids_rise, without_rows}
 use Rattle.page_image.specs.Page.{Node}
 use Rattle.record_changes.proofs.Tests.{and_left, and_right, impossible, or_first, or_second, same_number, self_equal}
-use Rattle.table_trees.specs.StoredTables.{StoredIndex, StoredTable, has_table, is_table, new_table as new_tree, table_indexes, table_nodes, without_table}
+use Rattle.table_trees.specs.StoredTables.{StoredTable, has_table, is_table, new_table as new_tree, table_indexes, table_nodes, without_table}
 use Rattle.version_history.proofs.Lists.{all_true}
 use Rattle.version_keys.proofs.IndexNumbers.{found_in_filter}
 use Rattle.version_keys.proofs.SchemaKeys.{with_last}

@@ -1,7 +1,7 @@
 -- A table whose indexes change, and the records that stand in it.
 use Rattle.std.proofs.Common.{◌≡◌, ◌≤◌, ℕ, Bool, true, false, cond, List, [], ◌∷◌, Option, Some, None, length, refl, sym, ap, subst, ◌∙◌}
 use Rattle.std.specs.Prelude.{MatchOption, is_none}
-use Rattle.std.specs.List.{AllByRecursion, flat_map, list_all}
+use Rattle.std.specs.List.{AllByRecursion, list_all}
 use Rattle.column_set.specs.RecordValues.{RecordFields, column_of_id}
 use Rattle.database_state.specs.Conflicts.{yields_key}
 use Rattle.database_state.specs.Lawful.{is_indexable}

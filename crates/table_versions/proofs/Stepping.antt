@@ -1,5 +1,5 @@
 -- What a schema step makes of the tables of the catalog beside their trees, while no change is held.
-use Rattle.std.proofs.Common.{◌≡◌, ℕ, Bool, true, false, not, cond, List, [], ◌∷◌, ◌++◌, Option, Some, None, filter, map, option_map, refl, sym, ap, subst, ◌∙◌}
+use Rattle.std.proofs.Common.{◌≡◌, ℕ, Bool, true, false, cond, List, [], ◌∷◌, ◌++◌, Option, Some, None, filter, map, option_map, refl, sym, ap, subst, ◌∙◌}
 use Rattle.std.specs.Prelude.{◌==◌, IfSome}
 use Rattle.database_state.specs.SchemaChanges.{tables_after_step}
 use Rattle.database_state.specs.Table.{Table, schema_of, table_with_id, with_table}
@@ -13,9 +13,9 @@ use Rattle.table_trees.specs.StoredTables.{StoredIndex, StoredTable, index_entri
 use Rattle.version_keys.proofs.SchemaKeys.{other_table, this_table}
 use Rattle.versioned_tables.specs.Variants.{HoldsVariants}
 use Rattle.table_versions.specs.RecordRows.{rows_of_nodes}
-use Rattle.table_versions.specs.SchemaSteps.{IsMade, after_step}
+use Rattle.table_versions.specs.SchemaSteps.{IsMade}
 use Rattle.table_versions.specs.VersionsKept.{AreKept, IsKeptTable, needed_trees, secondary_rule, tree_numbers}
-use Rattle.table_versions.specs.VersionsView.{stored_versions, with_newest}
+use Rattle.table_versions.specs.VersionsView.{with_newest}
 use Rattle.table_versions.proofs.Tables.{found_number}
 
 -- ---- tables while no change is held

@@ -1,10 +1,10 @@
 -- The numbers of the trees after a change of one table's indexes.
-use Rattle.std.proofs.Common.{◌≡◌, ◌<◌, ◌≤◌, ℕ, Bool, true, false, ◌&&◌, cond, List, [], ◌∷◌, Option, Some, None, find, map, option_map, refl, sym, ap, ◌∙◌, arith}
+use Rattle.std.proofs.Common.{◌≡◌, ◌≤◌, ℕ, Bool, true, false, cond, List, [], ◌∷◌, Some, find, map, option_map, refl, sym, ap, ◌∙◌, arith}
 use Rattle.std.specs.Prelude.{◌==◌, nat_lt, unwrap_or}
 use Rattle.std.proofs.lemmas.Bool.Decides.{nat_tests}
 use Rattle.database_state.specs.Table.{Table, with_table}
 use Rattle.jet_catalog.specs.Catalog.{ids_rise}
-use Rattle.record_changes.proofs.Tests.{and_left, and_right, impossible, same_number}
+use Rattle.record_changes.proofs.Tests.{and_left, and_right, impossible}
 use Rattle.table_trees.specs.StoredTables.{StoredIndex, StoredTable, is_table, put_indexes, table_indexes, with_indexes}
 use Rattle.table_versions.specs.VersionsKept.{needed_trees, tree_numbers}
 

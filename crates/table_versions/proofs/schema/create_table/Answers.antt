@@ -1,4 +1,4 @@
-use Rattle.std.proofs.Common.{◌≡◌, List, ap, ◌∙◌}
+use Rattle.std.proofs.Common.{List, ap, ◌∙◌}
 use Rattle.table_trees.specs.StoredTables.{StoredTable, without_table}
 use Rattle.table_versions.proofs.MadeTables.{create_made, given_back, no_tree, none_new}
 use Rattle.table_versions.proofs.schema.create_table.Goals as goal

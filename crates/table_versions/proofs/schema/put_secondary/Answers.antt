@@ -1,7 +1,7 @@
-use Rattle.std.proofs.Common.{◌≡◌, List, ◌||◌, ap, ◌∙◌}
+use Rattle.std.proofs.Common.{List, ◌||◌, ap, ◌∙◌}
 use Rattle.std.specs.Prelude.{◌==◌}
 use Rattle.record_changes.proofs.Tests.{self_equal}
-use Rattle.table_trees.specs.StoredTables.{StoredTable, has_index, has_table, without_index}
+use Rattle.table_trees.specs.StoredTables.{StoredTable, has_index, without_index}
 use Rattle.table_versions.proofs.EmptyIndexes.{NewIndexLaws, in_trees, new_created, no_index, taken_back}
 use Rattle.table_versions.proofs.MadeTables.{a_tree}
 use Rattle.table_versions.proofs.schema.put_secondary.Goals as goal

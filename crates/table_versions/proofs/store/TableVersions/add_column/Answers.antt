@@ -1,4 +1,4 @@
-use Rattle.std.proofs.Common.{◌≡◌, refl, sym, ap, subst, ◌∙◌}
+use Rattle.std.proofs.Common.{refl, subst}
 use Rattle.std.specs.Prelude.{Option, IfSome}
 use Rattle.database_state.specs.Table.{Table}
 use Rattle.table_versions.specs.SchemaSteps.{TakesColumn}

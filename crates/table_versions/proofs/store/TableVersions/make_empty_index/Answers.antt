@@ -1,4 +1,4 @@
-use Rattle.std.proofs.Common.{◌≡◌, refl, sym, ap, subst, ◌∙◌}
+use Rattle.std.proofs.Common.{subst}
 use Rattle.std.specs.Prelude.{Option, IsSomeAnd}
 use Rattle.database_state.specs.Table.{Table}
 use Rattle.table_versions.specs.SchemaSteps.{IsEmptyFor}

@@ -1,4 +1,4 @@
-use Rattle.std.proofs.Common.{◌≡◌, refl, sym, ap, subst, ◌∙◌, arith}
+use Rattle.std.proofs.Common.{ap, arith}
 use Rattle.table_versions.specs.StoredVersions.{StoredVersions}
 use Rattle.table_versions.proofs.Held.{either, on_err, on_ok}
 use Rattle.table_versions.proofs.StepInStore.{is_after, settled_parts, unchanged_kept, unchanged_shown}
