@@ -34,3 +34,13 @@ pub mod UndoneThere
 pub mod OpenUndone
 pub mod UndoneLevel
 pub mod PutsBack
+pub mod Stepping
+pub mod MadeTables
+pub mod ChangedColumns
+pub mod MadeColumns
+pub mod TreeNumbers
+pub mod OtherRules
+pub mod MadeIndexes
+pub mod NewIndexes
+pub mod StepInStore
+pub mod EmptyIndexes

@@ -7,3 +7,4 @@ pub mod GoneKeys
 pub mod LeftVariants
 pub mod KeyConflicts
 pub mod UndoneChanges
+pub mod SchemaSteps

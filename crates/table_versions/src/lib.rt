@@ -8,6 +8,7 @@ mod ending;
 mod forgetting;
 mod keys;
 mod reading;
+mod schema;
 mod store;
 mod telling;
 mod undoing;

@@ -1,0 +1,54 @@
+-- Schema steps of the store: what is asked of one, and what it leaves.
+use Rattle.std.specs.Prelude.{◌≡◌, ◌==◌, ◌≤◌, true, false, List, []}
+use Rattle.std.specs.List.{list_all, list_any}
+use Rattle.column_set.specs.declared.columns.Column.{Column}
+use Rattle.column_set.specs.RecordValues.{is_kept_column}
+use Rattle.database_state.specs.Puts.{is_cut_refusal, is_null_refusal}
+use Rattle.database_state.specs.SchemaChanges.{greatest_table_after, has_column, rule_columns}
+use Rattle.database_state.specs.Table.{Table, schema_of}
+use Rattle.index_derive.specs.declared.rules.IndexRule.{IndexRule}
+use Rattle.index_derive.specs.Entries.{entries, is_legal}
+use Rattle.index_derive.specs.declared.schema_calls.SchemaStep.{SchemaStep}
+use Rattle.jet_catalog.specs.Catalog.{CatalogState}
+use Rattle.table_trees.specs.StoredTables.{StoredTable}
+use Rattle.versioned_tables.specs.VersionedTables.{with_schema_step}
+use Rattle.table_versions.specs.StoredVersions.{StoredVersions}
+use Rattle.table_versions.specs.VersionsKept.{AreKept}
+use Rattle.table_versions.specs.VersionsView.{stored_versions}
+
+-- the store after a step
+abbrev pub after_step : SchemaStep → StoredVersions → StoredVersions
+after_step made store = record {
+  greatest_table = greatest_table_after store.greatest_table made;
+  store = with_schema_step made store.store;
+}
+
+-- A column of which every record has a value comes only to a table without records.
+abbrev pub TakesColumn : Column → Table → Type 0
+TakesColumn column table = is_kept_column column ≡ true → table.rows ≡ []
+
+-- What a primary index asks of its table: that there is no other, and no record.
+pub record IsFirstPrimary (table : Table) : Type 0 where
+  pub first : list_any (λ made. made.flags.primary) table.indexes ≡ false
+  pub empty : table.rows ≡ []
+
+-- A new index of a table has a number of its own, is legal and of the table's columns, has keys of 255 bytes at most, and
+-- refuses no record.
+pub record IsIndexFor (rule : IndexRule) (table : Table) : Type 0 where
+  pub number : list_any (λ made. made.id.0 == rule.id.0) table.indexes ≡ false
+  pub primary : rule.flags.primary ≡ true → IsFirstPrimary table
+  pub legal : is_legal rule (schema_of table) ≡ true
+  pub columns : list_all (has_column table) (rule_columns rule) ≡ true
+  pub short : rule.key_most ≤ 255
+  pub not_null : list_any (λ row. is_null_refusal (entries rule (schema_of table) row.1)) table.rows ≡ false
+  pub not_cut : list_any (λ row. is_cut_refusal (entries rule (schema_of table) row.1)) table.rows ≡ false
+
+-- The same of a table without a record.
+pub record IsEmptyFor (rule : IndexRule) (table : Table) : Type 0 where
+  pub fits : IsIndexFor rule table
+  pub empty : table.rows ≡ []
+
+-- While no change is held: the catalog and the trees have become those after a step.
+pub record IsMade (made : SchemaStep) (was : CatalogState) (trees : List StoredTable) (is : CatalogState) (other : List StoredTable) : Type 0 where
+  pub kept : AreKept is.tables other []
+  pub shown : stored_versions is other [] ≡ after_step made (stored_versions was trees [])

@@ -1,0 +1,256 @@
+//! Schema steps, once no change is held.
+
+ghost use Rattle.std.specs.Prelude.{◌≡◌, ◌<◌, ℕ, [], List, map, true, false, is_some, IfSome, IsSomeAnd, OnErr, OnOk};
+ghost use Rattle.database_state.specs.Table.{table_with_id};
+ghost use Rattle.index_derive.specs.declared.schema_calls.SchemaStep.TheVariants as step;
+ghost use Rattle.table_versions.specs.SchemaSteps.{IsEmptyFor, IsMade, TakesColumn, after_step};
+ghost use Rattle.table_versions.specs.VersionsKept.{AreKept, secondary_rule};
+ghost use Rattle.table_versions.specs.VersionsView.{with_newest};
+
+use crate::store::TableVersions;
+use column_set::Column;
+use index_derive::{IndexRule, SchemaStep};
+use jet_base::{IndexId, OutOfMemory, TableId};
+use jet_catalog::Catalog;
+use table_trees::{
+    TableTrees, indexes_after_a_change, indexes_beside_a_new_one, indexes_without_one,
+    tables_beside_a_new_one, tables_without_one,
+};
+
+impl TableVersions {
+    /// A table comes, with a number above all that were given. After want of memory all is as it was.
+    pub fn make_table(&mut self, made: &SchemaStep, table: TableId) -> Result<(), OutOfMemory>
+        requires settled { self.old.store.held ≡ [] }
+        requires step { (name : List ℕ) × (made.now ≡ step.CreateTable table name) }
+        requires new_id { self.old.greatest_table < table.0 }
+        ensures ok { OnOk result (self.new ≡ after_step made.now self.old) }
+        ensures err { OnErr result (self.new ≡ self.old) }
+    {
+        create_table(&mut self.catalog, &mut self.trees, made, table)
+    }
+
+    /// A table goes, with its records. After want of memory all is as it was.
+    pub fn delete_table(&mut self, made: &SchemaStep, table: TableId) -> Result<(), OutOfMemory>
+        requires settled { self.old.store.held ≡ [] }
+        requires step { made.now ≡ step.DeleteTable table }
+        requires there { is_some (table_with_id self.old.store.tables table.0) ≡ true }
+        ensures ok { OnOk result (self.new ≡ after_step made.now self.old) }
+        ensures err { OnErr result (self.new ≡ self.old) }
+    {
+        drop_table(&mut self.catalog, &mut self.trees, made, table)
+    }
+
+    /// A column comes, one of which every record has a value only where there is no record. After want of memory all is as it
+    /// was.
+    pub fn add_column(
+        &mut self,
+        made: &SchemaStep,
+        table: TableId,
+        column: &Column,
+    ) -> Result<(), OutOfMemory>
+        requires settled { self.old.store.held ≡ [] }
+        requires step { made.now ≡ step.AddColumn table column.now }
+        requires taken { IfSome (table_with_id self.old.store.tables table.0) (TakesColumn column.now) }
+        ensures ok { OnOk result (self.new ≡ after_step made.now self.old) }
+        ensures err { OnErr result (self.new ≡ self.old) }
+    {
+        put_column(&mut self.catalog, &self.trees, made, table, column)
+    }
+
+    /// An index goes, any but the primary one. After want of memory all is as it was.
+    pub fn delete_index(
+        &mut self,
+        made: &SchemaStep,
+        table: TableId,
+        index: IndexId,
+    ) -> Result<(), OutOfMemory>
+        requires settled { self.old.store.held ≡ [] }
+        requires step { made.now ≡ step.DeleteIndex table index }
+        requires there { IsSomeAnd (table_with_id self.old.store.tables table.0) (λ t. is_some (secondary_rule t index.0) ≡ true) }
+        ensures ok { OnOk result (self.new ≡ after_step made.now self.old) }
+        ensures err { OnErr result (self.new ≡ self.old) }
+    {
+        drop_index(&mut self.catalog, &mut self.trees, made, table, index)
+    }
+
+    /// An index of a table without a record comes. After want of memory all is as it was.
+    pub fn make_empty_index(
+        &mut self,
+        made: &SchemaStep,
+        table: TableId,
+        rule: &IndexRule,
+    ) -> Result<(), OutOfMemory>
+        requires settled { self.old.store.held ≡ [] }
+        requires step { made.now ≡ step.CreateIndex table rule.now }
+        requires fits { IsSomeAnd (table_with_id self.old.store.tables table.0) (IsEmptyFor rule.now) }
+        ensures ok { OnOk result (self.new ≡ after_step made.now self.old) }
+        ensures err { OnErr result (self.new ≡ self.old) }
+    {
+        put_index(&mut self.catalog, &mut self.trees, made, table, rule)
+    }
+}
+
+// A table comes: its trees first, which go again where the catalog has no memory for it.
+fn create_table(
+    catalog: &mut Catalog,
+    trees: &mut TableTrees,
+    made: &SchemaStep,
+    table: TableId,
+) -> Result<(), OutOfMemory>
+    requires kept { AreKept catalog.old.tables trees.old [] }
+    requires step { (name : List ℕ) × (made.now ≡ step.CreateTable table name) }
+    requires new_id { catalog.old.greatest_table < table.0 }
+    ensures ok { OnOk result (IsMade made.now catalog.old trees.old catalog.new trees.new) }
+    ensures err { OnErr result ((catalog.new ≡ catalog.old) × (trees.new ≡ trees.old)) }
+{
+    tables_beside_a_new_one();
+    catalog.tables();
+    match trees.add_table(table) {
+        Ok(()) => match catalog.make(made) {
+            Ok(()) => Ok(()),
+            Err(fault) => {
+                trees.remove_table(table);
+                Err(fault)
+            }
+        },
+        Err(fault) => Err(fault),
+    }
+}
+
+// A table goes.
+fn drop_table(
+    catalog: &mut Catalog,
+    trees: &mut TableTrees,
+    made: &SchemaStep,
+    table: TableId,
+) -> Result<(), OutOfMemory>
+    requires kept { AreKept catalog.old.tables trees.old [] }
+    requires step { made.now ≡ step.DeleteTable table }
+    requires there { is_some (table_with_id catalog.old.tables table.0) ≡ true }
+    ensures ok { OnOk result (IsMade made.now catalog.old trees.old catalog.new trees.new) }
+    ensures err { OnErr result ((catalog.new ≡ catalog.old) × (trees.new ≡ trees.old)) }
+{
+    tables_without_one();
+    match catalog.make(made) {
+        Ok(()) => {
+            trees.remove_table(table);
+            Ok(())
+        }
+        Err(fault) => Err(fault),
+    }
+}
+
+// A column comes.
+fn put_column(
+    catalog: &mut Catalog,
+    trees: &TableTrees,
+    made: &SchemaStep,
+    table: TableId,
+    column: &Column,
+) -> Result<(), OutOfMemory>
+    requires kept { AreKept catalog.old.tables trees.now [] }
+    requires step { made.now ≡ step.AddColumn table column.now }
+    requires taken { IfSome (table_with_id (map (with_newest trees.now) catalog.old.tables) table.0) (TakesColumn column.now) }
+    ensures ok { OnOk result (IsMade made.now catalog.old trees.now catalog.new trees.now) }
+    ensures err { OnErr result (catalog.new ≡ catalog.old) }
+{
+    trees.nodes_are_in_order();
+    catalog.make(made)
+}
+
+// An index goes, one that has entries of its own.
+fn drop_index(
+    catalog: &mut Catalog,
+    trees: &mut TableTrees,
+    made: &SchemaStep,
+    table: TableId,
+    index: IndexId,
+) -> Result<(), OutOfMemory>
+    requires kept { AreKept catalog.old.tables trees.old [] }
+    requires step { made.now ≡ step.DeleteIndex table index }
+    requires there { IsSomeAnd (table_with_id catalog.old.tables table.0) (λ t. is_some (secondary_rule t index.0) ≡ true) }
+    ensures ok { OnOk result (IsMade made.now catalog.old trees.old catalog.new trees.new) }
+    ensures err { OnErr result ((catalog.new ≡ catalog.old) × (trees.new ≡ trees.old)) }
+{
+    indexes_after_a_change();
+    indexes_without_one();
+    catalog.tables();
+    match catalog.make(made) {
+        Ok(()) => {
+            trees.remove_index(table, index);
+            Ok(())
+        }
+        Err(fault) => Err(fault),
+    }
+}
+
+// An index of a table without a record comes. The primary one needs no tree.
+fn put_index(
+    catalog: &mut Catalog,
+    trees: &mut TableTrees,
+    made: &SchemaStep,
+    table: TableId,
+    rule: &IndexRule,
+) -> Result<(), OutOfMemory>
+    requires kept { AreKept catalog.old.tables trees.old [] }
+    requires step { made.now ≡ step.CreateIndex table rule.now }
+    requires fits { IsSomeAnd (table_with_id (map (with_newest trees.old) catalog.old.tables) table.0) (IsEmptyFor rule.now) }
+    ensures ok { OnOk result (IsMade made.now catalog.old trees.old catalog.new trees.new) }
+    ensures err { OnErr result ((catalog.new ≡ catalog.old) × (trees.new ≡ trees.old)) }
+{
+    if rule.flags.primary {
+        put_primary(catalog, trees, made, table, rule)
+    } else {
+        put_secondary(catalog, trees, made, table, rule)
+    }
+}
+
+// A primary index comes, which needs no tree of its own.
+fn put_primary(
+    catalog: &mut Catalog,
+    trees: &TableTrees,
+    made: &SchemaStep,
+    table: TableId,
+    rule: &IndexRule,
+) -> Result<(), OutOfMemory>
+    requires kept { AreKept catalog.old.tables trees.now [] }
+    requires step { made.now ≡ step.CreateIndex table rule.now }
+    requires primary { rule.now.flags.primary ≡ true }
+    requires fits { IsSomeAnd (table_with_id (map (with_newest trees.now) catalog.old.tables) table.0) (IsEmptyFor rule.now) }
+    ensures ok { OnOk result (IsMade made.now catalog.old trees.now catalog.new trees.now) }
+    ensures err { OnErr result (catalog.new ≡ catalog.old) }
+{
+    trees.nodes_are_in_order();
+    catalog.make(made)
+}
+
+// Another index comes: its tree first, which goes again where the catalog has no memory for it.
+fn put_secondary(
+    catalog: &mut Catalog,
+    trees: &mut TableTrees,
+    made: &SchemaStep,
+    table: TableId,
+    rule: &IndexRule,
+) -> Result<(), OutOfMemory>
+    requires kept { AreKept catalog.old.tables trees.old [] }
+    requires step { made.now ≡ step.CreateIndex table rule.now }
+    requires secondary { rule.now.flags.primary ≡ false }
+    requires fits { IsSomeAnd (table_with_id (map (with_newest trees.old) catalog.old.tables) table.0) (IsEmptyFor rule.now) }
+    ensures ok { OnOk result (IsMade made.now catalog.old trees.old catalog.new trees.new) }
+    ensures err { OnErr result ((catalog.new ≡ catalog.old) × (trees.new ≡ trees.old)) }
+{
+    indexes_after_a_change();
+    indexes_beside_a_new_one();
+    catalog.tables();
+    trees.nodes_are_in_order();
+    match trees.add_index(table, rule.id) {
+        Ok(()) => match catalog.make(made) {
+            Ok(()) => Ok(()),
+            Err(fault) => {
+                trees.remove_index(table, rule.id);
+                Err(fault)
+            }
+        },
+        Err(fault) => Err(fault),
+    }
+}
