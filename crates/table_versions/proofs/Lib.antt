@@ -18,3 +18,6 @@ pub mod RisingKeys
 pub mod StandingChanges
 pub mod EntryTrees
 pub mod LostKeys
+pub mod KeysPut
+pub mod RoomMade
+pub mod HalfPuts

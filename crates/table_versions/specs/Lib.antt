@@ -4,3 +4,4 @@ pub mod VersionsView
 pub mod VersionsKept
 pub mod Walks
 pub mod GoneKeys
+pub mod PutRecords

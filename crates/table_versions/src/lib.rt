@@ -5,6 +5,7 @@
 mod changing;
 mod ending;
 mod keys;
+mod putting;
 mod reading;
 mod store;
 mod telling;
