@@ -21,3 +21,6 @@ pub mod LostKeys
 pub mod KeysPut
 pub mod RoomMade
 pub mod HalfPuts
+pub mod PutKept
+pub mod PutAsked
+pub mod PutDone
