@@ -117,9 +117,10 @@ primary_rules numbers (r ∷ rules) = by r.flags.primary refl (primary_rules num
 
 own_trees : (all rules : List IndexRule) → ((n : ℕ) → list_any (λ m. m == n) (rule_numbers rules) ≡ true → list_any (λ m. m == n) (rule_numbers all) ≡ true) → AllByRecursion (HasTree (rule_numbers all)) rules
 own_trees all [] within = tt
-own_trees all (r ∷ rules) within =
-    (λ secondary. within r.id.0 (ap (λ b. b || list_any (λ m. m == r.id.0) (rule_numbers rules)) (self_equal r.id.0)),
-    own_trees all rules (λ n e. within n (later (r.id.0 == n) (list_any (λ m. m == n) (rule_numbers rules)) e)))
+own_trees all (r ∷ rules) within = (
+  λ secondary. within r.id.0 (ap (λ b. b || list_any (λ m. m == r.id.0) (rule_numbers rules)) (self_equal r.id.0)),
+  own_trees all rules (λ n e. within n (later (r.id.0 == n) (list_any (λ m. m == n) (rule_numbers rules)) e)),
+)
   where
     later : (a b : Bool) → b ≡ true → (a || b) ≡ true
     later true b e = refl
@@ -196,12 +197,14 @@ can_take_all : (trees : List StoredTable) (t : Table) (held : List HeldRecord) (
     → index_numbers trees t.id ≡ rule_numbers (secondary_rules t) → (rules : List IndexRule) → AllByRecursion (HasKeysOf (schema_of t) values) rules → AllByRecursion (HasTree (rule_numbers (secondary_rules t))) rules
     → AllByRecursion (CanTake (schema_of t) values t.id trees) rules
 can_take_all trees t held values sorted fits kept numbers [] has tree = tt
-can_take_all trees t held values sorted fits kept numbers (r ∷ rules) has tree =
-    (record {
-      keys = has.0;
-      there = λ secondary. list_any_numbers r.id.0 (table_indexes trees t.id) ∙ ap (list_any (λ n. n == r.id.0)) numbers ∙ tree.0 secondary;
-      derived = λ secondary. keys_are_of_records trees t held sorted fits kept r r.id.0 (ap only_secondary has.0.found ∙ ap (λ b. cond b None (Some r)) secondary);
-    }, can_take_all trees t held values sorted fits kept numbers rules has.1 tree.1)
+can_take_all trees t held values sorted fits kept numbers (r ∷ rules) has tree = (
+  record {
+    keys = has.0;
+    there = λ secondary. list_any_numbers r.id.0 (table_indexes trees t.id) ∙ ap (list_any (λ n. n == r.id.0)) numbers ∙ tree.0 secondary;
+    derived = λ secondary. keys_are_of_records trees t held sorted fits kept r r.id.0 (ap only_secondary has.0.found ∙ ap (λ b. cond b None (Some r)) secondary);
+  },
+  can_take_all trees t held values sorted fits kept numbers rules has.1 tree.1,
+)
 
 abbrev pub AreSorted : List StoredTable → Type 0
 AreSorted trees = (table : ℕ) → are_sorted (bookmark_entries (table_nodes trees table)) ≡ true

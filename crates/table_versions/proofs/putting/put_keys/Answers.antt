@@ -64,11 +64,11 @@ loop-rule-preserved c =
     let P : List StoredTable → Type 0 = λ trees. HasKeys c.args.table.0 c.args.bookmark.now (record_keys (take (c.loop-rule.rule-index + 1) rules) c.args.schema.now c.args.values.now) c.args.trees.now trees in
     elim c.if-not-rule.branch [
       | then-not-rule+in-Ok w ↦ subst P (sym w.trees-is)
-        (with_rule c.args.table.0 c.args.bookmark.now (record_keys (take c.loop-rule.rule-index rules) c.args.schema.now c.args.values.now) (rule_keys c.args.schema.now c.args.values.now c.rule-item.result) (record_keys (take (c.loop-rule.rule-index + 1) rules) c.args.schema.now c.args.values.now)
-        c.args.trees.now c.loop-rule.trees w.put_keys_of.new.trees c.rule-item.result.flags.primary w.if-not-rule.true more c.loop-rule.invariant w.in-Ok.ensures.ok)
+          (with_rule c.args.table.0 c.args.bookmark.now (record_keys (take c.loop-rule.rule-index rules) c.args.schema.now c.args.values.now) (rule_keys c.args.schema.now c.args.values.now c.rule-item.result) (record_keys (take (c.loop-rule.rule-index + 1) rules) c.args.schema.now c.args.values.now)
+          c.args.trees.now c.loop-rule.trees w.put_keys_of.new.trees c.rule-item.result.flags.primary w.if-not-rule.true more c.loop-rule.invariant w.in-Ok.ensures.ok)
       | else-not-rule w ↦ subst P (sym w.trees-is)
-        (without_rule c.args.table.0 c.args.bookmark.now (record_keys (take c.loop-rule.rule-index rules) c.args.schema.now c.args.values.now) (rule_keys c.args.schema.now c.args.values.now c.rule-item.result) (record_keys (take (c.loop-rule.rule-index + 1) rules) c.args.schema.now c.args.values.now)
-        c.args.trees.now c.loop-rule.trees c.rule-item.result.flags.primary w.if-not-rule.false more c.loop-rule.invariant)
+          (without_rule c.args.table.0 c.args.bookmark.now (record_keys (take c.loop-rule.rule-index rules) c.args.schema.now c.args.values.now) (rule_keys c.args.schema.now c.args.values.now c.rule-item.result) (record_keys (take (c.loop-rule.rule-index + 1) rules) c.args.schema.now c.args.values.now)
+          c.args.trees.now c.loop-rule.trees c.rule-item.result.flags.primary w.if-not-rule.false more c.loop-rule.invariant)
     ]
 
 -- src/putting.rt:36:1
