@@ -162,7 +162,7 @@ all_room laws trees id bookmark there tables (h ∷ held) kept = (room_then laws
 -- ---- the drop itself
 
 -- a row has room in its node
-room_in : (nodes : List Node) → All IsShortNode nodes → (own : List ℕ) → IfSome (row_under nodes own) (λ row. IsSomeAnd (extent_in nodes own) (λ n. length row ≤ n))
+pub room_in : (nodes : List Node) → All IsShortNode nodes → (own : List ℕ) → IfSome (row_under nodes own) (λ row. IsSomeAnd (extent_in nodes own) (λ n. length row ≤ n))
 room_in [] short own = tt
 room_in (n ∷ nodes) short own = by (has_key own n) (All-head IsShortNode n nodes short) (room_in nodes (All-tail IsShortNode n nodes short) own)
   where

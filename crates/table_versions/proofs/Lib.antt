@@ -44,3 +44,9 @@ pub mod MadeIndexes
 pub mod NewIndexes
 pub mod StepInStore
 pub mod EmptyIndexes
+pub mod KeysPut
+pub mod RoomMade
+pub mod HalfPuts
+pub mod PutKept
+pub mod PutAsked
+pub mod PutDone

@@ -8,3 +8,4 @@ pub mod LeftVariants
 pub mod KeyConflicts
 pub mod UndoneChanges
 pub mod SchemaSteps
+pub mod PutRecords

@@ -1,18 +1,20 @@
 //! Changes of records.
 
-ghost use Rattle.std.specs.Prelude.{◌≡◌, ◌↔◌, true, false, is_some, IsErrOf, OnErr, OnOk};
+ghost use Rattle.std.specs.Prelude.{◌≡◌, ◌↔◌, true, false, is_some, option_copied, IfSome, IsErrOf, IsSomeAnd, OnErr, OnOk};
 ghost use Rattle.database_state.specs.Changes.{changed_bookmark, changed_table};
-ghost use Rattle.database_state.specs.Table.{record_in};
+ghost use Rattle.database_state.specs.Table.{record_in, table_with_id};
 ghost use Rattle.version_store.specs.declared.calls.ChangeKind.TheVariants as kind;
 ghost use Rattle.version_store.specs.declared.fault.VersionFault.TheVariants as fault;
 ghost use Rattle.version_store.specs.HeldChanges.{kind_of};
 ghost use Rattle.versioned_tables.specs.VersionedTables.{with_change};
+ghost use Rattle.table_versions.specs.PutRecords.{IsStorable, put_values};
 ghost use Rattle.table_versions.specs.StoredVersions.{has_room};
 
+use crate::putting::{put_in, rows_are_read_back};
 use crate::reading::row_in_node;
 use crate::store::TableVersions;
 use crate::telling::{bookmark_of, table_of};
-use column_set::{Change, size_of_a_row, values_here_are_the_record};
+use column_set::{Change, Record, size_of_a_row, values_here_are_the_record};
 use table_trees::{nodes_after_a_change, nodes_by_bookmark};
 use version_store::{By, VersionFault};
 
@@ -42,5 +44,62 @@ impl TableVersions {
             }
             Err(fault) => Err(fault),
         }
+    }
+
+    /// Puts a record under its bookmark, in the place of the one that is there, and holds the put behind the other changes with
+    /// the record before it. It is refused where it does not fit, as `fits` says. After a refusal and after want of memory all
+    /// is as it was.
+    ///
+    /// An index is looked up once for each key of the record, and the row is written once, in its node.
+    pub fn put(&mut self, by: By, change: &Change) -> Result<(), VersionFault>
+        requires put { kind_of change.now ≡ kind.Put }
+        requires storable { IsSomeAnd (table_with_id self.old.store.tables (changed_table change.now)) (λ table. IsStorable table (changed_bookmark change.now) (put_values change.now)) }
+        ensures over { IsErrOf result fault.OverSpan ↔ (has_room by change.now self.old.store ≡ false) }
+        ensures ok { OnOk result (self.new ≡ record self.old { store = with_change by change.now self.old.store }) }
+        ensures err { OnErr result (self.new ≡ self.old) }
+    {
+        size_of_a_row();
+        values_here_are_the_record();
+        rows_are_read_back();
+        self.trees.nodes_are_in_order();
+        let _ = self.catalog.tables();
+        if !self.fits(by, change) {
+            return Err(VersionFault::OverSpan);
+        }
+        let table = table_of(change);
+        let bookmark = bookmark_of(change);
+        match values_of(change) {
+            Some(values) => match self.catalog.by_id(table) {
+                Some(def) => {
+                    let answer = put_in(
+                        self.alloc,
+                        &mut self.trees,
+                        &mut self.versions,
+                        by,
+                        change,
+                        table,
+                        def.schema(),
+                        bookmark,
+                        values,
+                    );
+                    self.trees.nodes_are_in_order();
+                    answer
+                }
+                None => Err(VersionFault::OutOfMemory),
+            },
+            None => Err(VersionFault::OutOfMemory),
+        }
+    }
+}
+
+// The record of a put.
+fn values_of(change: &Change) -> Option<&Record>
+    ensures { IfSome (option_copied result) (λ values. values ≡ put_values change.now) }
+{
+    match change {
+        Change::Put { values, .. } => Some(values),
+        Change::Drop { .. } => None,
+        Change::Hold { .. } => None,
+        Change::Add { .. } => None,
     }
 }

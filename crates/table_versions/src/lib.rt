@@ -7,6 +7,7 @@ mod conflicting_keys;
 mod ending;
 mod forgetting;
 mod keys;
+mod putting;
 mod reading;
 mod schema;
 mod store;

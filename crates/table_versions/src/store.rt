@@ -22,6 +22,7 @@ use version_store::Versions;
 /// record, and an index has the keys of all of them. Reading takes no memory.
 #[derive(Drop)]
 pub struct TableVersions {
+    pub(crate) alloc: Global,
     pub(crate) catalog: Catalog,
     pub(crate) trees: TableTrees,
     pub(crate) versions: Versions,
@@ -46,6 +47,7 @@ impl TableVersions {
         ensures { result ≡ record { greatest_table = 0; store = record { tables = []; held = [] } } }
     {
         TableVersions {
+            alloc,
             catalog: Catalog::new(alloc),
             trees: TableTrees::new(alloc),
             versions: Versions::new(alloc),

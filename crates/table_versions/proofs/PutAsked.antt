@@ -1,0 +1,262 @@
+-- What a put asks of the trees and of the held changes, in a store.
+use Rattle.std.proofs.Common.{◌≡◌, ◌≢◌, ℕ, ◌≤◌, Bool, true, false, not, ◌&&◌, ◌||◌, cond, List, [], ◌∷◌, ◌++◌, filter, find, length, map, Option, Some, None, Result, Ok, Err, option_map, refl, sym, ap, subst, ◌∙◌, drop}
+use Rattle.std.specs.Prelude.{◌==◌, IfSome, IsOk, IsSomeAnd, IsTrue, bytes_eq, is_none, is_some, unwrap_or}
+use Rattle.std.specs.List.{AllByRecursion, flat_map, list_any}
+use Rattle.jet_base.specs.declared.replies.Jet.TheVariants as jet
+use Rattle.column_set.specs.RecordValues.{RecordFields, record_fits, record_size}
+use Rattle.column_set.specs.Refusals.{Refusals, first_refusal}
+use Rattle.column_set.specs.Rows.{RowFields, all_here, here_fields, is_all_here, is_row, largest_row, row_bytes, row_size}
+use Rattle.column_set.specs.RowReading.{row_in}
+use Rattle.cursor_nav.specs.Places.{are_sorted}
+use Rattle.database_state.specs.Conflicts.{yields_key}
+use Rattle.database_state.specs.Lawful.{is_indexable}
+use Rattle.database_state.specs.Puts.{is_cut_refusal, is_null_refusal}
+use Rattle.database_state.specs.State.{is_undone}
+use Rattle.database_state.specs.Table.{Table, row_at, rule_with_id, schema_of, table_with_id}
+use Rattle.derived_index.specs.KeptEntries.{has_entry}
+use Rattle.index_derive.specs.declared.rules.IndexRule.{IndexRule}
+use Rattle.index_derive.specs.declared.rules.Schema.{Schema}
+use Rattle.index_derive.specs.Entries.{KeyRefusal, NullKeyDisallowed, KeyTruncated, entries, is_legal}
+use Rattle.page_image.specs.Page.{Node}
+use Rattle.record_changes.proofs.Tests.{and_left, and_right, impossible, same_bytes, same_number, self_equal}
+use Rattle.table_trees.specs.StoredNodes.{bookmark_entries}
+use Rattle.table_trees.specs.StoredTables.{StoredIndex, StoredTable, has_index, index_entries, is_table, table_indexes, table_nodes}
+use Rattle.version_store.specs.HeldChanges.{HeldChange, is_rewrite}
+use Rattle.versioned_tables.specs.HeldRecords.{HeldRecord, is_change_at, is_standing_rewrite}
+use Rattle.versioned_tables.specs.Variants.{HoldsVariants, is_variant_key}
+use Rattle.table_versions.specs.GoneKeys.{AreRows, HasKeysOf, held_from, index_numbers, table_numbers}
+use Rattle.table_versions.specs.PutRecords.{AreKeysOfRecords, CanTake, HasVariantKeys, IsKeyOfRecord}
+use Rattle.table_versions.specs.RecordRows.{IsRecordRow, held_record, record_of, row_under, rows_of_nodes}
+use Rattle.table_versions.specs.VersionsKept.{AreKept, IsBookmarkOf, IsKeptChange, IsKeptTable, IsRowOf, IsRowUnder, IsStoredRule, needed_trees, only_secondary, secondary_rule, secondary_rules, tree_numbers}
+use Rattle.table_versions.proofs.KeysPut.{list_any_numbers}
+use Rattle.table_versions.proofs.Lists.{all_append, all_filter}
+use Rattle.table_versions.proofs.NodeRecords.{record_at}
+use Rattle.table_versions.proofs.Tables.{found_number}
+
+-- ---- indexes that take a record
+
+no_refusal : (r : Result (List (List ℕ)) KeyRefusal) → is_null_refusal r ≡ false → is_cut_refusal r ≡ false → IsOk r
+no_refusal (Ok keys) a b = refl
+no_refusal (Err NullKeyDisallowed) a b = impossible (sym a)
+no_refusal (Err KeyTruncated) a b = impossible (sym b)
+
+all_taken : (schema : Schema) (values : RecordFields) (rules : List IndexRule)
+    → is_none (first_refusal (flat_map (λ (rule : IndexRule). (is_null_refusal (entries rule schema values), jet.NullKeyDisallowed) ∷ (is_cut_refusal (entries rule schema values), jet.KeyTruncated) ∷ []) rules)) ≡ true
+    → AllByRecursion (λ rule. IsOk (entries rule schema values)) rules
+all_taken schema values [] e = tt
+all_taken schema values (rule ∷ rules) e = by (is_null_refusal (entries rule schema values)) (is_cut_refusal (entries rule schema values)) refl refl e (all_taken schema values rules)
+  where
+    rest : Refusals
+    rest = flat_map (λ (rule : IndexRule). (is_null_refusal (entries rule schema values), jet.NullKeyDisallowed) ∷ (is_cut_refusal (entries rule schema values), jet.KeyTruncated) ∷ []) rules
+
+    by : (a b : Bool) → is_null_refusal (entries rule schema values) ≡ a → is_cut_refusal (entries rule schema values) ≡ b
+        → is_none (cond a (Some jet.NullKeyDisallowed) (cond b (Some jet.KeyTruncated) (first_refusal rest))) ≡ true
+        → (is_none (first_refusal rest) ≡ true → AllByRecursion (λ r. IsOk (entries r schema values)) rules) → IsOk (entries rule schema values) × AllByRecursion (λ r. IsOk (entries r schema values)) rules
+    by true b f g e next = impossible e
+    by false true f g e next = impossible e
+    by false false f g e next = (no_refusal (entries rule schema values) f g, next e)
+
+all_have : (table : Table) (values : RecordFields) (rules : List IndexRule) → AllByRecursion (IsStoredRule table) rules → AllByRecursion (λ rule. IsOk (entries rule (schema_of table) values)) rules → AllByRecursion (HasKeysOf (schema_of table) values) rules
+all_have table values [] stored taken = tt
+all_have table values (rule ∷ rules) stored taken =
+    (record { found = stored.0.found; legal = stored.0.legal; short = stored.0.short; taken = taken.0 }, all_have table values rules stored.1 taken.1)
+
+-- in the order of the schema
+by_schema : (P : IndexRule → Type 0) (table : Table) → AllByRecursion P table.indexes → AllByRecursion P (schema_of table).indexes
+by_schema P table all =
+    all_append P (filter (λ r. r.flags.primary) table.indexes) (filter (λ r. not r.flags.primary) table.indexes)
+    (all_filter P (λ r. r.flags.primary) table.indexes all) (all_filter P (λ r. not r.flags.primary) table.indexes all)
+
+pub rules_take : (table : Table) (values : RecordFields) → AllByRecursion (IsStoredRule table) table.indexes → is_indexable (schema_of table) values ≡ true → AllByRecursion (HasKeysOf (schema_of table) values) (schema_of table).indexes
+rules_take table values stored taken =
+    all_have table values (schema_of table).indexes (by_schema (IsStoredRule table) table stored) (all_taken (schema_of table) values (schema_of table).indexes taken)
+
+-- ---- the trees of a table
+
+abbrev first_pair : List (ℕ × List ℕ) → ℕ × List ℕ
+first_pair [] = (0, [])
+first_pair (x ∷ xs) = x
+
+abbrev other_pairs : List (ℕ × List ℕ) → List (ℕ × List ℕ)
+other_pairs [] = []
+other_pairs (x ∷ xs) = xs
+
+abbrev is_empty : List (ℕ × List ℕ) → Bool
+is_empty [] = true
+is_empty (x ∷ xs) = false
+
+abbrev rule_numbers : List IndexRule → List ℕ
+rule_numbers rules = map (λ (rule : IndexRule). rule.id.0) rules
+
+needed_indexes : (trees : List StoredTable) (tables : List Table) (id : ℕ) (t : Table) → map tree_numbers trees ≡ map needed_trees tables → table_with_id tables id ≡ Some t → index_numbers trees id ≡ rule_numbers (secondary_rules t)
+needed_indexes trees [] id t same found = cc
+needed_indexes [] (x ∷ tables) id t same found = impossible (sym (ap is_empty same))
+needed_indexes (y ∷ trees) (x ∷ tables) id t same found = by (x.id == id) refl found (needed_indexes trees tables id t (ap other_pairs same))
+  where
+    by : (b : Bool) → (x.id == id) ≡ b → cond b (Some x) (table_with_id tables id) ≡ Some t → (table_with_id tables id ≡ Some t → index_numbers trees id ≡ rule_numbers (secondary_rules t))
+        → index_numbers (y ∷ trees) id ≡ rule_numbers (secondary_rules t)
+    by true e is rest =
+        ap (λ (b : Bool). map (λ (i : StoredIndex). i.0) (unwrap_or (option_map (λ (z : StoredTable). z.indexes) (cond b (Some y) (find (is_table id) trees))) [])) (ap (λ (p : ℕ × List ℕ). p.0 == id) (ap first_pair same) ∙ e)
+        ∙ ap (λ (p : ℕ × List ℕ). p.1) (ap first_pair same)
+        ∙ ap (λ (o : Option Table). rule_numbers (secondary_rules (unwrap_or o x))) is
+    by false e is rest =
+        ap (λ (b : Bool). map (λ (i : StoredIndex). i.0) (unwrap_or (option_map (λ (z : StoredTable). z.indexes) (cond b (Some y) (find (is_table id) trees))) [])) (ap (λ (p : ℕ × List ℕ). p.0 == id) (ap first_pair same) ∙ e)
+        ∙ rest is
+
+-- a rule that has a tree, where it is not the primary one
+abbrev HasTree : List ℕ → IndexRule → Type 0
+HasTree numbers rule = rule.flags.primary ≡ false → list_any (λ n. n == rule.id.0) numbers ≡ true
+
+primary_rules : (numbers : List ℕ) (rules : List IndexRule) → AllByRecursion (HasTree numbers) (filter (λ r. r.flags.primary) rules)
+primary_rules numbers [] = tt
+primary_rules numbers (r ∷ rules) = by r.flags.primary refl (primary_rules numbers rules)
+  where
+    by : (b : Bool) → r.flags.primary ≡ b → AllByRecursion (HasTree numbers) (filter (λ r. r.flags.primary) rules) → AllByRecursion (HasTree numbers) (cond b (r ∷ filter (λ r. r.flags.primary) rules) (filter (λ r. r.flags.primary) rules))
+    by true e rest = (λ secondary. impossible (sym secondary ∙ e), rest)
+    by false e rest = rest
+
+own_trees : (all rules : List IndexRule) → ((n : ℕ) → list_any (λ m. m == n) (rule_numbers rules) ≡ true → list_any (λ m. m == n) (rule_numbers all) ≡ true) → AllByRecursion (HasTree (rule_numbers all)) rules
+own_trees all [] within = tt
+own_trees all (r ∷ rules) within = (
+  λ secondary. within r.id.0 (ap (λ b. b || list_any (λ m. m == r.id.0) (rule_numbers rules)) (self_equal r.id.0)),
+  own_trees all rules (λ n e. within n (later (r.id.0 == n) (list_any (λ m. m == n) (rule_numbers rules)) e)),
+)
+  where
+    later : (a b : Bool) → b ≡ true → (a || b) ≡ true
+    later true b e = refl
+    later false b e = e
+
+have_trees : (t : Table) → AllByRecursion (HasTree (rule_numbers (secondary_rules t))) (schema_of t).indexes
+have_trees t =
+    all_append (HasTree (rule_numbers (secondary_rules t))) (filter (λ r. r.flags.primary) t.indexes) (secondary_rules t)
+    (primary_rules (rule_numbers (secondary_rules t)) t.indexes) (own_trees (secondary_rules t) (secondary_rules t) (λ n e. e))
+
+-- ---- keys of records
+
+-- the record before a held change fits the columns
+abbrev FitsBefore : Table → HeldRecord → Type 0
+FitsBefore t change = (change.table == t.id) ≡ true → IfSome change.before (λ values. record_fits t.columns values ≡ true)
+
+before_fits : (tables : List Table) (trees : List StoredTable) (id : ℕ) (t : Table) → table_with_id tables id ≡ Some t → (held : List HeldChange) → AllByRecursion (IsKeptChange tables trees) held → AllByRecursion (FitsBefore t) (map held_record held)
+before_fits tables trees id t found [] kept = tt
+before_fits tables trees id t found (h ∷ held) kept =
+    (λ same. fits (is_rewrite h.kind && not (is_undone h.status)) h.before (row_is same), before_fits tables trees id t found held kept.1)
+  where
+    row_is : (h.table == t.id) ≡ true → IfSome h.before (IsRowOf t)
+    row_is same =
+        subst (λ (o : Option Table). IfSome o (λ table. IfSome h.before (IsRowOf table))) (ap (table_with_id tables) (same_number h.table t.id same ∙ found_number id tables t found) ∙ found) kept.0.row
+
+    fits : (b : Bool) (row : Option (List ℕ)) → IfSome row (IsRowOf t) → IfSome (cond b (option_map record_of row) None) (λ values. record_fits t.columns values ≡ true)
+    fits true None is = tt
+    fits true (Some row) is = is.columns
+    fits false row is = tt
+
+key_of : (rule : IndexRule) (t : Table) (key : List ℕ) (o : Option RecordFields) → IfSome o (λ values. record_fits t.columns values ≡ true) → yields_key rule (schema_of t) key o ≡ true → IsKeyOfRecord rule (schema_of t) key
+key_of rule t key None fits e = impossible e
+key_of rule t key (Some values) fits e = (values, fits, e)
+
+key_before : (rule : IndexRule) (t : Table) (key own : List ℕ) (held : List HeldRecord) → AllByRecursion (FitsBefore t) held → list_any (λ (change : HeldRecord). is_standing_rewrite t.id own change && yields_key rule (schema_of t) key change.before) held ≡ true
+    → IsKeyOfRecord rule (schema_of t) key
+key_before rule t key own [] fits e = impossible e
+key_before rule t key own (c ∷ held) fits e = by (is_standing_rewrite t.id own c && yields_key rule (schema_of t) key c.before) refl e (key_before rule t key own held fits.1)
+  where
+    by : (b : Bool) → (is_standing_rewrite t.id own c && yields_key rule (schema_of t) key c.before) ≡ b → (b || list_any (λ (change : HeldRecord). is_standing_rewrite t.id own change && yields_key rule (schema_of t) key change.before) held) ≡ true
+        → (list_any (λ (change : HeldRecord). is_standing_rewrite t.id own change && yields_key rule (schema_of t) key change.before) held ≡ true → IsKeyOfRecord rule (schema_of t) key) → IsKeyOfRecord rule (schema_of t) key
+    by true h e rest =
+        key_of rule t key c.before
+        (fits.0 (and_left (c.table == t.id) _ (and_left (is_change_at t.id own c) _ (and_left (is_change_at t.id own c && is_rewrite c.kind) _ (and_left (is_standing_rewrite t.id own c) _ h)))))
+        (and_right (is_standing_rewrite t.id own c) _ h)
+    by false h e rest = rest e
+
+newest_fits : (t : Table) (own : List ℕ) (row : Option (List ℕ)) → IfSome row (IsRowUnder t own) → IfSome (option_map record_of row) (λ values. record_fits t.columns values ≡ true)
+newest_fits t own None is = tt
+newest_fits t own (Some row) is = is.fits.columns
+
+keys_are_of_records : (trees : List StoredTable) (t : Table) (held : List HeldRecord) → are_sorted (bookmark_entries (table_nodes trees t.id)) ≡ true → AllByRecursion (FitsBefore t) held → IsKeptTable trees (table_nodes trees t.id) held t
+    → (rule : IndexRule) (index : ℕ) → secondary_rule t index ≡ Some rule → AreKeysOfRecords rule (schema_of t) (index_entries trees t.id index)
+keys_are_of_records trees t held sorted fits kept rule index found key own there =
+    by (row_at (rows_of_nodes nodes) own) newest (yields_key rule (schema_of t) key (row_at (rows_of_nodes nodes) own)) refl (sym (holds key own) ∙ there)
+  where
+    nodes : List Node
+    nodes = table_nodes trees t.id
+
+    holds : HoldsVariants (rows_of_nodes nodes) held rule (schema_of t) t.id (index_entries trees t.id index)
+    holds = subst (λ (o : Option IndexRule). IfSome o (λ rule. HoldsVariants (rows_of_nodes nodes) held rule (schema_of t) t.id (index_entries trees t.id index))) found (kept.entries index)
+
+    newest : IfSome (row_at (rows_of_nodes nodes) own) (λ values. record_fits t.columns values ≡ true)
+    newest = subst (λ (o : Option RecordFields). IfSome o (λ values. record_fits t.columns values ≡ true)) (sym (record_at nodes sorted own)) (newest_fits t own (row_under nodes own) (kept.rows own))
+
+    by : (o : Option RecordFields) → IfSome o (λ values. record_fits t.columns values ≡ true) → (b : Bool) → yields_key rule (schema_of t) key o ≡ b → (b || list_any (λ (change : HeldRecord). is_standing_rewrite t.id own change && yields_key rule (schema_of t) key change.before) held) ≡ true
+        → IsKeyOfRecord rule (schema_of t) key
+    by o is true e h = key_of rule t key o is e
+    by o is false e h = key_before rule t key own held fits h
+
+-- ---- in a store
+
+can_take_all : (trees : List StoredTable) (t : Table) (held : List HeldRecord) (values : RecordFields) → are_sorted (bookmark_entries (table_nodes trees t.id)) ≡ true → AllByRecursion (FitsBefore t) held → IsKeptTable trees (table_nodes trees t.id) held t
+    → index_numbers trees t.id ≡ rule_numbers (secondary_rules t) → (rules : List IndexRule) → AllByRecursion (HasKeysOf (schema_of t) values) rules → AllByRecursion (HasTree (rule_numbers (secondary_rules t))) rules
+    → AllByRecursion (CanTake (schema_of t) values t.id trees) rules
+can_take_all trees t held values sorted fits kept numbers [] has tree = tt
+can_take_all trees t held values sorted fits kept numbers (r ∷ rules) has tree = (
+  record {
+    keys = has.0;
+    there = λ secondary. list_any_numbers r.id.0 (table_indexes trees t.id) ∙ ap (list_any (λ n. n == r.id.0)) numbers ∙ tree.0 secondary;
+    derived = λ secondary. keys_are_of_records trees t held sorted fits kept r r.id.0 (ap only_secondary has.0.found ∙ ap (λ b. cond b None (Some r)) secondary);
+  },
+  can_take_all trees t held values sorted fits kept numbers rules has.1 tree.1,
+)
+
+abbrev pub AreSorted : List StoredTable → Type 0
+AreSorted trees = (table : ℕ) → are_sorted (bookmark_entries (table_nodes trees table)) ≡ true
+
+pub own_kept : (tables : List Table) (trees : List StoredTable) (held : List HeldChange) → AreKept tables trees held → (id : ℕ) (t : Table) → table_with_id tables id ≡ Some t → IsKeptTable trees (table_nodes trees id) (map held_record held) t
+own_kept tables trees held kept id t found = subst (λ (o : Option Table). IfSome o (IsKeptTable trees (table_nodes trees id) (map held_record held))) found (kept.each id)
+
+-- what a put asks, of the table of this number
+pub record PutAsks (tables : List Table) (trees : List StoredTable) (held : List HeldChange) (id : ℕ) (t : Table) (bookmark : List ℕ) (values : RecordFields) : Type 0 where
+  pub rules : AllByRecursion (HasKeysOf (schema_of t) values) (schema_of t).indexes
+  pub take : AllByRecursion (CanTake (schema_of t) values id trees) (schema_of t).indexes
+  pub keys : HasVariantKeys (option_map record_of (row_under (table_nodes trees id) bookmark)) (held_from 0 held) (schema_of t) id bookmark trees
+
+variant_keys : (trees : List StoredTable) (t : Table) (held : List HeldChange) (bookmark : List ℕ) → are_sorted (bookmark_entries (table_nodes trees t.id)) ≡ true → IsKeptTable trees (table_nodes trees t.id) (map held_record held) t
+    → HasVariantKeys (option_map record_of (row_under (table_nodes trees t.id) bookmark)) (map held_record held) (schema_of t) t.id bookmark trees
+variant_keys trees t held bookmark sorted kept index = by (secondary_rule t index) (kept.entries index)
+  where
+    by : (o : Option IndexRule) → IfSome o (λ rule. HoldsVariants (rows_of_nodes (table_nodes trees t.id)) (map held_record held) rule (schema_of t) t.id (index_entries trees t.id index))
+        → IfSome o (λ rule. (key : List ℕ) → has_entry key bookmark (index_entries trees t.id index) ≡ is_variant_key (option_map record_of (row_under (table_nodes trees t.id) bookmark)) (map held_record held) rule (schema_of t) t.id key bookmark)
+    by None holds = tt
+    by (Some rule) holds = λ key. holds key bookmark ∙ ap (λ newest. is_variant_key newest (map held_record held) rule (schema_of t) t.id key bookmark) (record_at (table_nodes trees t.id) sorted bookmark)
+
+pub put_asks : (tables : List Table) (trees : List StoredTable) (held : List HeldChange) → AreKept tables trees held → AreSorted trees → (id : ℕ) (t : Table) → table_with_id tables id ≡ Some t → (bookmark : List ℕ) (values : RecordFields) → is_indexable (schema_of t) values ≡ true
+    → PutAsks tables trees held id t bookmark values
+put_asks tables trees held kept sorted id t found bookmark values indexable =
+    subst (λ (n : ℕ). PutAsks tables trees held n t bookmark values) number (record {
+      rules = rules;
+      take = can_take_all trees t (map held_record held) values (sorted t.id) (before_fits tables trees id t found held kept.changes) own (needed_indexes trees tables t.id t kept.numbers at) (schema_of t).indexes rules (have_trees t);
+      keys = variant_keys trees t held bookmark (sorted t.id) own;
+    })
+  where
+    number : t.id ≡ id
+    number = found_number id tables t found
+
+    at : table_with_id tables t.id ≡ Some t
+    at = ap (table_with_id tables) number ∙ found
+
+    own : IsKeptTable trees (table_nodes trees t.id) (map held_record held) t
+    own = own_kept tables trees held kept t.id t at
+
+    rules : AllByRecursion (HasKeysOf (schema_of t) values) (schema_of t).indexes
+    rules = rules_take t values own.rules indexable
+
+-- the rows before held changes are spelled as records
+pub are_rows : (tables : List Table) (trees : List StoredTable) (held : List HeldChange) → AllByRecursion (IsKeptChange tables trees) held → AreRows held
+are_rows tables trees [] kept = tt
+are_rows tables trees (h ∷ held) kept = (by (table_with_id tables h.table) kept.0.named kept.0.row, are_rows tables trees held kept.1)
+  where
+    spelled : (t : Table) (row : Option (List ℕ)) → IfSome row (IsRowOf t) → IfSome row IsRecordRow
+    spelled t None is = tt
+    spelled t (Some row) is = is.row
+
+    by : (o : Option Table) → is_some o ≡ true → IfSome o (λ t. IfSome h.before (IsRowOf t)) → IfSome h.before IsRecordRow
+    by None named is = impossible named
+    by (Some t) named is = spelled t h.before is

@@ -1,0 +1,61 @@
+use Rattle.std.proofs.Common.{rules, ◌≡◌, ◌≤◌, ◌<◌, ◌↔◌, ◌++◌, ◌∷◌, [], ℕ, List, length, true, false, not, is_none, is_some, Option, Some, None, option_map, IfOk, IfSome, IsErrOf, IsTrue, OnErr, OnOk, ◌+◌, ◌-◌, ◌*◌, ◌/◌, ◌%◌, Bool, nat_eq, nat_lt, slice_index_or, slice_set, bit_and, bit_or, Fits, w8, w32, w64, Bor, MutBor}
+use Rattle.std.specs.List.{AllByRecursion}
+use Rattle.btree_inplace.specs.Order.{get_in}
+use Rattle.column_set.specs.RecordValues.{record_fits, record_size}
+use Rattle.column_set.specs.Rows.{all_here, is_all_here, largest_row, row_bytes}
+use Rattle.database_state.specs.Changes.{changed_bookmark, changed_table}
+use Rattle.index_tree.specs.Entries.{IsApartFromAll}
+use Rattle.table_trees.specs.StoredTables.{StoredTable, has_index, has_table, index_entries, table_nodes}
+use Rattle.version_store.specs.HeldChanges.{has_room, new_change}
+use Rattle.version_store.specs.declared.fault.VersionFault.TheVariants as fault
+use Rattle.table_versions.specs.GoneKeys.{AreRows, HasKeysOf, held_from}
+use Rattle.table_versions.specs.PutRecords.{AreKeysOfRecords, CanTake, HasKeys, HasRoom, HasVariantKeys, IsHalfPut, IsPut, IsSame, MayHaveKeys, one_key, record_keys, rule_keys}
+use Rattle.table_versions.specs.RecordRows.{IsRecordRow, record_of, row_under}
+use Rattle.std.proofs.Common.{sym, ap, subst, ◌∙◌}
+use Rattle.version_store.specs.HeldChanges.{HeldChange}
+use Rattle.table_versions.proofs.KeysPut.{taken_rules}
+use Rattle.table_versions.proofs.HalfPuts.{half_put, put_done, ready_put, table_stays}
+use Rattle.table_versions.proofs.putting.put_in.Goals as goal
+
+-- src/putting.rt:231:13
+pub take_back-requires-clause-there : goal.take_back-requires-clause-there
+take_back-requires-clause-there c =
+    table_stays c.args.table.0 c.make_room.new.trees c.put_keys.new.trees c.in-Err-put_keys.ensures.err.others.numbers
+    ∙ table_stays c.args.table.0 c.args.trees.now c.make_room.new.trees c.in-Ok-make_room.ensures.ok.numbers ∙ c.requires.there
+
+-- src/putting.rt:232:13
+pub returns-in-Err-put_keys-clause-same : goal.returns-in-Err-put_keys-clause-same
+returns-in-Err-put_keys-clause-same c =
+    c.take_back.ensures c.args.trees.now
+    (half_put c.args.table.0 c.args.bookmark.now c.len.result (record_keys c.args.schema.now.indexes c.args.schema.now c.args.values.now) c.args.trees.now c.make_room.new.trees c.put_keys.new.trees c.in-Ok-make_room.ensures.ok c.in-Err-put_keys.ensures.err)
+    c.in-Ok-make_room.ensures.new_node c.requires.keys
+
+-- src/putting.rt:217:1
+pub returns-in-Ok-push-clause-put : goal.returns-in-Ok-push-clause-put
+returns-in-Ok-push-clause-put c =
+    subst (λ (row : List ℕ). IsPut c.args.table.0 c.args.bookmark.now row (record_keys c.args.schema.now.indexes c.args.schema.now c.args.values.now) c.args.trees.now c.replace.new.self) (c.as_slice.ensures.value ∙ c.in-Ok.ensures.ok.1)
+    (subst (λ (trees : List StoredTable). IsPut c.args.table.0 c.args.bookmark.now c.as_slice.result.now (record_keys c.args.schema.now.indexes c.args.schema.now c.args.values.now) c.args.trees.now trees) (sym c.replace.ensures)
+    (put_done (record { named = c.nodes_after_a_change.ensures.named; others = c.nodes_after_a_change.ensures.others; indexes = c.nodes_after_a_change.ensures.indexes; put = c.nodes_by_bookmark.ensures.put; removed = c.nodes_by_bookmark.ensures.removed; replaced = c.nodes_by_bookmark.ensures.replaced; widened = c.nodes_by_bookmark.ensures.widened })
+    c.args.table.0 c.args.bookmark.now c.as_slice.result.now c.len.result (record_keys c.args.schema.now.indexes c.args.schema.now c.args.values.now) c.args.trees.now c.make_room.new.trees c.put_keys.new.trees
+    (table_stays c.args.table.0 c.make_room.new.trees c.put_keys.new.trees c.in-Ok-put_keys.ensures.ok.others.numbers
+    ∙ table_stays c.args.table.0 c.args.trees.now c.make_room.new.trees c.in-Ok-make_room.ensures.ok.numbers ∙ c.requires.there)
+    c.in-Ok-make_room.ensures.ok c.in-Ok-put_keys.ensures.ok))
+
+-- src/putting.rt:242:13
+pub take_back-requires-in-Err-push-clause-rules : goal.take_back-requires-in-Err-push-clause-rules
+take_back-requires-in-Err-push-clause-rules c =
+    taken_rules c.args.schema.now c.args.values.now c.args.table.0 c.args.trees.now c.args.schema.now.indexes c.requires.rules
+
+-- src/putting.rt:242:13
+pub take_back-requires-in-Err-push-clause-there : goal.take_back-requires-in-Err-push-clause-there
+take_back-requires-in-Err-push-clause-there c =
+    table_stays c.args.table.0 c.make_room.new.trees c.put_keys.new.trees c.in-Ok-put_keys.ensures.ok.others.numbers
+    ∙ table_stays c.args.table.0 c.args.trees.now c.make_room.new.trees c.in-Ok-make_room.ensures.ok.numbers ∙ c.requires.there
+
+-- src/putting.rt:191:1
+pub returns-clause-same : goal.returns-clause-same
+returns-clause-same c =
+    c.take_back-in-Err-push.ensures c.args.trees.now (ready_put c.args.table.0 c.args.bookmark.now c.len.result (record_keys c.args.schema.now.indexes c.args.schema.now c.args.values.now) c.args.trees.now c.make_room.new.trees c.put_keys.new.trees c.in-Ok-make_room.ensures.ok c.in-Ok-put_keys.ensures.ok)
+    c.in-Ok-make_room.ensures.new_node
+    (subst (λ (held : List HeldChange). HasVariantKeys (option_map record_of (row_under (table_nodes c.args.trees.now c.args.table.0) c.args.bookmark.now)) (held_from 0 held) c.args.schema.now c.args.table.0 c.args.bookmark.now c.args.trees.now)
+    (sym c.in-Err-push.ensures.err) c.requires.keys)

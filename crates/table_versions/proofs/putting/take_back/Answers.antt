@@ -1,0 +1,41 @@
+use Rattle.std.proofs.Common.{rules, ◌≡◌, ◌≤◌, ◌<◌, ◌↔◌, ◌++◌, ◌∷◌, [], ℕ, List, length, true, false, not, is_none, is_some, Option, Some, None, option_map, IfOk, IfSome, IsErrOf, IsTrue, OnErr, OnOk, ◌+◌, ◌-◌, ◌*◌, ◌/◌, ◌%◌, Bool, nat_eq, nat_lt, slice_index_or, slice_set, bit_and, bit_or, Fits, w8, w32, w64, Bor, MutBor}
+use Rattle.std.specs.List.{AllByRecursion}
+use Rattle.btree_inplace.specs.Order.{get_in}
+use Rattle.column_set.specs.RecordValues.{record_fits, record_size}
+use Rattle.column_set.specs.Rows.{all_here, is_all_here, largest_row, row_bytes}
+use Rattle.database_state.specs.Changes.{changed_bookmark, changed_table}
+use Rattle.index_tree.specs.Entries.{IsApartFromAll}
+use Rattle.table_trees.specs.StoredTables.{StoredTable, has_index, has_table, index_entries, table_nodes}
+use Rattle.version_store.specs.HeldChanges.{has_room, new_change}
+use Rattle.version_store.specs.declared.fault.VersionFault.TheVariants as fault
+use Rattle.table_versions.specs.GoneKeys.{AreRows, HasKeysOf, held_from}
+use Rattle.table_versions.specs.PutRecords.{AreKeysOfRecords, CanTake, HasKeys, HasRoom, HasVariantKeys, IsHalfPut, IsPut, IsSame, MayHaveKeys, one_key, record_keys, rule_keys}
+use Rattle.table_versions.specs.RecordRows.{IsRecordRow, record_of, row_under}
+use Rattle.std.proofs.Common.{sym, ap, subst, ◌∙◌}
+use Rattle.column_set.specs.RecordValues.{RecordFields}
+use Rattle.table_versions.specs.GoneKeys.{LosesRecord}
+use Rattle.table_versions.proofs.HalfPuts.{row_stays, table_stays, taken_back, taken_back_with_node}
+use Rattle.table_versions.proofs.putting.take_back.Goals as goal
+
+-- src/putting.rt:158:1
+pub returns-then-is_new : goal.returns-then-is_new
+returns-then-is_new c =
+    λ base half is variants.
+    subst (λ (trees : List StoredTable). IsSame c.args.table.0 c.args.schema.now base trees) (sym c.remove.ensures)
+    (taken_back_with_node (record { named = c.nodes_after_a_change.ensures.named; others = c.nodes_after_a_change.ensures.others; indexes = c.nodes_after_a_change.ensures.indexes; put = c.nodes_by_bookmark.ensures.put; removed = c.nodes_by_bookmark.ensures.removed; replaced = c.nodes_by_bookmark.ensures.replaced; widened = c.nodes_by_bookmark.ensures.widened })
+    c.args.schema.now c.args.values.now c.args.table.0 c.args.bookmark.now (option_map record_of (row_under (table_nodes base c.args.table.0) c.args.bookmark.now)) (held_from 0 c.args.versions.now) base c.args.trees.now c.take_keys.new.trees
+    c.requires.rules half c.take_keys.ensures.others
+    (subst (λ (newest : Option RecordFields). LosesRecord newest (held_from 0 c.args.versions.now) c.args.schema.now c.args.table.0 c.args.bookmark.now c.args.values.now c.args.trees.now c.take_keys.new.trees)
+    (ap (option_map record_of) (row_stays c.args.table.0 c.args.bookmark.now (record_keys c.args.schema.now.indexes c.args.schema.now c.args.values.now) base c.args.trees.now half)) c.take_keys.ensures.keys)
+    variants (table_stays c.args.table.0 c.args.trees.now c.take_keys.new.trees c.take_keys.ensures.others.numbers ∙ c.requires.there) (sym c.if-is_new.true ∙ is))
+
+-- src/putting.rt:158:1
+pub returns-else-is_new : goal.returns-else-is_new
+returns-else-is_new c =
+    λ base half is variants.
+    taken_back
+    c.args.schema.now c.args.values.now c.args.table.0 c.args.bookmark.now (option_map record_of (row_under (table_nodes base c.args.table.0) c.args.bookmark.now)) (held_from 0 c.args.versions.now) base c.args.trees.now c.take_keys.new.trees
+    c.requires.rules half c.take_keys.ensures.others
+    (subst (λ (newest : Option RecordFields). LosesRecord newest (held_from 0 c.args.versions.now) c.args.schema.now c.args.table.0 c.args.bookmark.now c.args.values.now c.args.trees.now c.take_keys.new.trees)
+    (ap (option_map record_of) (row_stays c.args.table.0 c.args.bookmark.now (record_keys c.args.schema.now.indexes c.args.schema.now c.args.values.now) base c.args.trees.now half)) c.take_keys.ensures.keys)
+    variants (sym c.if-is_new.false ∙ is)
