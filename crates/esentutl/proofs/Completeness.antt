@@ -30,7 +30,7 @@ not_both (Err n) number e ok = absurd (true≢false (sym ok))
 -- ---- the form of the words
 
 is_run : Form → Bool
-is_run form.OrderedRun = true
+is_run (form.OrderedRun limit) = true
 is_run _ = false
 
 is_text : Form → Bool
@@ -41,9 +41,9 @@ topic_or : Topic → Form → Topic
 topic_or other (form.About about) = about
 topic_or other _ = other
 
-not_run : {A : Type 0} (f : Form) → is_run f ≡ false → f ≡ form.OrderedRun → A
+not_run : {A : Type 0} (f : Form) (limit : ℕ) → is_run f ≡ false → f ≡ form.OrderedRun limit → A
 unfolding is_run
-not_run f other is = absurd (true≢false (sym (ap is_run is) ∙ other))
+not_run f limit other is = absurd (true≢false (sym (ap is_run is) ∙ other))
 
 not_text : {A : Type 0} (f : Form) (asked : Topic) → is_text f ≡ false → f ≡ form.About asked → A
 unfolding is_text
@@ -55,30 +55,30 @@ same_topic a b is = ap (topic_or a) is
 
 -- ---- the run of a script
 
-completes_by : (o : Outside) (bytes text : List ℕ) (ending : Ending) → o.left_before ≡ Some bytes → o.left_before ≡ prepend_known text o.left_after
-    → form_of_ending ending ≡ form.OrderedRun → o.source_after ≡ o.source_before → o.sink_after ≡ o.sink_before → EndsBy o text ending
+completes_by : (limit named : ℕ) (o : Outside) (bytes text : List ℕ) (ending : Ending) → o.left_before ≡ Some bytes → o.left_before ≡ prepend_known text o.left_after
+    → form_of_ending limit ending ≡ form.OrderedRun named → o.source_after ≡ o.source_before → o.sink_after ≡ o.sink_before → EndsBy limit o text ending
     → length bytes ≤ script_limit → IsOk (built_lines bytes) → (status_of ending ≡ 0) ⊎ (status_of ending ≡ 7)
 unfolding is_run
-completes_by o bytes text done left read run source sink ends short built = inl refl
-completes_by o bytes text bad_words left read run source sink ends short built = not_run form.Unknown refl run
-completes_by o bytes text (told about) left read run source sink ends short built = inl refl
-completes_by o bytes text (sink_failed_telling about) left read run source sink ends short built = below_itself o.sink_before o.sink_after ends.1 sink
-completes_by o bytes text too_long left read run source sink ends short built =
+completes_by limit named o bytes text done left read run source sink ends short built = inl refl
+completes_by limit named o bytes text bad_words left read run source sink ends short built = not_run form.Unknown named refl run
+completes_by limit named o bytes text (told about) left read run source sink ends short built = inl refl
+completes_by limit named o bytes text (sink_failed_telling about) left read run source sink ends short built = below_itself o.sink_before o.sink_after ends.1 sink
+completes_by limit named o bytes text too_long left read run source sink ends short built =
     let long : script_limit < length bytes = subst (λ (bytes_left : Option (List ℕ)). IfSome bytes_left (λ b. script_limit < length b)) left ends.2 in
     let never : ⊥ = omega (arith, long, short) in absurd never
-completes_by o bytes text source_failed left read run source sink ends short built = below_itself o.source_before o.source_after ends.0 source
-completes_by o bytes text sink_failed left read run source sink ends short built = below_itself o.sink_before o.sink_after ends.1 sink
-completes_by o bytes text want_of_memory left read run source sink ends short built = inr refl
-completes_by o bytes text (not_built number) left read run source sink ends short built =
+completes_by limit named o bytes text source_failed left read run source sink ends short built = below_itself o.source_before o.source_after ends.0 source
+completes_by limit named o bytes text sink_failed left read run source sink ends short built = below_itself o.sink_before o.sink_after ends.1 sink
+completes_by limit named o bytes text want_of_memory left read run source sink ends short built = inr refl
+completes_by limit named o bytes text (not_built number) left read run source sink ends short built =
     let whole = read_whole bytes text o.left_after (sym left ∙ read) ends.2 in
     not_both (built_lines bytes) number (subst (λ (t : List ℕ). built_lines t ≡ Err number) whole ends.4) built
 
-pub completes_told : (o : Outside) (text : List ℕ) (ending : Ending) (left : Option (List ℕ)) → o.left_before ≡ left → o.left_before ≡ prepend_known text o.left_after
-    → form_of_ending ending ≡ form.OrderedRun → o.source_after ≡ o.source_before → o.sink_after ≡ o.sink_before → EndsBy o text ending → (status : ℕ) → status ≡ status_of ending
+pub completes_told : (limit named : ℕ) (o : Outside) (text : List ℕ) (ending : Ending) (left : Option (List ℕ)) → o.left_before ≡ left → o.left_before ≡ prepend_known text o.left_after
+    → form_of_ending limit ending ≡ form.OrderedRun named → o.source_after ≡ o.source_before → o.sink_after ≡ o.sink_before → EndsBy limit o text ending → (status : ℕ) → status ≡ status_of ending
     → IfSome left (λ bytes. length bytes ≤ script_limit → IsOk (built_lines bytes) → (status ≡ 0) ⊎ (status ≡ 7))
-completes_told o text ending None told_left read run source sink ends status is = tt
-completes_told o text ending (Some bytes) told_left read run source sink ends status is = λ short built.
-    subst (λ (s : ℕ). (s ≡ 0) ⊎ (s ≡ 7)) (sym is) (completes_by o bytes text ending told_left read run source sink ends short built)
+completes_told limit named o text ending None told_left read run source sink ends status is = tt
+completes_told limit named o text ending (Some bytes) told_left read run source sink ends status is = λ short built.
+    subst (λ (s : ℕ). (s ≡ 0) ⊎ (s ≡ 7)) (sym is) (completes_by limit named o bytes text ending told_left read run source sink ends short built)
 
 -- ---- a text that was asked for
 
@@ -87,21 +87,21 @@ abbrev pub IsTextAlone : Outside → Topic → ℕ → Type 0
 IsTextAlone o asked status =
     (status ≡ 0) × Took o (text_about asked) × (o.left_after ≡ o.left_before) × (o.source_after ≡ o.source_before)
 
-pub tells_whole : (o : Outside) (text : List ℕ) (ending : Ending) (asked : Topic) → o.left_before ≡ prepend_known text o.left_after
-    → form_of_ending ending ≡ form.About asked → o.sink_after ≡ o.sink_before → EndsBy o text ending → (status : ℕ) → status ≡ status_of ending
+pub tells_whole : (limit : ℕ) (o : Outside) (text : List ℕ) (ending : Ending) (asked : Topic) → o.left_before ≡ prepend_known text o.left_after
+    → form_of_ending limit ending ≡ form.About asked → o.sink_after ≡ o.sink_before → EndsBy limit o text ending → (status : ℕ) → status ≡ status_of ending
     → IsTextAlone o asked status
 unfolding is_text
-tells_whole o text (told about) asked read is sink ends status status_is = (
+tells_whole limit o text (told about) asked read is sink ends status status_is = (
   status_is,
   subst (λ (t : Topic). Took o (text_about t)) (same_topic about asked is) ends.2,
   prepend_nothing o.left_after ∙ sym (read ∙ ap (λ (t : List ℕ). prepend_known t o.left_after) ends.3),
   ends.0,
 )
-tells_whole o text (sink_failed_telling about) asked read is sink ends status status_is = below_itself o.sink_before o.sink_after ends.1 sink
-tells_whole o text done asked read is sink ends status status_is = not_text form.OrderedRun asked refl is
-tells_whole o text bad_words asked read is sink ends status status_is = not_text form.Unknown asked refl is
-tells_whole o text too_long asked read is sink ends status status_is = not_text form.OrderedRun asked refl is
-tells_whole o text source_failed asked read is sink ends status status_is = not_text form.OrderedRun asked refl is
-tells_whole o text sink_failed asked read is sink ends status status_is = not_text form.OrderedRun asked refl is
-tells_whole o text want_of_memory asked read is sink ends status status_is = not_text form.OrderedRun asked refl is
-tells_whole o text (not_built number) asked read is sink ends status status_is = not_text form.OrderedRun asked refl is
+tells_whole limit o text (sink_failed_telling about) asked read is sink ends status status_is = below_itself o.sink_before o.sink_after ends.1 sink
+tells_whole limit o text done asked read is sink ends status status_is = not_text (form.OrderedRun limit) asked refl is
+tells_whole limit o text bad_words asked read is sink ends status status_is = not_text form.Unknown asked refl is
+tells_whole limit o text too_long asked read is sink ends status status_is = not_text (form.OrderedRun limit) asked refl is
+tells_whole limit o text source_failed asked read is sink ends status status_is = not_text (form.OrderedRun limit) asked refl is
+tells_whole limit o text sink_failed asked read is sink ends status status_is = not_text (form.OrderedRun limit) asked refl is
+tells_whole limit o text want_of_memory asked read is sink ends status status_is = not_text (form.OrderedRun limit) asked refl is
+tells_whole limit o text (not_built number) asked read is sink ends status status_is = not_text (form.OrderedRun limit) asked refl is

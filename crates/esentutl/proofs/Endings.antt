@@ -27,29 +27,29 @@ status_of-ending_of fault.TooLong = refl
 status_of-ending_of (fault.NotBuilt number) = refl
 status_of-ending_of fault.Memory = refl
 
-pub form_of_ending-ending_of : (f : ReadScriptFault) → form.OrderedRun ≡ form_of_ending (ending_of f)
+pub form_of_ending-ending_of : (limit : ℕ) (f : ReadScriptFault) → form.OrderedRun limit ≡ form_of_ending limit (ending_of f)
 unfolding ending_of
-form_of_ending-ending_of fault.Source = refl
-form_of_ending-ending_of fault.TooLong = refl
-form_of_ending-ending_of (fault.NotBuilt number) = refl
-form_of_ending-ending_of fault.Memory = refl
+form_of_ending-ending_of limit fault.Source = refl
+form_of_ending-ending_of limit fault.TooLong = refl
+form_of_ending-ending_of limit (fault.NotBuilt number) = refl
+form_of_ending-ending_of limit fault.Memory = refl
 
 -- a line without a byte says nothing
 says_nothing : (o : Outside) → SaysOnly o [] → SinkIsSound o × Took o []
 says_nothing o (inl whole) = (whole.1, whole.0)
 says_nothing o (inr front) = let never : ⊥ = omega (arith, front.1) in absurd never
 
-pub ends_by_fault : (o : Outside) (text : List ℕ) (f : ReadScriptFault)
+pub ends_by_fault : (limit : ℕ) (o : Outside) (text : List ℕ) (f : ReadScriptFault)
     → ReadsAs (record { left_before = o.left_before; left_after = o.left_after; faults_before = o.source_before; faults_after = o.source_after }) text (Err f)
-    → SaysOnly o (line_of_fault f) → EndsBy o text (ending_of f)
+    → SaysOnly o (line_of_fault f) → EndsBy limit o text (ending_of f)
 unfolding ending_of
-ends_by_fault o text fault.Source reads says = (reads, says)
-ends_by_fault o text fault.TooLong reads says = (reads.0, says, reads.1)
-ends_by_fault o text (fault.NotBuilt number) reads says = (reads.0.0, says, reads.0.1, reads.0.2, reads.1)
-ends_by_fault o text fault.Memory reads says = let nothing = says_nothing o says in (reads, nothing.0, inl nothing.1)
+ends_by_fault limit o text fault.Source reads says = (reads, says)
+ends_by_fault limit o text fault.TooLong reads says = (reads.0, says, reads.1)
+ends_by_fault limit o text (fault.NotBuilt number) reads says = (reads.0.0, says, reads.0.1, reads.0.2, reads.1)
+ends_by_fault limit o text fault.Memory reads says = let nothing = says_nothing o says in (reads, nothing.0, inl nothing.1)
 
-pub ends_by_telling : (o : Outside) (topic : Topic) (status : ℕ) → SourceIsSound o
+pub ends_by_telling : (limit : ℕ) (o : Outside) (topic : Topic) (status : ℕ) → SourceIsSound o
     → Tells o.taken_before o.taken_after o.sink_before o.sink_after (text_about topic) status
-    → (ending : Ending) × (status ≡ status_of ending) × (form.About topic ≡ form_of_ending ending) × EndsBy o [] ending
-ends_by_telling o topic status sound (inl whole) = (told topic, whole.0, refl, (sound, whole.2, whole.1, refl))
-ends_by_telling o topic status sound (inr front) = (sink_failed_telling topic, front.0, refl, (sound, front.4, (front.1, front.2, front.3), refl))
+    → (ending : Ending) × (status ≡ status_of ending) × (form.About topic ≡ form_of_ending limit ending) × EndsBy limit o [] ending
+ends_by_telling limit o topic status sound (inl whole) = (told topic, whole.0, refl, (sound, whole.2, whole.1, refl))
+ends_by_telling limit o topic status sound (inr front) = (sink_failed_telling topic, front.0, refl, (sound, front.4, (front.1, front.2, front.3), refl))

@@ -2,6 +2,7 @@ pub mod Pieces
 pub mod LineText
 pub mod RunLaws
 pub mod Endings
+pub mod RunEndings
 pub mod Completeness
 pub mod Processes
 pub mod SessionRuns

@@ -9,12 +9,12 @@ use Rattle.session_local.specs.declared.reply.Reply.{Reply}
 use Rattle.session_local.specs.Answer.{Row, answered_by}
 use Rattle.session_local.specs.Run.{RunState, Line, LineOutcome, rows_of_line}
 use Rattle.script_transcript.specs.TranscriptLine.{transcript_of, transcript_line, row_line}
-use Rattle.esentutl.specs.TopCall.{span_limit, is_plain}
+use Rattle.esentutl.specs.TopCall.{is_plain}
 use Rattle.esentutl.specs.SessionRun.{outcome_of_jet, row_told}
 use Rattle.esentutl.specs.Lines.{line_text}
 
-pub line_text-row : (run : RunState) (line : Line) (outcome : LineOutcome) (row : Row) → rows_of_line span_limit run line outcome ≡ row ∷ [] → line_text run line outcome ≡ row_line row
-line_text-row run line outcome row e = ap transcript_of e ∙ append-nil (row_line row)
+pub line_text-row : (limit : ℕ) (run : RunState) (line : Line) (outcome : LineOutcome) (row : Row) → rows_of_line limit run line outcome ≡ row ∷ [] → line_text limit run line outcome ≡ row_line row
+line_text-row limit run line outcome row e = ap transcript_of e ∙ append-nil (row_line row)
 
 pub is_plain-told : (reply : Jet) → is_plain (outcome_of_jet reply) ≡ true
 is_plain-told jet.OutOfMemory = refl
@@ -29,6 +29,6 @@ piece-row n session request reply bytes shown before after piece empty appended 
     ∙ ap (λ b. transcript_line n session.0 request reply b) same
 
 -- the same piece, as the text of a line
-pub piece-line_text : (run : RunState) (line : Line) (outcome : LineOutcome) (row : Row) (piece : List ℕ) → piece ≡ row_line row
-    → rows_of_line span_limit run line outcome ≡ row ∷ [] → piece ≡ line_text run line outcome
-piece-line_text run line outcome row piece is rows = is ∙ sym (line_text-row run line outcome row rows)
+pub piece-line_text : (limit : ℕ) (run : RunState) (line : Line) (outcome : LineOutcome) (row : Row) (piece : List ℕ) → piece ≡ row_line row
+    → rows_of_line limit run line outcome ≡ row ∷ [] → piece ≡ line_text limit run line outcome
+piece-line_text limit run line outcome row piece is rows = is ∙ sym (line_text-row limit run line outcome row rows)

@@ -14,7 +14,7 @@ use Rattle.std.proofs.lemmas.Grind.{flat_map-append}
 use Rattle.database_state.specs.State.{empty_state}
 use Rattle.session_local.specs.Run.{RunState, Line, LineOutcome, served, no_memory, flush_failed, unserved, run_from, rows_from, rows_of_line, run_after, run_after_all, may_come, may_be_followed, outcomes_may_come}
 use Rattle.script_transcript.specs.TranscriptLine.{transcript_of, row_line}
-use Rattle.esentutl.specs.TopCall.{span_limit, is_plain, AreOutcomesOf, run_transcript}
+use Rattle.esentutl.specs.TopCall.{is_plain, AreOutcomesOf, run_transcript}
 use Rattle.esentutl.specs.declared.session_engine.SessionEngine.{SessionEngine}
 use Rattle.esentutl.specs.Serving.{IsReady}
 use Rattle.esentutl.specs.Lines.{line_text, RunsLine, BreaksLine}
@@ -31,17 +31,17 @@ first_of_pair pair = pair.0
 abbrev pub is_plain_pair : Served → Bool
 is_plain_pair pair = is_plain pair.1
 
-pub run_after_all-append : (run : RunState) (pairs : List Served) (pair : Served)
-    → run_after_all span_limit run (pairs ++ pair ∷ []) ≡ run_after span_limit (run_after_all span_limit run pairs) pair.0 pair.1
-run_after_all-append run [] pair = refl
-run_after_all-append run (first ∷ pairs) pair = run_after_all-append (run_after span_limit run first.0 first.1) pairs pair
+pub run_after_all-append : (limit : ℕ) (run : RunState) (pairs : List Served) (pair : Served)
+    → run_after_all limit run (pairs ++ pair ∷ []) ≡ run_after limit (run_after_all limit run pairs) pair.0 pair.1
+run_after_all-append limit run [] pair = refl
+run_after_all-append limit run (first ∷ pairs) pair = run_after_all-append limit (run_after limit run first.0 first.1) pairs pair
 
-pub rows_from-append : (run : RunState) (pairs : List Served) (pair : Served)
-    → rows_from span_limit run (pairs ++ pair ∷ []) ≡ rows_from span_limit run pairs ++ rows_of_line span_limit (run_after_all span_limit run pairs) pair.0 pair.1
-rows_from-append run [] pair = append-nil (rows_of_line span_limit run pair.0 pair.1)
-rows_from-append run (first ∷ pairs) pair =
-    ap (λ rows. rows_of_line span_limit run first.0 first.1 ++ rows) (rows_from-append (run_after span_limit run first.0 first.1) pairs pair)
-    ∙ sym (append_assoc (rows_of_line span_limit run first.0 first.1) (rows_from span_limit (run_after span_limit run first.0 first.1) pairs) (rows_of_line span_limit (run_after_all span_limit (run_after span_limit run first.0 first.1) pairs) pair.0 pair.1))
+pub rows_from-append : (limit : ℕ) (run : RunState) (pairs : List Served) (pair : Served)
+    → rows_from limit run (pairs ++ pair ∷ []) ≡ rows_from limit run pairs ++ rows_of_line limit (run_after_all limit run pairs) pair.0 pair.1
+rows_from-append limit run [] pair = append-nil (rows_of_line limit run pair.0 pair.1)
+rows_from-append limit run (first ∷ pairs) pair =
+    ap (λ rows. rows_of_line limit run first.0 first.1 ++ rows) (rows_from-append limit (run_after limit run first.0 first.1) pairs pair)
+    ∙ sym (append_assoc (rows_of_line limit run first.0 first.1) (rows_from limit (run_after limit run first.0 first.1) pairs) (rows_of_line limit (run_after_all limit (run_after limit run first.0 first.1) pairs) pair.0 pair.1))
 
 and_true : (a : Bool) → a && true ≡ a
 and_true true = refl
@@ -72,71 +72,71 @@ and_right : (a b : Bool) → (a && b) ≡ true → b ≡ true
 and_right true b h = h
 and_right false b h = cc
 
-pub outcomes_may_come-append : (run : RunState) (pairs : List Served) (pair : Served) → list_all is_plain_pair pairs ≡ true
-    → outcomes_may_come span_limit run (pairs ++ pair ∷ []) ≡ outcomes_may_come span_limit run pairs && may_come span_limit (run_after_all span_limit run pairs) pair.0 pair.1
-outcomes_may_come-append run [] pair plain =
-    let may = may_come span_limit run pair.0 pair.1 in
+pub outcomes_may_come-append : (limit : ℕ) (run : RunState) (pairs : List Served) (pair : Served) → list_all is_plain_pair pairs ≡ true
+    → outcomes_may_come limit run (pairs ++ pair ∷ []) ≡ outcomes_may_come limit run pairs && may_come limit (run_after_all limit run pairs) pair.0 pair.1
+outcomes_may_come-append limit run [] pair plain =
+    let may = may_come limit run pair.0 pair.1 in
     ap (λ b. (may && b) && true) (followed_by_none pair.0 pair.1) ∙ and_true (may && true) ∙ and_true may
-outcomes_may_come-append run (first ∷ pairs) pair plain =
-    let after = run_after span_limit run first.0 first.1 in
-    let may = may_come span_limit run first.0 first.1 in
-    let last = may_come span_limit (run_after_all span_limit after pairs) pair.0 pair.1 in
+outcomes_may_come-append limit run (first ∷ pairs) pair plain =
+    let after = run_after limit run first.0 first.1 in
+    let may = may_come limit run first.0 first.1 in
+    let last = may_come limit (run_after_all limit after pairs) pair.0 pair.1 in
     let here : is_plain first.1 ≡ true = and_left (is_plain first.1) (list_all is_plain_pair pairs) plain in
     let rest = and_right (is_plain first.1) (list_all is_plain_pair pairs) plain in
-    ap (λ b. (may && b) && outcomes_may_come span_limit after (pairs ++ pair ∷ [])) (followed first.0 first.1 (pairs ++ pair ∷ []) here)
-    ∙ ap (λ b. (may && true) && b) (outcomes_may_come-append after pairs pair rest)
-    ∙ and_assoc (may && true) (outcomes_may_come span_limit after pairs) last
-    ∙ ap (λ b. ((may && b) && outcomes_may_come span_limit after pairs) && last) (sym (followed first.0 first.1 pairs here))
+    ap (λ b. (may && b) && outcomes_may_come limit after (pairs ++ pair ∷ [])) (followed first.0 first.1 (pairs ++ pair ∷ []) here)
+    ∙ ap (λ b. (may && true) && b) (outcomes_may_come-append limit after pairs pair rest)
+    ∙ and_assoc (may && true) (outcomes_may_come limit after pairs) last
+    ∙ ap (λ b. ((may && b) && outcomes_may_come limit after pairs) && last) (sym (followed first.0 first.1 pairs here))
 
 -- the transcript of one line more
-pub run_transcript-append : (pairs : List Served) (pair : Served)
-    → run_transcript (pairs ++ pair ∷ []) ≡ run_transcript pairs ++ line_text (run_after_all span_limit (run_from empty_state) pairs) pair.0 pair.1
-run_transcript-append pairs pair =
-    ap transcript_of (rows_from-append (run_from empty_state) pairs pair)
-    ∙ flat_map-append row_line (rows_from span_limit (run_from empty_state) pairs) (rows_of_line span_limit (run_after_all span_limit (run_from empty_state) pairs) pair.0 pair.1)
+pub run_transcript-append : (limit : ℕ) (pairs : List Served) (pair : Served)
+    → run_transcript limit (pairs ++ pair ∷ []) ≡ run_transcript limit pairs ++ line_text limit (run_after_all limit (run_from empty_state) pairs) pair.0 pair.1
+run_transcript-append limit pairs pair =
+    ap transcript_of (rows_from-append limit (run_from empty_state) pairs pair)
+    ∙ flat_map-append row_line (rows_from limit (run_from empty_state) pairs) (rows_of_line limit (run_after_all limit (run_from empty_state) pairs) pair.0 pair.1)
 
 both : (a b : Bool) → a ≡ true → b ≡ true → (a && b) ≡ true
 both true b e f = f
 both false b e f = e
 
 -- the outcomes of one line more
-pub AreOutcomesOf-append : (lines : List Line) (pairs : List Served) (line : Line) (outcome : LineOutcome) → AreOutcomesOf lines pairs → is_plain outcome ≡ true
-    → may_come span_limit (run_after_all span_limit (run_from empty_state) pairs) line outcome ≡ true
-    → AreOutcomesOf (lines ++ line ∷ []) (pairs ++ (line, outcome) ∷ [])
-AreOutcomesOf-append lines pairs line outcome so_far plain may =
+pub AreOutcomesOf-append : (limit : ℕ) (lines : List Line) (pairs : List Served) (line : Line) (outcome : LineOutcome) → AreOutcomesOf limit lines pairs → is_plain outcome ≡ true
+    → may_come limit (run_after_all limit (run_from empty_state) pairs) line outcome ≡ true
+    → AreOutcomesOf limit (lines ++ line ∷ []) (pairs ++ (line, outcome) ∷ [])
+AreOutcomesOf-append limit lines pairs line outcome so_far plain may =
     let pair : Served = (line, outcome) in (
       map-append first_of_pair pairs (pair ∷ []) ∙ ap (λ xs. xs ++ line ∷ []) so_far.0,
       list_all-append is_plain_pair pairs (pair ∷ []) ∙ both (list_all is_plain_pair pairs) (is_plain outcome && true) so_far.1 (and_true (is_plain outcome) ∙ plain),
-      outcomes_may_come-append (run_from empty_state) pairs pair so_far.1 ∙ both (outcomes_may_come span_limit (run_from empty_state) pairs) (may_come span_limit (run_after_all span_limit (run_from empty_state) pairs) line outcome) so_far.2 may,
+      outcomes_may_come-append limit (run_from empty_state) pairs pair so_far.1 ∙ both (outcomes_may_come limit (run_from empty_state) pairs) (may_come limit (run_after_all limit (run_from empty_state) pairs) line outcome) so_far.2 may,
     )
 
 -- What holds before each line: the lines so far had outcomes that they may have, the sink took their transcript, and the
 -- engine has served them and can serve the rest.
-pub record SoFar (engine : SessionEngine) (gone left : List Line) (taken_before taken_now : Option (List ℕ)) : Type 0 where
+pub record SoFar (limit : ℕ) (engine : SessionEngine) (gone left : List Line) (taken_before taken_now : Option (List ℕ)) : Type 0 where
   pub pairs : List Served
-  pub outcomes : AreOutcomesOf gone pairs
-  pub ready : HasServed engine pairs left
-  pub taken : taken_now ≡ append_known taken_before (run_transcript pairs)
+  pub outcomes : AreOutcomesOf limit gone pairs
+  pub ready : HasServed limit engine pairs left
+  pub taken : taken_now ≡ append_known taken_before (run_transcript limit pairs)
 
 -- nothing is written yet
-pub none_so_far : (engine : SessionEngine) (lines : List Line) (taken : Option (List ℕ))
-    → IsReady engine (run_from empty_state) lines → SoFar engine [] lines taken taken
-none_so_far engine lines taken ready = record { pairs = []; outcomes = (refl, refl, refl); ready = ready; taken = append_none taken }
+pub none_so_far : (limit : ℕ) (engine : SessionEngine) (lines : List Line) (taken : Option (List ℕ))
+    → IsReady limit engine (run_from empty_state) lines → SoFar limit engine [] lines taken taken
+none_so_far limit engine lines taken ready = record { pairs = []; outcomes = (refl, refl, refl); ready = ready; taken = append_none taken }
 
 -- one line more
-pub one_more : (engine after : SessionEngine) (gone rest : List Line) (line : Line) (taken_before taken_now taken_after : Option (List ℕ))
-    → SoFar engine gone (line ∷ rest) taken_before taken_now → (outcome : LineOutcome) → RunsLine engine after line outcome taken_now taken_after
-    → SoFar after (gone ++ line ∷ []) rest taken_before taken_after
-one_more engine after gone rest line taken_before taken_now taken_after so_far outcome runs =
-    let run = run_after_all span_limit (run_from empty_state) so_far.pairs in
-    let facts = runs.1 run rest so_far.ready in
+pub one_more : (limit : ℕ) (engine after : SessionEngine) (gone rest : List Line) (line : Line) (taken_before taken_now taken_after : Option (List ℕ))
+    → SoFar limit engine gone (line ∷ rest) taken_before taken_now → (outcome : LineOutcome) → RunsLine engine after line outcome taken_now taken_after
+    → SoFar limit after (gone ++ line ∷ []) rest taken_before taken_after
+one_more limit engine after gone rest line taken_before taken_now taken_after so_far outcome runs =
+    let run = run_after_all limit (run_from empty_state) so_far.pairs in
+    let facts = runs.1 limit run rest so_far.ready in
     record {
       pairs = so_far.pairs ++ (line, outcome) ∷ [];
-      outcomes = AreOutcomesOf-append gone so_far.pairs line outcome so_far.outcomes runs.0 facts.0;
-      ready = subst (λ (r : RunState). IsReady after r rest) (sym (run_after_all-append (run_from empty_state) so_far.pairs (line, outcome))) facts.1;
-      taken = facts.2 ∙ ap (λ t. append_known t (line_text run line outcome)) so_far.taken
-          ∙ append_twice taken_before (run_transcript so_far.pairs) (line_text run line outcome)
-          ∙ ap (append_known taken_before) (sym (run_transcript-append so_far.pairs (line, outcome)));
+      outcomes = AreOutcomesOf-append limit gone so_far.pairs line outcome so_far.outcomes runs.0 facts.0;
+      ready = subst (λ (r : RunState). IsReady limit after r rest) (sym (run_after_all-append limit (run_from empty_state) so_far.pairs (line, outcome))) facts.1;
+      taken = facts.2 ∙ ap (λ t. append_known t (line_text limit run line outcome)) so_far.taken
+          ∙ append_twice taken_before (run_transcript limit so_far.pairs) (line_text limit run line outcome)
+          ∙ ap (append_known taken_before) (sym (run_transcript-append limit so_far.pairs (line, outcome)));
     }
 
 -- ---- the lines that are gone and the lines that are left
@@ -157,24 +157,24 @@ pub drop_calls_of : (lines : List (Session × Request)) (i : ℕ) → calls_of (
 drop_calls_of lines i = sym (drop-map call_of i lines)
 
 -- a front of one line's text behind the transcript so far is a front of the transcript with it
-pub broken_line : (engine after : SessionEngine) (gone rest : List Line) (line : Line) (taken_before taken_now taken_after : Option (List ℕ))
-    → SoFar engine gone (line ∷ rest) taken_before taken_now → (outcome : LineOutcome) → BreaksLine engine after line outcome taken_now taken_after
-    → (n : ℕ) × (pairs : List Served) × AreOutcomesOf (gone ++ line ∷ []) pairs × (n < length (run_transcript pairs)) × (taken_after ≡ append_known taken_before (take n (run_transcript pairs)))
-    × HasServed after pairs rest
-broken_line engine after gone rest line taken_before taken_now taken_after so_far outcome breaks =
-    let run = run_after_all span_limit (run_from empty_state) so_far.pairs in
-    let facts = breaks.1 run rest so_far.ready in
+pub broken_line : (limit : ℕ) (engine after : SessionEngine) (gone rest : List Line) (line : Line) (taken_before taken_now taken_after : Option (List ℕ))
+    → SoFar limit engine gone (line ∷ rest) taken_before taken_now → (outcome : LineOutcome) → BreaksLine engine after line outcome taken_now taken_after
+    → (n : ℕ) × (pairs : List Served) × AreOutcomesOf limit (gone ++ line ∷ []) pairs × (n < length (run_transcript limit pairs)) × (taken_after ≡ append_known taken_before (take n (run_transcript limit pairs)))
+    × HasServed limit after pairs rest
+broken_line limit engine after gone rest line taken_before taken_now taken_after so_far outcome breaks =
+    let run = run_after_all limit (run_from empty_state) so_far.pairs in
+    let facts = breaks.1 limit run rest so_far.ready in
     let front = facts.2 in
-    let old = run_transcript so_far.pairs in
-    let text = line_text run line outcome in
-    let whole = run_transcript-append so_far.pairs (line, outcome) in (
+    let old = run_transcript limit so_far.pairs in
+    let text = line_text limit run line outcome in
+    let whole = run_transcript-append limit so_far.pairs (line, outcome) in (
       length old + front.0,
       so_far.pairs ++ (line, outcome) ∷ [],
-      AreOutcomesOf-append gone so_far.pairs line outcome so_far.outcomes breaks.0 facts.0,
+      AreOutcomesOf-append limit gone so_far.pairs line outcome so_far.outcomes breaks.0 facts.0,
       rw (whole, length-append old text) (below_sum (length old) front.0 (length text) front.1),
       rw (whole, take-append-add old text front.0)
           (front.2 ∙ ap (λ t. append_known t (take front.0 text)) so_far.taken ∙ append_twice taken_before old (take front.0 text)),
-      subst (λ (r : RunState). IsReady after r rest) (sym (run_after_all-append (run_from empty_state) so_far.pairs (line, outcome))) facts.1,
+      subst (λ (r : RunState). IsReady limit after r rest) (sym (run_after_all-append limit (run_from empty_state) so_far.pairs (line, outcome))) facts.1,
     )
   where
     below_sum : (a n m : ℕ) → n < m → a + n < a + m

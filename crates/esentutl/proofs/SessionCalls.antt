@@ -90,10 +90,10 @@ rebuffered engine session state before after long b = record {
 }
 
 -- only bytes of the reply buffer differ
-pub in_run-kept : (engine : EngineState) (old new : SessionSide) (last : ℕ) (run : RunState) → new.session ≡ old.session → new.state ≡ old.state → length new.reply ≡ length old.reply
-    → IsInRun engine old last run → IsInRun engine new last run
-in_run-kept engine old new last run session state long is = record {
-  limit = is.limit;
+pub in_run-kept : (limit : ℕ) (engine : EngineState) (old new : SessionSide) (last : ℕ) (run : RunState) → new.session ≡ old.session → new.state ≡ old.state → length new.reply ≡ length old.reply
+    → IsInRun limit engine old last run → IsInRun limit engine new last run
+in_run-kept limit engine old new last run session state long is = record {
+  limit_is = is.limit_is;
   label = session ∙ is.label;
   beside = rebuffered engine new.session new.state old.reply new.reply long (same_beside engine old.session new.session old.state new.state old.reply (sym session) (sym state) is.beside);
   represents = is.represents;
@@ -118,12 +118,12 @@ last-local run request outcome last local is here =
 
 pub local-goes_on : LocalCallsStay → AnswersFindMemory → ((asked : Asked) (request : Request) → is_answered_locally asked.local request ≡ true → (answer asked request).step ≡ None)
     → ((asked : Asked) (request : Request) → is_answered_locally asked.local request ≡ true → is_local request (answer asked request).answered.jet ≡ true)
-    → (engine : EngineState) (old new : SessionSide) (last : ℕ) (run : RunState) (request : Request) (reply : Reply)
-    → IsInRun engine old last run → is_built_call request ≡ true → is_answered_locally old.state request ≡ true
+    → (limit : ℕ) (engine : EngineState) (old new : SessionSide) (last : ℕ) (run : RunState) (request : Request) (reply : Reply)
+    → IsInRun limit engine old last run → is_built_call request ≡ true → is_answered_locally old.state request ≡ true
     → IsAnswer old.state request (answered_by reply new.reply) new.state → new.session ≡ old.session
     → length new.reply ≡ (if new.state.begun then 1048576 else 0)
-    → GoesOn engine new last run request last reply (outcome_told reply)
-local-goes_on stays finds no_step is_local_answer engine old new last run request reply is built locally answers session count =
+    → GoesOn limit engine new last run request last reply (outcome_told reply)
+local-goes_on stays finds no_step is_local_answer limit engine old new last run request reply is built locally answers session count =
     let asked = asked_of engine run.state old in
     let outcome = answer asked request in
     let said = answers asked refl in
@@ -133,12 +133,12 @@ local-goes_on stays finds no_step is_local_answer engine old new last run reques
     let kept = stays engine run.state old request new.reply is.beside (represents_of engine old.session run.state is.label is.represents) is.fitting built locally bytes in
     let no_entry : entries_of_step outcome.step ≡ [] = ap entries_of_step none in
     let beside = subst (λ (es : List Entry). IsBeside (engine_after_all engine es) (record { session = old.session; state = outcome.local; reply = new.reply })) no_entry kept.beside in
-    goes_on engine engine old new last last run request last reply is (record {
+    goes_on limit engine engine old new last last run request last reply is (record {
       answered = sym said.0;
       memory = finds asked request built;
       label = session ∙ is.label;
       local = sym said.1;
-      limit = is.limit;
+      limit_is = is.limit_is;
       beside = same_beside engine old.session new.session outcome.local new.state new.reply (sym session) said.1 beside;
       represents = subst (λ (es : List Entry). Represents 1 engine (state_after_all run.state es)) (sym no_entry) is.represents;
       fitting = subst (λ (es : List Entry). IsTrue (are_fitting (state_after_all run.state es))) (sym no_entry) is.fitting;
@@ -230,11 +230,11 @@ told_after before after old made left last counted n run request reply step buff
     (tells (asked_of before run.state old) request reply made.reply step buffers (is_begin request) refl built (w.answered, w.named))
 
 pub decided-goes_on : DecidedCallsStay → AnswersFindMemory
-    → (before after : EngineState) (old made left : SessionSide) (last counted n : ℕ) (run : RunState) (request : Request) (reply : Reply) (step : Option Step) (buffers : Option (List ℕ))
-    → IsInRun before old last run → is_built_call request ≡ true → is_answered_locally old.state request ≡ false
+    → (limit : ℕ) (before after : EngineState) (old made left : SessionSide) (last counted n : ℕ) (run : RunState) (request : Request) (reply : Reply) (step : Option Step) (buffers : Option (List ℕ))
+    → IsInRun limit before old last run → is_built_call request ≡ true → is_answered_locally old.state request ≡ false
     → WasMade before after old made left last counted n request reply step buffers (answer (asked_of before run.state old) request)
-    → GoesOn after left counted run request n reply (outcome_told reply)
-decided-goes_on stays finds before after old made left last counted n run request reply step buffers is built shared w =
+    → GoesOn limit after left counted run request n reply (outcome_told reply)
+decided-goes_on stays finds limit before after old made left last counted n run request reply step buffers is built shared w =
     let asked = asked_of before run.state old in
     let outcome = answer asked request in
     let same : entries_of_step step ≡ entries_of_step outcome.step = ap entries_of_step w.step_is in
@@ -249,12 +249,12 @@ decided-goes_on stays finds before after old made left last counted n run reques
     let beside = subst (λ (e : EngineState). IsBeside e (record { session = old.session; state = outcome.local; reply = left.reply })) (sym made_is) kept.beside in
     let number : after.number ≡ before.number + length (entries_of_step outcome.step) = ap (λ (e : EngineState). e.number) made_is ∙ number-after_all before (entries_of_step outcome.step) in
     let grown : run.state.number + length (entries_of_step outcome.step) ≡ after.number = ap (λ (m : ℕ). m + length (entries_of_step outcome.step)) is.represents.number ∙ sym number in
-    goes_on before after old left last counted run request n reply is (record {
+    goes_on limit before after old left last counted run request n reply is (record {
       answered = told.0;
       memory = finds asked request built;
       label = w.session ∙ is.label;
       local = w.local;
-      limit = ap (λ (e : EngineState). e.limit) made_is ∙ limit-after_all before (entries_of_step outcome.step) ∙ is.limit;
+      limit_is = ap (λ (e : EngineState). e.limit) made_is ∙ limit-after_all before (entries_of_step outcome.step) ∙ is.limit_is;
       beside = same_beside after old.session left.session outcome.local left.state left.reply (sym w.session) (sym w.local) beside;
       represents = represents;
       fitting = kept.fitting;

@@ -24,7 +24,6 @@ use Rattle.engine_state.specs.EngineState.{EngineState}
 use Rattle.engine_state.specs.EngineSteps.{effect_on, engine_after_all}
 use Rattle.engine_state.specs.Represents.{Represents}
 use Rattle.engine_session.specs.Beside.{IsBeside, are_fitting, asked_of}
-use Rattle.esentutl.specs.TopCall.{span_limit}
 use Rattle.esentutl.specs.SessionRun.{no_memory_reply, outcome_of_jet, outcome_told, IsInRun, GoesOn}
 
 -- ---- what is asked in a run
@@ -34,13 +33,13 @@ same_asked : (limit other : ℕ) (state : DatabaseState) (session label : ℕ) (
 same_asked limit other state session label local seen a b c = cc
 
 -- the session of the run asks as the side that stands beside the engine does
-pub asked-in_run : (engine : EngineState) (side : SessionSide) (last : ℕ) (run : RunState) → IsInRun engine side last run → asked_of engine run.state side ≡ asked_in span_limit run 1
-asked-in_run engine side last run is =
-    same_asked engine.limit span_limit run.state side.session 1 side.state (session_run run 1).local is.limit is.label (sym (ap (λ (s : SessionRun). s.local) is.session))
+pub asked-in_run : (limit : ℕ) (engine : EngineState) (side : SessionSide) (last : ℕ) (run : RunState) → IsInRun limit engine side last run → asked_of engine run.state side ≡ asked_in limit run 1
+asked-in_run limit engine side last run is =
+    same_asked engine.limit limit run.state side.session 1 side.state (session_run run 1).local is.limit_is is.label (sym (ap (λ (s : SessionRun). s.local) is.session))
 
-pub outcome-in_run : (engine : EngineState) (side : SessionSide) (last : ℕ) (run : RunState) (request : Request) → IsInRun engine side last run
-    → answer (asked_of engine run.state side) request ≡ outcome_of span_limit run (1, request)
-outcome-in_run engine side last run request is = ap (λ (a : Asked). answer a request) (asked-in_run engine side last run is)
+pub outcome-in_run : (limit : ℕ) (engine : EngineState) (side : SessionSide) (last : ℕ) (run : RunState) (request : Request) → IsInRun limit engine side last run
+    → answer (asked_of engine run.state side) request ≡ outcome_of limit run (1, request)
+outcome-in_run limit engine side last run request is = ap (λ (a : Asked). answer a request) (asked-in_run limit engine side last run is)
 
 -- the session after a line
 pub session_run-after : (run : RunState) (request : Request) (outcome : Outcome)
@@ -56,12 +55,12 @@ served_told jet.OutOfMemory found = absurd (found refl)
 served_told _ found = refl
 
 -- What a call has come to, and what it left.
-pub record Came (engine : EngineState) (side : SessionSide) (last : ℕ) (run : RunState) (request : Request) (n : ℕ) (reply : Reply) (outcome : Outcome) : Type 0 where
+pub record Came (limit : ℕ) (engine : EngineState) (side : SessionSide) (last : ℕ) (run : RunState) (request : Request) (n : ℕ) (reply : Reply) (outcome : Outcome) : Type 0 where
   pub answered : answered_by reply side.reply ≡ outcome.answered
   pub memory : outcome.answered.jet ≢ jet.OutOfMemory
   pub label : side.session ≡ 1
   pub local : side.state ≡ outcome.local
-  pub limit : engine.limit ≡ span_limit
+  pub limit_is : engine.limit ≡ limit
   pub beside : IsBeside engine side
   pub represents : Represents 1 engine (state_after_all run.state (entries_of_step outcome.step))
   pub fitting : IsTrue (are_fitting (state_after_all run.state (entries_of_step outcome.step)))
@@ -71,16 +70,16 @@ pub record Came (engine : EngineState) (side : SessionSide) (last : ℕ) (run : 
 same_session : (local seen : LocalState) (last counted : ℕ) → local ≡ seen → last ≡ counted → (let made : SessionRun = record { local = local; last = last } in made) ≡ record { local = seen; last = counted }
 same_session local seen last counted a b = cc
 
-pub goes_on-served : (engine : EngineState) (side : SessionSide) (last : ℕ) (run : RunState) (request : Request) (n : ℕ) (reply : Reply)
-    → Came engine side last run request n reply (outcome_of span_limit run (1, request)) → GoesOn engine side last run request n reply served
-goes_on-served engine side last run request n reply came =
-    let outcome = outcome_of span_limit run (1, request) in record {
+pub goes_on-served : (limit : ℕ) (engine : EngineState) (side : SessionSide) (last : ℕ) (run : RunState) (request : Request) (n : ℕ) (reply : Reply)
+    → Came limit engine side last run request n reply (outcome_of limit run (1, request)) → GoesOn limit engine side last run request n reply served
+goes_on-served limit engine side last run request n reply came =
+    let outcome = outcome_of limit run (1, request) in record {
       row =
           ap (λ (m : ℕ). record { n = m; session = 1; request = request; answered = outcome.answered } ∷ []) (sym came.number)
           ∙ ap (λ (a : Answered). record { n = n; session = 1; request = request; answered = a } ∷ []) (sym came.answered);
       may_be = refl;
       in_run = record {
-        limit = came.limit;
+        limit_is = came.limit_is;
         label = came.label;
         beside = came.beside;
         represents = came.represents;
@@ -90,22 +89,22 @@ goes_on-served engine side last run request n reply came =
     }
 
 -- a call that came to an answer of the session that stood beside the engine is the run's next line
-pub goes_on : (before after : EngineState) (side left : SessionSide) (last counted : ℕ) (run : RunState) (request : Request) (n : ℕ) (reply : Reply)
-    → IsInRun before side last run → Came after left counted run request n reply (answer (asked_of before run.state side) request)
-    → GoesOn after left counted run request n reply (outcome_told reply)
-goes_on before after side left last counted run request n reply is came =
-    let here = subst (λ (o : Outcome). Came after left counted run request n reply o) (outcome-in_run before side last run request is) came in
+pub goes_on : (limit : ℕ) (before after : EngineState) (side left : SessionSide) (last counted : ℕ) (run : RunState) (request : Request) (n : ℕ) (reply : Reply)
+    → IsInRun limit before side last run → Came limit after left counted run request n reply (answer (asked_of before run.state side) request)
+    → GoesOn limit after left counted run request n reply (outcome_told reply)
+goes_on limit before after side left last counted run request n reply is came =
+    let here = subst (λ (o : Outcome). Came limit after left counted run request n reply o) (outcome-in_run limit before side last run request is) came in
     let found : reply.jet ≢ jet.OutOfMemory = λ none. came.memory (sym (ap (λ (a : Answered). a.jet) came.answered) ∙ none) in
-    subst (λ (o : LineOutcome). GoesOn after left counted run request n reply o) (sym (served_told reply.jet found)) (goes_on-served after left counted run request n reply here)
+    subst (λ (o : LineOutcome). GoesOn limit after left counted run request n reply o) (sym (served_told reply.jet found)) (goes_on-served limit after left counted run request n reply here)
 
 -- ---- lines without memory
 
 not_told : (b : Bool) → b ≡ false → not b ≡ true
 not_told b is = ap not is
 
-pub goes_on-without_memory : (engine : EngineState) (side : SessionSide) (last : ℕ) (run : RunState) (request : Request) → IsInRun engine side last run → takes_no_memory request ≡ false
-    → GoesOn engine side last run request last no_memory_reply no_memory
-goes_on-without_memory engine side last run request is takes = record {
+pub goes_on-without_memory : (limit : ℕ) (engine : EngineState) (side : SessionSide) (last : ℕ) (run : RunState) (request : Request) → IsInRun limit engine side last run → takes_no_memory request ≡ false
+    → GoesOn limit engine side last run request last no_memory_reply no_memory
+goes_on-without_memory limit engine side last run request is takes = record {
   row = ap (λ (m : ℕ). record { n = m; session = 1; request = request; answered = answered_by no_memory_reply side.reply } ∷ []) (ap (λ (s : SessionRun). s.last) is.session);
   may_be = not_told (takes_no_memory request) takes;
   in_run = is;

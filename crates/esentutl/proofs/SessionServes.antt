@@ -24,19 +24,18 @@ use Rattle.engine_state.specs.EngineState.{EngineState, empty_engine}
 use Rattle.engine_state.specs.Represents.{Represents}
 use Rattle.session_local.specs.Built.{is_built_call}
 use Rattle.engine_session.specs.Beside.{IsBeside, are_fitting, asked_of}
-use Rattle.esentutl.specs.TopCall.{span_limit}
 use Rattle.esentutl.specs.SessionRun.{outcome_told, IsInRun, GoesOn, no_memory_reply}
 use Rattle.esentutl.proofs.SessionRuns.{goes_on-without_memory}
 use Rattle.esentutl.proofs.SessionCalls.{WasMade}
 
 -- before the first line
-pub in_run-first : (engine : EngineState) (side : SessionSide) → engine ≡ empty_engine span_limit → side ≡ record { session = 1; state = no_session; reply = [] }
-    → Represents 1 (empty_engine span_limit) empty_state → IsBeside (empty_engine span_limit) (record { session = 1; state = no_session; reply = [] }) → IsTrue (are_fitting empty_state)
-    → IsInRun engine side 0 (run_from empty_state)
-in_run-first engine side engine_is side_is represents beside fitting =
-    subst (λ (e : EngineState). IsInRun e side 0 (run_from empty_state)) (sym engine_is)
-    (subst (λ (s : SessionSide). IsInRun (empty_engine span_limit) s 0 (run_from empty_state)) (sym side_is)
-    (record { limit = refl; label = refl; beside = beside; represents = represents; fitting = fitting; session = refl }))
+pub in_run-first : (limit : ℕ) (engine : EngineState) (side : SessionSide) → engine ≡ empty_engine limit → side ≡ record { session = 1; state = no_session; reply = [] }
+    → Represents 1 (empty_engine limit) empty_state → IsBeside (empty_engine limit) (record { session = 1; state = no_session; reply = [] }) → IsTrue (are_fitting empty_state)
+    → IsInRun limit engine side 0 (run_from empty_state)
+in_run-first limit engine side engine_is side_is represents beside fitting =
+    subst (λ (e : EngineState). IsInRun limit e side 0 (run_from empty_state)) (sym engine_is)
+    (subst (λ (s : SessionSide). IsInRun limit (empty_engine limit) s 0 (run_from empty_state)) (sym side_is)
+    (record { limit_is = refl; label = refl; beside = beside; represents = represents; fitting = fitting; session = refl }))
 
 -- ---- lines that are built
 
@@ -64,19 +63,19 @@ request_is session request rest built = and_right (session == 1) (is_built_call 
 
 -- ---- the row of a line
 
-pub row_of_line : (session n : ℕ) (run : RunState) (request : Request) (outcome : LineOutcome) (answered : Answered) → session ≡ 1
-    → rows_of_line span_limit run (1, request) outcome ≡ record { n = n; session = 1; request = request; answered = answered } ∷ []
-    → rows_of_line span_limit run (session, request) outcome ≡ record { n = n; session = session; request = request; answered = answered } ∷ []
-row_of_line session n run request outcome answered is row =
-    subst (λ (s : ℕ). rows_of_line span_limit run (s, request) outcome ≡ record { n = n; session = s; request = request; answered = answered } ∷ []) (sym is) row
+pub row_of_line : (limit session n : ℕ) (run : RunState) (request : Request) (outcome : LineOutcome) (answered : Answered) → session ≡ 1
+    → rows_of_line limit run (1, request) outcome ≡ record { n = n; session = 1; request = request; answered = answered } ∷ []
+    → rows_of_line limit run (session, request) outcome ≡ record { n = n; session = session; request = request; answered = answered } ∷ []
+row_of_line limit session n run request outcome answered is row =
+    subst (λ (s : ℕ). rows_of_line limit run (s, request) outcome ≡ record { n = n; session = s; request = request; answered = answered } ∷ []) (sym is) row
 
-pub may_of_line : (session : ℕ) (run : RunState) (request : Request) (outcome : LineOutcome) → session ≡ 1 → may_come span_limit run (1, request) outcome ≡ true
-    → may_come span_limit run (session, request) outcome ≡ true
-may_of_line session run request outcome is may = subst (λ (s : ℕ). may_come span_limit run (s, request) outcome ≡ true) (sym is) may
+pub may_of_line : (limit session : ℕ) (run : RunState) (request : Request) (outcome : LineOutcome) → session ≡ 1 → may_come limit run (1, request) outcome ≡ true
+    → may_come limit run (session, request) outcome ≡ true
+may_of_line limit session run request outcome is may = subst (λ (s : ℕ). may_come limit run (s, request) outcome ≡ true) (sym is) may
 
-pub run_of_line : (engine : EngineState) (side : SessionSide) (last session : ℕ) (run : RunState) (request : Request) (outcome : LineOutcome) → session ≡ 1
-    → IsInRun engine side last (run_after span_limit run (1, request) outcome) → IsInRun engine side last (run_after span_limit run (session, request) outcome)
-run_of_line engine side last session run request outcome is after = subst (λ (s : ℕ). IsInRun engine side last (run_after span_limit run (s, request) outcome)) (sym is) after
+pub run_of_line : (limit : ℕ) (engine : EngineState) (side : SessionSide) (last session : ℕ) (run : RunState) (request : Request) (outcome : LineOutcome) → session ≡ 1
+    → IsInRun limit engine side last (run_after limit run (1, request) outcome) → IsInRun limit engine side last (run_after limit run (session, request) outcome)
+run_of_line limit engine side last session run request outcome is after = subst (λ (s : ℕ). IsInRun limit engine side last (run_after limit run (s, request) outcome)) (sym is) after
 
 -- ---- replies
 
@@ -86,11 +85,11 @@ short_buffer true count is = omega (arith, is)
 short_buffer false count is = omega (arith, is)
 
 -- a line without memory
-pub goes_on-none : (engine : EngineState) (side : SessionSide) (last : ℕ) (run : RunState) (request : Request) (n : ℕ) (reply : Reply) → n ≡ last → reply ≡ no_memory_reply
-    → IsInRun engine side last run → takes_no_memory request ≡ false → GoesOn engine side last run request n reply (outcome_told reply)
-goes_on-none engine side last run request n reply n_is reply_is is takes =
-    subst (λ (m : ℕ). GoesOn engine side last run request m reply (outcome_told reply)) (sym n_is)
-    (subst (λ (r : Reply). GoesOn engine side last run request last r (outcome_told r)) (sym reply_is) (goes_on-without_memory engine side last run request is takes))
+pub goes_on-none : (limit : ℕ) (engine : EngineState) (side : SessionSide) (last : ℕ) (run : RunState) (request : Request) (n : ℕ) (reply : Reply) → n ≡ last → reply ≡ no_memory_reply
+    → IsInRun limit engine side last run → takes_no_memory request ≡ false → GoesOn limit engine side last run request n reply (outcome_told reply)
+goes_on-none limit engine side last run request n reply n_is reply_is is takes =
+    subst (λ (m : ℕ). GoesOn limit engine side last run request m reply (outcome_told reply)) (sym n_is)
+    (subst (λ (r : Reply). GoesOn limit engine side last run request last r (outcome_told r)) (sym reply_is) (goes_on-without_memory limit engine side last run request is takes))
 
 pub named-none : (reply : Reply) (most : ℕ) → reply ≡ no_memory_reply → NamesNoMore reply most
 named-none reply most is = subst (λ (r : Reply). NamesNoMore r most) (sym is) refl

@@ -8,12 +8,13 @@ use Rattle.esentutl.specs.declared.words.Topic.TheVariants as topic
 abbrev pub help_text : List ℕ
 help_text = text_of (
     codes "Usage:"
-    ∷ codes "  esentutl - run ordered   runs a script of session calls, one reply a line"
-    ∷ codes "  esentutl --help          prints this text"
-    ∷ codes "  esentutl --version       prints the name and the file formats written"
+    ∷ codes "  esentutl - run ordered [versions N]   runs a script of session calls, one reply a line"
+    ∷ codes "  esentutl --help                       prints this text"
+    ∷ codes "  esentutl --version                    prints the name and the file formats written"
     ∷ []
     ∷ codes "The script is read from standard input and checked before its first line runs."
     ∷ codes "Its database is in memory, and is gone at the end."
+    ∷ codes "N is the limit of the version store's span, 4,096 to 67,108,864 bytes; without it 4,194,304."
     ∷ []
     ∷ codes "Example:"
     ∷ codes "  ./esentutl - run ordered < examples/first-table.script"

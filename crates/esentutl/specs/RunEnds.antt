@@ -5,32 +5,32 @@ use Rattle.database_state.specs.State.{empty_state}
 use Rattle.session_local.specs.Run.{Line, LineOutcome, run_from, run_after_all}
 use Rattle.esentutl.specs.declared.session_engine.SessionEngine.{SessionEngine}
 use Rattle.esentutl.specs.Serving.{IsReady}
-use Rattle.esentutl.specs.TopCall.{Ending, done, bad_words, told, sink_failed_telling, too_long, source_failed, sink_failed, want_of_memory, not_built, span_limit, AreOutcomesOf, run_transcript}
+use Rattle.esentutl.specs.TopCall.{Ending, done, bad_words, told, sink_failed_telling, too_long, source_failed, sink_failed, want_of_memory, not_built, AreOutcomesOf, run_transcript}
 
--- The engine has served exactly these lines, each with its outcome: it is in the state that their run comes to, and can
--- serve the rest.
-abbrev pub HasServed : SessionEngine → List (Line × LineOutcome) → List Line → Type 0
-HasServed engine pairs rest = IsReady engine (run_after_all span_limit (run_from empty_state) pairs) rest
+-- The engine has served exactly these lines, each with its outcome: it is in the state that their run comes to, with this
+-- limit, and can serve the rest.
+abbrev pub HasServed : ℕ → SessionEngine → List (Line × LineOutcome) → List Line → Type 0
+HasServed limit engine pairs rest = IsReady limit engine (run_after_all limit (run_from empty_state) pairs) rest
 
 -- With all lines run the sink has their transcript. Where it failed, it has a front of the transcript of the lines that were
 -- served. Where memory was wanted, it has the whole transcript of the lines that were served: no line is served and not
 -- printed.
-abbrev pub RunEndsBy : List Line → SessionEngine → Option (List ℕ) → Option (List ℕ) → ℕ → ℕ → Ending → Type 0
-RunEndsBy lines engine before after faults_before faults_after done =
+abbrev pub RunEndsBy : ℕ → List Line → SessionEngine → Option (List ℕ) → Option (List ℕ) → ℕ → ℕ → Ending → Type 0
+RunEndsBy limit lines engine before after faults_before faults_after done =
     (faults_after ≡ faults_before)
-    × ((pairs : List (Line × LineOutcome)) × AreOutcomesOf lines pairs × (after ≡ append_known before (run_transcript pairs)) × HasServed engine pairs [])
-RunEndsBy lines engine before after faults_before faults_after sink_failed =
+    × ((pairs : List (Line × LineOutcome)) × AreOutcomesOf limit lines pairs × (after ≡ append_known before (run_transcript limit pairs)) × HasServed limit engine pairs [])
+RunEndsBy limit lines engine before after faults_before faults_after sink_failed =
     (faults_before < faults_after)
-    × ((pairs : List (Line × LineOutcome)) × (count n : ℕ) × AreOutcomesOf (take count lines) pairs × (n < length (run_transcript pairs)) × (after ≡ append_known before (take n (run_transcript pairs)))
-    × HasServed engine pairs (drop count lines))
-RunEndsBy lines engine before after faults_before faults_after want_of_memory =
+    × ((pairs : List (Line × LineOutcome)) × (count n : ℕ) × AreOutcomesOf limit (take count lines) pairs × (n < length (run_transcript limit pairs)) × (after ≡ append_known before (take n (run_transcript limit pairs)))
+    × HasServed limit engine pairs (drop count lines))
+RunEndsBy limit lines engine before after faults_before faults_after want_of_memory =
     (faults_after ≡ faults_before)
-    × ((pairs : List (Line × LineOutcome)) × (count : ℕ) × AreOutcomesOf (take count lines) pairs × (after ≡ append_known before (run_transcript pairs))
-    × HasServed engine pairs (drop count lines))
+    × ((pairs : List (Line × LineOutcome)) × (count : ℕ) × AreOutcomesOf limit (take count lines) pairs × (after ≡ append_known before (run_transcript limit pairs))
+    × HasServed limit engine pairs (drop count lines))
 -- no other ending is that of a run
-RunEndsBy lines engine before after faults_before faults_after bad_words = ⊥
-RunEndsBy lines engine before after faults_before faults_after (told topic) = ⊥
-RunEndsBy lines engine before after faults_before faults_after (sink_failed_telling topic) = ⊥
-RunEndsBy lines engine before after faults_before faults_after too_long = ⊥
-RunEndsBy lines engine before after faults_before faults_after source_failed = ⊥
-RunEndsBy lines engine before after faults_before faults_after (not_built number) = ⊥
+RunEndsBy limit lines engine before after faults_before faults_after bad_words = ⊥
+RunEndsBy limit lines engine before after faults_before faults_after (told topic) = ⊥
+RunEndsBy limit lines engine before after faults_before faults_after (sink_failed_telling topic) = ⊥
+RunEndsBy limit lines engine before after faults_before faults_after too_long = ⊥
+RunEndsBy limit lines engine before after faults_before faults_after source_failed = ⊥
+RunEndsBy limit lines engine before after faults_before faults_after (not_built number) = ⊥

@@ -12,7 +12,6 @@ use Rattle.session_local.specs.Run.{RunState, LineOutcome, served, no_memory, se
 use Rattle.engine_state.specs.EngineState.{EngineState}
 use Rattle.engine_state.specs.Represents.{Represents}
 use Rattle.engine_session.specs.Beside.{IsBeside, are_fitting}
-use Rattle.esentutl.specs.TopCall.{span_limit}
 
 -- ---- what a reply tells
 
@@ -32,10 +31,10 @@ row_told number session request answered = record { n = number; session = sessio
 
 -- ---- the one session, whose label is 1
 
--- The engine holds the state of the run, its session stands beside it, and the last number is that after the session's last
--- call that looked at the shared state.
-pub record IsInRun (engine : EngineState) (side : SessionSide) (last : ℕ) (run : RunState) : Type 0 where
-  pub limit : engine.limit ≡ span_limit
+-- The engine holds the state of the run with the limit of its span, its session stands beside it, and the last number is that
+-- after the session's last call that looked at the shared state.
+pub record IsInRun (limit : ℕ) (engine : EngineState) (side : SessionSide) (last : ℕ) (run : RunState) : Type 0 where
+  pub limit_is : engine.limit ≡ limit
   pub label : side.session ≡ 1
   pub beside : IsBeside engine side
   pub represents : Represents 1 engine run.state
@@ -43,7 +42,7 @@ pub record IsInRun (engine : EngineState) (side : SessionSide) (last : ℕ) (run
   pub session : session_run run 1 ≡ record { local = side.state; last = last }
 
 -- A line had this outcome: its row has this number and this reply, and the engine has gone on with the run.
-pub record GoesOn (engine : EngineState) (side : SessionSide) (last : ℕ) (run : RunState) (request : Request) (n : ℕ) (reply : Reply) (outcome : LineOutcome) : Type 0 where
-  pub row : rows_of_line span_limit run (1, request) outcome ≡ record { n = n; session = 1; request = request; answered = answered_by reply side.reply } ∷ []
-  pub may_be : may_come span_limit run (1, request) outcome ≡ true
-  pub in_run : IsInRun engine side last (run_after span_limit run (1, request) outcome)
+pub record GoesOn (limit : ℕ) (engine : EngineState) (side : SessionSide) (last : ℕ) (run : RunState) (request : Request) (n : ℕ) (reply : Reply) (outcome : LineOutcome) : Type 0 where
+  pub row : rows_of_line limit run (1, request) outcome ≡ record { n = n; session = 1; request = request; answered = answered_by reply side.reply } ∷ []
+  pub may_be : may_come limit run (1, request) outcome ≡ true
+  pub in_run : IsInRun limit engine side last (run_after limit run (1, request) outcome)

@@ -12,14 +12,11 @@ use Rattle.esentutl.specs.declared.words.Topic.{Topic}
 use Rattle.esentutl.specs.Words.{last_line, not_built_line}
 use Rattle.esentutl.specs.About.{text_about}
 
--- the most bytes of a script, and the limit of the version store's span
+-- the most bytes of a script
 abbrev pub script_limit : ℕ
 script_limit = 16777216
 
-abbrev pub span_limit : ℕ
-span_limit = 4194304
-
--- ---- runs
+-- ---- runs, with a limit of the version store's span
 
 -- in this run a line is served, or finds no memory
 abbrev pub is_plain : LineOutcome → Bool
@@ -29,15 +26,15 @@ is_plain (flush_failed reply) = false
 is_plain unserved = false
 
 -- these lines, each with an outcome that it may have
-abbrev pub AreOutcomesOf : List Line → List (Line × LineOutcome) → Type 0
-AreOutcomesOf lines pairs =
+abbrev pub AreOutcomesOf : ℕ → List Line → List (Line × LineOutcome) → Type 0
+AreOutcomesOf limit lines pairs =
     (map (λ pair. pair.0) pairs ≡ lines)
     × (list_all (λ pair. is_plain pair.1) pairs ≡ true)
-    × (outcomes_may_come span_limit (run_from empty_state) pairs ≡ true)
+    × (outcomes_may_come limit (run_from empty_state) pairs ≡ true)
 
 -- the transcript of the lines with these outcomes, from the empty database
-abbrev pub run_transcript : List (Line × LineOutcome) → List ℕ
-run_transcript pairs = transcript_of (rows_from span_limit (run_from empty_state) pairs)
+abbrev pub run_transcript : ℕ → List (Line × LineOutcome) → List ℕ
+run_transcript limit pairs = transcript_of (rows_from limit (run_from empty_state) pairs)
 
 -- ---- the outside
 
@@ -105,42 +102,42 @@ status_of sink_failed = 6
 status_of want_of_memory = 7
 status_of (not_built number) = 9
 
--- the form of the words of a call that ends so
-abbrev pub form_of_ending : Ending → Form
-form_of_ending bad_words = form.Unknown
-form_of_ending (told topic) = form.About topic
-form_of_ending (sink_failed_telling topic) = form.About topic
-form_of_ending _ = form.OrderedRun
+-- the form of the words of a call that ends so, where a run has this limit
+abbrev pub form_of_ending : ℕ → Ending → Form
+form_of_ending limit bad_words = form.Unknown
+form_of_ending limit (told topic) = form.About topic
+form_of_ending limit (sink_failed_telling topic) = form.About topic
+form_of_ending limit _ = form.OrderedRun limit
 
 -- the script is read, is not too long, and these are its lines
 abbrev pub IsScript : Outside → List ℕ → List Line → Type 0
 IsScript o text lines = IsReadOut o × (length text ≤ script_limit) × (built_lines text ≡ Ok lines)
 
--- What each ending says, over the text that the source gave.
-abbrev pub EndsBy : Outside → List ℕ → Ending → Type 0
+-- What each ending says, over the limit of a run's span and the text that the source gave.
+abbrev pub EndsBy : ℕ → Outside → List ℕ → Ending → Type 0
 -- the output is the transcript of all lines
-EndsBy o text done =
+EndsBy limit o text done =
     SourceIsSound o × SinkIsSound o
-    × ((lines : List Line) × (pairs : List (Line × LineOutcome)) × IsScript o text lines × AreOutcomesOf lines pairs × Took o (run_transcript pairs))
-EndsBy o text bad_words = SourceIsSound o × SaysOnly o (last_line (codes "words")) × (text ≡ [])
+    × ((lines : List Line) × (pairs : List (Line × LineOutcome)) × IsScript o text lines × AreOutcomesOf limit lines pairs × Took o (run_transcript limit pairs))
+EndsBy limit o text bad_words = SourceIsSound o × SaysOnly o (last_line (codes "words")) × (text ≡ [])
 -- the output is the text, or a front of it; nothing was read
-EndsBy o text (told topic) = SourceIsSound o × SinkIsSound o × Took o (text_about topic) × (text ≡ [])
-EndsBy o text (sink_failed_telling topic) =
+EndsBy limit o text (told topic) = SourceIsSound o × SinkIsSound o × Took o (text_about topic) × (text ≡ [])
+EndsBy limit o text (sink_failed_telling topic) =
     SourceIsSound o × (o.sink_before < o.sink_after)
     × ((n : ℕ) × (n < length (text_about topic)) × Took o (take n (text_about topic))) × (text ≡ [])
-EndsBy o text too_long =
+EndsBy limit o text too_long =
     SourceIsSound o × SaysOnly o (last_line (codes "script too long")) × IfSome o.left_before (λ bytes. script_limit < length bytes)
-EndsBy o text source_failed = (o.source_before < o.source_after) × SaysOnly o (last_line (codes "source"))
+EndsBy limit o text source_failed = (o.source_before < o.source_after) × SaysOnly o (last_line (codes "source"))
 -- the output is a front of the transcript of some first lines
-EndsBy o text sink_failed =
+EndsBy limit o text sink_failed =
     SourceIsSound o × (o.sink_before < o.sink_after)
-    × ((lines : List Line) × (pairs : List (Line × LineOutcome)) × (count n : ℕ) × IsScript o text lines × AreOutcomesOf (take count lines) pairs
-    × (n < length (run_transcript pairs)) × Took o (take n (run_transcript pairs)))
+    × ((lines : List Line) × (pairs : List (Line × LineOutcome)) × (count n : ℕ) × IsScript o text lines × AreOutcomesOf limit (take count lines) pairs
+    × (n < length (run_transcript limit pairs)) × Took o (take n (run_transcript limit pairs)))
 -- nothing was printed, or the whole transcript of some first lines
-EndsBy o text want_of_memory =
+EndsBy limit o text want_of_memory =
     SourceIsSound o × SinkIsSound o
     × (Took o []
-    ⊎ ((lines : List Line) × (pairs : List (Line × LineOutcome)) × (count : ℕ) × IsScript o text lines × AreOutcomesOf (take count lines) pairs × Took o (run_transcript pairs)))
-EndsBy o text (not_built number) =
+    ⊎ ((lines : List Line) × (pairs : List (Line × LineOutcome)) × (count : ℕ) × IsScript o text lines × AreOutcomesOf limit (take count lines) pairs × Took o (run_transcript limit pairs)))
+EndsBy limit o text (not_built number) =
     SourceIsSound o × SaysOnly o (not_built_line number)
     × IsReadOut o × (length text ≤ script_limit) × (built_lines text ≡ Err number)

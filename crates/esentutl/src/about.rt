@@ -9,12 +9,13 @@ use jet_io::{Failed, Sink, write_all};
 /// How the program is called.
 const HELP: &str = concat!(
     "Usage:\n",
-    "  esentutl - run ordered   runs a script of session calls, one reply a line\n",
-    "  esentutl --help          prints this text\n",
-    "  esentutl --version       prints the name and the file formats written\n",
+    "  esentutl - run ordered [versions N]   runs a script of session calls, one reply a line\n",
+    "  esentutl --help                       prints this text\n",
+    "  esentutl --version                    prints the name and the file formats written\n",
     "\n",
     "The script is read from standard input and checked before its first line runs.\n",
     "Its database is in memory, and is gone at the end.\n",
+    "N is the limit of the version store's span, 4,096 to 67,108,864 bytes; without it 4,194,304.\n",
     "\n",
     "Example:\n",
     "  ./esentutl - run ordered < examples/first-table.script\n",

@@ -7,7 +7,7 @@ ghost use Rattle.session_local.specs.Run.{run_from};
 ghost use Rattle.script_text.specs.Parsed.{calls_of};
 ghost use Rattle.esentutl.specs.Reading.{line_of_fault, status_of_fault};
 ghost use Rattle.esentutl.specs.TopCall.{Ending, Says, status_of};
-ghost use Rattle.esentutl.specs.Serving.{IsReady};
+ghost use Rattle.esentutl.specs.Serving.{span_limit, IsReady};
 ghost use Rattle.esentutl.specs.RunEnds.{RunEndsBy};
 
 use crate::reading::ReadScriptFault;
@@ -48,9 +48,9 @@ pub fn run_script<K: Sink>(
     lines: &[(Session, Request)],
     out: &mut K,
 ) -> u8
-    requires { IsReady engine.old (run_from empty_state) (calls_of lines.now) }
+    requires { IsReady (span_limit engine.old) engine.old (run_from empty_state) (calls_of lines.now) }
     ensures { (ending : Ending) × (result ≡ status_of ending)
-        × RunEndsBy (calls_of lines.now) engine.new (K.taken out.old) (K.taken out.new) (K.faults out.old) (K.faults out.new) ending }
+        × RunEndsBy (span_limit engine.old) (calls_of lines.now) engine.new (K.taken out.old) (K.taken out.new) (K.faults out.old) (K.faults out.new) ending }
 {
     match run_lines(alloc, engine, lines, out) {
         Ok(()) => 0,

@@ -3,6 +3,7 @@
 
 mod about;
 mod ends;
+pub mod examples;
 mod process;
 mod reading;
 mod report;

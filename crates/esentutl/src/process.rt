@@ -36,10 +36,10 @@ pub fn end_process<S: Source, K: Sink>(
     script: &mut S,
     out: &mut K,
 ) -> ExitCode
-    ensures { (text : List ℕ) × (ending : Ending) × (exit_status result ≡ status_of ending)
-        × MatchResult words.entry (λ given. form_of (words_of given.now) ≡ form_of_ending ending) (λ fault. ending ≡ ending_without_words fault)
+    ensures { (text : List ℕ) × (limit : ℕ) × (ending : Ending) × (exit_status result ≡ status_of ending)
+        × MatchResult words.entry (λ given. form_of (words_of given.now) ≡ form_of_ending limit ending) (λ fault. ending ≡ ending_without_words fault)
         × (S.left script.old ≡ prepend_known text (S.left script.new))
-        × EndsBy (record {
+        × EndsBy limit (record {
           left_before = S.left script.old;
           left_after = S.left script.new;
           source_before = S.faults script.old;

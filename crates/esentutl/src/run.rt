@@ -7,7 +7,7 @@ ghost use Rattle.session_local.specs.Run.{RunState, Line, LineOutcome, run_from,
 ghost use Rattle.script_transcript.specs.TranscriptLine.{transcript_of};
 ghost use Rattle.script_text.specs.Parsed.{calls_of};
 ghost use Rattle.esentutl.specs.TopCall.{AreOutcomesOf, run_transcript};
-ghost use Rattle.esentutl.specs.Serving.{IsReady};
+ghost use Rattle.esentutl.specs.Serving.{span_limit, IsReady};
 ghost use Rattle.esentutl.specs.Lines.{RunsLine, BreaksLine};
 ghost use Rattle.esentutl.specs.RunEnds.{HasServed};
 
@@ -60,7 +60,7 @@ fn run_line<K: Sink>(
     request: &Request,
     out: &mut K,
 ) -> Result<(), LineFault>
-    requires next { (run : RunState) × (rest : List Line) × IsReady engine.old run ((session.0, request.now) ∷ rest) }
+    requires next { (limit : ℕ) × (run : RunState) × (rest : List Line) × IsReady limit engine.old run ((session.0, request.now) ∷ rest) }
     requires empty { transcript.old.text ≡ [] }
     ensures empty { OnOk result (transcript.new.text ≡ []) }
     ensures served { OnOk result ((outcome : LineOutcome) × RunsLine engine.old engine.new (session.0, request.now) outcome (K.taken out.old) (K.taken out.new)) }
@@ -84,18 +84,18 @@ pub fn run_lines<K: Sink>(
     lines: &[(Session, Request)],
     out: &mut K,
 ) -> Result<(), LineFault>
-    requires { IsReady engine.old (run_from empty_state) (calls_of lines.now) }
-    ensures done { OnOk result ((pairs : List (Line × LineOutcome)) × AreOutcomesOf (calls_of lines.now) pairs
-        × (K.taken out.new ≡ append_known (K.taken out.old) (run_transcript pairs)) × HasServed engine.new pairs []) }
+    requires { IsReady (span_limit engine.old) engine.old (run_from empty_state) (calls_of lines.now) }
+    ensures done { OnOk result ((pairs : List (Line × LineOutcome)) × AreOutcomesOf (span_limit engine.old) (calls_of lines.now) pairs
+        × (K.taken out.new ≡ append_known (K.taken out.old) (run_transcript (span_limit engine.old) pairs)) × HasServed (span_limit engine.old) engine.new pairs []) }
     ensures sound { OnOk result (K.faults out.new ≡ K.faults out.old) }
     // The whole transcript of some first lines, and no other line was served.
-    ensures memory { IsErrOf result LineFault.Memory → (count : ℕ) × (pairs : List (Line × LineOutcome)) × AreOutcomesOf (take count (calls_of lines.now)) pairs
-        × (K.taken out.new ≡ append_known (K.taken out.old) (run_transcript pairs)) × HasServed engine.new pairs (drop count (calls_of lines.now)) }
+    ensures memory { IsErrOf result LineFault.Memory → (count : ℕ) × (pairs : List (Line × LineOutcome)) × AreOutcomesOf (span_limit engine.old) (take count (calls_of lines.now)) pairs
+        × (K.taken out.new ≡ append_known (K.taken out.old) (run_transcript (span_limit engine.old) pairs)) × HasServed (span_limit engine.old) engine.new pairs (drop count (calls_of lines.now)) }
     ensures memory_sound { IsErrOf result LineFault.Memory → K.faults out.new ≡ K.faults out.old }
     // A front of the transcript of some first lines, and no other line was served.
-    ensures sink { IsErrOf result LineFault.Sink → (count n : ℕ) × (pairs : List (Line × LineOutcome)) × AreOutcomesOf (take count (calls_of lines.now)) pairs
-        × (n < length (run_transcript pairs)) × (K.taken out.new ≡ append_known (K.taken out.old) (take n (run_transcript pairs)))
-        × HasServed engine.new pairs (drop count (calls_of lines.now)) }
+    ensures sink { IsErrOf result LineFault.Sink → (count n : ℕ) × (pairs : List (Line × LineOutcome)) × AreOutcomesOf (span_limit engine.old) (take count (calls_of lines.now)) pairs
+        × (n < length (run_transcript (span_limit engine.old) pairs)) × (K.taken out.new ≡ append_known (K.taken out.old) (take n (run_transcript (span_limit engine.old) pairs)))
+        × HasServed (span_limit engine.old) engine.new pairs (drop count (calls_of lines.now)) }
     ensures failed { IsErrOf result LineFault.Sink → K.faults out.old < K.faults out.new }
 {
     let mut transcript = Transcript::new(alloc);

@@ -1,6 +1,6 @@
 //! The engine with the one session of a script.
 
-ghost use Rattle.std.specs.Prelude.{◌≡◌, ◌≤◌, List, ◌∷◌, [], true, false, length, OnOk, OnErr, IsTrue, if◌then◌else◌};
+ghost use Rattle.std.specs.Prelude.{◌≡◌, ◌≤◌, ℕ, List, ◌∷◌, [], true, false, length, OnOk, OnErr, IsTrue, if◌then◌else◌};
 ghost use Rattle.database_state.specs.State.{empty_state};
 ghost use Rattle.session_local.specs.Calls.{is_local};
 ghost use Rattle.session_local.specs.LocalCalls.{is_answered_locally};
@@ -12,9 +12,8 @@ ghost use Rattle.script_transcript.specs.TranscriptLine.{NamesNoMore};
 ghost use Rattle.engine_state.specs.EngineSteps.{engine_after_all, may_take_all};
 ghost use Rattle.session_local.specs.Built.{is_built_call};
 ghost use Rattle.engine_session.specs.Memory.{step_takes_memory};
-ghost use Rattle.esentutl.specs.TopCall.{span_limit};
 ghost use Rattle.esentutl.specs.SessionRun.{no_memory_reply, outcome_told, row_told};
-ghost use Rattle.esentutl.specs.Serving.{IsAt, IsReady, Goes};
+ghost use Rattle.esentutl.specs.Serving.{span_limit, IsAt, IsReady, Goes};
 
 use crate::served::Served;
 use engine_core::Engine;
@@ -30,9 +29,6 @@ use session_local::{
 };
 use std::alloc::Global;
 
-/// The limit of the version store's span, in bytes.
-const SPAN_LIMIT: u64 = 4_194_304;
-
 /// An engine over trees, and the one session of a script, whose label is 1.
 ///
 /// The session answers by itself what needs its own state alone. Any other call is decided on what the engine holds; its
@@ -46,15 +42,17 @@ pub struct SessionEngine {
 }
 
 impl SessionEngine {
-    /// An engine over an empty database, whose session was not begun. It takes no memory.
-    pub fn new(alloc: Global) -> SessionEngine
+    /// An engine over an empty database, whose session was not begun. The limit is that of the version store's span, in
+    /// bytes. It takes no memory.
+    pub fn new(alloc: Global, limit: u64) -> SessionEngine
+        ensures span { span_limit result ≡ limit }
         // It is ready for the lines of every script that is built.
-        ensures { (lines : List Line) → are_built lines ≡ true → IsReady result (run_from empty_state) lines }
+        ensures ready { (lines : List Line) → are_built lines ≡ true → IsReady limit result (run_from empty_state) lines }
     {
         an_empty_engine_is_represented();
         a_fresh_session_is_beside();
         SessionEngine {
-            engine: Engine::new(alloc, SPAN_LIMIT),
+            engine: Engine::new(alloc, limit),
             local: Local::new(Session(1)),
             last: 0,
         }
@@ -62,13 +60,13 @@ impl SessionEngine {
 
     /// Serves the next line. Its reply is want of memory only where the call may find none, and then nothing changes.
     pub fn serve(&mut self, session: Session, request: &Request) -> Served
-        requires { (run : RunState) × (rest : List Line) × IsReady self.old run ((session.0, request.now) ∷ rest) }
-        ensures row { (run : RunState) (rest : List Line) → IsReady self.old run ((session.0, request.now) ∷ rest)
-            → rows_of_line span_limit run (session.0, request.now) (outcome_told result.reply) ≡ row_told result.n session request.now (answered_by result.reply self.new.local.reply) ∷ [] }
-        ensures outcome { (run : RunState) (rest : List Line) → IsReady self.old run ((session.0, request.now) ∷ rest)
-            → may_come span_limit run (session.0, request.now) (outcome_told result.reply) ≡ true }
-        ensures state { (run : RunState) (rest : List Line) → IsReady self.old run ((session.0, request.now) ∷ rest)
-            → IsReady self.new (run_after span_limit run (session.0, request.now) (outcome_told result.reply)) rest }
+        requires { (limit : ℕ) × (run : RunState) × (rest : List Line) × IsReady limit self.old run ((session.0, request.now) ∷ rest) }
+        ensures row { (limit : ℕ) (run : RunState) (rest : List Line) → IsReady limit self.old run ((session.0, request.now) ∷ rest)
+            → rows_of_line limit run (session.0, request.now) (outcome_told result.reply) ≡ row_told result.n session request.now (answered_by result.reply self.new.local.reply) ∷ [] }
+        ensures outcome { (limit : ℕ) (run : RunState) (rest : List Line) → IsReady limit self.old run ((session.0, request.now) ∷ rest)
+            → may_come limit run (session.0, request.now) (outcome_told result.reply) ≡ true }
+        ensures state { (limit : ℕ) (run : RunState) (rest : List Line) → IsReady limit self.old run ((session.0, request.now) ∷ rest)
+            → IsReady limit self.new (run_after limit run (session.0, request.now) (outcome_told result.reply)) rest }
         ensures named { NamesNoMore result.reply (length self.new.local.reply) }
     {
         let _label = session;
@@ -86,9 +84,9 @@ impl SessionEngine {
     // Serves a call of the session.
     #[tactic(none)]
     fn serve_call(&mut self, request: &Request) -> Served
-        requires ready { (run : RunState) × IsAt self.old run }
+        requires ready { (limit : ℕ) × (run : RunState) × IsAt limit self.old run }
         requires built { is_built_call request.now ≡ true }
-        ensures line { (run : RunState) → IsAt self.old run → Goes self.new run request.now result }
+        ensures line { (limit : ℕ) (run : RunState) → IsAt limit self.old run → Goes limit self.new run request.now result }
         ensures named { NamesNoMore result.reply (length self.new.local.reply) }
     {
         local_calls_stay_beside();
@@ -104,10 +102,10 @@ impl SessionEngine {
     // Serves a call that looks at the shared state.
     #[tactic(none)]
     fn serve_shared(&mut self, request: &Request) -> Served
-        requires ready { (run : RunState) × IsAt self.old run }
+        requires ready { (limit : ℕ) × (run : RunState) × IsAt limit self.old run }
         requires built { is_built_call request.now ≡ true }
         requires shared { is_answered_locally self.old.local.state request.now ≡ false }
-        ensures line { (run : RunState) → IsAt self.old run → Goes self.new run request.now result }
+        ensures line { (limit : ℕ) (run : RunState) → IsAt limit self.old run → Goes limit self.new run request.now result }
         ensures named { NamesNoMore result.reply (length self.new.local.reply) }
     {
         decided_calls_stay_beside();

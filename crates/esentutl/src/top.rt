@@ -21,18 +21,20 @@ use std::alloc::Global;
 /// Does what the words ask for, and answers the exit status.
 ///
 /// `- run ordered` reads the script, runs its lines in their order over a database that is gone at the end, and prints
-/// the reply of each before the next runs. `--help` and `--version` print a text and read nothing.
+/// the reply of each before the next runs; behind it `versions N` sets the limit of the version store's span, in bytes.
+/// `--help` and `--version` print a text and read nothing.
 pub fn esentutl<S: Source, K: Sink>(
     alloc: Global,
     words: &[String],
     script: &mut S,
     out: &mut K,
 ) -> u8
-    // What the status says of the script, the source and the sink, over the text that the source gave.
-    ensures ends { (text : List ℕ) × (ending : Ending) × (result ≡ status_of ending)
-        × (form_of (words_of words.now) ≡ form_of_ending ending)
+    // What the status says of the script, the source and the sink, over the text that the source gave and, in a run, the
+    // limit that the words name.
+    ensures ends { (text : List ℕ) × (limit : ℕ) × (ending : Ending) × (result ≡ status_of ending)
+        × (form_of (words_of words.now) ≡ form_of_ending limit ending)
         × (S.left script.old ≡ prepend_known text (S.left script.new))
-        × EndsBy (record {
+        × EndsBy limit (record {
           left_before = S.left script.old;
           left_after = S.left script.new;
           source_before = S.faults script.old;
@@ -43,7 +45,7 @@ pub fn esentutl<S: Source, K: Sink>(
           sink_after = K.faults out.new;
         }) text ending }
     // A script that is built and not too long runs to its end, where nothing outside fails and there is memory.
-    ensures completes { form_of (words_of words.now) ≡ form.OrderedRun → S.faults script.new ≡ S.faults script.old → K.faults out.new ≡ K.faults out.old
+    ensures completes { (limit : ℕ) → form_of (words_of words.now) ≡ form.OrderedRun limit → S.faults script.new ≡ S.faults script.old → K.faults out.new ≡ K.faults out.old
         → IfSome (S.left script.old) (λ bytes. length bytes ≤ script_limit → IsOk (built_lines bytes) → (result ≡ 0) ⊎ (result ≡ 7)) }
     // A text that was asked for is written whole, where the sink does not fail, and is all that is done.
     ensures tells { (topic : Topic) → form_of (words_of words.now) ≡ form.About topic → K.faults out.new ≡ K.faults out.old
@@ -55,10 +57,10 @@ pub fn esentutl<S: Source, K: Sink>(
 
 /// The same, but for what follows from how the call ends.
 fn run_words<S: Source, K: Sink>(alloc: Global, words: &[String], script: &mut S, out: &mut K) -> u8
-    ensures { (text : List ℕ) × (ending : Ending) × (result ≡ status_of ending)
-        × (form_of (words_of words.now) ≡ form_of_ending ending)
+    ensures { (text : List ℕ) × (limit : ℕ) × (ending : Ending) × (result ≡ status_of ending)
+        × (form_of (words_of words.now) ≡ form_of_ending limit ending)
         × (S.left script.old ≡ prepend_known text (S.left script.new))
-        × EndsBy (record {
+        × EndsBy limit (record {
           left_before = S.left script.old;
           left_after = S.left script.new;
           source_before = S.faults script.old;
@@ -70,8 +72,8 @@ fn run_words<S: Source, K: Sink>(alloc: Global, words: &[String], script: &mut S
         }) text ending }
 {
     match form_of_words(words) {
-        Form::OrderedRun => match read_script(alloc, script) {
-            Ok(lines) => run_script(alloc, &mut SessionEngine::new(alloc), &lines, out),
+        Form::OrderedRun(limit) => match read_script(alloc, script) {
+            Ok(lines) => run_script(alloc, &mut SessionEngine::new(alloc, limit), &lines, out),
             Err(fault) => tell(fault, out),
         },
         Form::About(topic) => tell_about(topic, out),

@@ -1,5 +1,6 @@
 //! Runs every script of the folder that it lies in through the program's call, from memory to memory, and tells of each
-//! whether status and output are those beside it: NAME.script, NAME.out, and NAME.status where the status is not 0.
+//! whether status and output are those beside it: NAME.script, NAME.out, NAME.status where the status is not 0, and
+//! NAME.words, one a line, where the words are not `- run ordered`.
 #![tactic(auto)]
 
 use esentutl::esentutl;
@@ -56,7 +57,7 @@ fn run(rt: &HostRuntime, name: &str) -> io::Result<Outcome> {
     let script = fs::read(rt, format!(in alloc; "{name}.script")?)?;
     let wanted = fs::read(rt, format!(in alloc; "{name}.out")?)?;
     let status = wanted_status(rt, name)?;
-    let words = run_words(alloc)?;
+    let words = run_words(rt, name)?;
     let mut source = MemSource::new(script, Vec::new(alloc));
     let room = wanted.len().saturating_add(SPARE);
     let Ok(mut out) = MemSink::new(alloc, room, Vec::new(alloc)) else {
@@ -83,10 +84,20 @@ fn wanted_status(rt: &HostRuntime, name: &str) -> io::Result<u8> {
     }
 }
 
-/// The words `- run ordered`.
-fn run_words(alloc: Global) -> io::Result<Vec<String>> {
+/// The words that stand beside a script, or `- run ordered`.
+fn run_words(rt: &HostRuntime, name: &str) -> io::Result<Vec<String>> {
+    let path = format!(in rt.alloc(); "{name}.words")?;
+    if !fs::exists(rt, path.as_str())? {
+        return words_of(rt.alloc(), "-\nrun\nordered\n");
+    }
+    let text = fs::read_to_string(rt, path.as_str())?;
+    words_of(rt.alloc(), text.as_str())
+}
+
+/// The words of a text, one a line.
+fn words_of(alloc: Global, text: &str) -> io::Result<Vec<String>> {
     let mut words = Vec::new(alloc);
-    for word in ["-", "run", "ordered"] {
+    for word in text.lines() {
         words.push(String::from_str(alloc, word)?)?;
     }
     Ok(words)

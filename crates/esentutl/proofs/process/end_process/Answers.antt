@@ -7,9 +7,10 @@ use Rattle.esentutl.proofs.process.end_process.Goals as goal
 pub returns-in-Err-Memory : goal.returns-in-Err-Memory
 returns-in-Err-Memory g c = (
   [],
+  0,
   want_of_memory,
   c.from-in-Err-Memory.ensures,
   first_of (search rules, grind (arith, c.in-Err-Memory.field-0-is, c.in-Err-Memory.is), search (rules, c.in-Err-Memory.field-0-is)),
   prepend_nothing (g.S.Source.left c.args.script.now),
-  ends_before_all (g.S.Source.left c.args.script.now) (g.K.Sink.taken c.args.out.now) (g.S.Source.faults c.args.script.now) (g.K.Sink.faults c.args.out.now),
+  ends_before_all 0 (g.S.Source.left c.args.script.now) (g.K.Sink.taken c.args.out.now) (g.S.Source.faults c.args.script.now) (g.K.Sink.faults c.args.out.now),
 )

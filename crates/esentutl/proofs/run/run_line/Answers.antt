@@ -16,11 +16,11 @@ returns-clause-served g c =
       outcome_told reply,
       (
         is_plain-told reply.jet,
-        λ run rest serves. (
-          c.serve-served.ensures.outcome run rest serves,
-          c.serve-served.ensures.state run rest serves,
+        λ limit run rest serves. (
+          c.serve-served.ensures.outcome limit run rest serves,
+          c.serve-served.ensures.state limit run rest serves,
           c.in_ok-write_all.ensures.ok ∙ ap (append_known (g.K.Sink.taken c.args.out.now))
-              (piece-line_text run (c.args.session.0, request) (outcome_told reply) row c.text.result.now is_row (c.serve-served.ensures.row run rest serves)),
+              (piece-line_text limit run (c.args.session.0, request) (outcome_told reply) row c.text.result.now is_row (c.serve-served.ensures.row limit run rest serves)),
         ),
       ),
     )
@@ -38,10 +38,10 @@ returns-in_err-write_all-clause-sink g c =
       outcome_told reply,
       (
         is_plain-told reply.jet,
-        λ run rest serves.
-            let is_text = piece-line_text run (c.args.session.0, request) (outcome_told reply) row c.text.result.now is_row (c.serve-served.ensures.row run rest serves) in (
-              c.serve-served.ensures.outcome run rest serves,
-              c.serve-served.ensures.state run rest serves,
+        λ limit run rest serves.
+            let is_text = piece-line_text limit run (c.args.session.0, request) (outcome_told reply) row c.text.result.now is_row (c.serve-served.ensures.row limit run rest serves) in (
+              c.serve-served.ensures.outcome limit run rest serves,
+              c.serve-served.ensures.state limit run rest serves,
               (
                 front.0,
                 subst (λ (t : List ℕ). front.0 < length t) is_text front.1,

@@ -4,7 +4,7 @@ use Rattle.esentutl.proofs.Completeness.{completes_told, tells_whole}
 use Rattle.esentutl.proofs.top.esentutl.Goals as goal
 
 pub returns-clause-completes : goal.returns-clause-completes
-returns-clause-completes g c = λ words source sink.
+returns-clause-completes g c = λ limit words source sink.
     let ends = c.run_words.ensures in
     let o : Outside = record {
       left_before = g.S.Source.left c.args.script.now;
@@ -16,7 +16,7 @@ returns-clause-completes g c = λ words source sink.
       sink_before = g.K.Sink.faults c.args.out.now;
       sink_after = g.K.Sink.faults c.run_words.new.out;
     } in
-    completes_told o ends.0 ends.1 (g.S.Source.left c.args.script.now) refl ends.4 (sym ends.3 ∙ words) source sink ends.5 c.run_words.result ends.2
+    completes_told ends.1 limit o ends.0 ends.2 (g.S.Source.left c.args.script.now) refl ends.5 (sym ends.4 ∙ words) source sink ends.6 c.run_words.result ends.3
 
 pub returns-clause-tells : goal.returns-clause-tells
 returns-clause-tells g c = λ topic words sink.
@@ -31,4 +31,4 @@ returns-clause-tells g c = λ topic words sink.
       sink_before = g.K.Sink.faults c.args.out.now;
       sink_after = g.K.Sink.faults c.run_words.new.out;
     } in
-    tells_whole o ends.0 ends.1 topic ends.4 (sym ends.3 ∙ words) sink ends.5 c.run_words.result ends.2
+    tells_whole ends.1 o ends.0 ends.2 topic ends.5 (sym ends.4 ∙ words) sink ends.6 c.run_words.result ends.3

@@ -1,11 +1,17 @@
-use Rattle.std.proofs.Common.{ℕ, List, [], refl, sym, subst, ◌∙◌}
+use Rattle.std.proofs.Common.{ℕ, List, [], Ok, refl, sym, ap, subst, ◌∙◌}
+use Rattle.jet_base.specs.declared.ids.Session.{Session}
+use Rattle.session_local.specs.declared.request.Request.{Request}
+use Rattle.script_text.specs.Parsed.{calls_of}
+use Rattle.esentutl.specs.RunEnds.{RunEndsBy}
 use Rattle.esentutl.specs.TopCall.{Outside, bad_words, Says}
 use Rattle.esentutl.proofs.Endings.{prepend_nothing, ending_of, status_of-ending_of, form_of_ending-ending_of, ends_by_fault, ends_by_telling}
+use Rattle.esentutl.proofs.RunEndings.{ends_by_run}
 use Rattle.esentutl.proofs.top.run_words.Goals as goal
 
 pub returns-in-Unknown : goal.returns-in-Unknown
 returns-in-Unknown g c = (
   [],
+  0,
   bad_words,
   refl,
   sym c.form_of_words.ensures ∙ c.in-Unknown.is,
@@ -30,8 +36,9 @@ returns-in-About g c =
       sink_before = g.K.Sink.faults c.args.out.now;
       sink_after = g.K.Sink.faults c.tell_about.new.out;
     } in
-    let ends = ends_by_telling o c.in-About.topic c.tell_about.result refl c.tell_about.ensures in (
+    let ends = ends_by_telling 0 o c.in-About.topic c.tell_about.result refl c.tell_about.ensures in (
       [],
+      0,
       ends.0,
       ends.1,
       sym c.form_of_words.ensures ∙ c.in-About.is ∙ ends.2,
@@ -53,9 +60,38 @@ returns-in-Err g c =
       sink_after = g.K.Sink.faults c.tell.new.out;
     } in (
       read.0,
+      c.in-OrderedRun.limit,
       ending_of c.in-Err.fault,
       c.tell.ensures.status ∙ status_of-ending_of c.in-Err.fault,
-      sym c.form_of_words.ensures ∙ c.in-OrderedRun.is ∙ form_of_ending-ending_of c.in-Err.fault,
+      sym c.form_of_words.ensures ∙ c.in-OrderedRun.is ∙ form_of_ending-ending_of c.in-OrderedRun.limit c.in-Err.fault,
       read.1,
-      ends_by_fault o read.0 c.in-Err.fault read.2 c.tell.ensures.line,
+      ends_by_fault c.in-OrderedRun.limit o read.0 c.in-Err.fault read.2 c.tell.ensures.line,
+    )
+
+pub returns-in-Ok : goal.returns-in-Ok
+returns-in-Ok g c =
+    let read = c.in-Ok.ensures.script in
+    let limit = c.in-OrderedRun.limit in
+    let lines = calls_of c.deref.result.now in
+    let built = read.2.1 ∙ ap (λ (l : List (Session × Request)). Ok (calls_of l)) (sym c.deref.ensures.value) in
+    let run = c.run_script.ensures in
+    let o : Outside = record {
+      left_before = g.S.Source.left c.args.script.now;
+      left_after = g.S.Source.left c.read_script.new.script;
+      source_before = g.S.Source.faults c.args.script.now;
+      source_after = g.S.Source.faults c.read_script.new.script;
+      taken_before = g.K.Sink.taken c.args.out.now;
+      taken_after = g.K.Sink.taken c.run_script.new.out;
+      sink_before = g.K.Sink.faults c.args.out.now;
+      sink_after = g.K.Sink.faults c.run_script.new.out;
+    } in
+    let ends = ends_by_run limit o read.0 lines c.run_script.new.engine run.0 read.2.0.0 (read.2.0.1, read.2.0.2, built)
+    (subst (λ (named : ℕ). RunEndsBy named lines c.run_script.new.engine o.taken_before o.taken_after o.sink_before o.sink_after run.0) c.new.ensures.span run.2) in (
+      read.0,
+      limit,
+      run.0,
+      run.1,
+      sym c.form_of_words.ensures ∙ c.in-OrderedRun.is ∙ ends.0,
+      read.1,
+      ends.1,
     )

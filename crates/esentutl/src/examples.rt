@@ -1,0 +1,26 @@
+//! Worked examples of the words, as theorems: the form that a list of words is of.
+#![tactic(auto, unfolding(script_words::specs::Words::number_within, script_words::specs::Words::number_of))]
+
+ghost use Rattle.std.specs.Prelude.{◌≡◌, [], ◌∷◌, codes};
+ghost use Rattle.esentutl.specs.declared.words.Form.TheVariants as form;
+ghost use Rattle.esentutl.specs.Words.{form_of, form_of_options};
+
+/// The limit of the version store's span that the words behind `ordered` name: the least, the greatest, and where no word
+/// names one.
+pub fn limits_that_are_named()
+    ensures none { form_of (codes "-" ∷ codes "run" ∷ codes "ordered" ∷ []) ≡ form.OrderedRun 4194304 }
+    ensures least { form_of (codes "-" ∷ codes "run" ∷ codes "ordered" ∷ codes "versions" ∷ codes "4096" ∷ []) ≡ form.OrderedRun 4096 }
+    ensures greatest { form_of_options (codes "versions" ∷ codes "67108864" ∷ []) ≡ form.OrderedRun 67108864 }
+{}
+
+/// Words that name no limit: one outside the range, one with a sign or a leading zero, none at all, and one with a word
+/// behind it.
+pub fn words_that_name_no_limit()
+    ensures below { form_of (codes "-" ∷ codes "run" ∷ codes "ordered" ∷ codes "versions" ∷ codes "0" ∷ []) ≡ form.Unknown }
+    ensures too_low { form_of_options (codes "versions" ∷ codes "4095" ∷ []) ≡ form.Unknown }
+    ensures too_high { form_of_options (codes "versions" ∷ codes "67108865" ∷ []) ≡ form.Unknown }
+    ensures led_by_zero { form_of_options (codes "versions" ∷ codes "04096" ∷ []) ≡ form.Unknown }
+    ensures signed { form_of_options (codes "versions" ∷ codes "+5000" ∷ []) ≡ form.Unknown }
+    ensures no_number { form_of_options (codes "versions" ∷ []) ≡ form.Unknown }
+    ensures more { form_of_options (codes "versions" ∷ codes "4096" ∷ codes "4096" ∷ []) ≡ form.Unknown }
+{}
