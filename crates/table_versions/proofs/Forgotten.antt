@@ -1,9 +1,8 @@
 -- The oldest held change is forgotten.
 use Rattle.std.proofs.Common.{◌≡◌, ℕ, ◌<◌, ◌≤◌, zero, suc, Bool, true, false, not, ◌&&◌, ◌||◌, cond, List, [], ◌∷◌, length, take, drop, Option, Some, None, Result, Ok, Err, find, filter, map, option_map, refl, sym, ap, subst, ◌∙◌, arith}
-use Rattle.std.specs.Prelude.{◌==◌, All, IfSome, IsOk, IsSomeAnd, MatchOption, bytes_eq, is_none, is_some, nat_lt, flat_map, slice_get}
+use Rattle.std.specs.Prelude.{◌==◌, IfSome, IsOk, IsSomeAnd, MatchOption, is_none, is_some, nat_lt, flat_map, slice_get}
 use Rattle.std.specs.List.{AllByRecursion, list_any}
 use Rattle.std.proofs.lemmas.Bool.Decides.{nat_tests}
-use Rattle.btree_inplace.specs.Order.{get_in, has_key}
 use Rattle.column_set.specs.Refusals.{Refusals, first_refusal}
 use Rattle.column_set.specs.RecordValues.{RecordFields}
 use Rattle.database_state.specs.Conflicts.{yields_key}
@@ -19,18 +18,16 @@ use Rattle.index_derive.specs.Entries.{KeyRefusal, NullKeyDisallowed, KeyTruncat
 use Rattle.jet_catalog.specs.Catalog.{CatalogState, IsNumbered, ids_rise}
 use Rattle.page_image.specs.Page.{Node}
 use Rattle.record_changes.proofs.Tests.{and_left, and_right, impossible, refuted, same_number}
-use Rattle.table_trees.specs.StoredNodes.{IsShortNode}
 use Rattle.table_trees.specs.StoredTables.{StoredTable, index_entries, table_nodes}
 use Rattle.version_store.specs.HeldChanges.{HeldChange, is_rewrite}
 use Rattle.versioned_tables.specs.HeldRecords.{HeldRecord, is_standing_rewrite}
 use Rattle.versioned_tables.specs.Variants.{HoldsVariants, has_variant, is_variant_key}
 use Rattle.table_versions.specs.GoneKeys.{AreRows, HasKeysOf, is_gone_key, some_before}
 use Rattle.table_versions.specs.LeftVariants.{AreLeft, CanForget, DistinctIds, IsLeft, first_table, is_this}
-use Rattle.table_versions.specs.RecordRows.{IsRecordRow, held_record, record_of, row_under, rows_of_nodes}
-use Rattle.table_versions.specs.VersionsKept.{AreKept, IsBookmarkOf, IsKeptChange, IsKeptTable, IsRowOf, IsRowUnder, IsStoredRule, only_secondary, secondary_rule}
+use Rattle.table_versions.specs.RecordRows.{IsRecordRow, held_record, record_of, rows_of_nodes}
+use Rattle.table_versions.specs.VersionsKept.{AreKept, IsBookmarkOf, IsKeptChange, IsKeptTable, IsRowOf, IsRowUnder, IsStoredRule, secondary_rule}
 use Rattle.table_versions.proofs.ChangesKept.{SameVariants, changes_kept}
 use Rattle.table_versions.proofs.Lists.{all_append, all_filter}
-use Rattle.table_versions.proofs.Tables.{found_number}
 
 -- ---- the keys of a row that an index took
 
@@ -57,13 +54,15 @@ record_taken schema values (rule ∷ rules) e = by (is_null_refusal (entries rul
 
 rules_have : (table : Table) (schema : Schema) (values : RecordFields) (rules : List IndexRule) → schema ≡ schema_of table → AllByRecursion (IsStoredRule table) rules → AllByRecursion (λ rule. IsOk (entries rule schema values)) rules → AllByRecursion (HasKeysOf schema values) rules
 rules_have table schema values [] same stored taken = tt
-rules_have table schema values (rule ∷ rules) same stored taken =
-    (record {
-      found = ap (λ (s : Schema). rule_with_id s rule.id.0) same ∙ stored.0.found;
-      legal = ap (is_legal rule) same ∙ stored.0.legal;
-      short = stored.0.short;
-      taken = taken.0;
-    }, rules_have table schema values rules same stored.1 taken.1)
+rules_have table schema values (rule ∷ rules) same stored taken = (
+  record {
+    found = ap (λ (s : Schema). rule_with_id s rule.id.0) same ∙ stored.0.found;
+    legal = ap (is_legal rule) same ∙ stored.0.legal;
+    short = stored.0.short;
+    taken = taken.0;
+  },
+  rules_have table schema values rules same stored.1 taken.1,
+)
 
 -- the indexes of a table have the keys of a row that they took
 pub has_keys : (table : Table) (schema : Schema) (values : RecordFields) → schema ≡ schema_of table → AllByRecursion (IsStoredRule table) table.indexes → is_indexable (schema_of table) values ≡ true → AllByRecursion (HasKeysOf schema values) schema.indexes

@@ -1,5 +1,5 @@
 -- What is left of a variant that is none any more goes: its keys, and the node where it was the last.
-use Rattle.std.proofs.Common.{◌≡◌, ◌≢◌, ℕ, ◌≤◌, Bool, true, false, not, ◌&&◌, ◌||◌, cond, List, [], ◌∷◌, length, Option, Some, None, find, map, option_map, refl, sym, ap, subst, ◌∙◌}
+use Rattle.std.proofs.Common.{◌≡◌, ℕ, ◌≤◌, Bool, true, false, not, ◌&&◌, ◌||◌, cond, List, [], ◌∷◌, length, Option, Some, None, find, map, option_map, refl, sym, ap, subst, ◌∙◌}
 use Rattle.std.specs.Prelude.{◌==◌, IfSome, IsSomeAnd, bytes_eq, is_some, option_and_then, unwrap_or}
 use Rattle.std.specs.List.{AllByRecursion, list_any}
 use Rattle.btree_inplace.specs.Order.{extent_in, get_in, has_key}
@@ -11,7 +11,7 @@ use Rattle.index_derive.specs.declared.rules.IndexRule.{IndexRule}
 use Rattle.index_derive.specs.declared.rules.Schema.{Schema}
 use Rattle.page_image.specs.Page.{Node}
 use Rattle.record_changes.proofs.Tests.{and_left, and_right, impossible, same_bytes, same_number, self_equal}
-use Rattle.table_trees.specs.StoredTables.{StoredIndex, StoredTable, has_table, index_entries, is_index, is_table, part_of, table_indexes, table_nodes}
+use Rattle.table_trees.specs.StoredTables.{StoredIndex, StoredTable, has_table, index_entries, is_index, is_table, part_of, table_nodes}
 use Rattle.version_store.specs.HeldChanges.{HeldChange, is_rewrite}
 use Rattle.versioned_tables.specs.HeldRecords.{HeldRecord, is_standing_rewrite}
 use Rattle.versioned_tables.specs.Variants.{HoldsVariants, has_variant, is_variant_key}
@@ -290,9 +290,10 @@ change_kept_then newest all schema id bookmark gone old between new goes tables 
 changes_kept_then : (newest : Option RecordFields) (all : List HeldRecord) (schema : Schema) (id : ℕ) (bookmark : List ℕ) (gone : RecordFields) (old between new : List StoredTable) → Goes newest all schema id bookmark gone old between new
     → (tables : List Table) (held : List HeldChange) → (some_before is_some id bookmark (map held_record held) ≡ true → has_variant newest all id bookmark ≡ true) → AllByRecursion (IsKeptChange tables old) held → AllByRecursion (IsKeptChange tables new) held
 changes_kept_then newest all schema id bookmark gone old between new goes tables [] leaves kept = tt
-changes_kept_then newest all schema id bookmark gone old between new goes tables (h ∷ held) leaves kept =
-    (change_kept_then newest all schema id bookmark gone old between new goes tables h (λ e. leaves (or_left (is_standing_rewrite id bookmark (held_record h) && is_some (held_record h).before) (some_before is_some id bookmark (map held_record held)) e)) kept.0,
-    changes_kept_then newest all schema id bookmark gone old between new goes tables held (λ e. leaves (or_right (is_standing_rewrite id bookmark (held_record h) && is_some (held_record h).before) (some_before is_some id bookmark (map held_record held)) e)) kept.1)
+changes_kept_then newest all schema id bookmark gone old between new goes tables (h ∷ held) leaves kept = (
+  change_kept_then newest all schema id bookmark gone old between new goes tables h (λ e. leaves (or_left (is_standing_rewrite id bookmark (held_record h) && is_some (held_record h).before) (some_before is_some id bookmark (map held_record held)) e)) kept.0,
+  changes_kept_then newest all schema id bookmark gone old between new goes tables held (λ e. leaves (or_right (is_standing_rewrite id bookmark (held_record h) && is_some (held_record h).before) (some_before is_some id bookmark (map held_record held)) e)) kept.1,
+)
 
 -- ---- the store
 

@@ -1,12 +1,11 @@
 -- An open change is undone: what the store keeps and shows.
-use Rattle.std.proofs.Common.{◌≡◌, ℕ, zero, suc, ◌<◌, ◌≤◌, Bool, true, false, not, ◌&&◌, ◌||◌, cond, List, [], ◌∷◌, length, take, Option, Some, None, map, option_map, refl, sym, ap, subst, ◌∙◌, arith}
-use Rattle.std.specs.Prelude.{◌==◌, IfSome, IsSomeAnd, is_some, slice_get, unwrap_or}
-use Rattle.std.specs.List.{AllByRecursion, list_any}
+use Rattle.std.proofs.Common.{◌≡◌, ℕ, zero, suc, ◌≤◌, Bool, true, false, not, ◌&&◌, ◌||◌, cond, List, [], ◌∷◌, length, Option, Some, None, map, option_map, refl, sym, ap, subst, ◌∙◌}
+use Rattle.std.specs.Prelude.{◌==◌, IfSome, IsSomeAnd, is_some, slice_get}
+use Rattle.std.specs.List.{AllByRecursion}
 use Rattle.btree_inplace.specs.Order.{extent_in}
-use Rattle.column_set.specs.RecordValues.{RecordFields}
 use Rattle.database_state.specs.Changes.{tables_after}
 use Rattle.database_state.specs.State.{Status, uncommitted, committed, undone, is_open, is_undone}
-use Rattle.database_state.specs.Table.{Table, schema_of, table_with_id, with_table}
+use Rattle.database_state.specs.Table.{Table, schema_of, table_with_id}
 use Rattle.index_derive.specs.declared.rules.Schema.{Schema}
 use Rattle.jet_catalog.specs.Catalog.{CatalogState}
 use Rattle.record_changes.proofs.Tests.{and_left, and_right, impossible}
@@ -15,8 +14,8 @@ use Rattle.version_store.specs.Answers.{change_at}
 use Rattle.version_store.specs.declared.calls.ChangeKind.{ChangeKind}
 use Rattle.version_store.specs.declared.calls.ChangeKind.TheVariants as kind
 use Rattle.version_store.specs.HeldChanges.{HeldChange, is_add, is_open_at, is_rewrite, last_place, undone_at, with_status}
-use Rattle.versioned_tables.specs.HeldRecords.{HeldRecord, inverse, is_change_at, is_standing_rewrite, is_open_at as is_open_record}
-use Rattle.versioned_tables.specs.VersionedTables.{VersionedTables, last_undone, tables_with_last_back, with_last_undone}
+use Rattle.versioned_tables.specs.HeldRecords.{inverse, is_change_at, is_standing_rewrite, is_open_at as is_open_record}
+use Rattle.versioned_tables.specs.VersionedTables.{with_last_undone}
 use Rattle.table_versions.specs.GoneKeys.{AreRows, HasKeysOf, some_before}
 use Rattle.table_versions.specs.RecordRows.{IsRecordRow, held_record, record_of, row_under}
 use Rattle.table_versions.specs.StoredVersions.{StoredVersions}
@@ -29,7 +28,7 @@ use Rattle.table_versions.proofs.Held.{unchanged}
 use Rattle.table_versions.proofs.LastUndone.{any_last, last_back, last_changed, none_back, same_level}
 use Rattle.table_versions.proofs.Refilled.{all_undone, undone_kept}
 use Rattle.table_versions.proofs.StandingChanges.{StandsAt, last_stands, take_all}
-use Rattle.table_versions.proofs.UndoneThere.{mapped_at, place_in, same_at, undone_there}
+use Rattle.table_versions.proofs.UndoneThere.{mapped_at, undone_there}
 
 none_is : {A : Type 0} {X : Type 0} (x : X) → None ≡ Some x → A
 none_is x e = cc

@@ -1,37 +1,32 @@
 -- What the store keeps and shows once the row before an undone change is back.
-use Rattle.std.proofs.Common.{◌≡◌, ℕ, ◌<◌, ◌≤◌, zero, suc, Bool, true, false, not, ◌&&◌, ◌||◌, cond, List, [], ◌∷◌, length, Option, Some, None, filter, find, map, option_map, refl, sym, ap, subst, ◌∙◌, arith}
-use Rattle.std.specs.Prelude.{◌==◌, IfSome, IsSomeAnd, T, bytes_eq, is_some, slice_get, unwrap_or}
-use Rattle.std.specs.List.{AllByRecursion}
+use Rattle.std.proofs.Common.{◌≡◌, ℕ, Bool, true, false, not, ◌&&◌, ◌||◌, cond, List, [], ◌∷◌, Option, Some, None, map, option_map, refl, sym, ap, subst, ◌∙◌}
+use Rattle.std.specs.Prelude.{◌==◌, IfSome, bytes_eq, is_some}
 use Rattle.std.specs.declared.cmp.Ordering.TheVariants.{Equal}
 use Rattle.std.specs.Ordering.{nat_cmp, is_eq}
 use Rattle.std.specs.Cmp.Lexicographic.{slice_cmp, nat_list_cmp_total, texts_ties}
 use Rattle.std.specs.FinMap.Entries.{find-put, is_sorted-put, same_entries}
 use Rattle.btree_inplace.specs.Changes.{with_data_at}
 use Rattle.column_set.specs.RecordValues.{RecordFields}
-use Rattle.cursor_nav.specs.Places.{are_sorted}
 use Rattle.database_state.specs.Changes.{tables_after}
 use Rattle.database_state.specs.Conflicts.{yields_key}
-use Rattle.database_state.specs.State.{undone}
 use Rattle.database_state.specs.Table.{Rows, Table, row_at, schema_of, table_with_id, with_row, without_row}
 use Rattle.derived_index.specs.KeptEntries.{has_entry}
 use Rattle.index_derive.specs.declared.rules.IndexRule.{IndexRule}
-use Rattle.page_image.specs.Page.{Node}
-use Rattle.record_changes.proofs.Tests.{and_left, and_right, impossible, refuted, same_bytes, same_number}
-use Rattle.table_trees.specs.StoredNodes.{bookmark_entries}
+use Rattle.record_changes.proofs.Tests.{and_left, and_right, impossible, same_bytes, same_number}
 use Rattle.table_trees.specs.StoredTables.{StoredTable, index_entries, table_nodes}
 use Rattle.version_store.specs.declared.calls.ChangeKind.{ChangeKind}
 use Rattle.version_store.specs.declared.calls.ChangeKind.TheVariants as kind
-use Rattle.version_store.specs.HeldChanges.{HeldChange, is_rewrite, undone_at, with_status}
+use Rattle.version_store.specs.HeldChanges.{HeldChange, is_rewrite, undone_at}
 use Rattle.versioned_tables.specs.HeldRecords.{HeldRecord, inverse}
 use Rattle.versioned_tables.specs.Holding.{RowsRise}
 use Rattle.versioned_tables.specs.VersionedTables.{rows_with}
 use Rattle.versioned_tables.specs.Variants.{HoldsVariants, has_variant, is_variant_key}
 use Rattle.table_versions.specs.GoneKeys.{some_before}
 use Rattle.table_versions.specs.LeftVariants.{is_this}
-use Rattle.table_versions.specs.RecordRows.{held_record, record_of, row_in_node, row_under, rows_of_nodes}
+use Rattle.table_versions.specs.RecordRows.{held_record, record_of, row_in_node, rows_of_nodes}
 use Rattle.table_versions.specs.UndoneChanges.{tables_put_back}
 use Rattle.table_versions.specs.VersionsView.{with_newest}
-use Rattle.table_versions.specs.VersionsKept.{AreKept, IsKeptChange, IsKeptTable, IsRowUnder, secondary_rule}
+use Rattle.table_versions.specs.VersionsKept.{AreKept, IsKeptChange, IsKeptTable, secondary_rule}
 use Rattle.table_versions.proofs.Dropped.{TreeLaws, same_numbers}
 use Rattle.table_versions.proofs.DroppedRecords.{rows_emptied, turned_number}
 use Rattle.table_versions.proofs.NodeRecords.{turned}

@@ -1,15 +1,12 @@
 -- The steps of an undo: the row before the change comes back, and what is left of the newest one goes.
-use Rattle.std.proofs.Common.{◌≡◌, ℕ, ◌<◌, ◌≤◌, Bool, true, false, ◌&&◌, cond, List, [], ◌∷◌, length, map, drop, Option, Some, None, option_map, refl, sym, ap, subst, ◌∙◌}
+use Rattle.std.proofs.Common.{◌≡◌, ℕ, ◌≤◌, Bool, true, false, ◌&&◌, cond, List, [], length, map, Option, Some, None, option_map, refl, sym, ap, subst, ◌∙◌}
 use Rattle.std.specs.Prelude.{◌==◌, IfSome, IsSomeAnd, bytes_eq, is_some, slice_get, unwrap_or}
 use Rattle.std.specs.List.{AllByRecursion}
-use Rattle.btree_inplace.specs.Changes.{with_data_at}
 use Rattle.btree_inplace.specs.Order.{extent_in, get_in}
-use Rattle.column_set.specs.RecordValues.{RecordFields}
 use Rattle.cursor_nav.specs.Places.{are_sorted}
 use Rattle.database_state.specs.State.{undone}
-use Rattle.database_state.specs.Table.{Table, row_at, schema_of, table_with_id}
+use Rattle.database_state.specs.Table.{Table, row_at}
 use Rattle.index_derive.specs.declared.rules.Schema.{Schema}
-use Rattle.page_image.specs.Page.{Node}
 use Rattle.record_changes.proofs.Tests.{equal_bytes, impossible, self_equal}
 use Rattle.table_trees.specs.StoredNodes.{bookmark_entries}
 use Rattle.table_trees.specs.StoredTables.{StoredTable, table_nodes}
@@ -25,7 +22,7 @@ use Rattle.table_versions.proofs.NodeRecords.{no_byte, record_at}
 use Rattle.table_versions.proofs.OpenUndone.{all_place}
 use Rattle.table_versions.proofs.PutBack.{kept_back, kept_unchanged, tables_back, tables_unchanged}
 use Rattle.table_versions.proofs.Refilled.{Fills, Undoes, change_back, filled, row_filled}
-use Rattle.table_versions.proofs.UndoneThere.{fills, node_of_extent, node_of_row, place_in, room_for, row_in_bytes, same_at, undone_there}
+use Rattle.table_versions.proofs.UndoneThere.{node_of_extent, node_of_row, room_for, row_in_bytes, same_at, undone_there}
 
 abbrev pub AreSorted : List StoredTable → Type 0
 AreSorted trees = (table : ℕ) → are_sorted (bookmark_entries (table_nodes trees table)) ≡ true

@@ -1,6 +1,6 @@
 -- The row before an open change that is undone comes back into its node.
-use Rattle.std.proofs.Common.{◌≡◌, ◌≢◌, ℕ, ◌≤◌, zero, suc, Bool, true, false, not, ◌&&◌, ◌||◌, cond, List, [], ◌∷◌, length, Option, Some, None, find, map, option_map, refl, sym, ap, subst, ◌∙◌}
-use Rattle.std.specs.Prelude.{◌==◌, IfSome, IsSomeAnd, bytes_eq, is_some, option_and_then, slice_get, unwrap_or}
+use Rattle.std.proofs.Common.{◌≡◌, ℕ, ◌≤◌, zero, suc, Bool, true, false, not, ◌&&◌, ◌||◌, cond, List, [], ◌∷◌, length, Option, Some, None, find, map, option_map, refl, sym, ap, subst, ◌∙◌}
+use Rattle.std.specs.Prelude.{◌==◌, IfSome, IsSomeAnd, bytes_eq, is_some, option_and_then, slice_get}
 use Rattle.std.specs.List.{AllByRecursion}
 use Rattle.btree_inplace.specs.Changes.{with_data_at}
 use Rattle.btree_inplace.specs.Order.{extent_in, get_in, has_key}
@@ -8,11 +8,11 @@ use Rattle.column_set.specs.RecordValues.{RecordFields}
 use Rattle.cursor_nav.specs.Places.{are_sorted}
 use Rattle.database_state.specs.Conflicts.{yields_key}
 use Rattle.database_state.specs.State.{Status, uncommitted, committed, undone, is_open, is_undone}
-use Rattle.database_state.specs.Table.{Rows, Table, row_at, schema_of, table_with_id}
+use Rattle.database_state.specs.Table.{Table, row_at, schema_of, table_with_id}
 use Rattle.derived_index.specs.KeptEntries.{has_entry}
 use Rattle.index_derive.specs.declared.rules.IndexRule.{IndexRule}
 use Rattle.page_image.specs.Page.{Node}
-use Rattle.record_changes.proofs.Tests.{and_left, and_right, impossible, same_bytes, same_number, self_equal}
+use Rattle.record_changes.proofs.Tests.{and_left, and_right, impossible, same_bytes, same_number}
 use Rattle.table_trees.specs.StoredNodes.{bookmark_entries, put_data}
 use Rattle.table_trees.specs.StoredTables.{StoredIndex, StoredTable, has_table, index_entries, is_index, part_of, table_nodes, with_nodes}
 use Rattle.version_store.specs.HeldChanges.{HeldChange, is_rewrite, undone_at, with_status}

@@ -1,13 +1,12 @@
 -- The change that is undone, by its place, and its row.
-use Rattle.std.proofs.Common.{◌≡◌, ℕ, zero, suc, ◌<◌, ◌≤◌, Bool, true, false, not, ◌&&◌, ◌||◌, cond, List, [], ◌∷◌, length, Option, Some, None, find, map, option_map, refl, sym, ap, subst, ◌∙◌, arith}
-use Rattle.std.specs.Prelude.{◌==◌, All, IfSome, IsSomeAnd, IsTrue, is_some, option_and_then, slice_get, unwrap_or}
+use Rattle.std.proofs.Common.{◌≡◌, ℕ, zero, suc, ◌<◌, ◌≤◌, Bool, true, false, cond, List, [], ◌∷◌, length, Option, Some, None, find, map, option_map, refl, sym, ap, ◌∙◌, arith}
+use Rattle.std.specs.Prelude.{All, IfSome, IsSomeAnd, is_some, option_and_then, slice_get, unwrap_or}
 use Rattle.std.proofs.lemmas.List.Elements.{All-head, All-tail}
 use Rattle.btree_inplace.specs.Order.{extent_in, get_in, has_key}
-use Rattle.column_set.specs.Rows.{IsRowBytes, is_row, row_bytes}
+use Rattle.column_set.specs.Rows.{IsRowBytes}
 use Rattle.column_set.specs.RowReading.{row_in}
 use Rattle.cursor_nav.specs.Places.{are_sorted}
 use Rattle.database_state.specs.State.{undone}
-use Rattle.database_state.specs.Table.{Table, schema_of, table_with_id}
 use Rattle.page_image.specs.Page.{Node}
 use Rattle.record_changes.proofs.Tests.{impossible}
 use Rattle.table_trees.specs.StoredNodes.{IsShortNode, bookmark_entries}

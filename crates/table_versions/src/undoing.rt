@@ -49,7 +49,13 @@ impl TableVersions {
     {
         match self.versions.undo_level(session, level) {
             Some(undone) => {
-                put_back(&self.catalog, &mut self.trees, &self.versions, undone.table, undone.place);
+                put_back(
+                    &self.catalog,
+                    &mut self.trees,
+                    &self.versions,
+                    undone.table,
+                    undone.place,
+                );
                 true
             }
             None => false,

@@ -1,7 +1,6 @@
-use Rattle.std.proofs.Common.{◌≡◌, Option, None, Some, sym, ap, ◌∙◌}
+use Rattle.std.proofs.Common.{◌≡◌, Some, sym, ap, ◌∙◌}
 use Rattle.std.specs.Prelude.{option_copied, option_map}
-use Rattle.column_set.specs.RecordValues.{RecordFields}
-use Rattle.column_set.specs.Rows.{RowFields, here_fields}
+use Rattle.column_set.specs.Rows.{here_fields}
 use Rattle.table_versions.specs.RecordRows.{record_of}
 use Rattle.table_versions.proofs.Forgotten.{can_take, first_within, forgotten_left, nothing_left}
 use Rattle.table_versions.proofs.StandingChanges.{row_before}

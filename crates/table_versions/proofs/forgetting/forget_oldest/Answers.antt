@@ -1,4 +1,4 @@
-use Rattle.std.proofs.Common.{Some, sym, ap, ◌∙◌}
+use Rattle.std.proofs.Common.{sym, ap, ◌∙◌}
 use Rattle.std.specs.Prelude.{option_map}
 use Rattle.jet_base.specs.declared.ids.TableId.{TableId}
 use Rattle.table_versions.proofs.Forgotten.{always_first}

@@ -1,6 +1,5 @@
 use Rattle.std.proofs.Common.{◌≡◌, ℕ, true, List, [], map, Option, Some, None, sym, ap, subst, ◌∙◌}
 use Rattle.std.specs.Prelude.{IfSome, is_some, option_copied, unwrap_or}
-use Rattle.column_set.specs.RecordValues.{RecordFields}
 use Rattle.column_set.specs.RowReading.{row_in}
 use Rattle.column_set.specs.Rows.{RowFields, here_fields}
 use Rattle.cursor_nav.specs.Places.{are_sorted}
@@ -8,7 +7,7 @@ use Rattle.table_trees.specs.StoredNodes.{bookmark_entries}
 use Rattle.table_trees.specs.StoredTables.{StoredTable, table_nodes}
 use Rattle.version_store.specs.HeldChanges.{HeldChange}
 use Rattle.table_versions.specs.LeftVariants.{AreLeft}
-use Rattle.table_versions.specs.RecordRows.{IsRecordRow, record_of, row_under}
+use Rattle.table_versions.specs.RecordRows.{IsRecordRow, row_under}
 use Rattle.table_versions.specs.VersionsKept.{AreKept}
 use Rattle.table_versions.specs.VersionsView.{with_newest}
 use Rattle.table_versions.proofs.Dropped.{TreeLaws}

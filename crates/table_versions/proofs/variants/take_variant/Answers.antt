@@ -1,4 +1,4 @@
-use Rattle.std.proofs.Common.{List, drop, sym, ap, subst, ◌∙◌}
+use Rattle.std.proofs.Common.{List, drop, sym, subst}
 use Rattle.std.specs.Prelude.{option_map}
 use Rattle.page_image.specs.Page.{Node}
 use Rattle.table_trees.specs.StoredTables.{table_nodes}

@@ -1,4 +1,4 @@
-use Rattle.std.proofs.Common.{◌≡◌, ◌<◌, Bool, true, false, sym, ap, subst, ◌∙◌}
+use Rattle.std.proofs.Common.{◌<◌, Bool, true, sym, ap, subst, ◌∙◌}
 use Rattle.std.specs.List.{list_any}
 use Rattle.versioned_tables.specs.HeldRecords.{is_open_at}
 use Rattle.versioned_tables.specs.VersionedTables.{VersionedTables, with_changes_undone}

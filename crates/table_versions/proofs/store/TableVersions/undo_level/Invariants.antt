@@ -9,7 +9,7 @@ use Rattle.table_versions.proofs.store.TableVersions.undo_level.Given as goal
 abbrev pub invariant-loop-more : goal.invariant-loop-more
 invariant-loop-more l = record {
   rest : record l.self { store = with_changes_undone (is_open_at l.session.0 l.level) l.self.store } ≡ record l.fn.self { store = with_changes_undone (is_open_at l.session.0 l.level) l.fn.self.store };
-  more : l.more ≡ false → list_any (is_open_at l.session.0 l.level) l.self.store.held ≡ false
+  more : l.more ≡ false → list_any (is_open_at l.session.0 l.level) l.self.store.held ≡ false;
 }
 
 abbrev pub decreases-loop-more : goal.decreases-loop-more
