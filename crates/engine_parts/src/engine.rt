@@ -13,6 +13,9 @@ use table_versions::TableVersions;
 use version_cleanup::Sessions;
 use version_store::Reader;
 
+/// The number of entries at which the log ends: only what ends a session, a level or a cursor is logged beyond.
+pub const LOG_LIMIT: u64 = 17_179_869_184;
+
 /// The engine of a database with versions: its live sessions, and its tables with the changes that are held.
 ///
 /// Contracts see what it holds of a database state; `HoldsState` says when it holds a state. Its parts are public for the
