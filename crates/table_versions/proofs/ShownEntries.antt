@@ -34,7 +34,7 @@ pub record WalkLaws : Type 0 where
   pub walks : WalksSeen
   pub own : Laws
 
-seen_at_id : (reader : Reader) (held : List HeldRecord) (tables : List Table) (id : ℕ) → table_with_id (map (seen_table reader held) tables) id ≡ option_map (seen_table reader held) (table_with_id tables id)
+pub seen_at_id : (reader : Reader) (held : List HeldRecord) (tables : List Table) (id : ℕ) → table_with_id (map (seen_table reader held) tables) id ≡ option_map (seen_table reader held) (table_with_id tables id)
 seen_at_id reader held [] id = refl
 seen_at_id reader held (t ∷ tables) id = by (t.id == id) (seen_at_id reader held tables id)
   where

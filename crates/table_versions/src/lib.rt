@@ -4,6 +4,7 @@
 
 mod changing;
 mod ending;
+mod finding;
 mod reading;
 mod store;
 mod telling;

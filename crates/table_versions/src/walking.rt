@@ -106,7 +106,7 @@ impl TableVersions {
 }
 
 // The rule of an index that has a tree of its own.
-fn secondary_rule(schema: &Schema, index: IndexId) -> Option<&IndexRule>
+pub(crate) fn secondary_rule(schema: &Schema, index: IndexId) -> Option<&IndexRule>
     ensures { option_copied result ≡ only_secondary (rule_with_id schema.now index.0) }
 {
     match schema.rule_with_id(index) {
@@ -154,7 +154,7 @@ fn stored_before(
 }
 
 // A bookmark is its own key.
-fn own_entry(bookmark: &[u8]) -> IndexEntry
+pub(crate) fn own_entry(bookmark: &[u8]) -> IndexEntry
     requires { length bookmark.now ≤ 255 }
     ensures key { result.key ≡ bookmark.now }
     ensures bookmark { result.bookmark ≡ bookmark.now }
