@@ -47,7 +47,7 @@ impl Engine {
             return Ok(refused(Jet::LogSequenceEnd));
         }
         let mut decision = done(one(local.session(), EntryKind::Open(found.id())), false);
-        decision.table = Some((found.id(), found.schema()?));
+        decision.table = Some((found.id(), found.schema().copy()?));
         Ok(decision)
     }
 

@@ -58,7 +58,7 @@ impl TableDef {
     fn numbered_segments(&self, asked: &[NamedSegment]) -> Result<Items<Segment>, OutOfMemory>
         ensures { IfOk result (λ made. made ≡ map (segment_of self.now.columns) asked.now) }
     {
-        let mut made = Items::empty(*self.columns.allocator());
+        let mut made = Items::empty(*self.indexes.allocator());
         for segment in asked {
             made.push(Segment {
                 column: self.column_id_named(&segment.column),
@@ -72,7 +72,7 @@ impl TableDef {
     fn numbered_conditions(&self, asked: &[NamedCondition]) -> Result<Items<Condition>, OutOfMemory>
         ensures { IfOk result (λ made. made ≡ map (condition_of self.now.columns) asked.now) }
     {
-        let mut made = Items::empty(*self.columns.allocator());
+        let mut made = Items::empty(*self.indexes.allocator());
         for condition in asked {
             made.push(Condition {
                 column: self.column_id_named(&condition.column),

@@ -34,7 +34,7 @@ impl TableDef {
             return Ok(Err(refusal));
         }
         let index = self.asked_index(name, asked)?;
-        match self.rule_refusal(&index, has_records)? {
+        match self.rule_refusal(&index, has_records) {
             Some(refusal) => Ok(Err(refusal)),
             None => Ok(Ok(SchemaStep::CreateIndex {
                 table: self.id(),
@@ -57,25 +57,25 @@ impl TableDef {
     }
 
     // Why there may be no index of this rule.
-    fn rule_refusal(&self, rule: &IndexRule, has_records: bool) -> Result<Option<Jet>, OutOfMemory>
-        ensures { IfOk result (λ refusal. refusal ≡ first_refusal (index_rule_refusals has_records self.now rule.now)) }
+    fn rule_refusal(&self, rule: &IndexRule, has_records: bool) -> Option<Jet>
+        ensures { result ≡ first_refusal (index_rule_refusals has_records self.now rule.now) }
     {
         if rule.flags.primary && self.has_primary() {
-            return Ok(Some(Jet::IndexHasPrimary));
+            return Some(Jet::IndexHasPrimary);
         }
         if rule.flags.primary && has_records {
-            return Ok(Some(Jet::TableNotEmpty));
+            return Some(Jet::TableNotEmpty);
         }
         if self.lacks_column_of(rule) {
-            return Ok(Some(Jet::ColumnNotFound));
+            return Some(Jet::ColumnNotFound);
         }
         if self.has_escrow_column_of(rule) {
-            return Ok(Some(Jet::CannotIndex));
+            return Some(Jet::CannotIndex);
         }
-        if !legal(rule, &self.schema()?) {
-            return Ok(Some(Jet::IndexInvalidDef));
+        if !legal(rule, self.schema()) {
+            return Some(Jet::IndexInvalidDef);
         }
-        Ok(None)
+        None
     }
 
     // Whether the key or a condition names a column that the table has not.

@@ -1,16 +1,16 @@
 //! What a schema step does to the catalog.
 
-ghost use Rattle.std.specs.Prelude.{◌≡◌, ◌==◌, ◌<◌, ◌≤◌, [], ◌∷◌, ◌++◌, not, filter, length, take, IsTrue, OnOk, OnErr};
+ghost use Rattle.std.specs.Prelude.{◌≡◌, ◌==◌, ◌<◌, ◌≤◌, [], ◌∷◌, ◌++◌, not, filter, length, take, IfOk, IsTrue, OnOk, OnErr};
 ghost use Rattle.std.specs.List.{insert};
 ghost use Rattle.database_state.specs.Table.{with_table};
 ghost use Rattle.database_state.specs.SchemaChanges.{new_table, columns_with, with_column, without_column, with_index, without_index};
 ghost use Rattle.jet_catalog.specs.Catalog.{IsNumbered, catalog_after, has_new_id};
 
 use crate::catalog::Catalog;
-use crate::table::TableDef;
+use crate::table::{TableDef, schema_indexes};
 use column_set::Column;
 use index_derive::{IndexRule, SchemaStep};
-use jet_base::{ColumnId, IndexId, Name, OutOfMemory, TableId};
+use jet_base::{ColumnId, IndexId, Items, Name, OutOfMemory, TableId};
 
 impl TableDef {
     // Puts a copy of the column in its place by number, and takes note of its number.
@@ -19,17 +19,24 @@ impl TableDef {
         ensures id { self.new.id ≡ self.old.id }
         ensures kept { OnErr result (self.new ≡ self.old) }
     {
-        let place = place_of(self.columns.as_slice(), column);
-        self.columns.insert(place, column.copy()?)?;
+        let mut columns = self.columns().to_vec(*self.indexes.allocator())?;
+        let place = place_of(columns.as_slice(), column);
+        columns.insert(place, column.copy()?)?;
+        self.schema.columns = Items::new(columns);
         self.greatest.give(column.id);
         Ok(())
     }
 
     // Takes out the column of this number.
-    fn delete_column(&mut self, id: ColumnId)
-        ensures { self.new ≡ without_column id.0 self.old }
+    fn delete_column(&mut self, id: ColumnId) -> Result<(), OutOfMemory>
+        ensures made { OnOk result (self.new ≡ without_column id.0 self.old) }
+        ensures id { self.new.id ≡ self.old.id }
+        ensures kept { OnErr result (self.new ≡ self.old) }
     {
-        self.columns.retain(|column| column.id != id);
+        let mut columns = self.columns().to_vec(*self.indexes.allocator())?;
+        columns.retain(|column| column.id != id);
+        self.schema.columns = Items::new(columns);
+        Ok(())
     }
 
     // Puts a copy of the index behind the others.
@@ -38,15 +45,37 @@ impl TableDef {
         ensures id { self.new.id ≡ self.old.id }
         ensures kept { OnErr result (self.new ≡ self.old) }
     {
-        self.indexes.push(index.copy()?)?;
-        Ok(())
+        let mut indexes = self.copied_indexes()?;
+        indexes.push(index.copy()?)?;
+        self.set_indexes(indexes)
     }
 
     // Takes out the index of this number.
-    fn delete_index(&mut self, id: IndexId)
-        ensures { self.new ≡ without_index id.0 self.old }
+    fn delete_index(&mut self, id: IndexId) -> Result<(), OutOfMemory>
+        ensures made { OnOk result (self.new ≡ without_index id.0 self.old) }
+        ensures id { self.new.id ≡ self.old.id }
+        ensures kept { OnErr result (self.new ≡ self.old) }
     {
-        self.indexes.retain(|index| index.id != id);
+        let mut indexes = self.copied_indexes()?;
+        indexes.retain(|index| index.id != id);
+        self.set_indexes(indexes)
+    }
+
+    // Copies of its indexes, in the order of their making.
+    fn copied_indexes(&self) -> Result<Vec<IndexRule>, OutOfMemory>
+        ensures { IfOk result (λ made. made.items ≡ self.now.indexes) }
+    {
+        Ok(self.indexes().to_vec(*self.indexes.allocator())?)
+    }
+
+    // Puts these in place of its indexes, in the schema too.
+    fn set_indexes(&mut self, indexes: Vec<IndexRule>) -> Result<(), OutOfMemory>
+        ensures made { OnOk result (self.new ≡ record self.old { indexes = indexes.items }) }
+        ensures kept { OnErr result (self.new ≡ self.old) }
+    {
+        self.schema.indexes = schema_indexes(&indexes)?;
+        self.indexes = indexes;
+        Ok(())
     }
 }
 
@@ -75,15 +104,9 @@ impl Catalog {
                 Ok(())
             }
             SchemaStep::AddColumn { table, column } => self.add_column(*table, column),
-            SchemaStep::DeleteColumn { table, column } => {
-                self.delete_column(*table, *column);
-                Ok(())
-            }
+            SchemaStep::DeleteColumn { table, column } => self.delete_column(*table, *column),
             SchemaStep::CreateIndex { table, index } => self.add_index(*table, index),
-            SchemaStep::DeleteIndex { table, index } => {
-                self.delete_index(*table, *index);
-                Ok(())
-            }
+            SchemaStep::DeleteIndex { table, index } => self.delete_index(*table, *index),
         }
     }
 
@@ -124,12 +147,14 @@ impl Catalog {
         Ok(())
     }
 
-    fn delete_column(&mut self, table: TableId, column: ColumnId)
-        ensures { self.new ≡ record self.old { tables = with_table table.0 (without_column column.0) self.old.tables } }
+    fn delete_column(&mut self, table: TableId, column: ColumnId) -> Result<(), OutOfMemory>
+        ensures made { OnOk result (self.new ≡ record self.old { tables = with_table table.0 (without_column column.0) self.old.tables }) }
+        ensures kept { OnErr result (self.new ≡ self.old) }
     {
         if let Some(index) = self.position(table) {
-            self.tables[index].delete_column(column);
+            self.tables[index].delete_column(column)?;
         }
+        Ok(())
     }
 
     fn add_index(&mut self, table: TableId, made: &IndexRule) -> Result<(), OutOfMemory>
@@ -142,11 +167,13 @@ impl Catalog {
         Ok(())
     }
 
-    fn delete_index(&mut self, table: TableId, made: IndexId)
-        ensures { self.new ≡ record self.old { tables = with_table table.0 (without_index made.0) self.old.tables } }
+    fn delete_index(&mut self, table: TableId, made: IndexId) -> Result<(), OutOfMemory>
+        ensures made { OnOk result (self.new ≡ record self.old { tables = with_table table.0 (without_index made.0) self.old.tables }) }
+        ensures kept { OnErr result (self.new ≡ self.old) }
     {
         if let Some(index) = self.position(table) {
-            self.tables[index].delete_index(made);
+            self.tables[index].delete_index(made)?;
         }
+        Ok(())
     }
 }

@@ -3,7 +3,7 @@
 ghost use Rattle.std.specs.Prelude.{◌≡◌, ◌==◌, ◌++◌, ◌&&◌, not, find, filter, IfOk, bytes_eq, option_copied, if◌then◌else◌};
 ghost use Rattle.std.specs.List.{list_any};
 ghost use Rattle.column_set.specs.RecordValues.{column_named, column_of_id};
-ghost use Rattle.database_state.specs.Table.{schema_of, primary_rule};
+ghost use Rattle.database_state.specs.Table.{schema_of, primary_rule, primary_first};
 ghost use Rattle.database_state.specs.SchemaChanges.{new_table, has_column};
 ghost use Rattle.database_state.specs.SchemaSteps.{column_id_named, index_id_named};
 
@@ -16,22 +16,26 @@ use std::marker::Model;
 
 /// A table, with its columns by rising number and its indexes in the order of their making. Contracts see it as a table
 /// without a record.
+///
+/// Its schema, in which the primary index comes first, is kept beside the order of making, so that it can be lent.
 #[derive(Debug, Drop)]
 pub struct TableDef {
     pub(crate) id: TableId,
     pub(crate) name: Name,
-    pub(crate) columns: Vec<Column>,
+    pub(crate) schema: Schema,
     pub(crate) indexes: Vec<IndexRule>,
     pub(crate) greatest: GreatestColumns,
 }
 
 impl Model for TableDef {
-    ghost use Rattle.std.specs.Prelude.{[]};
-    ghost use Rattle.database_state.specs.Table.{Table};
+    ghost use Rattle.std.specs.Prelude.{◌≡◌, []};
+    ghost use Rattle.database_state.specs.Table.{Table, primary_first};
 
     ghost Value = { Table };
 
-    ghost view = { λ a. record { id = a.id.0; name = a.name; columns = a.columns.items; indexes = a.indexes.items; greatest = a.greatest; rows = [] } };
+    ghost view = { λ a. record { id = a.id.0; name = a.name; columns = a.schema.columns; indexes = a.indexes.items; greatest = a.greatest; rows = [] } };
+
+    ghost invariant = { λ a. a.schema.indexes ≡ primary_first a.indexes.items };
 }
 
 impl TableDef {
@@ -42,7 +46,10 @@ impl TableDef {
         TableDef {
             id,
             name,
-            columns: Vec::new(alloc),
+            schema: Schema {
+                columns: Items::empty(alloc),
+                indexes: Items::empty(alloc),
+            },
             indexes: Vec::new(alloc),
             greatest: GreatestColumns::none(),
         }
@@ -66,7 +73,7 @@ impl TableDef {
     pub fn columns(&self) -> &[Column]
         ensures { result.now ≡ self.now.columns }
     {
-        self.columns.as_slice()
+        self.schema.columns.as_slice()
     }
 
     /// Its indexes, in the order of their making.
@@ -175,19 +182,22 @@ impl TableDef {
         self.indexes().iter().any(|made| made.flags.primary)
     }
 
-    /// The columns and the indexes, copied, the primary index first.
-    pub fn schema(&self) -> Result<Schema, OutOfMemory>
-        ensures { IfOk result (λ made. made ≡ schema_of self.now) }
+    /// Its columns and indexes, the primary index first.
+    pub fn schema(&self) -> &Schema
+        ensures { result.now ≡ schema_of self.now }
     {
-        let columns = self.columns.clone()?;
-        let mut indexes = Vec::new(*self.indexes.allocator());
-        copy_indexes(&mut indexes, self.indexes(), true)?;
-        copy_indexes(&mut indexes, self.indexes(), false)?;
-        Ok(Schema {
-            columns: Items::new(columns),
-            indexes: Items::new(indexes),
-        })
+        &self.schema
     }
+}
+
+// Copies of the indexes, the primary one first.
+pub(crate) fn schema_indexes(rules: &Vec<IndexRule>) -> Result<Items<IndexRule>, OutOfMemory>
+    ensures { IfOk result (λ made. made ≡ primary_first rules.now.items) }
+{
+    let mut copies = Vec::new(*rules.allocator());
+    copy_indexes(&mut copies, rules.as_slice(), true)?;
+    copy_indexes(&mut copies, rules.as_slice(), false)?;
+    Ok(Items::new(copies))
 }
 
 // Puts copies of the primary index, or of all others, at the end.

@@ -186,7 +186,7 @@ fn a_table_is_read(rt: HostRuntime) {
 fn a_schema_has_the_primary_index_first(rt: HostRuntime) {
     let catalog = with_table(&rt, rt.alloc());
     let found = catalog.lookup(b"T".as_slice()).expect(&rt, "the table");
-    let schema = found.schema().expect(&rt, "memory");
+    let schema = found.schema();
     match schema.indexes.as_slice() {
         [first, _] => assert!(&rt; first.name.as_bytes() == b"pk".as_slice()),
         _ => assert!(&rt; false),

@@ -38,8 +38,8 @@ returns-then-self-ge-LOG_LIMIT-clause-answer c =
 pub returns-clause-answer : goal.returns-clause-answer
 returns-clause-answer c =
     subst (Answers c.args.self.now c.args.local.now c.args.cursor c.args.table.now)
-    (sym (opened-as c.done-decision.result c.one.result c.session.result c.id.result c.id-2.result c.in_ok-schema.field-0 c.args.local.now.session c.in-Some.found.now
-    c.done-decision.ensures c.one.ensures c.session.ensures c.id.ensures c.id-2.ensures c.in_ok-schema.ensures))
+    (sym (opened-as c.done-decision.result c.one.result c.session.result c.id.result c.id-2.result c.in_ok-copy.field-0 c.args.local.now.session c.in-Some.found.now
+    c.done-decision.ensures c.one.ensures c.session.ensures c.id.ensures c.id-2.ensures (c.in_ok-copy.ensures ∙ c.schema.ensures)))
     (open_table-done c.args.self.now c.args.local.now c.args.cursor c.args.table.now c.in-Some.found.now c.requires.shared (omega (arith, ap length c.cursors.ensures.cursors, c.if-cursors-ge-MOST_CURSORS.false))
     (c.in-Some.ensures ∙ same_found c.as_bytes.result.now c.args.table.now c.self.inside.catalog c.args.self.now c.as_bytes.ensures (ap (λ (e : EngineState). e.catalog) c.self.view_is))
     (omega (arith, ap (λ (e : EngineState). e.number) c.self.view_is, c.if-self-ge-LOG_LIMIT.false)))
