@@ -1,11 +1,11 @@
 -- The record at a cursor, as a session reads it.
-use Rattle.std.proofs.Common.{◌≡◌, ℕ, Bool, List, [], ◌∷◌, Option, Some, None, Result, Ok, Err, refl, sym, ap, subst, ◌∙◌, if◌then◌else◌, is_some, is_none}
+use Rattle.std.proofs.Common.{◌≡◌, ℕ, List, [], ◌∷◌, Option, Some, None, Result, Ok, Err, refl, sym, ap, subst, ◌∙◌, if◌then◌else◌, is_some, is_none}
 use Rattle.std.specs.Prelude.{IfSome, not}
 use Rattle.jet_base.specs.declared.replies.Jet.{Jet}
 use Rattle.jet_base.specs.declared.replies.Jet.TheVariants as jet
 use Rattle.column_set.specs.RecordValues.{RecordFields}
 use Rattle.column_set.specs.Rows.{RowFields, here_fields}
-use Rattle.cursor_nav.specs.Places.{Pair, is_on, place_bookmark}
+use Rattle.cursor_nav.specs.Places.{Pair, is_on}
 use Rattle.database_state.specs.Refusals.{first_refusal}
 use Rattle.index_derive.specs.declared.entries.Place.{Place}
 use Rattle.index_derive.specs.declared.entries.Place.TheVariants.{On}

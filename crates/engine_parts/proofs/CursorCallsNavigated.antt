@@ -1,5 +1,5 @@
 -- A call that moves a cursor over what the session sees decides as the database state answers.
-use Rattle.std.proofs.Common.{◌≡◌, ℕ, true, false, List, Option, Some, None, refl, ap, ◌∙◌}
+use Rattle.std.proofs.Common.{◌≡◌, ℕ, true, false, Option, Some, None, refl, ap, ◌∙◌}
 use Rattle.std.specs.Prelude.{option_map}
 use Rattle.jet_base.specs.declared.replies.Jet.{Jet}
 use Rattle.cursor_nav.specs.Navigation.{Navigated}
@@ -12,7 +12,7 @@ use Rattle.session_local.specs.Local.{LocalState, OpenCursor, cursor_labelled}
 use Rattle.session_local.specs.Outcome.{entries_seen, navigated}
 use Rattle.session_local.specs.LocalCalls.{is_answered_locally}
 use Rattle.session_local.specs.Finishing.{Decided, finished}
-use Rattle.session_local.specs.Navigating.{EntriesOf, RecordsOf, navigated_by, navigated_on}
+use Rattle.session_local.specs.Navigating.{navigated_by, navigated_on}
 use Rattle.agreeing_sessions.specs.InStep.{IsInStep}
 use Rattle.table_versions.specs.StoredVersions.{seen_entries}
 use Rattle.version_store.specs.declared.calls.Reader.{Reader}

@@ -4,9 +4,8 @@ use Rattle.std.specs.Prelude.{◌==◌, bytes_eq, IfSome, IsTrue, is_some, optio
 use Rattle.std.specs.List.{AllByRecursion, list_all}
 use Rattle.column_set.specs.RecordValues.{RecordFields, record_fits, record_size}
 use Rattle.database_state.specs.State.{DatabaseState, LiveSession, PastChange, Transaction, transaction_of}
-use Rattle.database_state.specs.Table.{Rows, Table, index_entries, record_in, row_at, rows_of, schema_of, table_named, table_with_id}
+use Rattle.database_state.specs.Table.{Table, index_entries, record_in, row_at, rows_of, schema_of, table_named, table_with_id}
 use Rattle.database_state.specs.View.{view}
-use Rattle.index_derive.specs.declared.rules.IndexRule.{IndexRule}
 use Rattle.index_derive.specs.declared.rules.Schema.{Schema}
 use Rattle.record_changes.specs.Records.{Records, records_of}
 use Rattle.record_changes.proofs.Tests.{and_left, and_right, impossible}

@@ -1,7 +1,6 @@
 -- What a view tells of the tables.
-use Rattle.std.proofs.Common.{◌≡◌, ℕ, List, [], Option, Some, None, option_map, unwrap_or, refl, sym, ap, ◌∙◌}
+use Rattle.std.proofs.Common.{◌≡◌, ℕ, [], Option, Some, None, option_map, unwrap_or, refl, sym, ap, ◌∙◌}
 use Rattle.std.specs.Prelude.{IsSomeAnd, is_some}
-use Rattle.cursor_nav.specs.Places.{Pair}
 use Rattle.database_state.specs.Table.{Table, schema_of, table_with_id}
 use Rattle.index_derive.specs.declared.rules.Schema.{Schema}
 use Rattle.version_history.specs.History.{without_rows}

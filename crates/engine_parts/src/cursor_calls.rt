@@ -15,7 +15,6 @@ ghost use Rattle.engine_parts.specs.Reading.{CurrentEntry, records_for};
 use crate::answers::{done, one, refused, said};
 use crate::engine::{Engine, LOG_LIMIT};
 use crate::laws::a_session_reads_its_view;
-use crate::lent::{schema, seen_entries_are_in_order};
 use crate::record_calls::show_bytes;
 use crate::view::EngineView;
 use index_derive::{EntryKind, Place};
@@ -51,7 +50,7 @@ impl Engine {
             return Ok(refused(Jet::LogSequenceEnd));
         }
         let mut decision = done(one(local.session(), EntryKind::Open(found.id())), false);
-        decision.table = Some((found.id(), schema(found).copy()?));
+        decision.table = Some((found.id(), found.schema().copy()?));
         Ok(decision)
     }
 
@@ -108,7 +107,7 @@ impl Engine {
             unreachable!()
         };
         let view = self.view(local);
-        seen_entries_are_in_order(&self.tables);
+        self.tables.seen_entries_are_in_order();
         match found.cursor().count(&view, most) {
             Ok(counted) => said(Jet::Success, Value::Count(counted.number)),
             Err(refusal) => refused(refusal),

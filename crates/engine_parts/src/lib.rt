@@ -6,7 +6,6 @@ mod answers;
 mod cursor_calls;
 mod engine;
 mod laws;
-mod lent;
 mod record_calls;
 mod view;
 

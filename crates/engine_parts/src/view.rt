@@ -5,7 +5,6 @@ ghost use Rattle.cursor_nav.specs.Places.{are_sorted};
 ghost use Rattle.table_versions.specs.StoredVersions.{seen_entries};
 ghost use Rattle.engine_parts.specs.Reading.{has_shown};
 
-use crate::lent::{least, schema, seen_entries_are_in_order};
 use cursor_nav::View;
 use index_derive::{IndexEntry, Place};
 use jet_base::{IndexId, TableId};
@@ -26,7 +25,7 @@ impl<'a> EngineView<'a> {
         ensures tables { result.tables.now ≡ tables.now }
         ensures reader { result.reader ≡ reader }
     {
-        seen_entries_are_in_order(tables);
+        tables.seen_entries_are_in_order();
         EngineView { tables, reader }
     }
 }
@@ -40,7 +39,7 @@ impl<'a> View for EngineView<'a> {
         match self.tables.by_id(table) {
             Some(found) => self
                 .tables
-                .walk(table, schema(found), index, place, self.reader),
+                .walk(table, found.schema(), index, place, self.reader),
             None => None,
         }
     }
@@ -49,21 +48,16 @@ impl<'a> View for EngineView<'a> {
         match self.tables.by_id(table) {
             Some(found) => self
                 .tables
-                .walk_back(table, schema(found), index, place, self.reader),
+                .walk_back(table, found.schema(), index, place, self.reader),
             None => None,
         }
     }
 
     fn least(&self, table: TableId, index: IndexId, bookmark: &[u8]) -> Option<IndexEntry> {
         match self.tables.by_id(table) {
-            Some(found) => least(
-                self.tables,
-                table,
-                schema(found),
-                index,
-                bookmark,
-                self.reader,
-            ),
+            Some(found) => self
+                .tables
+                .least(table, found.schema(), index, bookmark, self.reader),
             None => None,
         }
     }

@@ -1,4 +1,4 @@
-use Rattle.std.proofs.Common.{◌≡◌, ℕ, sym, ap, ◌∙◌}
+use Rattle.std.proofs.Common.{sym, ap, ◌∙◌}
 use Rattle.cursor_nav.specs.Navigation.{CursorState}
 use Rattle.version_cleanup.specs.Cleaning.{reader_in}
 use Rattle.engine_versions.specs.EngineState.{EngineState}

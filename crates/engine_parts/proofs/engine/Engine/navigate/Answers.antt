@@ -1,4 +1,4 @@
-use Rattle.std.proofs.Common.{sym, ap, subst, ◌∙◌}
+use Rattle.std.proofs.Common.{sym, ap, subst}
 use Rattle.session_local.specs.declared.decision.Decision.{Decision}
 use Rattle.table_versions.specs.StoredVersions.{StoredVersions}
 use Rattle.engine_parts.specs.Deciding.{Decides}

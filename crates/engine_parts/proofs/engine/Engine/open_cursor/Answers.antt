@@ -1,7 +1,7 @@
-use Rattle.std.proofs.Common.{◌≡◌, ℕ, List, Some, None, length, option_map, sym, ap, subst, ◌∙◌, arith}
+use Rattle.std.proofs.Common.{◌≡◌, ℕ, List, length, option_map, sym, ap, subst, ◌∙◌, arith}
 use Rattle.jet_base.specs.declared.ids.CursorId.{CursorId}
 use Rattle.jet_catalog.specs.Catalog.{without_rows}
-use Rattle.database_state.specs.Table.{Table, schema_of, table_named}
+use Rattle.database_state.specs.Table.{table_named}
 use Rattle.session_local.specs.declared.decision.Decision.{Decision}
 use Rattle.session_local.specs.declared.request.Request.TheVariants as call
 use Rattle.session_local.specs.SessionSide.{SessionSide}
