@@ -7,6 +7,8 @@ pub mod Order
 pub mod Neighbours
 pub mod OwnOrder
 pub mod ShownEntries
+pub mod SeenOrder
+pub mod LeastEntries
 pub mod StoredRules
 pub mod Span
 pub mod ChangesKept

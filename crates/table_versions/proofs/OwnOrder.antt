@@ -79,7 +79,7 @@ below_all_is key [] h = refl
 below_all_is key (row ∷ rows) h =
     and_both _ _ (or_left _ _ (is_true (is_lt (slice_cmp nat_cmp key row.0)) (first _ _ h))) (below_all_is key rows (second (is_lt (slice_cmp nat_cmp key row.0)) _ h))
 
-order_is : (rows : Rows) → RowsRise rows → are_sorted (own_order rows) ≡ true
+pub order_is : (rows : Rows) → RowsRise rows → are_sorted (own_order rows) ≡ true
 order_is [] h = refl
 order_is (row ∷ rows) h = and_both _ _ (below_all_is row.0 rows (first _ _ h)) (order_is rows (second (below_all (slice_cmp nat_cmp) row.0 rows) _ h))
 
@@ -88,7 +88,7 @@ with_rises : (rows : Rows) (bookmark : List ℕ) (values : Option RecordFields) 
 with_rises rows bookmark None h = is_sorted-where_key (slice_cmp nat_cmp) (λ key. not (bytes_eq key bookmark)) rows h
 with_rises rows bookmark (Some values) h = is_sorted-put (slice_cmp nat_cmp) nat_list_cmp_total bookmark values rows h
 
-seen_rise : (table : ℕ) (reader : Reader) (held : List HeldRecord) (rows : Rows) → RowsRise rows → RowsRise (seen_rows table reader held rows)
+pub seen_rise : (table : ℕ) (reader : Reader) (held : List HeldRecord) (rows : Rows) → RowsRise rows → RowsRise (seen_rows table reader held rows)
 seen_rise table reader [] rows h = h
 seen_rise table reader (change ∷ held) rows h = by (hides_in table reader change) (seen_rise table reader held rows h)
   where

@@ -85,18 +85,6 @@ impl TableVersions {
         None
     }
 
-    // The entries that a reader sees of an index of a table are in order.
-    pub(crate) fn seen_entries_are_in_order(&self)
-        ensures { (reader : Reader) (table : ℕ) (schema : Schema) (index : ℕ) → IsSomeAnd (table_with_id self.now.store.tables table) (λ t. schema ≡ schema_of t)
-            → are_sorted (seen_entries reader self.now.store table index) ≡ true }
-    {
-        a_reader_is_shown_the_records_that_it_sees();
-        a_reader_walks_the_index_of_what_it_sees();
-        entries_in_order_are_told_by_those_that_are_there();
-        self.trees.nodes_are_in_order();
-        self.trees.entries_are_in_order();
-    }
-
     // Whether an entry of the index stands for the record that the reader sees under its bookmark.
     fn shows(
         &self,
@@ -120,7 +108,7 @@ impl TableVersions {
 }
 
 // The rule of an index that has a tree of its own.
-fn secondary_rule(schema: &Schema, index: IndexId) -> Option<&IndexRule>
+pub(crate) fn secondary_rule(schema: &Schema, index: IndexId) -> Option<&IndexRule>
     ensures { option_copied result ≡ only_secondary (rule_with_id schema.now index.0) }
 {
     match schema.rule_with_id(index) {
@@ -168,7 +156,7 @@ fn stored_before(
 }
 
 // A bookmark is its own key.
-fn own_entry(bookmark: &[u8]) -> IndexEntry
+pub(crate) fn own_entry(bookmark: &[u8]) -> IndexEntry
     requires { length bookmark.now ≤ 255 }
     ensures key { result.key ≡ bookmark.now }
     ensures bookmark { result.bookmark ≡ bookmark.now }

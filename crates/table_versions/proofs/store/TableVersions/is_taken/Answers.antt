@@ -14,7 +14,7 @@ pub loop-found-init : goal.loop-found-init
 loop-found-init c =
     let entries : List Pair = seen_entries c.args.reader c.args.self.now.store c.args.table.0 c.args.index.0 in
     walk_begins (λ (bookmark : List ℕ). not (is_replaced (option_copied c.args.own) bookmark)) c.args.key.now entries (found_pair c.walk-found.result)
-    (c.seen_entries_are_in_order.ensures c.args.reader c.args.table.0 c.args.schema.now c.args.index.0 c.requires)
+    (c.seen_entries_are_in_order.ensures.sorted c.args.reader c.args.table.0 c.args.index.0)
     (c.walk-found.ensures ∙ ap (λ (k : List ℕ). entry_after (Gap k false) entries) c.copy.ensures)
 
 pub returns-then-ne : goal.returns-then-ne
@@ -38,7 +38,7 @@ loop-found-preserved c =
     let test : List ℕ → Bool = λ bookmark. not (is_replaced (option_copied c.args.own) bookmark) in
     let entry : Pair = (c.in-Some.entry.key, c.in-Some.entry.bookmark) in
     walk_goes_on test c.args.key.now entries entry (found_pair c.walk-found-in-Some.result)
-    (c.seen_entries_are_in_order.ensures c.args.reader c.args.table.0 c.args.schema.now c.args.index.0 c.requires)
+    (c.seen_entries_are_in_order.ensures.sorted c.args.reader c.args.table.0 c.args.index.0)
     (subst (λ (o : Option IndexEntry). KeyWalk test c.args.key.now entries (found_pair o)) c.in-Some.is c.loop-found.invariant)
     (ap not (sym (c.is_replaced.ensures ∙ ap (is_replaced (option_copied c.args.own)) c.as_bytes.ensures.value) ∙ c.if-not-is_replaced.false))
     c.walk-found-in-Some.ensures

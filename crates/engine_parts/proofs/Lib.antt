@@ -1,0 +1,13 @@
+pub mod ReadsView
+pub mod Views
+pub mod Found
+pub mod Refusing
+pub mod CursorCallsShown
+pub mod CursorNavigates
+pub mod CursorCallsNavigated
+pub mod CursorCallsCounted
+pub mod CursorCallsOpened
+pub mod CursorCallsClosed
+pub mod CurrentRecords
+pub mod Retrieving
+pub mod Retrieved

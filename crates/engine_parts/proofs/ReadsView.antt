@@ -1,0 +1,197 @@
+-- What a session reads of a state that the engine holds.
+use Rattle.std.proofs.Common.{◌≡◌, ℕ, ◌≤◌, Bool, true, false, cond, List, [], ◌∷◌, Option, Some, None, find, map, option_map, unwrap_or, refl, sym, ap, subst, ◌∙◌}
+use Rattle.std.specs.Prelude.{◌==◌, bytes_eq, IfSome, IsTrue, is_some, option_and_then}
+use Rattle.std.specs.List.{AllByRecursion, list_all}
+use Rattle.column_set.specs.RecordValues.{RecordFields, record_fits, record_size}
+use Rattle.database_state.specs.State.{DatabaseState, LiveSession, PastChange, Transaction, transaction_of}
+use Rattle.database_state.specs.Table.{Table, index_entries, record_in, row_at, rows_of, schema_of, table_named, table_with_id}
+use Rattle.database_state.specs.View.{view}
+use Rattle.index_derive.specs.declared.rules.Schema.{Schema}
+use Rattle.record_changes.specs.Records.{Records, records_of}
+use Rattle.record_changes.proofs.Tests.{and_left, and_right, impossible}
+use Rattle.version_history.specs.History.{IsHistory, without_rows}
+use Rattle.version_keys.specs.Variants.{HasNoSums}
+use Rattle.version_records.specs.EachRecord.{EachRecordHas}
+use Rattle.version_records.specs.StoredRecords.{IsStored}
+use Rattle.version_store.specs.declared.calls.Reader.{Reader}
+use Rattle.version_cleanup.specs.declared.live.Transaction.{Transaction as LiveTransaction}
+use Rattle.version_cleanup.specs.Cleaning.{reader_in}
+use Rattle.version_cleanup.specs.LiveSessions.{LiveState, live_state, session_in, transaction_in, without_snapshot}
+use Rattle.versioned_tables.specs.HeldRecords.{HeldRecord, seen_record}
+use Rattle.versioned_tables.specs.VersionedTables.{VersionedTables, seen_table, seen_tables}
+use Rattle.versioned_tables.specs.Holding.{Holds, begin_of}
+use Rattle.table_versions.specs.StoredVersions.{entries_in}
+use Rattle.session_local.specs.Agreement.{HasSchemaOf}
+use Rattle.session_local.specs.Local.{LocalState, OpenCursor, cursor_labelled}
+use Rattle.agreeing_sessions.specs.InStep.{IsInStep}
+use Rattle.engine_versions.specs.BuiltTables.{is_built_column, is_built_table}
+use Rattle.engine_versions.specs.EngineState.{EngineState}
+use Rattle.engine_versions.specs.HoldsState.{HoldsState}
+use Rattle.engine_parts.specs.Reading.{entries_for, record_for}
+
+-- ---- the reader
+
+transaction_told : (label : ℕ) (sessions : List LiveSession) → transaction_in label (map live_state sessions) ≡ option_map without_snapshot (option_and_then (λ (s : LiveSession). s.transaction) (find (λ (s : LiveSession). s.label == label) sessions))
+transaction_told label [] = refl
+transaction_told label (s ∷ sessions) = by (s.label == label) (transaction_told label sessions)
+  where
+    by : (b : Bool) → transaction_in label (map live_state sessions) ≡ option_map without_snapshot (option_and_then (λ (s : LiveSession). s.transaction) (find (λ (s : LiveSession). s.label == label) sessions))
+        → option_and_then (λ (s : LiveState). s.transaction) (cond b (Some (live_state s)) (session_in label (map live_state sessions)))
+        ≡ option_map without_snapshot (option_and_then (λ (s : LiveSession). s.transaction) (cond b (Some s) (find (λ (s : LiveSession). s.label == label) sessions)))
+    by true rest = refl
+    by false rest = rest
+
+begin_told : (o : Option Transaction) → option_map (λ (t : LiveTransaction). t.begin) (option_map without_snapshot o) ≡ begin_of o
+begin_told None = refl
+begin_told (Some t) = refl
+
+reader_told : (engine : EngineState) (state : DatabaseState) (session : ℕ) → map live_state state.sessions ≡ engine.sessions → (reader_in session engine.sessions).begin ≡ begin_of (transaction_of state session)
+reader_told engine state session told =
+    ap (λ (sessions : List LiveState). option_map (λ (t : LiveTransaction). t.begin) (transaction_in session sessions)) (sym told)
+    ∙ ap (option_map (λ (t : LiveTransaction). t.begin)) (transaction_told session state.sessions)
+    ∙ begin_told (transaction_of state session)
+
+-- ---- the tables that it is shown
+
+-- the laws that it rests on
+abbrev pub ShowsView : Type 0
+ShowsView =
+    (base : Records) (dropped kept : List PastChange) (store : VersionedTables) (state : DatabaseState) → Holds base dropped kept store state → HasNoSums kept
+    → (reader : Reader) → reader.begin ≡ begin_of (transaction_of state reader.session.0) → (table : ℕ) → table_with_id (seen_tables reader store) table ≡ table_with_id (view state reader.session.0) table
+
+abbrev pub FindsShown : Type 0
+FindsShown =
+    (reader : Reader) (store : VersionedTables) (table : ℕ) (bookmark : List ℕ) → is_some (table_with_id store.tables table) ≡ true
+    → record_in (seen_tables reader store) table bookmark ≡ seen_record table bookmark reader (record_in store.tables table bookmark) store.held
+
+abbrev pub SeesStored : Type 0
+SeesStored =
+    (base : Records) (dropped kept : List PastChange) (state : DatabaseState) → IsHistory base dropped kept state → HasNoSums kept → EachRecordHas IsStored base kept state → (session id : ℕ)
+    → IfSome (table_with_id state.tables id) (λ table. (bookmark : List ℕ) → IfSome (records_of (view state session) id bookmark) (IsStored state.number (schema_of table) bookmark))
+
+seen_is_view : ShowsView → (engine : EngineState) (state : DatabaseState) (session : ℕ) → HoldsState engine state → (table : ℕ)
+    → table_with_id (seen_tables (reader_in session engine.sessions) engine.store) table ≡ table_with_id (view state session) table
+seen_is_view shows engine state session h table =
+    shows h.base h.dropped h.kept engine.store state h.holds h.reached.no_sums (reader_in session engine.sessions) (reader_told engine state session h.sessions) table
+
+pub seen_at_id : (reader : Reader) (held : List HeldRecord) (tables : List Table) (id : ℕ) → table_with_id (map (seen_table reader held) tables) id ≡ option_map (seen_table reader held) (table_with_id tables id)
+seen_at_id reader held [] id = refl
+seen_at_id reader held (t ∷ tables) id = by (t.id == id) (seen_at_id reader held tables id)
+  where
+    by : (b : Bool) → table_with_id (map (seen_table reader held) tables) id ≡ option_map (seen_table reader held) (table_with_id tables id)
+        → cond b (Some (seen_table reader held t)) (table_with_id (map (seen_table reader held) tables) id) ≡ option_map (seen_table reader held) (cond b (Some t) (table_with_id tables id))
+    by true rest = refl
+    by false rest = rest
+
+plain_at_id : (tables : List Table) (id : ℕ) → table_with_id (map without_rows tables) id ≡ option_map without_rows (table_with_id tables id)
+plain_at_id [] id = refl
+plain_at_id (t ∷ tables) id = by (t.id == id) (plain_at_id tables id)
+  where
+    by : (b : Bool) → table_with_id (map without_rows tables) id ≡ option_map without_rows (table_with_id tables id)
+        → cond b (Some (without_rows t)) (table_with_id (map without_rows tables) id) ≡ option_map without_rows (cond b (Some t) (table_with_id tables id))
+    by true rest = refl
+    by false rest = rest
+
+pub plain_named : (tables : List Table) (name : List ℕ) → table_named (map without_rows tables) name ≡ option_map without_rows (table_named tables name)
+plain_named [] name = refl
+plain_named (t ∷ tables) name = by (bytes_eq t.name name) (plain_named tables name)
+  where
+    by : (b : Bool) → table_named (map without_rows tables) name ≡ option_map without_rows (table_named tables name)
+        → cond b (Some (without_rows t)) (table_named (map without_rows tables) name) ≡ option_map without_rows (cond b (Some t) (table_named tables name))
+    by true rest = refl
+    by false rest = rest
+
+-- the stored table is defined as the committed one
+same_definition : (stored committed : List Table) (id : ℕ) → map without_rows stored ≡ map without_rows committed → option_map without_rows (table_with_id stored id) ≡ option_map without_rows (table_with_id committed id)
+same_definition stored committed id same = sym (plain_at_id stored id) ∙ ap (λ (tables : List Table). table_with_id tables id) same ∙ plain_at_id committed id
+
+-- ---- the cursor's table
+
+found_all : {X : Type 0} (P : X → Type 0) (q : X → Bool) (x : X) (xs : List X) → AllByRecursion P xs → find q xs ≡ Some x → P x
+found_all P q x [] all e = cc
+found_all {X} P q x (y ∷ xs) all e = by (q y) e (found_all P q x xs all.1)
+  where
+    by : (b : Bool) → cond b (Some y) (find q xs) ≡ Some x → (find q xs ≡ Some x → P x) → P x
+    by true e rest = subst P (ap (λ (o : Option X). unwrap_or o y) e) all.0
+    by false e rest = rest e
+
+-- its schema is that of the committed table
+pub schema_at : (state : DatabaseState) (session : ℕ) (local : LocalState) (label : ℕ) (c : OpenCursor) → IsInStep state session local → cursor_labelled local label ≡ Some c → HasSchemaOf c (table_with_id state.tables c.cursor.table)
+schema_at state session local label c step found =
+    found_all (λ (c : OpenCursor). HasSchemaOf c (table_with_id state.tables c.cursor.table)) (λ (c : OpenCursor). c.label == label) c local.cursors step.agrees.schemas found
+
+pub none_is_some : {A X : Type 0} (x : X) → None ≡ Some x → A
+none_is_some {A} {X} x e = impossible (ap (λ (o : Option X). is_some o) e)
+
+-- the stored table is there, and has the cursor's schema
+stored_there : (c : OpenCursor) (stored committed : Option Table) → option_map without_rows stored ≡ option_map without_rows committed → HasSchemaOf c committed → is_some stored ≡ true
+stored_there c None None same has = absurd has
+stored_there c None (Some u) same has = none_is_some (without_rows u) same
+stored_there c (Some t) committed same has = refl
+
+same_schema : (t u : Table) → Some (without_rows t) ≡ Some (without_rows u) → schema_of t ≡ schema_of u
+same_schema t u same = ap (λ (o : Option Table). schema_of (unwrap_or o t)) same
+
+entries_at : (c : OpenCursor) (reader : Reader) (held : List HeldRecord) (stored committed seen : Option Table) (index : ℕ) → option_map without_rows stored ≡ option_map without_rows committed → HasSchemaOf c committed
+    → option_map (seen_table reader held) stored ≡ seen → entries_in index (option_map (seen_table reader held) stored) ≡ index_entries c.schema (rows_of seen) index
+entries_at c reader held None None seen index same has shown = absurd has
+entries_at c reader held None (Some u) seen index same has shown = none_is_some (without_rows u) same
+entries_at c reader held (Some t) None seen index same has shown = absurd has
+entries_at c reader held (Some t) (Some u) seen index same has shown =
+    ap (λ (s : Schema). index_entries s (seen_table reader held t).rows index) (same_schema t u same ∙ sym has.0)
+    ∙ ap (λ (o : Option Table). index_entries c.schema (rows_of o) index) shown
+
+pub entries_read : ShowsView → (engine : EngineState) (state : DatabaseState) (session : ℕ) (local : LocalState) (label : ℕ) (c : OpenCursor) → HoldsState engine state → IsInStep state session local → cursor_labelled local label ≡ Some c
+    → (index : ℕ) → entries_for engine session c.cursor.table index ≡ index_entries c.schema (rows_of (table_with_id (view state session) c.cursor.table)) index
+entries_read shows engine state session local label c h step found index =
+    let reader = reader_in session engine.sessions in
+    let id = c.cursor.table in
+    let seen = seen_at_id reader engine.store.held engine.store.tables id in
+    ap (entries_in index) seen
+    ∙ entries_at c reader engine.store.held (table_with_id engine.store.tables id) (table_with_id state.tables id) (table_with_id (view state session) id) index
+    (same_definition engine.store.tables state.tables id h.holds.defined) (schema_at state session local label c step found)
+    (sym seen ∙ seen_is_view shows engine state session h id)
+
+pub record_read : ShowsView → FindsShown → (engine : EngineState) (state : DatabaseState) (session : ℕ) (local : LocalState) (label : ℕ) (c : OpenCursor) → HoldsState engine state → IsInStep state session local → cursor_labelled local label ≡ Some c
+    → (bookmark : List ℕ) → record_for engine session c.cursor.table bookmark ≡ row_at (rows_of (table_with_id (view state session) c.cursor.table)) bookmark
+record_read shows finds engine state session local label c h step found bookmark =
+    let id = c.cursor.table in
+    let there = stored_there c (table_with_id engine.store.tables id) (table_with_id state.tables id) (same_definition engine.store.tables state.tables id h.holds.defined) (schema_at state session local label c step found) in
+    sym (finds (reader_in session engine.sessions) engine.store id bookmark there)
+    ∙ ap (λ (o : Option Table). row_at (rows_of o) bookmark) (seen_is_view shows engine state session h id)
+
+-- ---- records fit
+
+stored_at : (c : OpenCursor) (number : ℕ) (committed : Option Table) (records : List ℕ → Option RecordFields) (bookmark : List ℕ) (values : RecordFields) → HasSchemaOf c committed
+    → IfSome committed (λ table. (bookmark : List ℕ) → IfSome (records bookmark) (IsStored number (schema_of table) bookmark)) → records bookmark ≡ Some values → (record_size values ≤ 1700) × IsTrue (record_fits c.schema.columns values)
+stored_at c number None records bookmark values has each is = absurd has
+stored_at c number (Some u) records bookmark values has each is =
+    subst (λ (s : Schema). (record_size values ≤ 1700) × IsTrue (record_fits s.columns values)) (sym has.0)
+    (subst (λ (o : Option RecordFields). IfSome o (IsStored number (schema_of u) bookmark)) is (each bookmark))
+
+pub stored_read : ShowsView → FindsShown → SeesStored → (engine : EngineState) (state : DatabaseState) (session : ℕ) (local : LocalState) (label : ℕ) (c : OpenCursor) → HoldsState engine state → IsInStep state session local → cursor_labelled local label ≡ Some c
+    → (bookmark : List ℕ) (values : RecordFields) → record_for engine session c.cursor.table bookmark ≡ Some values → (record_size values ≤ 1700) × IsTrue (record_fits c.schema.columns values)
+stored_read shows finds stored engine state session local label c h step found bookmark values is =
+    let id = c.cursor.table in
+    stored_at c state.number (table_with_id state.tables id) (records_of (view state session) id) bookmark values (schema_at state session local label c step found)
+    (stored h.base h.dropped h.kept state h.reached.history h.reached.no_sums h.stored session id)
+    (sym (record_read shows finds engine state session local label c h step found bookmark) ∙ is)
+
+-- ---- columns are built
+
+found_built : (tables : List Table) (id : ℕ) (t : Table) → list_all is_built_table tables ≡ true → table_with_id tables id ≡ Some t → is_built_table t ≡ true
+found_built [] id t all e = none_is_some t e
+found_built (u ∷ tables) id t all e = by (u.id == id) e (found_built tables id t (and_right (is_built_table u) _ all))
+  where
+    by : (b : Bool) → cond b (Some u) (table_with_id tables id) ≡ Some t → (table_with_id tables id ≡ Some t → is_built_table t ≡ true) → is_built_table t ≡ true
+    by true e rest = subst (λ (t : Table). is_built_table t ≡ true) (ap (λ (o : Option Table). unwrap_or o u) e) (and_left (is_built_table u) _ all)
+    by false e rest = rest e
+
+built_at : (c : OpenCursor) (committed : Option Table) → HasSchemaOf c committed → ((t : Table) → committed ≡ Some t → is_built_table t ≡ true) → list_all is_built_column c.schema.columns ≡ true
+built_at c None has built = absurd has
+built_at c (Some u) has built = ap (λ (s : Schema). list_all is_built_column s.columns) has.0 ∙ and_left (list_all is_built_column u.columns) _ (built u refl)
+
+pub built_read : (engine : EngineState) (state : DatabaseState) (session : ℕ) (local : LocalState) (label : ℕ) (c : OpenCursor) → HoldsState engine state → IsInStep state session local → cursor_labelled local label ≡ Some c
+    → IsTrue (list_all is_built_column c.schema.columns)
+built_read engine state session local label c h step found =
+    built_at c (table_with_id state.tables c.cursor.table) (schema_at state session local label c step found) (λ t e. found_built state.tables c.cursor.table t h.built e)

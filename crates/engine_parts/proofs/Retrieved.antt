@@ -1,0 +1,182 @@
+-- What decides RetrieveColumn.
+use Rattle.std.proofs.Common.{◌≡◌, ℕ, ◌≤◌, Bool, true, false, cond, List, [], ◌∷◌, length, map, Ok, Err, Option, Some, None, unwrap_or, slice_get, refl, sym, ap, subst, ◌∙◌}
+use Rattle.std.specs.Prelude.{◌==◌, ◌-◌, IsTrue, is_none, not}
+use Rattle.std.specs.List.{list_all}
+use Rattle.jet_base.specs.declared.ids.CursorId.{CursorId}
+use Rattle.jet_base.specs.declared.replies.Jet.{Jet}
+use Rattle.jet_base.specs.declared.replies.Jet.TheVariants as jet
+use Rattle.jet_base.specs.ColumnType.{is_number_type}
+use Rattle.column_set.specs.declared.columns.Column.{Column}
+use Rattle.column_set.specs.RecordValues.{RecordFields, column_named, record_fits, record_size, values_of}
+use Rattle.column_set.specs.Rows.{RowFields, here_fields}
+use Rattle.cursor_nav.specs.Places.{is_on, place_bookmark}
+use Rattle.database_state.specs.Refusals.{first_refusal}
+use Rattle.database_state.specs.Table.{row_at}
+use Rattle.database_state.specs.State.{DatabaseState}
+use Rattle.record_changes.proofs.Tests.{and_left}
+use Rattle.session_local.specs.declared.decision.Decision.{Decision}
+use Rattle.session_local.specs.declared.request.Request.TheVariants as call
+use Rattle.session_local.specs.Answer.{answered_by}
+use Rattle.session_local.specs.Local.{LocalState, OpenCursor, cursor_labelled}
+use Rattle.session_local.specs.LocalCalls.{is_answered_locally}
+use Rattle.session_local.specs.Outcome.{Asked, Outcome, refused, unless_refused, rows_seen}
+use Rattle.session_local.specs.RecordCalls.{column_shown, on_column, retrieve_column, value_shown}
+use Rattle.session_local.specs.SessionSide.{SessionSide, are_distinct}
+use Rattle.session_local.specs.Showing.{names_within}
+use Rattle.session_local.specs.WellFormed.{IsWellFormed, is_well_formed_cursor, is_well_formed_schema, is_well_formed_update, number_of_column}
+use Rattle.session_local.specs.Calls.{answer}
+use Rattle.agreeing_sessions.specs.InStep.{IsInStep}
+use Rattle.engine_versions.specs.BuiltTables.{is_built_column}
+use Rattle.engine_versions.specs.EngineState.{EngineState}
+use Rattle.engine_versions.specs.HoldsState.{HoldsState, asked_of}
+use Rattle.engine_parts.specs.Deciding.{Decides, IsBeside, IsDecision}
+use Rattle.engine_parts.specs.Reading.{record_for}
+use Rattle.engine_parts.specs.Retrieving.{AreReadable, IsRecordAt, place_refusals}
+use Rattle.engine_parts.proofs.CursorCallsShown.{ReadsRecords}
+use Rattle.engine_parts.proofs.Found.{all_found}
+use Rattle.engine_parts.proofs.Refusing.{refused_with, answer-is, answer-refused}
+use Rattle.engine_parts.proofs.Retrieving.{readable}
+
+-- ---- the cursor
+
+pub begun_of : (begun x : Bool) → elim begun [ true ↦ x | false ↦ true ] ≡ false → (begun ≡ true) × (x ≡ false)
+begun_of true x h = (refl, h)
+begun_of false x h = cc
+
+-- a call that is not answered by the session itself
+pub retrieve-shared : (local : LocalState) (cursor : CursorId) (name : List ℕ) (sequence most : ℕ) → is_answered_locally local (call.RetrieveColumn cursor name sequence false most) ≡ false
+    → (local.begun ≡ true) × (is_none (cursor_labelled local cursor.0) ≡ false)
+retrieve-shared local cursor name sequence most h = begun_of local.begun (is_none (cursor_labelled local cursor.0)) h
+
+pub distinct_at : (local : LocalState) (label : ℕ) (c : OpenCursor) → IsWellFormed local → cursor_labelled local label ≡ Some c → are_distinct (map number_of_column c.schema.columns) ≡ true
+distinct_at local label c formed found =
+    let well = all_found is_well_formed_cursor (λ c. c.label == label) local.cursors c formed found in
+    let schema = and_left (is_well_formed_schema c.schema) (is_well_formed_update c.schema.columns c.prepared) well in
+    and_left _ _ (and_left _ _ (and_left _ _ schema))
+
+-- ---- the answer
+
+retrieve-is : (asked : Asked) (cursor : CursorId) (name : List ℕ) (sequence most : ℕ) (c : OpenCursor) → asked.local.begun ≡ true → cursor_labelled asked.local cursor.0 ≡ Some c
+    → answer asked (call.RetrieveColumn cursor name sequence false most) ≡ retrieve_column asked c name sequence most
+unfolding answer
+retrieve-is asked cursor name sequence most c begun found = rw (begun, found) refl
+
+retrieve-row_refused : ReadsRecords → (engine : EngineState) (state : DatabaseState) (side : SessionSide) (label : ℕ) (c : OpenCursor) (name : List ℕ) (sequence most : ℕ) (refusal : Jet) → HoldsState engine state → IsInStep state side.session side.state
+    → cursor_labelled side.state label ≡ Some c → first_refusal (place_refusals (record_for engine side.session c.cursor.table) c.cursor.place) ≡ Some refusal
+    → retrieve_column (asked_of engine state side.session side.state) c name sequence most ≡ refused (asked_of engine state side.session side.state) refusal
+retrieve-row_refused reads engine state side label c name sequence most refusal h step found e =
+    let asked = asked_of engine state side.session side.state in
+    let rows = rows_seen asked c in
+    let bookmark = place_bookmark c.cursor.place in
+    let same : is_none (record_for engine side.session c.cursor.table bookmark) ≡ is_none (row_at rows bookmark) =
+    ap (λ (o : Option RecordFields). is_none o) (reads engine state side.session side.state label c h step found bookmark) in
+    let first : first_refusal ((not (is_on c.cursor.place), jet.NoCurrentRecord) ∷ (is_none (row_at rows bookmark), jet.RecordDeleted) ∷ []) ≡ Some refusal =
+    ap (λ (b : Bool). first_refusal ((not (is_on c.cursor.place), jet.NoCurrentRecord) ∷ (b, jet.RecordDeleted) ∷ [])) (sym same) ∙ e in
+    ap (λ (o : Option Jet). unless_refused asked o (λ _. on_column asked (column_named c.schema.columns name) (column_shown asked sequence most (unwrap_or (row_at rows bookmark) [])))) first
+
+retrieve-at_row : (asked : Asked) (c : OpenCursor) (name : List ℕ) (sequence most : ℕ) (fields : RecordFields) → is_on c.cursor.place ≡ true
+    → row_at (rows_seen asked c) (place_bookmark c.cursor.place) ≡ Some fields
+    → retrieve_column asked c name sequence most ≡ on_column asked (column_named c.schema.columns name) (column_shown asked sequence most fields)
+retrieve-at_row asked c name sequence most fields on is = rw (on, is) refl
+
+-- what is found at a row
+retrieve-found : ReadsRecords → (engine : EngineState) (state : DatabaseState) (side : SessionSide) (cursor : CursorId) (name : List ℕ) (sequence most : ℕ) (c : OpenCursor) (row : RowFields) (column : Option Column)
+    → HoldsState engine state → IsInStep state side.session side.state → side.state.begun ≡ true → cursor_labelled side.state cursor.0 ≡ Some c → IsRecordAt (record_for engine side.session c.cursor.table) c.cursor.place (Ok row)
+    → column_named c.schema.columns name ≡ column
+    → answer (asked_of engine state side.session side.state) (call.RetrieveColumn cursor name sequence false most)
+    ≡ on_column (asked_of engine state side.session side.state) column (column_shown (asked_of engine state side.session side.state) sequence most (here_fields row))
+retrieve-found reads engine state side cursor name sequence most c row column h step begun found at named =
+    let asked = asked_of engine state side.session side.state in
+    retrieve-is asked cursor name sequence most c begun found
+    ∙ retrieve-at_row asked c name sequence most (here_fields row) at.0
+    (sym (reads engine state side.session side.state cursor.0 c h step found (place_bookmark c.cursor.place)) ∙ at.1)
+    ∙ ap (λ (o : Option Column). on_column asked o (column_shown asked sequence most (here_fields row))) named
+
+-- ---- decisions
+
+pub retrieve-refused : ReadsRecords → (engine : EngineState) (side : SessionSide) (cursor : CursorId) (name : List ℕ) (sequence most : ℕ) (c : OpenCursor) (refusal : Jet)
+    → side.state.begun ≡ true → cursor_labelled side.state cursor.0 ≡ Some c → IsRecordAt (record_for engine side.session c.cursor.table) c.cursor.place (Err refusal)
+    → Decides engine side (call.RetrieveColumn cursor name sequence false most) side (refused_with refusal)
+retrieve-refused reads engine side cursor name sequence most c refusal begun found at = λ state h step.
+    let asked = asked_of engine state side.session side.state in
+    answer-refused asked (call.RetrieveColumn cursor name sequence false most) side refusal refl
+    (retrieve-is asked cursor name sequence most c begun found ∙ retrieve-row_refused reads engine state side cursor.0 c name sequence most refusal h step found at)
+
+pub retrieve-no_column : ReadsRecords → (engine : EngineState) (side : SessionSide) (cursor : CursorId) (name : List ℕ) (sequence most : ℕ) (c : OpenCursor) (row : RowFields)
+    → side.state.begun ≡ true → cursor_labelled side.state cursor.0 ≡ Some c → IsRecordAt (record_for engine side.session c.cursor.table) c.cursor.place (Ok row)
+    → column_named c.schema.columns name ≡ None
+    → Decides engine side (call.RetrieveColumn cursor name sequence false most) side (refused_with jet.ColumnNotFound)
+retrieve-no_column reads engine side cursor name sequence most c row begun found at named = λ state h step.
+    answer-refused (asked_of engine state side.session side.state) (call.RetrieveColumn cursor name sequence false most) side jet.ColumnNotFound refl
+    (retrieve-found reads engine state side cursor name sequence most c row None h step begun found at named)
+
+record IsStill (asked : Asked) (outcome : Outcome) : Type 0 where
+  step : outcome.step ≡ None
+  local : outcome.local ≡ asked.local
+
+still_either : (asked : Asked) (b : Bool) (one other : Outcome) → IsStill asked one → IsStill asked other → IsStill asked (cond b one other)
+still_either asked true one other h g = h
+still_either asked false one other h g = g
+
+value_shown-still : (asked : Asked) (column : Column) (most : ℕ) (value : Option (List ℕ)) → IsStill asked (value_shown asked column most value)
+value_shown-still asked column most None = record { step = refl; local = refl }
+value_shown-still asked column most (Some value) =
+    still_either asked (is_number_type column.kind) _ _ (record { step = refl; local = refl }) (record { step = refl; local = refl })
+
+column_shown-still : (asked : Asked) (sequence most : ℕ) (fields : RecordFields) (column : Column) → IsStill asked (column_shown asked sequence most fields column)
+column_shown-still asked sequence most fields column =
+    still_either asked (sequence == 0) _ _ (record { step = refl; local = refl }) (value_shown-still asked column most (slice_get (values_of fields column.id.0) (sequence - 1)))
+
+pub column_shown-value : (asked : Asked) (sequence most : ℕ) (fields : RecordFields) (column : Column) (value : List ℕ) → (sequence == 0) ≡ false → slice_get (values_of fields column.id.0) (sequence - 1) ≡ Some value
+    → column_shown asked sequence most fields column ≡ value_shown asked column most (Some value)
+column_shown-value asked sequence most fields column value ne is = rw (ne, is) refl
+
+pub retrieve-shown : ReadsRecords → (engine : EngineState) (side new : SessionSide) (cursor : CursorId) (name : List ℕ) (sequence most : ℕ) (c : OpenCursor) (row : RowFields) (column : Column) (decision : Decision)
+    → side.state.begun ≡ true → cursor_labelled side.state cursor.0 ≡ Some c → IsRecordAt (record_for engine side.session c.cursor.table) c.cursor.place (Ok row)
+    → column_named c.schema.columns name ≡ Some column
+    → ((asked : Asked) → answered_by decision.reply new.reply ≡ (column_shown asked sequence most (here_fields row) column).answered)
+    → decision ≡ record { step = None; reply = decision.reply; table = None; copied = None; buffers = None; flush = false }
+    → new.state ≡ side.state
+    → Decides engine side (call.RetrieveColumn cursor name sequence false most) new decision
+retrieve-shown reads engine side new cursor name sequence most c row column decision begun found at named shown nothing same = λ state h step.
+    let asked = asked_of engine state side.session side.state in
+    let still = column_shown-still asked sequence most (here_fields row) column in
+    answer-is asked (call.RetrieveColumn cursor name sequence false most) new decision (column_shown asked sequence most (here_fields row) column)
+    (retrieve-found reads engine state side cursor name sequence most c row (Some column) h step begun found at named)
+    (shown asked)
+    (ap (λ (d : Decision). d.step) nothing ∙ sym still.step)
+    (same ∙ sym still.local)
+
+-- what is said of a decision that only reads
+pub reading-decision : (engine : EngineState) (side new : SessionSide) (cursor : CursorId) (name : List ℕ) (sequence most : ℕ) (decision : Decision)
+    → decision ≡ record { step = None; reply = decision.reply; table = None; copied = None; buffers = None; flush = false }
+    → new.session ≡ side.session → new.state ≡ side.state → length new.reply ≡ length side.reply → names_within decision.reply.value (length new.reply) ≡ true
+    → IsDecision engine side (call.RetrieveColumn cursor name sequence false most) new decision
+reading-decision engine side new cursor name sequence most decision nothing session same room named =
+    subst (IsDecision engine side (call.RetrieveColumn cursor name sequence false most) new) (sym nothing) (record {
+      session = session;
+      still = λ _. same;
+      room = room;
+      named = named;
+      fits = tt;
+      flush = refl;
+      lawful = λ state held step. tt;
+    })
+
+-- ---- the values are readable
+
+-- laws of what a session reads
+pub record ReadsStored : Type 0 where
+  pub stored : (engine : EngineState) (state : DatabaseState) (session : ℕ) (local : LocalState) (label : ℕ) (c : OpenCursor) → HoldsState engine state → IsInStep state session local → cursor_labelled local label ≡ Some c
+      → (bookmark : List ℕ) (values : RecordFields) → record_for engine session c.cursor.table bookmark ≡ Some values → (record_size values ≤ 1700) × IsTrue (record_fits c.schema.columns values)
+  pub built : (engine : EngineState) (state : DatabaseState) (session : ℕ) (local : LocalState) (label : ℕ) (c : OpenCursor) → HoldsState engine state → IsInStep state session local → cursor_labelled local label ≡ Some c
+      → IsTrue (list_all is_built_column c.schema.columns)
+
+pub readable_at : ReadsStored → (engine : EngineState) (side : SessionSide) (label : ℕ) (name : List ℕ) (c : OpenCursor) (row : RowFields) (column : Column)
+    → IsBeside engine side → cursor_labelled side.state label ≡ Some c → IsRecordAt (record_for engine side.session c.cursor.table) c.cursor.place (Ok row) → column_named c.schema.columns name ≡ Some column
+    → AreReadable column.kind (values_of (here_fields row) column.id.0)
+readable_at laws engine side label name c row column beside found at named =
+    let held = beside.held in
+    let fits = laws.stored engine held.state side.session side.state label c held.holds held.in_step found (place_bookmark c.cursor.place) (here_fields row) at.1 in
+    readable c.schema.columns (here_fields row) name column (distinct_at side.state label c beside.formed found) fits.1 fits.0
+    (laws.built engine held.state side.session side.state label c held.holds held.in_step found) named

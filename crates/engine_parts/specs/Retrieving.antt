@@ -1,0 +1,47 @@
+-- What RetrieveColumn finds in the record at a cursor, before its bytes are written to the reply buffer.
+use Rattle.std.specs.Prelude.{◌≡◌, ◌≤◌, ℕ, not, List, [], ◌∷◌, length, Option, Some, Result, Ok, Err, is_none, IsTrue}
+use Rattle.std.specs.List.{list_all}
+use Rattle.jet_base.specs.declared.replies.Jet.{Jet}
+use Rattle.jet_base.specs.declared.replies.Jet.TheVariants as jet
+use Rattle.jet_base.specs.declared.words.ColType.{ColType}
+use Rattle.column_set.specs.RecordValues.{RecordFields, value_fits}
+use Rattle.column_set.specs.Rows.{RowFields, are_short, here_fields}
+use Rattle.index_derive.specs.declared.entries.Place.{Place}
+use Rattle.cursor_nav.specs.Places.{is_on, place_bookmark}
+use Rattle.database_state.specs.Refusals.{Refusals, first_refusal}
+use Rattle.session_local.specs.Answer.{Answered, Nothing, Number}
+use Rattle.session_local.specs.Showing.{bytes_answered}
+use Rattle.engine_parts.specs.declared.record_calls.Shown.{Shown}
+use Rattle.engine_parts.specs.declared.record_calls.Shown.TheVariants as shown
+
+-- ---- the record at a cursor
+
+-- the place is an entry, whose record is found
+abbrev pub place_refusals : (List ℕ → Option RecordFields) → Place → Refusals
+place_refusals records place = (not (is_on place), jet.NoCurrentRecord) ∷ (is_none (records (place_bookmark place)), jet.RecordDeleted) ∷ []
+
+-- the row of the record at a place, or why there is none
+abbrev pub IsRecordAt : (List ℕ → Option RecordFields) → Place → Result RowFields Jet → Type 0
+IsRecordAt records place (Ok row) = IsTrue (is_on place) × (records (place_bookmark place) ≡ Some (here_fields row))
+IsRecordAt records place (Err refusal) = first_refusal (place_refusals records place) ≡ Some refusal
+
+-- ---- its values
+
+-- The values of a column are of its type, short, and few.
+pub record AreReadable (kind : ColType) (values : List (List ℕ)) : Type 0 where
+  pub fit : IsTrue (list_all (value_fits kind) values)
+  pub short : IsTrue (are_short values)
+  pub few : length values ≤ 1700
+
+abbrev pub answered_with : ℕ → Shown → Answered
+answered_with most (shown.Number number) = record { jet = jet.Success; shown = Number number }
+answered_with most (shown.Bytes bytes) = bytes_answered most bytes.now
+
+abbrev pub answered_or : ℕ → Result Shown Jet → Answered
+answered_or most (Ok value) = answered_with most value
+answered_or most (Err reply) = record { jet = reply; shown = Nothing }
+
+-- the bytes have room in the reply buffer
+abbrev pub HasRoom : Shown → Type 0
+HasRoom (shown.Number number) = Unit {0}
+HasRoom (shown.Bytes bytes) = length bytes.now ≤ 1048576

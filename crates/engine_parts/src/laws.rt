@@ -1,0 +1,34 @@
+//! Laws of what a session reads of the tables that the engine holds.
+
+ghost use Rattle.std.specs.Prelude.{◌≡◌, ◌≤◌, ℕ, List, Some, IsTrue, is_some};
+ghost use Rattle.std.specs.List.{list_all};
+ghost use Rattle.column_set.specs.RecordValues.{RecordFields, record_fits, record_size};
+ghost use Rattle.database_state.specs.State.{DatabaseState};
+ghost use Rattle.database_state.specs.Table.{row_at};
+ghost use Rattle.session_local.specs.Local.{LocalState, OpenCursor, cursor_labelled};
+ghost use Rattle.session_local.specs.Outcome.{entries_seen, rows_seen};
+ghost use Rattle.agreeing_sessions.specs.InStep.{IsInStep};
+ghost use Rattle.engine_versions.specs.BuiltTables.{is_built_column};
+ghost use Rattle.engine_versions.specs.EngineState.{EngineState};
+ghost use Rattle.engine_versions.specs.HoldsState.{HoldsState, asked_of};
+ghost use Rattle.engine_parts.specs.Reading.{entries_for, record_for};
+
+use version_records::every_record_seen_is_stored;
+use versioned_tables::{a_reader_finds_the_records_that_it_is_shown, a_session_is_shown_its_view};
+
+/// The entries of each index of a cursor's table, and its records, are for the session those of its view. Each record fits its
+/// row and its columns, and all columns are built.
+pub fn a_session_reads_its_view()
+    ensures entries { (engine : EngineState) (state : DatabaseState) (session : ℕ) (local : LocalState) (label : ℕ) (c : OpenCursor) → HoldsState engine state → IsInStep state session local → cursor_labelled local label ≡ Some c
+        → (index : ℕ) → entries_for engine session c.cursor.table index ≡ entries_seen (asked_of engine state session local) c index }
+    ensures records { (engine : EngineState) (state : DatabaseState) (session : ℕ) (local : LocalState) (label : ℕ) (c : OpenCursor) → HoldsState engine state → IsInStep state session local → cursor_labelled local label ≡ Some c
+        → (bookmark : List ℕ) → record_for engine session c.cursor.table bookmark ≡ row_at (rows_seen (asked_of engine state session local) c) bookmark }
+    ensures stored { (engine : EngineState) (state : DatabaseState) (session : ℕ) (local : LocalState) (label : ℕ) (c : OpenCursor) → HoldsState engine state → IsInStep state session local → cursor_labelled local label ≡ Some c
+        → (bookmark : List ℕ) (values : RecordFields) → record_for engine session c.cursor.table bookmark ≡ Some values → (record_size values ≤ 1700) × IsTrue (record_fits c.schema.columns values) }
+    ensures built { (engine : EngineState) (state : DatabaseState) (session : ℕ) (local : LocalState) (label : ℕ) (c : OpenCursor) → HoldsState engine state → IsInStep state session local → cursor_labelled local label ≡ Some c
+        → IsTrue (list_all is_built_column c.schema.columns) }
+{
+    a_session_is_shown_its_view();
+    a_reader_finds_the_records_that_it_is_shown();
+    every_record_seen_is_stored();
+}

@@ -1,0 +1,13 @@
+//! The parts of an engine with versions, how a reader sees its tables, and what the calls that move a cursor or read are
+//! answered.
+#![tactic(auto)]
+
+mod answers;
+mod cursor_calls;
+mod engine;
+mod laws;
+mod record_calls;
+mod view;
+
+pub use engine::{Engine, LOG_LIMIT};
+pub use laws::a_session_reads_its_view;

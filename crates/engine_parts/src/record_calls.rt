@@ -1,0 +1,162 @@
+//! RetrieveColumn.
+
+ghost use Rattle.std.specs.Prelude.{◌≡◌, ◌≤◌, ℕ, Some, None, IfOk, IsTrue, false, length};
+ghost use Rattle.column_set.specs.RecordValues.{value_fits, values_of};
+ghost use Rattle.column_set.specs.Rows.{here_fields};
+ghost use Rattle.session_local.specs.declared.request.Request.TheVariants as call;
+ghost use Rattle.session_local.specs.Answer.{Bytes, answered_by, shown_by};
+ghost use Rattle.session_local.specs.LocalCalls.{is_answered_locally};
+ghost use Rattle.session_local.specs.Outcome.{Asked};
+ghost use Rattle.session_local.specs.RecordCalls.{column_shown, value_shown};
+ghost use Rattle.session_local.specs.Showing.{names_within, bytes_answered};
+ghost use Rattle.engine_parts.specs.Deciding.{Decides, IsBeside, IsDecision};
+ghost use Rattle.engine_parts.specs.Reading.{record_for};
+ghost use Rattle.engine_parts.specs.Retrieving.{AreReadable, HasRoom, IsRecordAt, answered_or, answered_with};
+
+use crate::answers::{refused, said};
+use crate::engine::Engine;
+use crate::laws::a_session_reads_its_view;
+use column_set::{Column, RowRef, Values, column_named};
+use index_derive::Place;
+use jet_base::{CursorId, Jet, Name, Session};
+use session_local::{Decision, Local, OpenCursor, Value};
+use stored_value::{is_number_type, number_of};
+
+/// A value that is shown.
+pub(crate) enum Shown<'a> {
+    /// A number of the data.
+    Number(i64),
+    /// Bytes, of which a front is shown.
+    Bytes(&'a [u8]),
+}
+
+impl Engine {
+    /// RetrieveColumn of the record at the cursor.
+    pub fn retrieve_column(
+        &self,
+        local: &mut Local,
+        cursor: CursorId,
+        column: &Name,
+        sequence: u32,
+        most: u32,
+    ) -> Decision
+        requires beside { IsBeside self.now local.old }
+        requires shared { is_answered_locally local.old.state (call.RetrieveColumn cursor column.now sequence false most) ≡ false }
+        ensures answer { Decides self.now local.old (call.RetrieveColumn cursor column.now sequence false most) local.new result }
+        ensures decided { IsDecision self.now local.old (call.RetrieveColumn cursor column.now sequence false most) local.new result }
+        ensures session { local.new.session ≡ local.old.session }
+    {
+        a_session_reads_its_view();
+        let Some(found) = local.cursor(cursor) else {
+            unreachable!()
+        };
+        let row = match self.current_row(local.session(), found) {
+            Ok(row) => row,
+            Err(refusal) => return refused(refusal),
+        };
+        let Some(column) = column_named(&found.schema().columns, column) else {
+            return refused(Jet::ColumnNotFound);
+        };
+        match value_in(&row, column, sequence) {
+            Ok(value) => show_value(local, value, most),
+            Err(refusal) => refused(refusal),
+        }
+    }
+
+    // The row of the record at the cursor that the session sees, read in place.
+    fn current_row(&self, session: Session, cursor: &OpenCursor) -> Result<RowRef<'_>, Jet>
+        ensures { IsRecordAt (record_for self.now session.0 cursor.now.cursor.table) cursor.now.cursor.place result }
+    {
+        match cursor.cursor().place() {
+            Place::On(_, bookmark) => {
+                let reader = self.sessions.reader(session);
+                let table = cursor.cursor().table();
+                match self.tables.look_up(table, bookmark.as_bytes(), reader) {
+                    Some(row) => Ok(row),
+                    None => Err(Jet::RecordDeleted),
+                }
+            }
+            _ => Err(Jet::NoCurrentRecord),
+        }
+    }
+}
+
+// A value of the column, the first being 1; for 0 the count of its values.
+fn value_in<'a>(row: &'a RowRef<'_>, column: &Column, sequence: u32) -> Result<Shown<'a>, Jet>
+    requires { AreReadable column.now.kind (values_of (here_fields row.now) column.now.id.0) }
+    ensures answer { (asked : Asked) (most : ℕ) → (column_shown asked sequence most (here_fields row.now) column.now).answered ≡ answered_or most result }
+    ensures room { IfOk result HasRoom }
+{
+    if sequence == 0 {
+        let count = row.count(column.id) as u32;
+        return Ok(Shown::Number(i64::from(count)));
+    }
+    let Some(value) = row.value(column.id, sequence as usize - 1) else {
+        return Err(Jet::ColumnNull);
+    };
+    Ok(shown_value(column, value))
+}
+
+// A value of the column as it is shown: a number as one.
+fn shown_value<'a>(column: &Column, value: &'a [u8]) -> Shown<'a>
+    requires { IsTrue (value_fits column.now.kind value.now) }
+    ensures answer { (asked : Asked) (most : ℕ) → (value_shown asked column.now most (Some value.now)).answered ≡ answered_with most result }
+    ensures room { HasRoom result }
+{
+    if is_number_type(column.kind) {
+        Shown::Number(number_of(column.kind, value))
+    } else {
+        Shown::Bytes(value)
+    }
+}
+
+// What is answered with the value, of whose bytes so many are shown.
+fn show_value(local: &mut Local, value: Shown<'_>, most: u32) -> Decision
+    requires begun { IsTrue local.old.state.begun }
+    requires room { HasRoom value }
+    ensures shown { answered_by result.reply local.new.reply ≡ answered_with most value.entry }
+    ensures nothing { result ≡ record { step = None; reply = result.reply; table = None; copied = None; buffers = None; flush = false } }
+    ensures named { IsTrue (names_within result.reply.value (length local.new.reply)) }
+    ensures room { length local.new.reply ≡ length local.old.reply }
+    ensures state { local.new.state ≡ local.old.state }
+    ensures session { local.new.session ≡ local.old.session }
+{
+    match value {
+        Shown::Number(number) => said(Jet::Success, Value::Number(number)),
+        Shown::Bytes(bytes) => show_front(local, bytes, most as usize),
+    }
+}
+
+// Success or a truncated value: its first bytes, and the length of the whole.
+fn show_front(local: &mut Local, value: &[u8], most: usize) -> Decision
+    requires begun { IsTrue local.old.state.begun }
+    requires room { length value.now ≤ 1048576 }
+    ensures shown { answered_by result.reply local.new.reply ≡ bytes_answered most value.now }
+    ensures nothing { result ≡ record { step = None; reply = result.reply; table = None; copied = None; buffers = None; flush = false } }
+    ensures named { IsTrue (names_within result.reply.value (length local.new.reply)) }
+    ensures room { length local.new.reply ≡ length local.old.reply }
+    ensures state { local.new.state ≡ local.old.state }
+    ensures session { local.new.session ≡ local.old.session }
+{
+    let (front, _) = value.split_at(most.min(value.len()));
+    let jet = if most < value.len() {
+        Jet::BufferTruncated
+    } else {
+        Jet::Success
+    };
+    let shown = show_bytes(local, front, value.len() as u64);
+    said(jet, shown)
+}
+
+// The bytes at the front of the reply buffer, as the front of a value of so many.
+pub(crate) fn show_bytes(local: &mut Local, front: &[u8], whole: u64) -> Value
+    requires begun { IsTrue local.old.state.begun }
+    requires room { length front.now ≤ 1048576 }
+    ensures shown { shown_by result local.new.reply ≡ Bytes front.now whole }
+    ensures named { IsTrue (names_within result (length local.new.reply)) }
+    ensures room { length local.new.reply ≡ length local.old.reply }
+    ensures state { local.new.state ≡ local.old.state }
+    ensures session { local.new.session ≡ local.old.session }
+{
+    local.show(front, whole)
+}
