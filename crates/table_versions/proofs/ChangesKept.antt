@@ -1,7 +1,7 @@
 -- What is kept where held changes change without a record.
-use Rattle.std.proofs.Common.{◌≡◌, ℕ, Bool, ◌&&◌, ◌||◌, List, [], ◌∷◌, Option, Some, None, map, refl, sym, ap, ◌∙◌}
+use Rattle.std.proofs.Common.{◌≡◌, ℕ, Bool, false, ◌&&◌, ◌||◌, List, [], ◌∷◌, Option, Some, None, map, refl, sym, ap, ◌∙◌}
 use Rattle.std.specs.Prelude.{IfSome, is_some}
-use Rattle.std.specs.List.{AllByRecursion, list_any}
+use Rattle.std.specs.List.{AllByRecursion}
 use Rattle.column_set.specs.RecordValues.{RecordFields}
 use Rattle.database_state.specs.Conflicts.{yields_key}
 use Rattle.database_state.specs.Table.{Table, row_at, schema_of, table_with_id}
@@ -11,16 +11,13 @@ use Rattle.table_trees.specs.StoredTables.{StoredTable, index_entries, table_nod
 use Rattle.version_store.specs.HeldChanges.{HeldChange}
 use Rattle.versioned_tables.specs.HeldRecords.{HeldRecord, is_standing_rewrite}
 use Rattle.versioned_tables.specs.Variants.{HoldsVariants}
+use Rattle.table_versions.specs.GoneKeys.{some_before}
 use Rattle.table_versions.specs.RecordRows.{held_record, rows_of_nodes}
 use Rattle.table_versions.specs.VersionsKept.{AreKept, IsKeptChange, IsKeptTable, secondary_rule}
 
--- what the held changes add to the variants of a record, as far as a test tells
-abbrev pub some_before : (Option RecordFields → Bool) → ℕ → List ℕ → List HeldRecord → Bool
-some_before test table bookmark held = list_any (λ change. is_standing_rewrite table bookmark change && test change.before) held
-
 -- held changes with the same records before them, for every record
 abbrev pub SameVariants : List HeldRecord → List HeldRecord → Type 0
-SameVariants one other = (test : Option RecordFields → Bool) (table : ℕ) (bookmark : List ℕ) → some_before test table bookmark one ≡ some_before test table bookmark other
+SameVariants one other = (test : Option RecordFields → Bool) → test None ≡ false → (table : ℕ) (bookmark : List ℕ) → some_before test table bookmark one ≡ some_before test table bookmark other
 
 same_entries : (trees : List StoredTable) (nodes : List Node) (table : Table) (index : ℕ) (one other : List HeldRecord) → SameVariants one other → (rule : Option IndexRule)
     → IfSome rule (λ rule. HoldsVariants (rows_of_nodes nodes) other rule (schema_of table) table.id (index_entries trees table.id index))
@@ -28,14 +25,14 @@ same_entries : (trees : List StoredTable) (nodes : List Node) (table : Table) (i
 same_entries trees nodes table index one other same None kept = tt
 same_entries trees nodes table index one other same (Some rule) kept = λ key bookmark.
     kept key bookmark
-    ∙ ap (λ b. yields_key rule (schema_of table) key (row_at (rows_of_nodes nodes) bookmark) || b) (sym (same (yields_key rule (schema_of table) key) table.id bookmark))
+    ∙ ap (λ b. yields_key rule (schema_of table) key (row_at (rows_of_nodes nodes) bookmark) || b) (sym (same (yields_key rule (schema_of table) key) refl table.id bookmark))
 
 table_kept : (trees : List StoredTable) (nodes : List Node) (one other : List HeldRecord) → SameVariants one other → (table : Option Table) → IfSome table (IsKeptTable trees nodes other) → IfSome table (IsKeptTable trees nodes one)
 table_kept trees nodes one other same None kept = tt
 table_kept trees nodes one other same (Some table) kept = record {
   rules = kept.rules;
   rows = kept.rows;
-  stands = λ bookmark. kept.stands bookmark ∙ ap (λ b. is_some (row_at (rows_of_nodes nodes) bookmark) || b) (sym (same is_some table.id bookmark));
+  stands = λ bookmark. kept.stands bookmark ∙ ap (λ b. is_some (row_at (rows_of_nodes nodes) bookmark) || b) (sym (same is_some refl table.id bookmark));
   entries = λ index. same_entries trees nodes table index one other same (secondary_rule table index) (kept.entries index);
 }
 
@@ -62,8 +59,8 @@ LeavesBefore change =
     → (is_standing_rewrite table bookmark (held_record (change h)) && test (held_record (change h)).before) ≡ (is_standing_rewrite table bookmark (held_record h) && test (held_record h).before)
 
 pub same_variants : (change : HeldChange → HeldChange) → LeavesBefore change → (held : List HeldChange) → SameVariants (map held_record (map change held)) (map held_record held)
-same_variants change leaves [] test table bookmark = refl
-same_variants change leaves (h ∷ held) test table bookmark = λ i. leaves h test table bookmark i || same_variants change leaves held test table bookmark i
+same_variants change leaves [] test none table bookmark = refl
+same_variants change leaves (h ∷ held) test none table bookmark = λ i. leaves h test table bookmark i || same_variants change leaves held test none table bookmark i
 
 -- the records are changed so too
 pub map_held : (change : HeldChange → HeldChange) (record_change : HeldRecord → HeldRecord) → ((h : HeldChange) → held_record (change h) ≡ record_change (held_record h)) → (held : List HeldChange)

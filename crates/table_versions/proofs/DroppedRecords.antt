@@ -33,7 +33,7 @@ use Rattle.table_versions.specs.RecordRows.{IsRecordRow, held_record, record_of,
 use Rattle.table_versions.specs.StoredVersions.{StoredVersions}
 use Rattle.table_versions.specs.VersionsView.{stored_versions, with_newest}
 use Rattle.table_versions.specs.VersionsKept.{AreKept, IsKeptChange, IsKeptTable, IsRowOf, IsRowUnder, secondary_rule}
-use Rattle.table_versions.proofs.ChangesKept.{some_before}
+use Rattle.table_versions.specs.GoneKeys.{some_before}
 use Rattle.table_versions.proofs.Dropped.{TreeLaws, emptied, emptied_where, extent_at, has_trees, nodes_are, row_then, same_numbers, there_at}
 use Rattle.table_versions.proofs.Held.{appended}
 use Rattle.table_versions.proofs.Lists.{all_append}

@@ -1,13 +1,12 @@
 -- Trees of which an index loses an entry.
-use Rattle.std.proofs.Common.{◌≡◌, ◌≢◌, ℕ, Bool, true, false, not, ◌&&◌, ◌||◌, cond, List, [], ◌∷◌, Option, Some, None, filter, find, map, option_map, refl, sym, ap, subst, ◌∙◌}
+use Rattle.std.proofs.Common.{◌≡◌, ◌≢◌, ℕ, Bool, true, false, not, ◌&&◌, ◌||◌, cond, List, [], ◌∷◌, Option, Some, None, find, map, option_map, refl, sym, ap, ◌∙◌}
 use Rattle.std.specs.Prelude.{◌==◌, bytes_eq, unwrap_or}
 use Rattle.std.specs.List.{list_any}
 use Rattle.cursor_nav.specs.Places.{Pair}
 use Rattle.derived_index.specs.KeptEntries.{has_entry, without_entry}
-use Rattle.page_image.specs.Page.{Node}
-use Rattle.record_changes.proofs.Tests.{and_left, and_right, impossible, refuted, same_bytes, same_number, self_equal}
+use Rattle.record_changes.proofs.Tests.{and_left, and_right, impossible, same_bytes, same_number, self_equal}
 use Rattle.table_trees.specs.StoredTables.{StoredIndex, StoredTable, changed_where, has_index, has_table, index_entries, is_index, is_table, part_of, put_entries, put_indexes, table_indexes, table_nodes, with_entries, with_indexes}
-use Rattle.table_versions.specs.GoneKeys.{ChangesEntries, OthersKeep, index_numbers, table_numbers}
+use Rattle.table_versions.specs.GoneKeys.{ChangesEntries, index_numbers, table_numbers}
 
 -- laws of tables and indexes
 pub record IndexLaws : Type 0 where

@@ -49,22 +49,22 @@ lock_kept tables trees by made lock named = record {
   named = named;
   row = no_row (table_with_id tables (changed_table made));
   drop = λ standing dropped. impossible (sym (not_rewrite (kind_of made) lock) ∙ and_left (is_rewrite (kind_of made)) _ standing);
-  before = λ standing. impossible (sym (not_rewrite (kind_of made) lock) ∙ and_left (is_rewrite (kind_of made)) _ standing);
+  before = λ rewrites. impossible (sym (not_rewrite (kind_of made) lock) ∙ rewrites);
   room = λ is_uncommitted. tt;
   other = λ e. refl;
   sum = ap is_add lock;
 }
 
 no_variant : (made : HeldChange) → is_rewrite made.kind ≡ false → (held : List HeldChange) → SameVariants (map held_record (held ++ made ∷ [])) (map held_record held)
-no_variant made other [] test table bookmark =
+no_variant made other [] test none table bookmark =
     ap (λ w. ((is_change_at table bookmark (held_record made) && w && not (is_undone made.status)) && test (held_record made).before) || false) other
     ∙ never (is_change_at table bookmark (held_record made))
   where
     never : (a : Bool) → (((a && false && not (is_undone made.status)) && test (held_record made).before) || false) ≡ false
     never true = refl
     never false = refl
-no_variant made other (h ∷ held) test table bookmark =
-    ap (λ b. (is_standing_rewrite table bookmark (held_record h) && test (held_record h).before) || b) (no_variant made other held test table bookmark)
+no_variant made other (h ∷ held) test none table bookmark =
+    ap (λ b. (is_standing_rewrite table bookmark (held_record h) && test (held_record h).before) || b) (no_variant made other held test none table bookmark)
 
 pub lock_is_kept : (tables : List Table) (trees : List StoredTable) (held : List HeldChange) (by : By) (made : Change) → kind_of made ≡ kind.Hold → is_some (table_with_id tables (changed_table made)) ≡ true → AreKept tables trees held
     → AreKept tables trees (held ++ new_change by made None ∷ [])

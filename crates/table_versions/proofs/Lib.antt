@@ -18,6 +18,9 @@ pub mod RisingKeys
 pub mod StandingChanges
 pub mod EntryTrees
 pub mod LostKeys
+pub mod LeftNodes
+pub mod LostNodes
+pub mod Forgotten
 pub mod KeysPut
 pub mod RoomMade
 pub mod HalfPuts

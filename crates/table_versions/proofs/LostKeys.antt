@@ -1,6 +1,6 @@
 -- Indexes that lose the keys of a record, one after the other.
-use Rattle.std.proofs.Common.{◌≡◌, ◌≢◌, ℕ, zero, suc, ◌<◌, Bool, true, false, not, ◌&&◌, ◌||◌, cond, List, [], ◌∷◌, ◌++◌, length, Option, Some, None, find, get_or, take, refl, sym, ap, subst, ◌∙◌, arith, append_assoc}
-use Rattle.std.specs.Prelude.{◌==◌, IfSome, bytes_eq, slice_index_or}
+use Rattle.std.proofs.Common.{◌≡◌, ℕ, zero, suc, ◌<◌, Bool, true, false, not, ◌&&◌, ◌||◌, cond, List, [], ◌∷◌, ◌++◌, length, Option, Some, None, find, get_or, take, refl, sym, ap, subst, ◌∙◌, arith, append_assoc}
+use Rattle.std.specs.Prelude.{◌==◌, IfSome, bytes_eq}
 use Rattle.std.specs.List.{AllByRecursion, list_any}
 use Rattle.std.proofs.lemmas.List.Folds.{list_any-append}
 use Rattle.column_set.specs.RecordValues.{RecordFields}
@@ -9,8 +9,8 @@ use Rattle.database_state.specs.Table.{rule_with_id}
 use Rattle.derived_index.specs.KeptEntries.{has_entry}
 use Rattle.index_derive.specs.declared.rules.IndexRule.{IndexRule}
 use Rattle.index_derive.specs.declared.rules.Schema.{Schema}
-use Rattle.index_derive.specs.Derived.{is_above, next_in}
-use Rattle.record_changes.proofs.Tests.{impossible, same_bytes, same_number}
+use Rattle.index_derive.specs.Derived.{next_in}
+use Rattle.record_changes.proofs.Tests.{impossible, same_number}
 use Rattle.table_trees.specs.StoredTables.{StoredTable, index_entries}
 use Rattle.versioned_tables.specs.HeldRecords.{HeldRecord}
 use Rattle.table_versions.specs.GoneKeys.{ChangesEntries, HasKeysOf, LosesKey, LosesKeys, LosesRecord, OthersKeep, is_gone_key}

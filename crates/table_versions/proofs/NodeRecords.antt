@@ -45,7 +45,7 @@ apart key own low same =
 
 -- ---- records
 
-none_behind : (key bookmark : List ℕ) (nodes : List Node) → key ≡ bookmark → list_all (pair_lt (key, key)) (bookmark_entries nodes) ≡ true → get_in nodes bookmark ≡ None
+pub none_behind : (key bookmark : List ℕ) (nodes : List Node) → key ≡ bookmark → list_all (pair_lt (key, key)) (bookmark_entries nodes) ≡ true → get_in nodes bookmark ≡ None
 none_behind key bookmark [] same low = refl
 none_behind key bookmark (n ∷ nodes) same low =
     ap (λ b. option_map (λ (n : Node). n.data) (cond b (Some n) (find (has_key bookmark) nodes))) other

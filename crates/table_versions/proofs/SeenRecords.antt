@@ -68,5 +68,5 @@ seen_is_row tables trees table bookmark reader [] kept = tt
 seen_is_row tables trees table bookmark reader (h ∷ held) kept = by (hides table bookmark reader h) refl (seen_is_row tables trees table bookmark reader held kept.1)
   where
     by : (b : Bool) → hides table bookmark reader h ≡ b → IsSeenRow (seen_row table bookmark reader held) → IsSeenRow (seen_at (cond b (Some h) (find (hides table bookmark reader) held)))
-    by true hit rest = seen_before_is_row h.before (before_is_row _ h.bookmark h.before kept.0.named (kept.0.before (hidden_stands table bookmark reader h hit)))
+    by true hit rest = seen_before_is_row h.before (before_is_row _ h.bookmark h.before kept.0.named (kept.0.before (and_left (is_rewrite h.kind) (not (is_undone h.status)) (hidden_stands table bookmark reader h hit))))
     by false miss rest = rest

@@ -4,4 +4,5 @@ pub mod VersionsView
 pub mod VersionsKept
 pub mod Walks
 pub mod GoneKeys
+pub mod LeftVariants
 pub mod PutRecords

@@ -63,13 +63,13 @@ pub record IsRowUnder (table : Table) (bookmark bytes : List ℕ) : Type 0 where
 abbrev pub is_standing : HeldChange → Bool
 is_standing held = is_rewrite held.kind && not (is_undone held.status)
 
--- A held change is of a table of the catalog, and the row before it is one of that table. Before a put or drop that stands it
--- is one that stood under the bookmark, and a drop has one; while the change is open its node has room for it. A lock holds no
--- row, and a sum of an escrow column is not held: these are not built.
+-- A held change is of a table of the catalog, and the row before it is one of that table. Before a put or drop it
+-- is one that stood under the bookmark, and a drop that stands has one; while the change is open its node has room for it. A
+-- lock holds no row, and a sum of an escrow column is not held: these are not built.
 pub record IsKeptChange (tables : List Table) (trees : List StoredTable) (held : HeldChange) : Type 0 where
   pub named : is_some (table_with_id tables held.table) ≡ true
   pub row : IfSome (table_with_id tables held.table) (λ table. IfSome held.before (IsRowOf table))
-  pub before : is_standing held ≡ true → IfSome (table_with_id tables held.table) (λ table. IfSome held.before (IsRowUnder table held.bookmark))
+  pub before : is_rewrite held.kind ≡ true → IfSome (table_with_id tables held.table) (λ table. IfSome held.before (IsRowUnder table held.bookmark))
   pub drop : is_standing held ≡ true → held.kind ≡ kind.Drop → is_some held.before ≡ true
   pub room : is_open held.status ≡ true → IfSome held.before (λ row. IsSomeAnd (extent_in (table_nodes trees held.table) held.bookmark) (λ extent. length row ≤ extent))
   pub other : is_rewrite held.kind ≡ false → held.before ≡ None

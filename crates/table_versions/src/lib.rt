@@ -4,11 +4,13 @@
 
 mod changing;
 mod ending;
+mod forgetting;
 mod keys;
 mod putting;
 mod reading;
 mod store;
 mod telling;
+mod variants;
 mod walking;
 
 pub use store::TableVersions;

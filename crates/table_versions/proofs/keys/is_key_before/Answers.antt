@@ -1,4 +1,4 @@
-use Rattle.std.proofs.Common.{sym, ap, ◌∙◌}
+use Rattle.std.proofs.Common.{sym, ◌∙◌}
 use Rattle.std.specs.Prelude.{option_copied}
 use Rattle.database_state.specs.Conflicts.{yields_key}
 use Rattle.version_store.specs.HeldChanges.{is_standing_rewrite}

@@ -1,8 +1,8 @@
-use Rattle.std.proofs.Common.{◌≡◌, ℕ, List, sym, ap, subst, ◌∙◌}
+use Rattle.std.proofs.Common.{ℕ, List, sym, ap, subst, ◌∙◌}
 use Rattle.derived_index.specs.KeptEntries.{has_entry, without_entry}
-use Rattle.table_trees.specs.StoredTables.{StoredTable, has_index, index_entries}
+use Rattle.table_trees.specs.StoredTables.{StoredTable, index_entries}
 use Rattle.table_versions.specs.GoneKeys.{ChangesEntries}
-use Rattle.table_versions.proofs.EntryTrees.{EntryLaws, IndexLaws, entries_changed, entry_taken, index_there}
+use Rattle.table_versions.proofs.EntryTrees.{IndexLaws, entries_changed, entry_taken, index_there}
 use Rattle.table_versions.proofs.keys.take_entry.Goals as goal
 
 pub returns-then-has_entry-clause-others : goal.returns-then-has_entry-clause-others

@@ -1,5 +1,4 @@
 use Rattle.std.proofs.Common.{List, ℕ, length, option_map}
-use Rattle.std.specs.Prelude.{◌≡◌}
 use Rattle.index_derive.specs.Entries.{key_list}
 use Rattle.table_trees.specs.StoredTables.{index_entries, table_nodes}
 use Rattle.versioned_tables.specs.Variants.{is_variant_key}
