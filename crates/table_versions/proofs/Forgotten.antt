@@ -54,13 +54,15 @@ record_taken schema values (rule ∷ rules) e = by (is_null_refusal (entries rul
 
 rules_have : (table : Table) (schema : Schema) (values : RecordFields) (rules : List IndexRule) → schema ≡ schema_of table → AllByRecursion (IsStoredRule table) rules → AllByRecursion (λ rule. IsOk (entries rule schema values)) rules → AllByRecursion (HasKeysOf schema values) rules
 rules_have table schema values [] same stored taken = tt
-rules_have table schema values (rule ∷ rules) same stored taken =
-    (record {
-      found = ap (λ (s : Schema). rule_with_id s rule.id.0) same ∙ stored.0.found;
-      legal = ap (is_legal rule) same ∙ stored.0.legal;
-      short = stored.0.short;
-      taken = taken.0;
-    }, rules_have table schema values rules same stored.1 taken.1)
+rules_have table schema values (rule ∷ rules) same stored taken = (
+  record {
+    found = ap (λ (s : Schema). rule_with_id s rule.id.0) same ∙ stored.0.found;
+    legal = ap (is_legal rule) same ∙ stored.0.legal;
+    short = stored.0.short;
+    taken = taken.0;
+  },
+  rules_have table schema values rules same stored.1 taken.1,
+)
 
 -- the indexes of a table have the keys of a row that they took
 pub has_keys : (table : Table) (schema : Schema) (values : RecordFields) → schema ≡ schema_of table → AllByRecursion (IsStoredRule table) table.indexes → is_indexable (schema_of table) values ≡ true → AllByRecursion (HasKeysOf schema values) schema.indexes

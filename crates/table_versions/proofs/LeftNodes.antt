@@ -290,9 +290,10 @@ change_kept_then newest all schema id bookmark gone old between new goes tables 
 changes_kept_then : (newest : Option RecordFields) (all : List HeldRecord) (schema : Schema) (id : ℕ) (bookmark : List ℕ) (gone : RecordFields) (old between new : List StoredTable) → Goes newest all schema id bookmark gone old between new
     → (tables : List Table) (held : List HeldChange) → (some_before is_some id bookmark (map held_record held) ≡ true → has_variant newest all id bookmark ≡ true) → AllByRecursion (IsKeptChange tables old) held → AllByRecursion (IsKeptChange tables new) held
 changes_kept_then newest all schema id bookmark gone old between new goes tables [] leaves kept = tt
-changes_kept_then newest all schema id bookmark gone old between new goes tables (h ∷ held) leaves kept =
-    (change_kept_then newest all schema id bookmark gone old between new goes tables h (λ e. leaves (or_left (is_standing_rewrite id bookmark (held_record h) && is_some (held_record h).before) (some_before is_some id bookmark (map held_record held)) e)) kept.0,
-    changes_kept_then newest all schema id bookmark gone old between new goes tables held (λ e. leaves (or_right (is_standing_rewrite id bookmark (held_record h) && is_some (held_record h).before) (some_before is_some id bookmark (map held_record held)) e)) kept.1)
+changes_kept_then newest all schema id bookmark gone old between new goes tables (h ∷ held) leaves kept = (
+  change_kept_then newest all schema id bookmark gone old between new goes tables h (λ e. leaves (or_left (is_standing_rewrite id bookmark (held_record h) && is_some (held_record h).before) (some_before is_some id bookmark (map held_record held)) e)) kept.0,
+  changes_kept_then newest all schema id bookmark gone old between new goes tables held (λ e. leaves (or_right (is_standing_rewrite id bookmark (held_record h) && is_some (held_record h).before) (some_before is_some id bookmark (map held_record held)) e)) kept.1,
+)
 
 -- ---- the store
 

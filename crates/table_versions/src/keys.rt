@@ -100,13 +100,7 @@ fn take_key(
 }
 
 // Takes an entry out of an index, where it is there.
-fn take_entry(
-    trees: &mut TableTrees,
-    table: TableId,
-    index: IndexId,
-    key: &Key,
-    bookmark: &[u8],
-)
+fn take_entry(trees: &mut TableTrees, table: TableId, index: IndexId, key: &Key, bookmark: &[u8])
     requires { length bookmark.now ≤ 255 }
     ensures others { ChangesEntries table.0 trees.old trees.new }
     ensures indexes { OthersKeep table.0 index.0 trees.old trees.new }

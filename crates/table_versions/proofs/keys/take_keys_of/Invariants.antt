@@ -14,7 +14,7 @@ invariant-loop-next g l = record {
   others : ChangesEntries l.table.0 l.initial.trees l.trees;
   indexes : OthersKeep l.table.0 l.rule.id.0 l.initial.trees l.trees;
   keys : LosesSoFar (key_list l.rule l.schema (g.R.Values.fields l.gone)) (λ (k : List ℕ). is_variant_key (option_map record_of (row_under (table_nodes l.initial.trees l.table.0) l.bookmark)) (held_from l.from l.versions) l.rule l.schema l.table.0 k l.bookmark)
-      l.bookmark (index_entries l.initial.trees l.table.0 l.rule.id.0) (index_entries l.trees l.table.0 l.rule.id.0) l.next
+      l.bookmark (index_entries l.initial.trees l.table.0 l.rule.id.0) (index_entries l.trees l.table.0 l.rule.id.0) l.next;
 }
 
 abbrev pub decreases-loop-next : goal.decreases-loop-next

@@ -1,6 +1,5 @@
 use Rattle.std.proofs.Common.{sym, ◌∙◌}
 use Rattle.std.specs.Prelude.{is_some, option_copied}
-
 use Rattle.version_store.specs.HeldChanges.{is_standing_rewrite}
 use Rattle.table_versions.proofs.StandingChanges.{fewer_places, place_within, walk_at, walk_begins, walk_done, walk_ends, walk_finds, walk_goes_on}
 use Rattle.table_versions.proofs.variants.is_record_before.Goals as goal
