@@ -1,5 +1,5 @@
 -- A put that is taken back, and one that is done.
-use Rattle.std.proofs.Common.{◌≡◌, ◌≢◌, ℕ, ◌≤◌, Bool, true, false, not, ◌&&◌, ◌||◌, cond, if◌then◌else◌, List, [], ◌∷◌, Option, Some, None, find, length, map, option_map, refl, sym, ap, subst, ◌∙◌, arith}
+use Rattle.std.proofs.Common.{◌≡◌, ℕ, ◌≤◌, Bool, true, false, not, ◌&&◌, ◌||◌, cond, List, [], ◌∷◌, Option, Some, None, find, map, option_map, refl, sym, ap, subst, ◌∙◌}
 use Rattle.std.specs.Prelude.{◌==◌, IfSome, IsSomeAnd, bytes_eq, is_none, is_some, option_and_then, unwrap_or}
 use Rattle.std.specs.List.{AllByRecursion, list_any}
 use Rattle.btree_inplace.specs.Changes.{with_data_at, without_key}
@@ -11,14 +11,14 @@ use Rattle.derived_index.specs.KeptEntries.{has_entry}
 use Rattle.index_derive.specs.declared.rules.IndexRule.{IndexRule}
 use Rattle.index_derive.specs.declared.rules.Schema.{Schema}
 use Rattle.page_image.specs.Page.{Node}
-use Rattle.record_changes.proofs.Tests.{and_left, and_right, equal_bytes, impossible, refuted, same_bytes, same_number, self_equal}
+use Rattle.record_changes.proofs.Tests.{equal_bytes, impossible, same_bytes, same_number, self_equal}
 use Rattle.table_trees.specs.StoredNodes.{put_data}
-use Rattle.table_trees.specs.StoredTables.{StoredIndex, StoredTable, has_table, index_entries, is_index, is_table, part_of, table_indexes, table_nodes, with_nodes}
+use Rattle.table_trees.specs.StoredTables.{StoredIndex, StoredTable, has_table, index_entries, is_index, part_of, table_nodes, with_nodes}
 use Rattle.versioned_tables.specs.HeldRecords.{HeldRecord}
 use Rattle.versioned_tables.specs.Variants.{is_variant_key}
-use Rattle.table_versions.specs.GoneKeys.{ChangesEntries, HasKeysOf, LosesRecord, index_numbers, table_numbers}
-use Rattle.table_versions.specs.PutRecords.{AreWidened, HasKeys, HasRoom, HasVariantKeys, IsHalfPut, IsPut, IsSame, IsWidened, Keys, MayHaveKeys, is_place, node_at_least, record_keys}
-use Rattle.table_versions.specs.RecordRows.{record_of, row_in_node, row_under}
+use Rattle.table_versions.specs.GoneKeys.{ChangesEntries, HasKeysOf, LosesRecord, table_numbers}
+use Rattle.table_versions.specs.PutRecords.{HasKeys, HasRoom, HasVariantKeys, IsHalfPut, IsPut, IsSame, IsWidened, Keys, MayHaveKeys, is_place, node_at_least, record_keys}
+use Rattle.table_versions.specs.RecordRows.{row_in_node, row_under}
 use Rattle.table_versions.specs.VersionsKept.{only_secondary}
 use Rattle.table_versions.proofs.KeysPut.{may_have, record_yields}
 use Rattle.table_versions.proofs.RoomMade.{NodeLaws, data_of, extent_of, found_then, no_less, same_table_numbers}

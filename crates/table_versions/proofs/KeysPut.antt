@@ -1,5 +1,5 @@
 -- Keys of a record that are put into indexes.
-use Rattle.std.proofs.Common.{◌≡◌, ◌≢◌, ℕ, zero, suc, ◌+◌, ◌<◌, ◌≤◌, Bool, true, false, not, ◌&&◌, ◌||◌, cond, List, [], ◌∷◌, ◌++◌, Option, Some, None, Result, Ok, Err, find, length, slice_index_or, map, option_map, refl, sym, ap, subst, take, ◌∙◌, arith}
+use Rattle.std.proofs.Common.{◌≡◌, ◌≢◌, ℕ, zero, suc, ◌+◌, ◌<◌, ◌≤◌, Bool, true, false, not, ◌&&◌, ◌||◌, cond, List, [], ◌∷◌, ◌++◌, Option, Some, Result, Ok, length, slice_index_or, map, refl, sym, ap, subst, take, ◌∙◌, arith}
 use Rattle.std.specs.Prelude.{◌==◌, All, bytes_eq, unwrap_or}
 use Rattle.std.specs.List.{AllByRecursion, list_any}
 use Rattle.std.proofs.lemmas.List.{take_all}
@@ -14,9 +14,9 @@ use Rattle.index_derive.specs.declared.rules.IndexRule.{IndexRule}
 use Rattle.index_derive.specs.declared.rules.Schema.{Schema}
 use Rattle.index_derive.specs.Entries.{entries, entry_le, insert_entry, is_legal, key_list, keys_or_none, KeyRefusal}
 use Rattle.index_tree.specs.Entries.{IsApart, IsApartFromAll}
-use Rattle.record_changes.proofs.Tests.{and_left, and_right, equal_bytes, impossible, refuted, same_bytes, same_number, self_equal}
-use Rattle.table_trees.specs.StoredTables.{StoredIndex, StoredTable, has_index, index_entries, is_index, table_indexes, table_nodes, with_entries}
-use Rattle.table_versions.specs.GoneKeys.{ChangesEntries, HasKeysOf, index_numbers, table_numbers}
+use Rattle.record_changes.proofs.Tests.{and_left, and_right, equal_bytes, impossible, same_bytes, same_number, self_equal}
+use Rattle.table_trees.specs.StoredTables.{StoredIndex, StoredTable, has_index, index_entries, is_index, table_indexes, with_entries}
+use Rattle.table_versions.specs.GoneKeys.{HasKeysOf, index_numbers}
 use Rattle.table_versions.specs.PutRecords.{AreKeysOfRecords, CanTake, HasKeys, IsKeyOfRecord, Keys, MayHaveKeys, one_key, record_keys, rule_keys, some_keys}
 use Rattle.table_versions.proofs.EntryTrees.{EntryLaws, IndexLaws, entries_changed, entries_stay, entries_then}
 use Rattle.table_versions.proofs.NodeRecords.{turned}

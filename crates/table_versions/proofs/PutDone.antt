@@ -1,5 +1,5 @@
 -- A store after a put.
-use Rattle.std.proofs.Common.{◌≡◌, ℕ, ◌≤◌, ◌<◌, Bool, true, false, List, [], ◌∷◌, ◌++◌, length, map, Option, Some, None, Result, Ok, Err, option_map, refl, sym, ap, subst, ◌∙◌, arith}
+use Rattle.std.proofs.Common.{◌≡◌, ℕ, ◌≤◌, ◌<◌, Bool, true, false, List, [], ◌∷◌, ◌++◌, length, map, Option, Some, Result, Ok, Err, option_map, refl, sym, ap, subst, ◌∙◌}
 use Rattle.std.specs.Prelude.{All, IfSome, IsSomeAnd, IsTrue, OnErr, OnOk, is_some}
 use Rattle.std.specs.List.{AllByRecursion}
 use Rattle.column_set.specs.declared.changes.Change.{Change}
@@ -23,7 +23,7 @@ use Rattle.version_store.specs.HeldChanges.{HeldChange, has_room as has_room_for
 use Rattle.versioned_tables.specs.VersionedTables.{VersionedTables, with_change}
 use Rattle.table_versions.specs.PutRecords.{CanTake, HasVariantKeys, IsPut, IsSame, IsStorable, put_values, record_keys}
 use Rattle.table_versions.specs.GoneKeys.{AreRows, held_from}
-use Rattle.table_versions.specs.RecordRows.{IsRecordRow, held_record, record_of, row_in_node, row_under}
+use Rattle.table_versions.specs.RecordRows.{IsRecordRow, held_record, record_of, row_under}
 use Rattle.table_versions.specs.StoredVersions.{StoredVersions, has_room}
 use Rattle.table_versions.specs.VersionsKept.{AreKept, IsBookmarkOf}
 use Rattle.table_versions.specs.VersionsView.{stored_versions, with_newest}

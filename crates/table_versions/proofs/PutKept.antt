@@ -1,42 +1,39 @@
 -- A put, and one that failed, keep what trees, catalog and held changes keep of one another.
-use Rattle.std.proofs.Common.{◌≡◌, ◌≢◌, ℕ, ◌≤◌, Bool, true, false, not, ◌&&◌, ◌||◌, cond, if◌then◌else◌, Equal, List, [], ◌∷◌, ◌++◌, length, Option, Some, None, find, map, option_map, refl, sym, ap, subst, ◌∙◌, arith}
+use Rattle.std.proofs.Common.{◌≡◌, ◌≢◌, ℕ, ◌≤◌, Bool, true, false, not, ◌&&◌, ◌||◌, cond, Equal, List, [], ◌∷◌, ◌++◌, length, Option, Some, None, find, map, option_map, refl, sym, ap, subst, ◌∙◌, arith}
 use Rattle.std.proofs.lemmas.Bool.Decides.{nat_tests}
-use Rattle.std.specs.Prelude.{◌==◌, All, IfSome, IsSomeAnd, T, bytes_eq, is_some, nat_lt, option_and_then, unwrap_or}
+use Rattle.std.specs.Prelude.{◌==◌, All, IfSome, IsSomeAnd, bytes_eq, is_some, nat_lt, option_and_then, unwrap_or}
 use Rattle.std.specs.List.{AllByRecursion, list_any}
 use Rattle.std.specs.Ordering.{nat_cmp, is_eq}
 use Rattle.std.specs.Cmp.Lexicographic.{slice_cmp, nat_list_cmp_total, texts_ties}
 use Rattle.std.specs.FinMap.Entries.{find-put, is_sorted-put, same_entries}
 use Rattle.std.proofs.lemmas.List.Folds.{list_any-append}
 use Rattle.btree_inplace.specs.Order.{extent_in, get_in}
-use Rattle.column_set.specs.declared.changes.Change.{Change}
-use Rattle.column_set.specs.declared.changes.Change.TheVariants.{Put, Drop, Hold, Add}
+use Rattle.column_set.specs.declared.changes.Change.TheVariants.{Put}
 use Rattle.column_set.specs.RecordValues.{RecordFields}
 use Rattle.cursor_nav.specs.Places.{are_sorted}
 use Rattle.database_state.specs.Changes.{tables_after}
 use Rattle.database_state.specs.Conflicts.{yields_key}
-use Rattle.database_state.specs.Lawful.{is_indexable}
 use Rattle.database_state.specs.Table.{Rows, Table, record_in, row_at, rule_with_id, schema_of, table_with_id, with_row}
 use Rattle.derived_index.specs.KeptEntries.{has_entry}
 use Rattle.index_derive.specs.declared.rules.IndexRule.{IndexRule}
 use Rattle.index_derive.specs.declared.rules.Schema.{Schema}
 use Rattle.jet_base.specs.declared.ids.TableId.{TableId}
 use Rattle.jet_catalog.specs.Catalog.{ids_rise}
-use Rattle.page_image.specs.Page.{Node}
-use Rattle.record_changes.proofs.Tests.{and_left, and_right, equal_bytes, impossible, same_bytes, same_number, self_equal}
+use Rattle.record_changes.proofs.Tests.{and_left, and_right, impossible, same_bytes, same_number, self_equal}
 use Rattle.table_trees.specs.StoredNodes.{IsShortNode, bookmark_entries}
-use Rattle.table_trees.specs.StoredTables.{StoredIndex, StoredTable, index_entries, is_table, table_indexes, table_nodes}
+use Rattle.table_trees.specs.StoredTables.{StoredIndex, StoredTable, index_entries, is_table, table_nodes}
 use Rattle.version_store.specs.declared.calls.By.{By}
 use Rattle.version_store.specs.declared.calls.ChangeKind.{ChangeKind}
 use Rattle.version_store.specs.declared.calls.ChangeKind.TheVariants as kind
-use Rattle.version_store.specs.HeldChanges.{HeldChange, kind_of, new_change}
+use Rattle.version_store.specs.HeldChanges.{HeldChange, new_change}
 use Rattle.versioned_tables.specs.HeldRecords.{HeldRecord, is_standing_rewrite, new_change as new_record}
 use Rattle.versioned_tables.specs.Holding.{RowsRise}
-use Rattle.versioned_tables.specs.VersionedTables.{VersionedTables, with_change}
+use Rattle.versioned_tables.specs.VersionedTables.{with_change}
 use Rattle.versioned_tables.specs.Variants.{HoldsVariants, has_variant, is_variant_key}
 use Rattle.table_versions.specs.GoneKeys.{HasKeysOf, index_numbers, some_before, table_numbers}
 use Rattle.table_versions.specs.PutRecords.{AreWidened, IsPut, IsSame, IsWidened, is_place, record_keys}
 use Rattle.table_versions.specs.RecordRows.{IsRecordRow, held_record, record_of, row_in_node, row_under, rows_of_nodes}
-use Rattle.table_versions.specs.VersionsKept.{AreKept, IsBookmarkOf, IsKeptChange, IsKeptTable, IsRowOf, IsRowUnder, needed_trees, only_secondary, secondary_rule, tree_numbers}
+use Rattle.table_versions.specs.VersionsKept.{AreKept, IsKeptChange, IsKeptTable, IsRowOf, IsRowUnder, needed_trees, only_secondary, secondary_rule, tree_numbers}
 use Rattle.table_versions.specs.VersionsView.{with_newest}
 use Rattle.table_versions.proofs.DroppedRecords.{room_in, turned_number}
 use Rattle.table_versions.proofs.Held.{appended}

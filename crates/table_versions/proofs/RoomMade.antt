@@ -1,15 +1,15 @@
 -- Nodes that come, go or are changed for a put.
-use Rattle.std.proofs.Common.{◌≡◌, ◌≢◌, ℕ, ◌≤◌, ◌<◌, Bool, true, false, ◌&&◌, cond, if◌then◌else◌, List, [], ◌∷◌, Option, Some, None, find, length, map, option_map, refl, sym, ap, subst, ◌∙◌, arith}
-use Rattle.std.specs.Prelude.{◌==◌, All, IfSome, IsSome, IsSomeAnd, bytes_eq, is_none, unwrap_or}
+use Rattle.std.proofs.Common.{◌≡◌, ◌≢◌, ℕ, ◌≤◌, Bool, true, false, ◌&&◌, cond, if◌then◌else◌, List, [], ◌∷◌, Option, Some, None, find, length, option_map, refl, sym, ap, subst, ◌∙◌, arith}
+use Rattle.std.specs.Prelude.{◌==◌, All, IsSomeAnd, bytes_eq, is_none, unwrap_or}
 use Rattle.std.proofs.lemmas.List.Elements.{All-head, All-tail}
 use Rattle.btree_inplace.specs.Changes.{inserted, with_data_at, with_extent_at, without_key}
 use Rattle.btree_inplace.specs.Order.{extent_in, get_in, has_key}
 use Rattle.page_image.specs.Page.{Node}
-use Rattle.record_changes.proofs.Tests.{and_left, and_right, equal_bytes, impossible, same_bytes, same_number, self_equal}
+use Rattle.record_changes.proofs.Tests.{equal_bytes, impossible, same_bytes, same_number, self_equal}
 use Rattle.table_trees.specs.StoredNodes.{IsShortNode, put_data, put_extent}
 use Rattle.table_trees.specs.StoredTables.{StoredTable, has_table, is_table, put_nodes, table_indexes, table_nodes, with_nodes}
 use Rattle.table_versions.specs.GoneKeys.{table_numbers}
-use Rattle.table_versions.specs.PutRecords.{AreWidened, HasRoom, IsWidened, is_place, node_at_least}
+use Rattle.table_versions.specs.PutRecords.{HasRoom, IsWidened, is_place, node_at_least}
 
 -- laws of nodes
 pub record NodeLaws : Type 0 where

@@ -1,12 +1,11 @@
 //! What a put brings into the trees of its table, and how it is taken back.
 
-ghost use Rattle.std.specs.Prelude.{◌≡◌, ◌≤◌, ◌<◌, ◌↔◌, ◌++◌, ◌∷◌, [], ℕ, List, length, true, false, not, is_none, is_some, Option, Some, None, option_map, IfOk, IfSome, IsErrOf, IsTrue, OnErr, OnOk};
+ghost use Rattle.std.specs.Prelude.{◌≡◌, ◌≤◌, ◌<◌, ◌↔◌, ◌++◌, ◌∷◌, [], List, length, true, false, not, is_none, is_some, Some, None, option_map, IfOk, IfSome, IsErrOf, IsTrue, OnErr, OnOk};
 ghost use Rattle.std.specs.List.{AllByRecursion};
 ghost use Rattle.btree_inplace.specs.Order.{get_in};
 ghost use Rattle.column_set.specs.RecordValues.{record_fits};
 ghost use Rattle.column_set.specs.RowReading.{row_in};
 ghost use Rattle.column_set.specs.Rows.{RowFields, all_here, is_all_here, is_row, row_bytes};
-ghost use Rattle.database_state.specs.Changes.{changed_bookmark, changed_table};
 ghost use Rattle.index_tree.specs.Entries.{IsApartFromAll};
 ghost use Rattle.table_trees.specs.StoredTables.{StoredTable, has_index, has_table, index_entries, table_nodes};
 ghost use Rattle.version_store.specs.HeldChanges.{has_room, new_change};
@@ -18,7 +17,7 @@ ghost use Rattle.table_versions.specs.RecordRows.{IsRecordRow, record_of, row_un
 use crate::keys::take_keys;
 use crate::reading::row_in_node;
 use column_set::{Change, Record, encode_record};
-use derived_index::{derived_keys_are_apart, derived_keys_are_short};
+use derived_index::derived_keys_are_apart;
 use index_derive::derive::entries;
 use index_derive::{IndexRule, Schema};
 use jet_base::{IndexId, OutOfMemory, TableId};

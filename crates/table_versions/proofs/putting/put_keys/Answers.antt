@@ -1,18 +1,10 @@
-use Rattle.std.proofs.Common.{rules, ◌≡◌, ◌≤◌, ◌<◌, ◌↔◌, ◌++◌, ◌∷◌, [], ℕ, List, length, true, false, not, is_none, is_some, Option, Some, None, option_map, IfOk, IfSome, IsErrOf, IsTrue, OnErr, OnOk, ◌+◌, ◌-◌, ◌*◌, ◌/◌, ◌%◌, Bool, nat_eq, nat_lt, slice_index_or, slice_set, bit_and, bit_or, Fits, w8, w32, w64, Bor, MutBor}
+use Rattle.std.proofs.Common.{List, ◌+◌}
 use Rattle.std.specs.List.{AllByRecursion}
-use Rattle.btree_inplace.specs.Order.{get_in}
-use Rattle.column_set.specs.RecordValues.{record_fits, record_size}
-use Rattle.column_set.specs.Rows.{all_here, is_all_here, largest_row, row_bytes}
-use Rattle.database_state.specs.Changes.{changed_bookmark, changed_table}
-use Rattle.index_tree.specs.Entries.{IsApartFromAll}
-use Rattle.table_trees.specs.StoredTables.{StoredTable, has_index, has_table, index_entries, table_nodes}
-use Rattle.version_store.specs.HeldChanges.{has_room, new_change}
-use Rattle.version_store.specs.declared.fault.VersionFault.TheVariants as fault
-use Rattle.table_versions.specs.GoneKeys.{AreRows, HasKeysOf, held_from}
-use Rattle.table_versions.specs.PutRecords.{AreKeysOfRecords, CanTake, HasKeys, HasRoom, HasVariantKeys, IsHalfPut, IsPut, IsSame, MayHaveKeys, one_key, record_keys, rule_keys}
-use Rattle.table_versions.specs.RecordRows.{IsRecordRow, record_of, row_under}
-use Rattle.std.proofs.Common.{sym, ap, subst, take, ◌∙◌, ◌&&◌, not, arith}
-use Rattle.table_versions.proofs.KeysPut.{front_keys, front_rules, with_rule, without_rule, index_stays, keys_of_records, keys_then, may_then, more_rules, no_keys, none_yet, record_yields, rule_at, rule_keys_within, same_keys, taken_rules, whole}
+use Rattle.table_trees.specs.StoredTables.{StoredTable}
+use Rattle.table_versions.specs.GoneKeys.{HasKeysOf}
+use Rattle.table_versions.specs.PutRecords.{CanTake, HasKeys, MayHaveKeys, record_keys, rule_keys}
+use Rattle.std.proofs.Common.{sym, subst, take, ◌∙◌, arith}
+use Rattle.table_versions.proofs.KeysPut.{front_keys, front_rules, with_rule, without_rule, index_stays, keys_of_records, may_then, more_rules, no_keys, none_yet, record_yields, rule_at, rule_keys_within, taken_rules, whole}
 use Rattle.index_derive.specs.declared.rules.IndexRule.{IndexRule}
 use Rattle.table_versions.specs.GoneKeys.{HasKeysOf}
 use Rattle.std.specs.List.{AllByRecursion}

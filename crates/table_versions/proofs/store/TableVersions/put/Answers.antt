@@ -1,11 +1,11 @@
-use Rattle.std.proofs.Common.{◌≡◌, ℕ, ◌≤◌, true, List, [], ◌∷◌, ◌++◌, Option, Some, Result, Ok, Err, map, refl, sym, ap, subst, ◌∙◌}
-use Rattle.std.specs.Prelude.{IsSomeAnd, OnErr, OnOk}
+use Rattle.std.proofs.Common.{◌≡◌, ℕ, List, [], ◌∷◌, ◌++◌, Some, sym, ap, subst, ◌∙◌}
+use Rattle.std.specs.Prelude.{IsSomeAnd}
 use Rattle.column_set.specs.RecordValues.{RecordFields}
 use Rattle.column_set.specs.Rows.{all_here, row_bytes}
 use Rattle.database_state.specs.Changes.{changed_bookmark, changed_table}
-use Rattle.database_state.specs.Table.{Table, schema_of, table_with_id}
+use Rattle.database_state.specs.Table.{schema_of, table_with_id}
 use Rattle.table_trees.specs.StoredTables.{table_nodes}
-use Rattle.version_store.specs.HeldChanges.{HeldChange, new_change}
+use Rattle.version_store.specs.HeldChanges.{new_change}
 use Rattle.table_versions.specs.PutRecords.{IsPut, IsSame, IsStorable, put_values, record_keys}
 use Rattle.table_versions.specs.RecordRows.{row_under}
 use Rattle.table_versions.specs.StoredVersions.{StoredVersions}
