@@ -1,0 +1,3 @@
+pub mod Refusing
+pub mod Told
+pub mod SessionCalls

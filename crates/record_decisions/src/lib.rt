@@ -1,0 +1,9 @@
+//! What an engine with versions answers to the calls that change something.
+#![tactic(auto)]
+
+mod answers;
+mod session_calls;
+
+pub use session_calls::{
+    begin_session, begin_transaction, commit_transaction, end_session, rollback,
+};
