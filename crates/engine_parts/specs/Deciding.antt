@@ -1,0 +1,71 @@
+-- When a decision of the engine is the answer of the database state.
+use Rattle.std.specs.Prelude.{◌≡◌, ◌≢◌, ℕ, ◌==◌, Bool, true, false, length, None, IsTrue}
+use Rattle.database_state.specs.State.{DatabaseState}
+use Rattle.index_derive.specs.Steps.{entries_of_step}
+use Rattle.session_local.specs.declared.decision.Decision.{Decision}
+use Rattle.session_local.specs.declared.request.Request.{Request}
+use Rattle.session_local.specs.declared.request.Request.TheVariants as call
+use Rattle.session_local.specs.Answer.{answered_by}
+use Rattle.session_local.specs.Calls.{answer}
+use Rattle.session_local.specs.Deciding.{decided_in, CopiedFits}
+use Rattle.session_local.specs.Finishing.{finished}
+use Rattle.session_local.specs.Outcome.{Asked}
+use Rattle.session_local.specs.Run.{flushes_step}
+use Rattle.session_local.specs.SessionSide.{SessionSide}
+use Rattle.session_local.specs.Showing.{names_within}
+use Rattle.session_local.specs.WellFormed.{IsWellFormed}
+use Rattle.lawful_answers.specs.LawfulSteps.{AreLawful}
+use Rattle.agreeing_sessions.specs.InStep.{IsInStep}
+use Rattle.version_cleanup.specs.LiveSessions.{is_live}
+use Rattle.engine_versions.specs.EngineState.{EngineState}
+use Rattle.engine_versions.specs.HoldsState.{HoldsState, HoldsInStep, asked_of}
+
+-- ---- what a call asks of its caller
+
+-- The engine holds a state with which the session's own state is in step. The reply buffer of a session that was begun has
+-- 1,048,576 bytes.
+pub record IsBeside (engine : EngineState) (side : SessionSide) : Type 0 where
+  pub held : HoldsInStep engine side.session side.state
+  pub begun : side.state.begun ≡ is_live side.session engine.sessions
+  pub reply : side.state.begun ≡ true → length side.reply ≡ 1048576
+  pub formed : IsWellFormed side.state
+
+-- ---- which calls move a cursor
+
+-- the calls that move a cursor, by its label
+abbrev pub is_navigation : ℕ → Request → Bool
+is_navigation label (call.Move cursor way) = cursor.0 == label
+is_navigation label (call.Seek cursor by) = cursor.0 == label
+is_navigation label (call.SetIndexRange cursor upper inclusive) = cursor.0 == label
+is_navigation label (call.GotoBookmark cursor bookmark) = cursor.0 == label
+is_navigation label (call.SetCurrentIndex cursor index) = cursor.0 == label
+is_navigation label _ = false
+
+-- ---- decisions
+
+-- The decision is the answer to the call: its reply, its step, and what is left of the session's own state once it is
+-- finished.
+pub record IsAnswer (asked : Asked) (request : Request) (new : SessionSide) (decision : Decision) : Type 0 where
+  pub reply : answered_by decision.reply new.reply ≡ (answer asked request).answered
+  pub step : decision.step ≡ (answer asked request).step
+  pub local : finished new.state request (decided_in decision) ≡ (answer asked request).local
+
+-- the same in every state that the engine holds, and with which the session is in step
+abbrev pub Decides : EngineState → SessionSide → Request → SessionSide → Decision → Type 0
+Decides engine old request new decision =
+    (state : DatabaseState) → HoldsState engine state → IsInStep state old.session old.state → IsAnswer (asked_of engine state old.session old.state) request new decision
+
+-- the log may take the entries of the step in each of these states
+abbrev pub IsLawfulStep : EngineState → SessionSide → Decision → Type 0
+IsLawfulStep engine old decision =
+    (state : DatabaseState) → HoldsState engine state → IsInStep state old.session old.state → AreLawful state (entries_of_step decision.step)
+
+-- what can be said of a decision besides
+pub record IsDecision (engine : EngineState) (old : SessionSide) (request : Request) (new : SessionSide) (decision : Decision) : Type 0 where
+  pub session : new.session ≡ old.session
+  pub still : decision.step ≢ None → new.state ≡ old.state
+  pub room : length new.reply ≡ length old.reply
+  pub named : IsTrue (names_within decision.reply.value (length new.reply))
+  pub fits : CopiedFits new.state request decision.copied
+  pub flush : decision.flush ≡ flushes_step request decision.step
+  pub lawful : IsLawfulStep engine old decision

@@ -1,0 +1,17 @@
+-- What the parts of an engine show together.
+use Rattle.table_versions.specs.StoredVersions.{StoredVersions}
+use Rattle.engine_versions.specs.EngineState.{EngineState}
+use Rattle.engine_parts.specs.declared.engine.Engine.TheInside as engine
+
+abbrev pub engine_state : engine.Inside → EngineState
+engine_state inside = record {
+  limit = inside.limit;
+  number = inside.number;
+  greatest_table = inside.tables.greatest_table;
+  sessions = inside.sessions;
+  store = inside.tables.store;
+}
+
+-- the tables and the held changes of an engine
+abbrev pub tables_of : EngineState → StoredVersions
+tables_of engine = record { greatest_table = engine.greatest_table; store = engine.store }
