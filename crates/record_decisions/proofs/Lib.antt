@@ -1,3 +1,6 @@
 pub mod Refusing
 pub mod Told
+pub mod Seen
+pub mod Chains
+pub mod LocksAndDeletes
 pub mod SessionCalls

@@ -1,5 +1,6 @@
 -- What decides the calls of sessions and transactions.
-use Rattle.std.proofs.Common.{◌≡◌, ℕ, Bool, true, false, cond, List, [], ◌∷◌, length, Some, None, refl, ap, ◌∙◌}
+use Rattle.std.proofs.Common.{◌≡◌, ℕ, ◌<◌, ◌≤◌, Bool, true, false, cond, List, [], ◌∷◌, length, Some, None, refl, ap, ◌∙◌, arith}
+use Rattle.std.proofs.lemmas.Bool.Decides.{nat_tests}
 use Rattle.std.specs.Prelude.{◌==◌, nat_le, nat_lt, not}
 use Rattle.jet_base.specs.declared.replies.Jet.TheVariants as jet
 use Rattle.index_derive.specs.declared.log.EntryKind.TheVariants as entry
@@ -142,3 +143,23 @@ pub rollback-done : (engine : EngineState) (side : SessionSide) (all : Bool) →
     → Decides engine side (call.Rollback all) side (stepped_with (one_by side.session (cond all entry.UndoAll entry.Undo)) None false)
 rollback-done engine side all begun is = λ state h in_step.
     answer-is (asked_by engine state side) (call.Rollback all) side _ _ (rollback-is engine state side all false h begun is) refl refl refl
+
+-- ---- tests of numbers
+
+pub full : (n limit : ℕ) → limit ≤ n → nat_le limit n ≡ true
+full n limit h = grind (arith, nat_tests)
+
+pub room : (n limit : ℕ) → n < limit → nat_le limit n ≡ false
+room n limit h = grind (arith, nat_tests)
+
+pub no_levels : (n : ℕ) → n ≡ 0 → (n == 0) ≡ true
+no_levels n h = grind (arith, nat_tests)
+
+pub some_levels : (n : ℕ) → (n ≡ 0 → ⊥) → (n == 0) ≡ false
+some_levels n h = grind (arith, nat_tests)
+
+pub above_one : (n : ℕ) → 1 < n → nat_lt 1 n ≡ true
+above_one n h = grind (arith, nat_tests)
+
+pub at_most_one : (n : ℕ) → n ≤ 1 → nat_lt 1 n ≡ false
+at_most_one n h = grind (arith, nat_tests)

@@ -2,8 +2,11 @@
 #![tactic(auto)]
 
 mod answers;
+mod changing;
+mod laws;
 mod session_calls;
 
+pub use changing::{delete, get_lock};
 pub use session_calls::{
     begin_session, begin_transaction, commit_transaction, end_session, rollback,
 };
