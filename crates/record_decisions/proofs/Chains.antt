@@ -1,5 +1,5 @@
 -- Refusals one behind the other.
-use Rattle.std.proofs.Common.{◌≡◌, Bool, true, false, cond, List, [], ◌∷◌, ◌++◌, Option, Some, None, refl, sym, ap, ◌∙◌}
+use Rattle.std.proofs.Common.{◌≡◌, Bool, true, false, cond, [], ◌∷◌, ◌++◌, Option, Some, None, refl, sym, ap, ◌∙◌}
 use Rattle.std.specs.Option.{option_or}
 use Rattle.jet_base.specs.declared.replies.Jet.{Jet}
 use Rattle.database_state.specs.Refusals.{Refusals, first_refusal}

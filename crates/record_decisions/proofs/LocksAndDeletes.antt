@@ -1,5 +1,5 @@
 -- What decides Delete and GetLock.
-use Rattle.std.proofs.Common.{◌≡◌, ℕ, Bool, true, false, cond, List, [], ◌∷◌, ◌++◌, Option, Some, None, refl, sym, ap, subst, ◌∙◌}
+use Rattle.std.proofs.Common.{◌≡◌, ℕ, Bool, true, false, cond, [], ◌∷◌, ◌++◌, Option, Some, None, refl, sym, ap, ◌∙◌}
 use Rattle.std.specs.Prelude.{◌==◌, ◌+◌, not, nat_le, nat_lt, is_none, IsTrue}
 use Rattle.jet_base.specs.declared.ids.CursorId.{CursorId}
 use Rattle.jet_base.specs.declared.ids.Session.{Session}
@@ -12,10 +12,9 @@ use Rattle.index_derive.specs.declared.log.EntryKind.TheVariants as entry
 use Rattle.index_derive.specs.declared.log.Step.{Step}
 use Rattle.index_derive.specs.declared.log.Step.TheVariants.{One, Alone}
 use Rattle.database_state.specs.Changes.{changed_table, changed_bookmark}
-use Rattle.database_state.specs.Conflicts.{has_write_conflict}
 use Rattle.database_state.specs.Lawful.{log_limit}
 use Rattle.database_state.specs.Refusals.{Refusals, first_refusal}
-use Rattle.database_state.specs.State.{DatabaseState, levels}
+use Rattle.database_state.specs.State.{DatabaseState}
 use Rattle.database_state.specs.Table.{record_in}
 use Rattle.database_state.specs.VersionStore.{cost_of, version_span}
 use Rattle.database_state.specs.View.{newest}
@@ -29,7 +28,7 @@ use Rattle.session_local.specs.Outcome.{Asked, Outcome, done, unless, is_outside
 use Rattle.session_local.specs.Calls.{answer}
 use Rattle.session_local.specs.Deciding.{decided_in}
 use Rattle.session_local.specs.Finishing.{finished}
-use Rattle.session_local.specs.RecordCalls.{bookmark_at, conflict_refusals, current, delete, drop_at, get_lock, hold_at, own_refusals, transaction_refusals}
+use Rattle.session_local.specs.RecordCalls.{conflict_refusals, current, delete, drop_at, get_lock, hold_at}
 use Rattle.session_local.specs.Run.{flushes_step}
 use Rattle.version_cleanup.specs.Cleaning.{reader_in}
 use Rattle.version_cleanup.specs.LiveSessions.{are_rising}
@@ -37,10 +36,10 @@ use Rattle.versioned_tables.specs.HeldRecords.{has_conflict}
 use Rattle.agreeing_sessions.specs.InStep.{IsInStep}
 use Rattle.engine_versions.specs.EngineState.{EngineState}
 use Rattle.engine_versions.specs.HoldsState.{HoldsState}
-use Rattle.engine_parts.specs.Deciding.{Decides, IsDecision}
-use Rattle.record_decisions.specs.Changing.{SeesRecords, TellsConflicts, TellsRoom, change_in, conflict_in, current_in, delete_in, is_outside_in, lock_in, own_in, record_for, room_in, span_with, step_by}
+use Rattle.engine_parts.specs.Deciding.{Decides}
+use Rattle.record_decisions.specs.Changing.{SeesRecords, TellsConflicts, TellsRoom, change_in, current_in, delete_in, is_outside_in, lock_in, own_in, room_in, step_by}
 use Rattle.record_decisions.proofs.Chains.{unless-refused, unless-passed}
-use Rattle.record_decisions.proofs.Refusing.{AnswersLawfully, asked_by, refused_with, stepped_with, answer-begun, answer-is, answer-refused, decision-stepped}
+use Rattle.record_decisions.proofs.Refusing.{asked_by, refused_with, stepped_with, answer-begun, answer-is, answer-refused}
 use Rattle.record_decisions.proofs.Told.{levels-told}
 
 -- ---- a call that is decided on the shared state

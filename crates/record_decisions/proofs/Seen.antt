@@ -1,16 +1,15 @@
 -- What a session sees of a state that the engine holds, and what it meets of others.
 use Rattle.std.proofs.Common.{◌≡◌, ℕ, ◌+◌, ◌<◌, Bool, true, false, cond, List, [], ◌∷◌, Option, Some, None, map, min, option_map, unwrap_or, refl, sym, ap, subst, ◌∙◌, arith}
-use Rattle.std.specs.Prelude.{◌==◌, ◌&&◌, find, nat_lt, is_some, IsTrue, option_and_then}
+use Rattle.std.specs.Prelude.{◌==◌, ◌&&◌, find, nat_lt, is_some}
 use Rattle.std.specs.List.{AllByRecursion, list_all}
 use Rattle.std.proofs.lemmas.Bool.Decides.{nat_tests}
 use Rattle.column_set.specs.declared.changes.Change.{Change}
-use Rattle.index_derive.specs.declared.rules.Schema.{Schema}
 use Rattle.database_state.specs.Changes.{changed_table, changed_bookmark}
 use Rattle.database_state.specs.Conflicts.{has_write_conflict}
 use Rattle.database_state.specs.State.{DatabaseState, LiveSession, PastChange, Transaction as WholeTransaction, transaction_of}
-use Rattle.database_state.specs.Table.{Table, record_in, row_at, rows_of, schema_of, table_with_id}
+use Rattle.database_state.specs.Table.{Table, record_in, row_at, rows_of, table_with_id}
 use Rattle.database_state.specs.VersionStore.{cost_of, version_span}
-use Rattle.database_state.specs.View.{newest, view}
+use Rattle.database_state.specs.View.{view}
 use Rattle.record_changes.specs.Records.{Records}
 use Rattle.version_history.specs.History.{EachTwo, LabelsRise, without_rows}
 use Rattle.version_keys.specs.Variants.{HasNoSums}
@@ -18,16 +17,15 @@ use Rattle.version_store.specs.declared.calls.Reader.{Reader}
 use Rattle.version_cleanup.specs.declared.live.Transaction.{Transaction}
 use Rattle.version_cleanup.specs.Cleaning.{reader_in}
 use Rattle.version_cleanup.specs.LiveSessions.{LiveState, are_rising, begin_of as live_begin_of, lesser, live_state, oldest_begin, transaction_in, without_snapshot}
-use Rattle.versioned_tables.specs.HeldRecords.{HeldRecord, has_conflict, seen_record, span}
+use Rattle.versioned_tables.specs.HeldRecords.{has_conflict, seen_record, span}
 use Rattle.versioned_tables.specs.VersionedTables.{VersionedTables, seen_tables}
 use Rattle.versioned_tables.specs.Holding.{Holds, begin_of, earlier, oldest_begin as oldest_begin_of}
 use Rattle.session_local.specs.Agreement.{HasSchemaOf}
 use Rattle.session_local.specs.Local.{LocalState, OpenCursor, cursor_labelled}
-use Rattle.session_local.specs.Outcome.{rows_seen}
 use Rattle.agreeing_sessions.specs.InStep.{IsInStep}
 use Rattle.engine_versions.specs.EngineState.{EngineState}
-use Rattle.engine_versions.specs.HoldsState.{HoldsState, asked_of}
-use Rattle.record_decisions.specs.Changing.{SeesRecords, TellsConflicts, TellsRoom, record_for, span_with}
+use Rattle.engine_versions.specs.HoldsState.{HoldsState}
+use Rattle.record_decisions.specs.Changing.{SeesRecords, TellsConflicts, TellsRoom}
 use Rattle.record_decisions.proofs.Told.{transaction_in-live}
 
 -- ---- the reader

@@ -6,7 +6,6 @@ use Rattle.jet_base.specs.declared.replies.Jet.TheVariants as jet
 use Rattle.index_derive.specs.declared.log.EntryKind.TheVariants as entry
 use Rattle.database_state.specs.State.{DatabaseState, levels}
 use Rattle.database_state.specs.Lawful.{log_limit}
-use Rattle.database_state.specs.Refusals.{Refusals}
 use Rattle.session_local.specs.declared.request.Request.TheVariants as call
 use Rattle.session_local.specs.SessionSide.{SessionSide}
 use Rattle.session_local.specs.Answer.{Nothing}

@@ -1,5 +1,5 @@
 -- What the engine holds tells of a state that it holds: its sessions.
-use Rattle.std.proofs.Common.{◌≡◌, ℕ, suc, Bool, true, false, cond, List, [], ◌∷◌, length, Option, Some, None, refl, sym, ap, ◌∙◌}
+use Rattle.std.proofs.Common.{◌≡◌, ℕ, suc, true, false, cond, List, [], ◌∷◌, length, Option, Some, None, refl, sym, ap, ◌∙◌}
 use Rattle.std.specs.Prelude.{◌==◌, map, find, option_map, option_and_then}
 use Rattle.database_state.specs.State.{DatabaseState, LiveSession, Transaction as WholeTransaction, levels, levels_of as levels_of_whole}
 use Rattle.version_cleanup.specs.LiveSessions.{LiveState, live_state, without_snapshot, session_in, transaction_in, levels_in, levels_of}

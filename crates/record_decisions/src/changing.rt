@@ -117,11 +117,7 @@ fn delete_refusal(
 }
 
 /// Why there is no record at the cursor that the session sees.
-pub(crate) fn current_refusal(
-    engine: &Engine,
-    session: Session,
-    found: &OpenCursor,
-) -> Option<Jet>
+pub(crate) fn current_refusal(engine: &Engine, session: Session, found: &OpenCursor) -> Option<Jet>
     ensures { result ≡ first_refusal (current_in engine.now session.0 found.now) }
 {
     match found.cursor().place() {
@@ -142,10 +138,8 @@ pub(crate) fn has_own_replace(local: &Local, found: &OpenCursor) -> bool
     ensures { result ≡ has_replace_of local.now.state found.now.cursor.table (bookmark_at found.now) }
 {
     let bookmark = bookmark_at(found);
-    local
-        .cursors()
-        .iter()
-        .any(|other| other.cursor().table() == found.cursor().table() && replaces(other, bookmark))
+    local.cursors().iter().any(|other| other.cursor().table() == found.cursor().table()
+        && replaces(other, bookmark))
 }
 
 // Whether a replace of the record under the bookmark is prepared on the cursor.

@@ -1,14 +1,11 @@
-use Rattle.std.proofs.Common.{◌≡◌, true, false, Some, None, refl, sym, ap, subst, ◌∙◌}
-use Rattle.jet_base.specs.declared.ids.Session.{Session}
-use Rattle.column_set.specs.declared.changes.Change.{Change}
-use Rattle.index_derive.specs.declared.log.EntryKind.TheVariants as entry
+use Rattle.std.proofs.Common.{◌≡◌, false, None, refl, sym, ap, subst, ◌∙◌}
 use Rattle.index_derive.specs.declared.log.Step.{Step}
 use Rattle.database_state.specs.Refusals.{first_refusal}
 use Rattle.session_local.specs.declared.request.Request.TheVariants as call
 use Rattle.session_local.specs.RecordCalls.{hold_at}
 use Rattle.engine_parts.specs.Deciding.{Decides, IsDecision}
 use Rattle.record_decisions.specs.Changing.{lock_in, step_by}
-use Rattle.record_decisions.proofs.Refusing.{asked_by, decision-stepped, session_of, stepped_with}
+use Rattle.record_decisions.proofs.Refusing.{asked_by, decision-stepped, stepped_with}
 use Rattle.record_decisions.proofs.LocksAndDeletes.{change-refused, change-done, changed_by, flushes-change, lock-changes, lock-outside, made-as}
 use Rattle.record_decisions.proofs.changing.get_lock.Goals as goal
 

@@ -1,5 +1,5 @@
-use Rattle.std.proofs.Common.{◌≡◌, ⊥, true, false, None, refl, sym, ap, ◌∙◌, arith}
-use Rattle.std.specs.Prelude.{◌==◌, nat_lt, not}
+use Rattle.std.proofs.Common.{◌≡◌, false, None, refl, ap, ◌∙◌, arith}
+use Rattle.std.specs.Prelude.{not}
 use Rattle.index_derive.specs.declared.log.EntryKind.TheVariants as entry
 use Rattle.session_local.specs.declared.request.Request.TheVariants as call
 use Rattle.version_cleanup.specs.LiveSessions.{levels_in}

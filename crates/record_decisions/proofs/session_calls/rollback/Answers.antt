@@ -2,7 +2,6 @@ use Rattle.std.proofs.Common.{◌≡◌, true, false, None, refl, sym, ap, subst
 use Rattle.std.specs.Prelude.{◌==◌}
 use Rattle.index_derive.specs.declared.log.EntryKind.TheVariants as entry
 use Rattle.session_local.specs.declared.request.Request.TheVariants as call
-use Rattle.session_local.specs.declared.decision.Decision.{Decision}
 use Rattle.version_cleanup.specs.LiveSessions.{levels_in}
 use Rattle.engine_parts.specs.Deciding.{Decides, IsDecision}
 use Rattle.record_decisions.proofs.Refusing.{asked_by, decision-stepped, one_by, session_of}
