@@ -7,6 +7,7 @@ pub mod Order
 pub mod Neighbours
 pub mod OwnOrder
 pub mod ShownEntries
+pub mod ShownRecords
 pub mod StoredRules
 pub mod Span
 pub mod ChangesKept

@@ -34,7 +34,7 @@ pub record WalkLaws : Type 0 where
   pub walks : WalksSeen
   pub own : Laws
 
-seen_at_id : (reader : Reader) (held : List HeldRecord) (tables : List Table) (id : ℕ) → table_with_id (map (seen_table reader held) tables) id ≡ option_map (seen_table reader held) (table_with_id tables id)
+pub seen_at_id : (reader : Reader) (held : List HeldRecord) (tables : List Table) (id : ℕ) → table_with_id (map (seen_table reader held) tables) id ≡ option_map (seen_table reader held) (table_with_id tables id)
 seen_at_id reader held [] id = refl
 seen_at_id reader held (t ∷ tables) id = by (t.id == id) (seen_at_id reader held tables id)
   where
@@ -84,7 +84,7 @@ derived_is walks trees held t reader index sorted each kept (Some rule) e = by r
     by false p = sym (walks.walks t.id reader held rows rule schema (entries_in_tree trees t.id rule.id.0) (rows_rise (table_nodes trees t.id) sorted) (holds p) (each rule.id.0))
 
 -- the same of the tables of the catalog
-abbrev store_of : List StoredTable → List Table → List HeldChange → VersionedTables
+abbrev pub store_of : List StoredTable → List Table → List HeldChange → VersionedTables
 store_of trees tables held = record { tables = map (with_newest trees) tables; held = map held_record held }
 
 at_id : WalkLaws → (tables : List Table) (trees : List StoredTable) (held : List HeldChange) → AreKept tables trees held → ((table : ℕ) → are_sorted (bookmark_entries (table_nodes trees table)) ≡ true) → ((table index : ℕ) → are_sorted (entries_in_tree trees table index) ≡ true)
