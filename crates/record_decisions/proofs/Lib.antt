@@ -4,3 +4,4 @@ pub mod Seen
 pub mod Chains
 pub mod LocksAndDeletes
 pub mod SessionCalls
+pub mod SchemaCalls

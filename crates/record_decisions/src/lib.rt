@@ -4,9 +4,11 @@
 mod answers;
 mod changing;
 mod laws;
+mod schema_calls;
 mod session_calls;
 
 pub use changing::{delete, get_lock};
+pub use schema_calls::change_schema;
 pub use session_calls::{
     begin_session, begin_transaction, commit_transaction, end_session, rollback,
 };

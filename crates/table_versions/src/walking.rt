@@ -88,12 +88,7 @@ impl TableVersions {
     /// its own key.
     ///
     /// It goes over the nodes from the place on to the first whose record the reader sees.
-    pub fn walk_records(
-        &self,
-        table: TableId,
-        place: &Place,
-        reader: Reader,
-    ) -> Option<IndexEntry>
+    pub fn walk_records(&self, table: TableId, place: &Place, reader: Reader) -> Option<IndexEntry>
         ensures { found_pair result ≡ entry_after place.now (own_order (rows_of (table_with_id (seen_tables reader self.now.store) table.0))) }
     {
         a_reader_is_shown_the_records_that_it_sees();
