@@ -9,6 +9,7 @@ pub mod OwnOrder
 pub mod ShownEntries
 pub mod SeenOrder
 pub mod LeastEntries
+pub mod ShownRecords
 pub mod StoredRules
 pub mod Span
 pub mod ChangesKept

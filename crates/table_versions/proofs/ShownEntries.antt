@@ -84,7 +84,7 @@ derived_is walks trees held t reader index sorted each kept (Some rule) e = by r
     by false p = sym (walks.walks t.id reader held rows rule schema (entries_in_tree trees t.id rule.id.0) (rows_rise (table_nodes trees t.id) sorted) (holds p) (each rule.id.0))
 
 -- the same of the tables of the catalog
-abbrev store_of : List StoredTable → List Table → List HeldChange → VersionedTables
+abbrev pub store_of : List StoredTable → List Table → List HeldChange → VersionedTables
 store_of trees tables held = record { tables = map (with_newest trees) tables; held = map held_record held }
 
 at_id : WalkLaws → (tables : List Table) (trees : List StoredTable) (held : List HeldChange) → AreKept tables trees held → ((table : ℕ) → are_sorted (bookmark_entries (table_nodes trees table)) ≡ true) → ((table index : ℕ) → are_sorted (entries_in_tree trees table index) ≡ true)

@@ -25,3 +25,7 @@ is_entry_of (Some rule) schema key values = yields_key rule schema key values
 -- whether it stands for the record that the reader sees under its bookmark
 abbrev pub is_shown : Reader → VersionedTables → ℕ → Schema → Option IndexRule → Pair → Bool
 is_shown reader store table schema rule entry = is_entry_of rule schema entry.0 (seen_record table entry.1 reader (record_in store.tables table entry.1) store.held)
+
+-- whether the reader sees a record under the bookmark of an entry
+abbrev pub is_seen : Reader → VersionedTables → ℕ → Pair → Bool
+is_seen reader store table entry = is_some (seen_record table entry.1 reader (record_in store.tables table entry.1) store.held)

@@ -61,6 +61,13 @@ impl TableVersions {
         self.catalog.greatest()
     }
 
+    /// The catalog: the greatest number that a table was ever given, and the tables without their records.
+    pub fn catalog(&self) -> &Catalog
+        ensures { result.now ≡ record { greatest_table = self.now.greatest_table; tables = map without_rows self.now.store.tables } }
+    {
+        &self.catalog
+    }
+
     /// The tables, in the order of their making, by which their numbers rise; each without its records.
     pub fn tables(&self) -> &[TableDef]
         ensures { result.now ≡ map without_rows self.now.store.tables }

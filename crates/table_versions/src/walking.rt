@@ -1,15 +1,23 @@
 //! The neighbours of a place in an index as a reader sees it.
 
+<<<<<<< HEAD
 ghost use Rattle.std.specs.Prelude.{◌≡◌, ℕ, ◌≤◌, length, IfSome, IsSomeAnd, option_copied, true};
 ghost use Rattle.cursor_nav.specs.Places.{are_sorted, entry_after, entry_before, found_pair};
 ghost use Rattle.database_state.specs.Table.{record_in, rule_with_id, schema_of, table_with_id};
 ghost use Rattle.index_derive.specs.declared.rules.Schema.{Schema};
 ghost use Rattle.index_derive.specs.Entries.{is_legal};
 ghost use Rattle.version_store.specs.declared.calls.Reader.{Reader};
+=======
+ghost use Rattle.std.specs.Prelude.{◌≡◌, ◌≤◌, length, IfSome, IsSomeAnd, option_copied, true};
+ghost use Rattle.cursor_nav.specs.Places.{entry_after, entry_before, found_pair};
+ghost use Rattle.database_state.specs.Table.{record_in, rows_of, rule_with_id, schema_of, table_with_id};
+ghost use Rattle.index_derive.specs.Entries.{is_legal, own_order};
+>>>>>>> 40b4ef600d66164c24781b1a8a7905c35bd5a713
 ghost use Rattle.versioned_tables.specs.HeldRecords.{seen_record};
+ghost use Rattle.versioned_tables.specs.VersionedTables.{seen_tables};
 ghost use Rattle.table_versions.specs.StoredVersions.{seen_entries};
 ghost use Rattle.table_versions.specs.VersionsKept.{only_secondary};
-ghost use Rattle.table_versions.specs.Walks.{is_entry_of, stored_entries};
+ghost use Rattle.table_versions.specs.Walks.{is_entry_of, is_seen, stored_entries};
 
 use crate::store::TableVersions;
 use derived_index::entries_in_order_are_told_by_those_that_are_there;
@@ -83,6 +91,37 @@ impl TableVersions {
             found = stored_before(&self.trees, table, rule, &last);
         }
         None
+    }
+
+    /// The least record of a table beyond a place that the reader sees, in the order of the bookmarks: its bookmark, which is
+    /// its own key.
+    ///
+    /// It goes over the nodes from the place on to the first whose record the reader sees.
+    pub fn walk_records(&self, table: TableId, place: &Place, reader: Reader) -> Option<IndexEntry>
+        ensures { found_pair result ≡ entry_after place.now (own_order (rows_of (table_with_id (seen_tables reader self.now.store) table.0))) }
+    {
+        a_reader_is_shown_the_records_that_it_sees();
+        entries_in_order_are_told_by_those_that_are_there();
+        self.trees.nodes_are_in_order();
+        let mut found = stored_after(&self.trees, table, None, place);
+        while let Some(entry) = found {
+            if self.shows_record(table, &entry, reader) {
+                return Some(entry);
+            }
+            let last = Place::On(entry.key, entry.bookmark);
+            found = stored_after(&self.trees, table, None, &last);
+        }
+        None
+    }
+
+    // Whether the reader sees a record under the bookmark of the entry.
+    fn shows_record(&self, table: TableId, entry: &IndexEntry, reader: Reader) -> bool
+        ensures { result ≡ is_seen reader self.now.store table.0 (entry.now.key, entry.now.bookmark) }
+    {
+        match self.look_up(table, entry.bookmark.as_bytes(), reader) {
+            Some(_) => true,
+            None => false,
+        }
     }
 
     // Whether an entry of the index stands for the record that the reader sees under its bookmark.

@@ -1,0 +1,25 @@
+//! Laws: what the engine holds tells what the definitions ask of a state that it holds. The functions do nothing.
+
+ghost use Rattle.record_decisions.specs.Changing.{SeesRecords, TellsConflicts, TellsRoom};
+
+use versioned_tables::{
+    a_reader_finds_the_records_that_it_is_shown, a_session_is_shown_its_view,
+    held_changes_tell_the_span, held_changes_tell_write_conflicts,
+};
+
+/// A session is shown the records of its view.
+pub(crate) fn sessions_see_their_records()
+    ensures { SeesRecords }
+{
+    a_session_is_shown_its_view();
+    a_reader_finds_the_records_that_it_is_shown();
+}
+
+/// A change meets the same conflicts, and leaves the same room.
+pub(crate) fn changes_are_refused_alike()
+    ensures conflicts { TellsConflicts }
+    ensures room { TellsRoom }
+{
+    held_changes_tell_write_conflicts();
+    held_changes_tell_the_span();
+}
