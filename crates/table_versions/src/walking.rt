@@ -1,18 +1,9 @@
 //! The neighbours of a place in an index as a reader sees it.
 
-<<<<<<< HEAD
-ghost use Rattle.std.specs.Prelude.{◌≡◌, ℕ, ◌≤◌, length, IfSome, IsSomeAnd, option_copied, true};
-ghost use Rattle.cursor_nav.specs.Places.{are_sorted, entry_after, entry_before, found_pair};
-ghost use Rattle.database_state.specs.Table.{record_in, rule_with_id, schema_of, table_with_id};
-ghost use Rattle.index_derive.specs.declared.rules.Schema.{Schema};
-ghost use Rattle.index_derive.specs.Entries.{is_legal};
-ghost use Rattle.version_store.specs.declared.calls.Reader.{Reader};
-=======
 ghost use Rattle.std.specs.Prelude.{◌≡◌, ◌≤◌, length, IfSome, IsSomeAnd, option_copied, true};
 ghost use Rattle.cursor_nav.specs.Places.{entry_after, entry_before, found_pair};
 ghost use Rattle.database_state.specs.Table.{record_in, rows_of, rule_with_id, schema_of, table_with_id};
 ghost use Rattle.index_derive.specs.Entries.{is_legal, own_order};
->>>>>>> 40b4ef600d66164c24781b1a8a7905c35bd5a713
 ghost use Rattle.versioned_tables.specs.HeldRecords.{seen_record};
 ghost use Rattle.versioned_tables.specs.VersionedTables.{seen_tables};
 ghost use Rattle.table_versions.specs.StoredVersions.{seen_entries};
