@@ -1,5 +1,5 @@
 -- The least entry of a record in an index that a reader sees.
-use Rattle.std.proofs.Common.{◌≡◌, ℕ, ◌≤◌, All, Bool, true, false, not, ◌&&◌, cond, List, [], ◌∷◌, length, Option, Some, None, Result, Ok, Err, filter, find, map, option_map, refl, sym, ap, subst, ◌∙◌}
+use Rattle.std.proofs.Common.{◌≡◌, ℕ, ◌≤◌, All, Bool, true, false, ◌&&◌, cond, List, [], ◌∷◌, length, Option, Some, None, Result, Ok, Err, find, map, option_map, refl, sym, ap, subst, ◌∙◌}
 use Rattle.std.specs.Prelude.{◌==◌, bytes_eq, IfSome, IsOk, IsSomeAnd, is_none, is_some, unwrap_or}
 use Rattle.std.specs.List.{AllByRecursion, flat_map}
 use Rattle.std.specs.Ordering.{eq_by_cmp, nat_cmp}
@@ -20,7 +20,7 @@ use Rattle.index_derive.specs.Entries.{KeyRefusal, NullKeyDisallowed, KeyTruncat
 use Rattle.jet_base.specs.declared.replies.Jet.TheVariants as jet
 use Rattle.jet_catalog.specs.Catalog.{CatalogState}
 use Rattle.page_image.specs.Page.{Node}
-use Rattle.record_changes.proofs.Tests.{and_left, impossible, same_bytes, same_number}
+use Rattle.record_changes.proofs.Tests.{and_left, and_right, impossible, same_bytes, same_number}
 use Rattle.table_trees.specs.StoredNodes.{IsShortNode, bookmark_entries}
 use Rattle.table_trees.specs.StoredTables.{StoredTable, table_nodes}
 use Rattle.version_store.specs.declared.calls.Reader.{Reader}
@@ -35,7 +35,7 @@ use Rattle.table_versions.specs.VersionsView.{stored_versions, with_newest}
 use Rattle.table_versions.specs.VersionsKept.{AreKept, IsKeptChange, IsKeptTable, IsRowUnder, only_secondary}
 use Rattle.table_versions.proofs.NodeRecords.{record_at, turned}
 use Rattle.table_versions.proofs.OwnOrder.{order_is, rows_rise, seen_is_variant, seen_rise}
-use Rattle.table_versions.proofs.SeenRecords.{hidden_stands, record_seen, seen_is}
+use Rattle.table_versions.proofs.SeenRecords.{record_seen, seen_is}
 use Rattle.table_versions.proofs.ShownEntries.{seen_at_id}
 use Rattle.table_versions.proofs.Tables.{found_number, table_at}
 
@@ -186,7 +186,7 @@ seen_indexed tables trees table bookmark reader (h ∷ held) kept = by (hides ta
     by true hit rest =
         let own : h.table ≡ table = same_number h.table table (and_left (h.table == table) (bytes_eq h.bookmark bookmark) (and_left (is_record table bookmark h) (is_rewrite h.kind) (and_left (is_record table bookmark h && is_rewrite h.kind) _ hit))) in
         subst (λ (n : ℕ). IsSeenIndexed (table_with_id tables n) (seen_before h.before)) own
-        (before_indexed (table_with_id tables h.table) h.bookmark h.before (kept.0.before (hidden_stands table bookmark reader h hit)))
+        (before_indexed (table_with_id tables h.table) h.bookmark h.before (kept.0.before (and_right (is_record table bookmark h) (is_rewrite h.kind) (and_left (is_record table bookmark h && is_rewrite h.kind) _ hit))))
     by false miss rest = rest
 
 -- the newest record, or the one before a change, is one of the table

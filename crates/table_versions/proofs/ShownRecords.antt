@@ -12,7 +12,7 @@ use Rattle.table_trees.specs.StoredTables.{StoredTable, table_nodes}
 use Rattle.version_store.specs.declared.calls.Reader.{Reader}
 use Rattle.version_store.specs.HeldChanges.{HeldChange}
 use Rattle.versioned_tables.specs.HeldRecords.{HeldRecord, seen_record}
-use Rattle.versioned_tables.specs.VersionedTables.{VersionedTables, seen_rows, seen_table, seen_tables}
+use Rattle.versioned_tables.specs.VersionedTables.{seen_rows, seen_table, seen_tables}
 use Rattle.versioned_tables.specs.Variants.{has_variant}
 use Rattle.table_versions.specs.RecordRows.{held_record, rows_of_nodes}
 use Rattle.table_versions.specs.StoredVersions.{StoredVersions}

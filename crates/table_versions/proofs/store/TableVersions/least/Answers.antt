@@ -1,4 +1,4 @@
-use Rattle.std.proofs.Common.{◌≡◌, Some, None, option_map, refl, sym, ap, ◌∙◌}
+use Rattle.std.proofs.Common.{Some, None, option_map, refl, sym, ap, ◌∙◌}
 use Rattle.column_set.specs.Rows.{here_fields}
 use Rattle.database_state.specs.Table.{rule_with_id}
 use Rattle.table_versions.specs.VersionsKept.{only_secondary}

@@ -1,15 +1,10 @@
-use Rattle.std.proofs.Common.{◌≡◌, Bool, cond, List, Option, Some, filter, sym, ap, subst, ◌∙◌}
-use Rattle.std.specs.Prelude.{◌<◌, is_some, option_map}
-use Rattle.column_set.specs.Rows.{RowFields, here_fields}
-use Rattle.column_set.specs.RecordValues.{RecordFields}
+use Rattle.std.proofs.Common.{Bool, cond, List, Option, Some, filter, sym, ap, subst, ◌∙◌}
+use Rattle.std.specs.Prelude.{◌<◌}
 use Rattle.cursor_nav.specs.Places.{Pair, entry_after, found_pair}
-use Rattle.database_state.specs.Table.{rows_of, table_with_id}
 use Rattle.index_derive.specs.declared.entries.IndexEntry.{IndexEntry}
 use Rattle.index_derive.specs.declared.entries.Place.TheVariants.{On}
-use Rattle.index_derive.specs.Entries.{own_order}
 use Rattle.table_trees.specs.StoredNodes.{bookmark_entries}
 use Rattle.table_trees.specs.StoredTables.{table_nodes}
-use Rattle.versioned_tables.specs.VersionedTables.{seen_tables}
 use Rattle.table_versions.specs.Walks.{is_seen}
 use Rattle.table_versions.proofs.Neighbours.{fewer_left, left_from, shown_after, shown_from}
 use Rattle.table_versions.proofs.ShownRecords.{seen_of_nodes}
