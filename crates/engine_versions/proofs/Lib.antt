@@ -6,6 +6,7 @@ pub mod AfterEntries
 pub mod Cleans
 pub mod SameTables
 pub mod Telling
+pub mod OpenLevels
 pub mod WellFormed
 pub mod Beginning
 pub mod Room

@@ -20,6 +20,6 @@ pub use entries::{
 };
 pub use formed::{sessions_in_step_are_well_formed, tables_are_well_formed};
 pub use told::{
-    a_session_sees_its_view, conflicts_are_told, newest_records_are_told, sessions_are_told,
-    tables_are_told, uses_are_told,
+    a_session_sees_its_view, conflicts_are_told, newest_records_are_told,
+    open_changes_stand_by_rising_levels, sessions_are_told, tables_are_told, uses_are_told,
 };

@@ -1,6 +1,7 @@
 //! What the engine tells of a state that it holds.
 
-ghost use Rattle.std.specs.Prelude.{◌≡◌, ◌==◌, ℕ, Bool, true, false, ◌||◌, List, length, map, Option, option_map};
+ghost use Rattle.std.specs.Prelude.{◌≡◌, ◌==◌, ◌≤◌, ℕ, Bool, true, false, ◌||◌, List, length, map, Option, option_map};
+ghost use Rattle.std.specs.List.{AllByRecursion};
 ghost use Rattle.column_set.specs.declared.changes.Change.{Change};
 ghost use Rattle.index_derive.specs.declared.rules.IndexRule.{IndexRule};
 ghost use Rattle.index_derive.specs.declared.rules.Schema.{Schema};
@@ -15,7 +16,8 @@ ghost use Rattle.jet_catalog.specs.Catalog.{catalog_of, without_rows};
 ghost use Rattle.record_changes.specs.Records.{records_of};
 ghost use Rattle.version_cleanup.specs.Cleaning.{reader_in};
 ghost use Rattle.version_cleanup.specs.LiveSessions.{has_other_transaction, is_live, levels_in, oldest_begin, transaction_in, without_snapshot};
-ghost use Rattle.versioned_tables.specs.HeldRecords.{has_conflict, has_key_conflict, span};
+ghost use Rattle.version_history.specs.History.{EachTwo};
+ghost use Rattle.versioned_tables.specs.HeldRecords.{has_conflict, has_key_conflict, is_open_of, span};
 ghost use Rattle.versioned_tables.specs.Holding.{begin_of};
 ghost use Rattle.versioned_tables.specs.VersionedTables.{seen_tables};
 ghost use Rattle.engine_versions.specs.EngineState.{EngineState, has_table_open};
@@ -72,4 +74,12 @@ pub fn conflicts_are_told()
 pub fn newest_records_are_told()
     ensures newest { (engine : EngineState) (state : DatabaseState) → HoldsState engine state → (table : ℕ) (bookmark : List ℕ) → record_in engine.store.tables table bookmark ≡ record_in (newest state) table bookmark }
     ensures committed { (engine : EngineState) (state : DatabaseState) → HoldsState engine state → (session : ℕ) → (levels state session == 0) ≡ true → has_other_transaction session engine.sessions ≡ false → engine.store.tables ≡ state.tables }
+{}
+
+/// The levels of a session's open changes do not fall from the older to the newer, and each is a level of its transaction.
+pub fn open_changes_stand_by_rising_levels()
+    ensures rise { (engine : EngineState) (state : DatabaseState) → HoldsState engine state → (session : ℕ)
+        → EachTwo (λ earlier later. is_open_of session earlier ≡ true → is_open_of session later ≡ true → earlier.level ≤ later.level) engine.store.held }
+    ensures levels { (engine : EngineState) (state : DatabaseState) → HoldsState engine state → (session most : ℕ) → levels_in session engine.sessions ≤ most
+        → AllByRecursion (λ held. is_open_of session held ≡ true → (1 ≤ held.level) × (held.level ≤ most)) engine.store.held }
 {}

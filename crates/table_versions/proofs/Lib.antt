@@ -36,6 +36,8 @@ pub mod PutBack
 pub mod UndoneThere
 pub mod OpenUndone
 pub mod UndoneLevel
+pub mod UndoneInTurns
+pub mod UndoneSession
 pub mod PutsBack
 pub mod Stepping
 pub mod MadeTables

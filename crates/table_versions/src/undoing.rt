@@ -1,11 +1,12 @@
 //! Open changes are undone.
 
-ghost use Rattle.std.specs.Prelude.{◌≡◌, ℕ, true, List, Some, [], map, IfSome, option_copied, option_map, slice_get, unwrap_or};
-ghost use Rattle.std.specs.List.{list_any};
+ghost use Rattle.std.specs.Prelude.{◌≡◌, ◌≤◌, ℕ, true, List, Some, [], map, IfSome, option_copied, option_map, slice_get, unwrap_or};
+ghost use Rattle.std.specs.List.{AllByRecursion, list_any};
 ghost use Rattle.database_state.specs.Table.{Table, schema_of, table_with_id};
 ghost use Rattle.table_trees.specs.StoredTables.{table_nodes};
+ghost use Rattle.version_history.specs.History.{EachTwo};
 ghost use Rattle.version_store.specs.HeldChanges.{HeldChange, is_rewrite};
-ghost use Rattle.versioned_tables.specs.HeldRecords.{is_open_at};
+ghost use Rattle.versioned_tables.specs.HeldRecords.{is_open_at, is_open_of};
 ghost use Rattle.versioned_tables.specs.VersionedTables.{with_changes_undone, with_last_undone};
 ghost use Rattle.table_versions.specs.GoneKeys.{AreRows};
 ghost use Rattle.table_versions.specs.LeftVariants.{DistinctIds};
@@ -29,7 +30,24 @@ use versioned_tables::changes_undone_one_by_one_are_undone_at_once;
 /// The most bytes of a row.
 const LARGEST_ROW: usize = 1700;
 
+/// The most levels of a transaction.
+const MOST_LEVELS: u8 = 7;
+
 impl TableVersions {
+    /// All open changes of the session are undone, the newest first: each record is again the one before it. They stand at the
+    /// levels 1 to 7, which do not fall from the older to the newer. It takes no memory.
+    pub fn undo_session(&mut self, session: Session)
+        requires rise { EachTwo (λ earlier later. is_open_of session.0 earlier ≡ true → is_open_of session.0 later ≡ true → earlier.level ≤ later.level) self.old.store.held }
+        requires levels { AllByRecursion (λ held. is_open_of session.0 held ≡ true → (1 ≤ held.level) × (held.level ≤ 7)) self.old.store.held }
+        ensures { self.new ≡ record self.old { store = with_changes_undone (is_open_of session.0) self.old.store } }
+    {
+        let mut level = MOST_LEVELS;
+        while level > 0 {
+            self.undo_level(session, level);
+            level -= 1;
+        }
+    }
+
     /// The session's open changes at the level are undone, the newest first: each record is again the one before it. It takes
     /// no memory.
     pub fn undo_level(&mut self, session: Session, level: u8)
