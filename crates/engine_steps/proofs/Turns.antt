@@ -26,7 +26,7 @@ use Rattle.engine_steps.proofs.Fitting.{lawful_by_kind}
 
 -- ---- the sessions after a begin that is taken back
 
-one : ℕ → (LiveState → LiveState) → LiveState → LiveState
+abbrev one : ℕ → (LiveState → LiveState) → LiveState → LiveState
 one label change x = cond (x.label == label) (change x) x
 
 apart : (a b : ℕ) → b < a → (a == b) ≡ false
