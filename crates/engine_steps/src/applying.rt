@@ -76,11 +76,7 @@ fn apply_entries(engine: &mut Engine, step: &Step) -> Result<(), OutOfMemory>
 }
 
 // An entry with a begin before it and a commit behind it. Where there is no memory the begin is taken back.
-fn apply_alone(
-    engine: &mut Engine,
-    session: Session,
-    kind: &EntryKind,
-) -> Result<(), OutOfMemory>
+fn apply_alone(engine: &mut Engine, session: Session, kind: &EntryKind) -> Result<(), OutOfMemory>
     requires lawful { MayTake engine.old (Alone (entry_by session.0 kind.now)) }
     requires room { HasRoomForEnds engine.old }
     requires here { is_made_here kind.now ≡ true }

@@ -28,11 +28,7 @@ pub(crate) fn enter(engine: &mut Engine, session: Session) -> Result<(), OutOfMe
 }
 
 /// A cursor of the session is opened on the table. Where memory fails all is as it was.
-pub(crate) fn open(
-    engine: &mut Engine,
-    session: Session,
-    table: TableId,
-) -> Result<(), OutOfMemory>
+pub(crate) fn open(engine: &mut Engine, session: Session, table: TableId) -> Result<(), OutOfMemory>
     requires number { engine.old.number ≤ 2 ^ 35 + 1 }
     ensures done { OnOk result (engine.new ≡ effect_on engine.old session.0 (entry.Open table)) }
     ensures kept { OnErr result (engine.new ≡ engine.old) }
