@@ -1,6 +1,6 @@
 -- A lawful change can be made by the tables with versions.
-use Rattle.std.proofs.Common.{◌≡◌, ℕ, ◌+◌, ◌<◌, ◌≤◌, Bool, true, false, not, ◌&&◌, ◌||◌, List, [], ◌∷◌, length, Option, Some, None, refl, sym, ap, subst, ◌∙◌, arith}
-use Rattle.std.specs.Prelude.{◌==◌, ◌^◌, nat_le, nat_lt, bytes_eq, is_none, is_some, option_map, unwrap_or, IfSome, IsSomeAnd, IsTrue, MatchOption}
+use Rattle.std.proofs.Common.{◌≡◌, ℕ, ◌+◌, ◌<◌, ◌≤◌, Bool, true, false, not, ◌&&◌, ◌||◌, List, length, Option, Some, None, refl, sym, ap, subst, ◌∙◌, arith}
+use Rattle.std.specs.Prelude.{◌==◌, ◌^◌, nat_le, nat_lt, bytes_eq, is_some, option_map, unwrap_or, IfSome, IsSomeAnd, IsTrue, MatchOption}
 use Rattle.std.specs.List.{AllByRecursion, list_all}
 use Rattle.std.proofs.lemmas.Bool.Decides.{nat_tests}
 use Rattle.jet_base.specs.ColumnType.{big_endian}
@@ -12,7 +12,7 @@ use Rattle.column_set.specs.Rows.{all_here, is_all_here, is_row, largest_row}
 use Rattle.index_derive.specs.declared.log.EntryKind.TheVariants as entry
 use Rattle.index_derive.specs.declared.rules.IndexRule.{IndexRule}
 use Rattle.index_derive.specs.declared.rules.Schema.{Schema}
-use Rattle.index_derive.specs.Entries.{is_legal, primary_key}
+use Rattle.index_derive.specs.Entries.{primary_key}
 use Rattle.database_state.specs.Table.{Rows, Table, primary_rule, record_in, row_at, rows_of, schema_of, table_with_id}
 use Rattle.database_state.specs.State.{DatabaseState, Transaction, levels, levels_of, transaction_of}
 use Rattle.database_state.specs.Conflicts.{has_write_conflict}
@@ -20,13 +20,12 @@ use Rattle.database_state.specs.View.{newest, view}
 use Rattle.database_state.specs.Lawful.{has_free_keys, is_bookmark_of, is_copied_in, is_indexable, is_lawful_at, is_lawful_change, is_lawful_put, keeps_escrow}
 use Rattle.record_changes.specs.Records.{records_of}
 use Rattle.record_changes.proofs.Tests.{and_left, and_right, impossible, not_true, same_bytes, same_number}
-use Rattle.session_local.specs.WellFormed.{number_of_column, stands_in}
-use Rattle.session_local.specs.SessionSide.{are_distinct}
+use Rattle.session_local.specs.WellFormed.{stands_in}
 use Rattle.version_history.proofs.Lists.{all_weaker}
 use Rattle.version_history.proofs.Unhindered.{finds_newest}
 use Rattle.version_keys.specs.UniqueKeys.{HasUniqueIndexes, IsSoundIndex, IsUniqueIndex}
 use Rattle.version_keys.proofs.IndexNumbers.{all_primary_first}
-use Rattle.version_records.specs.Bookmarks.{is_bookmark, is_entry_number}
+use Rattle.version_records.specs.Bookmarks.{is_bookmark}
 use Rattle.version_records.proofs.EntryNumbers.{entry_number-own}
 use Rattle.version_records.proofs.PrimaryKeys.{found_passes, of_found}
 use Rattle.version_records.proofs.Standing.{bookmarks_seen}

@@ -1,4 +1,4 @@
-use Rattle.std.proofs.Common.{◌≡◌, ℕ, ◌+◌, ◌-◌, ◌&&◌, true, List, refl, sym, ap, subst, ◌∙◌}
+use Rattle.std.proofs.Common.{◌≡◌, ℕ, ◌-◌, ◌&&◌, true, List, refl, sym, ap, subst, ◌∙◌}
 use Rattle.std.specs.Prelude.{drop, is_some, nat_lt}
 use Rattle.record_changes.proofs.Tests.{and_left, and_right, and_second}
 use Rattle.versioned_tables.specs.HeldRecords.{HeldRecord}

@@ -1,4 +1,4 @@
-use Rattle.std.proofs.Common.{◌≡◌, ◌<◌, List, length, refl, sym, ap, subst, ◌∙◌}
+use Rattle.std.proofs.Common.{◌<◌, List, length, refl, sym, ap, subst, ◌∙◌}
 use Rattle.versioned_tables.specs.HeldRecords.{HeldRecord}
 use Rattle.table_versions.specs.StoredVersions.{StoredVersions}
 use Rattle.engine_steps.specs.Cleans.{without_unneeded}
