@@ -1,0 +1,120 @@
+-- A record that fits columns that are built stands in its row.
+use Rattle.std.proofs.Common.{◌≡◌, ℕ, ◌≤◌, Bool, true, false, ◌&&◌, ◌||◌, cond, List, [], ◌∷◌, length, Option, Some, None, refl, sym, ap, subst, ◌∙◌, arith}
+use Rattle.std.specs.Prelude.{◌==◌, ◌^◌, not, find, nat_le, nat_lt, bytes_eq}
+use Rattle.std.specs.List.{list_all}
+use Rattle.std.proofs.lemmas.Bool.Decides.{nat_tests}
+use Rattle.jet_base.specs.declared.words.ColType.{ColType}
+use Rattle.jet_base.specs.declared.words.ColType.TheVariants as kind
+use Rattle.jet_base.specs.TypeKinds.{is_long_type}
+use Rattle.column_set.specs.declared.columns.Column.{Column}
+use Rattle.column_set.specs.RecordValues.{RecordFields, column_of_id, value_fits, values_fit}
+use Rattle.column_set.specs.Rows.{are_short, is_all_here}
+use Rattle.database_state.specs.Table.{GreatestColumns}
+use Rattle.record_changes.proofs.Tests.{and_left, and_right, and_both, impossible, same_number}
+use Rattle.session_local.specs.WellFormed.{stands_in}
+use Rattle.version_records.proofs.PrimaryKeys.{found_passes}
+use Rattle.engine_versions.specs.BuiltTables.{are_in_range, is_built_column, is_given_number}
+
+-- ---- values of types that are not long
+
+width_short : (width n : ℕ) → nat_le width 255 ≡ true → (n == width) ≡ true → nat_le n 255 ≡ true
+width_short width n small same = ap (λ (n : ℕ). nat_le n 255) (same_number n width same) ∙ small
+
+neither : (a b : Bool) → ((a && false) || (b && false)) ≡ false
+neither true true = refl
+neither true false = refl
+neither false true = refl
+neither false false = refl
+
+bit_short : (value : List ℕ) → (bytes_eq value (0 ∷ []) || bytes_eq value (1 ∷ [])) ≡ true → nat_le (length value) 255 ≡ true
+bit_short [] h = impossible h
+bit_short (x ∷ []) h = refl
+bit_short (x ∷ y ∷ value) h = impossible (sym (neither (x == 0) (x == 1)) ∙ h)
+
+value_short : (type : ColType) (value : List ℕ) → not (is_long_type type) ≡ true → value_fits type value ≡ true → nat_le (length value) 255 ≡ true
+value_short kind.Bit value built h = bit_short value h
+value_short kind.UnsignedByte value built h = width_short 1 (length value) refl h
+value_short kind.Short value built h = width_short 2 (length value) refl h
+value_short kind.UnsignedShort value built h = width_short 2 (length value) refl h
+value_short kind.Long value built h = width_short 4 (length value) refl h
+value_short kind.UnsignedLong value built h = width_short 4 (length value) refl h
+value_short kind.LongLong value built h = width_short 8 (length value) refl h
+value_short kind.Currency value built h = width_short 8 (length value) refl h
+value_short kind.Guid value built h = width_short 16 (length value) refl h
+value_short kind.Binary value built h = h
+value_short kind.Text value built h = h
+value_short kind.LongBinary value built h = impossible built
+value_short kind.LongText value built h = impossible built
+
+values_short : (type : ColType) (values : List (List ℕ)) → not (is_long_type type) ≡ true → list_all (value_fits type) values ≡ true → are_short values ≡ true
+values_short type [] built h = refl
+values_short type (value ∷ values) built h =
+    and_both (nat_le (length value) 255) (are_short values)
+    (value_short type value built (and_left (value_fits type value) (list_all (value_fits type) values) h))
+    (values_short type values built (and_right (value_fits type value) (list_all (value_fits type) values) h))
+
+-- ---- numbers that were given
+
+low_number : (id most : ℕ) → nat_le id most ≡ true → most ≤ 511 → nat_lt id (2 ^ 16) ≡ true
+low_number id most h few = grind (arith, nat_tests)
+
+le_from : (a b : ℕ) → nat_le a b ≡ true → a ≤ b
+le_from a b h = grind (arith, nat_tests)
+
+given_by : (id tagged : ℕ) (fixed variable low middle : Bool) → nat_le id 127 ≡ low → nat_le id 255 ≡ middle → tagged ≤ 511 → cond low fixed (cond middle variable (nat_le id tagged)) ≡ true → nat_lt id (2 ^ 16) ≡ true
+given_by id tagged fixed variable true middle el em few h = low_number id 127 el (omega arith)
+given_by id tagged fixed variable false true el em few h = low_number id 255 em (omega arith)
+given_by id tagged fixed variable false false el em few h = low_number id tagged h few
+
+given_low : (greatest : GreatestColumns) (column : Column) → are_in_range greatest ≡ true → is_given_number greatest column ≡ true → nat_lt column.id.0 (2 ^ 16) ≡ true
+given_low greatest column range given =
+    given_by column.id.0 greatest.tagged (nat_le column.id.0 greatest.fixed) (nat_le column.id.0 greatest.variable) (nat_le column.id.0 127) (nat_le column.id.0 255) refl refl
+    (le_from greatest.tagged 511 (and_right (nat_le greatest.fixed 127 && nat_le 127 greatest.variable && nat_le greatest.variable 255 && nat_le 255 greatest.tagged) (nat_le greatest.tagged 511) range)) given
+
+-- ---- a field under its column
+
+abbrev fits_found : List (List ℕ) → Option Column → Bool
+fits_found values found = elim found [ Some column ↦ values_fit column values | None ↦ false ]
+
+-- the columns of a table, with the numbers that were given
+pub record AreColumns (greatest : GreatestColumns) (columns : List Column) : Type 0 where
+  pub range : are_in_range greatest ≡ true
+  pub given : list_all (is_given_number greatest) columns ≡ true
+  pub built : list_all is_built_column columns ≡ true
+
+found_all : (test p : Column → Bool) (columns : List Column) (column : Column) → list_all p columns ≡ true → find test columns ≡ Some column → p column ≡ true
+found_all test p [] column h e = absurd (none column e)
+  where
+    none : (x : Column) → None ≡ Some x → ⊥
+    none x e = cc
+found_all test p (c ∷ columns) column h e = elim (test c) as (λ b. cond b (Some c) (find test columns) ≡ Some column → p column ≡ true) [
+  | true ↦ λ f. subst (λ (x : Column). p x ≡ true) (same c column f) (and_left (p c) (list_all p columns) h)
+  | false ↦ λ f. found_all test p columns column (and_right (p c) (list_all p columns) h) f
+] e
+  where
+    same : (a b : Column) → Some a ≡ Some b → a ≡ b
+    same a b e = cc
+
+field_found : (greatest : GreatestColumns) (columns : List Column) (field : ℕ × List (List ℕ)) (found : Option Column) → AreColumns greatest columns → column_of_id columns field.0 ≡ found → fits_found field.1 found ≡ true
+    → (are_short field.1 ≡ true) × (nat_lt field.0 (2 ^ 16) ≡ true)
+field_found greatest columns field None are is fits = impossible fits
+field_found greatest columns field (Some column) are is fits =
+    let at : Column → Bool = λ c. c.id.0 == field.0 in
+    let built = found_all at is_built_column columns column are.built is in
+    let given = found_all at (is_given_number greatest) columns column are.given is in
+    let same = same_number column.id.0 field.0 (found_passes at columns column is) in (
+      values_short column.kind field.1
+          (and_left (not (is_long_type column.kind)) (not (column.escrow || (column.version || column.auto))) built)
+          (and_right (column.multi || nat_le (length field.1) 1) (list_all (value_fits column.kind) field.1) fits),
+      ap (λ (n : ℕ). nat_lt n (2 ^ 16)) (sym same) ∙ given_low greatest column are.range given,
+    )
+
+pub each_field : (greatest : GreatestColumns) (columns : List Column) (fields : RecordFields) → AreColumns greatest columns → list_all (stands_in columns) fields ≡ true
+    → (is_all_here fields ≡ true) × (list_all (λ field. nat_lt field.0 (2 ^ 16)) fields ≡ true)
+each_field greatest columns [] are fits = (refl, refl)
+each_field greatest columns (field ∷ fields) are fits =
+    let one = field_found greatest columns field (column_of_id columns field.0) are refl (and_left (stands_in columns field) (list_all (stands_in columns) fields) fits) in
+    let rest = each_field greatest columns fields are (and_right (stands_in columns field) (list_all (stands_in columns) fields) fits) in (
+      and_both (are_short field.1) (is_all_here fields) one.0 rest.0,
+      and_both (nat_lt field.0 (2 ^ 16)) (list_all (λ field. nat_lt field.0 (2 ^ 16)) fields) one.1 rest.1,
+    )

@@ -1,0 +1,22 @@
+-- When the tables with versions can make a change of a record.
+use Rattle.std.specs.Prelude.{◌≡◌, true, is_some, IsSomeAnd, IsTrue}
+use Rattle.column_set.specs.Record.{is_record}
+use Rattle.column_set.specs.declared.changes.Change.{Change}
+use Rattle.column_set.specs.declared.changes.Change.TheVariants.{Put, Drop, Hold, Add}
+use Rattle.database_state.specs.Table.{record_in, table_with_id}
+use Rattle.versioned_tables.specs.VersionedTables.{VersionedTables}
+use Rattle.table_versions.specs.PutRecords.{IsStorable}
+
+-- A record that is put can be stored in its table, one that is dropped is there, and a lock is in a table. Sums are not built.
+abbrev pub CanChange : VersionedTables → Change → Type 0
+CanChange store (Put table bookmark copied values) = IsSomeAnd (table_with_id store.tables table.0) (λ t. IsStorable t bookmark values)
+CanChange store (Drop table bookmark) = is_some (record_in store.tables table.0 bookmark) ≡ true
+CanChange store (Hold table bookmark) = is_some (table_with_id store.tables table.0) ≡ true
+CanChange store (Add table bookmark column amount) = ⊥
+
+-- the record of a put has its columns in order, each with a value
+abbrev pub IsFormed : Change → Type 0
+IsFormed (Put table bookmark copied values) = IsTrue (is_record values)
+IsFormed (Drop table bookmark) = Unit {0}
+IsFormed (Hold table bookmark) = Unit {0}
+IsFormed (Add table bookmark column amount) = Unit {0}

@@ -1,0 +1,66 @@
+-- When an entry can be made, and which need memory.
+use Rattle.std.specs.Prelude.{◌≡◌, ℕ, ◌-◌, Bool, true, false, Some}
+use Rattle.jet_base.specs.Ids.{session_id}
+use Rattle.index_derive.specs.declared.log.Entry.{Entry}
+use Rattle.index_derive.specs.declared.log.EntryKind.{EntryKind}
+use Rattle.index_derive.specs.declared.log.EntryKind.TheVariants as entry
+use Rattle.index_derive.specs.declared.log.Step.{Step}
+use Rattle.index_derive.specs.declared.log.Step.TheVariants.{One, Alone}
+use Rattle.index_derive.specs.Steps.{entries_of_step}
+use Rattle.database_state.specs.State.{DatabaseState}
+use Rattle.database_state.specs.Lawful.{is_lawful}
+use Rattle.lawful_answers.specs.LawfulSteps.{AreLawful}
+use Rattle.version_cleanup.specs.LiveSessions.{ended, with_session}
+use Rattle.engine_versions.specs.BuiltTables.{AllMakeBuilt, makes_built}
+use Rattle.engine_versions.specs.EngineState.{EngineState}
+use Rattle.engine_versions.specs.HoldsState.{HoldsState}
+
+-- an entry of the session
+abbrev pub entry_by : ℕ → EntryKind → Entry
+entry_by session kind = record { session = session_id session; kind = kind }
+
+-- The entry is lawful in a state that the engine holds, and makes only what is built.
+pub record MayCome (engine : EngineState) (made : Entry) : Type 0 where
+  pub state : DatabaseState
+  pub holds : HoldsState engine state
+  pub lawful : is_lawful state made ≡ true
+  pub built : makes_built made.kind ≡ true
+
+-- The entries of the step are lawful, each in its turn, from a state on that the engine holds, and make only what is built.
+pub record MayTake (engine : EngineState) (step : Step) : Type 0 where
+  pub state : DatabaseState
+  pub holds : HoldsState engine state
+  pub lawful : AreLawful state (entries_of_step (Some step))
+  pub built : AllMakeBuilt (entries_of_step (Some step))
+
+-- the engine as it was before the last entry, by which the session's transaction began
+abbrev pub begin_taken_back : ℕ → EngineState → EngineState
+begin_taken_back session engine = record engine { number = engine.number - 1; sessions = with_session session ended engine.sessions }
+
+-- ---- memory
+
+-- A session that begins, a cursor that opens, a change of a record and a schema step may find no memory; what ends something,
+-- and a level that begins, takes none.
+abbrev pub may_lack_memory : EntryKind → Bool
+may_lack_memory entry.Enter = true
+may_lack_memory (entry.Open table) = true
+may_lack_memory (entry.Change made) = true
+may_lack_memory (entry.Schema made) = true
+may_lack_memory _ = false
+
+abbrev pub step_may_lack_memory : Step → Bool
+step_may_lack_memory (One made) = may_lack_memory made.kind
+step_may_lack_memory (Alone made) = may_lack_memory made.kind
+
+-- ---- what this crate makes
+
+-- Not yet: the entries that undo all levels of a session, and schema steps.
+abbrev pub is_made_here : EntryKind → Bool
+is_made_here entry.Leave = false
+is_made_here entry.UndoAll = false
+is_made_here (entry.Schema made) = false
+is_made_here _ = true
+
+abbrev pub step_is_made_here : Step → Bool
+step_is_made_here (One made) = is_made_here made.kind
+step_is_made_here (Alone made) = is_made_here made.kind

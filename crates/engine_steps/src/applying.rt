@@ -1,0 +1,161 @@
+//! A step takes effect.
+
+ghost use Rattle.std.specs.Prelude.{◌≡◌, ◌≤◌, true, Some, OnOk, OnErr};
+ghost use Rattle.index_derive.specs.declared.log.EntryKind.TheVariants as entry;
+ghost use Rattle.index_derive.specs.declared.log.Step.TheVariants.{Alone};
+ghost use Rattle.index_derive.specs.Steps.{entries_of_step};
+ghost use Rattle.engine_versions.specs.EngineState.{HasRoomForEnds};
+ghost use Rattle.engine_versions.specs.EngineSteps.{cleaned_for, cleans_first, effect_on, engine_after_all, engine_after_step, step_cleans};
+ghost use Rattle.engine_steps.specs.Steps.{MayCome, MayTake, begin_taken_back, entry_by, is_made_here, may_lack_memory, step_is_made_here, step_may_lack_memory};
+
+use crate::change_steps::{change, changes_are_formed};
+use crate::cleaning::clean_all;
+use crate::laws::{
+    a_step_may_come_after_its_clean, entries_of_a_step_alone_come_in_turn,
+    lawful_changes_can_be_made, lawful_entries_fit_the_sessions,
+};
+use crate::session_steps::{begin, commit, enter, open, release, save, shut, undo};
+use engine_parts::Engine;
+use engine_versions::ends_always_find_room;
+use index_derive::{EntryKind, Step};
+use jet_base::{OutOfMemory, Session};
+
+/// Makes a step that was decided in this state, or that is lawful in a replay: a change of a record cleans first, and then the
+/// entries take effect in their order, each with the next number. After want of memory all is as it was, but that the clean
+/// stands.
+///
+/// Not yet: steps that undo all levels of a session, and schema steps.
+pub fn apply(engine: &mut Engine, step: &Step) -> Result<(), OutOfMemory>
+    requires lawful { MayTake engine.old step.now }
+    requires room { HasRoomForEnds engine.old }
+    requires here { step_is_made_here step.now ≡ true }
+    ensures done { OnOk result (engine.new ≡ engine_after_step engine.old step.now) }
+    ensures kept { OnErr result (engine.new ≡ cleaned_for (step_cleans step.now) engine.old) }
+    ensures memory { OnErr result (step_may_lack_memory step.now ≡ true) }
+{
+    a_step_may_come_after_its_clean();
+    if cleans(step) {
+        clean_all(engine);
+    }
+    apply_entries(engine, step)
+}
+
+// Whether a step cleans first.
+fn cleans(step: &Step) -> bool
+    ensures { result ≡ step_cleans step.now }
+{
+    match step {
+        Step::One(made) => is_change(&made.kind),
+        Step::Alone(made) => is_change(&made.kind),
+    }
+}
+
+// Whether an entry changes a record or the schema.
+fn is_change(kind: &EntryKind) -> bool
+    ensures { result ≡ cleans_first kind.now }
+{
+    match kind {
+        EntryKind::Change(_) | EntryKind::Schema(_) => true,
+        _ => false,
+    }
+}
+
+// The entries of a step, in their order.
+fn apply_entries(engine: &mut Engine, step: &Step) -> Result<(), OutOfMemory>
+    requires lawful { MayTake engine.old step.now }
+    requires room { HasRoomForEnds engine.old }
+    requires here { step_is_made_here step.now ≡ true }
+    ensures done { OnOk result (engine.new ≡ engine_after_all engine.old (entries_of_step (Some step.now))) }
+    ensures kept { OnErr result (engine.new ≡ engine.old) }
+    ensures memory { OnErr result (step_may_lack_memory step.now ≡ true) }
+{
+    match step {
+        Step::One(made) => apply_entry(engine, made.session, &made.kind),
+        Step::Alone(made) => apply_alone(engine, made.session, &made.kind),
+    }
+}
+
+// An entry with a begin before it and a commit behind it. Where there is no memory the begin is taken back.
+fn apply_alone(engine: &mut Engine, session: Session, kind: &EntryKind) -> Result<(), OutOfMemory>
+    requires lawful { MayTake engine.old (Alone (entry_by session.0 kind.now)) }
+    requires room { HasRoomForEnds engine.old }
+    requires here { is_made_here kind.now ≡ true }
+    ensures done { OnOk result (engine.new ≡ effect_on (effect_on (effect_on engine.old session.0 entry.Begin) session.0 kind.now) session.0 entry.Commit) }
+    ensures kept { OnErr result (engine.new ≡ engine.old) }
+    ensures memory { OnErr result (may_lack_memory kind.now ≡ true) }
+{
+    entries_of_a_step_alone_come_in_turn();
+    ends_always_find_room();
+    begin(engine, session);
+    match apply_entry(engine, session, kind) {
+        Ok(()) => {
+            commit(engine, session);
+            Ok(())
+        }
+        Err(fault) => {
+            take_back_begin(engine, session);
+            Err(fault)
+        }
+    }
+}
+
+// The transaction that the last entry began is as if it had not begun.
+fn take_back_begin(engine: &mut Engine, session: Session)
+    requires { 1 ≤ engine.old.number }
+    ensures { engine.new ≡ begin_taken_back session.0 engine.old }
+{
+    engine.sessions.end_transaction(session);
+    engine.number -= 1;
+}
+
+/// Makes an entry of the session that is lawful, each kind but those that end all levels and schema steps. After want of memory
+/// all is as it was.
+pub(crate) fn apply_entry(
+    engine: &mut Engine,
+    session: Session,
+    kind: &EntryKind,
+) -> Result<(), OutOfMemory>
+    requires lawful { MayCome engine.old (entry_by session.0 kind.now) }
+    requires room { HasRoomForEnds engine.old }
+    requires here { is_made_here kind.now ≡ true }
+    ensures done { OnOk result (engine.new ≡ effect_on engine.old session.0 kind.now) }
+    ensures kept { OnErr result (engine.new ≡ engine.old) }
+    ensures memory { OnErr result (may_lack_memory kind.now ≡ true) }
+{
+    ends_always_find_room();
+    lawful_entries_fit_the_sessions();
+    lawful_changes_can_be_made();
+    match kind {
+        EntryKind::Enter => enter(engine, session),
+        EntryKind::Open(table) => open(engine, session, *table),
+        EntryKind::Shut(table) => {
+            shut(engine, session, *table);
+            Ok(())
+        }
+        EntryKind::Begin => {
+            begin(engine, session);
+            Ok(())
+        }
+        EntryKind::Save => {
+            save(engine, session);
+            Ok(())
+        }
+        EntryKind::Release => {
+            release(engine, session);
+            Ok(())
+        }
+        EntryKind::Commit => {
+            commit(engine, session);
+            Ok(())
+        }
+        EntryKind::Undo => {
+            undo(engine, session);
+            Ok(())
+        }
+        EntryKind::Change(made) => {
+            changes_are_formed(made);
+            change(engine, session, made)
+        }
+        EntryKind::Leave | EntryKind::UndoAll | EntryKind::Schema(_) => unreachable!(),
+    }
+}

@@ -1,0 +1,11 @@
+//! What the step of a decided call does to an engine with versions.
+#![tactic(auto)]
+
+mod applying;
+mod change_steps;
+mod cleaning;
+mod laws;
+mod session_steps;
+
+pub use applying::apply;
+pub use cleaning::clean;
