@@ -2,7 +2,7 @@
 use Rattle.std.specs.Prelude.{ℕ, Bool, ◌&&◌, ◌==◌, if◌then◌else◌, List, [], ◌∷◌, Option, Some, None, Ok, Err}
 use Rattle.std.specs.List.{list_all}
 use Rattle.session_local.specs.declared.request.Request.{Request}
-use Rattle.session_local.specs.Built.{is_built_call}
+use Rattle.script_text.specs.BuiltCalls.{is_built_call}
 use Rattle.script_words.specs.Words.{◌>>=◌}
 use Rattle.script_text.specs.Grammar.{ScriptResult, with_front, said_lines, line_request}
 

@@ -2,7 +2,7 @@
 use Rattle.std.specs.Prelude.{ℕ, List, [], ◌∷◌, ◌++◌, Option, Some, None, if◌then◌else◌}
 use Rattle.jet_base.specs.declared.ids.Session.{Session}
 use Rattle.session_local.specs.declared.request.Request.{Request}
-use Rattle.session_local.specs.Built.{is_built_call}
+use Rattle.script_text.specs.BuiltCalls.{is_built_call}
 use Rattle.script_words.specs.Words.{◌>>=◌}
 
 -- the calls so far with one more of session 1 behind them, where it is built

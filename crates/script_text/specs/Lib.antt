@@ -1,5 +1,6 @@
 pub mod Calls
 pub mod CallNames
+pub mod BuiltCalls
 pub mod Kept
 pub mod Grammar
 pub mod Built

@@ -4,8 +4,9 @@ ghost use Rattle.script_words.specs.Reading.{Reads};
 ghost use Rattle.script_text.specs.Kept.{kept_behind};
 
 use jet_base::Session;
+use crate::built_calls::is_built_call;
 use script_words::Refusal;
-use session_local::{Request, is_built_call};
+use session_local::Request;
 
 /// Calls in the order of their lines, each with the session that makes it.
 pub type Calls = Vec<(Session, Request)>;

@@ -3,6 +3,7 @@
 
 mod bare_calls;
 mod built;
+mod built_calls;
 mod call_names;
 mod calls;
 mod choices;

@@ -20,4 +20,3 @@ pub mod Navigating
 pub mod WellFormed
 pub mod Changing
 pub mod Showing
-pub mod Built

@@ -4,7 +4,6 @@
 mod answering;
 mod begun;
 mod buffers;
-mod built;
 mod calls;
 mod decision;
 mod finishing;
@@ -24,7 +23,6 @@ mod showing;
 
 pub use answering::local_step;
 pub use buffers::Buffers;
-pub use built::is_built_call;
 pub use calls::is_local;
 pub use decision::Decision;
 pub use finishing::finish;
