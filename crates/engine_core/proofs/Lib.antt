@@ -1,0 +1,4 @@
+pub mod Refusing
+pub mod Moves
+pub mod Memory
+pub mod Runs

@@ -18,12 +18,12 @@ ghost use Rattle.engine_parts.specs.Deciding.{Decides, IsAnswer, IsBeside};
 ghost use Rattle.engine_steps.specs.Steps.{MayTake, step_may_lack_memory};
 ghost use Rattle.engine_core.specs.Runs.{HoldsRun, IsInRun, locals_of};
 
+use agreeing_sessions::an_answer_keeps_all_sessions_in_step;
 use engine_versions::{
     a_clean_leaves_the_state, an_answer_is_held_in_step, an_answer_is_lawful_and_stays_in_step,
-    an_answer_makes_what_is_built, an_empty_engine_holds_the_empty_state,
+    an_answer_makes_what_is_built, an_empty_engine_holds_the_empty_state, sessions_are_told,
     sessions_in_step_are_well_formed,
 };
-use agreeing_sessions::an_answer_keeps_all_sessions_in_step;
 use session_local::local_calls_take_no_step;
 
 /// An engine of an empty database is where a run begins.
@@ -37,6 +37,7 @@ pub fn an_empty_engine_holds_an_empty_run()
 pub fn a_session_of_a_run_is_beside()
     ensures { (limit : ℕ) (engine : EngineState) (run : RunState) (side : SessionSide) (last : ℕ) → HoldsRun limit engine run → IsInRun run side last → IsBeside engine side }
 {
+    sessions_are_told();
     sessions_in_step_are_well_formed();
 }
 

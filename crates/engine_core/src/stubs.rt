@@ -11,7 +11,11 @@ use engine_parts::Engine;
 use jet_base::{CursorId, OutOfMemory};
 use session_local::{Decision, Local, Request};
 
-pub(crate) fn update(engine: &Engine, local: &Local, cursor: CursorId) -> Result<Decision, OutOfMemory>
+pub(crate) fn update(
+    engine: &Engine,
+    local: &Local,
+    cursor: CursorId,
+) -> Result<Decision, OutOfMemory>
     requires beside { IsBeside engine.now local.now }
     requires shared { is_answered_locally local.now.state (call.Update cursor) ≡ false }
     ensures answer { IfOk result (λ decision. Decides engine.now local.now (call.Update cursor) local.now decision) }
@@ -20,7 +24,11 @@ pub(crate) fn update(engine: &Engine, local: &Local, cursor: CursorId) -> Result
     Err(OutOfMemory)
 }
 
-pub(crate) fn prepare_replace(engine: &Engine, local: &Local, cursor: CursorId) -> Result<Decision, OutOfMemory>
+pub(crate) fn prepare_replace(
+    engine: &Engine,
+    local: &Local,
+    cursor: CursorId,
+) -> Result<Decision, OutOfMemory>
     requires beside { IsBeside engine.now local.now }
     requires shared { is_answered_locally local.now.state (call.PrepareUpdate cursor prepare.Replace) ≡ false }
     ensures answer { IfOk result (λ decision. Decides engine.now local.now (call.PrepareUpdate cursor prepare.Replace) local.now decision) }
@@ -29,7 +37,11 @@ pub(crate) fn prepare_replace(engine: &Engine, local: &Local, cursor: CursorId) 
     Err(OutOfMemory)
 }
 
-pub(crate) fn prepare_copy(engine: &Engine, local: &Local, cursor: CursorId) -> Result<Decision, OutOfMemory>
+pub(crate) fn prepare_copy(
+    engine: &Engine,
+    local: &Local,
+    cursor: CursorId,
+) -> Result<Decision, OutOfMemory>
     requires beside { IsBeside engine.now local.now }
     requires shared { is_answered_locally local.now.state (call.PrepareUpdate cursor prepare.InsertCopy) ≡ false }
     ensures answer { IfOk result (λ decision. Decides engine.now local.now (call.PrepareUpdate cursor prepare.InsertCopy) local.now decision) }
@@ -38,7 +50,11 @@ pub(crate) fn prepare_copy(engine: &Engine, local: &Local, cursor: CursorId) -> 
     Err(OutOfMemory)
 }
 
-pub(crate) fn create_index(engine: &Engine, local: &Local, request: &Request) -> Result<Decision, OutOfMemory>
+pub(crate) fn create_index(
+    engine: &Engine,
+    local: &Local,
+    request: &Request,
+) -> Result<Decision, OutOfMemory>
     requires beside { IsBeside engine.now local.now }
     requires built { is_built_request request.now ≡ true }
     requires shared { is_answered_locally local.now.state request.now ≡ false }
