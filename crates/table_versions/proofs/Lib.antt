@@ -55,3 +55,6 @@ pub mod HalfPuts
 pub mod PutKept
 pub mod PutAsked
 pub mod PutDone
+pub mod RewrittenNodes
+pub mod LostRows
+pub mod LostColumns
