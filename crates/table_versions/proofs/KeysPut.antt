@@ -218,7 +218,7 @@ AreApartKeys =
     (rule : IndexRule) (schema : Schema) (one other : RecordFields) (key rest : List ℕ) → is_legal rule schema ≡ true → record_fits schema.columns one ≡ true → record_fits schema.columns other ≡ true
     → list_any (bytes_eq key) (key_list rule schema one) ≡ true → list_any (bytes_eq (key ++ rest)) (key_list rule schema other) ≡ true → rest ≡ []
 
-all_entries : (P : Pair → Type 0) (es : List Pair) → ((e : Pair) → has_entry e.0 e.1 es ≡ true → P e) → All P es
+pub all_entries : (P : Pair → Type 0) (es : List Pair) → ((e : Pair) → has_entry e.0 e.1 es ≡ true → P e) → All P es
 all_entries P [] each = λ k d low. absurd (omega (arith, low))
 all_entries P (e ∷ es) each =
     All-cons P e es (each e (ap (λ b. b || has_entry e.0 e.1 es) (λ i. equal_bytes e.0 e.0 refl i && equal_bytes e.1 e.1 refl i)))

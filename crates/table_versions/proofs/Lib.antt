@@ -50,6 +50,7 @@ pub mod NewIndexes
 pub mod StepInStore
 pub mod EmptyIndexes
 pub mod KeysPut
+pub mod NewEntries
 pub mod RoomMade
 pub mod HalfPuts
 pub mod PutKept

@@ -9,3 +9,4 @@ pub mod KeyConflicts
 pub mod UndoneChanges
 pub mod SchemaSteps
 pub mod PutRecords
+pub mod NewEntries

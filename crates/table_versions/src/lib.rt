@@ -8,6 +8,7 @@ mod ending;
 mod finding;
 mod forgetting;
 mod keys;
+mod new_entries;
 mod putting;
 mod reading;
 mod schema;
