@@ -51,6 +51,8 @@ pub mod StepInStore
 pub mod EmptyIndexes
 pub mod KeysPut
 pub mod NewEntries
+pub mod NodeWalks
+pub mod FilledIndexes
 pub mod RoomMade
 pub mod HalfPuts
 pub mod PutKept
