@@ -48,11 +48,11 @@ pub mod OtherRules
 pub mod MadeIndexes
 pub mod NewIndexes
 pub mod StepInStore
-pub mod EmptyIndexes
 pub mod KeysPut
 pub mod NewEntries
 pub mod NodeWalks
 pub mod FilledIndexes
+pub mod IndexTrees
 pub mod RoomMade
 pub mod HalfPuts
 pub mod PutKept

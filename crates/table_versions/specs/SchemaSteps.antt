@@ -43,11 +43,6 @@ pub record IsIndexFor (rule : IndexRule) (table : Table) : Type 0 where
   pub not_null : list_any (λ row. is_null_refusal (entries rule (schema_of table) row.1)) table.rows ≡ false
   pub not_cut : list_any (λ row. is_cut_refusal (entries rule (schema_of table) row.1)) table.rows ≡ false
 
--- The same of a table without a record.
-pub record IsEmptyFor (rule : IndexRule) (table : Table) : Type 0 where
-  pub fits : IsIndexFor rule table
-  pub empty : table.rows ≡ []
-
 -- While no change is held: the catalog and the trees have become those after a step.
 pub record IsMade (made : SchemaStep) (was : CatalogState) (trees : List StoredTable) (is : CatalogState) (other : List StoredTable) : Type 0 where
   pub kept : AreKept is.tables other []

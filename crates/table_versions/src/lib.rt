@@ -5,6 +5,7 @@
 mod changing;
 mod conflicting_keys;
 mod ending;
+mod filling;
 mod finding;
 mod forgetting;
 mod keys;

@@ -9,7 +9,7 @@ ghost use Rattle.derived_index.specs.KeptEntries.{has_entry};
 ghost use Rattle.index_derive.specs.Entries.{is_legal};
 ghost use Rattle.index_tree.specs.Entries.{IsApart};
 ghost use Rattle.table_trees.specs.StoredTables.{has_index, index_entries, table_nodes};
-ghost use Rattle.table_versions.specs.NewEntries.{IsAmong, IsTakenRow, OnlyEntries, is_key_in_node, is_newest_key};
+ghost use Rattle.table_versions.specs.NewEntries.{HasNewestKeys, IsAmong, IsTakenRow, OnlyEntries, is_key_in_node};
 ghost use Rattle.table_versions.specs.RecordRows.{row_in_node, row_under};
 
 use crate::reading::{in_place, row_in_node};
@@ -38,7 +38,7 @@ pub(crate) fn fill(
     requires short { rule.now.key_most ≤ 255 }
     requires rows { (bookmark : List ℕ) → IfSome (row_under (table_nodes trees.old table.0) bookmark) (IsTakenRow rule.now schema.now) }
     ensures only { OnlyEntries table.0 rule.now.id.0 trees.old trees.new }
-    ensures ok { OnOk result ((key bookmark : List ℕ) → has_entry key bookmark (index_entries trees.new table.0 rule.now.id.0) ≡ is_newest_key rule.now schema.now (table_nodes trees.old table.0) key bookmark) }
+    ensures ok { OnOk result (HasNewestKeys rule.now (table_nodes trees.old table.0) (index_entries trees.new table.0 rule.now.id.0) schema.now) }
 {
     derived_keys_are_apart();
     trees.nodes_are_in_order();
