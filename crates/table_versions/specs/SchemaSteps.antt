@@ -44,11 +44,6 @@ pub record IsIndexFor (rule : IndexRule) (table : Table) : Type 0 where
   pub not_null : list_any (λ row. is_null_refusal (entries rule (schema_of table) row.1)) table.rows ≡ false
   pub not_cut : list_any (λ row. is_cut_refusal (entries rule (schema_of table) row.1)) table.rows ≡ false
 
--- The same of a table without a record.
-pub record IsEmptyFor (rule : IndexRule) (table : Table) : Type 0 where
-  pub fits : IsIndexFor rule table
-  pub empty : table.rows ≡ []
-
 -- What the store asks of a schema step.
 abbrev pub CanMake : SchemaStep → StoredVersions → Type 0
 CanMake (step.CreateTable table name) store = store.greatest_table < table.0

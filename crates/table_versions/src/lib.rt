@@ -5,10 +5,12 @@
 mod changing;
 mod conflicting_keys;
 mod ending;
+mod filling;
 mod finding;
 mod forgetting;
 mod keys;
 mod making;
+mod new_entries;
 mod putting;
 mod reading;
 mod rewriting;

@@ -1,13 +1,11 @@
 //! Schema steps of any kind.
 
-ghost use Rattle.std.specs.Prelude.{◌≡◌, [], IsSomeAnd, OnErr, OnOk};
-ghost use Rattle.database_state.specs.Table.{table_with_id};
-ghost use Rattle.index_derive.specs.declared.schema_calls.SchemaStep.TheVariants as step;
-ghost use Rattle.table_versions.specs.SchemaSteps.{CanMake, IsIndexFor, after_step};
+ghost use Rattle.std.specs.Prelude.{◌≡◌, [], OnErr, OnOk};
+ghost use Rattle.table_versions.specs.SchemaSteps.{CanMake, after_step};
 
 use crate::store::TableVersions;
-use index_derive::{IndexRule, SchemaStep};
-use jet_base::{OutOfMemory, TableId};
+use index_derive::SchemaStep;
+use jet_base::OutOfMemory;
 
 impl TableVersions {
     /// A schema step, once no change is held. After want of memory all is as it was.
@@ -27,21 +25,5 @@ impl TableVersions {
             SchemaStep::CreateIndex { table, index } => self.make_index(made, *table, index),
             SchemaStep::DeleteIndex { table, index } => self.delete_index(made, *table, *index),
         }
-    }
-
-    /// STUB.
-    pub fn make_index(
-        &mut self,
-        made: &SchemaStep,
-        table: TableId,
-        rule: &IndexRule,
-    ) -> Result<(), OutOfMemory>
-        requires settled { self.old.store.held ≡ [] }
-        requires step { made.now ≡ step.CreateIndex table rule.now }
-        requires fits { IsSomeAnd (table_with_id self.old.store.tables table.0) (IsIndexFor rule.now) }
-        ensures ok { OnOk result (self.new ≡ after_step made.now self.old) }
-        ensures err { OnErr result (self.new ≡ self.old) }
-    {
-        Err(OutOfMemory)
     }
 }
