@@ -1,9 +1,9 @@
 -- An index that is given the keys of all records of its table, one record after the other.
-use Rattle.std.proofs.Common.{◌≡◌, ◌<◌, ℕ, Bool, true, false, not, ◌&&◌, ◌||◌, ◌⊎◌, inl, inr, List, [], Option, Some, None, find, option_map, refl, sym, ap, subst, ◌∙◌}
+use Rattle.std.proofs.Common.{◌≡◌, ℕ, Bool, true, false, not, ◌&&◌, ◌||◌, inl, inr, List, [], Option, Some, None, find, option_map, refl, sym, ap, subst, ◌∙◌}
 use Rattle.std.specs.Prelude.{bytes_eq, IfSome, option_and_then}
 use Rattle.std.specs.List.{list_any}
 use Rattle.page_image.specs.Page.{Node}
-use Rattle.btree_inplace.specs.Order.{get_in, has_key, key_and_data}
+use Rattle.btree_inplace.specs.Order.{has_key, key_and_data}
 use Rattle.cursor_nav.specs.Places.{Pair, are_sorted}
 use Rattle.database_state.specs.Conflicts.{yields_key}
 use Rattle.derived_index.specs.KeptEntries.{has_entry}
@@ -22,7 +22,7 @@ use Rattle.table_versions.specs.RecordRows.{record_of, row_in_node, row_under}
 use Rattle.table_versions.proofs.KeysPut.{AreApartKeys, keys_apart}
 use Rattle.table_versions.proofs.Neighbours.{found_in}
 use Rattle.table_versions.proofs.NewEntries.{only_stays, only_then}
-use Rattle.table_versions.proofs.NodeWalks.{IsNode, IsNext, is_node_past, is_past, next_is_there, next_node, none_past, past_next}
+use Rattle.table_versions.proofs.NodeWalks.{is_node_past, is_past, next_is_there, next_node, none_past, past_next}
 use Rattle.table_versions.proofs.Order.{not_itself}
 
 -- The index has the keys of the records that were passed.

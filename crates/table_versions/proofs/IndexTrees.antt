@@ -1,31 +1,29 @@
 -- The trees with a new index, and without it again.
-use Rattle.std.proofs.Common.{◌≡◌, ◌≢◌, ◌≤◌, ℕ, Bool, true, false, not, ◌&&◌, ◌||◌, cond, List, [], ◌∷◌, ◌++◌, Option, Some, None, Result, Ok, Err, filter, find, map, option_map, refl, sym, ap, subst, ◌∙◌}
-use Rattle.std.specs.Prelude.{◌==◌, nat_lt, IfSome, IsOk, IsSomeAnd, is_some, unwrap_or}
+use Rattle.std.proofs.Common.{◌≡◌, ◌≢◌, ℕ, Bool, true, false, not, ◌&&◌, ◌||◌, cond, List, [], ◌∷◌, ◌++◌, Option, Some, None, filter, find, map, option_map, refl, sym, ap, subst, ◌∙◌}
+use Rattle.std.specs.Prelude.{◌==◌, nat_lt, IfSome, IsSomeAnd, is_some, unwrap_or}
 use Rattle.std.specs.List.{list_any}
 use Rattle.std.proofs.lemmas.List.Elements.{filter-append}
 use Rattle.column_set.specs.RecordValues.{RecordFields}
-use Rattle.cursor_nav.specs.Places.{Pair, are_sorted}
+use Rattle.cursor_nav.specs.Places.{are_sorted}
 use Rattle.database_state.specs.Conflicts.{yields_key}
-use Rattle.database_state.specs.Puts.{is_cut_refusal, is_null_refusal}
 use Rattle.database_state.specs.SchemaChanges.{with_index}
 use Rattle.database_state.specs.Table.{Table, schema_of, table_with_id, with_table}
-use Rattle.derived_index.specs.KeptEntries.{has_entry}
 use Rattle.index_derive.specs.declared.rules.IndexRule.{IndexRule}
 use Rattle.index_derive.specs.declared.schema_calls.SchemaStep.{SchemaStep}
 use Rattle.index_derive.specs.declared.schema_calls.SchemaStep.TheVariants as step
-use Rattle.index_derive.specs.Entries.{KeyRefusal, NullKeyDisallowed, KeyTruncated, entries}
+use Rattle.index_derive.specs.Entries.{entries}
 use Rattle.jet_base.specs.declared.ids.TableId.{TableId}
 use Rattle.jet_catalog.specs.Catalog.{CatalogState, IsNumbered, catalog_after, ids_rise}
 use Rattle.page_image.specs.Page.{Node}
-use Rattle.record_changes.proofs.Tests.{impossible, or_first, or_second, self_equal}
+use Rattle.record_changes.proofs.Tests.{or_first, or_second, self_equal}
 use Rattle.table_trees.specs.StoredNodes.{bookmark_entries}
 use Rattle.table_trees.specs.StoredTables.{StoredIndex, StoredTable, has_index, has_table, index_entries, is_index, is_table, put_indexes, table_indexes, table_nodes, with_indexes, with_new_index, without_index as without_tree, without_where}
 use Rattle.table_versions.specs.NewEntries.{CanFill, HasNewestKeys, IsTakenRow, OnlyEntries, is_newest_key}
-use Rattle.table_versions.specs.RecordRows.{record_of, row_under, rows_of_nodes}
+use Rattle.table_versions.specs.RecordRows.{record_of, row_under}
 use Rattle.table_versions.specs.SchemaSteps.{IsIndexFor, IsMade}
 use Rattle.table_versions.specs.VersionsKept.{AreKept, IsKeptTable, IsRowUnder, needed_trees, secondary_rules, tree_numbers}
 use Rattle.table_versions.specs.VersionsView.{with_newest}
-use Rattle.table_versions.proofs.Forgotten.{distinct_ids}
+use Rattle.table_versions.proofs.Forgotten.{distinct_ids, no_refusal}
 use Rattle.table_versions.proofs.LeftNodes.{numbers_needed}
 use Rattle.table_versions.proofs.MadeIndexes.{apart_from, tree_of_index}
 use Rattle.table_versions.proofs.NewEntries.{changed_twice}
@@ -108,11 +106,6 @@ new_is_empty stay id rule tables trees kept fit = stay trees id rule.id.0 rule.i
 
 pub new_nodes : NodesStay → (trees : List StoredTable) (id index table : ℕ) → table_nodes (with_new_index id index trees) table ≡ table_nodes trees table
 new_nodes stay trees id index table = stay trees id table (table_indexes trees id ++ (index, []) ∷ [])
-
-no_refusal : (r : Result (List (List ℕ)) KeyRefusal) → is_null_refusal r ≡ false → is_cut_refusal r ≡ false → IsOk r
-no_refusal (Ok keys) a b = refl
-no_refusal (Err NullKeyDisallowed) a b = impossible (sym a)
-no_refusal (Err KeyTruncated) a b = impossible (sym b)
 
 -- no record that stands is refused
 pub can_fill : (id : ℕ) (rule : IndexRule) (tables : List Table) (trees other : List StoredTable) → ((table : ℕ) → are_sorted (bookmark_entries (table_nodes trees table)) ≡ true) → ((table : ℕ) → table_nodes other table ≡ table_nodes trees table)

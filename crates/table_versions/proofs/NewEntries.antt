@@ -1,5 +1,5 @@
 -- Entries that one index is given, while all others stay.
-use Rattle.std.proofs.Common.{◌≡◌, ℕ, zero, suc, ◌+◌, ◌<◌, Bool, true, false, not, ◌&&◌, ◌||◌, ◌⊎◌, inl, inr, cond, List, [], ◌∷◌, length, slice_index_or, refl, sym, ap, subst, take, ◌∙◌, arith}
+use Rattle.std.proofs.Common.{◌≡◌, ℕ, zero, suc, ◌+◌, ◌<◌, Bool, true, false, not, ◌&&◌, ◌||◌, inl, inr, cond, List, [], ◌∷◌, length, slice_index_or, refl, sym, ap, subst, take, ◌∙◌, arith}
 use Rattle.std.specs.Prelude.{bytes_eq}
 use Rattle.std.specs.List.{AllByRecursion, list_any}
 use Rattle.std.specs.List.Sorted.{IsStrictlySortedBy}
@@ -12,8 +12,8 @@ use Rattle.cursor_nav.specs.Places.{Pair}
 use Rattle.derived_index.specs.KeptEntries.{has_entry}
 use Rattle.index_derive.specs.Entries.{insert_entry}
 use Rattle.index_tree.specs.Entries.{IsApart, IsApartFromAll}
-use Rattle.record_changes.proofs.Tests.{and_right, equal_bytes, refuted, same_bytes}
-use Rattle.table_trees.specs.StoredTables.{StoredIndex, StoredTable, changed_where, has_index, index_entries, is_index, is_table, put_entries, put_indexes, table_indexes, with_entries, with_indexes, without_index, without_where}
+use Rattle.record_changes.proofs.Tests.{and_right, refuted, same_bytes}
+use Rattle.table_trees.specs.StoredTables.{StoredIndex, StoredTable, changed_where, has_index, index_entries, is_index, is_table, put_entries, put_indexes, table_indexes, with_entries, with_indexes, without_where}
 use Rattle.table_versions.specs.NewEntries.{IsAmong, OnlyEntries}
 use Rattle.table_versions.proofs.EntryTrees.{EntryLaws, IndexLaws, entries_changed, entries_stay, entries_then, table_there}
 use Rattle.table_versions.proofs.KeysPut.{all_entries, found_inserted, in_front, index_stays, key_at}

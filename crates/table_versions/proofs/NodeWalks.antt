@@ -1,10 +1,10 @@
 -- The nodes of a table, gone over in the order of their bookmarks.
-use Rattle.std.proofs.Common.{◌≡◌, ℕ, ◌<◌, Bool, true, false, not, ◌&&◌, ◌||◌, ◌⊎◌, inl, inr, cond, List, [], ◌∷◌, length, Option, Some, None, filter, find, map, option_map, refl, sym, ap, subst, ◌∙◌}
-use Rattle.std.specs.Prelude.{bytes_eq, unwrap_or}
+use Rattle.std.proofs.Common.{◌≡◌, ℕ, ◌<◌, Bool, true, false, inl, inr, cond, List, [], ◌∷◌, length, Option, Some, None, filter, find, option_map, refl, sym, ap, subst, ◌∙◌}
+use Rattle.std.specs.Prelude.{bytes_eq}
 use Rattle.std.specs.List.{list_all}
 use Rattle.std.specs.Cmp.Lexicographic.{texts_ties}
 use Rattle.page_image.specs.Page.{Node}
-use Rattle.btree_inplace.specs.Order.{get_in, has_key, key_and_data}
+use Rattle.btree_inplace.specs.Order.{has_key, key_and_data}
 use Rattle.index_derive.specs.declared.entries.Place.{Place}
 use Rattle.index_derive.specs.declared.entries.Place.TheVariants.{On}
 use Rattle.cursor_nav.specs.Places.{Pair, are_sorted, is_beyond, pair_lt}

@@ -36,7 +36,14 @@ impl TableVersions {
         ensures ok { OnOk result (self.new ≡ after_step made.now self.old) }
         ensures err { OnErr result (self.new ≡ self.old) }
     {
-        put_index(self.alloc, &mut self.catalog, &mut self.trees, made, table, rule)
+        put_index(
+            self.alloc,
+            &mut self.catalog,
+            &mut self.trees,
+            made,
+            table,
+            rule,
+        )
     }
 }
 

@@ -1,4 +1,4 @@
-use Rattle.std.proofs.Common.{Option, Some, sym, subst, ◌∙◌}
+use Rattle.std.proofs.Common.{Option, subst}
 use Rattle.std.specs.Prelude.{IfSome}
 use Rattle.database_state.specs.Table.{Table, schema_of}
 use Rattle.index_derive.specs.declared.rules.Schema.{Schema}

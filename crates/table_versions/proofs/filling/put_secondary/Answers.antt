@@ -1,9 +1,7 @@
-use Rattle.std.proofs.Common.{◌≡◌, true, List, sym, ap, subst, ◌∙◌}
-use Rattle.std.specs.Prelude.{IsSomeAnd}
-use Rattle.database_state.specs.Table.{table_with_id}
-use Rattle.table_trees.specs.StoredTables.{StoredTable, has_index, has_table, index_entries, table_nodes, with_new_index, without_index}
-use Rattle.table_versions.specs.NewEntries.{CanFill, OnlyEntries}
-use Rattle.table_versions.proofs.IndexTrees.{NewIndexLaws, can_fill, in_trees, new_created, new_is_empty, new_is_there, new_nodes, no_index, taken_back}
+use Rattle.std.proofs.Common.{◌≡◌, true, List, ap, subst, ◌∙◌}
+use Rattle.table_trees.specs.StoredTables.{StoredTable, has_index, has_table, index_entries, table_nodes}
+use Rattle.table_versions.specs.NewEntries.{OnlyEntries}
+use Rattle.table_versions.proofs.IndexTrees.{can_fill, in_trees, new_created, new_is_empty, new_is_there, new_nodes, no_index, taken_back}
 use Rattle.table_versions.proofs.MadeTables.{a_tree}
 use Rattle.table_versions.proofs.NewEntries.{still_there}
 use Rattle.table_versions.proofs.filling.put_secondary.Goals as goal

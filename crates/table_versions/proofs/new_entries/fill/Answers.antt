@@ -7,8 +7,7 @@ use Rattle.index_derive.specs.declared.entries.Place.{Place}
 use Rattle.index_derive.specs.declared.entries.Place.TheVariants.{On}
 use Rattle.table_trees.specs.StoredNodes.{node_after}
 use Rattle.table_trees.specs.StoredTables.{index_entries, table_nodes}
-use Rattle.table_versions.specs.NewEntries.{IsTakenRow, is_key_in_node}
-use Rattle.table_versions.specs.RecordRows.{row_in_node}
+use Rattle.table_versions.specs.NewEntries.{IsTakenRow}
 use Rattle.table_versions.proofs.FilledIndexes.{IsFilledTo, among_apart, filled_all, filled_more, filled_none, next_of_start, not_yet, row_found}
 use Rattle.table_versions.proofs.NewEntries.{still_there}
 use Rattle.table_versions.proofs.NodeWalks.{fewer_nodes, nodes_left}

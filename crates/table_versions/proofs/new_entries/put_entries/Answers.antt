@@ -1,12 +1,8 @@
-use Rattle.std.proofs.Common.{◌≡◌, ℕ, List, true, length, sym, ap, subst, take, ◌∙◌, arith}
-use Rattle.std.specs.Prelude.{◌&&◌, ◌||◌, bytes_eq}
-use Rattle.std.specs.List.{list_any}
+use Rattle.std.proofs.Common.{ℕ, List, sym, ap, subst, ◌∙◌}
 use Rattle.derived_index.specs.KeptEntries.{has_entry}
 use Rattle.index_derive.specs.Entries.{insert_entry}
 use Rattle.index_tree.specs.Entries.{IsApartFromAll}
-use Rattle.table_trees.specs.StoredTables.{has_index, index_entries, with_entries}
-use Rattle.table_versions.proofs.EntryTrees.{EntryLaws, IndexLaws}
-use Rattle.table_versions.proofs.KeysPut.{whole}
+use Rattle.table_trees.specs.StoredTables.{index_entries, with_entries}
 use Rattle.table_versions.proofs.NewEntries.{has_none, is_absent, is_apart, some_more, still_there}
 use Rattle.table_versions.proofs.new_entries.put_entries.Goals as goal
 
