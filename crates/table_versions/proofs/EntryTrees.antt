@@ -40,7 +40,7 @@ index_there trees table index key own there =
     there_or (has_index trees table index)
     (λ none. sym (ap (has_entry key own) (no_part (is_index index) (λ x. x.1) (table_indexes trees table) none)) ∙ there)
 
-table_there : (trees : List StoredTable) (table index : ℕ) → has_index trees table index ≡ true → has_table trees table ≡ true
+pub table_there : (trees : List StoredTable) (table index : ℕ) → has_index trees table index ≡ true → has_table trees table ≡ true
 table_there trees table index there =
     there_or (has_table trees table)
     (λ none. sym (ap (list_any (is_index index)) (no_part (is_table table) (λ x. x.indexes) trees none)) ∙ there)

@@ -31,7 +31,7 @@ use Rattle.table_versions.proofs.Lists.{all_append, all_filter}
 
 -- ---- the keys of a row that an index took
 
-no_refusal : (r : Result (List (List ℕ)) KeyRefusal) → is_null_refusal r ≡ false → is_cut_refusal r ≡ false → IsOk r
+pub no_refusal : (r : Result (List (List ℕ)) KeyRefusal) → is_null_refusal r ≡ false → is_cut_refusal r ≡ false → IsOk r
 no_refusal (Ok keys) a b = refl
 no_refusal (Err NullKeyDisallowed) a b = impossible (sym a)
 no_refusal (Err KeyTruncated) a b = impossible (sym b)

@@ -218,7 +218,7 @@ AreApartKeys =
     (rule : IndexRule) (schema : Schema) (one other : RecordFields) (key rest : List ℕ) → is_legal rule schema ≡ true → record_fits schema.columns one ≡ true → record_fits schema.columns other ≡ true
     → list_any (bytes_eq key) (key_list rule schema one) ≡ true → list_any (bytes_eq (key ++ rest)) (key_list rule schema other) ≡ true → rest ≡ []
 
-all_entries : (P : Pair → Type 0) (es : List Pair) → ((e : Pair) → has_entry e.0 e.1 es ≡ true → P e) → All P es
+pub all_entries : (P : Pair → Type 0) (es : List Pair) → ((e : Pair) → has_entry e.0 e.1 es ≡ true → P e) → All P es
 all_entries P [] each = λ k d low. absurd (omega (arith, low))
 all_entries P (e ∷ es) each =
     All-cons P e es (each e (ap (λ b. b || has_entry e.0 e.1 es) (λ i. equal_bytes e.0 e.0 refl i && equal_bytes e.1 e.1 refl i)))
@@ -228,16 +228,15 @@ all_entries P (e ∷ es) each =
     last true b e = refl
     last false b e = e
 
+-- keys of two records
+pub keys_apart : AreApartKeys → (rule : IndexRule) (schema : Schema) (key other : List ℕ) → is_legal rule schema ≡ true → IsKeyOfRecord rule schema key → IsKeyOfRecord rule schema other → IsApart key other
+keys_apart apart rule schema key other legal is of = record {
+  begins_not = λ rest same. apart rule schema is.0 of.0 key rest legal is.1 of.1 is.2 (subst (λ k. yields_key rule schema k (Some of.0) ≡ true) same of.2);
+  begun_not = λ rest same. apart rule schema of.0 is.0 other rest legal of.1 is.1 of.2 (subst (λ k. yields_key rule schema k (Some is.0) ≡ true) same is.2);
+}
+
 pub apart_from_all : AreApartKeys → (rule : IndexRule) (schema : Schema) (key : List ℕ) (es : List Pair) → is_legal rule schema ≡ true → IsKeyOfRecord rule schema key → AreKeysOfRecords rule schema es → IsApartFromAll key es
-apart_from_all apart rule schema key es legal is are = all_entries (λ e. IsApart key e.0) es each
-  where
-    each : (e : Pair) → has_entry e.0 e.1 es ≡ true → IsApart key e.0
-    each e there =
-        let other = are e.0 e.1 there in
-        record {
-          begins_not = λ rest same. apart rule schema is.0 other.0 key rest legal is.1 other.1 is.2 (subst (λ k. yields_key rule schema k (Some other.0) ≡ true) same other.2);
-          begun_not = λ rest same. apart rule schema other.0 is.0 e.0 rest legal other.1 is.1 other.2 (subst (λ k. yields_key rule schema k (Some is.0) ≡ true) same is.2);
-        }
+apart_from_all apart rule schema key es legal is are = all_entries (λ e. IsApart key e.0) es (λ e there. keys_apart apart rule schema key e.0 legal is (are e.0 e.1 there))
 
 -- the keys of an index stay keys of records
 pub keys_of_records : (schema : Schema) (values : RecordFields) (rule : IndexRule) (table : ℕ) (bookmark : List ℕ) (keys : Keys) (old new : List StoredTable) → record_fits schema.columns values ≡ true

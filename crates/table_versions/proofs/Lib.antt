@@ -48,8 +48,14 @@ pub mod OtherRules
 pub mod MadeIndexes
 pub mod NewIndexes
 pub mod StepInStore
-pub mod EmptyIndexes
 pub mod KeysPut
+pub mod NewEntries
+pub mod NodeWalks
+pub mod FilledIndexes
+pub mod IndexTrees
+pub mod RewrittenNodes
+pub mod LostRows
+pub mod LostColumns
 pub mod RoomMade
 pub mod HalfPuts
 pub mod PutKept

@@ -50,6 +50,16 @@ none_at q (row ∷ rows) bookmark values none e = by (eq_by_cmp (slice_cmp nat_c
     by true e rest = ap q (sym (ap values_or e)) ∙ or_first (q row.1) _ none
     by false e rest = rest e
 
+-- the index takes each row that stands
+pub row_taken : (trees : List StoredTable) (t : Table) (rule : IndexRule) → are_sorted (bookmark_entries (table_nodes trees t.id)) ≡ true → IsIndexFor rule (with_newest trees t) → (bookmark bytes : List ℕ) → row_under (table_nodes trees t.id) bookmark ≡ Some bytes
+    → Takes (schema_of t) (record_of bytes) rule
+row_taken trees t rule sorted fit bookmark bytes e =
+    let nodes : List Node = table_nodes trees t.id in
+    let at : row_at (rows_of_nodes nodes) bookmark ≡ Some (record_of bytes) = record_at nodes sorted bookmark ∙ ap (option_map record_of) e in (
+      none_at (λ values. is_null_refusal (entries rule (schema_of t) values)) (rows_of_nodes nodes) bookmark (record_of bytes) fit.not_null at,
+      none_at (λ values. is_cut_refusal (entries rule (schema_of t) values)) (rows_of_nodes nodes) bookmark (record_of bytes) fit.not_cut at,
+    )
+
 -- the trees beside those before: the same nodes and indexes, and the entries of the new index
 pub record HasNewIndex (trees other : List StoredTable) (t : Table) (rule : IndexRule) : Type 0 where
   pub nodes : table_nodes other t.id ≡ table_nodes trees t.id
@@ -104,11 +114,7 @@ index_made trees other t rule sorted fit has k = subst (λ (n : List Node). IsKe
         (λ primary. found_alone (λ r. r.flags.primary) t.indexes rule (none_of (λ r. r.flags.primary) t.indexes (fit.primary primary).first) primary) fit.legal fit.columns fit.short
 
     takes : (bookmark bytes : List ℕ) → row_under nodes bookmark ≡ Some bytes → Takes (schema_of t) (record_of bytes) rule
-    takes bookmark bytes e =
-        let at : row_at (rows_of_nodes nodes) bookmark ≡ Some (record_of bytes) = record_at nodes sorted bookmark ∙ ap (option_map record_of) e in (
-          none_at (λ values. is_null_refusal (entries rule (schema_of t) values)) (rows_of_nodes nodes) bookmark (record_of bytes) fit.not_null at,
-          none_at (λ values. is_cut_refusal (entries rule (schema_of t) values)) (rows_of_nodes nodes) bookmark (record_of bytes) fit.not_cut at,
-        )
+    takes bookmark bytes e = row_taken trees t rule sorted fit bookmark bytes e
 
     row : (bookmark : List ℕ) (o : Option (List ℕ)) → row_under nodes bookmark ≡ o → IfSome o (IsRowUnder t bookmark) → IfSome o (IsRowUnder (with_index rule t) bookmark)
     row bookmark None e is = tt

@@ -50,7 +50,7 @@ abbrev is_none_left : List ℕ → Bool
 is_none_left [] = true
 is_none_left (x ∷ xs) = false
 
-row_some : (row : List ℕ) → IsRecordRow row → row_in_node row ≡ Some row
+pub row_some : (row : List ℕ) → IsRecordRow row → row_in_node row ≡ Some row
 row_some [] is = impossible (sym (ap (λ bytes. is_none_left bytes) is.spelled))
 row_some (x ∷ xs) is = refl
 
@@ -77,7 +77,7 @@ node_of_extent P nodes own there = by (find (has_key own) nodes) there
     by None e = absurd e
     by (Some n) e = refl
 
-table_of_node : (trees : List StoredTable) (id : ℕ) (bookmark : List ℕ) → is_some (get_in (table_nodes trees id) bookmark) ≡ true → has_table trees id ≡ true
+pub table_of_node : (trees : List StoredTable) (id : ℕ) (bookmark : List ℕ) → is_some (get_in (table_nodes trees id) bookmark) ≡ true → has_table trees id ≡ true
 table_of_node trees id bookmark e = there_or (has_table trees id) (λ none. sym (ap (λ nodes. is_some (get_in nodes bookmark)) (no_part (is_table id) (λ x. x.nodes) trees none)) ∙ e)
 
 pub fills : (laws : TreeLaws) (trees : List StoredTable) (id : ℕ) (bookmark row : List ℕ) → is_some (get_in (table_nodes trees id) bookmark) ≡ true → ((table : ℕ) → are_sorted (bookmark_entries (table_nodes trees table)) ≡ true)

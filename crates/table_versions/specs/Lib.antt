@@ -9,3 +9,5 @@ pub mod KeyConflicts
 pub mod UndoneChanges
 pub mod SchemaSteps
 pub mod PutRecords
+pub mod NewEntries
+pub mod LostColumns

@@ -1,19 +1,20 @@
 -- Schema steps of the store: what is asked of one, and what it leaves.
-use Rattle.std.specs.Prelude.{◌≡◌, ◌==◌, ◌≤◌, true, false, List, []}
+use Rattle.std.specs.Prelude.{◌≡◌, ◌==◌, ◌<◌, ◌≤◌, true, false, List, [], IfSome, IsSomeAnd, is_some}
 use Rattle.std.specs.List.{list_all, list_any}
 use Rattle.column_set.specs.declared.columns.Column.{Column}
 use Rattle.column_set.specs.RecordValues.{is_kept_column}
 use Rattle.database_state.specs.Puts.{is_cut_refusal, is_null_refusal}
 use Rattle.database_state.specs.SchemaChanges.{greatest_table_after, has_column, rule_columns}
-use Rattle.database_state.specs.Table.{Table, schema_of}
+use Rattle.database_state.specs.Table.{Table, schema_of, table_with_id}
 use Rattle.index_derive.specs.declared.rules.IndexRule.{IndexRule}
-use Rattle.index_derive.specs.Entries.{entries, is_legal}
+use Rattle.index_derive.specs.Entries.{column_is_used, entries, is_legal}
 use Rattle.index_derive.specs.declared.schema_calls.SchemaStep.{SchemaStep}
+use Rattle.index_derive.specs.declared.schema_calls.SchemaStep.TheVariants as step
 use Rattle.jet_catalog.specs.Catalog.{CatalogState}
 use Rattle.table_trees.specs.StoredTables.{StoredTable}
 use Rattle.versioned_tables.specs.VersionedTables.{with_schema_step}
 use Rattle.table_versions.specs.StoredVersions.{StoredVersions}
-use Rattle.table_versions.specs.VersionsKept.{AreKept}
+use Rattle.table_versions.specs.VersionsKept.{AreKept, secondary_rule}
 use Rattle.table_versions.specs.VersionsView.{stored_versions}
 
 -- the store after a step
@@ -43,10 +44,14 @@ pub record IsIndexFor (rule : IndexRule) (table : Table) : Type 0 where
   pub not_null : list_any (λ row. is_null_refusal (entries rule (schema_of table) row.1)) table.rows ≡ false
   pub not_cut : list_any (λ row. is_cut_refusal (entries rule (schema_of table) row.1)) table.rows ≡ false
 
--- The same of a table without a record.
-pub record IsEmptyFor (rule : IndexRule) (table : Table) : Type 0 where
-  pub fits : IsIndexFor rule table
-  pub empty : table.rows ≡ []
+-- What the store asks of a schema step.
+abbrev pub CanMake : SchemaStep → StoredVersions → Type 0
+CanMake (step.CreateTable table name) store = store.greatest_table < table.0
+CanMake (step.DeleteTable table) store = is_some (table_with_id store.store.tables table.0) ≡ true
+CanMake (step.AddColumn table column) store = IfSome (table_with_id store.store.tables table.0) (TakesColumn column)
+CanMake (step.DeleteColumn table column) store = IsSomeAnd (table_with_id store.store.tables table.0) (λ t. column_is_used column t.indexes ≡ false)
+CanMake (step.CreateIndex table rule) store = IsSomeAnd (table_with_id store.store.tables table.0) (IsIndexFor rule)
+CanMake (step.DeleteIndex table index) store = IsSomeAnd (table_with_id store.store.tables table.0) (λ t. is_some (secondary_rule t index.0) ≡ true)
 
 -- While no change is held: the catalog and the trees have become those after a step.
 pub record IsMade (made : SchemaStep) (was : CatalogState) (trees : List StoredTable) (is : CatalogState) (other : List StoredTable) : Type 0 where

@@ -5,11 +5,15 @@
 mod changing;
 mod conflicting_keys;
 mod ending;
+mod filling;
 mod finding;
 mod forgetting;
 mod keys;
+mod making;
+mod new_entries;
 mod putting;
 mod reading;
+mod rewriting;
 mod schema;
 mod store;
 mod telling;

@@ -1,20 +1,20 @@
 //! Schema steps, once no change is held.
 
-ghost use Rattle.std.specs.Prelude.{◌≡◌, ◌<◌, ℕ, [], List, map, true, false, is_some, IfSome, IsSomeAnd, OnErr, OnOk};
+ghost use Rattle.std.specs.Prelude.{◌≡◌, ◌<◌, ℕ, [], List, map, true, is_some, IfSome, IsSomeAnd, OnErr, OnOk};
 ghost use Rattle.database_state.specs.Table.{table_with_id};
 ghost use Rattle.index_derive.specs.declared.schema_calls.SchemaStep.TheVariants as step;
-ghost use Rattle.table_versions.specs.SchemaSteps.{IsEmptyFor, IsMade, TakesColumn, after_step};
+ghost use Rattle.table_versions.specs.SchemaSteps.{IsMade, TakesColumn, after_step};
 ghost use Rattle.table_versions.specs.VersionsKept.{AreKept, secondary_rule};
 ghost use Rattle.table_versions.specs.VersionsView.{with_newest};
 
 use crate::store::TableVersions;
 use column_set::Column;
-use index_derive::{IndexRule, SchemaStep};
+use index_derive::SchemaStep;
 use jet_base::{IndexId, OutOfMemory, TableId};
 use jet_catalog::Catalog;
 use table_trees::{
-    TableTrees, indexes_after_a_change, indexes_beside_a_new_one, indexes_without_one,
-    tables_beside_a_new_one, tables_without_one,
+    TableTrees, indexes_after_a_change, indexes_without_one, tables_beside_a_new_one,
+    tables_without_one,
 };
 
 impl TableVersions {
@@ -71,22 +71,6 @@ impl TableVersions {
         ensures err { OnErr result (self.new ≡ self.old) }
     {
         drop_index(&mut self.catalog, &mut self.trees, made, table, index)
-    }
-
-    /// An index of a table without a record comes. After want of memory all is as it was.
-    pub fn make_empty_index(
-        &mut self,
-        made: &SchemaStep,
-        table: TableId,
-        rule: &IndexRule,
-    ) -> Result<(), OutOfMemory>
-        requires settled { self.old.store.held ≡ [] }
-        requires step { made.now ≡ step.CreateIndex table rule.now }
-        requires fits { IsSomeAnd (table_with_id self.old.store.tables table.0) (IsEmptyFor rule.now) }
-        ensures ok { OnOk result (self.new ≡ after_step made.now self.old) }
-        ensures err { OnErr result (self.new ≡ self.old) }
-    {
-        put_index(&mut self.catalog, &mut self.trees, made, table, rule)
     }
 }
 
@@ -180,77 +164,6 @@ fn drop_index(
             trees.remove_index(table, index);
             Ok(())
         }
-        Err(fault) => Err(fault),
-    }
-}
-
-// An index of a table without a record comes. The primary one needs no tree.
-fn put_index(
-    catalog: &mut Catalog,
-    trees: &mut TableTrees,
-    made: &SchemaStep,
-    table: TableId,
-    rule: &IndexRule,
-) -> Result<(), OutOfMemory>
-    requires kept { AreKept catalog.old.tables trees.old [] }
-    requires step { made.now ≡ step.CreateIndex table rule.now }
-    requires fits { IsSomeAnd (table_with_id (map (with_newest trees.old) catalog.old.tables) table.0) (IsEmptyFor rule.now) }
-    ensures ok { OnOk result (IsMade made.now catalog.old trees.old catalog.new trees.new) }
-    ensures err { OnErr result ((catalog.new ≡ catalog.old) × (trees.new ≡ trees.old)) }
-{
-    if rule.flags.primary {
-        put_primary(catalog, trees, made, table, rule)
-    } else {
-        put_secondary(catalog, trees, made, table, rule)
-    }
-}
-
-// A primary index comes, which needs no tree of its own.
-fn put_primary(
-    catalog: &mut Catalog,
-    trees: &TableTrees,
-    made: &SchemaStep,
-    table: TableId,
-    rule: &IndexRule,
-) -> Result<(), OutOfMemory>
-    requires kept { AreKept catalog.old.tables trees.now [] }
-    requires step { made.now ≡ step.CreateIndex table rule.now }
-    requires primary { rule.now.flags.primary ≡ true }
-    requires fits { IsSomeAnd (table_with_id (map (with_newest trees.now) catalog.old.tables) table.0) (IsEmptyFor rule.now) }
-    ensures ok { OnOk result (IsMade made.now catalog.old trees.now catalog.new trees.now) }
-    ensures err { OnErr result (catalog.new ≡ catalog.old) }
-{
-    trees.nodes_are_in_order();
-    catalog.make(made)
-}
-
-// Another index comes: its tree first, which goes again where the catalog has no memory for it.
-fn put_secondary(
-    catalog: &mut Catalog,
-    trees: &mut TableTrees,
-    made: &SchemaStep,
-    table: TableId,
-    rule: &IndexRule,
-) -> Result<(), OutOfMemory>
-    requires kept { AreKept catalog.old.tables trees.old [] }
-    requires step { made.now ≡ step.CreateIndex table rule.now }
-    requires secondary { rule.now.flags.primary ≡ false }
-    requires fits { IsSomeAnd (table_with_id (map (with_newest trees.old) catalog.old.tables) table.0) (IsEmptyFor rule.now) }
-    ensures ok { OnOk result (IsMade made.now catalog.old trees.old catalog.new trees.new) }
-    ensures err { OnErr result ((catalog.new ≡ catalog.old) × (trees.new ≡ trees.old)) }
-{
-    indexes_after_a_change();
-    indexes_beside_a_new_one();
-    catalog.tables();
-    trees.nodes_are_in_order();
-    match trees.add_index(table, rule.id) {
-        Ok(()) => match catalog.make(made) {
-            Ok(()) => Ok(()),
-            Err(fault) => {
-                trees.remove_index(table, rule.id);
-                Err(fault)
-            }
-        },
         Err(fault) => Err(fault),
     }
 }

@@ -1,17 +1,17 @@
 use Rattle.std.proofs.Common.{subst}
 use Rattle.std.specs.Prelude.{Option, IsSomeAnd}
 use Rattle.database_state.specs.Table.{Table}
-use Rattle.table_versions.specs.SchemaSteps.{IsEmptyFor}
+use Rattle.table_versions.specs.SchemaSteps.{IsIndexFor}
 use Rattle.table_versions.proofs.Held.{either, on_err, on_ok}
 use Rattle.table_versions.proofs.StepInStore.{in_catalog, is_after, settled_parts, unchanged_kept, unchanged_shown}
-use Rattle.table_versions.proofs.store.TableVersions.make_empty_index.Goals as goal
+use Rattle.table_versions.proofs.store.TableVersions.make_index.Goals as goal
 
 pub put_index-requires-clause-kept : goal.put_index-requires-clause-kept
 put_index-requires-clause-kept c = settled_parts c.self.inside.catalog c.self.inside.trees c.self.inside.versions c.self.invariant c.args.self.now c.self.view_is c.requires.settled
 
 pub put_index-requires-clause-fits : goal.put_index-requires-clause-fits
 put_index-requires-clause-fits c =
-    subst (λ (o : Option Table). IsSomeAnd o (IsEmptyFor c.args.rule.now)) (in_catalog c.self.inside.catalog c.self.inside.trees c.self.inside.versions c.args.self.now c.self.view_is c.args.table.0) c.requires.fits
+    subst (λ (o : Option Table). IsSomeAnd o (IsIndexFor c.args.rule.now)) (in_catalog c.self.inside.catalog c.self.inside.trees c.self.inside.versions c.args.self.now c.self.view_is c.args.table.0) c.requires.fits
 
 pub invariant_of-self : goal.invariant_of-self
 invariant_of-self c =

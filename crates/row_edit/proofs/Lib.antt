@@ -1,0 +1,2 @@
+pub mod OtherFields
+pub mod Passing
