@@ -20,7 +20,7 @@ lawful_by_kind state session kind h = and_right (has_number state.number kind) (
 below : (n m : ℕ) → nat_lt n m ≡ true → n < m
 below n m h = grind (arith, nat_tests)
 
-at_most : (n m : ℕ) → nat_le n m ≡ true → n ≤ m
+pub at_most : (n m : ℕ) → nat_le n m ≡ true → n ≤ m
 at_most n m h = grind (arith, nat_tests)
 
 abbrev pub TellsLive : Type 0

@@ -5,3 +5,5 @@ pub mod RowValues
 pub mod PrimaryKeys
 pub mod Storable
 pub mod Turns
+pub mod Settled
+pub mod SchemaSteps

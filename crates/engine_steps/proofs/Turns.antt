@@ -12,6 +12,7 @@ use Rattle.database_state.specs.State.{DatabaseState, LiveSession, levels}
 use Rattle.database_state.specs.Step.{state_after}
 use Rattle.database_state.specs.Lawful.{is_lawful, is_live as is_live_in}
 use Rattle.record_changes.proofs.Tests.{and_right, same_number}
+use Rattle.session_local.specs.Local.{LocalState}
 use Rattle.version_history.specs.History.{EachTwo, LabelsRise}
 use Rattle.version_history.proofs.LawfulEntries.{outside}
 use Rattle.version_cleanup.specs.declared.live.Transaction.{Transaction}
@@ -19,7 +20,7 @@ use Rattle.version_cleanup.specs.LiveSessions.{LiveState, began, ended, live_sta
 use Rattle.engine_versions.specs.BuiltTables.{makes_built}
 use Rattle.engine_versions.specs.EngineState.{EngineState, HasRoomForEnds}
 use Rattle.engine_versions.specs.EngineSteps.{cleaned_for, effect_on, engine_after, step_cleans}
-use Rattle.engine_versions.specs.HoldsState.{HoldsState}
+use Rattle.engine_versions.specs.HoldsState.{HoldsAllInStep, HoldsState}
 use Rattle.engine_versions.proofs.Cleans.{CleanHolds, clean_for_holds}
 use Rattle.engine_steps.specs.Steps.{MayCome, MayTake, begin_taken_back, entry_by}
 use Rattle.engine_steps.proofs.Fitting.{lawful_by_kind}
@@ -29,7 +30,7 @@ use Rattle.engine_steps.proofs.Fitting.{lawful_by_kind}
 abbrev one : ℕ → (LiveState → LiveState) → LiveState → LiveState
 one label change x = cond (x.label == label) (change x) x
 
-apart : (a b : ℕ) → b < a → (a == b) ≡ false
+pub apart : (a b : ℕ) → b < a → (a == b) ≡ false
 apart a b lt = grind (arith, nat_tests)
 
 -- what has other labels stays
@@ -106,8 +107,15 @@ room_last hold room engine session kind may is =
 
 -- ---- after a clean
 
-pub cleaned_lawful : CleanHolds → (engine : EngineState) (step : Step) → MayTake engine step → MayTake (cleaned_for (step_cleans step) engine) step
-cleaned_lawful cleans engine step may = record { state = may.state; holds = clean_for_holds cleans (step_cleans step) engine may.state may.holds; lawful = may.lawful; built = may.built }
+-- the law that an engine holds its state after a clean for a step
+abbrev pub StepCleanHolds : Type 0
+StepCleanHolds = (engine : EngineState) (state : DatabaseState) (step : Step) → HoldsState engine state → HoldsState (cleaned_for (step_cleans step) engine) state
+
+pub cleaned_holds : CleanHolds → (engine : EngineState) (state : DatabaseState) (step : Step) → HoldsState engine state → HoldsState (cleaned_for (step_cleans step) engine) state
+cleaned_holds cleans engine state step h = clean_for_holds cleans (step_cleans step) engine state h
+
+pub cleaned_in_step : CleanHolds → (engine : EngineState) (locals : ℕ → LocalState) (step : Step) → HoldsAllInStep engine locals → HoldsAllInStep (cleaned_for (step_cleans step) engine) locals
+cleaned_in_step cleans engine locals step h = record { state = h.state; holds = cleaned_holds cleans engine h.state step h.holds; in_step = h.in_step }
 
 pub cleaned_room : (engine : EngineState) (step : Step) → HasRoomForEnds engine → HasRoomForEnds (cleaned_for (step_cleans step) engine)
 cleaned_room engine step is = by (step_cleans step)
@@ -115,3 +123,6 @@ cleaned_room engine step is = by (step_cleans step)
     by : (b : Bool) → HasRoomForEnds (cleaned_for b engine)
     by true = record { begun = is.begun; room = is.room }
     by false = is
+
+pub cleaned_lawful : StepCleanHolds → (engine : EngineState) (step : Step) → MayTake engine step → MayTake (cleaned_for (step_cleans step) engine) step
+cleaned_lawful holds engine step may = record { state = may.state; holds = holds engine may.state step may.holds; lawful = may.lawful; built = may.built }

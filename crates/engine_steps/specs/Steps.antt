@@ -1,5 +1,5 @@
 -- When an entry can be made, and which need memory.
-use Rattle.std.specs.Prelude.{◌≡◌, ℕ, ◌-◌, Bool, true, false, Some}
+use Rattle.std.specs.Prelude.{◌≡◌, ℕ, ◌-◌, Bool, true, false, List, [], Some}
 use Rattle.jet_base.specs.Ids.{session_id}
 use Rattle.index_derive.specs.declared.log.Entry.{Entry}
 use Rattle.index_derive.specs.declared.log.EntryKind.{EntryKind}
@@ -11,6 +11,7 @@ use Rattle.database_state.specs.State.{DatabaseState}
 use Rattle.database_state.specs.Lawful.{is_lawful}
 use Rattle.lawful_answers.specs.LawfulSteps.{AreLawful}
 use Rattle.version_cleanup.specs.LiveSessions.{ended, with_session}
+use Rattle.versioned_tables.specs.HeldRecords.{HeldRecord}
 use Rattle.engine_versions.specs.BuiltTables.{AllMakeBuilt, makes_built}
 use Rattle.engine_versions.specs.EngineState.{EngineState}
 use Rattle.engine_versions.specs.HoldsState.{HoldsState}
@@ -52,15 +53,13 @@ abbrev pub step_may_lack_memory : Step → Bool
 step_may_lack_memory (One made) = may_lack_memory made.kind
 step_may_lack_memory (Alone made) = may_lack_memory made.kind
 
--- ---- what this crate makes
+-- ---- schema steps
 
--- Not yet: the entries that undo all levels of a session, and schema steps.
-abbrev pub is_made_here : EntryKind → Bool
-is_made_here entry.Leave = false
-is_made_here entry.UndoAll = false
-is_made_here (entry.Schema made) = false
-is_made_here _ = true
+-- a schema step is made once no change is held
+abbrev pub IsSettledFor : EntryKind → List HeldRecord → Type 0
+IsSettledFor (entry.Schema made) held = held ≡ []
+IsSettledFor _ held = Unit {0}
 
-abbrev pub step_is_made_here : Step → Bool
-step_is_made_here (One made) = is_made_here made.kind
-step_is_made_here (Alone made) = is_made_here made.kind
+abbrev pub IsSettledForStep : Step → List HeldRecord → Type 0
+IsSettledForStep (One made) held = IsSettledFor made.kind held
+IsSettledForStep (Alone made) held = IsSettledFor made.kind held

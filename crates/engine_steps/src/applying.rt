@@ -1,38 +1,40 @@
 //! A step takes effect.
 
-ghost use Rattle.std.specs.Prelude.{◌≡◌, ◌≤◌, true, Some, OnOk, OnErr};
+ghost use Rattle.std.specs.Prelude.{◌≡◌, ◌+◌, ◌^◌, ◌≤◌, true, false, Some, OnOk, OnErr};
 ghost use Rattle.index_derive.specs.declared.log.EntryKind.TheVariants as entry;
 ghost use Rattle.index_derive.specs.declared.log.Step.TheVariants.{Alone};
 ghost use Rattle.index_derive.specs.Steps.{entries_of_step};
 ghost use Rattle.engine_versions.specs.EngineState.{HasRoomForEnds};
 ghost use Rattle.engine_versions.specs.EngineSteps.{cleaned_for, cleans_first, effect_on, engine_after_all, engine_after_step, step_cleans};
-ghost use Rattle.engine_steps.specs.Steps.{MayCome, MayTake, begin_taken_back, entry_by, is_made_here, may_lack_memory, step_is_made_here, step_may_lack_memory};
+ghost use Rattle.engine_steps.specs.Steps.{IsSettledFor, IsSettledForStep, MayCome, MayTake, begin_taken_back, entry_by, may_lack_memory, step_may_lack_memory};
 
 use crate::change_steps::{change, changes_are_formed};
 use crate::cleaning::clean_all;
 use crate::laws::{
-    a_step_may_come_after_its_clean, entries_of_a_step_alone_come_in_turn,
-    lawful_changes_can_be_made, lawful_entries_fit_the_sessions,
+    a_clean_for_a_step_leaves_the_state, a_step_may_come_after_its_clean,
+    entries_of_a_step_alone_come_in_turn, lawful_changes_can_be_made,
+    lawful_entries_fit_the_sessions, lawful_schema_steps_can_be_made,
 };
-use crate::session_steps::{begin, commit, enter, open, release, save, shut, undo};
+use crate::schema_steps::make;
+use crate::session_steps::{
+    begin, commit, enter, leave, open, release, save, shut, undo, undo_all,
+};
 use engine_parts::Engine;
 use engine_versions::ends_always_find_room;
 use index_derive::{EntryKind, Step};
 use jet_base::{OutOfMemory, Session};
 
-/// Makes a step that was decided in this state, or that is lawful in a replay: a change of a record cleans first, and then the
-/// entries take effect in their order, each with the next number. After want of memory all is as it was, but that the clean
-/// stands.
-///
-/// Not yet: steps that undo all levels of a session, and schema steps.
+/// Makes a step that was decided in this state, or that is lawful in a replay: a change of a record and a schema step clean
+/// first, and then the entries take effect in their order, each with the next number. After want of memory all is as it was, but
+/// that the clean stands.
 pub fn apply(engine: &mut Engine, step: &Step) -> Result<(), OutOfMemory>
     requires lawful { MayTake engine.old step.now }
     requires room { HasRoomForEnds engine.old }
-    requires here { step_is_made_here step.now ≡ true }
     ensures done { OnOk result (engine.new ≡ engine_after_step engine.old step.now) }
     ensures kept { OnErr result (engine.new ≡ cleaned_for (step_cleans step.now) engine.old) }
     ensures memory { OnErr result (step_may_lack_memory step.now ≡ true) }
 {
+    a_clean_for_a_step_leaves_the_state();
     a_step_may_come_after_its_clean();
     if cleans(step) {
         clean_all(engine);
@@ -64,7 +66,7 @@ fn is_change(kind: &EntryKind) -> bool
 fn apply_entries(engine: &mut Engine, step: &Step) -> Result<(), OutOfMemory>
     requires lawful { MayTake engine.old step.now }
     requires room { HasRoomForEnds engine.old }
-    requires here { step_is_made_here step.now ≡ true }
+    requires settled { IsSettledForStep step.now engine.old.store.held }
     ensures done { OnOk result (engine.new ≡ engine_after_all engine.old (entries_of_step (Some step.now))) }
     ensures kept { OnErr result (engine.new ≡ engine.old) }
     ensures memory { OnErr result (step_may_lack_memory step.now ≡ true) }
@@ -79,7 +81,7 @@ fn apply_entries(engine: &mut Engine, step: &Step) -> Result<(), OutOfMemory>
 fn apply_alone(engine: &mut Engine, session: Session, kind: &EntryKind) -> Result<(), OutOfMemory>
     requires lawful { MayTake engine.old (Alone (entry_by session.0 kind.now)) }
     requires room { HasRoomForEnds engine.old }
-    requires here { is_made_here kind.now ≡ true }
+    requires settled { IsSettledFor kind.now engine.old.store.held }
     ensures done { OnOk result (engine.new ≡ effect_on (effect_on (effect_on engine.old session.0 entry.Begin) session.0 kind.now) session.0 entry.Commit) }
     ensures kept { OnErr result (engine.new ≡ engine.old) }
     ensures memory { OnErr result (may_lack_memory kind.now ≡ true) }
@@ -108,16 +110,11 @@ fn take_back_begin(engine: &mut Engine, session: Session)
     engine.number -= 1;
 }
 
-/// Makes an entry of the session that is lawful, each kind but those that end all levels and schema steps. After want of memory
-/// all is as it was.
-pub(crate) fn apply_entry(
-    engine: &mut Engine,
-    session: Session,
-    kind: &EntryKind,
-) -> Result<(), OutOfMemory>
+// Makes an entry of the session that is lawful. After want of memory all is as it was.
+fn apply_entry(engine: &mut Engine, session: Session, kind: &EntryKind) -> Result<(), OutOfMemory>
     requires lawful { MayCome engine.old (entry_by session.0 kind.now) }
     requires room { HasRoomForEnds engine.old }
-    requires here { is_made_here kind.now ≡ true }
+    requires settled { IsSettledFor kind.now engine.old.store.held }
     ensures done { OnOk result (engine.new ≡ effect_on engine.old session.0 kind.now) }
     ensures kept { OnErr result (engine.new ≡ engine.old) }
     ensures memory { OnErr result (may_lack_memory kind.now ≡ true) }
@@ -125,37 +122,41 @@ pub(crate) fn apply_entry(
     ends_always_find_room();
     lawful_entries_fit_the_sessions();
     lawful_changes_can_be_made();
+    lawful_schema_steps_can_be_made();
     match kind {
         EntryKind::Enter => enter(engine, session),
         EntryKind::Open(table) => open(engine, session, *table),
-        EntryKind::Shut(table) => {
-            shut(engine, session, *table);
-            Ok(())
-        }
-        EntryKind::Begin => {
-            begin(engine, session);
-            Ok(())
-        }
-        EntryKind::Save => {
-            save(engine, session);
-            Ok(())
-        }
-        EntryKind::Release => {
-            release(engine, session);
-            Ok(())
-        }
-        EntryKind::Commit => {
-            commit(engine, session);
-            Ok(())
-        }
-        EntryKind::Undo => {
-            undo(engine, session);
-            Ok(())
-        }
         EntryKind::Change(made) => {
             changes_are_formed(made);
             change(engine, session, made)
         }
-        EntryKind::Leave | EntryKind::UndoAll | EntryKind::Schema(_) => unreachable!(),
+        EntryKind::Schema(made) => make(engine, made),
+        _ => {
+            apply_without_memory(engine, session, kind);
+            Ok(())
+        }
+    }
+}
+
+// Makes an entry of the session that is lawful and takes no memory: one that ends something, or a level that begins.
+fn apply_without_memory(engine: &mut Engine, session: Session, kind: &EntryKind)
+    requires lawful { MayCome engine.old (entry_by session.0 kind.now) }
+    requires number { engine.old.number ≤ 2 ^ 35 + 1 }
+    requires without { may_lack_memory kind.now ≡ false }
+    ensures { engine.new ≡ effect_on engine.old session.0 kind.now }
+{
+    lawful_entries_fit_the_sessions();
+    match kind {
+        EntryKind::Shut(table) => shut(engine, session, *table),
+        EntryKind::Begin => begin(engine, session),
+        EntryKind::Save => save(engine, session),
+        EntryKind::Release => release(engine, session),
+        EntryKind::Commit => commit(engine, session),
+        EntryKind::Undo => undo(engine, session),
+        EntryKind::UndoAll => undo_all(engine, session),
+        EntryKind::Leave => leave(engine, session),
+        EntryKind::Enter | EntryKind::Open(_) | EntryKind::Change(_) | EntryKind::Schema(_) => {
+            unreachable!()
+        }
     }
 }

@@ -6,14 +6,18 @@ ghost use Rattle.index_derive.specs.declared.log.EntryKind.TheVariants as entry;
 ghost use Rattle.index_derive.specs.declared.log.EntryKind.{EntryKind};
 ghost use Rattle.index_derive.specs.declared.log.Step.{Step};
 ghost use Rattle.index_derive.specs.declared.log.Step.TheVariants.{Alone};
+ghost use Rattle.index_derive.specs.declared.schema_calls.SchemaStep.{SchemaStep};
 ghost use Rattle.database_state.specs.State.{DatabaseState};
+ghost use Rattle.session_local.specs.Local.{LocalState};
 ghost use Rattle.version_cleanup.specs.LiveSessions.{is_live, levels_in};
+ghost use Rattle.engine_parts.specs.Parts.{tables_of};
 ghost use Rattle.engine_versions.specs.EngineState.{EngineState, HasRoomForEnds};
 ghost use Rattle.engine_versions.specs.EngineSteps.{cleaned_for, effect_on, step_cleans};
-ghost use Rattle.engine_versions.specs.HoldsState.{HoldsState};
+ghost use Rattle.engine_versions.specs.HoldsState.{HoldsAllInStep, HoldsState};
 ghost use Rattle.engine_steps.specs.Changing.{CanChange, IsFormed};
 ghost use Rattle.engine_steps.specs.Cleans.{CanGo, without_oldest_held};
-ghost use Rattle.engine_steps.specs.Steps.{MayCome, MayTake, begin_taken_back, entry_by};
+ghost use Rattle.engine_steps.specs.Steps.{IsSettledForStep, MayCome, MayTake, begin_taken_back, entry_by};
+ghost use Rattle.table_versions.specs.SchemaSteps.{CanMake};
 
 use column_set::values_here_are_the_record;
 use engine_versions::{
@@ -48,6 +52,11 @@ pub(crate) fn lawful_changes_can_be_made()
     newest_records_are_told();
 }
 
+/// The tables with versions can make each lawful schema step.
+pub(crate) fn lawful_schema_steps_can_be_made()
+    ensures { (engine : EngineState) (session : ℕ) (made : SchemaStep) → MayCome engine (entry_by session (entry.Schema made)) → CanMake made (tables_of engine) }
+{}
+
 /// Of a step with a begin and a commit each entry may come in its turn, and there is room for it. The begin can be taken back.
 pub(crate) fn entries_of_a_step_alone_come_in_turn()
     ensures first { (engine : EngineState) (session : ℕ) (kind : EntryKind) → MayTake engine (Alone (entry_by session kind)) → MayCome engine (entry_by session entry.Begin) }
@@ -60,10 +69,20 @@ pub(crate) fn entries_of_a_step_alone_come_in_turn()
     ends_always_find_room();
 }
 
-/// A step may be made after its clean too, and there is room for it.
-pub(crate) fn a_step_may_come_after_its_clean()
-    ensures lawful { (engine : EngineState) (step : Step) → MayTake engine step → MayTake (cleaned_for (step_cleans step) engine) step }
+/// What a step leaves that finds no memory, which is the clean before it alone: the engine holds the very state that it held,
+/// with which the same sessions are in step, and has room for all ends.
+pub fn a_clean_for_a_step_leaves_the_state()
+    ensures holds { (engine : EngineState) (state : DatabaseState) (step : Step) → HoldsState engine state → HoldsState (cleaned_for (step_cleans step) engine) state }
+    ensures in_step { (engine : EngineState) (locals : ℕ → LocalState) (step : Step) → HoldsAllInStep engine locals → HoldsAllInStep (cleaned_for (step_cleans step) engine) locals }
     ensures room { (engine : EngineState) (step : Step) → HasRoomForEnds engine → HasRoomForEnds (cleaned_for (step_cleans step) engine) }
 {
     a_clean_leaves_the_state();
+}
+
+/// A step may be made after its clean too. A schema step then finds no held change: none is open, and no transaction needs one.
+pub(crate) fn a_step_may_come_after_its_clean()
+    ensures lawful { (engine : EngineState) (step : Step) → MayTake engine step → MayTake (cleaned_for (step_cleans step) engine) step }
+    ensures settled { (engine : EngineState) (step : Step) → MayTake engine step → IsSettledForStep step (cleaned_for (step_cleans step) engine).store.held }
+{
+    a_clean_for_a_step_leaves_the_state();
 }

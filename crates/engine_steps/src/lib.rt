@@ -5,7 +5,9 @@ mod applying;
 mod change_steps;
 mod cleaning;
 mod laws;
+mod schema_steps;
 mod session_steps;
 
 pub use applying::apply;
 pub use cleaning::clean;
+pub use laws::a_clean_for_a_step_leaves_the_state;

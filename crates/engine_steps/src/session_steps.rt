@@ -2,10 +2,15 @@
 
 ghost use Rattle.std.specs.Prelude.{◌≡◌, ◌+◌, ◌^◌, ◌≤◌, ◌<◌, false, length, OnOk, OnErr};
 ghost use Rattle.index_derive.specs.declared.log.EntryKind.TheVariants as entry;
+ghost use Rattle.database_state.specs.State.{DatabaseState};
 ghost use Rattle.version_cleanup.specs.LiveSessions.{is_live, levels_in};
+ghost use Rattle.versioned_tables.specs.HeldRecords.{is_open_of};
+ghost use Rattle.versioned_tables.specs.VersionedTables.{with_changes_undone};
 ghost use Rattle.engine_versions.specs.EngineSteps.{effect_on};
+ghost use Rattle.engine_versions.specs.HoldsState.{HoldsState};
 
 use engine_parts::Engine;
+use engine_versions::open_changes_stand_by_rising_levels;
 use jet_base::{OutOfMemory, Session, TableId};
 use version_cleanup::EnterFault;
 
@@ -103,4 +108,36 @@ pub(crate) fn undo(engine: &mut Engine, session: Session)
     engine.tables.undo_level(session, level);
     engine.sessions.end_level(session);
     engine.number += 1;
+}
+
+/// All levels of the session's transaction are undone.
+pub(crate) fn undo_all(engine: &mut Engine, session: Session)
+    requires number { engine.old.number ≤ 2 ^ 35 + 1 }
+    requires held { (state : DatabaseState) × HoldsState engine.old state }
+    ensures { engine.new ≡ effect_on engine.old session.0 entry.UndoAll }
+{
+    undo_changes(engine, session);
+    engine.sessions.end_transaction(session);
+    engine.number += 1;
+}
+
+/// The session ends, and all levels of its transaction are undone.
+pub(crate) fn leave(engine: &mut Engine, session: Session)
+    requires number { engine.old.number ≤ 2 ^ 35 + 1 }
+    requires held { (state : DatabaseState) × HoldsState engine.old state }
+    ensures { engine.new ≡ effect_on engine.old session.0 entry.Leave }
+{
+    undo_changes(engine, session);
+    engine.sessions.leave(session);
+    engine.number += 1;
+}
+
+// The session's open changes are undone, of all levels.
+fn undo_changes(engine: &mut Engine, session: Session)
+    requires { (state : DatabaseState) × HoldsState engine.old state }
+    ensures { engine.new ≡ record engine.old { store = with_changes_undone (is_open_of session.0) engine.old.store } }
+{
+    open_changes_stand_by_rising_levels();
+    let _ = engine.levels(session);
+    engine.tables.undo_session(session);
 }

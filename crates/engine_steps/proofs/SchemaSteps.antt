@@ -1,0 +1,169 @@
+-- A lawful schema step can be made by the tables with versions.
+use Rattle.std.proofs.Common.{◌≡◌, ℕ, ◌+◌, ◌<◌, ◌≤◌, Bool, true, false, not, ◌&&◌, ◌||◌, cond, List, [], ◌∷◌, length, Option, Some, None, suc, refl, sym, ap, subst, ◌∙◌, arith}
+use Rattle.std.specs.Prelude.{◌==◌, find, is_none, is_some, nat_le, nat_lt, unwrap_or, IfSome, IsSomeAnd}
+use Rattle.std.specs.List.{AllByRecursion, list_all, list_any}
+use Rattle.std.proofs.lemmas.Bool.Decides.{nat_tests}
+use Rattle.jet_base.specs.TypeKinds.{is_long_type}
+use Rattle.jet_base.specs.declared.ids.ColumnId.{ColumnId}
+use Rattle.jet_base.specs.declared.ids.TableId.{TableId}
+use Rattle.jet_base.specs.declared.replies.Jet.TheVariants as jet
+use Rattle.column_set.specs.RecordValues.{is_kept_column}
+use Rattle.column_set.specs.declared.columns.Column.{Column}
+use Rattle.index_derive.specs.declared.log.EntryKind.TheVariants as entry
+use Rattle.index_derive.specs.declared.rules.IndexRule.{IndexRule}
+use Rattle.index_derive.specs.declared.schema_calls.SchemaStep.{SchemaStep}
+use Rattle.index_derive.specs.declared.schema_calls.SchemaStep.TheVariants as step
+use Rattle.index_derive.specs.Entries.{column_is_used, is_unique}
+use Rattle.database_state.specs.Table.{Table, primary_first, table_with_id}
+use Rattle.database_state.specs.State.{DatabaseState, levels}
+use Rattle.database_state.specs.SchemaChanges.{greatest_order, is_in_use, makes_table, new_table, next_index_id, rule_columns, schema_refusal, step_refusals, step_table}
+use Rattle.database_state.specs.Lawful.{has_next_numbers, is_name}
+use Rattle.record_changes.proofs.Tests.{and_left, and_right, and_second, impossible, not_true, or_first, or_second, same_number}
+use Rattle.version_keys.proofs.FreeKeys.{in_any_order}
+use Rattle.version_keys.proofs.IndexNumbers.{all_primary_first, none_of}
+use Rattle.version_keys.proofs.SchemaKeys.{IsNewIndex, at_found, new_index, unrefused}
+use Rattle.version_records.proofs.PrimaryKeys.{found_passes, of_found}
+use Rattle.engine_parts.specs.Parts.{tables_of}
+use Rattle.engine_versions.specs.BuiltTables.{is_built_column, makes_built}
+use Rattle.engine_versions.specs.EngineState.{EngineState}
+use Rattle.engine_versions.specs.HoldsState.{HoldsState}
+use Rattle.engine_versions.proofs.Telling.{tables_settled}
+use Rattle.versioned_tables.specs.HeldRecords.{HeldRecord}
+use Rattle.table_versions.specs.SchemaSteps.{CanMake, IsFirstPrimary, IsIndexFor, TakesColumn}
+use Rattle.table_versions.specs.StoredVersions.{StoredVersions}
+use Rattle.table_versions.specs.VersionsKept.{only_secondary, secondary_rule}
+use Rattle.engine_steps.specs.Steps.{MayCome, entry_by}
+use Rattle.engine_steps.proofs.Fitting.{at_most}
+use Rattle.engine_steps.proofs.Settled.{IsLawfulStep, lawful_step, none_open}
+
+-- ---- lists
+
+any_none : {X : Type 0} (p : X → Bool) (xs : List X) → AllByRecursion (λ x. p x ≡ false) xs → list_any p xs ≡ false
+any_none p [] h = refl
+any_none p (x ∷ xs) h = ap (λ b. b || list_any p xs) h.0 ∙ any_none p xs h.1
+
+none_found : {X : Type 0} (p : X → Bool) (xs : List X) → find p xs ≡ None → AllByRecursion (λ x. p x ≡ false) xs
+none_found p [] e = tt
+none_found {X = X} p (x ∷ xs) e = elim (p x) as (λ b. cond b (Some x) (find p xs) ≡ None → (b ≡ false) × AllByRecursion (λ x. p x ≡ false) xs) [
+  | true ↦ λ f. impossible (ap (λ (o : Option X). is_none o) f)
+  | false ↦ λ f. (refl, none_found p xs f)
+] e
+
+no_records : {X : Type 0} (xs : List X) → nat_lt 0 (length xs) ≡ false → xs ≡ []
+no_records [] h = refl
+no_records (x ∷ xs) h = impossible (sym h ∙ some (length xs))
+  where
+    some : (n : ℕ) → nat_lt 0 (suc n) ≡ true
+    some n = grind (arith, nat_tests)
+
+-- ---- the table of a step
+
+some_or : {X : Type 0} (o : Option X) (P : X → Type 0) → is_some o ≡ true → ((x : X) → o ≡ Some x → P x) → IsSomeAnd o P
+some_or None P there f = impossible there
+some_or (Some x) P there f = f x refl
+
+there_by : {X : Type 0} (o : Option X) → is_none o ≡ false → is_some o ≡ true
+there_by None e = sym e
+there_by (Some x) e = refl
+
+table_there : (state : DatabaseState) (session : ℕ) (made : SchemaStep) → is_none (schema_refusal state session made) ≡ true → makes_table made ≡ false → is_some (step_table state.tables made) ≡ true
+unfolding schema_refusal
+table_there state session made free other =
+    let refused = unrefused
+    ((not (levels state session == 0), jet.InTransaction) ∷ (not (makes_table made) && is_none (step_table state.tables made), jet.ObjectNotFound) ∷ (is_in_use state session (step_table state.tables made), jet.TableInUse)
+    ∷ step_refusals state (unwrap_or (step_table state.tables made) (new_table 0 [])) made) free in
+    there_by (step_table state.tables made) (and_second (not (makes_table made)) (is_none (step_table state.tables made)) (ap not other) refused.1.0)
+
+-- ---- each step
+
+above : (a b : ℕ) → (a == (b + 1)) ≡ true → b < a
+above a b e = grind (arith, nat_tests)
+
+-- a column that is built is not one that the engine keeps up
+not_kept : (column : Column) → is_built_column column ≡ true → is_kept_column column ≡ false
+not_kept column built = same column.escrow column.version column.auto (not_true (column.escrow || (column.version || column.auto)) (and_right (not (is_long_type column.kind)) (not (column.escrow || (column.version || column.auto))) built))
+  where
+    same : (a b d : Bool) → (a || (b || d)) ≡ false → (a || b || d) ≡ false
+    same true b d e = e
+    same false true d e = e
+    same false false d e = e
+
+any_takes : (o : Option Table) (column : Column) → is_kept_column column ≡ false → IfSome o (TakesColumn column)
+any_takes None column plain = tt
+any_takes (Some t) column plain = λ kept. impossible (sym plain ∙ kept)
+
+-- no index has the column, in whichever order they are asked
+column_unused : (column : ColumnId) (rules : List IndexRule) → column_is_used column (primary_first rules) ≡ false → column_is_used column rules ≡ false
+column_unused column rules e =
+    let used : IndexRule → Bool = λ rule. list_any (λ id. id == column.0) (rule_columns rule) in
+    any_none used rules (in_any_order (λ rule. used rule ≡ false) rules (none_of used (primary_first rules) e))
+
+-- an index that is there and is not the primary one has entries of its own
+other_index : (t : Table) (index : ℕ) → not (list_any (λ made. made.id.0 == index) t.indexes) ≡ false → list_any (λ made. (made.id.0 == index) && made.flags.primary) t.indexes ≡ false → is_some (secondary_rule t index) ≡ true
+other_index t index there other = by (find (λ r. r.id.0 == index) (primary_first t.indexes)) refl
+  where
+    denied : (b : Bool) → b ≡ false → not b ≡ false → false ≡ true
+    denied b e f = sym f ∙ ap not e
+
+    by : (o : Option IndexRule) → find (λ r. r.id.0 == index) (primary_first t.indexes) ≡ o → is_some (only_secondary o) ≡ true
+    by None e = impossible (denied (list_any (λ r. r.id.0 == index) t.indexes) (any_none (λ r. r.id.0 == index) t.indexes (in_any_order (λ r. (r.id.0 == index) ≡ false) t.indexes (none_found (λ r. r.id.0 == index) (primary_first t.indexes) e))) there)
+    by (Some r) e =
+        let own : (r.id.0 == index) ≡ true = found_passes (λ r. r.id.0 == index) (primary_first t.indexes) r e in
+        let plain : r.flags.primary ≡ false = and_second (r.id.0 == index) r.flags.primary own (of_found (λ r. ((r.id.0 == index) && r.flags.primary) ≡ false) (λ r. r.id.0 == index) (primary_first t.indexes) r e (all_primary_first (λ r. ((r.id.0 == index) && r.flags.primary) ≡ false) t.indexes (none_of (λ r. (r.id.0 == index) && r.flags.primary) t.indexes other))) in
+        ap (λ (b : Bool). is_some (cond b None (Some r))) plain
+
+-- ---- an index comes
+
+abbrev AreUnrefused : DatabaseState → Table → SchemaStep → Type 0
+AreUnrefused state t made = AllByRecursion (λ refusal. refusal.0 ≡ false) (step_refusals state t made)
+
+index_for : (state : DatabaseState) (id : TableId) (rule : IndexRule) (t : Table) → AreUnrefused state t (step.CreateIndex id rule) → rule.id.0 ≡ next_index_id t.indexes → nat_le rule.key_most 255 ≡ true → IsIndexFor rule t
+index_for state id rule t refused number short =
+    let new : IsNewIndex t rule = new_index state id rule t refused number in
+    record {
+      number = any_none (λ made. made.id.0 == rule.id.0) t.indexes new.number;
+      primary = λ primary. record {
+        first = and_second rule.flags.primary (list_any (λ made. made.flags.primary) t.indexes) primary refused.1.1.0;
+        empty = no_records t.rows (new.no_records primary);
+      };
+      legal = new.legal;
+      columns = new.columns;
+      short = at_most rule.key_most 255 short;
+      not_null = refused.1.1.1.1.1.1.1.0;
+      not_cut = refused.1.1.1.1.1.1.1.1.0;
+    }
+
+-- ---- all steps
+
+-- the store of the committed tables
+abbrev committed_store : DatabaseState → List HeldRecord → StoredVersions
+committed_store state held = record { greatest_table = state.greatest_table; store = record { tables = state.tables; held = held } }
+
+can_make : (state : DatabaseState) (session : ℕ) (made : SchemaStep) → IsLawfulStep state session made → makes_built (entry.Schema made) ≡ true → (held : List HeldRecord) → CanMake made (committed_store state held)
+can_make state session (step.CreateTable table name) is built held = above table.0 state.greatest_table (and_left (table.0 == (state.greatest_table + 1)) (is_name name) is.numbers)
+can_make state session (step.DeleteTable table) is built held = table_there state session (step.DeleteTable table) is.free refl
+can_make state session (step.AddColumn table column) is built held = any_takes (table_with_id state.tables table.0) column (not_kept column built)
+can_make state session (step.DeleteColumn table column) is built held =
+    some_or (table_with_id state.tables table.0) (λ t. column_is_used column t.indexes ≡ false) (table_there state session (step.DeleteColumn table column) is.free refl)
+    (λ t found. column_unused column t.indexes (at_found state session (step.DeleteColumn table column) t is.free found).1.0)
+can_make state session (step.CreateIndex table rule) is built held =
+    some_or (table_with_id state.tables table.0) (IsIndexFor rule) (table_there state session (step.CreateIndex table rule) is.free refl)
+    (λ t found. index_for state table rule t (at_found state session (step.CreateIndex table rule) t is.free found) (number t found) built)
+  where
+    has_numbers : Table → Bool
+    has_numbers t = (rule.id.0 == next_index_id t.indexes) && (rule.order == (greatest_order t.indexes + 1)) && is_name rule.name
+
+    number : (t : Table) → table_with_id state.tables table.0 ≡ Some t → rule.id.0 ≡ next_index_id t.indexes
+    number t found = same_number rule.id.0 (next_index_id t.indexes) (and_left _ _ (and_left _ _ (subst (λ (o : Option Table). has_numbers (unwrap_or o (new_table 0 [])) ≡ true) found is.numbers)))
+can_make state session (step.DeleteIndex table index) is built held =
+    some_or (table_with_id state.tables table.0) (λ t. is_some (secondary_rule t index.0) ≡ true) (table_there state session (step.DeleteIndex table index) is.free refl)
+    (λ t found. let refused = at_found state session (step.DeleteIndex table index) t is.free found in other_index t index.0 refused.0 refused.1.0)
+
+-- no transaction is open, so that the engine's tables are the committed ones
+pub lawful_can_make : (engine : EngineState) (session : ℕ) (made : SchemaStep) → MayCome engine (entry_by session (entry.Schema made)) → CanMake made (tables_of engine)
+lawful_can_make engine session made may =
+    let is = lawful_step may.state session made may.lawful in
+    let same : engine.store.tables ≡ may.state.tables = tables_settled engine may.state may.holds (none_open engine may.state may.holds session made is) in
+    subst (λ (n : ℕ). CanMake made (record { greatest_table = n; store = engine.store })) may.holds.greatest
+    (subst (λ (tables : List Table). CanMake made (record { greatest_table = may.state.greatest_table; store = record { tables = tables; held = engine.store.held } })) (sym same)
+    (can_make may.state session made is may.built engine.store.held))
