@@ -1,6 +1,6 @@
 -- Rows that are written anew one after the other, by the order of their bookmarks.
-use Rattle.std.proofs.Common.{◌≡◌, ◌≢◌, ℕ, ◌≤◌, ◌<◌, Bool, true, false, cond, List, [], ◌∷◌, length, Option, Some, None, filter, find, map, option_map, refl, sym, ap, subst, ◌∙◌, arith, inl, inr}
-use Rattle.std.specs.Prelude.{◌==◌, All, IsSomeAnd, is_some, unwrap_or}
+use Rattle.std.proofs.Common.{◌≡◌, ◌≢◌, ℕ, ◌≤◌, ◌<◌, Bool, true, false, cond, List, [], ◌∷◌, length, Option, Some, None, find, map, option_map, refl, sym, ap, subst, ◌∙◌, arith, inl, inr}
+use Rattle.std.specs.Prelude.{All, IsSomeAnd, is_some, unwrap_or}
 use Rattle.std.specs.List.{AllByRecursion, list_all}
 use Rattle.std.proofs.lemmas.List.Elements.{All-head, All-tail}
 use Rattle.btree_inplace.specs.Changes.{with_data_at}
@@ -9,10 +9,10 @@ use Rattle.cursor_nav.specs.Places.{are_sorted, is_beyond, pair_lt}
 use Rattle.index_derive.specs.declared.entries.Place.{Place}
 use Rattle.index_derive.specs.declared.entries.Place.TheVariants.{Before, On}
 use Rattle.page_image.specs.Page.{Node}
-use Rattle.record_changes.proofs.Tests.{and_left, and_right, equal_bytes, impossible, refuted, same_bytes}
+use Rattle.record_changes.proofs.Tests.{and_left, and_right, equal_bytes, refuted}
 use Rattle.std.specs.Cmp.Lexicographic.{texts_ties}
 use Rattle.table_trees.specs.StoredNodes.{IsShortNode, bookmark_entries, node_after, put_data}
-use Rattle.table_trees.specs.StoredTables.{StoredTable, has_table, put_nodes, table_indexes, table_nodes, with_nodes}
+use Rattle.table_trees.specs.StoredTables.{StoredTable, has_table, table_indexes, table_nodes, with_nodes}
 use Rattle.table_versions.specs.RecordRows.{IsRecordRow}
 use Rattle.table_versions.specs.VersionsKept.{tree_numbers}
 use Rattle.table_versions.specs.LostColumns.{HasNodes, HoldsRecord, node_without, row_without}
@@ -21,7 +21,7 @@ use Rattle.table_versions.proofs.Neighbours.{IsIn, found_in}
 use Rattle.table_versions.proofs.NodeRecords.{apart, key_is}
 use Rattle.table_versions.proofs.NodeWalks.{IsNode, fewer_nodes, is_node_past, nodes_left}
 use Rattle.table_versions.proofs.UndoneThere.{table_of_node}
-use Rattle.table_versions.proofs.Order.{beyond_more, lt_trans, not_back, not_itself}
+use Rattle.table_versions.proofs.Order.{beyond_more, not_itself}
 
 -- the nodes once those up to a place are written anew
 abbrev pub rewritten : Place → ℕ → List Node → List Node

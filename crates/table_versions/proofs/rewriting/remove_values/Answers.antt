@@ -1,6 +1,5 @@
 use Rattle.std.proofs.Common.{◌≡◌, ◌≤◌, ℕ, List, Some, length, refl, sym, ap, subst, ◌∙◌}
 use Rattle.column_set.specs.RowReading.{row_in}
-use Rattle.column_set.specs.Rows.{row_bytes}
 use Rattle.table_trees.specs.StoredNodes.{node_after}
 use Rattle.table_trees.specs.StoredTables.{table_nodes}
 use Rattle.table_versions.specs.LostColumns.{row_without}
