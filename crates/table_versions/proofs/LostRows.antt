@@ -1,5 +1,5 @@
 -- Rows and nodes without the values of a column.
-use Rattle.std.proofs.Common.{◌≡◌, ℕ, ◌≤◌, Bool, true, false, not, ◌&&◌, ◌||◌, cond, List, [], ◌∷◌, length, Option, Some, None, filter, find, map, option_map, refl, sym, ap, subst, ◌∙◌, arith}
+use Rattle.std.proofs.Common.{◌≡◌, ℕ, ◌≤◌, Bool, true, false, not, ◌||◌, cond, List, [], ◌∷◌, length, Option, Some, None, filter, find, map, option_map, refl, sym, ap, subst, ◌∙◌, arith}
 use Rattle.std.specs.Prelude.{◌==◌, IfSome, IsTrue, is_some, nat_lt, option_and_then, unwrap_or}
 use Rattle.std.specs.List.{AllByRecursion, list_all}
 use Rattle.btree_inplace.specs.Order.{get_in, has_key}
@@ -9,12 +9,11 @@ use Rattle.column_set.specs.RowReading.{row_in}
 use Rattle.column_set.specs.Rows.{RowFields, all_here, here_fields, is_row, row_bytes}
 use Rattle.cursor_nav.specs.Places.{are_sorted, pair_lt}
 use Rattle.database_state.specs.SchemaChanges.{without_column}
-use Rattle.database_state.specs.Table.{Rows, Table, row_at}
+use Rattle.database_state.specs.Table.{Table, row_at}
 use Rattle.page_image.specs.Page.{Node}
 use Rattle.record_changes.proofs.Tests.{and_both, and_left, and_right, equal_bytes, impossible, refuted}
 use Rattle.std.specs.Cmp.Lexicographic.{texts_ties}
 use Rattle.table_trees.specs.StoredNodes.{bookmark_entries}
-use Rattle.version_history.proofs.Lists.{all_both}
 use Rattle.version_keys.proofs.SchemaKeys.{other_column, other_values}
 use Rattle.table_versions.specs.LostColumns.{HoldsRecord, node_without, row_without}
 use Rattle.table_versions.specs.RecordRows.{IsRecordRow, record_of, row_in_node, row_under, rows_of_nodes, with_record}

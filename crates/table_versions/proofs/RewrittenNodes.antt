@@ -1,6 +1,6 @@
 -- Rows that are written anew one after the other, by the order of their bookmarks.
-use Rattle.std.proofs.Common.{◌≡◌, ◌≢◌, ℕ, ◌≤◌, ◌<◌, Bool, true, false, cond, List, [], ◌∷◌, length, Option, Some, None, filter, find, map, option_map, refl, sym, ap, subst, ◌∙◌, arith, inl, inr}
-use Rattle.std.specs.Prelude.{◌==◌, All, IsSomeAnd, is_some, unwrap_or}
+use Rattle.std.proofs.Common.{◌≡◌, ◌≢◌, ℕ, ◌≤◌, ◌<◌, Bool, true, false, cond, List, [], ◌∷◌, length, Option, Some, None, find, map, option_map, refl, sym, ap, subst, ◌∙◌, arith, inl, inr}
+use Rattle.std.specs.Prelude.{All, IsSomeAnd, is_some, unwrap_or}
 use Rattle.std.specs.List.{AllByRecursion, list_all}
 use Rattle.std.proofs.lemmas.List.Elements.{All-head, All-tail}
 use Rattle.btree_inplace.specs.Changes.{with_data_at}
@@ -9,78 +9,54 @@ use Rattle.cursor_nav.specs.Places.{are_sorted, is_beyond, pair_lt}
 use Rattle.index_derive.specs.declared.entries.Place.{Place}
 use Rattle.index_derive.specs.declared.entries.Place.TheVariants.{Before, On}
 use Rattle.page_image.specs.Page.{Node}
-use Rattle.record_changes.proofs.Tests.{and_left, and_right, equal_bytes, impossible, refuted, same_bytes}
+use Rattle.record_changes.proofs.Tests.{and_left, and_right, equal_bytes, refuted}
 use Rattle.std.specs.Cmp.Lexicographic.{texts_ties}
 use Rattle.table_trees.specs.StoredNodes.{IsShortNode, bookmark_entries, node_after, put_data}
-use Rattle.table_trees.specs.StoredTables.{StoredTable, has_table, put_nodes, table_indexes, table_nodes, with_nodes}
+use Rattle.table_trees.specs.StoredTables.{StoredTable, has_table, table_indexes, table_nodes, with_nodes}
 use Rattle.table_versions.specs.RecordRows.{IsRecordRow}
 use Rattle.table_versions.specs.VersionsKept.{tree_numbers}
 use Rattle.table_versions.specs.LostColumns.{HasNodes, HoldsRecord, node_without, row_without}
 use Rattle.table_versions.proofs.Dropped.{same_numbers}
-use Rattle.table_versions.proofs.Neighbours.{IsIn, fewer, found_in}
+use Rattle.table_versions.proofs.Neighbours.{IsIn, found_in}
 use Rattle.table_versions.proofs.NodeRecords.{apart, key_is}
+use Rattle.table_versions.proofs.NodeWalks.{IsNode, fewer_nodes, is_node_past, nodes_left}
 use Rattle.table_versions.proofs.UndoneThere.{table_of_node}
-use Rattle.table_versions.proofs.Order.{beyond_more, lt_trans, not_back, not_itself}
-
--- whether a node lies beyond a place
-abbrev pub beyond : Place → Node → Bool
-beyond place n = is_beyond place (n.key, n.key)
+use Rattle.table_versions.proofs.Order.{beyond_more, not_itself}
 
 -- the nodes once those up to a place are written anew
 abbrev pub rewritten : Place → ℕ → List Node → List Node
-rewritten place column nodes = map (λ n. cond (beyond place n) n (node_without column n)) nodes
+rewritten place column nodes = map (λ n. cond (is_node_past place n) n (node_without column n)) nodes
 
 abbrev pub rewritten_node : Place → ℕ → Node → Node
-rewritten_node place column n = cond (beyond place n) n (node_without column n)
+rewritten_node place column n = cond (is_node_past place n) n (node_without column n)
 
 pub none_rewritten : (column : ℕ) (nodes : List Node) → rewritten Before column nodes ≡ nodes
 none_rewritten column [] = refl
 none_rewritten column (n ∷ nodes) = ap (λ ns. n ∷ ns) (none_rewritten column nodes)
 
 same_key : (place : Place) (column : ℕ) (n : Node) → (rewritten_node place column n).key ≡ n.key
-same_key place column n = by (beyond place n)
+same_key place column n = by (is_node_past place n)
   where
     by : (b : Bool) → (cond b n (node_without column n)).key ≡ n.key
     by true = refl
     by false = refl
 
--- ---- the first one beyond the place
+-- ---- the next one
 
-pub first_left : (place : Place) (column : ℕ) (nodes : List Node) → find (beyond place) (rewritten place column nodes) ≡ find (beyond place) nodes
+pub first_left : (place : Place) (column : ℕ) (nodes : List Node) → find (is_node_past place) (rewritten place column nodes) ≡ find (is_node_past place) nodes
 first_left place column [] = refl
 first_left place column (n ∷ nodes) =
-    ap (λ k. cond (is_beyond place (k, k)) (Some (rewritten_node place column n)) (find (beyond place) (rewritten place column nodes))) (same_key place column n)
-    ∙ by (beyond place n) refl (first_left place column nodes)
+    ap (λ k. cond (is_beyond place (k, k)) (Some (rewritten_node place column n)) (find (is_node_past place) (rewritten place column nodes))) (same_key place column n)
+    ∙ by (is_node_past place n) refl (first_left place column nodes)
   where
-    by : (b : Bool) → beyond place n ≡ b → find (beyond place) (rewritten place column nodes) ≡ find (beyond place) nodes
-        → cond b (Some (rewritten_node place column n)) (find (beyond place) (rewritten place column nodes)) ≡ cond b (Some n) (find (beyond place) nodes)
+    by : (b : Bool) → is_node_past place n ≡ b → find (is_node_past place) (rewritten place column nodes) ≡ find (is_node_past place) nodes
+        → cond b (Some (rewritten_node place column n)) (find (is_node_past place) (rewritten place column nodes)) ≡ cond b (Some n) (find (is_node_past place) nodes)
     by true e rest = ap (λ c. Some (cond c n (node_without column n))) e
     by false e rest = rest
 
--- the node that is found, by its bookmark and its row
-pub record IsNext (place : Place) (nodes : List Node) (bookmark row : List ℕ) : Type 0 where
-  pub node : Node
-  pub found : find (beyond place) nodes ≡ Some node
-  pub key : node.key ≡ bookmark
-  pub bytes : node.data ≡ row
-
-abbrev pub found_row : List ℕ → List ℕ → Option (List ℕ × List ℕ)
-found_row bookmark row = Some (bookmark, row)
-
-pub next_node : (place : Place) (column : ℕ) (nodes : List Node) (bookmark row : List ℕ) → found_row bookmark row ≡ node_after place (rewritten place column nodes) → IsNext place nodes bookmark row
-next_node place column nodes bookmark row e = by (find (beyond place) nodes) refl (e ∙ ap (option_map key_and_data) (first_left place column nodes))
-  where
-    by : (o : Option Node) → find (beyond place) nodes ≡ o → found_row bookmark row ≡ option_map key_and_data o → IsNext place nodes bookmark row
-    by None f e = no e
-      where
-        no : {A : Type 0} → found_row bookmark row ≡ None → A
-        no e = cc
-    by (Some n) f e = record {
-      node = n;
-      found = f;
-      key = sym (ap (λ (o : Option (List ℕ × List ℕ)). (unwrap_or o ([], [])).0) e);
-      bytes = sym (ap (λ (o : Option (List ℕ × List ℕ)). (unwrap_or o ([], [])).1) e);
-    }
+-- the nodes beyond the place are as they were
+pub same_next : (place : Place) (column : ℕ) (nodes : List Node) → node_after place (rewritten place column nodes) ≡ node_after place nodes
+same_next place column nodes = ap (option_map key_and_data) (first_left place column nodes)
 
 -- ---- it is found under its bookmark
 
@@ -90,36 +66,36 @@ itself n = sym (texts_ties n.key n.key) ∙ equal_bytes n.key n.key refl
 other_key : (own n : Node) → (n.key ≡ own.key → ⊥) → has_key own.key n ≡ false
 other_key own n ne = refuted (has_key own.key n) (λ e. ne (key_is n.key own.key e))
 
-apart_beyond : (place : Place) (own n : Node) → beyond place own ≡ true → beyond place n ≡ false → n.key ≡ own.key → ⊥
+apart_beyond : (place : Place) (own n : Node) → is_node_past place own ≡ true → is_node_past place n ≡ false → n.key ≡ own.key → ⊥
 apart_beyond place own n there short same = no (sym short ∙ ap (λ k. is_beyond place (k, k)) same ∙ there)
   where
     no : false ≡ true → ⊥
     no e = cc
 
-pub found_again : (place : Place) (column : ℕ) (own : Node) (nodes : List Node) → find (beyond place) nodes ≡ Some own → find (has_key own.key) (rewritten place column nodes) ≡ Some own
+pub found_again : (place : Place) (column : ℕ) (own : Node) (nodes : List Node) → find (is_node_past place) nodes ≡ Some own → find (has_key own.key) (rewritten place column nodes) ≡ Some own
 found_again place column own [] e = none e
   where
     none : {A : Type 0} → None ≡ Some own → A
     none e = cc
-found_again place column own (n ∷ nodes) e = by (beyond place n) refl e (found_again place column own nodes)
+found_again place column own (n ∷ nodes) e = by (is_node_past place n) refl e (found_again place column own nodes)
   where
     same : Some n ≡ Some own → n ≡ own
     same f = ap (λ o. unwrap_or o n) f
 
-    by : (b : Bool) → beyond place n ≡ b → cond b (Some n) (find (beyond place) nodes) ≡ Some own → (find (beyond place) nodes ≡ Some own → find (has_key own.key) (rewritten place column nodes) ≡ Some own)
+    by : (b : Bool) → is_node_past place n ≡ b → cond b (Some n) (find (is_node_past place) nodes) ≡ Some own → (find (is_node_past place) nodes ≡ Some own → find (has_key own.key) (rewritten place column nodes) ≡ Some own)
         → find (has_key own.key) (cond b n (node_without column n) ∷ rewritten place column nodes) ≡ Some own
     by true t f rest = ap (λ c. cond c (Some n) (find (has_key own.key) (rewritten place column nodes))) (ap (λ (x : Node). has_key x.key n) (sym (same f)) ∙ itself n) ∙ f
     by false t f rest =
         ap (λ c. cond c (Some (node_without column n)) (find (has_key own.key) (rewritten place column nodes)))
-        (other_key own n (apart_beyond place own n (found_in (beyond place) own nodes f).1 t)) ∙ rest f
+        (other_key own n (apart_beyond place own n (found_in (is_node_past place) own nodes f).1 t)) ∙ rest f
 
-pub has_room : (place : Place) (column : ℕ) (own : Node) (nodes : List Node) (row : List ℕ) → find (beyond place) nodes ≡ Some own → length row ≤ own.extent → IsSomeAnd (extent_in (rewritten place column nodes) own.key) (λ extent. length row ≤ extent)
+pub has_room : (place : Place) (column : ℕ) (own : Node) (nodes : List Node) (row : List ℕ) → find (is_node_past place) nodes ≡ Some own → length row ≤ own.extent → IsSomeAnd (extent_in (rewritten place column nodes) own.key) (λ extent. length row ≤ extent)
 has_room place column own nodes row e low = subst (λ (o : Option Node). IsSomeAnd (option_map (λ (n : Node). n.extent) o) (λ extent. length row ≤ extent)) (sym (found_again place column own nodes e)) low
 
 -- ---- one row more
 
 -- the nodes above one
-above_same : (place : Place) (column : ℕ) (own : Node) (row : List ℕ) → beyond place own ≡ true → (nodes : List Node) → list_all (pair_lt (own.key, own.key)) (bookmark_entries nodes) ≡ true
+above_same : (place : Place) (column : ℕ) (own : Node) (row : List ℕ) → is_node_past place own ≡ true → (nodes : List Node) → list_all (pair_lt (own.key, own.key)) (bookmark_entries nodes) ≡ true
     → with_data_at (rewritten place column nodes) own.key row ≡ rewritten (On own.key own.key) column nodes
 above_same place column own row there [] low = refl
 above_same place column own row there (n ∷ nodes) low =
@@ -137,12 +113,12 @@ above_same place column own row there (n ∷ nodes) low =
         ∙ ap (λ b. cond b (put_data row n) n) miss
         ∙ sym (ap (λ b. cond b n (node_without column n)) here)
 
-pub one_more : (place : Place) (column : ℕ) (own : Node) (nodes : List Node) → are_sorted (bookmark_entries nodes) ≡ true → find (beyond place) nodes ≡ Some own
+pub one_more : (place : Place) (column : ℕ) (own : Node) (nodes : List Node) → are_sorted (bookmark_entries nodes) ≡ true → find (is_node_past place) nodes ≡ Some own
     → with_data_at (rewritten place column nodes) own.key (row_without column own.data) ≡ rewritten (On own.key own.key) column nodes
 one_more place column own [] sorted e = refl
-one_more place column own (n ∷ nodes) sorted e = by (beyond place n) refl e (one_more place column own nodes (and_right (list_all (pair_lt (n.key, n.key)) (bookmark_entries nodes)) _ sorted))
+one_more place column own (n ∷ nodes) sorted e = by (is_node_past place n) refl e (one_more place column own nodes (and_right (list_all (pair_lt (n.key, n.key)) (bookmark_entries nodes)) _ sorted))
   where
-    first : (x : Node) → n ≡ x → beyond place n ≡ true → with_data_at (n ∷ rewritten place column nodes) x.key (row_without column x.data) ≡ rewritten (On x.key x.key) column (n ∷ nodes)
+    first : (x : Node) → n ≡ x → is_node_past place n ≡ true → with_data_at (n ∷ rewritten place column nodes) x.key (row_without column x.data) ≡ rewritten (On x.key x.key) column (n ∷ nodes)
     first x same t =
         subst (λ (x : Node). with_data_at (n ∷ rewritten place column nodes) x.key (row_without column x.data) ≡ rewritten (On x.key x.key) column (n ∷ nodes)) same
         (λ i. node i ∷ above_same place column n (row_without column n.data) t nodes (and_left _ _ sorted) i)
@@ -150,14 +126,14 @@ one_more place column own (n ∷ nodes) sorted e = by (beyond place n) refl e (o
         node : cond (has_key n.key n) (put_data (row_without column n.data) n) n ≡ rewritten_node (On n.key n.key) column n
         node = ap (λ b. cond b (node_without column n) n) (itself n) ∙ sym (ap (λ b. cond b n (node_without column n)) (not_itself (n.key, n.key)))
 
-    by : (b : Bool) → beyond place n ≡ b → cond b (Some n) (find (beyond place) nodes) ≡ Some own
-        → (find (beyond place) nodes ≡ Some own → with_data_at (rewritten place column nodes) own.key (row_without column own.data) ≡ rewritten (On own.key own.key) column nodes)
+    by : (b : Bool) → is_node_past place n ≡ b → cond b (Some n) (find (is_node_past place) nodes) ≡ Some own
+        → (find (is_node_past place) nodes ≡ Some own → with_data_at (rewritten place column nodes) own.key (row_without column own.data) ≡ rewritten (On own.key own.key) column nodes)
         → with_data_at (cond b n (node_without column n) ∷ rewritten place column nodes) own.key (row_without column own.data) ≡ rewritten (On own.key own.key) column (n ∷ nodes)
     by true t f rest = first own (ap (λ o. unwrap_or o n) f) t
     by false t f rest = λ i. node i ∷ rest f i
       where
-        there : beyond place own ≡ true
-        there = (found_in (beyond place) own nodes f).1
+        there : is_node_past place own ≡ true
+        there = (found_in (is_node_past place) own nodes f).1
 
         below : pair_lt (own.key, own.key) (n.key, n.key) ≡ false
         below = refuted (pair_lt (own.key, own.key) (n.key, n.key)) (λ less. no (sym t ∙ beyond_more place (own.key, own.key) (n.key, n.key) there less))
@@ -173,30 +149,20 @@ one_more place column own (n ∷ nodes) sorted e = by (beyond place n) refl e (o
 -- ---- all of them
 
 pub all_rewritten : (place : Place) (column : ℕ) (nodes : List Node) → None ≡ node_after place (rewritten place column nodes) → rewritten place column nodes ≡ map (node_without column) nodes
-all_rewritten place column nodes e = from nodes (none (find (beyond place) nodes) (e ∙ ap (option_map key_and_data) (first_left place column nodes)))
+all_rewritten place column nodes e = from nodes (none (find (is_node_past place) nodes) (e ∙ same_next place column nodes))
   where
     none : (o : Option Node) → None ≡ option_map key_and_data o → o ≡ None
     none None e = refl
     none (Some n) e = cc
 
-    from : (nodes : List Node) → find (beyond place) nodes ≡ None → rewritten place column nodes ≡ map (node_without column) nodes
+    from : (nodes : List Node) → find (is_node_past place) nodes ≡ None → rewritten place column nodes ≡ map (node_without column) nodes
     from [] e = refl
-    from (n ∷ nodes) e = by (beyond place n) e (from nodes)
+    from (n ∷ nodes) e = by (is_node_past place n) e (from nodes)
       where
-        by : (b : Bool) → cond b (Some n) (find (beyond place) nodes) ≡ None → (find (beyond place) nodes ≡ None → rewritten place column nodes ≡ map (node_without column) nodes)
+        by : (b : Bool) → cond b (Some n) (find (is_node_past place) nodes) ≡ None → (find (is_node_past place) nodes ≡ None → rewritten place column nodes ≡ map (node_without column) nodes)
             → cond b n (node_without column n) ∷ rewritten place column nodes ≡ node_without column n ∷ map (node_without column) nodes
         by true f rest = cc
         by false f rest = ap (λ ns. node_without column n ∷ ns) (rest f)
-
--- ---- how many are left
-
-abbrev pub left_beyond : Place → List Node → ℕ
-left_beyond place nodes = length (filter (beyond place) nodes)
-
-pub fewer_beyond : (place : Place) (own : Node) (nodes : List Node) → find (beyond place) nodes ≡ Some own → left_beyond (On own.key own.key) nodes < left_beyond place nodes
-fewer_beyond place own nodes e =
-    let found = found_in (beyond place) own nodes e in
-    fewer (beyond (On own.key own.key)) (beyond place) own (λ y less. beyond_more place (own.key, own.key) (y.key, y.key) found.1 less) (not_itself (own.key, own.key)) found.1 nodes found.0
 
 -- ---- the node is one of the table
 
@@ -218,16 +184,16 @@ pub record NodeLaws : Type 0 where
   pub others : (tables : List StoredTable) (table other : ℕ) (nodes : List Node) → other ≢ table → table_nodes (with_nodes table nodes tables) other ≡ table_nodes tables other
   pub indexes : (tables : List StoredTable) (table other : ℕ) (nodes : List Node) → table_indexes (with_nodes table nodes tables) other ≡ table_indexes tables other
 
-pub row_of_next : (place : Place) (nodes : List Node) (bookmark row : List ℕ) → IsNext place nodes bookmark row → AllByRecursion HoldsRecord nodes → IsRecordRow row
-row_of_next place nodes bookmark row next all = subst IsRecordRow next.bytes (each_of HoldsRecord next.node nodes all (found_in (beyond place) next.node nodes next.found).0)
+pub row_of_next : (place : Place) (nodes : List Node) (bookmark row : List ℕ) → IsNode place nodes bookmark row → AllByRecursion HoldsRecord nodes → IsRecordRow row
+row_of_next place nodes bookmark row next all = subst IsRecordRow next.row (each_of HoldsRecord next.node nodes all (found_in (is_node_past place) next.node nodes next.next).0)
 
-pub room_of_next : (place : Place) (column : ℕ) (nodes : List Node) (bookmark row : List ℕ) → IsNext place nodes bookmark row → All IsShortNode nodes → length (row_without column row) ≤ length row
+pub room_of_next : (place : Place) (column : ℕ) (nodes : List Node) (bookmark row : List ℕ) → IsNode place nodes bookmark row → All IsShortNode nodes → length (row_without column row) ≤ length row
     → IsSomeAnd (extent_in (rewritten place column nodes) bookmark) (λ extent. length (row_without column row) ≤ extent)
 room_of_next place column nodes bookmark row next short low =
-    let fits : IsShortNode next.node = short_of next.node nodes short (found_in (beyond place) next.node nodes next.found).0 in
-    let within : length (row_without column row) ≤ next.node.extent = omega (arith, low, fits.row, ap length next.bytes) in
+    let fits : IsShortNode next.node = short_of next.node nodes short (found_in (is_node_past place) next.node nodes next.next).0 in
+    let within : length (row_without column row) ≤ next.node.extent = omega (arith, low, fits.row, ap length next.row) in
     subst (λ (key : List ℕ). IsSomeAnd (extent_in (rewritten place column nodes) key) (λ extent. length (row_without column row) ≤ extent)) next.key
-    (has_room place column next.node nodes (row_without column row) next.found within)
+    (has_room place column next.node nodes (row_without column row) next.next within)
 
 pub moved_room : (nodes these : List Node) (key bookmark row bytes : List ℕ) → nodes ≡ these → key ≡ bookmark → row ≡ bytes → IsSomeAnd (extent_in nodes key) (λ extent. length row ≤ extent) → IsSomeAnd (extent_in these bookmark) (λ extent. length bytes ≤ extent)
 moved_room nodes these key bookmark row bytes e f g room =
@@ -235,18 +201,18 @@ moved_room nodes these key bookmark row bytes e f g room =
     (subst (λ (k : List ℕ). IsSomeAnd (extent_in nodes k) (λ extent. length bytes ≤ extent)) f
     (subst (λ (r : List ℕ). IsSomeAnd (extent_in nodes key) (λ extent. length r ≤ extent)) g room))
 
-pub smaller_next : (place : Place) (nodes : List Node) (bookmark row key own : List ℕ) → IsNext place nodes bookmark row → key ≡ bookmark → own ≡ bookmark → left_beyond (On key own) nodes < left_beyond place nodes
-smaller_next place nodes bookmark row key own next key_is own_is =
-    subst (λ (p : Place). left_beyond p nodes < left_beyond place nodes) (λ i. On ((next.key ∙ sym key_is) i) ((next.key ∙ sym own_is) i)) (fewer_beyond place next.node nodes next.found)
+pub smaller_next : (place : Place) (nodes : List Node) (bookmark row key own : List ℕ) → node_after place nodes ≡ Some (bookmark, row) → key ≡ bookmark → own ≡ bookmark → nodes_left (On key own) nodes < nodes_left place nodes
+smaller_next place nodes bookmark row key own found key_is own_is =
+    subst (λ (p : Place). nodes_left p nodes < nodes_left place nodes) (λ i. On (sym key_is i) (sym own_is i)) (fewer_nodes place nodes bookmark row found)
 
-one_more_at : (place : Place) (column : ℕ) (nodes : List Node) (bookmark row : List ℕ) → IsNext place nodes bookmark row → are_sorted (bookmark_entries nodes) ≡ true
+one_more_at : (place : Place) (column : ℕ) (nodes : List Node) (bookmark row : List ℕ) → IsNode place nodes bookmark row → are_sorted (bookmark_entries nodes) ≡ true
     → with_data_at (rewritten place column nodes) bookmark (row_without column row) ≡ rewritten (On bookmark bookmark) column nodes
 one_more_at place column nodes bookmark row next sorted =
-    sym (λ i. with_data_at (rewritten place column nodes) (next.key i) (row_without column (next.bytes i)))
-    ∙ one_more place column next.node nodes sorted next.found
+    sym (λ i. with_data_at (rewritten place column nodes) (next.key i) (row_without column (next.row i)))
+    ∙ one_more place column next.node nodes sorted next.next
     ∙ (λ i. rewritten (On (next.key i) (next.key i)) column nodes)
 
-pub replaced_next : NodeLaws → (id : ℕ) (place : Place) (column : ℕ) (trees now : List StoredTable) (bookmark row : List ℕ) → IsNext place (table_nodes trees id) bookmark row → are_sorted (bookmark_entries (table_nodes trees id)) ≡ true
+pub replaced_next : NodeLaws → (id : ℕ) (place : Place) (column : ℕ) (trees now : List StoredTable) (bookmark row : List ℕ) → IsNode place (table_nodes trees id) bookmark row → are_sorted (bookmark_entries (table_nodes trees id)) ≡ true
     → HasNodes id (rewritten place column (table_nodes trees id)) trees now → (at key own text : List ℕ) → at ≡ bookmark → key ≡ bookmark → own ≡ bookmark → text ≡ row_without column row
     → (later : List StoredTable) → later ≡ with_nodes id (with_data_at (table_nodes now id) at text) now → HasNodes id (rewritten (On key own) column (table_nodes trees id)) trees later
 replaced_next laws id place column trees now bookmark row next sorted h at key own text at_is key_is own_is text_is later is = record {
@@ -264,4 +230,4 @@ replaced_next laws id place column trees now bookmark row next sorted h at key o
     there =
         table_of_node now id next.node.key
         (ap (λ ns. is_some (get_in ns next.node.key)) h.nodes
-        ∙ ap (λ (o : Option Node). is_some (option_map (λ (n : Node). n.data) o)) (found_again place column next.node (table_nodes trees id) next.found))
+        ∙ ap (λ (o : Option Node). is_some (option_map (λ (n : Node). n.data) o)) (found_again place column next.node (table_nodes trees id) next.next))

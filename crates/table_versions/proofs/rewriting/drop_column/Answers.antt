@@ -1,5 +1,5 @@
 use Rattle.index_derive.specs.Entries.{column_is_used}
-use Rattle.std.proofs.Common.{◌≡◌, false, ap, sym, ◌∙◌}
+use Rattle.std.proofs.Common.{◌≡◌, false}
 use Rattle.table_versions.proofs.LostColumns.{column_deleted, table_holds}
 use Rattle.table_versions.proofs.LostRows.{RowLaws}
 use Rattle.table_versions.proofs.rewriting.drop_column.Goals as goal

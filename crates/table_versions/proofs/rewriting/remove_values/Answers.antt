@@ -1,11 +1,11 @@
-use Rattle.std.proofs.Common.{◌≡◌, ◌≤◌, ℕ, List, length, refl, sym, ap, subst, ◌∙◌}
+use Rattle.std.proofs.Common.{◌≡◌, ◌≤◌, ℕ, List, Some, length, refl, sym, ap, subst, ◌∙◌}
 use Rattle.column_set.specs.RowReading.{row_in}
-use Rattle.column_set.specs.Rows.{row_bytes}
 use Rattle.table_trees.specs.StoredNodes.{node_after}
 use Rattle.table_trees.specs.StoredTables.{table_nodes}
 use Rattle.table_versions.specs.LostColumns.{row_without}
 use Rattle.table_versions.specs.RecordRows.{IsRecordRow}
-use Rattle.table_versions.proofs.RewrittenNodes.{IsNext, NodeLaws, all_rewritten, moved_room, next_node, none_rewritten, replaced_next, room_of_next, row_of_next, smaller_next}
+use Rattle.table_versions.proofs.NodeWalks.{IsNode, next_node}
+use Rattle.table_versions.proofs.RewrittenNodes.{NodeLaws, all_rewritten, moved_room, none_rewritten, replaced_next, room_of_next, row_of_next, same_next, smaller_next}
 use Rattle.table_versions.proofs.UndoneThere.{spelled_row}
 use Rattle.table_versions.proofs.rewriting.remove_values.Goals.{In-Some}
 use Rattle.table_versions.proofs.rewriting.remove_values.Goals as goal
@@ -19,9 +19,12 @@ loop-bookmark-init c = record {
 }
 
 -- the node that was found, and its row
-next_of : (c : In-Some) → IsNext c.loop-bookmark.place (table_nodes c.args.trees.now c.args.table.0) c.in-Some.bookmark.now c.in-Some.bytes.now
-next_of c = next_node c.loop-bookmark.place c.args.column.0 (table_nodes c.args.trees.now c.args.table.0) c.in-Some.bookmark.now c.in-Some.bytes.now
-    (c.in-Some.ensures.node ∙ ap (node_after c.loop-bookmark.place) c.loop-bookmark.invariant.nodes)
+found_of : (c : In-Some) → node_after c.loop-bookmark.place (table_nodes c.args.trees.now c.args.table.0) ≡ Some (c.in-Some.bookmark.now, c.in-Some.bytes.now)
+found_of c =
+    sym (same_next c.loop-bookmark.place c.args.column.0 (table_nodes c.args.trees.now c.args.table.0)) ∙ sym (ap (node_after c.loop-bookmark.place) c.loop-bookmark.invariant.nodes) ∙ sym c.in-Some.ensures.node
+
+next_of : (c : In-Some) → IsNode c.loop-bookmark.place (table_nodes c.args.trees.now c.args.table.0) c.in-Some.bookmark.now c.in-Some.bytes.now
+next_of c = next_node c.loop-bookmark.place (table_nodes c.args.trees.now c.args.table.0) c.in-Some.bookmark.now c.in-Some.bytes.now (found_of c)
 
 row_of : (c : In-Some) → IsRecordRow c.in-Some.bytes.now
 row_of c = row_of_next c.loop-bookmark.place (table_nodes c.args.trees.now c.args.table.0) c.in-Some.bookmark.now c.in-Some.bytes.now (next_of c) c.requires
@@ -46,7 +49,7 @@ replace-requires c =
 pub loop-bookmark-smaller : goal.loop-bookmark-smaller
 loop-bookmark-smaller c =
     smaller_next c.loop-bookmark.place (table_nodes c.args.trees.now c.args.table.0) c.in-Some.bookmark.now c.in-Some.bytes.now c.own_entry-found.result.key c.own_entry-found.result.bookmark
-    (next_of (goal.at.loop-bookmark-smaller c).In-Some) c.own_entry-found.ensures.key c.own_entry-found.ensures.bookmark
+    (found_of (goal.at.loop-bookmark-smaller c).In-Some) c.own_entry-found.ensures.key c.own_entry-found.ensures.bookmark
 
 pub loop-bookmark-preserved : goal.loop-bookmark-preserved
 loop-bookmark-preserved c =

@@ -1,6 +1,7 @@
 use Rattle.table_trees.specs.StoredTables.{table_nodes}
 use Rattle.table_versions.specs.LostColumns.{HasNodes}
-use Rattle.table_versions.proofs.RewrittenNodes.{left_beyond, rewritten}
+use Rattle.table_versions.proofs.NodeWalks.{nodes_left}
+use Rattle.table_versions.proofs.RewrittenNodes.{rewritten}
 use Rattle.table_versions.proofs.rewriting.remove_values.Given as goal
 
 -- the rows up to the place are written anew
@@ -8,4 +9,4 @@ abbrev pub invariant-loop-bookmark : goal.invariant-loop-bookmark
 invariant-loop-bookmark l = HasNodes l.table.0 (rewritten l.place l.column.0 (table_nodes l.fn.trees l.table.0)) l.fn.trees l.trees
 
 abbrev pub decreases-loop-bookmark : goal.decreases-loop-bookmark
-decreases-loop-bookmark l = left_beyond l.place (table_nodes l.fn.trees l.table.0)
+decreases-loop-bookmark l = nodes_left l.place (table_nodes l.fn.trees l.table.0)
