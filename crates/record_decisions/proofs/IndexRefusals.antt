@@ -1,5 +1,5 @@
 -- What an index refuses of a record, and what is told where it refuses nothing.
-use Rattle.std.proofs.Common.{◌≡◌, ℕ, Bool, true, false, cond, List, [], ◌∷◌, Option, Some, None, Result, Ok, Err, filter, not, refl, sym, ap, ◌∙◌}
+use Rattle.std.proofs.Common.{◌≡◌, ℕ, Bool, true, false, cond, List, [], Option, Some, None, Result, Ok, Err, filter, not, refl, sym, ap, ◌∙◌}
 use Rattle.std.specs.Prelude.{IsOk, slice_get}
 use Rattle.jet_base.specs.declared.replies.Jet.{Jet}
 use Rattle.column_set.specs.RecordValues.{RecordFields}

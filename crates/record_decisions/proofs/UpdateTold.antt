@@ -1,11 +1,11 @@
 -- What the engine holds tells of an update: the schema of the cursor, the keys of unique indexes, and the bookmark.
-use Rattle.std.proofs.Common.{◌≡◌, ℕ, ◌+◌, ◌≤◌, ◌==◌, Bool, true, false, not, List, [], ◌∷◌, length, map, min, Option, Some, None, filter, refl, sym, ap, subst, ◌∙◌, arith}
+use Rattle.std.proofs.Common.{◌≡◌, ℕ, ◌≤◌, ◌==◌, Bool, true, false, not, List, [], ◌∷◌, length, map, min, Option, Some, None, filter, refl, sym, ap, subst, ◌∙◌, arith}
 use Rattle.std.specs.Prelude.{nat_le, reverse, IfSome, IsSome, IsSomeAnd}
 use Rattle.std.specs.List.{list_any}
 use Rattle.std.proofs.lemmas.Bool.Decides.{nat_tests}
 use Rattle.std.proofs.lemmas.List.{length-take}
 use Rattle.jet_base.specs.declared.replies.Jet.TheVariants as jet
-use Rattle.jet_base.specs.ColumnType.{big_endian, from_little_endian}
+use Rattle.jet_base.specs.ColumnType.{from_little_endian}
 use Rattle.column_set.specs.RecordValues.{RecordFields}
 use Rattle.index_derive.specs.declared.rules.IndexRule.{IndexRule}
 use Rattle.index_derive.specs.declared.rules.Schema.{Schema}
@@ -14,7 +14,7 @@ use Rattle.database_state.specs.Conflicts.{has_key_conflict}
 use Rattle.database_state.specs.Puts.{is_taken, key_refusals, new_keys, replaced_record}
 use Rattle.database_state.specs.Refusals.{Refusals}
 use Rattle.database_state.specs.State.{DatabaseState, PastChange, transaction_of}
-use Rattle.database_state.specs.Table.{Rows, Table, primary_rule, row_at, rows_of, schema_of, table_with_id}
+use Rattle.database_state.specs.Table.{Rows, Table, primary_rule, rows_of, schema_of, table_with_id}
 use Rattle.database_state.specs.View.{view}
 use Rattle.record_changes.specs.Records.{Records, records_of}
 use Rattle.record_changes.proofs.Tests.{and_left, impossible, same_bytes}
@@ -29,7 +29,7 @@ use Rattle.versioned_tables.specs.Holding.{Holds, begin_of}
 use Rattle.versioned_tables.proofs.Views.{view_defined}
 use Rattle.table_versions.specs.KeyConflicts.{unique_refusals}
 use Rattle.session_local.specs.Agreement.{HasSchemaOf, IsStorable, MayReplace}
-use Rattle.session_local.specs.Local.{LocalState, OpenCursor, PreparedFor, PreparedUpdate, inserting, replacing, cursor_labelled}
+use Rattle.session_local.specs.Local.{LocalState, OpenCursor, PreparedFor, inserting, replacing, cursor_labelled}
 use Rattle.session_local.specs.RecordCalls.{is_other_key, is_primary_changed}
 use Rattle.agreeing_sessions.specs.InStep.{IsInStep}
 use Rattle.agreeing_sessions.proofs.Schemas.{defined}

@@ -1,5 +1,5 @@
 -- What decides Update.
-use Rattle.std.proofs.Common.{◌≡◌, ℕ, ◌+◌, Bool, true, false, List, ◌∷◌, ◌++◌, length, Option, Some, None, Result, Ok, Err, refl, sym, ap, subst, ◌∙◌}
+use Rattle.std.proofs.Common.{◌≡◌, ℕ, ◌+◌, Bool, true, false, List, ◌∷◌, ◌++◌, length, Option, Some, None, Result, Ok, Err, refl, sym, ap, ◌∙◌}
 use Rattle.std.specs.Prelude.{is_none, is_some, if◌then◌else◌, IfSome, IsSome, IsTrue}
 use Rattle.std.proofs.lemmas.List.{append_assoc}
 use Rattle.jet_base.specs.declared.ids.CursorId.{CursorId}
@@ -14,7 +14,7 @@ use Rattle.index_derive.specs.declared.rules.IndexRule.{IndexRule}
 use Rattle.index_derive.specs.declared.rules.Schema.{Schema}
 use Rattle.database_state.specs.Changes.{changed_bookmark}
 use Rattle.database_state.specs.Puts.{key_refusals, null_refusals, put_refusals}
-use Rattle.database_state.specs.Refusals.{Refusals, first_refusal}
+use Rattle.database_state.specs.Refusals.{Refusals}
 use Rattle.database_state.specs.State.{DatabaseState}
 use Rattle.database_state.specs.Table.{primary_rule}
 use Rattle.session_local.specs.declared.decision.Decision.{Decision}

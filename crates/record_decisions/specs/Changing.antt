@@ -1,8 +1,7 @@
 -- Why the engine refuses a change of a record, by what it holds.
-use Rattle.std.specs.Prelude.{ℕ, ◌+◌, ◌==◌, Bool, true, false, not, nat_le, nat_lt, List, [], ◌∷◌, ◌++◌, ◌≡◌, Option, Some, IsTrue, is_none}
+use Rattle.std.specs.Prelude.{ℕ, ◌+◌, ◌==◌, Bool, true, false, not, nat_le, nat_lt, List, [], ◌∷◌, ◌++◌, ◌≡◌, Some, IsTrue, is_none}
 use Rattle.jet_base.specs.declared.replies.Jet.TheVariants as jet
 use Rattle.column_set.specs.declared.changes.Change.{Change}
-use Rattle.column_set.specs.RecordValues.{RecordFields}
 use Rattle.index_derive.specs.declared.log.Entry.{Entry}
 use Rattle.index_derive.specs.declared.log.Step.{Step}
 use Rattle.index_derive.specs.declared.log.Step.TheVariants.{One, Alone}
@@ -18,15 +17,12 @@ use Rattle.session_local.specs.Local.{LocalState, OpenCursor, cursor_labelled, h
 use Rattle.session_local.specs.RecordCalls.{bookmark_at, drop_at, hold_at}
 use Rattle.version_cleanup.specs.Cleaning.{reader_in}
 use Rattle.version_cleanup.specs.LiveSessions.{are_rising, levels_in, oldest_begin}
-use Rattle.versioned_tables.specs.HeldRecords.{has_conflict, seen_record, span}
+use Rattle.versioned_tables.specs.HeldRecords.{has_conflict, span}
 use Rattle.engine_versions.specs.EngineState.{EngineState}
 use Rattle.engine_versions.specs.HoldsState.{HoldsState, asked_of}
+pub use Rattle.engine_parts.specs.Reading.{record_for}
 use Rattle.agreeing_sessions.specs.InStep.{IsInStep}
 use Rattle.session_local.specs.Outcome.{rows_seen}
-
--- the record under a bookmark that the session sees
-abbrev pub record_for : EngineState → ℕ → ℕ → List ℕ → Option RecordFields
-record_for engine session table bookmark = seen_record table bookmark (reader_in session engine.sessions) (record_in engine.store.tables table bookmark) engine.store.held
 
 abbrev pub is_outside_in : EngineState → ℕ → Bool
 is_outside_in engine session = levels_in session engine.sessions == 0

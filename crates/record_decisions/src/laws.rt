@@ -2,17 +2,14 @@
 
 ghost use Rattle.record_decisions.specs.Changing.{SeesRecords, TellsConflicts, TellsRoom};
 
-use versioned_tables::{
-    a_reader_finds_the_records_that_it_is_shown, a_session_is_shown_its_view,
-    held_changes_tell_the_span, held_changes_tell_write_conflicts,
-};
+use engine_parts::a_session_reads_its_view;
+use engine_versions::{conflicts_are_told, newest_records_are_told};
 
 /// A session is shown the records of its view.
 pub(crate) fn sessions_see_their_records()
     ensures { SeesRecords }
 {
-    a_session_is_shown_its_view();
-    a_reader_finds_the_records_that_it_is_shown();
+    a_session_reads_its_view();
 }
 
 /// A change meets the same conflicts, and leaves the same room.
@@ -20,6 +17,6 @@ pub(crate) fn changes_are_refused_alike()
     ensures conflicts { TellsConflicts }
     ensures room { TellsRoom }
 {
-    held_changes_tell_write_conflicts();
-    held_changes_tell_the_span();
+    conflicts_are_told();
+    newest_records_are_told();
 }

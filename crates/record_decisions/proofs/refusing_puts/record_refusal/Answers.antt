@@ -1,4 +1,4 @@
-use Rattle.std.proofs.Common.{None, refl, sym, ap, subst, ◌∙◌}
+use Rattle.std.proofs.Common.{sym, ap, subst, ◌∙◌}
 use Rattle.cursor_nav.specs.Navigation.{CursorState}
 use Rattle.session_local.specs.Preparing.{update_of}
 use Rattle.record_decisions.specs.Updating.{HasLegalRules}

@@ -1,4 +1,4 @@
-use Rattle.std.proofs.Common.{◌≡◌, Ok, Err, refl, sym, ap, subst, ◌∙◌}
+use Rattle.std.proofs.Common.{◌≡◌, refl, sym, ap, subst, ◌∙◌}
 use Rattle.index_derive.specs.declared.log.Step.{Step}
 use Rattle.session_local.specs.declared.request.Request.TheVariants as call
 use Rattle.engine_parts.specs.Deciding.{Decides, IsDecision}
