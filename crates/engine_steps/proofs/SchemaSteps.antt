@@ -1,7 +1,7 @@
 -- A lawful schema step can be made by the tables with versions.
-use Rattle.std.proofs.Common.{◌≡◌, ℕ, ◌+◌, ◌<◌, ◌≤◌, Bool, true, false, not, ◌&&◌, ◌||◌, cond, List, [], ◌∷◌, length, Option, Some, None, suc, refl, sym, ap, subst, ◌∙◌, arith}
+use Rattle.std.proofs.Common.{◌≡◌, ℕ, ◌+◌, ◌<◌, Bool, true, false, not, ◌&&◌, ◌||◌, cond, List, [], ◌∷◌, length, Option, Some, None, suc, refl, sym, ap, subst, ◌∙◌, arith}
 use Rattle.std.specs.Prelude.{◌==◌, find, is_none, is_some, nat_le, nat_lt, unwrap_or, IfSome, IsSomeAnd}
-use Rattle.std.specs.List.{AllByRecursion, list_all, list_any}
+use Rattle.std.specs.List.{AllByRecursion, list_any}
 use Rattle.std.proofs.lemmas.Bool.Decides.{nat_tests}
 use Rattle.jet_base.specs.TypeKinds.{is_long_type}
 use Rattle.jet_base.specs.declared.ids.ColumnId.{ColumnId}
@@ -13,12 +13,12 @@ use Rattle.index_derive.specs.declared.log.EntryKind.TheVariants as entry
 use Rattle.index_derive.specs.declared.rules.IndexRule.{IndexRule}
 use Rattle.index_derive.specs.declared.schema_calls.SchemaStep.{SchemaStep}
 use Rattle.index_derive.specs.declared.schema_calls.SchemaStep.TheVariants as step
-use Rattle.index_derive.specs.Entries.{column_is_used, is_unique}
+use Rattle.index_derive.specs.Entries.{column_is_used}
 use Rattle.database_state.specs.Table.{Table, primary_first, table_with_id}
 use Rattle.database_state.specs.State.{DatabaseState, levels}
 use Rattle.database_state.specs.SchemaChanges.{greatest_order, is_in_use, makes_table, new_table, next_index_id, rule_columns, schema_refusal, step_refusals, step_table}
-use Rattle.database_state.specs.Lawful.{has_next_numbers, is_name}
-use Rattle.record_changes.proofs.Tests.{and_left, and_right, and_second, impossible, not_true, or_first, or_second, same_number}
+use Rattle.database_state.specs.Lawful.{is_name}
+use Rattle.record_changes.proofs.Tests.{and_left, and_right, and_second, impossible, not_true, same_number}
 use Rattle.version_keys.proofs.FreeKeys.{in_any_order}
 use Rattle.version_keys.proofs.IndexNumbers.{all_primary_first, none_of}
 use Rattle.version_keys.proofs.SchemaKeys.{IsNewIndex, at_found, new_index, unrefused}
@@ -26,10 +26,9 @@ use Rattle.version_records.proofs.PrimaryKeys.{found_passes, of_found}
 use Rattle.engine_parts.specs.Parts.{tables_of}
 use Rattle.engine_versions.specs.BuiltTables.{is_built_column, makes_built}
 use Rattle.engine_versions.specs.EngineState.{EngineState}
-use Rattle.engine_versions.specs.HoldsState.{HoldsState}
 use Rattle.engine_versions.proofs.Telling.{tables_settled}
 use Rattle.versioned_tables.specs.HeldRecords.{HeldRecord}
-use Rattle.table_versions.specs.SchemaSteps.{CanMake, IsFirstPrimary, IsIndexFor, TakesColumn}
+use Rattle.table_versions.specs.SchemaSteps.{CanMake, IsIndexFor, TakesColumn}
 use Rattle.table_versions.specs.StoredVersions.{StoredVersions}
 use Rattle.table_versions.specs.VersionsKept.{only_secondary, secondary_rule}
 use Rattle.engine_steps.specs.Steps.{MayCome, entry_by}
