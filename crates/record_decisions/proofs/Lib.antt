@@ -5,3 +5,7 @@ pub mod Chains
 pub mod LocksAndDeletes
 pub mod SessionCalls
 pub mod SchemaCalls
+pub mod DoubleKeys
+pub mod RecordWalks
+pub mod BroughtRecords
+pub mod CreatingIndexes

@@ -3,11 +3,14 @@
 
 mod answers;
 mod changing;
+mod creating_indexes;
+mod index_records;
 mod laws;
 mod schema_calls;
 mod session_calls;
 
 pub use changing::{delete, get_lock};
+pub use creating_indexes::create_index;
 pub use schema_calls::change_schema;
 pub use session_calls::{
     begin_session, begin_transaction, commit_transaction, end_session, rollback,
