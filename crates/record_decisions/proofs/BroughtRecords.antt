@@ -7,7 +7,7 @@ use Rattle.jet_base.specs.declared.replies.Jet.TheVariants as jet
 use Rattle.column_set.specs.RecordValues.{RecordFields}
 use Rattle.cursor_nav.specs.Places.{Pair, are_sorted, entry_after}
 use Rattle.database_state.specs.Puts.{is_cut_refusal, is_null_refusal}
-use Rattle.database_state.specs.Refusals.{Refusals, first_refusal}
+use Rattle.database_state.specs.Refusals.{first_refusal}
 use Rattle.database_state.specs.Table.{Rows}
 use Rattle.index_derive.specs.declared.entries.Place.TheVariants.{Before, On}
 use Rattle.index_derive.specs.declared.rules.IndexRule.{IndexRule}
@@ -16,7 +16,7 @@ use Rattle.index_derive.specs.Entries.{KeyRefusal, KeyTruncated, KeyValues, Null
 use Rattle.key_normal.specs.KeyBytes.{cut_key, is_cut}
 use Rattle.record_changes.proofs.Tests.{or_first, or_second}
 use Rattle.record_decisions.specs.declared.index_records.Brought.{Brought}
-use Rattle.record_decisions.specs.CreatingIndexes.{IsAdded, IsBrought, asks_of_records, brought_refusals, entries_of, row_refusals}
+use Rattle.record_decisions.specs.CreatingIndexes.{IsAdded, IsBrought, asks_of_records, brought_refusals, row_refusals}
 use Rattle.record_decisions.proofs.RecordWalks.{IsWalk, StandsAt, stands, walk_begins, walk_ends, walk_goes_on}
 
 -- one record more

@@ -1,7 +1,7 @@
 -- What decides the schema calls that go over no record.
-use Rattle.std.proofs.Common.{◌≡◌, ℕ, zero, suc, ◌≤◌, ◌<◌, Bool, true, false, cond, ◌&&◌, ◌||◌, List, [], ◌∷◌, ◌++◌, length, map, find, Option, Some, None, Result, Ok, Err, refl, sym, ap, subst, ◌∙◌, option_map, unwrap_or, arith}
+use Rattle.std.proofs.Common.{◌≡◌, ℕ, suc, ◌≤◌, ◌<◌, Bool, true, false, cond, ◌&&◌, ◌||◌, List, [], ◌∷◌, length, map, Option, Some, None, Result, Ok, Err, refl, sym, ap, subst, ◌∙◌, option_map, unwrap_or, arith}
 use Rattle.std.specs.Prelude.{◌==◌, nat_le, nat_lt, not, bytes_eq, is_none, is_some, IfSome, IsTrue}
-use Rattle.std.specs.List.{list_any, list_all}
+use Rattle.std.specs.List.{list_any}
 use Rattle.std.specs.Option.{option_or}
 use Rattle.std.proofs.lemmas.Bool.Decides.{nat_tests}
 use Rattle.jet_base.specs.declared.replies.Jet.{Jet}
@@ -13,11 +13,10 @@ use Rattle.index_derive.specs.declared.log.EntryKind.TheVariants as entry
 use Rattle.index_derive.specs.declared.schema_calls.SchemaCall.{SchemaCall}
 use Rattle.index_derive.specs.declared.schema_calls.SchemaCall.TheVariants as schema
 use Rattle.index_derive.specs.declared.schema_calls.SchemaStep.{SchemaStep}
-use Rattle.index_derive.specs.declared.schema_calls.SchemaStep.TheVariants as step
 use Rattle.index_derive.specs.Entries.{own_order}
-use Rattle.cursor_nav.specs.Places.{Pair, entry_after}
+use Rattle.cursor_nav.specs.Places.{entry_after}
 use Rattle.database_state.specs.Table.{Rows, Table, rows_of, table_named, table_with_id}
-use Rattle.database_state.specs.State.{DatabaseState, LiveSession, PastChange, Transaction, levels, levels_of, transaction_of}
+use Rattle.database_state.specs.State.{DatabaseState, LiveSession, PastChange, Transaction, levels_of, transaction_of}
 use Rattle.database_state.specs.View.{view, view_in}
 use Rattle.database_state.specs.Lawful.{is_name, log_limit}
 use Rattle.database_state.specs.Refusals.{Refusals, first_refusal}
@@ -26,9 +25,7 @@ use Rattle.database_state.specs.SchemaSteps.{called_name, step_of_call}
 use Rattle.record_changes.specs.Records.{Records}
 use Rattle.version_history.specs.History.{IsBegun}
 use Rattle.version_keys.specs.TableOrder.{HasTablesInOrder}
-use Rattle.version_cleanup.specs.Cleaning.{reader_in}
-use Rattle.version_cleanup.specs.LiveSessions.{LiveState, has_open, has_other_transaction, levels_in, live_state, without_snapshot}
-use Rattle.versioned_tables.specs.VersionedTables.{seen_tables}
+use Rattle.version_cleanup.specs.LiveSessions.{has_open, has_other_transaction, levels_in, live_state, without_snapshot}
 use Rattle.jet_catalog.specs.Catalog.{CatalogState, IsNumbered, catalog_of, database_of, ids_rise, without_rows}
 use Rattle.jet_catalog.specs.Decisions.{call_refusals, called_table, decided, makes_named, refused_or, refusal_after, session_refusals, table_or_new}
 use Rattle.session_local.specs.declared.request.Request.{Request}
@@ -37,18 +34,18 @@ use Rattle.session_local.specs.SessionSide.{SessionSide}
 use Rattle.session_local.specs.Local.{LocalState}
 use Rattle.session_local.specs.Agreement.{Agrees}
 use Rattle.session_local.specs.Answer.{Nothing}
-use Rattle.session_local.specs.Outcome.{Asked, Outcome, done, refused, unless, unless_refused, one, number_refusals}
+use Rattle.session_local.specs.Outcome.{Asked, Outcome, done, refused, unless, unless_refused, one}
 use Rattle.session_local.specs.SchemaCalls.{schema_changed}
 use Rattle.session_local.specs.Calls.{answer}
 use Rattle.session_local.specs.Finishing.{finished}
 use Rattle.session_local.specs.Deciding.{decided_in as decided_by_decision}
-use Rattle.session_local.specs.Run.{is_lazy, flushes_step}
+use Rattle.session_local.specs.Run.{is_lazy}
 use Rattle.lawful_answers.specs.LawfulSteps.{HasLawfulStep}
 use Rattle.table_versions.specs.StoredVersions.{StoredVersions}
 use Rattle.engine_versions.specs.EngineState.{EngineState}
 use Rattle.engine_versions.specs.HoldsState.{HoldsState}
 use Rattle.engine_parts.specs.Deciding.{Decides, IsDecision}
-use Rattle.record_decisions.specs.SchemaRequests.{catalog_in, decided_in, engine_table, has_rows_in, is_missing, is_open_on, is_used, makes_new, is_schema_request, rows_for, schema_call_of, sessions_in}
+use Rattle.record_decisions.specs.SchemaRequests.{catalog_in, decided_in, engine_table, has_rows_in, is_missing, is_used, makes_new, is_schema_request, rows_for, schema_call_of, sessions_in}
 use Rattle.record_decisions.proofs.Refusing.{AnswersLawfully, asked_by, refused_with, stepped_with, one_by, answer-begun, answer-is, answer-refused, decision-stepped}
 use Rattle.record_decisions.proofs.Seen.{ShowsView, seen-told}
 use Rattle.record_decisions.proofs.Told.{levels-told}

@@ -21,8 +21,8 @@ use versioned_tables::a_reader_finds_the_records_that_it_is_shown;
 /// Why the records of a table that a reader sees may not stand in an index: one with a NULL, or else one with a cut key, that
 /// it disallows, or else a key that two of them share, where it is unique.
 ///
-/// It goes over the records once, and over none where the index refuses no record. The keys of all of them are sorted, so that
-/// equal ones are neighbours.
+/// It goes over the records once, and over none where the index refuses no record. For a unique index it holds the keys of all
+/// of them, and sorts them.
 pub(crate) fn records_refusal(
     alloc: Global,
     tables: &TableVersions,
@@ -186,7 +186,7 @@ fn push_keys(keys: &mut Vec<Key>, made: &Items<Key>) -> Result<(), OutOfMemory>
     Ok(())
 }
 
-// Whether a key stands twice.
+// Whether a key stands twice: once they are sorted, equal keys are neighbours, of which one is kept.
 fn has_double(mut keys: Vec<Key>) -> bool
     ensures { result ≡ has_double keys.items }
 {

@@ -1,4 +1,3 @@
-use Rattle.std.proofs.Common.{◌≡◌}
 use Rattle.cursor_nav.specs.Places.{found_pair}
 use Rattle.database_state.specs.Table.{schema_of}
 use Rattle.index_derive.specs.Entries.{own_order}
