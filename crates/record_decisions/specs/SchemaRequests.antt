@@ -1,5 +1,5 @@
 -- The schema calls among the calls of a session, and what is asked of sessions and tables.
-use Rattle.std.specs.Prelude.{ℕ, ◌==◌, Bool, true, false, not, ◌&&◌, ◌||◌, List, [], ◌∷◌, map, Option, Some, None, Result, is_none, is_some}
+use Rattle.std.specs.Prelude.{ℕ, ◌==◌, Bool, true, false, not, ◌&&◌, ◌||◌, [], ◌∷◌, map, Option, Some, None, Result, is_none, is_some}
 use Rattle.jet_base.specs.declared.replies.Jet.{Jet}
 use Rattle.jet_base.specs.declared.replies.Jet.TheVariants as jet
 use Rattle.index_derive.specs.declared.entries.Place.TheVariants.{Before}
@@ -34,6 +34,7 @@ schema_call_of (call.CreateTable table) = Some (schema.CreateTable table)
 schema_call_of (call.DeleteTable table) = Some (schema.DeleteTable table)
 schema_call_of (call.AddColumn table column kind flags) = Some (schema.AddColumn table column kind flags)
 schema_call_of (call.DeleteColumn table column) = Some (schema.DeleteColumn table column)
+schema_call_of (call.CreateIndex table index flags key_most segments conditions) = Some (schema.CreateIndex table index flags key_most segments conditions)
 schema_call_of (call.DeleteIndex table index) = Some (schema.DeleteIndex table index)
 schema_call_of _ = None
 
