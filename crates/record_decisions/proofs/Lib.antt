@@ -5,3 +5,4 @@ pub mod Chains
 pub mod LocksAndDeletes
 pub mod SessionCalls
 pub mod SchemaCalls
+pub mod CopiedValues

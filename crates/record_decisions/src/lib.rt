@@ -4,6 +4,7 @@
 mod answers;
 mod changing;
 mod laws;
+mod preparing;
 mod schema_calls;
 mod session_calls;
 
