@@ -6,3 +6,4 @@ pub mod LocksAndDeletes
 pub mod SessionCalls
 pub mod SchemaCalls
 pub mod CopiedValues
+pub mod PreparedCopies

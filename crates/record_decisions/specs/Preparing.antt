@@ -1,5 +1,5 @@
 -- Why the engine refuses to prepare a replace or a copy of a record, and what is prepared, by what it holds.
-use Rattle.std.specs.Prelude.{◌≡◌, ◌==◌, ℕ, true, [], ◌++◌, List, Some, IsTrue, is_some, map, unwrap_or, if◌then◌else◌}
+use Rattle.std.specs.Prelude.{◌≡◌, ◌==◌, ℕ, true, [], ◌++◌, List, Some, IfSome, IsTrue, is_some, map, unwrap_or, if◌then◌else◌}
 use Rattle.std.specs.List.{list_all}
 use Rattle.column_set.specs.declared.columns.Column.{Column}
 use Rattle.column_set.specs.Record.{is_record}
@@ -47,6 +47,10 @@ abbrev pub copy_in : EngineState → ℕ → OpenCursor → Refusals
 copy_in engine session c = prepared_refusals c ++ current_in engine session c
 
 -- ---- records that are copied column by column
+
+-- the columns of a record that a session sees rise, and each has a value
+abbrev pub HasFormedRecords : EngineState → Type 0
+HasFormedRecords engine = (session table : ℕ) (bookmark : List ℕ) → IfSome (record_for engine session table bookmark) (λ fields. IsTrue (is_record fields))
 
 -- What is asked of the record: its columns rise and have values, which stand in their row, and each is a column of the table.
 -- No two columns of the table have one number.

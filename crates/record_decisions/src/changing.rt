@@ -67,8 +67,8 @@ pub fn delete(engine: &Engine, local: &Local, cursor: CursorId) -> Result<Decisi
     }
 }
 
-// The labels of the live sessions rise.
-fn labels_rise(engine: &Engine)
+/// The labels of the live sessions rise.
+pub(crate) fn labels_rise(engine: &Engine)
     ensures { IsTrue (are_rising engine.now.sessions) }
 {
     let _count = engine.sessions().len();
@@ -195,8 +195,8 @@ pub(crate) fn bookmark_at(found: &OpenCursor) -> &[u8]
     }
 }
 
-// The lock of the record at the cursor.
-fn hold_at(alloc: Global, found: &OpenCursor) -> Result<Change, OutOfMemory>
+/// The lock of the record at the cursor.
+pub(crate) fn hold_at(alloc: Global, found: &OpenCursor) -> Result<Change, OutOfMemory>
     ensures { IfOk result (λ change. change ≡ hold_at found.now) }
 {
     match Bookmark::from_slice(alloc, bookmark_at(found)) {

@@ -1,7 +1,9 @@
 //! Laws: what the engine holds tells what the definitions ask of a state that it holds. The functions do nothing.
 
 ghost use Rattle.record_decisions.specs.Changing.{SeesRecords, TellsConflicts, TellsRoom};
+ghost use Rattle.record_decisions.specs.Preparing.{HasFormedRecords};
 
+use engine_parts::Engine;
 use versioned_tables::{
     a_reader_finds_the_records_that_it_is_shown, a_session_is_shown_its_view,
     held_changes_tell_the_span, held_changes_tell_write_conflicts,
@@ -22,4 +24,11 @@ pub(crate) fn changes_are_refused_alike()
 {
     held_changes_tell_write_conflicts();
     held_changes_tell_the_span();
+}
+
+/// The columns of a record that a session sees rise, and each has a value.
+pub(crate) fn records_are_formed(engine: &Engine)
+    ensures { HasFormedRecords engine.now }
+{
+    engine.tables().seen_records_are_formed();
 }

@@ -9,6 +9,7 @@ mod schema_calls;
 mod session_calls;
 
 pub use changing::{delete, get_lock};
+pub use preparing::{prepare_copy, prepare_replace};
 pub use schema_calls::change_schema;
 pub use session_calls::{
     begin_session, begin_transaction, commit_transaction, end_session, rollback,

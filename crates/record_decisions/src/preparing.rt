@@ -1,22 +1,89 @@
 //! PrepareUpdate `replace` and `insertcopy`, which copy the record at the cursor.
 
-ghost use Rattle.std.specs.Prelude.{◌≡◌, ℕ, IfOk, IfSome, IsTrue, OnOk, is_some};
+ghost use Rattle.std.specs.Prelude.{◌≡◌, ◌++◌, ℕ, false, Some, None, IfOk, IfSome, IsTrue, OnOk, is_some};
+ghost use Rattle.jet_base.specs.declared.words.Prepare.TheVariants as prepare;
 ghost use Rattle.column_set.specs.RecordValues.{values_of};
 ghost use Rattle.column_set.specs.Rows.{are_short, here_fields};
 ghost use Rattle.database_state.specs.Refusals.{first_refusal};
+ghost use Rattle.session_local.specs.declared.request.Request.TheVariants as call;
+ghost use Rattle.session_local.specs.declared.reply.Value.TheVariants.{Nothing};
+ghost use Rattle.session_local.specs.LocalCalls.{is_answered_locally};
 ghost use Rattle.session_local.specs.Preparing.{for_of};
 ghost use Rattle.session_local.specs.RecordCalls.{bookmark_at, hold_at};
+ghost use Rattle.engine_parts.specs.Deciding.{Decides, IsBeside, IsDecision};
 ghost use Rattle.record_decisions.specs.Changing.{record_for};
 ghost use Rattle.record_decisions.specs.Preparing.{IsCopied, IsPreparedAs, copy_in, copy_of, replace_in, replace_of, update_from, values_seen, values_with};
 
-use crate::answers::is_outside;
-use crate::changing::{bookmark_at, change_refusal, current_refusal, has_own_replace};
+use crate::answers::{is_outside, refused};
+use crate::changing::{
+    bookmark_at, change_refusal, change_step, current_refusal, has_own_replace, hold_at,
+    labels_rise,
+};
+use crate::laws::{changes_are_refused_alike, records_are_formed};
 use column_set::{Bookmark, Change, Column, Record, RowRef, Values};
-use engine_parts::Engine;
-use jet_base::{ColumnId, Jet, Octets, OutOfMemory, Session};
+use engine_parts::{Engine, a_session_reads_its_view};
+use index_derive::Step;
+use jet_base::{ColumnId, CursorId, Jet, Octets, OutOfMemory, Session};
+use lawful_answers::the_step_of_a_replace_is_lawful;
 use record_edit::CopyBuffer;
-use session_local::{Local, OpenCursor, Prepared, Purpose};
+use session_local::{Decision, Local, OpenCursor, Prepared, Purpose, Reply, Value};
 use std::alloc::Global;
+
+/// PrepareUpdate `replace`: the record at the cursor is locked against the writes of others, and copied.
+pub fn prepare_replace(
+    engine: &Engine,
+    local: &Local,
+    cursor: CursorId,
+) -> Result<Decision, OutOfMemory>
+    requires beside { IsBeside engine.now local.now }
+    requires shared { is_answered_locally local.now.state (call.PrepareUpdate cursor prepare.Replace) ≡ false }
+    ensures answer { IfOk result (λ decision. Decides engine.now local.now (call.PrepareUpdate cursor prepare.Replace) local.now decision) }
+    ensures decided { IfOk result (λ decision. IsDecision engine.now local.now (call.PrepareUpdate cursor prepare.Replace) local.now decision) }
+{
+    a_session_reads_its_view();
+    changes_are_refused_alike();
+    the_step_of_a_replace_is_lawful();
+    records_are_formed(engine);
+    labels_rise(engine);
+    let Some(found) = local.cursor(cursor) else {
+        unreachable!()
+    };
+    let session = local.session();
+    let change = hold_at(engine.alloc, found)?;
+    match replace_refusal(engine, local, found, &change) {
+        Some(refusal) => Ok(refused(refusal)),
+        None => {
+            let prepared = replace_at(engine, session, found)?;
+            Ok(prepared_with(Some(change_step(session, change, false)), prepared))
+        }
+    }
+}
+
+/// PrepareUpdate `insertcopy`: the record at the cursor is copied. The log takes nothing.
+pub fn prepare_copy(
+    engine: &Engine,
+    local: &Local,
+    cursor: CursorId,
+) -> Result<Decision, OutOfMemory>
+    requires beside { IsBeside engine.now local.now }
+    requires shared { is_answered_locally local.now.state (call.PrepareUpdate cursor prepare.InsertCopy) ≡ false }
+    ensures answer { IfOk result (λ decision. Decides engine.now local.now (call.PrepareUpdate cursor prepare.InsertCopy) local.now decision) }
+    ensures decided { IfOk result (λ decision. IsDecision engine.now local.now (call.PrepareUpdate cursor prepare.InsertCopy) local.now decision) }
+{
+    a_session_reads_its_view();
+    records_are_formed(engine);
+    let Some(found) = local.cursor(cursor) else {
+        unreachable!()
+    };
+    let session = local.session();
+    match copy_refusal(engine, session, found) {
+        Some(refusal) => Ok(refused(refusal)),
+        None => {
+            let prepared = copy_at(engine, session, found)?;
+            Ok(prepared_with(None, prepared))
+        }
+    }
+}
 
 // Why a replace may not be prepared.
 fn replace_refusal(
@@ -163,4 +230,21 @@ fn copy_values(
         }
     }
     Ok(())
+}
+
+// The decision that the update is prepared.
+fn prepared_with(step: Option<Step>, prepared: Prepared) -> Decision
+    ensures { result ≡ record { step = step; reply = record { jet = Jet.Success; value = Nothing }; table = None; copied = Some prepared; buffers = None; flush = false } }
+{
+    Decision {
+        step,
+        reply: Reply {
+            jet: Jet::Success,
+            value: Value::Nothing,
+        },
+        table: None,
+        copied: Some(prepared),
+        buffers: None,
+        flush: false,
+    }
 }
