@@ -14,3 +14,5 @@ pub mod DoubleKeys
 pub mod RecordWalks
 pub mod BroughtRecords
 pub mod CreatingIndexes
+pub mod CopiedValues
+pub mod PreparedCopies

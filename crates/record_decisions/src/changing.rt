@@ -195,8 +195,8 @@ pub(crate) fn bookmark_at(found: &OpenCursor) -> &[u8]
     }
 }
 
-// The lock of the record at the cursor.
-fn hold_at(alloc: Global, found: &OpenCursor) -> Result<Change, OutOfMemory>
+/// The lock of the record at the cursor.
+pub(crate) fn hold_at(alloc: Global, found: &OpenCursor) -> Result<Change, OutOfMemory>
     ensures { IfOk result (λ change. change ≡ hold_at found.now) }
 {
     match Bookmark::from_slice(alloc, bookmark_at(found)) {

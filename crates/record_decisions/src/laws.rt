@@ -1,8 +1,9 @@
 //! Laws: what the engine holds tells what the definitions ask of a state that it holds. The functions do nothing.
 
 ghost use Rattle.record_decisions.specs.Changing.{SeesRecords, TellsConflicts, TellsRoom};
+ghost use Rattle.record_decisions.specs.Preparing.{HasFormedRecords};
 
-use engine_parts::a_session_reads_its_view;
+use engine_parts::{Engine, a_session_reads_its_view};
 use engine_versions::{conflicts_are_told, newest_records_are_told};
 
 /// A session is shown the records of its view.
@@ -19,4 +20,11 @@ pub(crate) fn changes_are_refused_alike()
 {
     conflicts_are_told();
     newest_records_are_told();
+}
+
+/// The columns of a record that a session sees rise, and each has a value.
+pub(crate) fn records_are_formed(engine: &Engine)
+    ensures { HasFormedRecords engine.now }
+{
+    engine.tables().seen_records_are_formed();
 }

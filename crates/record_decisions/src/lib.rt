@@ -6,6 +6,7 @@ mod changing;
 mod creating_indexes;
 mod index_records;
 mod laws;
+mod preparing;
 mod putting;
 mod refusing_puts;
 mod schema_calls;
@@ -15,6 +16,7 @@ mod updating;
 
 pub use changing::{delete, get_lock};
 pub use creating_indexes::create_index;
+pub use preparing::{prepare_copy, prepare_replace};
 pub use schema_calls::change_schema;
 pub use session_calls::{
     begin_session, begin_transaction, commit_transaction, end_session, rollback,

@@ -3,6 +3,7 @@ pub mod NodeRecords
 pub mod SeenRecords
 pub mod Tables
 pub mod Told
+pub mod FormedRecords
 pub mod Order
 pub mod Neighbours
 pub mod OwnOrder

@@ -1,8 +1,10 @@
 //! What a reader sees of records.
 
-ghost use Rattle.std.specs.Prelude.{◌≡◌, IfSome, option_and_then, option_copied, option_map};
+ghost use Rattle.std.specs.Prelude.{◌≡◌, ℕ, List, IfSome, IsTrue, option_and_then, option_copied, option_map};
+ghost use Rattle.column_set.specs.Record.{is_record};
 ghost use Rattle.column_set.specs.Rows.{here_fields};
 ghost use Rattle.database_state.specs.Table.{record_in};
+ghost use Rattle.version_store.specs.declared.calls.Reader.{Reader};
 ghost use Rattle.versioned_tables.specs.HeldRecords.{seen_record};
 ghost use Rattle.table_versions.specs.RecordRows.{IsRecordRow, record_of, row_in_node};
 
@@ -25,6 +27,13 @@ impl TableVersions {
         ensures { option_map here_fields result ≡ record_in self.now.store.tables table.0 bookmark.now }
     {
         in_place(self.newest_row(table, bookmark))
+    }
+
+    /// The columns of a record that a reader sees rise, and each has a value.
+    pub fn seen_records_are_formed(&self)
+        ensures { (reader : Reader) (table : ℕ) (bookmark : List ℕ) → IfSome (seen_record table bookmark reader (record_in self.now.store.tables table bookmark) self.now.store.held) (λ fields. IsTrue (is_record fields)) }
+    {
+        self.trees.nodes_are_in_order();
     }
 
     // The row that the reader sees.

@@ -1,0 +1,257 @@
+-- What decides PrepareUpdate `replace` and `insertcopy`.
+use Rattle.std.proofs.Common.{◌≡◌, ℕ, ◌≤◌, Bool, true, false, cond, not, ◌&&◌, ◌||◌, List, [], ◌∷◌, ◌++◌, length, map, fold, Option, Some, None, unwrap_or, refl, sym, ap, subst, ◌∙◌}
+use Rattle.std.specs.Prelude.{◌==◌, bytes_eq, find, nat_le, is_none, is_some, IfSome, IsTrue}
+use Rattle.std.specs.List.{list_all}
+use Rattle.jet_base.specs.declared.ids.CursorId.{CursorId}
+use Rattle.jet_base.specs.declared.replies.Jet.{Jet}
+use Rattle.jet_base.specs.declared.replies.Jet.TheVariants as jet
+use Rattle.jet_base.specs.declared.words.ColType.{ColType}
+use Rattle.jet_base.specs.declared.words.ColType.TheVariants as kind
+use Rattle.jet_base.specs.declared.words.Prepare.{Prepare}
+use Rattle.jet_base.specs.declared.words.Prepare.TheVariants as prepare
+use Rattle.jet_base.specs.TypeKinds.{is_long_type}
+use Rattle.column_set.specs.declared.columns.Column.{Column}
+use Rattle.column_set.specs.Record.{is_record}
+use Rattle.column_set.specs.RecordValues.{RecordFields, column_of_id, record_fits, record_size, value_fits, values_fit, with_values}
+use Rattle.column_set.specs.Rows.{are_short}
+use Rattle.index_derive.specs.declared.log.Step.{Step}
+use Rattle.database_state.specs.Refusals.{Refusals, first_refusal}
+use Rattle.database_state.specs.State.{DatabaseState}
+use Rattle.record_changes.proofs.Tests.{and_both, and_left, and_right, impossible, same_number}
+use Rattle.session_local.specs.declared.decision.Decision.{Decision}
+use Rattle.session_local.specs.declared.prepared.Prepared.{Prepared}
+use Rattle.session_local.specs.declared.reply.Value.TheVariants as value
+use Rattle.session_local.specs.declared.request.Request.{Request}
+use Rattle.session_local.specs.declared.request.Request.TheVariants as call
+use Rattle.session_local.specs.Answer.{Nothing}
+use Rattle.session_local.specs.Calls.{answer}
+use Rattle.session_local.specs.Finishing.{with_update_on}
+use Rattle.session_local.specs.Local.{LocalState, OpenCursor, PreparedUpdate, cursor_labelled, inserting, replacing, with_cursor}
+use Rattle.session_local.specs.LocalCalls.{is_answered_locally}
+use Rattle.session_local.specs.Outcome.{Asked, Outcome, done, number_refusals, on_cursor, span_refusals, step_of_change, unless}
+use Rattle.session_local.specs.Preparing.{FitsCursor, update_of}
+use Rattle.session_local.specs.RecordCalls.{bookmark_at, conflict_refusals, current, hold_at, own_refusals, prepare_copy, prepare_replace, prepared_refusals, record_at, with_prepared, with_sums_at_zero}
+use Rattle.session_local.specs.Run.{flushes_step}
+use Rattle.session_local.specs.SessionSide.{SessionSide, are_distinct}
+use Rattle.session_local.specs.WellFormed.{IsWellFormed, is_well_formed_cursor, is_well_formed_schema, is_well_formed_update, number_of_column, stands_in}
+use Rattle.agreeing_sessions.specs.InStep.{IsInStep}
+use Rattle.engine_versions.specs.BuiltTables.{is_built_column}
+use Rattle.engine_versions.specs.EngineState.{EngineState}
+use Rattle.engine_versions.specs.HoldsState.{HoldsState}
+use Rattle.engine_versions.proofs.WellFormed.{no_sums}
+use Rattle.engine_parts.specs.Deciding.{Decides, IsBeside, IsDecision, IsLawfulStep}
+use Rattle.version_cleanup.specs.LiveSessions.{are_rising}
+use Rattle.record_decisions.specs.Changing.{SeesRecords, TellsConflicts, TellsRoom, change_in, current_in, is_outside_in, own_in, record_for, step_by}
+use Rattle.record_decisions.specs.Preparing.{HasFormedRecords, IsCopied, copy_in, copy_of, replace_in, replace_of, values_seen}
+use Rattle.record_decisions.proofs.Chains.{unless-refused, unless-passed}
+use Rattle.record_decisions.proofs.LocksAndDeletes.{at_if, change-told, changed_by, current-told, outside-told, step_of_change-told}
+use Rattle.record_decisions.proofs.Refusing.{asked_by, answer-begun, answer-is, answer-refused, refused_with}
+
+-- ---- a record that is copied
+
+-- the laws that it rests on: each record fits its columns, all of which are built
+abbrev pub SeesStored : Type 0
+SeesStored =
+    (engine : EngineState) (state : DatabaseState) (session : ℕ) (local : LocalState) (label : ℕ) (c : OpenCursor) → HoldsState engine state → IsInStep state session local → cursor_labelled local label ≡ Some c
+    → (bookmark : List ℕ) (values : RecordFields) → record_for engine session c.cursor.table bookmark ≡ Some values → (record_size values ≤ 1700) × IsTrue (record_fits c.schema.columns values)
+
+abbrev pub SeesBuilt : Type 0
+SeesBuilt =
+    (engine : EngineState) (state : DatabaseState) (session : ℕ) (local : LocalState) (label : ℕ) (c : OpenCursor) → HoldsState engine state → IsInStep state session local → cursor_labelled local label ≡ Some c
+    → IsTrue (list_all is_built_column c.schema.columns)
+
+found_passes : {X : Type 0} (p test : X → Bool) (xs : List X) (x : X) → list_all p xs ≡ true → find test xs ≡ Some x → p x ≡ true
+found_passes p test [] x all found = cc
+found_passes {X} p test (y ∷ ys) x all found = by (test y) found (found_passes p test ys x (and_right (p y) (list_all p ys) all))
+  where
+    by : (b : Bool) → cond b (Some y) (find test ys) ≡ Some x → (find test ys ≡ Some x → p x ≡ true) → p x ≡ true
+    by true e rest = ap (λ (o : Option X). p (unwrap_or o y)) (sym e) ∙ and_left (p y) (list_all p ys) all
+    by false e rest = rest e
+
+width_short : (width n : ℕ) → nat_le width 255 ≡ true → (n == width) ≡ true → nat_le n 255 ≡ true
+width_short width n small same = ap (λ (n : ℕ). nat_le n 255) (same_number n width same) ∙ small
+
+neither : (a b : Bool) → ((a && false) || (b && false)) ≡ false
+neither true true = refl
+neither true false = refl
+neither false true = refl
+neither false false = refl
+
+bit_short : (value : List ℕ) → (bytes_eq value (0 ∷ []) || bytes_eq value (1 ∷ [])) ≡ true → nat_le (length value) 255 ≡ true
+bit_short [] h = cc
+bit_short (x ∷ []) h = refl
+bit_short (x ∷ y ∷ value) h = let no = neither (x == 0) (x == 1) in cc
+
+value_short : (type : ColType) (value : List ℕ) → not (is_long_type type) ≡ true → value_fits type value ≡ true → nat_le (length value) 255 ≡ true
+value_short kind.Bit value built h = bit_short value h
+value_short kind.UnsignedByte value built h = width_short 1 (length value) refl h
+value_short kind.Short value built h = width_short 2 (length value) refl h
+value_short kind.UnsignedShort value built h = width_short 2 (length value) refl h
+value_short kind.Long value built h = width_short 4 (length value) refl h
+value_short kind.UnsignedLong value built h = width_short 4 (length value) refl h
+value_short kind.LongLong value built h = width_short 8 (length value) refl h
+value_short kind.Currency value built h = width_short 8 (length value) refl h
+value_short kind.Guid value built h = width_short 16 (length value) refl h
+value_short kind.Binary value built h = h
+value_short kind.Text value built h = h
+value_short kind.LongBinary value built h = cc
+value_short kind.LongText value built h = cc
+
+values_short : (type : ColType) (values : List (List ℕ)) → not (is_long_type type) ≡ true → list_all (value_fits type) values ≡ true → are_short values ≡ true
+values_short type [] built h = refl
+values_short type (value ∷ values) built h =
+    and_both (nat_le (length value) 255) (are_short values)
+    (value_short type value built (and_left (value_fits type value) (list_all (value_fits type) values) h))
+    (values_short type values built (and_right (value_fits type value) (list_all (value_fits type) values) h))
+
+-- the values of a column that is built are short
+field_short : (columns : List Column) (number : ℕ) (values : List (List ℕ)) → list_all is_built_column columns ≡ true → stands_in columns (number, values) ≡ true → are_short values ≡ true
+field_short columns number values built stands = by (column_of_id columns number) refl stands
+  where
+    by : (found : Option Column) → column_of_id columns number ≡ found → elim found [ Some column ↦ values_fit column values | None ↦ false ] ≡ true → are_short values ≡ true
+    by None e h = impossible h
+    by (Some column) e h =
+        values_short column.kind values
+        (and_left (not (is_long_type column.kind)) _ (found_passes is_built_column (λ (c : Column). c.id.0 == number) columns column built e))
+        (and_right (column.multi || nat_le (length values) 1) (list_all (value_fits column.kind) values) h)
+
+field_named : (columns : List Column) (number : ℕ) (values : List (List ℕ)) → stands_in columns (number, values) ≡ true → is_some (column_of_id columns number) ≡ true
+field_named columns number values stands = by (column_of_id columns number) stands
+  where
+    by : (found : Option Column) → elim found [ Some column ↦ values_fit column values | None ↦ false ] ≡ true → is_some found ≡ true
+    by None h = impossible h
+    by (Some column) h = refl
+
+all_mono : {X : Type 0} (p q : X → Bool) → ((x : X) → p x ≡ true → q x ≡ true) → (xs : List X) → list_all p xs ≡ true → list_all q xs ≡ true
+all_mono p q f [] h = refl
+all_mono p q f (x ∷ xs) h = and_both (q x) (list_all q xs) (f x (and_left (p x) (list_all p xs) h)) (all_mono p q f xs (and_right (p x) (list_all p xs) h))
+
+distinct_at : (local : LocalState) (label : ℕ) (c : OpenCursor) → IsWellFormed local → cursor_labelled local label ≡ Some c → are_distinct (map number_of_column c.schema.columns) ≡ true
+distinct_at local label c formed found =
+    and_left _ _ (and_left _ _ (and_left _ _
+    (and_left (is_well_formed_schema c.schema) (is_well_formed_update c.schema.columns c.prepared) (found_passes is_well_formed_cursor (λ (c : OpenCursor). c.label == label) local.cursors c formed found))))
+
+copied : (columns : List Column) (values : RecordFields) → is_record values ≡ true → record_fits columns values ≡ true → list_all is_built_column columns ≡ true → are_distinct (map number_of_column columns) ≡ true → IsCopied columns values
+copied columns values formed fits built distinct =
+    let stand : list_all (stands_in columns) values ≡ true = and_left _ _ fits in
+    record {
+      formed = formed;
+      short = all_mono (stands_in columns) (λ field. are_short field.1) (λ field. field_short columns field.0 field.1 built) values stand;
+      named = all_mono (stands_in columns) (λ field. is_some (column_of_id columns field.0)) (λ field. field_named columns field.0 field.1) values stand;
+      distinct = distinct;
+    }
+
+-- the record that the session sees under the cursor can be copied
+pub copied-at : SeesStored → SeesBuilt → (engine : EngineState) (side : SessionSide) (label session : ℕ) (c : OpenCursor) → IsBeside engine side → HasFormedRecords engine → cursor_labelled side.state label ≡ Some c → session ≡ side.session
+    → IfSome (record_for engine session c.cursor.table (bookmark_at c)) (IsCopied c.schema.columns)
+copied-at stored built engine side label session c beside formed found own =
+    subst (λ s. IfSome (record_for engine s c.cursor.table (bookmark_at c)) (IsCopied c.schema.columns)) (sym own)
+    (by (record_for engine side.session c.cursor.table (bookmark_at c)) refl (formed side.session c.cursor.table (bookmark_at c)))
+  where
+    by : (seen : Option RecordFields) → record_for engine side.session c.cursor.table (bookmark_at c) ≡ seen → IfSome seen (λ fields. IsTrue (is_record fields)) → IfSome seen (IsCopied c.schema.columns)
+    by None e h = tt
+    by (Some values) e h =
+        let held = beside.held in
+        copied c.schema.columns values h (stored engine held.state side.session side.state label c held.holds held.in_step found (bookmark_at c) values e).1
+        (built engine held.state side.session side.state label c held.holds held.in_step found)
+        (distinct_at side.state label c beside.formed found)
+
+-- ---- a call that prepares an update, or refuses it
+
+-- what the session's answer comes to
+abbrev pub prepared_by : Asked → Refusals → OpenCursor → PreparedUpdate → Option Step → Outcome
+prepared_by asked refusals c update step = unless asked refusals (λ _. done (with_prepared asked c (Some update)) Nothing step)
+
+-- in each state that the engine holds, the call is refused by these, or prepares the update
+abbrev pub Prepares : EngineState → SessionSide → Request → Refusals → OpenCursor → PreparedUpdate → Option Step → Type 0
+Prepares engine side request refusals c update step =
+    (state : DatabaseState) → HoldsState engine state → IsInStep state side.session side.state → answer (asked_by engine state side) request ≡ prepared_by (asked_by engine state side) refusals c update step
+
+abbrev pub prepared_with : Option Step → Prepared → Decision
+prepared_with step prepared = record { step = step; reply = record { jet = jet.Success; value = value.Nothing }; table = None; copied = Some prepared; buffers = None; flush = false }
+
+pub prepare-refused : (engine : EngineState) (side : SessionSide) (request : Request) (refusals : Refusals) (c : OpenCursor) (update : PreparedUpdate) (step : Option Step) (reply : Jet) → Prepares engine side request refusals c update step → first_refusal refusals ≡ Some reply
+    → Decides engine side request side (refused_with reply)
+prepare-refused engine side request refusals c update step reply prepares is = λ state h in_step.
+    answer-refused (asked_by engine state side) request side reply refl (prepares state h in_step ∙ unless-refused (asked_by engine state side) refusals _ reply is)
+
+pub prepare-done : (engine : EngineState) (side : SessionSide) (cursor : CursorId) (how : Prepare) (refusals : Refusals) (c : OpenCursor) (update : PreparedUpdate) (step : Option Step) (prepared : Prepared)
+    → Prepares engine side (call.PrepareUpdate cursor how) refusals c update step → first_refusal refusals ≡ None → cursor_labelled side.state cursor.0 ≡ Some c → update_of prepared ≡ update
+    → Decides engine side (call.PrepareUpdate cursor how) side (prepared_with step prepared)
+prepare-done engine side cursor how refusals c update step prepared prepares is found same = λ state h in_step.
+    answer-is (asked_by engine state side) (call.PrepareUpdate cursor how) side (prepared_with step prepared) _
+    (prepares state h in_step ∙ unless-passed (asked_by engine state side) refusals _ is) refl refl
+    (ap (λ (o : Option OpenCursor). with_update_on side.state o (Some (update_of prepared))) found ∙ ap (λ (u : PreparedUpdate). with_cursor side.state (record c { prepared = Some u })) same)
+
+-- what is said of such a decision
+pub prepare-decided : (engine : EngineState) (side : SessionSide) (cursor : CursorId) (how : Prepare) (c : OpenCursor) (step : Option Step) (prepared : Prepared) → cursor_labelled side.state cursor.0 ≡ Some c → prepared.buffer.columns ≡ c.schema.columns
+    → false ≡ flushes_step (call.PrepareUpdate cursor how) step → IsLawfulStep engine side (prepared_with step prepared) → IsDecision engine side (call.PrepareUpdate cursor how) side (prepared_with step prepared)
+prepare-decided engine side cursor how c step prepared found columns still lawful = record {
+  session = refl;
+  still = λ _. refl;
+  room = refl;
+  named = refl;
+  fits = subst (λ (o : Option OpenCursor). FitsCursor o (Some prepared)) (sym found) columns;
+  flush = still;
+  lawful = lawful;
+}
+
+-- ---- `replace`
+
+prepare-shared : (side : SessionSide) (cursor : CursorId) → elim side.state.begun [ true ↦ is_none (cursor_labelled side.state cursor.0) | false ↦ true ] ≡ false → side.state.begun ≡ true
+prepare-shared side cursor shared = (at_if side.state.begun (cursor_labelled side.state cursor.0) shared).0
+
+-- what the definitions copy is what the session sees
+values-told : SeesRecords → (engine : EngineState) (state : DatabaseState) (side : SessionSide) (label : ℕ) (c : OpenCursor) → HoldsState engine state → IsInStep state side.session side.state → cursor_labelled side.state label ≡ Some c
+    → record_at (asked_by engine state side) c ≡ values_seen engine side.session c
+values-told sees engine state side label c h step found =
+    ap (λ (o : Option RecordFields). unwrap_or o []) (sym (sees engine state side.session side.state label c h step found (bookmark_at c)))
+
+-- the step that locks the record
+abbrev pub lock_step : EngineState → ℕ → OpenCursor → Option Step
+lock_step engine session c = Some (step_by (is_outside_in engine session) (changed_by session (hold_at c)))
+
+pub replace-prepares : SeesRecords → TellsConflicts → TellsRoom → (engine : EngineState) (side : SessionSide) (cursor : CursorId) (c : OpenCursor) → IsTrue (are_rising engine.sessions) → is_answered_locally side.state (call.PrepareUpdate cursor prepare.Replace) ≡ false
+    → cursor_labelled side.state cursor.0 ≡ Some c
+    → Prepares engine side (call.PrepareUpdate cursor prepare.Replace) (replace_in engine side.session side.state c) c (replace_of engine side.session c) (lock_step engine side.session c)
+replace-prepares sees conflicts rooms engine side cursor c rising shared found = λ state h step.
+    let asked = asked_by engine state side in
+    let by : Refusals → RecordFields → Option Step → Outcome = λ refusals values step. prepared_by asked refusals c (record { for = replacing (bookmark_at c); values = values }) step in
+    let values = record_at asked c in
+    let made = step_of_change asked (hold_at c) in
+    answer-begun asked (call.PrepareUpdate cursor prepare.Replace) (prepare-shared side cursor shared)
+    ∙ ap (λ o. on_cursor asked o (prepare_replace asked)) found
+    ∙ ap (λ b. by (prepared_refusals c ++ (b, jet.NotInTransaction) ∷ current asked c ++ own_refusals asked c ++ conflict_refusals asked (hold_at c) ++ number_refusals asked ++ span_refusals asked (hold_at c)) values made) (outside-told engine state side h)
+    ∙ ap (λ (l : Refusals). by (prepared_refusals c ++ (is_outside_in engine side.session, jet.NotInTransaction) ∷ l ++ own_refusals asked c ++ conflict_refusals asked (hold_at c) ++ number_refusals asked ++ span_refusals asked (hold_at c)) values made)
+    (current-told sees engine state side cursor.0 c h step found)
+    ∙ ap (λ (l : Refusals). by (prepared_refusals c ++ (is_outside_in engine side.session, jet.NotInTransaction) ∷ current_in engine side.session c ++ own_in side.state c ++ l) values made) (change-told conflicts rooms engine state side (hold_at c) h rising)
+    ∙ ap (λ (v : RecordFields). by (replace_in engine side.session side.state c) v made) (values-told sees engine state side cursor.0 c h step found)
+    ∙ ap (λ (s : Option Step). by (replace_in engine side.session side.state c) (values_seen engine side.session c) s) (step_of_change-told engine state side (hold_at c) (is_outside_in engine side.session) h refl)
+
+-- what is not refused is inside a transaction
+pub replace-inside : (engine : EngineState) (side : SessionSide) (c : OpenCursor) → first_refusal (replace_in engine side.session side.state c) ≡ None → is_outside_in engine side.session ≡ false
+replace-inside engine side c is = by (is_some c.prepared) (is_outside_in engine side.session) is
+  where
+    by : (a b : Bool) → cond a (Some jet.AlreadyPrepared) (cond b (Some jet.NotInTransaction) (first_refusal (current_in engine side.session c ++ own_in side.state c ++ change_in engine side.session (hold_at c)))) ≡ None → b ≡ false
+    by true b e = cc
+    by false true e = cc
+    by false false e = refl
+
+-- so its step is one entry
+pub replace-step : (engine : EngineState) (side : SessionSide) (c : OpenCursor) → first_refusal (replace_in engine side.session side.state c) ≡ None → lock_step engine side.session c ≡ Some (step_by false (changed_by side.session (hold_at c)))
+replace-step engine side c is = ap (λ b. Some (step_by b (changed_by side.session (hold_at c)))) (replace-inside engine side c is)
+
+-- ---- `insertcopy`
+
+no_sums_at_zero : (columns : List Column) (values : RecordFields) → list_all is_built_column columns ≡ true → with_sums_at_zero columns values ≡ values
+no_sums_at_zero columns values built = ap (λ (sums : List Column). fold (λ (fields : RecordFields) (column : Column). with_values fields column.id.0 ((0 ∷ 0 ∷ 0 ∷ 0 ∷ []) ∷ [])) values sums) (no_sums columns built)
+
+pub copy-prepares : SeesRecords → SeesBuilt → (engine : EngineState) (side : SessionSide) (cursor : CursorId) (c : OpenCursor) → is_answered_locally side.state (call.PrepareUpdate cursor prepare.InsertCopy) ≡ false → cursor_labelled side.state cursor.0 ≡ Some c
+    → Prepares engine side (call.PrepareUpdate cursor prepare.InsertCopy) (copy_in engine side.session c) c (copy_of engine side.session c) None
+copy-prepares sees built engine side cursor c shared found = λ state h step.
+    let asked = asked_by engine state side in
+    let by : Refusals → RecordFields → Outcome = λ refusals values. prepared_by asked refusals c (record { for = inserting (Some (bookmark_at c)); values = values }) None in
+    answer-begun asked (call.PrepareUpdate cursor prepare.InsertCopy) (prepare-shared side cursor shared)
+    ∙ ap (λ o. on_cursor asked o (prepare_copy asked)) found
+    ∙ ap (λ (l : Refusals). by (prepared_refusals c ++ l) (with_sums_at_zero c.schema.columns (record_at asked c))) (current-told sees engine state side cursor.0 c h step found)
+    ∙ ap (λ (v : RecordFields). by (copy_in engine side.session c) v) (no_sums_at_zero c.schema.columns (record_at asked c) (built engine state side.session side.state cursor.0 c h step found) ∙ values-told sees engine state side cursor.0 c h step found)

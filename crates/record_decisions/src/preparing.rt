@@ -1,0 +1,250 @@
+//! PrepareUpdate `replace` and `insertcopy`, which copy the record at the cursor.
+
+ghost use Rattle.std.specs.Prelude.{◌≡◌, ◌++◌, ℕ, false, Some, None, IfOk, IfSome, IsTrue, OnOk, is_some};
+ghost use Rattle.jet_base.specs.declared.words.Prepare.TheVariants as prepare;
+ghost use Rattle.column_set.specs.RecordValues.{values_of};
+ghost use Rattle.column_set.specs.Rows.{are_short, here_fields};
+ghost use Rattle.database_state.specs.Refusals.{first_refusal};
+ghost use Rattle.session_local.specs.declared.request.Request.TheVariants as call;
+ghost use Rattle.session_local.specs.declared.reply.Value.TheVariants.{Nothing};
+ghost use Rattle.session_local.specs.LocalCalls.{is_answered_locally};
+ghost use Rattle.session_local.specs.Preparing.{for_of};
+ghost use Rattle.session_local.specs.RecordCalls.{bookmark_at, hold_at};
+ghost use Rattle.engine_parts.specs.Deciding.{Decides, IsBeside, IsDecision};
+ghost use Rattle.record_decisions.specs.Changing.{record_for};
+ghost use Rattle.record_decisions.specs.Preparing.{IsCopied, IsPreparedAs, copy_in, copy_of, replace_in, replace_of, update_from, values_seen, values_with};
+
+use crate::answers::{is_outside, refused};
+use crate::changing::{
+    bookmark_at, change_refusal, change_step, current_refusal, has_own_replace, hold_at,
+    labels_rise,
+};
+use crate::laws::{changes_are_refused_alike, records_are_formed};
+use column_set::{Bookmark, Change, Column, Record, RowRef, Values};
+use engine_parts::{Engine, a_session_reads_its_view};
+use index_derive::Step;
+use jet_base::{ColumnId, CursorId, Jet, Octets, OutOfMemory, Session};
+use lawful_answers::the_step_of_a_replace_is_lawful;
+use record_edit::CopyBuffer;
+use session_local::{Decision, Local, OpenCursor, Prepared, Purpose, Reply, Value};
+use std::alloc::Global;
+
+/// PrepareUpdate `replace`: the record at the cursor is locked against the writes of others, and copied.
+pub fn prepare_replace(
+    engine: &Engine,
+    local: &Local,
+    cursor: CursorId,
+) -> Result<Decision, OutOfMemory>
+    requires beside { IsBeside engine.now local.now }
+    requires shared { is_answered_locally local.now.state (call.PrepareUpdate cursor prepare.Replace) ≡ false }
+    ensures answer { IfOk result (λ decision. Decides engine.now local.now (call.PrepareUpdate cursor prepare.Replace) local.now decision) }
+    ensures decided { IfOk result (λ decision. IsDecision engine.now local.now (call.PrepareUpdate cursor prepare.Replace) local.now decision) }
+{
+    a_session_reads_its_view();
+    changes_are_refused_alike();
+    the_step_of_a_replace_is_lawful();
+    records_are_formed(engine);
+    labels_rise(engine);
+    let Some(found) = local.cursor(cursor) else {
+        unreachable!()
+    };
+    let session = local.session();
+    let change = hold_at(engine.alloc, found)?;
+    match replace_refusal(engine, local, found, &change) {
+        Some(refusal) => Ok(refused(refusal)),
+        None => {
+            let prepared = replace_at(engine, session, found)?;
+            Ok(prepared_with(Some(change_step(session, change, false)), prepared))
+        }
+    }
+}
+
+/// PrepareUpdate `insertcopy`: the record at the cursor is copied. The log takes nothing.
+pub fn prepare_copy(
+    engine: &Engine,
+    local: &Local,
+    cursor: CursorId,
+) -> Result<Decision, OutOfMemory>
+    requires beside { IsBeside engine.now local.now }
+    requires shared { is_answered_locally local.now.state (call.PrepareUpdate cursor prepare.InsertCopy) ≡ false }
+    ensures answer { IfOk result (λ decision. Decides engine.now local.now (call.PrepareUpdate cursor prepare.InsertCopy) local.now decision) }
+    ensures decided { IfOk result (λ decision. IsDecision engine.now local.now (call.PrepareUpdate cursor prepare.InsertCopy) local.now decision) }
+{
+    a_session_reads_its_view();
+    records_are_formed(engine);
+    let Some(found) = local.cursor(cursor) else {
+        unreachable!()
+    };
+    let session = local.session();
+    match copy_refusal(engine, session, found) {
+        Some(refusal) => Ok(refused(refusal)),
+        None => {
+            let prepared = copy_at(engine, session, found)?;
+            Ok(prepared_with(None, prepared))
+        }
+    }
+}
+
+// Why a replace may not be prepared.
+fn replace_refusal(
+    engine: &Engine,
+    local: &Local,
+    found: &OpenCursor,
+    change: &Change,
+) -> Option<Jet>
+    requires { change.now ≡ hold_at found.now }
+    ensures { result ≡ first_refusal (replace_in engine.now local.now.session local.now.state found.now) }
+{
+    let session = local.session();
+    if is_prepared(found) {
+        Some(Jet::AlreadyPrepared)
+    } else if is_outside(engine, session) {
+        Some(Jet::NotInTransaction)
+    } else {
+        match current_refusal(engine, session, found) {
+            Some(refusal) => Some(refusal),
+            None => {
+                if has_own_replace(local, found) {
+                    Some(Jet::SessionWriteConflict)
+                } else {
+                    change_refusal(engine, session, change)
+                }
+            }
+        }
+    }
+}
+
+// Why a record may not be copied.
+fn copy_refusal(engine: &Engine, session: Session, found: &OpenCursor) -> Option<Jet>
+    ensures { result ≡ first_refusal (copy_in engine.now session.0 found.now) }
+{
+    if is_prepared(found) {
+        Some(Jet::AlreadyPrepared)
+    } else {
+        current_refusal(engine, session, found)
+    }
+}
+
+// Whether an update is prepared on the cursor.
+fn is_prepared(found: &OpenCursor) -> bool
+    ensures { result ≡ is_some found.now.prepared }
+{
+    found.prepared().is_some()
+}
+
+// What a replace of the record at the cursor prepares.
+fn replace_at(
+    engine: &Engine,
+    session: Session,
+    found: &OpenCursor,
+) -> Result<Prepared, OutOfMemory>
+    requires { IfSome (record_for engine.now session.0 found.now.cursor.table (bookmark_at found.now)) (IsCopied found.now.schema.columns) }
+    ensures { IfOk result (IsPreparedAs found.now (replace_of engine.now session.0 found.now)) }
+{
+    match Bookmark::from_slice(engine.alloc, bookmark_at(found)) {
+        Ok(bookmark) => prepared_from(engine, session, found, Purpose::Replace(bookmark)),
+        Err(fault) => Err(fault),
+    }
+}
+
+// What an insert prepares that is copied from the record at the cursor.
+fn copy_at(engine: &Engine, session: Session, found: &OpenCursor) -> Result<Prepared, OutOfMemory>
+    requires { IfSome (record_for engine.now session.0 found.now.cursor.table (bookmark_at found.now)) (IsCopied found.now.schema.columns) }
+    ensures { IfOk result (IsPreparedAs found.now (copy_of engine.now session.0 found.now)) }
+{
+    match Bookmark::from_slice(engine.alloc, bookmark_at(found)) {
+        Ok(bookmark) => prepared_from(engine, session, found, Purpose::Insert(Some(bookmark))),
+        Err(fault) => Err(fault),
+    }
+}
+
+// The update with the values of the record at the cursor.
+fn prepared_from(
+    engine: &Engine,
+    session: Session,
+    found: &OpenCursor,
+    purpose: Purpose,
+) -> Result<Prepared, OutOfMemory>
+    requires { IfSome (record_for engine.now session.0 found.now.cursor.table (bookmark_at found.now)) (IsCopied found.now.schema.columns) }
+    ensures { IfOk result (IsPreparedAs found.now (update_from engine.now session.0 found.now (for_of purpose))) }
+{
+    match record_at(engine, session, found) {
+        Ok(values) => match CopyBuffer::new(engine.alloc, &found.schema().columns, values) {
+            Ok(buffer) => Ok(Prepared { purpose, buffer }),
+            Err(fault) => Err(fault),
+        },
+        Err(fault) => Err(fault),
+    }
+}
+
+// The record that the session sees at the cursor, its values copied.
+fn record_at(engine: &Engine, session: Session, found: &OpenCursor) -> Result<Record, OutOfMemory>
+    requires { IfSome (record_for engine.now session.0 found.now.cursor.table (bookmark_at found.now)) (IsCopied found.now.schema.columns) }
+    ensures { IfOk result (λ made. made ≡ values_seen engine.now session.0 found.now) }
+{
+    let table = found.cursor().table();
+    let reader = engine.reader(session);
+    match engine.tables().look_up(table, bookmark_at(found), reader) {
+        Some(row) => record_of_row(engine.alloc, found.schema().columns.as_slice(), &row),
+        None => Ok(Record::new(engine.alloc)),
+    }
+}
+
+// A copy of a row that is read in place.
+fn record_of_row(alloc: Global, columns: &[Column], row: &RowRef<'_>) -> Result<Record, OutOfMemory>
+    requires { IsCopied columns.now (here_fields row.now) }
+    ensures { IfOk result (λ made. made ≡ here_fields row.now) }
+{
+    let mut made = Record::new(alloc);
+    for column in columns {
+        match copy_values(alloc, column.id, row, &mut made) {
+            Ok(()) => {}
+            Err(fault) => return Err(fault),
+        }
+    }
+    // Its columns rise.
+    let _fields = made.fields();
+    Ok(made)
+}
+
+// Puts the values of a column behind those that the record has there.
+fn copy_values(
+    alloc: Global,
+    column: ColumnId,
+    row: &RowRef<'_>,
+    made: &mut Record,
+) -> Result<(), OutOfMemory>
+    requires { IsTrue (are_short (values_of (here_fields row.now) column.0)) }
+    ensures { OnOk result ((number : ℕ) → values_of made.new number ≡ values_with made.old (here_fields row.now) column.0 number) }
+{
+    for at in 0..row.count(column) {
+        let Some(bytes) = row.value(column, at) else {
+            unreachable!()
+        };
+        match Octets::from_slice(alloc, bytes) {
+            Ok(value) => match made.push_value(column, value) {
+                Ok(()) => {}
+                Err(fault) => return Err(fault),
+            },
+            Err(fault) => return Err(fault),
+        }
+    }
+    Ok(())
+}
+
+// The decision that the update is prepared.
+fn prepared_with(step: Option<Step>, prepared: Prepared) -> Decision
+    ensures { result ≡ record { step = step; reply = record { jet = Jet.Success; value = Nothing }; table = None; copied = Some prepared; buffers = None; flush = false } }
+{
+    Decision {
+        step,
+        reply: Reply {
+            jet: Jet::Success,
+            value: Value::Nothing,
+        },
+        table: None,
+        copied: Some(prepared),
+        buffers: None,
+        flush: false,
+    }
+}
