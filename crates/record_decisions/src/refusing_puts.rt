@@ -133,15 +133,12 @@ fn keys_refusal(
     let values = prepared.buffer.values();
     let own = replaced_by(&prepared.purpose);
     let reader = engine.reader(session);
+    let tables = engine.tables();
     for rule in schema.indexes.as_slice() {
-        if is_unique(rule) {
-            match engine
-                .tables()
-                .key_refusal(reader, table, schema, rule, own, values)
-            {
-                Some(refusal) => return Some(refusal),
-                None => {}
-            }
+        if is_unique(rule)
+            && let Some(refusal) = tables.key_refusal(reader, table, schema, rule, own, values)
+        {
+            return Some(refusal);
         }
     }
     None

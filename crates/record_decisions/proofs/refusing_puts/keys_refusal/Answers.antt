@@ -19,15 +19,15 @@ key_refusal-requires-clause-taken c =
     (rule-taken c.args.schema.now c.args.prepared.now.buffer.fields c.loop-rule.rule-index c.rule-item.result c.requires.taken
     (placed c.as_slice-rule-items.result.now _ c.loop-rule.rule-index c.rule-item.result c.as_slice-rule-items.ensures c.loop-rule-test.true c.rule-item.is))
 
-pub returns-in-Some : goal.returns-in-Some
-returns-in-Some c =
+pub returns-in-loop-rule : goal.returns-in-loop-rule
+returns-in-loop-rule c =
     let schema = c.args.schema.now in
     let own = replaced_by (for_of c.args.prepared.now.purpose) in
     let values = c.args.prepared.now.buffer.fields in
     let asked : IndexRule → Refusals = asked_where is_unique (rule_refusals c.args.engine.now c.args.session.0 c.args.table.0 schema own values) in
     refused-at asked c.as_slice-rule-items.result.now c.loop-rule.rule-index c.rule-item.result c.in-Some.refusal c.loop-rule.invariant c.loop-rule-test.true c.rule-item.is
-    (unique-told c.args.engine.now c.args.session.0 c.args.table.0 schema own (option_copied c.replaced_by-own.result) values c.values-values.result.now c.rule-item.result c.reader-reader.result c.tables.result.now.store (Some c.in-Some.refusal)
-    c.reader-reader.ensures (ap (λ (tables : StoredVersions). tables.store) c.tables.ensures) c.replaced_by-own.ensures c.values-values.ensures c.if-is_unique.ensures c.in-Some.ensures)
+    (unique-told c.args.engine.now c.args.session.0 c.args.table.0 schema own (option_copied c.replaced_by-own.result) values c.values-values.result.now c.rule-item.result c.reader-reader.result c.tables-tables.result.now.store (Some c.in-Some.refusal)
+    c.reader-reader.ensures (ap (λ (tables : StoredVersions). tables.store) c.tables-tables.ensures) c.replaced_by-own.ensures c.values-values.ensures c.if-is_unique.ensures c.in-Some.ensures)
     ∙ ap (λ (rules : List IndexRule). first_refusal (flat_map asked rules)) c.as_slice-rule-items.ensures
     ∙ sym (ap (λ (refusals : Refusals). first_refusal refusals) (filter-asked is_unique (rule_refusals c.args.engine.now c.args.session.0 c.args.table.0 schema own values) schema.indexes))
 
