@@ -5,3 +5,8 @@ pub mod Chains
 pub mod LocksAndDeletes
 pub mod SessionCalls
 pub mod SchemaCalls
+pub mod RuleByRule
+pub mod IndexRefusals
+pub mod UpdateTold
+pub mod PutSteps
+pub mod Updates

@@ -67,8 +67,8 @@ pub fn delete(engine: &Engine, local: &Local, cursor: CursorId) -> Result<Decisi
     }
 }
 
-// The labels of the live sessions rise.
-fn labels_rise(engine: &Engine)
+/// The labels of the live sessions rise.
+pub(crate) fn labels_rise(engine: &Engine)
     ensures { IsTrue (are_rising engine.now.sessions) }
 {
     let _count = engine.sessions().len();
@@ -170,8 +170,8 @@ pub(crate) fn change_refusal(engine: &Engine, session: Session, change: &Change)
     }
 }
 
-// Whether the version store's span passes its limit with the change.
-fn lacks_room(engine: &Engine, session: Session, change: &Change) -> bool
+/// Whether the version store's span passes its limit with the change.
+pub(crate) fn lacks_room(engine: &Engine, session: Session, change: &Change) -> bool
     ensures { result ≡ nat_lt engine.now.limit (span_with engine.now change.now) }
 {
     let by = By {

@@ -4,11 +4,16 @@
 mod answers;
 mod changing;
 mod laws;
+mod putting;
+mod refusing_puts;
 mod schema_calls;
 mod session_calls;
+mod update_laws;
+mod updating;
 
 pub use changing::{delete, get_lock};
 pub use schema_calls::change_schema;
 pub use session_calls::{
     begin_session, begin_transaction, commit_transaction, end_session, rollback,
 };
+pub use updating::update;

@@ -1,0 +1,165 @@
+//! Why a prepared update may not be put, before its room is asked for.
+
+ghost use Rattle.std.specs.Prelude.{◌≡◌, ◌≤◌, true, None, IfOk, option_copied};
+ghost use Rattle.column_set.specs.RecordValues.{is_missing_a_value};
+ghost use Rattle.index_derive.specs.Entries.{is_legal, is_unique};
+ghost use Rattle.database_state.specs.Puts.{null_refusals};
+ghost use Rattle.database_state.specs.Refusals.{first_refusal};
+ghost use Rattle.session_local.specs.Preparing.{for_of, update_of};
+ghost use Rattle.session_local.specs.RecordCalls.{is_primary_changed, replaced_by};
+ghost use Rattle.record_decisions.specs.Updating.{HasLegalRules, IsSchemaOf, entry_refusals, keys_in, record_in, values_in};
+
+use column_set::Record;
+use engine_parts::Engine;
+use index_derive::{DeriveFault, IndexRule, Schema, derive, primary_key};
+use jet_base::{Jet, OutOfMemory, Session, TableId};
+use session_local::{OpenCursor, Prepared, Purpose};
+use std::alloc::Global;
+
+/// Why the record may not be put, before its room is asked for.
+pub(crate) fn record_refusal(
+    engine: &Engine,
+    session: Session,
+    found: &OpenCursor,
+    prepared: &Prepared,
+) -> Result<Option<Jet>, OutOfMemory>
+    requires named { IsSchemaOf engine.now found.now.cursor.table found.now.schema }
+    requires rules { HasLegalRules found.now.schema }
+    ensures { IfOk result (λ refusal. refusal ≡ first_refusal (record_in engine.now session.0 found.now (update_of prepared.now))) }
+{
+    let table = found.cursor().table();
+    let schema = found.schema();
+    match values_refusal(engine.alloc, schema, prepared) {
+        Ok(None) => Ok(keys_refusal(engine, session, table, schema, prepared)),
+        Ok(Some(refusal)) => Ok(Some(refusal)),
+        Err(fault) => Err(fault),
+    }
+}
+
+// Why the values alone may not be put: one is missing, a replace has another primary key, or an index refuses them.
+fn values_refusal(
+    alloc: Global,
+    schema: &Schema,
+    prepared: &Prepared,
+) -> Result<Option<Jet>, OutOfMemory>
+    requires rules { HasLegalRules schema.now }
+    ensures { IfOk result (λ refusal. refusal ≡ first_refusal (values_in schema.now (update_of prepared.now))) }
+{
+    let values = prepared.buffer.values();
+    if is_missing_a_value(schema, values) {
+        Ok(Some(Jet::NullInvalid))
+    } else if is_primary_changed(schema, &prepared.purpose, values) {
+        Ok(Some(Jet::RecordPrimaryChanged))
+    } else {
+        null_refusal(alloc, schema, values)
+    }
+}
+
+// Whether a column that must not be NULL has no value.
+fn is_missing_a_value(schema: &Schema, values: &Record) -> bool
+    ensures { result ≡ is_missing_a_value schema.now.columns values.now }
+{
+    schema.columns.as_slice().iter().any(|column| column.not_null
+        && values.values(column.id).is_empty())
+}
+
+// Whether a replace would change the record's key in the primary index.
+fn is_primary_changed(schema: &Schema, purpose: &Purpose, values: &Record) -> bool
+    requires rules { HasLegalRules schema.now }
+    ensures { result ≡ is_primary_changed schema.now (for_of purpose.now) values.now }
+{
+    match purpose {
+        Purpose::Insert(_) => false,
+        Purpose::Replace(bookmark) => match schema.primary_rule() {
+            Some(rule) => {
+                let key = primary_key(rule, schema, values);
+                key.as_bytes() != bookmark.as_bytes()
+            }
+            None => false,
+        },
+    }
+}
+
+// Why an index refuses the record: the primary one is asked first.
+fn null_refusal(alloc: Global, schema: &Schema, values: &Record) -> Result<Option<Jet>, OutOfMemory>
+    requires rules { HasLegalRules schema.now }
+    ensures { IfOk result (λ refusal. refusal ≡ first_refusal (null_refusals schema.now values.now)) }
+{
+    for rule in schema.indexes.as_slice() {
+        match entries_refusal(alloc, rule, schema, values) {
+            Ok(None) => {}
+            Ok(Some(refusal)) => return Ok(Some(refusal)),
+            Err(fault) => return Err(fault),
+        }
+    }
+    Ok(None)
+}
+
+// Why one index refuses the record. It takes memory only where the index disallows something.
+fn entries_refusal(
+    alloc: Global,
+    rule: &IndexRule,
+    schema: &Schema,
+    values: &Record,
+) -> Result<Option<Jet>, OutOfMemory>
+    requires legal { is_legal rule.now schema.now ≡ true }
+    requires short { rule.now.key_most ≤ 255 }
+    ensures { IfOk result (λ refusal. refusal ≡ first_refusal (entry_refusals schema.now values.now rule.now)) }
+{
+    if !rule.flags.disallownull && !rule.flags.disallowtruncation {
+        return Ok(None);
+    }
+    match derive::entries(alloc, rule, schema, values) {
+        Ok(_) => Ok(None),
+        Err(DeriveFault::NullKeyDisallowed) => Ok(Some(Jet::NullKeyDisallowed)),
+        Err(DeriveFault::KeyTruncated) => Ok(Some(Jet::KeyTruncated)),
+        Err(DeriveFault::OutOfMemory) => Err(OutOfMemory),
+    }
+}
+
+// Why the record may not be put for its keys in the unique indexes, none of which refuses the record itself.
+fn keys_refusal(
+    engine: &Engine,
+    session: Session,
+    table: TableId,
+    schema: &Schema,
+    prepared: &Prepared,
+) -> Option<Jet>
+    requires named { IsSchemaOf engine.now table.0 schema.now }
+    requires rules { HasLegalRules schema.now }
+    requires taken { first_refusal (null_refusals schema.now prepared.now.buffer.fields) ≡ None }
+    ensures { result ≡ first_refusal (keys_in engine.now session.0 table.0 schema.now (replaced_by (for_of prepared.now.purpose)) prepared.now.buffer.fields) }
+{
+    let values = prepared.buffer.values();
+    let own = replaced_by(&prepared.purpose);
+    let reader = engine.reader(session);
+    for rule in schema.indexes.as_slice() {
+        if is_unique(rule) {
+            match engine
+                .tables()
+                .key_refusal(reader, table, schema, rule, own, values)
+            {
+                Some(refusal) => return Some(refusal),
+                None => {}
+            }
+        }
+    }
+    None
+}
+
+// Whether no two records may have an equal key.
+fn is_unique(rule: &IndexRule) -> bool
+    ensures { result ≡ is_unique rule.now }
+{
+    rule.flags.primary || rule.flags.unique
+}
+
+// The bookmark of the record in whose place another comes.
+fn replaced_by(purpose: &Purpose) -> Option<&[u8]>
+    ensures { option_copied result ≡ replaced_by (for_of purpose.now) }
+{
+    match purpose {
+        Purpose::Insert(_) => None,
+        Purpose::Replace(bookmark) => Some(bookmark.as_bytes()),
+    }
+}

@@ -1,0 +1,168 @@
+//! Update: what a prepared update puts, or why it may not.
+
+ghost use Rattle.std.specs.Prelude.{◌≡◌, ◌≤◌, false, length, None, IfOk, IfSome, IsSome, IsTrue, OnErr, nat_le};
+ghost use Rattle.database_state.specs.Changes.{changed_bookmark};
+ghost use Rattle.database_state.specs.Lawful.{log_limit};
+ghost use Rattle.session_local.specs.declared.request.Request.TheVariants as call;
+ghost use Rattle.session_local.specs.Answer.{shown_by};
+ghost use Rattle.session_local.specs.CursorCalls.{whole};
+ghost use Rattle.session_local.specs.Local.{cursor_labelled};
+ghost use Rattle.session_local.specs.LocalCalls.{is_answered_locally};
+ghost use Rattle.session_local.specs.Preparing.{update_of};
+ghost use Rattle.session_local.specs.Showing.{names_within};
+ghost use Rattle.engine_parts.specs.Deciding.{Decides, IsBeside, IsDecision};
+ghost use Rattle.record_decisions.specs.Updating.{HasLegalRules, IsMade, IsMadeOf, IsSchemaOf, put_by, span_in, update_in};
+
+use crate::answers::{is_full, is_outside, refused};
+use crate::changing::{change_step, labels_rise, lacks_room};
+use crate::laws::{changes_are_refused_alike, sessions_see_their_records};
+use crate::putting::put_by;
+use crate::refusing_puts::record_refusal;
+use crate::update_laws::{
+    bookmarks_are_short, schemas_are_those_of_tables, unique_keys_are_refused_alike,
+};
+use column_set::Change;
+use engine_parts::Engine;
+use index_derive::Step;
+use jet_base::{CursorId, Jet, OutOfMemory, Session};
+use lawful_answers::the_step_of_an_update_is_lawful;
+use session_local::{Decision, Local, OpenCursor, Prepared, Reply, Value};
+
+/// Update: the prepared record is put, and the reply shows its bookmark. Outside a transaction it is one by itself.
+pub fn update(engine: &Engine, local: &mut Local, cursor: CursorId) -> Result<Decision, OutOfMemory>
+    requires beside { IsBeside engine.now local.old }
+    requires shared { is_answered_locally local.old.state (call.Update cursor) ≡ false }
+    ensures answer { IfOk result (λ decision. Decides engine.now local.old (call.Update cursor) local.new decision) }
+    ensures decided { IfOk result (λ decision. IsDecision engine.now local.old (call.Update cursor) local.new decision) }
+    ensures kept { OnErr result (local.new ≡ local.old) }
+    ensures session { local.new.session ≡ local.old.session }
+{
+    sessions_see_their_records();
+    changes_are_refused_alike();
+    unique_keys_are_refused_alike();
+    the_step_of_an_update_is_lawful();
+    labels_rise(engine);
+    match made_put(engine, local, cursor) {
+        Ok(Ok(put)) => {
+            let session = local.session();
+            let outside = is_outside(engine, session);
+            let value = show_bookmark(local, &put);
+            Ok(shown_with(change_step(session, put, outside), value, outside))
+        }
+        Ok(Err(refusal)) => Ok(refused(refusal)),
+        Err(fault) => Err(fault),
+    }
+}
+
+// What is put by the update that is prepared on the cursor, or why nothing is.
+fn made_put(
+    engine: &Engine,
+    local: &Local,
+    cursor: CursorId,
+) -> Result<Result<Change, Jet>, OutOfMemory>
+    requires beside { IsBeside engine.now local.now }
+    requires there { IsSome (cursor_labelled local.now.state cursor.0) }
+    ensures made { IfOk result (λ made. IfSome (cursor_labelled local.now.state cursor.0) (λ c. IsMadeOf engine.now local.now.session c c.prepared made)) }
+    ensures short { IfOk result (λ made. IfOk made (λ put. length (changed_bookmark put) ≤ 255)) }
+{
+    schemas_are_those_of_tables();
+    bookmarks_are_short();
+    engine.tables().rules_are_legal();
+    let Some(found) = local.cursor(cursor) else {
+        unreachable!()
+    };
+    match found.prepared() {
+        Some(prepared) => put_or_refusal(engine, local.session(), found, prepared),
+        None => Ok(Err(Jet::UpdateNotPrepared)),
+    }
+}
+
+// What is put by a prepared update, or why nothing is.
+fn put_or_refusal(
+    engine: &Engine,
+    session: Session,
+    found: &OpenCursor,
+    prepared: &Prepared,
+) -> Result<Result<Change, Jet>, OutOfMemory>
+    requires named { IsSchemaOf engine.now found.now.cursor.table found.now.schema }
+    requires rules { HasLegalRules found.now.schema }
+    ensures { IfOk result (IsMade (update_in engine.now session.0 found.now (update_of prepared.now)) (put_by engine.now session.0 found.now (update_of prepared.now))) }
+{
+    match record_refusal(engine, session, found, prepared) {
+        Ok(Some(refusal)) => Ok(Err(refusal)),
+        Ok(None) => {
+            if is_full(engine) {
+                Ok(Err(Jet::LogSequenceEnd))
+            } else {
+                put_with_room(engine, session, found, prepared)
+            }
+        }
+        Err(fault) => Err(fault),
+    }
+}
+
+// What is put where the version store has room for it. The log takes it.
+fn put_with_room(
+    engine: &Engine,
+    session: Session,
+    found: &OpenCursor,
+    prepared: &Prepared,
+) -> Result<Result<Change, Jet>, OutOfMemory>
+    requires rules { HasLegalRules found.now.schema }
+    requires space { nat_le log_limit engine.now.number ≡ false }
+    ensures { IfOk result (IsMade (span_in engine.now (put_by engine.now session.0 found.now (update_of prepared.now))) (put_by engine.now session.0 found.now (update_of prepared.now))) }
+{
+    match put_by(engine, session, found, prepared) {
+        Ok(put) => {
+            if lacks_room(engine, session, &put) {
+                Ok(Err(Jet::VersionStoreOutOfMemory))
+            } else {
+                Ok(Ok(put))
+            }
+        }
+        Err(fault) => Err(fault),
+    }
+}
+
+// The value that shows the bookmark under which the change is made, which is written to the front of the reply buffer.
+fn show_bookmark(local: &mut Local, put: &Change) -> Value
+    requires begun { IsTrue local.old.state.begun }
+    requires short { length (changed_bookmark put.now) ≤ 255 }
+    ensures shown { shown_by result local.new.reply ≡ whole (changed_bookmark put.now) }
+    ensures named { IsTrue (names_within result (length local.new.reply)) }
+    ensures room { length local.new.reply ≡ length local.old.reply }
+    ensures state { local.new.state ≡ local.old.state }
+    ensures session { local.new.session ≡ local.old.session }
+{
+    let bytes = changed_bookmark(put);
+    local.show(bytes, bytes.len() as u64)
+}
+
+// The bookmark of the record that the change touches.
+fn changed_bookmark(change: &Change) -> &[u8]
+    ensures { result.now ≡ changed_bookmark change.now }
+{
+    match change {
+        Change::Put { bookmark, .. }
+        | Change::Drop { bookmark, .. }
+        | Change::Hold { bookmark, .. }
+        | Change::Add { bookmark, .. } => bookmark.as_bytes(),
+    }
+}
+
+// Success with a step and a value.
+fn shown_with(step: Step, value: Value, flush: bool) -> Decision
+    ensures { result ≡ record { step = Some step; reply = record { jet = Jet.Success; value = value }; table = None; copied = None; buffers = None; flush = flush } }
+{
+    Decision {
+        step: Some(step),
+        reply: Reply {
+            jet: Jet::Success,
+            value,
+        },
+        table: None,
+        copied: None,
+        buffers: None,
+        flush,
+    }
+}
