@@ -10,3 +10,7 @@ pub mod IndexRefusals
 pub mod UpdateTold
 pub mod PutSteps
 pub mod Updates
+pub mod DoubleKeys
+pub mod RecordWalks
+pub mod BroughtRecords
+pub mod CreatingIndexes

@@ -48,7 +48,7 @@ use Rattle.table_versions.specs.StoredVersions.{StoredVersions}
 use Rattle.engine_versions.specs.EngineState.{EngineState}
 use Rattle.engine_versions.specs.HoldsState.{HoldsState}
 use Rattle.engine_parts.specs.Deciding.{Decides, IsDecision}
-use Rattle.record_decisions.specs.SchemaRequests.{catalog_in, decided_in, engine_table, has_rows_in, is_missing, is_open_on, is_used, makes_new, rows_for, schema_call_of, sessions_in}
+use Rattle.record_decisions.specs.SchemaRequests.{catalog_in, decided_in, engine_table, has_rows_in, is_missing, is_open_on, is_used, makes_new, is_schema_request, rows_for, schema_call_of, sessions_in}
 use Rattle.record_decisions.proofs.Refusing.{AnswersLawfully, asked_by, refused_with, stepped_with, one_by, answer-begun, answer-is, answer-refused, decision-stepped}
 use Rattle.record_decisions.proofs.Seen.{ShowsView, seen-told}
 use Rattle.record_decisions.proofs.Told.{levels-told}
@@ -74,6 +74,9 @@ schema-answered asked (call.AddColumn table column kind flags) called begun same
     let e : schema.AddColumn table column kind flags ≡ called = cc in answer-begun asked (call.AddColumn table column kind flags) begun ∙ ap (λ called. schema_changed asked (step_of_call asked.state called)) e
 schema-answered asked (call.DeleteColumn table column) called begun same =
     let e : schema.DeleteColumn table column ≡ called = cc in answer-begun asked (call.DeleteColumn table column) begun ∙ ap (λ called. schema_changed asked (step_of_call asked.state called)) e
+schema-answered asked (call.CreateIndex table index flags key_most segments conditions) called begun same =
+    let e : schema.CreateIndex table index flags key_most segments conditions ≡ called = cc in
+    answer-begun asked (call.CreateIndex table index flags key_most segments conditions) begun ∙ ap (λ called. schema_changed asked (step_of_call asked.state called)) e
 schema-answered asked (call.DeleteIndex table index) called begun same =
     let e : schema.DeleteIndex table index ≡ called = cc in answer-begun asked (call.DeleteIndex table index) begun ∙ ap (λ called. schema_changed asked (step_of_call asked.state called)) e
 schema-answered asked _ called begun same = cc
@@ -84,6 +87,7 @@ finished-schema local (call.CreateTable table) called session made same = refl
 finished-schema local (call.DeleteTable table) called session made same = refl
 finished-schema local (call.AddColumn table column kind flags) called session made same = refl
 finished-schema local (call.DeleteColumn table column) called session made same = refl
+finished-schema local (call.CreateIndex table index flags key_most segments conditions) called session made same = refl
 finished-schema local (call.DeleteIndex table index) called session made same = refl
 finished-schema local _ called session made same = cc
 
@@ -92,22 +96,23 @@ not_lazy (call.CommitTransaction lazy) called same = cc
 not_lazy _ called same = refl
 
 -- the call makes no index
-no_index : (request : Request) (called : SchemaCall) (state : DatabaseState) (table : Table) → Some called ≡ schema_call_of request → record_refusals table (step_of_call state called) ≡ []
-no_index (call.CreateTable table) called state t same = let e : schema.CreateTable table ≡ called = cc in subst (λ called. record_refusals t (step_of_call state called) ≡ []) e refl
-no_index (call.DeleteTable table) called state t same = let e : schema.DeleteTable table ≡ called = cc in subst (λ called. record_refusals t (step_of_call state called) ≡ []) e refl
-no_index (call.AddColumn table column kind flags) called state t same = let e : schema.AddColumn table column kind flags ≡ called = cc in subst (λ called. record_refusals t (step_of_call state called) ≡ []) e refl
-no_index (call.DeleteColumn table column) called state t same = let e : schema.DeleteColumn table column ≡ called = cc in subst (λ called. record_refusals t (step_of_call state called) ≡ []) e refl
-no_index (call.DeleteIndex table index) called state t same = let e : schema.DeleteIndex table index ≡ called = cc in subst (λ called. record_refusals t (step_of_call state called) ≡ []) e refl
-no_index _ called state t same = cc
+no_index : (request : Request) (called : SchemaCall) (state : DatabaseState) (table : Table) → is_schema_request request ≡ true → Some called ≡ schema_call_of request → record_refusals table (step_of_call state called) ≡ []
+no_index (call.CreateTable table) called state t changes same = let e : schema.CreateTable table ≡ called = cc in subst (λ called. record_refusals t (step_of_call state called) ≡ []) e refl
+no_index (call.DeleteTable table) called state t changes same = let e : schema.DeleteTable table ≡ called = cc in subst (λ called. record_refusals t (step_of_call state called) ≡ []) e refl
+no_index (call.AddColumn table column kind flags) called state t changes same = let e : schema.AddColumn table column kind flags ≡ called = cc in subst (λ called. record_refusals t (step_of_call state called) ≡ []) e refl
+no_index (call.DeleteColumn table column) called state t changes same = let e : schema.DeleteColumn table column ≡ called = cc in subst (λ called. record_refusals t (step_of_call state called) ≡ []) e refl
+no_index (call.CreateIndex table index flags key_most segments conditions) called state t changes same = cc
+no_index (call.DeleteIndex table index) called state t changes same = let e : schema.DeleteIndex table index ≡ called = cc in subst (λ called. record_refusals t (step_of_call state called) ≡ []) e refl
+no_index _ called state t changes same = cc
 
 -- ---- what sessions do
 
-catalog-told : (engine : EngineState) (state : DatabaseState) → HoldsState engine state → catalog_of state ≡ catalog_in engine
+pub catalog-told : (engine : EngineState) (state : DatabaseState) → HoldsState engine state → catalog_of state ≡ catalog_in engine
 catalog-told engine state h =
     let made : ℕ → List Table → CatalogState = λ greatest tables. record { greatest_table = greatest; tables = tables } in
     ap (λ greatest. made greatest (map without_rows state.tables)) h.greatest ∙ ap (made engine.greatest_table) (sym h.holds.defined)
 
-found-told : SchemaLaws → (engine : EngineState) (state : DatabaseState) (called : SchemaCall) → HoldsState engine state → engine_table engine called ≡ option_map without_rows (called_table state called)
+pub found-told : SchemaLaws → (engine : EngineState) (state : DatabaseState) (called : SchemaCall) → HoldsState engine state → engine_table engine called ≡ option_map without_rows (called_table state called)
 found-told laws engine state called h = ap (λ (tables : List Table). table_named tables (called_name called)) h.holds.defined ∙ laws.named state.tables (called_name called)
 
 is_some-live : (transaction : Option Transaction) → is_some (option_map without_snapshot transaction) ≡ is_some transaction
@@ -224,19 +229,22 @@ any_row (row ∷ rows) = some (length rows)
     some : (n : ℕ) → nat_lt 0 (suc n) ≡ true
     some n = grind (arith, nat_tests)
 
-records-told : SchemaLaws → (engine : EngineState) (state : DatabaseState) (session : ℕ) (called : SchemaCall) → HoldsState engine state → IsNumbered (catalog_in engine) → (levels_in session engine.sessions == 0) ≡ true
-    → has_records (table_or_new state called) ≡ has_rows_in engine session (engine_table engine called)
-records-told laws engine state session called h rise outside = by (called_table state called) refl ∙ ap (has_rows_in engine session) (sym (found-told laws engine state called h))
+-- the records of the table that the call names are those that the session sees
+pub rows-told : SchemaLaws → (engine : EngineState) (state : DatabaseState) (session : ℕ) (called : SchemaCall) (t : Table) → HoldsState engine state → IsNumbered (catalog_in engine) → (levels_in session engine.sessions == 0) ≡ true
+    → called_table state called ≡ Some t → rows_for engine session t.id ≡ t.rows
+rows-told laws engine state session called t h rise outside e =
+    ap rows_of (seen-told laws.shows engine state session h t.id ∙ ap (λ (tables : List Table). table_with_id tables t.id) (view-outside engine state session h outside) ∙ by_number 0 engine.greatest_table state.tables (called_name called) t rises e)
   where
     rises : ids_rise 0 engine.greatest_table state.tables ≡ true
     rises = numbered 0 engine.greatest_table state.tables (subst (λ (tables : List Table). ids_rise 0 engine.greatest_table tables ≡ true) h.holds.defined rise)
 
+records-told : SchemaLaws → (engine : EngineState) (state : DatabaseState) (session : ℕ) (called : SchemaCall) → HoldsState engine state → IsNumbered (catalog_in engine) → (levels_in session engine.sessions == 0) ≡ true
+    → has_records (table_or_new state called) ≡ has_rows_in engine session (engine_table engine called)
+records-told laws engine state session called h rise outside = by (called_table state called) refl ∙ ap (has_rows_in engine session) (sym (found-told laws engine state called h))
+  where
     by : (found : Option Table) → called_table state called ≡ found → has_records (unwrap_or found (new_table 0 [])) ≡ has_rows_in engine session (option_map without_rows found)
     by None e = refl
-    by (Some t) e =
-        let rows : rows_for engine session t.id ≡ t.rows =
-        ap rows_of (seen-told laws.shows engine state session h t.id ∙ ap (λ (tables : List Table). table_with_id tables t.id) (view-outside engine state session h outside) ∙ by_number 0 engine.greatest_table state.tables (called_name called) t rises e) in
-        any_row t.rows ∙ ap (λ (r : Rows). is_some (entry_after Before (own_order r))) (sym rows)
+    by (Some t) e = any_row t.rows ∙ ap (λ (r : Rows). is_some (entry_after Before (own_order r))) (sym (rows-told laws engine state session called t h rise outside e))
 
 -- ---- what the catalog decides
 
@@ -295,7 +303,7 @@ schema-stopped laws engine side request called reply asked is = λ state h in_st
     (refusal-told laws engine side request called state h asked ∙ ap (λ first. option_or first (refusal_after (decided state (has_records (table_or_new state called)) called) (table_or_new state called))) is))
 
 -- nothing that sessions do refuses it
-outside-passed : (engine : EngineState) (session : ℕ) (called : SchemaCall) → first_refusal (sessions_in engine session called) ≡ None → (levels_in session engine.sessions == 0) ≡ true
+pub outside-passed : (engine : EngineState) (session : ℕ) (called : SchemaCall) → first_refusal (sessions_in engine session called) ≡ None → (levels_in session engine.sessions == 0) ≡ true
 outside-passed engine session called is = by (levels_in session engine.sessions == 0) is
   where
     by : (b : Bool) → cond (not b) (Some jet.InTransaction) (first_refusal ((is_missing called (engine_table engine called), jet.ObjectNotFound) ∷ (is_used engine session (engine_table engine called), jet.TableInUse) ∷ [])) ≡ None → b ≡ true
@@ -317,29 +325,46 @@ schema-refused laws engine side request called reply asked free is = λ state h 
     (refused-by engine side request called reply state asked
     (free-told laws engine side request called state h asked free ∙ ap (λ decision. refusal_after decision (table_or_new state called)) is))
 
+-- the records of the table refuse nothing in any state that the engine holds
+abbrev pub RecordsAllow : EngineState → SchemaCall → SchemaStep → Type 0
+RecordsAllow engine called made = (state : DatabaseState) → HoldsState engine state → first_refusal (record_refusals (table_or_new state called) made) ≡ None
+
+-- as those of a table of which no index is made
+pub none-refuse : SchemaLaws → (engine : EngineState) (side : SessionSide) (request : Request) (called : SchemaCall) (made : SchemaStep) → is_schema_request request ≡ true → IsAsked engine side request called
+    → decided_in engine side.session called ≡ Ok made → RecordsAllow engine called made
+none-refuse laws engine side request called made changes asked is = λ state h.
+    ap (λ s. first_refusal (record_refusals (table_or_new state called) s)) (sym (made-told laws engine state side.session called made h is))
+    ∙ ap first_refusal (no_index request called state (table_or_new state called) changes asked.same)
+
+-- the records of the table refuse it
+pub schema-not_allowed : SchemaLaws → (engine : EngineState) (side : SessionSide) (request : Request) (called : SchemaCall) (made : SchemaStep) (reply : Jet) → IsAsked engine side request called → first_refusal (sessions_in engine side.session called) ≡ None
+    → decided_in engine side.session called ≡ Ok made → ((state : DatabaseState) → HoldsState engine state → first_refusal (record_refusals (table_or_new state called) made) ≡ Some reply) → Decides engine side request side (refused_with reply)
+schema-not_allowed laws engine side request called made reply asked free is refuse = λ state h in_step.
+    answer-refused (asked_by engine state side) request side reply refl
+    (refused-by engine side request called reply state asked
+    (free-told laws engine side request called state h asked free ∙ ap (λ decision. refusal_after decision (table_or_new state called)) is ∙ refuse state h))
+
 -- the outcome of a call that nothing refuses, by whether the log is full
 outcome-told : SchemaLaws → (engine : EngineState) (side : SessionSide) (request : Request) (called : SchemaCall) (made : SchemaStep) (full : Bool) (state : DatabaseState) → HoldsState engine state → IsAsked engine side request called
-    → first_refusal (sessions_in engine side.session called) ≡ None → decided_in engine side.session called ≡ Ok made → nat_le log_limit engine.number ≡ full
+    → first_refusal (sessions_in engine side.session called) ≡ None → decided_in engine side.session called ≡ Ok made → RecordsAllow engine called made → nat_le log_limit engine.number ≡ full
     → answer (asked_by engine state side) request ≡ schema_by (asked_by engine state side) None full made
-outcome-told laws engine side request called made full state h asked free is is_full =
-    let table = table_or_new state called in
+outcome-told laws engine side request called made full state h asked free is allow is_full =
     let asks : step_of_call state called ≡ made = made-told laws engine state side.session called made h is in
-    let none : first_refusal (record_refusals table made) ≡ None = ap (λ s. first_refusal (record_refusals table s)) (sym asks) ∙ ap first_refusal (no_index request called state table asked.same) in
     schema-answered (asked_by engine state side) request called asked.begun asked.same
     ∙ ap (λ refusal. schema_by (asked_by engine state side) refusal (nat_le log_limit state.number) (step_of_call state called))
-    (free-told laws engine side request called state h asked free ∙ ap (λ decision. refusal_after decision table) is ∙ none)
+    (free-told laws engine side request called state h asked free ∙ ap (λ decision. refusal_after decision (table_or_new state called)) is ∙ allow state h)
     ∙ ap (λ b. schema_by (asked_by engine state side) None b (step_of_call state called)) (ap (nat_le log_limit) h.number ∙ is_full)
     ∙ ap (schema_by (asked_by engine state side) None full) asks
 
 pub schema-full : SchemaLaws → (engine : EngineState) (side : SessionSide) (request : Request) (called : SchemaCall) (made : SchemaStep) → IsAsked engine side request called → first_refusal (sessions_in engine side.session called) ≡ None
-    → decided_in engine side.session called ≡ Ok made → nat_le log_limit engine.number ≡ true → Decides engine side request side (refused_with jet.LogSequenceEnd)
-schema-full laws engine side request called made asked free is full = λ state h in_step.
-    answer-refused (asked_by engine state side) request side jet.LogSequenceEnd refl (outcome-told laws engine side request called made true state h asked free is full)
+    → decided_in engine side.session called ≡ Ok made → RecordsAllow engine called made → nat_le log_limit engine.number ≡ true → Decides engine side request side (refused_with jet.LogSequenceEnd)
+schema-full laws engine side request called made asked free is allow full = λ state h in_step.
+    answer-refused (asked_by engine state side) request side jet.LogSequenceEnd refl (outcome-told laws engine side request called made true state h asked free is allow full)
 
 pub schema-done : SchemaLaws → (engine : EngineState) (side : SessionSide) (request : Request) (called : SchemaCall) (made : SchemaStep) → IsAsked engine side request called → first_refusal (sessions_in engine side.session called) ≡ None
-    → decided_in engine side.session called ≡ Ok made → nat_le log_limit engine.number ≡ false → Decides engine side request side (stepped_with (one_by side.session (entry.Schema made)) None true)
-schema-done laws engine side request called made asked free is room = λ state h in_step.
-    answer-is (asked_by engine state side) request side _ _ (outcome-told laws engine side request called made false state h asked free is room) refl refl
+    → decided_in engine side.session called ≡ Ok made → RecordsAllow engine called made → nat_le log_limit engine.number ≡ false → Decides engine side request side (stepped_with (one_by side.session (entry.Schema made)) None true)
+schema-done laws engine side request called made asked free is allow room = λ state h in_step.
+    answer-is (asked_by engine state side) request side _ _ (outcome-told laws engine side request called made false state h asked free is allow room) refl refl
     (finished-schema side.state request called side.session made asked.same)
 
 -- ---- lawful steps
@@ -352,20 +377,20 @@ pub record StepLaws : Type 0 where
   pub delete_column : (asked : Asked) (table column : List ℕ) → Agrees asked.state asked.session asked.local → HasLawfulStep asked.state (answer asked (call.DeleteColumn table column))
   pub delete_index : (asked : Asked) (table index : List ℕ) → Agrees asked.state asked.session asked.local → HasLawfulStep asked.state (answer asked (call.DeleteIndex table index))
 
-answers-lawfully : StepLaws → (engine : EngineState) (side : SessionSide) (request : Request) (called : SchemaCall) → Some called ≡ schema_call_of request → IfSome (schema_call_of request) (λ called. IsTrue (makes_named called)) → AnswersLawfully engine side request
-answers-lawfully laws engine side (call.CreateTable table) called same named = λ state h step. laws.create_table (asked_by engine state side) table step.agrees named
-answers-lawfully laws engine side (call.DeleteTable table) called same named = λ state h step. laws.delete_table (asked_by engine state side) table step.agrees
-answers-lawfully laws engine side (call.AddColumn table column kind flags) called same named = λ state h step. laws.add_column (asked_by engine state side) table column kind flags step.agrees h.reached.order named
-answers-lawfully laws engine side (call.DeleteColumn table column) called same named = λ state h step. laws.delete_column (asked_by engine state side) table column step.agrees
-answers-lawfully laws engine side (call.DeleteIndex table index) called same named = λ state h step. laws.delete_index (asked_by engine state side) table index step.agrees
-answers-lawfully laws engine side _ called same named = absurd (cc)
+pub answers-lawfully : StepLaws → (engine : EngineState) (side : SessionSide) (request : Request) → is_schema_request request ≡ true → IfSome (schema_call_of request) (λ called. IsTrue (makes_named called)) → AnswersLawfully engine side request
+answers-lawfully laws engine side (call.CreateTable table) changes named = λ state h step. laws.create_table (asked_by engine state side) table step.agrees named
+answers-lawfully laws engine side (call.DeleteTable table) changes named = λ state h step. laws.delete_table (asked_by engine state side) table step.agrees
+answers-lawfully laws engine side (call.AddColumn table column kind flags) changes named = λ state h step. laws.add_column (asked_by engine state side) table column kind flags step.agrees h.reached.order named
+answers-lawfully laws engine side (call.DeleteColumn table column) changes named = λ state h step. laws.delete_column (asked_by engine state side) table column step.agrees
+answers-lawfully laws engine side (call.DeleteIndex table index) changes named = λ state h step. laws.delete_index (asked_by engine state side) table index step.agrees
+answers-lawfully laws engine side _ changes named = absurd (cc)
 
-pub schema-decision : SchemaLaws → StepLaws → (engine : EngineState) (side : SessionSide) (request : Request) (called : SchemaCall) (made : SchemaStep) → IsAsked engine side request called → IfSome (schema_call_of request) (λ called. IsTrue (makes_named called))
-    → first_refusal (sessions_in engine side.session called) ≡ None → decided_in engine side.session called ≡ Ok made → nat_le log_limit engine.number ≡ false
+pub schema-decision : SchemaLaws → (engine : EngineState) (side : SessionSide) (request : Request) (called : SchemaCall) (made : SchemaStep) → AnswersLawfully engine side request → IsAsked engine side request called
+    → first_refusal (sessions_in engine side.session called) ≡ None → decided_in engine side.session called ≡ Ok made → RecordsAllow engine called made → nat_le log_limit engine.number ≡ false
     → IsDecision engine side request side (stepped_with (one_by side.session (entry.Schema made)) None true)
-schema-decision laws steps engine side request called made asked named free is room =
-    decision-stepped engine side request (one_by side.session (entry.Schema made)) None true (schema-done laws engine side request called made asked free is room)
-    (answers-lawfully steps engine side request called asked.same named) (ap not (sym (not_lazy request called asked.same)))
+schema-decision laws engine side request called made lawful asked free is allow room =
+    decision-stepped engine side request (one_by side.session (entry.Schema made)) None true (schema-done laws engine side request called made asked free is allow room)
+    lawful (ap not (sym (not_lazy request called asked.same)))
 
 -- ---- what the code asks
 

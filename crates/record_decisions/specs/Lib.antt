@@ -1,3 +1,4 @@
 pub mod Changing
 pub mod SchemaRequests
 pub mod Updating
+pub mod CreatingIndexes

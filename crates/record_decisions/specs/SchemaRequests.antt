@@ -34,6 +34,7 @@ schema_call_of (call.CreateTable table) = Some (schema.CreateTable table)
 schema_call_of (call.DeleteTable table) = Some (schema.DeleteTable table)
 schema_call_of (call.AddColumn table column kind flags) = Some (schema.AddColumn table column kind flags)
 schema_call_of (call.DeleteColumn table column) = Some (schema.DeleteColumn table column)
+schema_call_of (call.CreateIndex table index flags key_most segments conditions) = Some (schema.CreateIndex table index flags key_most segments conditions)
 schema_call_of (call.DeleteIndex table index) = Some (schema.DeleteIndex table index)
 schema_call_of _ = None
 

@@ -3,6 +3,8 @@
 
 mod answers;
 mod changing;
+mod creating_indexes;
+mod index_records;
 mod laws;
 mod putting;
 mod refusing_puts;
@@ -12,6 +14,7 @@ mod update_laws;
 mod updating;
 
 pub use changing::{delete, get_lock};
+pub use creating_indexes::create_index;
 pub use schema_calls::change_schema;
 pub use session_calls::{
     begin_session, begin_transaction, commit_transaction, end_session, rollback,

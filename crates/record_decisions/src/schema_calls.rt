@@ -61,8 +61,8 @@ pub fn change_schema(
     }
 }
 
-// The table that the call names. The numbers of the tables rise, so that its number finds it too.
-fn called_table<'a>(catalog: &'a Catalog, call: &SchemaCall) -> Option<&'a TableDef>
+/// The table that the call names. The numbers of the tables rise, so that its number finds it too.
+pub(crate) fn called_table<'a>(catalog: &'a Catalog, call: &SchemaCall) -> Option<&'a TableDef>
     ensures found { option_copied result ≡ table_named catalog.now.tables (called_name call.now) }
     ensures numbered { IsNumbered catalog.now }
 {
@@ -70,8 +70,8 @@ fn called_table<'a>(catalog: &'a Catalog, call: &SchemaCall) -> Option<&'a Table
     catalog.lookup(called_name(call).as_bytes())
 }
 
-// Why the call is refused because of what sessions do, or because its table is not there.
-fn sessions_refusal(
+/// Why the call is refused because of what sessions do, or because its table is not there.
+pub(crate) fn sessions_refusal(
     engine: &Engine,
     session: Session,
     call: &SchemaCall,
@@ -107,8 +107,8 @@ fn is_used(engine: &Engine, session: Session, found: Option<&TableDef>) -> bool
     }
 }
 
-// Whether the table has a record that the session sees.
-fn has_records(engine: &Engine, session: Session, found: Option<&TableDef>) -> bool
+/// Whether the table has a record that the session sees.
+pub(crate) fn has_records(engine: &Engine, session: Session, found: Option<&TableDef>) -> bool
     ensures { result ≡ has_rows_in engine.now session.0 (option_copied found.entry) }
 {
     match found {

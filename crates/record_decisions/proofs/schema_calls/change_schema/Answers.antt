@@ -5,8 +5,8 @@ use Rattle.database_state.specs.SchemaSteps.{called_name}
 use Rattle.database_state.specs.Table.{table_named}
 use Rattle.jet_catalog.specs.Catalog.{CatalogState, IsNumbered}
 use Rattle.record_decisions.specs.SchemaRequests.{catalog_in, decided_in, engine_table, sessions_in}
-use Rattle.record_decisions.proofs.Refusing.{session_of}
-use Rattle.record_decisions.proofs.SchemaCalls.{IsAsked, SchemaLaws, StepLaws, catalog_shown, decided-as, schema-decision, schema-done, schema-full, schema-refused, schema-stopped}
+use Rattle.record_decisions.proofs.Refusing.{AnswersLawfully, session_of}
+use Rattle.record_decisions.proofs.SchemaCalls.{IsAsked, RecordsAllow, SchemaLaws, answers-lawfully, catalog_shown, decided-as, none-refuse, schema-decision, schema-done, schema-full, schema-refused, schema-stopped}
 use Rattle.record_decisions.proofs.schema_calls.change_schema.Goals as goal
 
 pub sessions_refusal-requires : goal.sessions_refusal-requires
@@ -54,7 +54,8 @@ returns-then-is_full-clause-answer c =
     let free : first_refusal (sessions_in engine side.session called) ≡ None = sym (c.in-None.ensures ∙ ap (λ s. first_refusal (sessions_in engine s called)) c.session-session.ensures) in
     let decided : c.in_ok-refusal-in-None.field-0 ≡ decided_in engine side.session called =
     decided-as engine side.session c.session-session.result.0 called c.catalog-catalog.result.now (option_copied c.called_table-found.result) c.has_records.result c.in_ok-refusal-in-None.field-0 catalog found c.session-session.ensures c.has_records.ensures c.in_ok-refusal-in-None.ensures.decided in
-    rw c.refused-then-is_full.ensures (schema-full laws engine side c.args.request.now called c.in-Ok.made asked free (sym decided ∙ c.in-Ok.is) (sym c.is_full.ensures ∙ c.if-is_full.true))
+    let allow : RecordsAllow engine called c.in-Ok.made = none-refuse laws engine side c.args.request.now called c.in-Ok.made c.requires.schema asked (sym decided ∙ c.in-Ok.is) in
+    rw c.refused-then-is_full.ensures (schema-full laws engine side c.args.request.now called c.in-Ok.made asked free (sym decided ∙ c.in-Ok.is) allow (sym c.is_full.ensures ∙ c.if-is_full.true))
 
 pub returns-clause-answer : goal.returns-clause-answer
 returns-clause-answer c =
@@ -69,8 +70,9 @@ returns-clause-answer c =
     let decided : c.in_ok-refusal-in-None.field-0 ≡ decided_in engine side.session called =
     decided-as engine side.session c.session-session.result.0 called c.catalog-catalog.result.now (option_copied c.called_table-found.result) c.has_records.result c.in_ok-refusal-in-None.field-0 catalog found c.session-session.ensures c.has_records.ensures c.in_ok-refusal-in-None.ensures.decided in
     let label : c.session-session.result ≡ session_of side.session = ap session_of c.session-session.ensures in
+    let allow : RecordsAllow engine called c.in-Ok.made = none-refuse laws engine side c.args.request.now called c.in-Ok.made c.requires.schema asked (sym decided ∙ c.in-Ok.is) in
     rw (c.done.ensures, c.one.ensures, label)
-    (schema-done laws engine side c.args.request.now called c.in-Ok.made asked free (sym decided ∙ c.in-Ok.is) (sym c.is_full.ensures ∙ c.if-is_full.false))
+    (schema-done laws engine side c.args.request.now called c.in-Ok.made asked free (sym decided ∙ c.in-Ok.is) allow (sym c.is_full.ensures ∙ c.if-is_full.false))
 
 pub returns-clause-decided : goal.returns-clause-decided
 returns-clause-decided c =
@@ -85,6 +87,9 @@ returns-clause-decided c =
     let decided : c.in_ok-refusal-in-None.field-0 ≡ decided_in engine side.session called =
     decided-as engine side.session c.session-session.result.0 called c.catalog-catalog.result.now (option_copied c.called_table-found.result) c.has_records.result c.in_ok-refusal-in-None.field-0 catalog found c.session-session.ensures c.has_records.ensures c.in_ok-refusal-in-None.ensures.decided in
     let label : c.session-session.result ≡ session_of side.session = ap session_of c.session-session.ensures in
+    let allow : RecordsAllow engine called c.in-Ok.made = none-refuse laws engine side c.args.request.now called c.in-Ok.made c.requires.schema asked (sym decided ∙ c.in-Ok.is) in
+    let lawful : AnswersLawfully engine side c.args.request.now =
+    answers-lawfully (record { create_table = c.steps_of_tables_are_lawful.ensures.create; delete_table = c.steps_of_tables_are_lawful.ensures.delete; add_column = c.steps_of_columns_are_lawful.ensures.create; delete_column = c.steps_of_columns_are_lawful.ensures.delete; delete_index = c.steps_of_indexes_are_lawful.ensures.delete })
+    engine side c.args.request.now c.requires.schema c.requires.named in
     rw (c.done.ensures, c.one.ensures, label)
-    (schema-decision laws (record { create_table = c.steps_of_tables_are_lawful.ensures.create; delete_table = c.steps_of_tables_are_lawful.ensures.delete; add_column = c.steps_of_columns_are_lawful.ensures.create; delete_column = c.steps_of_columns_are_lawful.ensures.delete; delete_index = c.steps_of_indexes_are_lawful.ensures.delete })
-    engine side c.args.request.now called c.in-Ok.made asked c.requires.named free (sym decided ∙ c.in-Ok.is) (sym c.is_full.ensures ∙ c.if-is_full.false))
+    (schema-decision laws engine side c.args.request.now called c.in-Ok.made lawful asked free (sym decided ∙ c.in-Ok.is) allow (sym c.is_full.ensures ∙ c.if-is_full.false))
