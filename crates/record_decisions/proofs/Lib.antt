@@ -16,3 +16,4 @@ pub mod BroughtRecords
 pub mod CreatingIndexes
 pub mod CopiedValues
 pub mod PreparedCopies
+=======

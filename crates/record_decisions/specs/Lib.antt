@@ -3,3 +3,4 @@ pub mod SchemaRequests
 pub mod Updating
 pub mod CreatingIndexes
 pub mod Preparing
+=======

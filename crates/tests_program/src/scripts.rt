@@ -74,8 +74,22 @@ fn a_built_script_gives_its_calls(rt: HostRuntime) -> Result<(), Fail> {
     Ok(())
 }
 
-/// Fifteen built lines, a lock, and a call that is not built either.
-const LOCKED: &[u8] = b"1 BeginSession
+#[test]
+fn a_call_keeps_the_label_of_its_line(rt: HostRuntime) -> Result<(), Fail> {
+    let script = b"2 BeginSession\n99 GetLock 3\n1 Rollback all\n";
+    let calls = parse(rt.alloc(), script).ok().ok_or("the script is built")?;
+    assert_eq!(rt; calls.len(), 3);
+    let lock = Request::GetLock {
+        cursor: CursorId(3),
+    };
+    assert!(rt; calls[0] == (Session(2), Request::BeginSession));
+    assert!(rt; calls[1] == (Session(99), lock));
+    assert!(rt; calls[2] == (Session(1), Request::Rollback { all: true }));
+    Ok(())
+}
+
+/// Fifteen built lines, a sum, which is not built, and a built line.
+const WITH_A_SUM: &[u8] = b"1 BeginSession
 1 CreateTable T
 1 AddColumn T id Long
 1 AddColumn T name Text
@@ -90,20 +104,22 @@ const LOCKED: &[u8] = b"1 BeginSession
 1 SetColumn 1 id 1 n:-3
 1 Update 1
 1 CommitTransaction
-1 GetLock 1
+1 EscrowUpdate 1 id 1
 1 EndSession
 ";
 
 #[test]
 fn the_first_line_that_is_not_built_is_named(rt: HostRuntime) {
     for (script, line) in [
-        (LOCKED, 16),
-        (b"1 BeginSession\n\n# none\n1 EndSession\n".as_slice(), 4),
-        (b"2 BeginSession\n", 1),
-        (b"1 CreateTable T\n1 CreateIndex T i +a\n", 2),
+        (WITH_A_SUM, 16),
+        (
+            b"1 BeginSession\n\n# none\n1 EscrowUpdate 1 a 1\n".as_slice(),
+            4,
+        ),
+        (b"2 BeginSession\n100 BeginSession\n", 2),
         (b"1 CreateTable T\n1 AddColumn T a LongText\n", 2),
         (b"1 CreateTable T\n1 AddColumn T a Long escrow\n", 2),
-        (b"1 PrepareUpdate 1 insert\n1 PrepareUpdate 1 replace\n", 2),
+        (b"1 PrepareUpdate 1 insert\n1 PrepareUpdate 1 other\n", 2),
         (b"1 BeginSession\r\n", 1),
         (b"\n\n1  BeginSession", 3),
     ] {
