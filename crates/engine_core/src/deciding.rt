@@ -7,12 +7,11 @@ ghost use Rattle.session_local.specs.declared.request.Request.TheVariants as cal
 ghost use Rattle.engine_versions.specs.BuiltCalls.{is_built_request};
 ghost use Rattle.engine_parts.specs.Deciding.{Decides, IsBeside, IsDecision};
 
-use crate::stubs::{prepare_copy, prepare_replace};
 use engine_parts::Engine;
 use jet_base::{CursorId, OutOfMemory, Prepare};
 use record_decisions::{
     begin_session, begin_transaction, change_schema, commit_transaction, create_index, delete,
-    end_session, get_lock, rollback, update,
+    end_session, get_lock, prepare_copy, prepare_replace, rollback, update,
 };
 use session_local::{Decision, Local, Request};
 

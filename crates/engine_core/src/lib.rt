@@ -3,7 +3,6 @@
 
 mod deciding;
 mod laws;
-mod stubs;
 
 pub use deciding::decide;
 pub use engine_parts::Engine;
