@@ -16,4 +16,3 @@ pub mod BroughtRecords
 pub mod CreatingIndexes
 pub mod CopiedValues
 pub mod PreparedCopies
-=======

@@ -3,4 +3,3 @@ pub mod SchemaRequests
 pub mod Updating
 pub mod CreatingIndexes
 pub mod Preparing
-=======
