@@ -1,91 +1,90 @@
--- What decides a call: a refusal leaves all as it was, and a step is decided by its outcome.
-use Rattle.std.proofs.Common.{◌≡◌, ℕ, Bool, true, false, List, Option, Some, None, refl, sym, ap, ◌∙◌}
+-- Refusals none of which is want of memory.
+use Rattle.std.proofs.Common.{◌≡◌, ◌≢◌, ℕ, ◌==◌, Bool, true, false, not, cond, ◌&&◌, List, [], ◌∷◌, ◌++◌, filter, Option, Some, is_none, unwrap_or, refl, sym, ap, ◌∙◌}
+use Rattle.std.specs.List.{list_any, flat_map}
 use Rattle.jet_base.specs.declared.replies.Jet.{Jet}
 use Rattle.jet_base.specs.declared.replies.Jet.TheVariants as jet
-use Rattle.jet_base.specs.declared.ids.Session.{Session}
-use Rattle.index_derive.specs.declared.log.EntryKind.{EntryKind}
-use Rattle.index_derive.specs.declared.log.Step.{Step}
-use Rattle.index_derive.specs.declared.log.Step.TheVariants.{One}
-use Rattle.session_local.specs.declared.decision.Decision.{Decision}
-use Rattle.session_local.specs.declared.request.Request.{Request}
-use Rattle.session_local.specs.declared.request.Request.TheVariants as call
-use Rattle.session_local.specs.declared.reply.Value.TheVariants as value
-use Rattle.session_local.specs.SessionSide.{SessionSide}
-use Rattle.session_local.specs.Answer.{answered_by}
-use Rattle.session_local.specs.Local.{LocalState, OpenCursor, cursor_labelled}
-use Rattle.session_local.specs.Outcome.{Asked, Outcome, refused}
-use Rattle.session_local.specs.Preparing.{FitsCursor}
-use Rattle.session_local.specs.Calls.{answer, answer_begun, answer_not_begun}
-use Rattle.session_local.specs.Finishing.{finished}
-use Rattle.session_local.specs.Deciding.{decided_in, CopiedFits}
-use Rattle.engine_state.specs.EngineState.{EngineState}
-use Rattle.engine_core.specs.Deciding.{IsAnswer, IsDecision}
+use Rattle.column_set.specs.RecordValues.{RecordFields}
+use Rattle.index_derive.specs.declared.rules.Schema.{Schema}
+use Rattle.index_derive.specs.declared.schema_calls.SchemaStep.{SchemaStep}
+use Rattle.index_derive.specs.declared.schema_calls.SchemaStep.TheVariants as step
+use Rattle.index_derive.specs.Entries.{entries, key_list, is_unique}
+use Rattle.database_state.specs.Refusals.{Refusals, first_refusal}
+use Rattle.database_state.specs.State.{DatabaseState, levels}
+use Rattle.database_state.specs.Table.{Rows, Table}
+use Rattle.database_state.specs.Conflicts.{has_key_conflict}
+use Rattle.database_state.specs.Puts.{is_null_refusal, is_cut_refusal, new_keys, replaced_record, is_taken, null_refusals, key_refusals, put_refusals}
+use Rattle.database_state.specs.SchemaChanges.{new_table, step_table, makes_table, is_in_use, step_refusals, schema_refusal}
+use Rattle.session_local.specs.Outcome.{Asked, Outcome, refused, unless_refused, unless}
 
--- ---- decisions
+abbrev pub is_memory : Jet → Bool
+is_memory jet.OutOfMemory = true
+is_memory _ = false
 
-abbrev pub refused_with : Jet → Decision
-refused_with reply = record { step = None; reply = record { jet = reply; value = value.Nothing }; table = None; copied = None; buffers = None; flush = false }
+pub not_memory : (reply : Jet) → is_memory reply ≡ false → reply ≢ jet.OutOfMemory
+not_memory reply other same = let e : true ≡ false = sym (ap is_memory same) ∙ other in cc
 
-abbrev pub stepped_with : Step → Option (List ℕ) → Bool → Decision
-stepped_with step buffers flush = record { step = Some step; reply = record { jet = jet.Success; value = value.Nothing }; table = None; copied = None; buffers = buffers; flush = flush }
+-- whether none of the refusals is want of memory
+abbrev pub are_other : Refusals → Bool
+are_other [] = true
+are_other (refusal ∷ refusals) = not (is_memory refusal.1) && are_other refusals
 
-abbrev pub session_of : ℕ → Session
-session_of label = record { 0 = label }
+other_parts : (memory others : Bool) → (not memory && others) ≡ true → (memory ≡ false) × (others ≡ true)
+other_parts true others h = cc
+other_parts false others h = (refl, h)
 
-abbrev pub one_by : ℕ → EntryKind → Step
-one_by session kind = One (record { session = record { 0 = session }; kind = kind })
+-- ---- lists of refusals
 
--- ---- the answer by whether the session was begun
+pub other-append : (refusals others : Refusals) → are_other refusals ≡ true → are_other others ≡ true → are_other (refusals ++ others) ≡ true
+other-append [] others h k = k
+other-append (refusal ∷ refusals) others h k =
+    let parts = other_parts (is_memory refusal.1) (are_other refusals) h in
+    let rest = other-append refusals others parts.1 k in
+    ap (λ (m : Bool). not m && are_other (refusals ++ others)) parts.0 ∙ rest
 
-pub answer-begun : (asked : Asked) (request : Request) → asked.local.begun ≡ true → answer asked request ≡ answer_begun asked request
-unfolding answer
-answer-begun asked request begun = ap (λ b. elim b [ true ↦ answer_begun asked request | false ↦ answer_not_begun asked request ]) begun
+other-flat_map : {X : Type 0} (f : X → Refusals) (xs : List X) → ((x : X) → are_other (f x) ≡ true) → are_other (flat_map f xs) ≡ true
+other-flat_map f [] each = refl
+other-flat_map f (x ∷ xs) each = other-append (f x) (flat_map f xs) (each x) (other-flat_map f xs each)
 
-pub answer-not_begun : (asked : Asked) (request : Request) → asked.local.begun ≡ false → answer asked request ≡ answer_not_begun asked request
-unfolding answer
-answer-not_begun asked request fresh = ap (λ b. elim b [ true ↦ answer_begun asked request | false ↦ answer_not_begun asked request ]) fresh
+-- why a record may not be put
+pub other-puts : (state : DatabaseState) (session table : ℕ) (schema : Schema) (rows : Rows) (own : Option (List ℕ)) (values : RecordFields) → are_other (put_refusals state session table schema rows own values) ≡ true
+unfolding put_refusals
+other-puts state session table schema rows own values =
+    other-append (null_refusals schema values) (key_refusals state session table schema rows own values)
+    (other-flat_map (λ rule. (is_null_refusal (entries rule schema values), jet.NullKeyDisallowed) ∷ (is_cut_refusal (entries rule schema values), jet.KeyTruncated) ∷ []) schema.indexes (λ rule. refl))
+    (other-flat_map (λ rule.
+    (list_any (has_key_conflict state session table schema rule) (new_keys rule schema (replaced_record rows own) values), jet.WriteConflict)
+    ∷ (list_any (is_taken schema rows rule own) (key_list rule schema values), jet.KeyDuplicate) ∷ [])
+    (filter is_unique schema.indexes) (λ rule. refl))
 
--- ---- what they decide
+-- why a schema step is refused, once its table is found
+other-step : (state : DatabaseState) (table : Table) (made : SchemaStep) → are_other (step_refusals state table made) ≡ true
+other-step state table (step.CreateTable id name) = refl
+other-step state table (step.DeleteTable id) = refl
+other-step state table (step.AddColumn id column) = refl
+other-step state table (step.DeleteColumn id column) = refl
+other-step state table (step.CreateIndex id rule) = refl
+other-step state table (step.DeleteIndex id index) = refl
 
-pub answer-is : (asked : Asked) (request : Request) (new : SessionSide) (decision : Decision) (outcome : Outcome) → answer asked request ≡ outcome
-    → answered_by decision.reply new.reply ≡ outcome.answered → decision.step ≡ outcome.step → finished new.state request (decided_in decision) ≡ outcome.local
-    → IsAnswer asked request new decision
-answer-is asked request new decision outcome is reply step local = record {
-  reply = reply ∙ ap (λ (o : Outcome). o.answered) (sym is);
-  step = step ∙ ap (λ (o : Outcome). o.step) (sym is);
-  local = local ∙ ap (λ (o : Outcome). o.local) (sym is);
-}
+-- ---- outcomes
 
-pub finished-refused : (local : LocalState) (request : Request) (reply : Jet) → finished local request (decided_in (refused_with reply)) ≡ local
-finished-refused local call.BeginSession reply = refl
-finished-refused local call.EndSession reply = refl
-finished-refused local (call.CommitTransaction lazy) reply = refl
-finished-refused local (call.Rollback all) reply = refl
-finished-refused local (call.OpenTable cursor table) reply = refl
-finished-refused local (call.CloseTable cursor) reply = refl
-finished-refused local (call.PrepareUpdate cursor how) reply = refl
-finished-refused local (call.Update cursor) reply = refl
-finished-refused local _ reply = refl
+-- a fact of what follows, and of every refusal that is not want of memory, is one of a call with such refusals
+pub unless-other : (P : Outcome → Type 0) (asked : Asked) (refusals : Refusals) (next : Unit {0} → Outcome) → are_other refusals ≡ true → ((reply : Jet) → is_memory reply ≡ false → P (refused asked reply)) → P (next tt) → P (unless asked refusals next)
+unless-other P asked [] next other refusal rest = rest
+unless-other P asked (refusal ∷ refusals) next other refuse rest =
+    let parts = other_parts (is_memory refusal.1) (are_other refusals) other in
+    elim refusal.0 as (λ b. P (unless_refused asked (cond b (Some refusal.1) (first_refusal refusals)) next)) [
+      | true ↦ refuse refusal.1 parts.0
+      | false ↦ unless-other P asked refusals next parts.1 refuse rest
+    ]
 
-pub answer-refused : (asked : Asked) (request : Request) (new : SessionSide) (reply : Jet) → new.state ≡ asked.local → answer asked request ≡ refused asked reply → IsAnswer asked request new (refused_with reply)
-answer-refused asked request new reply same is =
-    answer-is asked request new (refused_with reply) (refused asked reply) is refl refl (finished-refused new.state request reply ∙ same)
-
-fits_none : (found : Option OpenCursor) → FitsCursor found None
-fits_none None = tt
-fits_none (Some c) = tt
-
-pub copied_none : (local : LocalState) (request : Request) → CopiedFits local request None
-copied_none local (call.PrepareUpdate cursor how) = fits_none (cursor_labelled local cursor.0)
-copied_none local _ = tt
-
-pub decision-refused : (engine : EngineState) (side : SessionSide) (request : Request) (reply : Jet) → IsDecision engine side request side (refused_with reply)
-decision-refused engine side request reply = record {
-  session = refl;
-  still = λ _. refl;
-  room = refl;
-  named = refl;
-  fits = copied_none side.state request;
-  flush = refl;
-  lawful = refl;
-}
+-- the same of a schema step
+pub schema-other : (P : Outcome → Type 0) (asked : Asked) (made : SchemaStep) (next : Unit {0} → Outcome) → ((reply : Jet) → is_memory reply ≡ false → P (refused asked reply)) → P (next tt) → P (unless_refused asked (schema_refusal asked.state asked.session made) next)
+unfolding schema_refusal
+schema-other P asked made next refuse rest =
+    let table = step_table asked.state.tables made in
+    unless-other P asked
+    ((not (levels asked.state asked.session == 0), jet.InTransaction)
+    ∷ (not (makes_table made) && is_none table, jet.ObjectNotFound)
+    ∷ (is_in_use asked.state asked.session table, jet.TableInUse)
+    ∷ step_refusals asked.state (unwrap_or table (new_table 0 [])) made)
+    next (other-step asked.state (unwrap_or table (new_table 0 [])) made) refuse rest

@@ -1,62 +1,96 @@
-//! What a call is answered.
+//! What a call that looks at the shared state is answered.
 
 ghost use Rattle.std.specs.Prelude.{◌≡◌, true, false, IfOk, OnErr};
-ghost use Rattle.database_state.specs.State.{DatabaseState};
 ghost use Rattle.session_local.specs.LocalCalls.{is_answered_locally};
 ghost use Rattle.session_local.specs.Run.{takes_no_memory};
-ghost use Rattle.session_local.specs.Built.{is_built_call};
-ghost use Rattle.engine_session.specs.Beside.{IsBeside};
-ghost use Rattle.engine_core.specs.Deciding.{Decides, IsDecision};
+ghost use Rattle.session_local.specs.declared.request.Request.TheVariants as call;
+ghost use Rattle.engine_versions.specs.BuiltCalls.{is_built_request};
+ghost use Rattle.engine_parts.specs.Deciding.{Decides, IsBeside, IsDecision};
 
-use crate::engine::Engine;
-use jet_base::OutOfMemory;
+use crate::stubs::{create_index, prepare_copy, prepare_replace, update};
+use engine_parts::Engine;
+use jet_base::{CursorId, OutOfMemory, Prepare};
+use record_decisions::{
+    begin_session, begin_transaction, change_schema, commit_transaction, delete, end_session,
+    get_lock, rollback,
+};
 use session_local::{Decision, Local, Request};
 
-impl Engine {
-    /// Decides a call that looks at the shared state: the reply, the step, and what `finish` needs for the session's own
-    /// state. Of that it writes the reply buffer alone, but that a call that moves a cursor has moved it.
-    ///
-    /// Where there is no memory nothing changes.
-    pub fn decide(&self, local: &mut Local, request: &Request) -> Result<Decision, OutOfMemory>
-        requires built { is_built_call request.now ≡ true }
-        requires shared { is_answered_locally local.old.state request.now ≡ false }
-        requires beside { IsBeside self.now local.old }
-        ensures answer { IfOk result (λ decision. Decides self.now local.old request.now local.new decision) }
-        ensures decided { IfOk result (λ decision. IsDecision self.now local.old request.now local.new decision) }
-        ensures kept { OnErr result (local.new ≡ local.old) }
-        ensures memory { OnErr result (takes_no_memory request.now ≡ false) }
-        ensures session { local.new.session ≡ local.old.session }
-    {
-        match request {
-            Request::BeginSession => self.begin_session(local),
-            Request::BeginTransaction => Ok(self.begin_transaction(local)),
-            Request::CommitTransaction { lazy } => Ok(self.commit_transaction(local, *lazy)),
-            Request::CreateTable { .. }
-            | Request::DeleteTable { .. }
-            | Request::AddColumn { .. }
-            | Request::CreateIndex { .. }
-            | Request::DeleteIndex { .. } => self.change_schema(local, request),
-            Request::OpenTable { cursor, table } => self.open_cursor(local, *cursor, table),
-            Request::CloseTable { cursor } => Ok(self.close_cursor(local, *cursor)),
-            Request::Move { cursor, .. }
-            | Request::Seek { cursor, .. }
-            | Request::SetIndexRange { cursor, .. }
-            | Request::SetCurrentIndex { cursor, .. }
-            | Request::GotoBookmark { cursor, .. } => Ok(self.navigate(local, *cursor, request)),
-            Request::IndexRecordCount { cursor, most } => {
-                Ok(self.index_record_count(local, *cursor, *most))
-            }
-            Request::RetrieveKey { cursor } => Ok(self.retrieve_key(local, *cursor)),
-            Request::GetBookmark { cursor } => Ok(self.get_bookmark(local, *cursor)),
-            Request::RetrieveColumn {
-                cursor,
-                column,
-                sequence,
-                most,
-                ..
-            } => Ok(self.retrieve_column(local, *cursor, column, *sequence, *most)),
-            Request::Update { cursor } => self.update(local, *cursor),
-            _ => unreachable!(),
+/// Decides a call that looks at the shared state: the reply, the step, and what `finish` needs for the session's own state. Of
+/// that it writes the reply buffer alone, but that a call that moves a cursor has moved it.
+///
+/// Where there is no memory nothing changes.
+pub fn decide(
+    engine: &Engine,
+    local: &mut Local,
+    request: &Request,
+) -> Result<Decision, OutOfMemory>
+    requires beside { IsBeside engine.now local.old }
+    requires built { is_built_request request.now ≡ true }
+    requires shared { is_answered_locally local.old.state request.now ≡ false }
+    ensures answer { IfOk result (λ decision. Decides engine.now local.old request.now local.new decision) }
+    ensures decided { IfOk result (λ decision. IsDecision engine.now local.old request.now local.new decision) }
+    ensures kept { OnErr result (local.new ≡ local.old) }
+    ensures memory { OnErr result (takes_no_memory request.now ≡ false) }
+    ensures session { local.new.session ≡ local.old.session }
+{
+    match request {
+        Request::BeginSession => begin_session(engine, local),
+        Request::EndSession => Ok(end_session(engine, local)),
+        Request::BeginTransaction => Ok(begin_transaction(engine, local)),
+        Request::CommitTransaction { lazy } => Ok(commit_transaction(engine, local, *lazy)),
+        Request::Rollback { all } => Ok(rollback(engine, local, *all)),
+        Request::CreateTable { .. }
+        | Request::DeleteTable { .. }
+        | Request::AddColumn { .. }
+        | Request::DeleteColumn { .. }
+        | Request::DeleteIndex { .. } => change_schema(engine, local, request),
+        Request::CreateIndex { .. } => create_index(engine, local, request),
+        Request::OpenTable { cursor, table } => engine.open_cursor(local, *cursor, table),
+        Request::CloseTable { cursor } => Ok(engine.close_cursor(local, *cursor)),
+        Request::Move { cursor, .. }
+        | Request::Seek { cursor, .. }
+        | Request::SetIndexRange { cursor, .. }
+        | Request::SetCurrentIndex { cursor, .. }
+        | Request::GotoBookmark { cursor, .. } => Ok(engine.navigate(local, *cursor, request)),
+        Request::IndexRecordCount { cursor, most } => {
+            Ok(engine.index_record_count(local, *cursor, *most))
         }
+        Request::RetrieveKey { cursor } => Ok(engine.retrieve_key(local, *cursor)),
+        Request::GetBookmark { cursor } => Ok(engine.get_bookmark(local, *cursor)),
+        Request::RetrieveColumn {
+            cursor,
+            column,
+            sequence,
+            most,
+            ..
+        } => Ok(engine.retrieve_column(local, *cursor, column, *sequence, *most)),
+        Request::PrepareUpdate { cursor, how } => prepare(engine, local, *cursor, *how),
+        Request::Update { cursor } => update(engine, local, *cursor),
+        Request::Delete { cursor } => delete(engine, local, *cursor),
+        Request::GetLock { cursor } => get_lock(engine, local, *cursor),
+        Request::MakeKey { .. }
+        | Request::RemoveIndexRange { .. }
+        | Request::SetColumn { .. }
+        | Request::EscrowUpdate { .. } => unreachable!(),
+    }
+}
+
+// PrepareUpdate `replace` or `insertcopy`. A session answers the others by itself.
+fn prepare(
+    engine: &Engine,
+    local: &Local,
+    cursor: CursorId,
+    how: Prepare,
+) -> Result<Decision, OutOfMemory>
+    requires beside { IsBeside engine.now local.now }
+    requires shared { is_answered_locally local.now.state (call.PrepareUpdate cursor how) ≡ false }
+    ensures answer { IfOk result (λ decision. Decides engine.now local.now (call.PrepareUpdate cursor how) local.now decision) }
+    ensures decided { IfOk result (λ decision. IsDecision engine.now local.now (call.PrepareUpdate cursor how) local.now decision) }
+{
+    match how {
+        Prepare::Replace => prepare_replace(engine, local, cursor),
+        Prepare::InsertCopy => prepare_copy(engine, local, cursor),
+        Prepare::Insert | Prepare::Cancel => unreachable!(),
     }
 }

@@ -1,16 +1,15 @@
-//! The engine over trees: what a call is answered, and what its step does.
+//! The engine: what every call is answered, and what its step does.
 #![tactic(auto)]
 
-mod answers;
-mod applying;
-mod cursor_calls;
 mod deciding;
-mod engine;
-mod live;
-mod putting;
-mod record_calls;
-mod schema_calls;
-mod session_calls;
-mod view;
+mod laws;
+mod stubs;
 
-pub use engine::Engine;
+pub use deciding::decide;
+pub use engine_parts::Engine;
+pub use engine_steps::{apply, clean};
+pub use laws::{
+    a_line_is_of_one_session, a_run_is_held_after_its_lines, a_session_of_a_run_is_beside,
+    an_empty_engine_holds_an_empty_run, no_answer_is_want_of_memory, steps_of_a_run_may_be_taken,
+    steps_of_calls_without_memory_lack_none,
+};

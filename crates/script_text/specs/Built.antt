@@ -1,14 +1,14 @@
 -- The lines that are built, each by itself, whatever stands before it.
-use Rattle.std.specs.Prelude.{ℕ, Bool, ◌&&◌, ◌==◌, if◌then◌else◌, List, [], ◌∷◌, Option, Some, None, Ok, Err}
+use Rattle.std.specs.Prelude.{ℕ, Bool, if◌then◌else◌, List, [], ◌∷◌, Option, Some, None, Ok, Err}
 use Rattle.std.specs.List.{list_all}
 use Rattle.session_local.specs.declared.request.Request.{Request}
 use Rattle.script_text.specs.BuiltCalls.{is_built_call}
 use Rattle.script_words.specs.Words.{◌>>=◌}
 use Rattle.script_text.specs.Grammar.{ScriptResult, with_front, said_lines, line_request}
 
--- whether a line is of session 1, and its call is built
+-- whether the call of a line is built, whichever session makes it
 abbrev pub is_built : ℕ × Request → Bool
-is_built said = said.0 == 1 && is_built_call said.1
+is_built said = is_built_call said.1
 
 -- whether every line is so
 abbrev pub are_built : List (ℕ × Request) → Bool

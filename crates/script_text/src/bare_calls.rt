@@ -16,7 +16,7 @@ use session_local::Request;
 /// `BeginSession`.
 #[tactic(auto, unfolding(crate::specs::Calls::bare_call))]
 pub fn begin_session(words: &mut Parts<'_>, kept: &mut Calls) -> Result<(), Refusal>
-    ensures { Reads (λ _. kept.new.items) result (calls_with kept.old.items (calls.bare_call call.BeginSession words.old)) }
+    ensures { Reads (λ _. kept.new) result (calls_with kept.old (calls.bare_call call.BeginSession words.old)) }
 {
     no_more(words)?;
     keep(kept, Request::BeginSession)
@@ -25,7 +25,7 @@ pub fn begin_session(words: &mut Parts<'_>, kept: &mut Calls) -> Result<(), Refu
 /// `EndSession`.
 #[tactic(auto, unfolding(crate::specs::Calls::bare_call))]
 pub fn end_session(words: &mut Parts<'_>, kept: &mut Calls) -> Result<(), Refusal>
-    ensures { Reads (λ _. kept.new.items) result (calls_with kept.old.items (calls.bare_call call.EndSession words.old)) }
+    ensures { Reads (λ _. kept.new) result (calls_with kept.old (calls.bare_call call.EndSession words.old)) }
 {
     no_more(words)?;
     keep(kept, Request::EndSession)
@@ -34,7 +34,7 @@ pub fn end_session(words: &mut Parts<'_>, kept: &mut Calls) -> Result<(), Refusa
 /// `BeginTransaction`.
 #[tactic(auto, unfolding(crate::specs::Calls::bare_call))]
 pub fn begin_transaction(words: &mut Parts<'_>, kept: &mut Calls) -> Result<(), Refusal>
-    ensures { Reads (λ _. kept.new.items) result (calls_with kept.old.items (calls.bare_call call.BeginTransaction words.old)) }
+    ensures { Reads (λ _. kept.new) result (calls_with kept.old (calls.bare_call call.BeginTransaction words.old)) }
 {
     no_more(words)?;
     keep(kept, Request::BeginTransaction)
@@ -43,7 +43,7 @@ pub fn begin_transaction(words: &mut Parts<'_>, kept: &mut Calls) -> Result<(), 
 /// `CloseTable c`.
 #[tactic(auto, unfolding(crate::specs::Calls::only_cursor, crate::specs::Calls::bare_call))]
 pub fn close_table(cursor: CursorId, words: &mut Parts<'_>, kept: &mut Calls) -> Result<(), Refusal>
-    ensures { Reads (λ _. kept.new.items) result (calls_with kept.old.items (calls.only_cursor call.CloseTable cursor words.old)) }
+    ensures { Reads (λ _. kept.new) result (calls_with kept.old (calls.only_cursor call.CloseTable cursor words.old)) }
 {
     no_more(words)?;
     keep(kept, Request::CloseTable { cursor })
@@ -56,7 +56,7 @@ pub fn retrieve_key(
     words: &mut Parts<'_>,
     kept: &mut Calls,
 ) -> Result<(), Refusal>
-    ensures { Reads (λ _. kept.new.items) result (calls_with kept.old.items (calls.only_cursor call.RetrieveKey cursor words.old)) }
+    ensures { Reads (λ _. kept.new) result (calls_with kept.old (calls.only_cursor call.RetrieveKey cursor words.old)) }
 {
     no_more(words)?;
     keep(kept, Request::RetrieveKey { cursor })
@@ -69,7 +69,7 @@ pub fn get_bookmark(
     words: &mut Parts<'_>,
     kept: &mut Calls,
 ) -> Result<(), Refusal>
-    ensures { Reads (λ _. kept.new.items) result (calls_with kept.old.items (calls.only_cursor call.GetBookmark cursor words.old)) }
+    ensures { Reads (λ _. kept.new) result (calls_with kept.old (calls.only_cursor call.GetBookmark cursor words.old)) }
 {
     no_more(words)?;
     keep(kept, Request::GetBookmark { cursor })
@@ -78,7 +78,7 @@ pub fn get_bookmark(
 /// `Update c`.
 #[tactic(auto, unfolding(crate::specs::Calls::only_cursor, crate::specs::Calls::bare_call))]
 pub fn update(cursor: CursorId, words: &mut Parts<'_>, kept: &mut Calls) -> Result<(), Refusal>
-    ensures { Reads (λ _. kept.new.items) result (calls_with kept.old.items (calls.only_cursor call.Update cursor words.old)) }
+    ensures { Reads (λ _. kept.new) result (calls_with kept.old (calls.only_cursor call.Update cursor words.old)) }
 {
     no_more(words)?;
     keep(kept, Request::Update { cursor })
@@ -87,7 +87,7 @@ pub fn update(cursor: CursorId, words: &mut Parts<'_>, kept: &mut Calls) -> Resu
 /// `Delete c`.
 #[tactic(auto, unfolding(crate::specs::Calls::only_cursor, crate::specs::Calls::bare_call))]
 pub fn delete(cursor: CursorId, words: &mut Parts<'_>, kept: &mut Calls) -> Result<(), Refusal>
-    ensures { Reads (λ _. kept.new.items) result (calls_with kept.old.items (calls.only_cursor call.Delete cursor words.old)) }
+    ensures { Reads (λ _. kept.new) result (calls_with kept.old (calls.only_cursor call.Delete cursor words.old)) }
 {
     no_more(words)?;
     keep(kept, Request::Delete { cursor })
@@ -96,7 +96,7 @@ pub fn delete(cursor: CursorId, words: &mut Parts<'_>, kept: &mut Calls) -> Resu
 /// `GetLock c`.
 #[tactic(auto, unfolding(crate::specs::Calls::only_cursor, crate::specs::Calls::bare_call))]
 pub fn get_lock(cursor: CursorId, words: &mut Parts<'_>, kept: &mut Calls) -> Result<(), Refusal>
-    ensures { Reads (λ _. kept.new.items) result (calls_with kept.old.items (calls.only_cursor call.GetLock cursor words.old)) }
+    ensures { Reads (λ _. kept.new) result (calls_with kept.old (calls.only_cursor call.GetLock cursor words.old)) }
 {
     no_more(words)?;
     keep(kept, Request::GetLock { cursor })

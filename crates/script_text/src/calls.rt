@@ -24,7 +24,7 @@ use std::alloc::Global;
 /// `CommitTransaction`, with `lazy` or without.
 #[tactic(auto, unfolding(crate::specs::Calls::commit_call))]
 pub fn commit(words: &mut Parts<'_>, kept: &mut Calls) -> Result<(), Refusal>
-    ensures { Reads (λ _. kept.new.items) result (calls_with kept.old.items (calls.commit_call words.old)) }
+    ensures { Reads (λ _. kept.new) result (calls_with kept.old (calls.commit_call words.old)) }
 {
     let lazy = optional_word(words, b"lazy")?;
     keep(kept, Request::CommitTransaction { lazy })
@@ -33,7 +33,7 @@ pub fn commit(words: &mut Parts<'_>, kept: &mut Calls) -> Result<(), Refusal>
 /// `Rollback`, with `all` or without.
 #[tactic(auto, unfolding(crate::specs::Calls::rollback_call))]
 pub fn rollback(words: &mut Parts<'_>, kept: &mut Calls) -> Result<(), Refusal>
-    ensures { Reads (λ _. kept.new.items) result (calls_with kept.old.items (calls.rollback_call words.old)) }
+    ensures { Reads (λ _. kept.new) result (calls_with kept.old (calls.rollback_call words.old)) }
 {
     let all = optional_word(words, b"all")?;
     keep(kept, Request::Rollback { all })
@@ -42,7 +42,7 @@ pub fn rollback(words: &mut Parts<'_>, kept: &mut Calls) -> Result<(), Refusal>
 /// `CreateTable T`.
 #[tactic(auto, unfolding(crate::specs::Calls::table_call))]
 pub fn create_table(alloc: Global, words: &mut Parts<'_>, kept: &mut Calls) -> Result<(), Refusal>
-    ensures { Reads (λ _. kept.new.items) result (calls_with kept.old.items (calls.table_call call.CreateTable words.old)) }
+    ensures { Reads (λ _. kept.new) result (calls_with kept.old (calls.table_call call.CreateTable words.old)) }
 {
     let table = only_word(words)?;
     let table = name(alloc, table)?;
@@ -52,7 +52,7 @@ pub fn create_table(alloc: Global, words: &mut Parts<'_>, kept: &mut Calls) -> R
 /// `DeleteTable T`.
 #[tactic(auto, unfolding(crate::specs::Calls::table_call))]
 pub fn delete_table(alloc: Global, words: &mut Parts<'_>, kept: &mut Calls) -> Result<(), Refusal>
-    ensures { Reads (λ _. kept.new.items) result (calls_with kept.old.items (calls.table_call call.DeleteTable words.old)) }
+    ensures { Reads (λ _. kept.new) result (calls_with kept.old (calls.table_call call.DeleteTable words.old)) }
 {
     let table = only_word(words)?;
     let table = name(alloc, table)?;
@@ -62,7 +62,7 @@ pub fn delete_table(alloc: Global, words: &mut Parts<'_>, kept: &mut Calls) -> R
 /// `AddColumn T C TYPE FLAGS`.
 #[tactic(auto, unfolding(crate::specs::Calls::add_column_call))]
 pub fn add_column(alloc: Global, words: &mut Parts<'_>, kept: &mut Calls) -> Result<(), Refusal>
-    ensures { Reads (λ _. kept.new.items) result (calls_with kept.old.items (calls.add_column_call words.old)) }
+    ensures { Reads (λ _. kept.new) result (calls_with kept.old (calls.add_column_call words.old)) }
 {
     let table = first_word(words)?;
     let column = first_word(words)?;
@@ -85,7 +85,7 @@ pub fn add_column(alloc: Global, words: &mut Parts<'_>, kept: &mut Calls) -> Res
 /// `DeleteColumn T C`.
 #[tactic(auto, unfolding(crate::specs::Calls::part_call))]
 pub fn delete_column(alloc: Global, words: &mut Parts<'_>, kept: &mut Calls) -> Result<(), Refusal>
-    ensures { Reads (λ _. kept.new.items) result (calls_with kept.old.items (calls.part_call call.DeleteColumn words.old)) }
+    ensures { Reads (λ _. kept.new) result (calls_with kept.old (calls.part_call call.DeleteColumn words.old)) }
 {
     let (table, column) = two_words(words)?;
     let table = name(alloc, table)?;
@@ -96,7 +96,7 @@ pub fn delete_column(alloc: Global, words: &mut Parts<'_>, kept: &mut Calls) -> 
 /// `DeleteIndex T I`.
 #[tactic(auto, unfolding(crate::specs::Calls::part_call))]
 pub fn delete_index(alloc: Global, words: &mut Parts<'_>, kept: &mut Calls) -> Result<(), Refusal>
-    ensures { Reads (λ _. kept.new.items) result (calls_with kept.old.items (calls.part_call call.DeleteIndex words.old)) }
+    ensures { Reads (λ _. kept.new) result (calls_with kept.old (calls.part_call call.DeleteIndex words.old)) }
 {
     let (table, index) = two_words(words)?;
     let table = name(alloc, table)?;
@@ -107,7 +107,7 @@ pub fn delete_index(alloc: Global, words: &mut Parts<'_>, kept: &mut Calls) -> R
 /// `CreateIndex T I WORDS`.
 #[tactic(auto, unfolding(crate::specs::Calls::create_index_call))]
 pub fn create_index(alloc: Global, words: &mut Parts<'_>, kept: &mut Calls) -> Result<(), Refusal>
-    ensures { Reads (λ _. kept.new.items) result (calls_with kept.old.items (calls.create_index_call words.old)) }
+    ensures { Reads (λ _. kept.new) result (calls_with kept.old (calls.create_index_call words.old)) }
 {
     let table = first_word(words)?;
     let index = first_word(words)?;
@@ -137,7 +137,7 @@ pub fn open_table(
     words: &mut Parts<'_>,
     kept: &mut Calls,
 ) -> Result<(), Refusal>
-    ensures { Reads (λ _. kept.new.items) result (calls_with kept.old.items (calls.open_table_call cursor words.old)) }
+    ensures { Reads (λ _. kept.new) result (calls_with kept.old (calls.open_table_call cursor words.old)) }
 {
     let table = only_word(words)?;
     let table = name(alloc, table)?;
@@ -152,7 +152,7 @@ pub fn set_current_index(
     words: &mut Parts<'_>,
     kept: &mut Calls,
 ) -> Result<(), Refusal>
-    ensures { Reads (λ _. kept.new.items) result (calls_with kept.old.items (calls.set_current_index_call cursor words.old)) }
+    ensures { Reads (λ _. kept.new) result (calls_with kept.old (calls.set_current_index_call cursor words.old)) }
 {
     if words.is_empty() {
         return keep(
@@ -176,7 +176,7 @@ pub fn make_key(
     words: &mut Parts<'_>,
     kept: &mut Calls,
 ) -> Result<(), Refusal>
-    ensures { Reads (λ _. kept.new.items) result (calls_with kept.old.items (calls.make_key_call cursor words.old)) }
+    ensures { Reads (λ _. kept.new) result (calls_with kept.old (calls.make_key_call cursor words.old)) }
 {
     let fresh = takes_word(words, b"new");
     let value = only_word(words)?;
@@ -194,7 +194,7 @@ pub fn make_key(
 /// `Move c WAY`.
 #[tactic(auto, unfolding(crate::specs::Calls::move_call))]
 pub fn move_to(cursor: CursorId, words: &mut Parts<'_>, kept: &mut Calls) -> Result<(), Refusal>
-    ensures { Reads (λ _. kept.new.items) result (calls_with kept.old.items (calls.move_call cursor words.old)) }
+    ensures { Reads (λ _. kept.new) result (calls_with kept.old (calls.move_call cursor words.old)) }
 {
     let word = only_word(words)?;
     let way = way(word)?;
@@ -204,7 +204,7 @@ pub fn move_to(cursor: CursorId, words: &mut Parts<'_>, kept: &mut Calls) -> Res
 /// `Seek c COMPARISON`.
 #[tactic(auto, unfolding(crate::specs::Calls::seek_call))]
 pub fn seek(cursor: CursorId, words: &mut Parts<'_>, kept: &mut Calls) -> Result<(), Refusal>
-    ensures { Reads (λ _. kept.new.items) result (calls_with kept.old.items (calls.seek_call cursor words.old)) }
+    ensures { Reads (λ _. kept.new) result (calls_with kept.old (calls.seek_call cursor words.old)) }
 {
     let word = only_word(words)?;
     let by = comparison(word)?;
@@ -219,7 +219,7 @@ fn limit(
     words: &mut Parts<'_>,
     kept: &mut Calls,
 ) -> Result<(), Refusal>
-    ensures { Reads (λ _. kept.new.items) result (calls_with kept.old.items (calls.limit_call cursor upper words.old)) }
+    ensures { Reads (λ _. kept.new) result (calls_with kept.old (calls.limit_call cursor upper words.old)) }
 {
     let inclusive = optional_word(words, b"inclusive")?;
     keep(
@@ -239,7 +239,7 @@ pub fn set_index_range(
     words: &mut Parts<'_>,
     kept: &mut Calls,
 ) -> Result<(), Refusal>
-    ensures { Reads (λ _. kept.new.items) result (calls_with kept.old.items (calls.set_index_range_call cursor words.old)) }
+    ensures { Reads (λ _. kept.new) result (calls_with kept.old (calls.set_index_range_call cursor words.old)) }
 {
     if takes_word(words, b"remove") {
         no_more(words)?;
@@ -252,7 +252,7 @@ pub fn set_index_range(
 /// `IndexRecordCount c`, or with the most that is counted.
 #[tactic(auto, unfolding(crate::specs::Calls::count_call, crate::specs::Calls::limited_count_call))]
 pub fn count(cursor: CursorId, words: &mut Parts<'_>, kept: &mut Calls) -> Result<(), Refusal>
-    ensures { Reads (λ _. kept.new.items) result (calls_with kept.old.items (calls.count_call cursor words.old)) }
+    ensures { Reads (λ _. kept.new) result (calls_with kept.old (calls.count_call cursor words.old)) }
 {
     if words.is_empty() {
         return keep(kept, Request::IndexRecordCount { cursor, most: None });
@@ -276,7 +276,7 @@ pub fn goto_bookmark(
     words: &mut Parts<'_>,
     kept: &mut Calls,
 ) -> Result<(), Refusal>
-    ensures { Reads (λ _. kept.new.items) result (calls_with kept.old.items (calls.goto_bookmark_call cursor words.old)) }
+    ensures { Reads (λ _. kept.new) result (calls_with kept.old (calls.goto_bookmark_call cursor words.old)) }
 {
     let word = only_word(words)?;
     let text = after_prefix(word, b"x:").ok_or(Refusal::Bad)?;
@@ -297,7 +297,7 @@ pub fn prepare_update(
     words: &mut Parts<'_>,
     kept: &mut Calls,
 ) -> Result<(), Refusal>
-    ensures { Reads (λ _. kept.new.items) result (calls_with kept.old.items (calls.prepare_update_call cursor words.old)) }
+    ensures { Reads (λ _. kept.new) result (calls_with kept.old (calls.prepare_update_call cursor words.old)) }
 {
     let word = only_word(words)?;
     let how = preparation(word)?;
@@ -321,7 +321,7 @@ pub fn set_column(
     words: &mut Parts<'_>,
     kept: &mut Calls,
 ) -> Result<(), Refusal>
-    ensures { Reads (λ _. kept.new.items) result (calls_with kept.old.items (calls.set_column_call cursor words.old)) }
+    ensures { Reads (λ _. kept.new) result (calls_with kept.old (calls.set_column_call cursor words.old)) }
 {
     let (column, sequence_word, value) = three_words(words)?;
     let column = name(alloc, column)?;
@@ -362,7 +362,7 @@ pub fn retrieve_column(
     words: &mut Parts<'_>,
     kept: &mut Calls,
 ) -> Result<(), Refusal>
-    ensures { Reads (λ _. kept.new.items) result (calls_with kept.old.items (calls.retrieve_column_call cursor words.old)) }
+    ensures { Reads (λ _. kept.new) result (calls_with kept.old (calls.retrieve_column_call cursor words.old)) }
 {
     let column = first_word(words)?;
     let sequence_word = first_word(words)?;
@@ -390,7 +390,7 @@ pub fn escrow_update(
     words: &mut Parts<'_>,
     kept: &mut Calls,
 ) -> Result<(), Refusal>
-    ensures { Reads (λ _. kept.new.items) result (calls_with kept.old.items (calls.escrow_update_call cursor words.old)) }
+    ensures { Reads (λ _. kept.new) result (calls_with kept.old (calls.escrow_update_call cursor words.old)) }
 {
     let (column, amount) = two_words(words)?;
     let column = name(alloc, column)?;

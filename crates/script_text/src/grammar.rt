@@ -32,7 +32,7 @@ fn call_of_cursor(
     words: &mut Parts<'_>,
     kept: &mut Calls,
 ) -> Result<(), Refusal>
-    ensures { Reads (λ _. kept.new.items) result (calls_with kept.old.items (cursor_reading call cursor words.old)) }
+    ensures { Reads (λ _. kept.new) result (calls_with kept.old (cursor_reading call cursor words.old)) }
 {
     match call {
         CursorCall::OpenTable => open_table(alloc, cursor, words, kept),
@@ -64,7 +64,7 @@ fn labelled_call(
     words: &mut Parts<'_>,
     kept: &mut Calls,
 ) -> Result<(), Refusal>
-    ensures { Reads (λ _. kept.new.items) result (calls_with kept.old.items (calls.cursor_call (cursor_reading call) words.old)) }
+    ensures { Reads (λ _. kept.new) result (calls_with kept.old (calls.cursor_call (cursor_reading call) words.old)) }
 {
     let word = first_word(words)?;
     let cursor = CursorId(label(word)?);
@@ -78,7 +78,7 @@ fn call_by_name(
     words: &mut Parts<'_>,
     kept: &mut Calls,
 ) -> Result<(), Refusal>
-    ensures { Reads (λ _. kept.new.items) result (calls_with kept.old.items (reading call words.old)) }
+    ensures { Reads (λ _. kept.new) result (calls_with kept.old (reading call words.old)) }
 {
     match call {
         CallName::BeginSession => begin_session(words, kept),
@@ -103,7 +103,7 @@ pub fn named_call(
     words: &mut Parts<'_>,
     kept: &mut Calls,
 ) -> Result<(), Refusal>
-    ensures { Reads (λ _. kept.new.items) result (calls_with kept.old.items (calls.named_call name.now words.old)) }
+    ensures { Reads (λ _. kept.new) result (calls_with kept.old (calls.named_call name.now words.old)) }
 {
     match call_named(name) {
         Some(call) => call_by_name(alloc, call, words, kept),

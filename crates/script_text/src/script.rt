@@ -7,6 +7,7 @@ ghost use Rattle.script_text.specs.Parsed.{calls_of};
 
 use crate::built::keep_built_call;
 use crate::grammar::is_skipped;
+use crate::kept::Calls;
 use jet_base::Session;
 use script_words::{Parts, Refusal};
 use session_local::Request;
@@ -29,7 +30,7 @@ fn built_calls(alloc: Global, bytes: &[u8]) -> Result<Vec<(Session, Request)>, S
     ensures built { IfOk result (λ calls. built_lines bytes.now ≡ Ok (calls_of calls.items)) }
     ensures not_built { (line : ℕ) → result ≡ Err (ScriptFault.NotBuilt line) → built_lines bytes.now ≡ Err line }
 {
-    let mut calls = Vec::new(alloc);
+    let mut kept = Calls::new(alloc);
     let mut number: u64 = 0;
     let mut lines = Parts::of(bytes, b'\n');
     while let Some(line) = lines.next() {
@@ -37,13 +38,13 @@ fn built_calls(alloc: Global, bytes: &[u8]) -> Result<Vec<(Session, Request)>, S
         if is_skipped(line) {
             continue;
         }
-        match keep_built_call(alloc, line, &mut calls) {
+        match keep_built_call(alloc, line, &mut kept) {
             Ok(()) => {}
             Err(Refusal::Bad) => return Err(ScriptFault::NotBuilt(number)),
             Err(Refusal::Memory) => return Err(ScriptFault::OutOfMemory),
         }
     }
-    Ok(calls)
+    Ok(kept.into_calls())
 }
 
 /// The calls of a script in order, each with the session that makes it.

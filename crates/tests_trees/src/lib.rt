@@ -1,4 +1,4 @@
-//! Tests of pages, trees, tables and versions.
+//! Tests of pages, trees and versions.
 #![tactic(auto)]
 
 #[cfg(test)]
@@ -15,8 +15,6 @@ mod pages;
 mod sessions;
 #[cfg(test)]
 mod space;
-#[cfg(test)]
-mod tables;
 #[cfg(test)]
 mod trees;
 #[cfg(test)]

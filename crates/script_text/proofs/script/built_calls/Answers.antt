@@ -4,6 +4,6 @@ use Rattle.script_text.proofs.script.built_calls.Goals as goal
 
 pub loop-line-init : goal.loop-line-init
 loop-line-init c = record {
-  calls = begun c.new-calls.result.items c.of-lines.result c.args.bytes.now c.new-calls.ensures.items c.of-lines.ensures;
+  calls = begun c.new-kept.result.calls c.of-lines.result c.args.bytes.now c.new-kept.ensures c.of-lines.ensures;
   number = omega (arith, length-lines_of c.of-lines.result c.args.bytes.now c.of-lines.ensures);
 }

@@ -7,7 +7,7 @@ use Rattle.script_text.proofs.script.built_calls.Given as goal
 -- the calls so far and those of the lines that are left are those of the script
 abbrev pub invariant-loop-line : goal.invariant-loop-line
 invariant-loop-line l = record {
-  calls : with_calls (calls_of l.calls.items) (left_from l.number l.lines) ≡ built_lines l.bytes;
+  calls : with_calls (calls_of l.kept.calls) (left_from l.number l.lines) ≡ built_lines l.bytes;
   number : l.number + length l.lines ≤ length l.bytes + 1;
 }
 

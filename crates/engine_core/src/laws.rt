@@ -1,0 +1,85 @@
+//! Laws of the engine in the run of a script. The functions do nothing: their contracts are the laws.
+
+ghost use Rattle.std.specs.Prelude.{◌≡◌, ◌≢◌, ◌==◌, ℕ, Bool, true, false, None, Some};
+ghost use Rattle.jet_base.specs.declared.replies.Jet.TheVariants.{OutOfMemory};
+ghost use Rattle.index_derive.specs.declared.log.Step.{Step};
+ghost use Rattle.session_local.specs.declared.request.Request.{Request};
+ghost use Rattle.session_local.specs.declared.decision.Decision.{Decision};
+ghost use Rattle.session_local.specs.Calls.{answer};
+ghost use Rattle.session_local.specs.LocalCalls.{is_answered_locally};
+ghost use Rattle.session_local.specs.Outcome.{Asked};
+ghost use Rattle.session_local.specs.Run.{Line, RunState, after_served, asked_in, last_after, outcome_of, run_from, session_run, takes_no_memory};
+ghost use Rattle.session_local.specs.SessionSide.{SessionSide};
+ghost use Rattle.database_state.specs.State.{empty_state};
+ghost use Rattle.engine_versions.specs.BuiltCalls.{is_built_request};
+ghost use Rattle.engine_versions.specs.EngineState.{EngineState, empty_engine};
+ghost use Rattle.engine_versions.specs.EngineSteps.{cleaned_for, engine_after_answer};
+ghost use Rattle.engine_parts.specs.Deciding.{Decides, IsAnswer, IsBeside};
+ghost use Rattle.engine_steps.specs.Steps.{MayTake, step_may_lack_memory};
+ghost use Rattle.engine_core.specs.Runs.{HoldsRun, IsInRun, locals_of};
+
+use agreeing_sessions::an_answer_keeps_all_sessions_in_step;
+use engine_versions::{
+    a_clean_leaves_the_state, an_answer_is_held_in_step, an_answer_is_lawful_and_stays_in_step,
+    an_answer_makes_what_is_built, an_empty_engine_holds_the_empty_state, sessions_are_told,
+    sessions_in_step_are_well_formed,
+};
+use session_local::local_calls_take_no_step;
+
+/// An engine of an empty database is where a run begins.
+pub fn an_empty_engine_holds_an_empty_run()
+    ensures { (limit : ℕ) → HoldsRun limit (empty_engine limit) (run_from empty_state) }
+{
+    an_empty_engine_holds_the_empty_state();
+}
+
+/// A session whose own state is its part of a run stands beside the engine that holds the run.
+pub fn a_session_of_a_run_is_beside()
+    ensures { (limit : ℕ) (engine : EngineState) (run : RunState) (side : SessionSide) (last : ℕ) → HoldsRun limit engine run → IsInRun run side last → IsBeside engine side }
+{
+    sessions_are_told();
+    sessions_in_step_are_well_formed();
+}
+
+/// An engine that holds a run holds it after each line that is served, once it has made the line's step; a call that a session
+/// answers by itself has none. What was decided of a session's call is then the answer of the run. After a clean, as a step that
+/// found no memory leaves it, the engine holds the same run.
+pub fn a_run_is_held_after_its_lines()
+    ensures served { (limit : ℕ) (engine : EngineState) (run : RunState) (line : Line) → HoldsRun limit engine run → is_built_request line.1 ≡ true
+        → HoldsRun limit (engine_after_answer engine (outcome_of limit run line).step) (after_served limit run line) }
+    ensures local { (limit : ℕ) (run : RunState) (line : Line) → is_answered_locally (locals_of run line.0) line.1 ≡ true → (outcome_of limit run line).step ≡ None }
+    ensures decided { (limit : ℕ) (engine : EngineState) (run : RunState) (old : SessionSide) (last : ℕ) (request : Request) (new : SessionSide) (decision : Decision)
+        → HoldsRun limit engine run → IsInRun run old last → Decides engine old request new decision → IsAnswer (asked_in limit run old.session) request new decision }
+    ensures clean { (limit : ℕ) (engine : EngineState) (run : RunState) (cleans : Bool) → HoldsRun limit engine run → HoldsRun limit (cleaned_for cleans engine) run }
+{
+    an_answer_is_held_in_step();
+    an_answer_is_lawful_and_stays_in_step();
+    an_answer_makes_what_is_built();
+    an_answer_keeps_all_sessions_in_step();
+    a_clean_leaves_the_state();
+    local_calls_take_no_step();
+}
+
+/// A served line leaves the other sessions of a run as they are, and brings its own session to what the answer leaves.
+pub fn a_line_is_of_one_session()
+    ensures own { (limit : ℕ) (run : RunState) (line : Line) → session_run (after_served limit run line) line.0 ≡ record { local = (outcome_of limit run line).local; last = last_after run line (outcome_of limit run line) } }
+    ensures others { (limit : ℕ) (run : RunState) (line : Line) (session : ℕ) → (session == line.0) ≡ false → session_run (after_served limit run line) session ≡ session_run run session }
+{}
+
+/// The step of a line may be taken by the engine that holds the run.
+pub fn steps_of_a_run_may_be_taken()
+    ensures { (limit : ℕ) (engine : EngineState) (run : RunState) (line : Line) (step : Step) → HoldsRun limit engine run → is_built_request line.1 ≡ true → (outcome_of limit run line).step ≡ Some step → MayTake engine step }
+{
+    an_answer_is_lawful_and_stays_in_step();
+    an_answer_makes_what_is_built();
+}
+
+/// The definitions answer no built call with want of memory: that reply is of the code alone.
+pub fn no_answer_is_want_of_memory()
+    ensures { (asked : Asked) (request : Request) → is_built_request request ≡ true → (answer asked request).answered.jet ≢ OutOfMemory }
+{}
+
+/// The step of a call that takes no memory is one that lacks none.
+pub fn steps_of_calls_without_memory_lack_none()
+    ensures { (asked : Asked) (request : Request) (step : Step) → takes_no_memory request ≡ true → (answer asked request).step ≡ Some step → step_may_lack_memory step ≡ false }
+{}

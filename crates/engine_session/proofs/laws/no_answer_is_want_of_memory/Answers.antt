@@ -1,5 +1,0 @@
-use Rattle.engine_session.proofs.Memory.{answer-not_memory}
-use Rattle.engine_session.proofs.laws.no_answer_is_want_of_memory.Goals as goal
-
-pub returns : goal.returns
-returns c = answer-not_memory

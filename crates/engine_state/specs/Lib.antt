@@ -1,5 +1,0 @@
-pub mod SingleSession
-pub mod EngineState
-pub mod Represents
-pub mod EngineSteps
-pub mod EngineRun

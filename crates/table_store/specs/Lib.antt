@@ -1,3 +1,0 @@
-pub mod StoredRows
-pub mod TableTrees
-pub mod StoreView

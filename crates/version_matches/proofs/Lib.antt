@@ -1,4 +1,0 @@
-pub mod Ties
-pub mod EndingMatches
-pub mod Undone
-pub mod HeldSpan
