@@ -6,5 +6,6 @@ pub mod RunEndings
 pub mod Completeness
 pub mod Processes
 pub mod SessionRuns
+pub mod WrittenSessions
 pub mod SessionCalls
 pub mod SessionServes
