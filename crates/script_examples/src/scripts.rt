@@ -1,7 +1,7 @@
 //! Whole scripts: their calls, their first bad line, and the first line that is not built.
 #![tactic(auto, unfolding(script_text::specs::Computing::computing))]
 
-ghost use Rattle.std.specs.Prelude.{◌≡◌, [], ◌∷◌, ◌++◌, true, false, None, Some, Ok, Err, codes};
+ghost use Rattle.std.specs.Prelude.{◌≡◌, [], ◌∷◌, ◌++◌, true, false, None, Some, Ok, Err, codes, neg_ℤ, pos};
 ghost use Rattle.jet_base.specs.Ids.{cursor_id};
 ghost use Rattle.jet_base.specs.declared.words.ColType.TheVariants as kind;
 ghost use Rattle.jet_base.specs.declared.words.Given.TheVariants as given;
@@ -45,9 +45,10 @@ pub fn spaces_stand_between_words()
     ensures last { script_lines (codes "1 BeginSession ") ≡ Err 1 }
 {}
 
-/// With a lock in the place of its first move, line 16 of the ordinary run is in the grammar and not built.
-pub fn lock_is_not_built()
-    ensures { built_lines (text_of_lines (filling_lines ++ codes "1 GetLock 1" ∷ walking_lines)) ≡ Err 16 }
+/// With a sum in the place of its first move, line 16 of the ordinary run is in the grammar and not built.
+pub fn sum_is_not_built()
+    ensures read { script_lines (codes "1 EscrowUpdate 1 n -5") ≡ Ok ((1, call.EscrowUpdate (cursor_id 1) (codes "n") (neg_ℤ (pos 5))) ∷ []) }
+    ensures not_built { built_lines (text_of_lines (filling_lines ++ codes "1 EscrowUpdate 1 n -5" ∷ walking_lines)) ≡ Err 16 }
 {}
 
 /// A line is built by itself, in any order and any number of times, whatever an engine answers.
@@ -66,10 +67,16 @@ pub fn every_form_of_a_call_is_built()
     ensures most { built_lines (text_of_lines (codes "1 RetrieveColumn 1 id 1 max 3" ∷ [])) ≡ Ok ((1, call.RetrieveColumn (cursor_id 1) (codes "id") 1 false 3) ∷ []) }
 {}
 
-/// Lines of another session, an index that is not primary, a long column and an escrow column are not built.
-pub fn other_lines_are_not_built()
-    ensures session { built_lines (text_of_lines (codes "2 BeginSession" ∷ [])) ≡ Err 1 }
-    ensures secondary { built_lines (text_of_lines (codes "1 CreateTable T" ∷ codes "1 CreateIndex T i +a" ∷ [])) ≡ Err 2 }
+/// Lines of every session are built, in any order, and each call keeps the label of its line. There are 99 labels.
+pub fn lines_of_every_session_are_built()
+    ensures two { built_lines (text_of_lines (codes "2 BeginSession" ∷ codes "1 BeginSession" ∷ codes "2 Rollback" ∷ [])) ≡ Ok ((2, call.BeginSession) ∷ (1, call.BeginSession) ∷ (2, call.Rollback false) ∷ []) }
+    ensures last { built_lines (codes "99 GetLock 3") ≡ Ok ((99, call.GetLock (cursor_id 3)) ∷ []) }
+    ensures none { built_lines (codes "0 BeginSession") ≡ Err 1 }
+    ensures too_many { built_lines (codes "100 BeginSession") ≡ Err 1 }
+{}
+
+/// A column of a long type and one that is a sum are not built.
+pub fn long_columns_and_sums_are_not_built()
     ensures long { built_lines (text_of_lines (codes "1 AddColumn T a LongText" ∷ [])) ≡ Err 1 }
     ensures escrow { built_lines (text_of_lines (codes "1 AddColumn T a Long escrow" ∷ [])) ≡ Err 1 }
 {}

@@ -1,7 +1,6 @@
 -- A line that is built, word by word.
 use Rattle.std.proofs.Common.{◌≡◌, ℕ, Bool, true, false, Option, Some, None, List, [], ◌∷◌, ◌++◌, refl}
 use Rattle.std.specs.Prelude.{if◌then◌else◌}
-use Rattle.jet_base.specs.declared.ids.Session.{Session}
 use Rattle.session_local.specs.declared.request.Request.{Request}
 use Rattle.script_text.specs.BuiltCalls.{is_built_call}
 use Rattle.script_words.specs.Words.{◌>>=◌, first_word, words_of, label_of}

@@ -1,4 +1,5 @@
 pub mod BuiltLines
 pub mod LabelledCalls
 pub mod Scripts
+pub mod MadeNames
 pub mod BuiltCalls
