@@ -8,4 +8,6 @@ pub mod Processes
 pub mod SessionRuns
 pub mod WrittenSessions
 pub mod SessionCalls
+pub mod SessionWrites
 pub mod SessionServes
+pub mod BuiltRequests

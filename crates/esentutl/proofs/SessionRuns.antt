@@ -100,7 +100,7 @@ pub goes_on : SessionsFollow → (limit : ℕ) (engine after_engine : EngineStat
 goes_on follow limit engine after_engine before after run session request n reply is came =
     let found : reply.jet ≢ jet.OutOfMemory = λ none. came.memory (sym (ap (λ (a : Answered). a.jet) came.answered) ∙ none) in
     subst (λ (o : LineOutcome). GoesOn limit after_engine after run session request n reply o) (sym (served_told reply.jet found))
-        (goes_on-served follow limit engine after_engine before after run session request n reply is came)
+    (goes_on-served follow limit engine after_engine before after run session request n reply is came)
 
 -- ---- lines without memory
 

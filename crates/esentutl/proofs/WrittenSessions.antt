@@ -38,3 +38,26 @@ place-put before after label place made put has = subst (λ (n : ℕ). place < n
 -- one write behind another
 pub put-twice : (before between after : List RunSession) (label : ℕ) (first second : RunSession) → IsPut before between label first → IsPut between after label second → IsPut before after label second
 put-twice before between after label first second one two = (two.0, λ other apart. two.1 other apart ∙ one.1 other apart, two.2 ∙ one.2)
+
+-- the own state that was written is found again
+pub found_again : (sessions : List RunSession) (label : ℕ) (made found : SessionSide) → HasPlace sessions label → found ≡ (session_at (with_local sessions label made) label).local → found ≡ made
+found_again sessions label made found place is = is ∙ ap (λ (s : RunSession). s.local) (put-local sessions label made place).0
+
+pub place-with_local : (sessions : List RunSession) (label place : ℕ) (made : SessionSide) → HasPlace sessions label → HasPlace sessions place → HasPlace (with_local sessions label made) place
+place-with_local sessions label place made own has =
+    place-put sessions (with_local sessions label made) label place (record (session_at sessions label) { local = made }) (put-local sessions label made own) has
+
+-- an own state that is written twice, and then the number
+pub put-all : (sessions : List RunSession) (label last : ℕ) (made left : SessionSide) → HasPlace sessions label
+    → IsPut sessions (with_last (with_local (with_local sessions label made) label left) label last) label (record { local = left; last = last })
+put-all sessions label last made left place =
+    let one = with_local sessions label made in
+    let two = with_local one label left in
+    let all = with_last two label last in
+    let here = place-with_local sessions label label made place place in
+    let first = put-local sessions label made place in
+    let second = put-local one label left here in
+    let third = put-last two label last (place-with_local one label label left here here) in
+    let put = put-twice sessions two all label (record (session_at one label) { local = left }) (record (session_at two label) { last = last })
+    (put-twice sessions one two label (record (session_at sessions label) { local = made }) (record (session_at one label) { local = left }) first second) third in
+    (put.0 ∙ ap (λ (s : RunSession). record s { last = last }) second.0, put.1, put.2)
