@@ -6,5 +6,8 @@ pub mod RunEndings
 pub mod Completeness
 pub mod Processes
 pub mod SessionRuns
+pub mod WrittenSessions
 pub mod SessionCalls
+pub mod SessionWrites
 pub mod SessionServes
+pub mod BuiltRequests

@@ -1,52 +1,62 @@
--- What a line comes to for the one session of a script: served, or without memory.
-use Rattle.std.proofs.Common.{◌≡◌, ◌≢◌, ℕ, ◌+◌, Bool, true, false, not, List, [], ◌∷◌, length, Option, unwrap_or, refl, sym, ap, subst, ◌∙◌, arith, IsTrue}
+-- What a line comes to for the sessions of a script: served, or without memory.
+use Rattle.std.proofs.Common.{◌≡◌, ◌≢◌, ℕ, ◌+◌, Bool, true, false, not, List, [], ◌∷◌, length, Option, Some, None, inl, inr, refl, sym, ap, subst, ◌∙◌, arith}
 use Rattle.std.specs.Prelude.{if◌then◌else◌}
-use Rattle.std.specs.FinMap.Entries.{find-put}
-use Rattle.std.specs.Ordering.{nat_cmp}
-use Rattle.std.proofs.lemmas.Cmp.{nat_cmp_total}
+use Rattle.std.proofs.lemmas.Bool.Decides.{eqb_tells}
+use Rattle.jet_base.specs.declared.ids.Session.{Session}
 use Rattle.jet_base.specs.declared.replies.Jet.{Jet}
 use Rattle.jet_base.specs.declared.replies.Jet.TheVariants as jet
 use Rattle.index_derive.specs.declared.log.Entry.{Entry}
-use Rattle.index_derive.specs.declared.log.EntryKind.{EntryKind}
-use Rattle.index_derive.specs.declared.log.EntryKind.TheVariants as entry
-use Rattle.database_state.specs.State.{DatabaseState}
-use Rattle.database_state.specs.Step.{state_after_all}
+use Rattle.index_derive.specs.declared.log.Step.{Step}
+use Rattle.index_derive.specs.Steps.{entries_of_step}
 use Rattle.session_local.specs.declared.request.Request.{Request}
 use Rattle.session_local.specs.declared.reply.Reply.{Reply}
 use Rattle.session_local.specs.Answer.{Answered, answered_by}
-use Rattle.session_local.specs.Local.{LocalState}
-use Rattle.session_local.specs.SessionSide.{SessionSide}
-use Rattle.index_derive.specs.Steps.{entries_of_step}
-use Rattle.session_local.specs.Outcome.{Asked, Outcome}
-use Rattle.session_local.specs.Calls.{answer, is_local}
-use Rattle.session_local.specs.Run.{RunState, SessionRun, LineOutcome, served, no_memory, session_run, asked_in, outcome_of, number_of_line, last_after, after_outcome, takes_no_memory}
-use Rattle.engine_state.specs.EngineState.{EngineState}
-use Rattle.engine_state.specs.EngineSteps.{effect_on, engine_after_all}
-use Rattle.engine_state.specs.Represents.{Represents}
-use Rattle.engine_session.specs.Beside.{IsBeside, are_fitting, asked_of}
-use Rattle.esentutl.specs.SessionRun.{no_memory_reply, outcome_of_jet, outcome_told, IsInRun, GoesOn}
+use Rattle.session_local.specs.Outcome.{Outcome}
+use Rattle.session_local.specs.Calls.{is_local}
+use Rattle.session_local.specs.Run.{RunState, SessionRun, Line, LineOutcome, served, no_memory, session_run, outcome_of, number_of_line, last_after, after_outcome, takes_no_memory}
+use Rattle.run_sessions.specs.declared.sessions.RunSession.{RunSession}
+use Rattle.run_sessions.specs.Sessions.{last_label, session_at, HasPlace, OthersStay, AreSessionsOf, in_run}
+use Rattle.engine_versions.specs.EngineState.{EngineState}
+use Rattle.engine_versions.specs.EngineSteps.{engine_after, engine_after_all, engine_after_answer, cleaned_for, step_cleans}
+use Rattle.engine_core.specs.Runs.{HoldsRun}
+use Rattle.esentutl.specs.SessionRun.{no_memory_reply, outcome_of_jet, outcome_told, reply_bytes, HasItsBuffer, IsInRun, GoesOn}
 
--- ---- what is asked in a run
+-- ---- one session of all
 
-same_asked : (limit other : ℕ) (state : DatabaseState) (session label : ℕ) (local seen : LocalState) → limit ≡ other → session ≡ label → local ≡ seen
-    → (let asked : Asked = record { limit = limit; state = state; session = session; local = local } in asked) ≡ record { limit = other; state = state; session = label; local = seen }
-same_asked limit other state session label local seen a b c = cc
+-- what holds of one session as it is now, and of all as they were where the others stay, holds of all
+each_session : (Q : ℕ → RunSession → Type 0) (label : ℕ) (before after : List RunSession) → OthersStay label before after → Q label (session_at after label)
+    → ((other : ℕ) → Q other (session_at before other)) → (other : ℕ) → Q other (session_at after other)
+each_session Q label before after stay own known other =
+    elim (eqb_tells other label) [
+      | inl same ↦ subst (λ (l : ℕ). Q l (session_at after l)) (sym same.1) own
+      | inr apart ↦ subst (λ (s : RunSession). Q other s) (sym (stay other apart.1)) (known other)
+    ]
 
--- the session of the run asks as the side that stands beside the engine does
-pub asked-in_run : (limit : ℕ) (engine : EngineState) (side : SessionSide) (last : ℕ) (run : RunState) → IsInRun limit engine side last run → asked_of engine run.state side ≡ asked_in limit run 1
-asked-in_run limit engine side last run is =
-    same_asked engine.limit limit run.state side.session 1 side.state (session_run run 1).local is.limit_is is.label (sym (ap (λ (s : SessionRun). s.local) is.session))
+-- what became of the sessions by a call of one of them
+pub record IsBrought (before after : List RunSession) (label : ℕ) : Type 0 where
+  pub others : OthersStay label before after
+  pub label_is : (session_at after label).local.session ≡ label
+  pub buffer : HasItsBuffer (session_at after label).local
+  pub places : HasPlace after last_label
 
-pub outcome-in_run : (limit : ℕ) (engine : EngineState) (side : SessionSide) (last : ℕ) (run : RunState) (request : Request) → IsInRun limit engine side last run
-    → answer (asked_of engine run.state side) request ≡ outcome_of limit run (1, request)
-outcome-in_run limit engine side last run request is = ap (λ (a : Asked). answer a request) (asked-in_run limit engine side last run is)
+pub in_run-brought : (limit : ℕ) (engine after_engine : EngineState) (before after : List RunSession) (run after_run : RunState) (label : ℕ)
+    → IsInRun limit engine before run → IsBrought before after label → HoldsRun limit after_engine after_run → AreSessionsOf after after_run
+    → IsInRun limit after_engine after after_run
+in_run-brought limit engine after_engine before after run after_run label is brought holds are = record {
+  holds = holds;
+  parts = are;
+  labels = each_session (λ (l : ℕ) (s : RunSession). s.local.session ≡ l) label before after brought.others brought.label_is is.labels;
+  buffers = each_session (λ (l : ℕ) (s : RunSession). HasItsBuffer s.local) label before after brought.others brought.buffer is.buffers;
+  places = brought.places;
+}
 
--- the session after a line
-pub session_run-after : (run : RunState) (request : Request) (outcome : Outcome)
-    → session_run (after_outcome run (1, request) outcome) 1 ≡ record { local = outcome.local; last = last_after run (1, request) outcome }
-session_run-after run request outcome =
-    let made : SessionRun = record { local = outcome.local; last = last_after run (1, request) outcome } in
-    ap (λ (found : Option SessionRun). unwrap_or found (record { local = record { begun = false; cursors = [] }; last = 0 })) (find-put nat_cmp nat_cmp_total 1 1 made run.sessions)
+-- the session has the same own state, and the same number
+pub in_run-kept : (limit : ℕ) (engine after_engine : EngineState) (before after : List RunSession) (run : RunState) (label : ℕ)
+    → IsInRun limit engine before run → IsBrought before after label → in_run (session_at after label) ≡ in_run (session_at before label) → HoldsRun limit after_engine run
+    → IsInRun limit after_engine after run
+in_run-kept limit engine after_engine before after run label is brought same holds =
+    in_run-brought limit engine after_engine before after run run label is brought holds
+    (each_session (λ (l : ℕ) (s : RunSession). session_run run l ≡ in_run s) label before after brought.others (is.parts label ∙ sym same) is.parts)
 
 -- ---- served lines
 
@@ -54,118 +64,101 @@ served_told : (reply : Jet) → reply ≢ jet.OutOfMemory → outcome_of_jet rep
 served_told jet.OutOfMemory found = absurd (found refl)
 served_told _ found = refl
 
+-- the law of the sessions after a line
+abbrev pub SessionsFollow : Type 0
+SessionsFollow =
+    (before after : List RunSession) (run : RunState) (line : Line) (outcome : Outcome) → AreSessionsOf before run → OthersStay line.0 before after
+    → in_run (session_at after line.0) ≡ record { local = outcome.local; last = last_after run line outcome }
+    → AreSessionsOf after (after_outcome run line outcome)
+
 -- What a call has come to, and what it left.
-pub record Came (limit : ℕ) (engine : EngineState) (side : SessionSide) (last : ℕ) (run : RunState) (request : Request) (n : ℕ) (reply : Reply) (outcome : Outcome) : Type 0 where
-  pub answered : answered_by reply side.reply ≡ outcome.answered
+pub record Came (limit : ℕ) (engine : EngineState) (before after : List RunSession) (run : RunState) (session : Session) (request : Request) (n : ℕ) (reply : Reply) (outcome : Outcome) : Type 0 where
+  pub answered : answered_by reply (reply_bytes after session) ≡ outcome.answered
   pub memory : outcome.answered.jet ≢ jet.OutOfMemory
-  pub label : side.session ≡ 1
-  pub local : side.state ≡ outcome.local
-  pub limit_is : engine.limit ≡ limit
-  pub beside : IsBeside engine side
-  pub represents : Represents 1 engine (state_after_all run.state (entries_of_step outcome.step))
-  pub fitting : IsTrue (are_fitting (state_after_all run.state (entries_of_step outcome.step)))
-  pub number : n ≡ number_of_line run (1, request) outcome.answered.jet
-  pub counted : last ≡ last_after run (1, request) outcome
+  pub brought : IsBrought before after session.0
+  pub own : in_run (session_at after session.0) ≡ record { local = outcome.local; last = last_after run (session.0, request) outcome }
+  pub number : n ≡ number_of_line run (session.0, request) outcome.answered.jet
+  pub held : HoldsRun limit engine (after_outcome run (session.0, request) outcome)
 
-same_session : (local seen : LocalState) (last counted : ℕ) → local ≡ seen → last ≡ counted → (let made : SessionRun = record { local = local; last = last } in made) ≡ record { local = seen; last = counted }
-same_session local seen last counted a b = cc
-
-pub goes_on-served : (limit : ℕ) (engine : EngineState) (side : SessionSide) (last : ℕ) (run : RunState) (request : Request) (n : ℕ) (reply : Reply)
-    → Came limit engine side last run request n reply (outcome_of limit run (1, request)) → GoesOn limit engine side last run request n reply served
-goes_on-served limit engine side last run request n reply came =
-    let outcome = outcome_of limit run (1, request) in record {
+goes_on-served : SessionsFollow → (limit : ℕ) (engine after_engine : EngineState) (before after : List RunSession) (run : RunState) (session : Session) (request : Request) (n : ℕ) (reply : Reply)
+    → IsInRun limit engine before run → Came limit after_engine before after run session request n reply (outcome_of limit run (session.0, request))
+    → GoesOn limit after_engine after run session request n reply served
+goes_on-served follow limit engine after_engine before after run session request n reply is came =
+    let outcome = outcome_of limit run (session.0, request) in record {
       row =
-          ap (λ (m : ℕ). record { n = m; session = 1; request = request; answered = outcome.answered } ∷ []) (sym came.number)
-          ∙ ap (λ (a : Answered). record { n = n; session = 1; request = request; answered = a } ∷ []) (sym came.answered);
+          ap (λ (m : ℕ). record { n = m; session = session.0; request = request; answered = outcome.answered } ∷ []) (sym came.number)
+          ∙ ap (λ (a : Answered). record { n = n; session = session.0; request = request; answered = a } ∷ []) (sym came.answered);
       may_be = refl;
-      in_run = record {
-        limit_is = came.limit_is;
-        label = came.label;
-        beside = came.beside;
-        represents = came.represents;
-        fitting = came.fitting;
-        session = session_run-after run request outcome ∙ sym (same_session side.state outcome.local last (last_after run (1, request) outcome) came.local came.counted);
-      };
+      in_run = in_run-brought limit engine after_engine before after run (after_outcome run (session.0, request) outcome) session.0 is came.brought came.held
+          (follow before after run (session.0, request) outcome is.parts came.brought.others came.own);
     }
 
--- a call that came to an answer of the session that stood beside the engine is the run's next line
-pub goes_on : (limit : ℕ) (before after : EngineState) (side left : SessionSide) (last counted : ℕ) (run : RunState) (request : Request) (n : ℕ) (reply : Reply)
-    → IsInRun limit before side last run → Came limit after left counted run request n reply (answer (asked_of before run.state side) request)
-    → GoesOn limit after left counted run request n reply (outcome_told reply)
-goes_on limit before after side left last counted run request n reply is came =
-    let here = subst (λ (o : Outcome). Came limit after left counted run request n reply o) (outcome-in_run limit before side last run request is) came in
+-- a call that came to the answer of the run is the run's next line
+pub goes_on : SessionsFollow → (limit : ℕ) (engine after_engine : EngineState) (before after : List RunSession) (run : RunState) (session : Session) (request : Request) (n : ℕ) (reply : Reply)
+    → IsInRun limit engine before run → Came limit after_engine before after run session request n reply (outcome_of limit run (session.0, request))
+    → GoesOn limit after_engine after run session request n reply (outcome_told reply)
+goes_on follow limit engine after_engine before after run session request n reply is came =
     let found : reply.jet ≢ jet.OutOfMemory = λ none. came.memory (sym (ap (λ (a : Answered). a.jet) came.answered) ∙ none) in
-    subst (λ (o : LineOutcome). GoesOn limit after left counted run request n reply o) (sym (served_told reply.jet found)) (goes_on-served limit after left counted run request n reply here)
+    subst (λ (o : LineOutcome). GoesOn limit after_engine after run session request n reply o) (sym (served_told reply.jet found))
+    (goes_on-served follow limit engine after_engine before after run session request n reply is came)
 
 -- ---- lines without memory
 
 not_told : (b : Bool) → b ≡ false → not b ≡ true
 not_told b is = ap not is
 
-pub goes_on-without_memory : (limit : ℕ) (engine : EngineState) (side : SessionSide) (last : ℕ) (run : RunState) (request : Request) → IsInRun limit engine side last run → takes_no_memory request ≡ false
-    → GoesOn limit engine side last run request last no_memory_reply no_memory
-goes_on-without_memory limit engine side last run request is takes = record {
-  row = ap (λ (m : ℕ). record { n = m; session = 1; request = request; answered = answered_by no_memory_reply side.reply } ∷ []) (ap (λ (s : SessionRun). s.last) is.session);
-  may_be = not_told (takes_no_memory request) takes;
-  in_run = is;
-}
+pub goes_on-none : (limit : ℕ) (engine : EngineState) (sessions : List RunSession) (run : RunState) (session : Session) (request : Request) (n : ℕ) (reply : Reply)
+    → n ≡ (session_at sessions session.0).last → reply ≡ no_memory_reply → IsInRun limit engine sessions run → takes_no_memory request ≡ false
+    → GoesOn limit engine sessions run session request n reply (outcome_told reply)
+goes_on-none limit engine sessions run session request n reply n_is reply_is is takes =
+    subst (λ (m : ℕ). GoesOn limit engine sessions run session request m reply (outcome_told reply)) (sym n_is)
+    (subst (λ (r : Reply). GoesOn limit engine sessions run session request (session_at sessions session.0).last r (outcome_told r)) (sym reply_is) (record {
+      row = ap (λ (s : SessionRun). record { n = s.last; session = session.0; request = request; answered = answered_by no_memory_reply (reply_bytes sessions session) } ∷ []) (is.parts session.0);
+      may_be = not_told (takes_no_memory request) takes;
+      in_run = is;
+    }))
 
 -- ---- the count of the log
-
-number-effect : (engine : EngineState) (session : ℕ) (kind : EntryKind) → (effect_on engine session kind).number ≡ engine.number
-number-effect engine session entry.Enter = refl
-number-effect engine session (entry.Open table) = refl
-number-effect engine session entry.Begin = refl
-number-effect engine session entry.Save = refl
-number-effect engine session (entry.Change change) = refl
-number-effect engine session entry.Release = refl
-number-effect engine session entry.Commit = refl
-number-effect engine session (entry.Schema made) = refl
-number-effect engine session _ = refl
-
-limit-effect : (engine : EngineState) (session : ℕ) (kind : EntryKind) → (effect_on engine session kind).limit ≡ engine.limit
-limit-effect engine session entry.Enter = refl
-limit-effect engine session (entry.Open table) = refl
-limit-effect engine session entry.Begin = refl
-limit-effect engine session entry.Save = refl
-limit-effect engine session (entry.Change change) = refl
-limit-effect engine session entry.Release = refl
-limit-effect engine session entry.Commit = refl
-limit-effect engine session (entry.Schema made) = refl
-limit-effect engine session _ = refl
 
 one_more : (n m : ℕ) → (n + 1) + m ≡ n + (m + 1)
 one_more n m = omega arith
 
 -- each entry counts
-pub number-after_all : (engine : EngineState) (entries : List Entry) → (engine_after_all engine entries).number ≡ engine.number + length entries
+number-after_all : (engine : EngineState) (entries : List Entry) → (engine_after_all engine entries).number ≡ engine.number + length entries
 number-after_all engine [] = omega arith
 number-after_all engine (made ∷ entries) =
-    let after = effect_on (record engine { number = engine.number + 1 }) made.session.0 made.kind in
-    let here = number-effect (record engine { number = engine.number + 1 }) made.session.0 made.kind in
-    let rest = number-after_all after entries in
-    rest ∙ ap (λ (n : ℕ). n + length entries) here ∙ one_more engine.number (length entries) ∙ ap (λ (n : ℕ). engine.number + n) (let e : length entries + 1 ≡ length (made ∷ entries) = omega arith in e)
+    number-after_all (engine_after engine made) entries ∙ one_more engine.number (length entries)
+    ∙ ap (λ (n : ℕ). engine.number + n) (let e : length entries + 1 ≡ length (made ∷ entries) = omega arith in e)
 
-pub limit-after_all : (engine : EngineState) (entries : List Entry) → (engine_after_all engine entries).limit ≡ engine.limit
-limit-after_all engine [] = refl
-limit-after_all engine (made ∷ entries) =
-    let after = effect_on (record engine { number = engine.number + 1 }) made.session.0 made.kind in
-    limit-after_all after entries ∙ limit-effect (record engine { number = engine.number + 1 }) made.session.0 made.kind
+number-cleaned : (cleans : Bool) (engine : EngineState) → (cleaned_for cleans engine).number ≡ engine.number
+number-cleaned true engine = refl
+number-cleaned false engine = refl
+
+pub number-after_answer : (engine : EngineState) (step : Option Step) → (engine_after_answer engine step).number ≡ engine.number + length (entries_of_step step)
+number-after_answer engine None = omega arith
+number-after_answer engine (Some step) =
+    number-after_all (cleaned_for (step_cleans step) engine) (entries_of_step (Some step))
+    ∙ ap (λ (n : ℕ). n + length (entries_of_step (Some step))) (number-cleaned (step_cleans step) engine)
 
 -- the number of a line, and the count behind it
-pub number-local : (run : RunState) (request : Request) (reply : Jet) (last : ℕ) (local : LocalState) → session_run run 1 ≡ record { local = local; last = last } → is_local request reply ≡ true
-    → last ≡ number_of_line run (1, request) reply
-number-local run request reply last local is here =
-    sym (ap (λ (b : Bool). if b then (session_run run 1).last else run.state.number) here ∙ ap (λ (s : SessionRun). s.last) is)
+pub number-local : (run : RunState) (line : Line) (reply : Jet) (session : RunSession) → session_run run line.0 ≡ in_run session → is_local line.1 reply ≡ true → session.last ≡ number_of_line run line reply
+number-local run line reply session is here =
+    sym (ap (λ (b : Bool). if b then (session_run run line.0).last else run.state.number) here ∙ ap (λ (s : SessionRun). s.last) is)
 
-pub number-by : (run : RunState) (request : Request) (reply : Jet) (last number : ℕ) (local : LocalState) → session_run run 1 ≡ record { local = local; last = last } → run.state.number ≡ number
-    → (if is_local request reply then last else number) ≡ number_of_line run (1, request) reply
-number-by run request reply last number local is same =
-    sym (ap (λ (m : ℕ). if is_local request reply then m else run.state.number) (ap (λ (s : SessionRun). s.last) is) ∙ ap (λ (m : ℕ). if is_local request reply then last else m) same)
+pub last-local : (run : RunState) (line : Line) (outcome : Outcome) (session : RunSession) → session_run run line.0 ≡ in_run session → is_local line.1 outcome.answered.jet ≡ true
+    → session.last ≡ last_after run line outcome
+last-local run line outcome session is here =
+    sym (ap (λ (b : Bool). if b then (session_run run line.0).last else run.state.number + length (entries_of_step outcome.step)) here ∙ ap (λ (s : SessionRun). s.last) is)
 
-pub last-by : (run : RunState) (request : Request) (outcome : Outcome) (last number : ℕ) (local : LocalState) → session_run run 1 ≡ record { local = local; last = last }
+pub number-by : (run : RunState) (line : Line) (reply : Jet) (session : RunSession) (number : ℕ) → session_run run line.0 ≡ in_run session → run.state.number ≡ number
+    → (if is_local line.1 reply then session.last else number) ≡ number_of_line run line reply
+number-by run line reply session number is same =
+    sym (ap (λ (m : ℕ). if is_local line.1 reply then m else run.state.number) (ap (λ (s : SessionRun). s.last) is)
+    ∙ ap (λ (m : ℕ). if is_local line.1 reply then session.last else m) same)
+
+pub last-by : (run : RunState) (line : Line) (outcome : Outcome) (session : RunSession) (number : ℕ) → session_run run line.0 ≡ in_run session
     → run.state.number + length (entries_of_step outcome.step) ≡ number
-    → (if is_local request outcome.answered.jet then last else number) ≡ last_after run (1, request) outcome
-last-by run request outcome last number local is same =
-    sym (ap (λ (m : ℕ). if is_local request outcome.answered.jet then m else run.state.number + length (entries_of_step outcome.step)) (ap (λ (s : SessionRun). s.last) is)
-    ∙ ap (λ (m : ℕ). if is_local request outcome.answered.jet then last else m) same)
+    → (if is_local line.1 outcome.answered.jet then session.last else number) ≡ last_after run line outcome
+last-by run line outcome session number is same =
+    sym (ap (λ (m : ℕ). if is_local line.1 outcome.answered.jet then m else run.state.number + length (entries_of_step outcome.step)) (ap (λ (s : SessionRun). s.last) is)
+    ∙ ap (λ (m : ℕ). if is_local line.1 outcome.answered.jet then session.last else m) same)

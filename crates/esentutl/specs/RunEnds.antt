@@ -1,5 +1,5 @@
 -- How the run of a script's calls ends.
-use Rattle.std.specs.Prelude.{◌≡◌, ℕ, ◌<◌, List, [], length, take, drop, Option}
+use Rattle.std.specs.Prelude.{◌≡◌, ℕ, ◌<◌, ◌⊎◌, List, [], length, take, drop, Option}
 use Rattle.std.specs.Io.KnownBytes.{append_known}
 use Rattle.database_state.specs.State.{empty_state}
 use Rattle.session_local.specs.Run.{Line, LineOutcome, run_from, run_after_all}
@@ -34,3 +34,9 @@ RunEndsBy limit lines engine before after faults_before faults_after (sink_faile
 RunEndsBy limit lines engine before after faults_before faults_after too_long = ⊥
 RunEndsBy limit lines engine before after faults_before faults_after source_failed = ⊥
 RunEndsBy limit lines engine before after faults_before faults_after (not_built number) = ⊥
+
+-- The same of a run for which an engine is made: there may be no memory for it, and then nothing is served.
+abbrev pub RunsBy : ℕ → List Line → Option (List ℕ) → Option (List ℕ) → ℕ → ℕ → Ending → Type 0
+RunsBy limit lines before after faults_before faults_after ending =
+    ((ending ≡ want_of_memory) × (after ≡ before) × (faults_after ≡ faults_before))
+    ⊎ ((engine : SessionEngine) × RunEndsBy limit lines engine before after faults_before faults_after ending)

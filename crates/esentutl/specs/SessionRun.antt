@@ -1,17 +1,21 @@
--- When the engine and the one session of a script are in the state that a run has come to, and what a line leaves of them.
-use Rattle.std.specs.Prelude.{◌≡◌, ℕ, true, [], ◌∷◌, IsTrue}
+-- When the engine and the sessions of a script are in the state that a run has come to, and what a line leaves of them.
+use Rattle.std.specs.Prelude.{◌≡◌, ℕ, Bool, true, List, [], ◌∷◌, length, Option, Some}
 use Rattle.jet_base.specs.declared.replies.Jet.{Jet}
 use Rattle.jet_base.specs.declared.replies.Jet.TheVariants as jet
 use Rattle.jet_base.specs.declared.ids.Session.{Session}
+use Rattle.index_derive.specs.declared.log.Step.{Step}
 use Rattle.session_local.specs.declared.request.Request.{Request}
 use Rattle.session_local.specs.declared.reply.Reply.{Reply}
 use Rattle.session_local.specs.declared.reply.Value.TheVariants as value
 use Rattle.session_local.specs.Answer.{Answered, Row, answered_by}
+use Rattle.session_local.specs.Run.{RunState, LineOutcome, served, no_memory, rows_of_line, run_after, may_come}
 use Rattle.session_local.specs.SessionSide.{SessionSide}
-use Rattle.session_local.specs.Run.{RunState, LineOutcome, served, no_memory, session_run, rows_of_line, run_after, may_come}
-use Rattle.engine_state.specs.EngineState.{EngineState}
-use Rattle.engine_state.specs.Represents.{Represents}
-use Rattle.engine_session.specs.Beside.{IsBeside, are_fitting}
+use Rattle.run_sessions.specs.declared.sessions.RunSession.{RunSession}
+use Rattle.run_sessions.specs.Sessions.{last_label, session_at, HasPlace, AreSessionsOf}
+use Rattle.engine_versions.specs.EngineState.{EngineState}
+use Rattle.engine_versions.specs.EngineSteps.{cleaned_for}
+use Rattle.engine_steps.specs.Steps.{step_may_lack_memory}
+use Rattle.engine_core.specs.Runs.{HoldsRun}
 
 -- ---- what a reply tells
 
@@ -29,20 +33,37 @@ no_memory_reply = record { jet = jet.OutOfMemory; value = value.Nothing }
 abbrev pub row_told : ℕ → Session → Request → Answered → Row
 row_told number session request answered = record { n = number; session = session.0; request = request; answered = answered }
 
--- ---- the one session, whose label is 1
+-- ---- the sessions
 
--- The engine holds the state of the run with the limit of its span, its session stands beside it, and the last number is that
--- after the session's last call that looked at the shared state.
-pub record IsInRun (limit : ℕ) (engine : EngineState) (side : SessionSide) (last : ℕ) (run : RunState) : Type 0 where
-  pub limit_is : engine.limit ≡ limit
-  pub label : side.session ≡ 1
-  pub beside : IsBeside engine side
-  pub represents : Represents 1 engine run.state
-  pub fitting : IsTrue (are_fitting run.state)
-  pub session : session_run run 1 ≡ record { local = side.state; last = last }
+-- what stands in the reply buffer of a session
+abbrev pub reply_bytes : List RunSession → Session → List ℕ
+reply_bytes sessions session = (session_at sessions session.0).local.reply
+
+-- a session that was begun has its reply buffer
+abbrev pub HasItsBuffer : SessionSide → Type 0
+HasItsBuffer side = side.state.begun ≡ true → length side.reply ≡ 1048576
+
+-- The engine holds the run, with this limit of its span. Each session is as the run has it and stands under its label, and there
+-- is a place for every label.
+pub record IsInRun (limit : ℕ) (engine : EngineState) (sessions : List RunSession) (run : RunState) : Type 0 where
+  pub holds : HoldsRun limit engine run
+  pub parts : AreSessionsOf sessions run
+  pub labels : (label : ℕ) → (session_at sessions label).local.session ≡ label
+  pub buffers : (label : ℕ) → HasItsBuffer (session_at sessions label).local
+  pub places : HasPlace sessions last_label
 
 -- A line had this outcome: its row has this number and this reply, and the engine has gone on with the run.
-pub record GoesOn (limit : ℕ) (engine : EngineState) (side : SessionSide) (last : ℕ) (run : RunState) (request : Request) (n : ℕ) (reply : Reply) (outcome : LineOutcome) : Type 0 where
-  pub row : rows_of_line limit run (1, request) outcome ≡ record { n = n; session = 1; request = request; answered = answered_by reply side.reply } ∷ []
-  pub may_be : may_come limit run (1, request) outcome ≡ true
-  pub in_run : IsInRun limit engine side last (run_after limit run (1, request) outcome)
+pub record GoesOn (limit : ℕ) (engine : EngineState) (sessions : List RunSession) (run : RunState) (session : Session) (request : Request) (n : ℕ) (reply : Reply) (outcome : LineOutcome) : Type 0 where
+  pub row : rows_of_line limit run (session.0, request) outcome ≡ row_told n session request (answered_by reply (reply_bytes sessions session)) ∷ []
+  pub may_be : may_come limit run (session.0, request) outcome ≡ true
+  pub in_run : IsInRun limit engine sessions (run_after limit run (session.0, request) outcome)
+
+-- ---- steps
+
+-- the engine is as it was, but that it may have given up the changes that no reader needs
+abbrev pub StaysOrCleans : EngineState → EngineState → Type 0
+StaysOrCleans before after = (cleans : Bool) × (after ≡ cleaned_for cleans before)
+
+-- there is a step, and it may find no memory
+abbrev pub LacksMemory : Option Step → Type 0
+LacksMemory step = (made : Step) × (step ≡ Some made) × (step_may_lack_memory made ≡ true)

@@ -1,20 +1,21 @@
 //! How a call ends: its status, and the last line where no script runs.
 
-ghost use Rattle.std.specs.Prelude.{◌≡◌, ◌<◌, ◌⊎◌, ℕ, List, [], codes, length, take};
+ghost use Rattle.std.specs.Prelude.{◌≡◌, ◌<◌, ◌⊎◌, ℕ, true, List, [], codes, length, take};
 ghost use Rattle.std.specs.Io.KnownBytes.{append_known};
 ghost use Rattle.database_state.specs.State.{empty_state};
 ghost use Rattle.session_local.specs.Run.{run_from};
+ghost use Rattle.script_text.specs.Built.{are_built};
 ghost use Rattle.script_text.specs.Parsed.{calls_of};
 ghost use Rattle.esentutl.specs.Reading.{line_of_fault, status_of_fault};
 ghost use Rattle.esentutl.specs.TopCall.{Ending, Says, status_of};
 ghost use Rattle.esentutl.specs.Serving.{span_limit, IsReady};
-ghost use Rattle.esentutl.specs.RunEnds.{RunEndsBy};
+ghost use Rattle.esentutl.specs.RunEnds.{RunEndsBy, RunsBy};
 
 use crate::reading::ReadScriptFault;
 use crate::report::{make_last_line, make_not_built_line, say_only};
 use crate::run::{LineFault, run_lines};
 use crate::session_engine::SessionEngine;
-use jet_base::Session;
+use jet_base::{OutOfMemory, Session};
 use jet_io::Sink;
 use session_local::Request;
 use std::alloc::Global;
@@ -41,8 +42,25 @@ pub fn tell<K: Sink>(fault: ReadScriptFault, out: &mut K) -> u8
     }
 }
 
-/// Runs the calls of a script over an engine that is ready for them.
+/// Runs the calls of a script over an empty database.
 pub fn run_script<K: Sink>(
+    alloc: Global,
+    limit: u64,
+    lines: &[(Session, Request)],
+    out: &mut K,
+) -> u8
+    requires { are_built (calls_of lines.now) ≡ true }
+    ensures { (ending : Ending) × (result ≡ status_of ending)
+        × RunsBy limit (calls_of lines.now) (K.taken out.old) (K.taken out.new) (K.faults out.old) (K.faults out.new) ending }
+{
+    match SessionEngine::new(alloc, limit) {
+        Ok(mut engine) => run_over(alloc, &mut engine, lines, out),
+        Err(OutOfMemory) => 7,
+    }
+}
+
+// Runs the calls of a script over an engine that is ready for them.
+fn run_over<K: Sink>(
     alloc: Global,
     engine: &mut SessionEngine,
     lines: &[(Session, Request)],

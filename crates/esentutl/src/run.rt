@@ -71,7 +71,13 @@ fn run_line<K: Sink>(
 {
     transcript.make_room()?;
     let served = engine.serve(session, request);
-    transcript.line(served.n, session, request, &served.reply, engine.reply());
+    transcript.line(
+        served.n,
+        session,
+        request,
+        &served.reply,
+        engine.reply(session),
+    );
     write_all(out, transcript.text())?;
     transcript.clear();
     Ok(())

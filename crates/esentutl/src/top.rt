@@ -13,7 +13,6 @@ use crate::about::tell_about;
 use crate::ends::{run_script, tell};
 use crate::reading::read_script;
 use crate::report::{make_last_line, say_only};
-use crate::session_engine::SessionEngine;
 use crate::words::{Form, form_of_words};
 use jet_io::{Sink, Source};
 use std::alloc::Global;
@@ -73,7 +72,7 @@ fn run_words<S: Source, K: Sink>(alloc: Global, words: &[String], script: &mut S
 {
     match form_of_words(words) {
         Form::OrderedRun(limit) => match read_script(alloc, script) {
-            Ok(lines) => run_script(alloc, &mut SessionEngine::new(alloc, limit), &lines, out),
+            Ok(lines) => run_script(alloc, limit, &lines, out),
             Err(fault) => tell(fault, out),
         },
         Form::About(topic) => tell_about(topic, out),

@@ -5,7 +5,8 @@ use Rattle.session_local.specs.declared.request.Request.{Request}
 use Rattle.script_words.specs.Words.{◌>>=◌}
 use Rattle.script_text.specs.BuiltCalls.{is_built_call, makes_named}
 use Rattle.script_text.specs.Grammar.{ScriptResult, with_front, said_lines, line_request, requests_of, script_lines}
-use Rattle.script_text.specs.Built.{is_built, are_built, built_call, built_from, built_lines}
+use Rattle.script_text.specs.Built.{is_label, is_built, are_built, built_call, built_from, built_lines}
+use Rattle.script_text.proofs.Labels.{line-labelled}
 use Rattle.script_text.proofs.MadeNames.{line-named}
 
 and_both : (a b : Bool) → a ≡ true → b ≡ true → (a && b) ≡ true
@@ -21,16 +22,20 @@ chosen : (test : Bool) (given said : ℕ × Request) → is_built_call given.1 �
 chosen true given said is h = (cc, is)
 chosen false given said is h = absurd cc
 
-behind_line : (line : List ℕ) (said : ℕ × Request) (given : Option (ℕ × Request)) → line_request line ≡ given → IfSome given (λ said. makes_named said.1 ≡ true)
+behind_line : (line : List ℕ) (said : ℕ × Request) (given : Option (ℕ × Request)) → line_request line ≡ given → IfSome given (λ said. is_label said.0 ≡ true) → IfSome given (λ said. makes_named said.1 ≡ true)
     → (given >>= λ said. if is_built_call said.1 then Some said else None) ≡ Some said → IsBuilt line said
-behind_line line said None read named h = absurd cc
-behind_line line said (Some given) read named h =
+behind_line line said None read labelled named h = absurd cc
+behind_line line said (Some given) read labelled named h =
     let (same, built) = chosen (is_built_call given.1) given said refl h in
-    record { read = read ∙ ap Some same; built = ap is_built (sym same) ∙ and_both (is_built_call given.1) (makes_named given.1) built named }
+    record {
+      read = read ∙ ap Some same;
+      built = ap is_built (sym same)
+          ∙ and_both (is_label given.0) (is_built_call given.1 && makes_named given.1) labelled (and_both (is_built_call given.1) (makes_named given.1) built named);
+    }
 
 built_call-built : (line : List ℕ) (said : ℕ × Request) → built_call line ≡ Some said → IsBuilt line said
 unfolding built_call
-built_call-built line said h = behind_line line said (line_request line) refl (line-named line) h
+built_call-built line said h = behind_line line said (line_request line) refl (line-labelled line) (line-named line) h
 
 -- the calls of a rest that is built, behind one call
 behind_front : (said : ℕ × Request) (rest : ScriptResult) (calls : List (ℕ × Request)) → with_front said rest ≡ Ok calls → (others : List (ℕ × Request)) × (rest ≡ Ok others) × (calls ≡ said ∷ others)

@@ -54,7 +54,7 @@ fn built_calls(alloc: Global, bytes: &[u8]) -> Result<Vec<(Session, Request)>, S
 #[tactic(auto, using(crate::proofs::BuiltCalls::built))]
 pub fn parse(alloc: Global, bytes: &[u8]) -> Result<Vec<(Session, Request)>, ScriptFault>
     ensures built { IfOk result (λ calls. built_lines bytes.now ≡ Ok (calls_of calls.items)) }
-    // They are what the grammar reads, and each of them is built. What it makes has a name of 1 to 64 bytes.
+    // They are what the grammar reads, each of a session and built. What it makes has a name of 1 to 64 bytes.
     ensures read { IfOk result (λ calls. script_lines bytes.now ≡ Ok (calls_of calls.items)) }
     ensures served { IfOk result (λ calls. are_built (calls_of calls.items) ≡ true) }
     ensures not_built { (line : ℕ) → result ≡ Err (ScriptFault.NotBuilt line) → built_lines bytes.now ≡ Err line }

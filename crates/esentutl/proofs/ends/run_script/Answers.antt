@@ -1,16 +1,19 @@
-use Rattle.std.proofs.Common.{refl, ap, Err}
-use Rattle.esentutl.specs.TopCall.{done, sink_failed, want_of_memory}
+use Rattle.std.proofs.Common.{ℕ, inl, inr, refl, subst}
+use Rattle.script_text.specs.Parsed.{calls_of}
+use Rattle.esentutl.specs.TopCall.{want_of_memory}
+use Rattle.esentutl.specs.RunEnds.{RunEndsBy}
 use Rattle.esentutl.proofs.ends.run_script.Goals as goal
 
+pub returns-in-Err : goal.returns-in-Err
+returns-in-Err g c = (want_of_memory, refl, inl (refl, refl, refl))
+
 pub returns-in-Ok : goal.returns-in-Ok
-returns-in-Ok g c = (done, refl, (c.in-Ok.ensures.sound, c.in-Ok.ensures.done))
-
-pub returns-in-Err-Memory : goal.returns-in-Err-Memory
-returns-in-Err-Memory g c =
-    let so_far = c.in-Err-Memory.ensures.memory (ap Err c.in-Err-Memory.field-0-is) in
-    (want_of_memory, refl, (c.in-Err-Memory.ensures.memory_sound (ap Err c.in-Err-Memory.field-0-is), (so_far.1, so_far.0, so_far.2, so_far.3, so_far.4)))
-
-pub returns-in-Err-Sink : goal.returns-in-Err-Sink
-returns-in-Err-Sink g c =
-    let so_far = c.in-Err-Sink.ensures.sink (ap Err c.in-Err-Sink.field-0-is) in
-    (sink_failed, refl, (c.in-Err-Sink.ensures.failed (ap Err c.in-Err-Sink.field-0-is), (so_far.2, so_far.0, so_far.1, so_far.3, so_far.4, so_far.5, so_far.6)))
+returns-in-Ok g c =
+    let run = c.run_over.ensures in (
+      run.0,
+      run.1,
+      inr (
+        c.run_over.new.engine,
+        subst (λ (limit : ℕ). RunEndsBy limit (calls_of c.args.lines.now) c.run_over.new.engine (g.K.Sink.taken c.args.out.now) (g.K.Sink.taken c.run_over.new.out) (g.K.Sink.faults c.args.out.now) (g.K.Sink.faults c.run_over.new.out) run.0) c.in-Ok.ensures.span run.2,
+      ),
+    )

@@ -2,6 +2,7 @@ use Rattle.std.proofs.Common.{◌<◌, ℕ, List, length, take, ap, subst, ◌�
 use Rattle.std.specs.Io.KnownBytes.{append_known}
 use Rattle.esentutl.specs.SessionRun.{outcome_told, row_told}
 use Rattle.session_local.specs.Answer.{answered_by}
+use Rattle.esentutl.specs.Serving.{reply_of}
 use Rattle.esentutl.proofs.LineText.{piece-row, piece-line_text, is_plain-told}
 use Rattle.esentutl.proofs.run.run_line.Goals as goal
 
@@ -9,7 +10,7 @@ pub returns-clause-served : goal.returns-clause-served
 returns-clause-served g c =
     let reply = c.serve-served.result.reply in
     let request = c.args.request.now in
-    let shown = c.serve-served.new.self.local.reply in
+    let shown = reply_of c.serve-served.new.self c.args.session in
     let row = row_told c.serve-served.result.n c.args.session request (answered_by reply shown) in
     let is_row = piece-row c.serve-served.result.n c.args.session request reply c.reply.result.now shown c.make_room.new.self.text c.line.new.self.text c.text.result.now
     (c.make_room.ensures.text ∙ c.requires.empty) c.line.ensures.text c.reply.ensures.bytes c.text.ensures in (
@@ -29,7 +30,7 @@ pub returns-in_err-write_all-clause-sink : goal.returns-in_err-write_all-clause-
 returns-in_err-write_all-clause-sink g c =
     let reply = c.serve-served.result.reply in
     let request = c.args.request.now in
-    let shown = c.serve-served.new.self.local.reply in
+    let shown = reply_of c.serve-served.new.self c.args.session in
     let row = row_told c.serve-served.result.n c.args.session request (answered_by reply shown) in
     let is_row = piece-row c.serve-served.result.n c.args.session request reply c.reply.result.now shown c.make_room.new.self.text c.line.new.self.text c.text.result.now
     (c.make_room.ensures.text ∙ c.requires.empty) c.line.ensures.text c.reply.ensures.bytes c.text.ensures in

@@ -2,7 +2,6 @@ use Rattle.std.proofs.Common.{ℕ, List, [], Ok, refl, sym, ap, subst, ◌∙◌
 use Rattle.jet_base.specs.declared.ids.Session.{Session}
 use Rattle.session_local.specs.declared.request.Request.{Request}
 use Rattle.script_text.specs.Parsed.{calls_of}
-use Rattle.esentutl.specs.RunEnds.{RunEndsBy}
 use Rattle.esentutl.specs.TopCall.{Outside, bad_words, Says}
 use Rattle.esentutl.proofs.Endings.{prepend_nothing, ending_of, status_of-ending_of, form_of_ending-ending_of, ends_by_fault, ends_by_telling}
 use Rattle.esentutl.proofs.RunEndings.{ends_by_run}
@@ -85,8 +84,7 @@ returns-in-Ok g c =
       sink_before = g.K.Sink.faults c.args.out.now;
       sink_after = g.K.Sink.faults c.run_script.new.out;
     } in
-    let ends = ends_by_run limit o read.0 lines c.run_script.new.engine run.0 read.2.0.0 (read.2.0.1, read.2.0.2, built)
-    (subst (λ (named : ℕ). RunEndsBy named lines c.run_script.new.engine o.taken_before o.taken_after o.sink_before o.sink_after run.0) c.new.ensures.span run.2) in (
+    let ends = ends_by_run limit o read.0 lines run.0 read.2.0.0 (read.2.0.1, read.2.0.2, built) run.2 in (
       read.0,
       limit,
       run.0,
