@@ -3,7 +3,7 @@ use Rattle.std.proofs.Common.{◌≡◌, ℕ, Bool, true, false, cond, List, [],
 use Rattle.std.specs.Prelude.{◌==◌, unwrap_or, if◌then◌else◌}
 use Rattle.std.specs.Cmp.{nat_cmp_total, unsigned_tied}
 use Rattle.std.specs.FinMap.Entries.{find-put}
-use Rattle.std.specs.Ordering.{eq_by_cmp, nat_cmp}
+use Rattle.std.specs.Ordering.{nat_cmp}
 use Rattle.column_set.specs.RecordValues.{lookup_by_number}
 use Rattle.index_derive.specs.declared.log.Entry.{Entry}
 use Rattle.index_derive.specs.declared.log.Step.{Step}
@@ -18,7 +18,7 @@ use Rattle.session_local.specs.WellFormed.{IsWellFormed}
 use Rattle.agreeing_sessions.specs.InStep.{IsInStep}
 use Rattle.version_cleanup.specs.LiveSessions.{is_live}
 use Rattle.database_state.specs.Lawful.{is_live as is_live_in}
-use Rattle.engine_versions.specs.EngineState.{EngineState, HasRoomForEnds, cleaned}
+use Rattle.engine_versions.specs.EngineState.{EngineState, HasRoomForEnds}
 use Rattle.engine_versions.specs.EngineSteps.{cleaned_for, engine_after, engine_after_all, engine_after_answer, step_cleans}
 use Rattle.engine_versions.specs.HoldsState.{HoldsState}
 use Rattle.engine_parts.specs.Deciding.{IsBeside}
