@@ -79,7 +79,7 @@ fn sinks_that_fail(rt: HostRuntime) -> Result<(), Fail> {
     let alloc = rt.alloc();
     let two = b"0 1 BeginSession JET_errSuccess\n1 1 CreateTable JET_errSuccess\n";
     assert!(rt; ends_as(alloc, SCRIPT, &[], &[3], 6, two)?);
-    assert!(rt; ends_as(alloc, b"2 BeginSession\n", &[], &[1], 9, b"")?);
+    assert!(rt; ends_as(alloc, b"1 EscrowUpdate 1 a 1\n", &[], &[1], 9, b"")?);
     let words = run_words(alloc)?;
     let mut from = source(alloc, SCRIPT, &[])?;
     let mut full = MemSink::new(alloc, 0, Vec::new(alloc))?;
