@@ -24,6 +24,6 @@ pub use encoding_records::{encode_record, is_all_here, values_here_are_the_recor
 pub use fields::{Field, VALUE_HEADER, size_of_length, size_of_values};
 pub use records::Record;
 pub use row_fault::RowFault;
-pub use row_ref::{RowRef, rows_have_one_spelling};
+pub use row_ref::{RowRef, rows_are_read_back, rows_have_one_spelling};
 pub use rows::{Row, RowValue, size_of_a_row};
 pub use values::Values;

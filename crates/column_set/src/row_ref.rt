@@ -134,3 +134,8 @@ fn value_of(bytes: &[u8], column: u16, at: usize) -> Option<ValueRef<'_>>
 pub fn rows_have_one_spelling()
     ensures { (a b : RowFields) → IsTrue (is_row a) → IsTrue (is_row b) → row_bytes a ≡ row_bytes b → a ≡ b }
 {}
+
+/// The row that has the bytes of a row is that row.
+pub fn rows_are_read_back()
+    ensures { (row : RowFields) → IsTrue (is_row row) → row_in (row_bytes row) ≡ row }
+{}

@@ -17,6 +17,7 @@ use Rattle.version_store.specs.declared.calls.Reader.{Reader}
 use Rattle.version_cleanup.specs.declared.live.Transaction.{Transaction as LiveTransaction}
 use Rattle.version_cleanup.specs.Cleaning.{reader_in}
 use Rattle.version_cleanup.specs.LiveSessions.{LiveState, live_state, session_in, transaction_in, without_snapshot}
+use Rattle.versioned_tables.proofs.SeenTables.{seen_at_id}
 use Rattle.versioned_tables.specs.HeldRecords.{HeldRecord, seen_record}
 use Rattle.versioned_tables.specs.VersionedTables.{VersionedTables, seen_table, seen_tables}
 use Rattle.versioned_tables.specs.Holding.{Holds, begin_of}
@@ -73,15 +74,6 @@ seen_is_view : ShowsView → (engine : EngineState) (state : DatabaseState) (ses
     → table_with_id (seen_tables (reader_in session engine.sessions) engine.store) table ≡ table_with_id (view state session) table
 seen_is_view shows engine state session h table =
     shows h.base h.dropped h.kept engine.store state h.holds h.reached.no_sums (reader_in session engine.sessions) (reader_told engine state session h.sessions) table
-
-pub seen_at_id : (reader : Reader) (held : List HeldRecord) (tables : List Table) (id : ℕ) → table_with_id (map (seen_table reader held) tables) id ≡ option_map (seen_table reader held) (table_with_id tables id)
-seen_at_id reader held [] id = refl
-seen_at_id reader held (t ∷ tables) id = by (t.id == id) (seen_at_id reader held tables id)
-  where
-    by : (b : Bool) → table_with_id (map (seen_table reader held) tables) id ≡ option_map (seen_table reader held) (table_with_id tables id)
-        → cond b (Some (seen_table reader held t)) (table_with_id (map (seen_table reader held) tables) id) ≡ option_map (seen_table reader held) (cond b (Some t) (table_with_id tables id))
-    by true rest = refl
-    by false rest = rest
 
 plain_at_id : (tables : List Table) (id : ℕ) → table_with_id (map without_rows tables) id ≡ option_map without_rows (table_with_id tables id)
 plain_at_id [] id = refl

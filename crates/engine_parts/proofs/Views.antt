@@ -7,7 +7,8 @@ use Rattle.version_history.specs.History.{without_rows}
 use Rattle.version_store.specs.declared.calls.Reader.{Reader}
 use Rattle.versioned_tables.specs.VersionedTables.{VersionedTables, seen_table}
 use Rattle.table_versions.specs.StoredVersions.{entries_in, seen_entries}
-use Rattle.engine_parts.proofs.ReadsView.{none_is_some, seen_at_id}
+use Rattle.versioned_tables.proofs.SeenTables.{seen_at_id}
+use Rattle.engine_parts.proofs.ReadsView.{none_is_some}
 
 -- a table that is found has the schema of the one that is stored
 pub known_at : (found : Table) (stored : Option Table) (schema : Schema) → Some found ≡ option_map without_rows stored → schema ≡ schema_of found → IsSomeAnd stored (λ t. schema ≡ schema_of t)

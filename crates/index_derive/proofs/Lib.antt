@@ -1,5 +1,6 @@
 pub mod Bridge
 pub mod Combining
+pub mod DoubleKeys
 pub mod FirstValues
 pub mod Fronts
 pub mod Keys

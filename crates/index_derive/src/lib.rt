@@ -3,6 +3,7 @@
 #![tactic(auto)]
 
 pub mod derive;
+mod doubles;
 mod entries;
 mod entry;
 mod faults;
@@ -16,6 +17,7 @@ mod schema_calls;
 mod values;
 mod walk;
 
+pub use doubles::has_double;
 pub use entries::{IndexEntry, Place};
 pub use faults::DeriveFault;
 pub use laws::{entries_rise, next_entries_are_entries};

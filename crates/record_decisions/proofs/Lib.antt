@@ -10,7 +10,6 @@ pub mod IndexRefusals
 pub mod UpdateTold
 pub mod PutSteps
 pub mod Updates
-pub mod DoubleKeys
 pub mod RecordWalks
 pub mod BroughtRecords
 pub mod CreatingIndexes

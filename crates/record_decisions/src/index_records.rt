@@ -4,12 +4,12 @@ ghost use Rattle.std.specs.Prelude.{◌≡◌, ◌≤◌, ◌++◌, ℕ, List, [
 ghost use Rattle.database_state.specs.Refusals.{first_refusal};
 ghost use Rattle.database_state.specs.Table.{record_in, schema_of};
 ghost use Rattle.index_derive.specs.Derived.{IsDerived};
-ghost use Rattle.index_derive.specs.Entries.{KeyRefusal, has_double, is_legal, is_unique};
+ghost use Rattle.index_derive.specs.Entries.{KeyRefusal, is_legal, is_unique};
 ghost use Rattle.versioned_tables.specs.HeldRecords.{seen_record};
 ghost use Rattle.record_decisions.specs.CreatingIndexes.{IsAdded, IsBrought, asks_of_records, brought_refusals, entries_of, row_refusals, rows_shown};
 
 use index_derive::derive::entries;
-use index_derive::{DeriveFault, IndexRule, Place};
+use index_derive::{DeriveFault, IndexRule, Place, has_double};
 use jet_base::{Items, Jet, OutOfMemory};
 use jet_catalog::TableDef;
 use key_normal::Key;
@@ -184,14 +184,4 @@ fn push_keys(keys: &mut Vec<Key>, made: &Items<Key>) -> Result<(), OutOfMemory>
         keys.push(key.copy())?;
     }
     Ok(())
-}
-
-// Whether a key stands twice: once they are sorted, equal keys are neighbours, of which one is kept.
-fn has_double(mut keys: Vec<Key>) -> bool
-    ensures { result ≡ has_double keys.items }
-{
-    let count = keys.len();
-    keys.sort_unstable();
-    keys.dedup();
-    keys.len() < count
 }

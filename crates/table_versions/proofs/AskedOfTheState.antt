@@ -21,7 +21,7 @@ use Rattle.versioned_tables.specs.Holding.{Holds, begin_of}
 use Rattle.versioned_tables.specs.VersionedTables.{VersionedTables, seen_table, seen_tables}
 use Rattle.table_versions.specs.KeyConflicts.{has_conflict_over, replaced_seen, unique_refusals}
 use Rattle.table_versions.specs.StoredVersions.{entries_in}
-use Rattle.table_versions.proofs.ShownEntries.{seen_at_id}
+use Rattle.versioned_tables.proofs.SeenTables.{seen_at_id}
 
 -- the laws that it rests on
 abbrev pub TellsConflicts : Type 0

@@ -36,7 +36,7 @@ use Rattle.table_versions.specs.VersionsKept.{AreKept, IsKeptChange, IsKeptTable
 use Rattle.table_versions.specs.GoneKeys.{some_before}
 use Rattle.table_versions.proofs.Dropped.{TreeLaws, emptied, emptied_where, extent_at, has_trees, nodes_are, row_then, same_numbers, there_at}
 use Rattle.table_versions.proofs.Held.{appended}
-use Rattle.table_versions.proofs.Lists.{all_append}
+use Rattle.versioned_tables.proofs.Lists.{all_append}
 use Rattle.table_versions.proofs.NodeRecords.{record_at}
 use Rattle.table_versions.proofs.Span.{RowSizes, same_cost}
 use Rattle.table_versions.proofs.Tables.{found_number, newest_at, newest_is_row, table_at}

@@ -20,10 +20,10 @@ use Rattle.table_versions.specs.NewEntries.{IsAmong, IsTakenRow, OnlyEntries, is
 use Rattle.table_versions.specs.PutRecords.{IsKeyOfRecord}
 use Rattle.table_versions.specs.RecordRows.{record_of, row_in_node, row_under}
 use Rattle.table_versions.proofs.KeysPut.{AreApartKeys, keys_apart}
-use Rattle.table_versions.proofs.Neighbours.{found_in}
+use Rattle.versioned_tables.proofs.Neighbours.{found_in}
 use Rattle.table_versions.proofs.NewEntries.{only_stays, only_then}
 use Rattle.table_versions.proofs.NodeWalks.{is_node_past, is_past, next_is_there, next_node, none_past, past_next}
-use Rattle.table_versions.proofs.Order.{not_itself}
+use Rattle.versioned_tables.proofs.Order.{not_itself}
 
 -- The index has the keys of the records that were passed.
 pub record IsFilledTo (table : ℕ) (rule : IndexRule) (schema : Schema) (place : Place) (was is : List StoredTable) : Type 0 where

@@ -27,7 +27,7 @@ use Rattle.table_versions.specs.LeftVariants.{AreLeft, CanForget, DistinctIds, I
 use Rattle.table_versions.specs.RecordRows.{IsRecordRow, held_record, record_of, rows_of_nodes}
 use Rattle.table_versions.specs.VersionsKept.{AreKept, IsBookmarkOf, IsKeptChange, IsKeptTable, IsRowOf, IsRowUnder, IsStoredRule, secondary_rule}
 use Rattle.table_versions.proofs.ChangesKept.{SameVariants, changes_kept}
-use Rattle.table_versions.proofs.Lists.{all_append, all_filter}
+use Rattle.versioned_tables.proofs.Lists.{all_append, all_filter}
 
 -- ---- the keys of a row that an index took
 

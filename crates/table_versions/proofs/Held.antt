@@ -6,7 +6,7 @@ use Rattle.column_set.specs.declared.changes.Change.TheVariants.{Put, Drop, Hold
 use Rattle.database_state.specs.Changes.{changed_table}
 use Rattle.database_state.specs.State.{is_undone}
 use Rattle.database_state.specs.Table.{Table, table_with_id, with_table}
-use Rattle.table_versions.proofs.Lists.{all_append}
+use Rattle.versioned_tables.proofs.Lists.{all_append}
 use Rattle.record_changes.proofs.Tests.{and_left, impossible}
 use Rattle.table_trees.specs.StoredTables.{StoredTable}
 use Rattle.version_store.specs.declared.calls.By.{By}

@@ -7,8 +7,8 @@ use Rattle.std.specs.Ordering.{is_lt, nat_cmp}
 use Rattle.std.specs.Cmp.Lexicographic.{slice_cmp}
 use Rattle.index_derive.specs.Derived.{is_above, next_in}
 use Rattle.record_changes.proofs.Tests.{impossible, refuted}
-use Rattle.table_versions.proofs.Neighbours.{fewer, found_in}
-use Rattle.table_versions.proofs.Order.{lt_lt, not_below_itself}
+use Rattle.versioned_tables.proofs.Neighbours.{fewer, found_in}
+use Rattle.versioned_tables.proofs.Order.{lt_lt, not_below_itself}
 use Rattle.table_versions.proofs.StoredRules.{found_all}
 use Rattle.table_versions.proofs.WithKey.{filter_alike}
 

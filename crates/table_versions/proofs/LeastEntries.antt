@@ -36,7 +36,7 @@ use Rattle.table_versions.specs.VersionsKept.{AreKept, IsKeptChange, IsKeptTable
 use Rattle.table_versions.proofs.NodeRecords.{record_at, turned}
 use Rattle.table_versions.proofs.OwnOrder.{order_is, rows_rise, seen_is_variant, seen_rise}
 use Rattle.table_versions.proofs.SeenRecords.{record_seen, seen_is}
-use Rattle.table_versions.proofs.ShownEntries.{seen_at_id}
+use Rattle.versioned_tables.proofs.SeenTables.{seen_at_id}
 use Rattle.table_versions.proofs.Tables.{found_number, table_at}
 
 -- ---- the entries of the records that a reader sees

@@ -1,11 +1,8 @@
-pub mod Lists
 pub mod NodeRecords
 pub mod SeenRecords
 pub mod Tables
 pub mod Told
 pub mod FormedRecords
-pub mod Order
-pub mod Neighbours
 pub mod OwnOrder
 pub mod ShownEntries
 pub mod SeenOrder

@@ -14,7 +14,7 @@ use Rattle.common_lemmas.proofs.Orders.{less-irreflexive}
 use Rattle.record_changes.proofs.Tests.{and_left, and_right, equal_bytes, impossible, refuted, same_bytes}
 use Rattle.table_trees.specs.StoredNodes.{bookmark_entries}
 use Rattle.table_versions.specs.RecordRows.{record_of, row_in_node, row_under, rows_of_nodes, with_record}
-use Rattle.table_versions.proofs.Order.{is_less}
+use Rattle.versioned_tables.proofs.Order.{is_less}
 
 -- ---- tests of bookmarks
 

@@ -10,9 +10,9 @@ use Rattle.index_derive.specs.declared.entries.Place.TheVariants.{On}
 use Rattle.cursor_nav.specs.Places.{Pair, are_sorted, is_beyond, pair_lt}
 use Rattle.record_changes.proofs.Tests.{and_left, and_right, equal_bytes, impossible, refuted}
 use Rattle.table_trees.specs.StoredNodes.{bookmark_entries, node_after}
-use Rattle.table_versions.proofs.Neighbours.{IsIn, all_in, fewer, found_in}
+use Rattle.versioned_tables.proofs.Neighbours.{IsIn, all_in, fewer, found_in}
 use Rattle.table_versions.proofs.NodeRecords.{apart, key_is}
-use Rattle.table_versions.proofs.Order.{beyond_more, not_back, not_itself}
+use Rattle.versioned_tables.proofs.Order.{beyond_more, not_back, not_itself}
 
 -- whether a bookmark lies beyond a place, and a node does
 abbrev pub is_past : Place → List ℕ → Bool

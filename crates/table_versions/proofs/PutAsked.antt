@@ -27,7 +27,7 @@ use Rattle.table_versions.specs.PutRecords.{AreKeysOfRecords, CanTake, HasVarian
 use Rattle.table_versions.specs.RecordRows.{IsRecordRow, held_record, record_of, row_under, rows_of_nodes}
 use Rattle.table_versions.specs.VersionsKept.{AreKept, IsKeptChange, IsKeptTable, IsRowOf, IsRowUnder, IsStoredRule, needed_trees, only_secondary, secondary_rule, secondary_rules, tree_numbers}
 use Rattle.table_versions.proofs.KeysPut.{list_any_numbers}
-use Rattle.table_versions.proofs.Lists.{all_append, all_filter}
+use Rattle.versioned_tables.proofs.Lists.{all_append, all_filter}
 use Rattle.table_versions.proofs.NodeRecords.{record_at}
 use Rattle.table_versions.proofs.Tables.{found_number}
 

@@ -39,7 +39,7 @@ use Rattle.table_versions.proofs.DroppedRecords.{room_in, turned_number}
 use Rattle.table_versions.proofs.Held.{appended}
 use Rattle.table_versions.proofs.HalfPuts.{secondary_found}
 use Rattle.table_versions.proofs.KeysPut.{record_yields}
-use Rattle.table_versions.proofs.Lists.{all_append}
+use Rattle.versioned_tables.proofs.Lists.{all_append}
 use Rattle.table_versions.proofs.NodeRecords.{record_at, turned}
 use Rattle.table_versions.proofs.OwnOrder.{rows_rise}
 use Rattle.table_versions.proofs.Span.{RowSizes, same_cost}

@@ -17,11 +17,11 @@ use Rattle.table_versions.specs.RecordRows.{IsRecordRow}
 use Rattle.table_versions.specs.VersionsKept.{tree_numbers}
 use Rattle.table_versions.specs.LostColumns.{HasNodes, HoldsRecord, node_without, row_without}
 use Rattle.table_versions.proofs.Dropped.{same_numbers}
-use Rattle.table_versions.proofs.Neighbours.{IsIn, found_in}
+use Rattle.versioned_tables.proofs.Neighbours.{IsIn, found_in}
 use Rattle.table_versions.proofs.NodeRecords.{apart, key_is}
 use Rattle.table_versions.proofs.NodeWalks.{IsNode, fewer_nodes, is_node_past, nodes_left}
 use Rattle.table_versions.proofs.UndoneThere.{table_of_node}
-use Rattle.table_versions.proofs.Order.{beyond_more, not_itself}
+use Rattle.versioned_tables.proofs.Order.{beyond_more, not_itself}
 
 -- the nodes once those up to a place are written anew
 abbrev pub rewritten : Place → ℕ → List Node → List Node

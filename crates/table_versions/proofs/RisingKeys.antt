@@ -9,7 +9,7 @@ use Rattle.std.specs.Cmp.Lexicographic.{slice_cmp, nat_list_cmp_total}
 use Rattle.common_lemmas.proofs.Orders.{less-asymmetric, less-irreflexive}
 use Rattle.index_derive.specs.Derived.{is_above, next_in}
 use Rattle.record_changes.proofs.Tests.{refuted}
-use Rattle.table_versions.proofs.Order.{is_less}
+use Rattle.versioned_tables.proofs.Order.{is_less}
 
 abbrev pub Rise : List (List ℕ) → Type 0
 Rise keys = IsStrictlySortedBy (slice_cmp nat_cmp) keys

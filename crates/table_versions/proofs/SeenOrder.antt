@@ -16,7 +16,8 @@ use Rattle.table_versions.specs.StoredVersions.{StoredVersions, entries_in, seen
 use Rattle.table_versions.specs.VersionsView.{stored_versions}
 use Rattle.table_versions.specs.VersionsKept.{AreKept, only_secondary}
 use Rattle.table_versions.specs.Walks.{is_shown, stored_entries}
-use Rattle.table_versions.proofs.ShownEntries.{WalkLaws, seen_at_id, seen_of_stored, stored_sorted}
+use Rattle.versioned_tables.proofs.SeenTables.{seen_at_id}
+use Rattle.table_versions.proofs.ShownEntries.{WalkLaws, seen_of_stored, stored_sorted}
 
 -- what holds of no entries, and of each part of the stored ones, holds of those that a reader sees
 seen_by_stored : WalkLaws → (catalog : CatalogState) (trees : List StoredTable) (held : List HeldChange) → AreKept catalog.tables trees held → ((table : ℕ) → are_sorted (bookmark_entries (table_nodes trees table)) ≡ true) → ((table index : ℕ) → are_sorted (entries_in_tree trees table index) ≡ true)

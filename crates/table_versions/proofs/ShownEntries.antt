@@ -15,6 +15,7 @@ use Rattle.version_store.specs.HeldChanges.{HeldChange}
 use Rattle.versioned_tables.specs.HeldRecords.{HeldRecord, seen_record}
 use Rattle.versioned_tables.specs.VersionedTables.{VersionedTables, seen_rows, seen_table}
 use Rattle.versioned_tables.specs.Variants.{HoldsVariants, shown_entries}
+use Rattle.versioned_tables.proofs.SeenTables.{seen_at_id}
 use Rattle.versioned_tables.specs.Holding.{RowsRise}
 use Rattle.table_versions.specs.RecordRows.{held_record, rows_of_nodes}
 use Rattle.table_versions.specs.StoredVersions.{StoredVersions, entries_in, seen_entries}
@@ -33,15 +34,6 @@ WalksSeen =
 pub record WalkLaws : Type 0 where
   pub walks : WalksSeen
   pub own : Laws
-
-pub seen_at_id : (reader : Reader) (held : List HeldRecord) (tables : List Table) (id : ℕ) → table_with_id (map (seen_table reader held) tables) id ≡ option_map (seen_table reader held) (table_with_id tables id)
-seen_at_id reader held [] id = refl
-seen_at_id reader held (t ∷ tables) id = by (t.id == id) (seen_at_id reader held tables id)
-  where
-    by : (b : Bool) → table_with_id (map (seen_table reader held) tables) id ≡ option_map (seen_table reader held) (table_with_id tables id)
-        → cond b (Some (seen_table reader held t)) (table_with_id (map (seen_table reader held) tables) id) ≡ option_map (seen_table reader held) (cond b (Some t) (table_with_id tables id))
-    by true rest = refl
-    by false rest = rest
 
 abbrev rule_among : List IndexRule → ℕ → Option IndexRule
 rule_among rules index = find (λ r. r.id.0 == index) rules

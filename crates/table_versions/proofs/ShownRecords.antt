@@ -20,7 +20,8 @@ use Rattle.table_versions.specs.VersionsView.{stored_versions, with_newest}
 use Rattle.table_versions.specs.VersionsKept.{AreKept, IsKeptTable}
 use Rattle.table_versions.specs.Walks.{is_seen}
 use Rattle.table_versions.proofs.OwnOrder.{Laws, own_order_is}
-use Rattle.table_versions.proofs.ShownEntries.{seen_at_id, store_of}
+use Rattle.versioned_tables.proofs.SeenTables.{seen_at_id}
+use Rattle.table_versions.proofs.ShownEntries.{store_of}
 use Rattle.table_versions.proofs.Tables.{found_number, no_nodes, table_at}
 
 in_store : Laws → (tables : List Table) (trees : List StoredTable) (held : List HeldChange) → AreKept tables trees held → ((table : ℕ) → are_sorted (bookmark_entries (table_nodes trees table)) ≡ true) → (id : ℕ) (reader : Reader)

@@ -3,7 +3,7 @@ use Rattle.std.proofs.Common.{◌≡◌, ℕ, zero, suc, ◌≤◌, Bool, true, 
 use Rattle.std.specs.Prelude.{◌==◌, slice_get, IfSome, IsSomeAnd, unwrap_or}
 use Rattle.std.specs.List.{AllByRecursion}
 use Rattle.database_state.specs.Table.{Table, rule_with_id, schema_of, table_with_id}
-use Rattle.table_versions.proofs.Lists.{all_append, all_filter}
+use Rattle.versioned_tables.proofs.Lists.{all_append, all_filter}
 use Rattle.index_derive.specs.declared.rules.IndexRule.{IndexRule}
 use Rattle.index_derive.specs.declared.rules.Schema.{Schema}
 use Rattle.index_derive.specs.Entries.{is_legal}

@@ -7,8 +7,8 @@ use Rattle.cursor_nav.specs.Places.{Pair, are_sorted, entry_after, is_beyond, pa
 use Rattle.index_derive.specs.declared.entries.Place.{Place}
 use Rattle.index_derive.specs.declared.entries.Place.TheVariants.{Gap, On}
 use Rattle.record_changes.proofs.Tests.{and_false, and_left, and_right, impossible, refuted, same_bytes}
-use Rattle.table_versions.proofs.Neighbours.{above_all, all_in, found_in}
-use Rattle.table_versions.proofs.Order.{beyond_more, keys_of, le_itself, lt_le, not_back, not_below_itself, not_itself}
+use Rattle.versioned_tables.proofs.Neighbours.{above_all, all_in, found_in}
+use Rattle.versioned_tables.proofs.Order.{beyond_more, keys_of, le_itself, lt_le, not_back, not_below_itself, not_itself}
 
 -- ---- some entries of a list
 

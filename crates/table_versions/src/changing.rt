@@ -10,11 +10,11 @@ ghost use Rattle.versioned_tables.specs.VersionedTables.{with_change};
 ghost use Rattle.table_versions.specs.PutRecords.{IsStorable, put_values};
 ghost use Rattle.table_versions.specs.StoredVersions.{has_room};
 
-use crate::putting::{put_in, rows_are_read_back};
+use crate::putting::put_in;
 use crate::reading::row_in_node;
 use crate::store::TableVersions;
 use crate::telling::{bookmark_of, table_of};
-use column_set::{Change, Record, size_of_a_row, values_here_are_the_record};
+use column_set::{Change, Record, rows_are_read_back, size_of_a_row, values_here_are_the_record};
 use table_trees::{nodes_after_a_change, nodes_by_bookmark};
 use version_store::{By, VersionFault};
 

@@ -244,8 +244,3 @@ pub(crate) fn put_in(
         }
     }
 }
-
-/// The row that has the bytes of a row is that row.
-pub(crate) fn rows_are_read_back()
-    ensures { (row : RowFields) → IsTrue (is_row row) → row_in (row_bytes row) ≡ row }
-{}

@@ -10,10 +10,10 @@ ghost use Rattle.table_versions.specs.LostColumns.{HasNodes, HoldsRecord, node_w
 ghost use Rattle.table_versions.specs.SchemaSteps.{IsMade, after_step};
 ghost use Rattle.table_versions.specs.VersionsKept.{AreKept};
 
-use crate::putting::rows_are_read_back;
 use crate::store::TableVersions;
 use crate::walking::own_entry;
 use arrayvec::ArrayVec;
+use column_set::rows_are_read_back;
 use index_derive::{Place, SchemaStep};
 use jet_base::{ColumnId, OutOfMemory, TableId};
 use jet_catalog::Catalog;

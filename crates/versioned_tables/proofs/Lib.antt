@@ -17,3 +17,6 @@ pub mod VariantKeys
 pub mod TablesInOrder
 pub mod OneByOne
 pub mod SeenTables
+pub mod Lists
+pub mod Order
+pub mod Neighbours

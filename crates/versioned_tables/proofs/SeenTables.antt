@@ -9,9 +9,10 @@ use Rattle.versioned_tables.specs.HeldRecords.{HeldRecord, seen_record}
 use Rattle.versioned_tables.specs.VersionedTables.{VersionedTables, seen_table, seen_tables}
 use Rattle.versioned_tables.proofs.SeenRows.{seen_at}
 
-table_at : (reader : Reader) (held : List HeldRecord) (tables : List Table) (id : ℕ) → table_with_id (map (seen_table reader held) tables) id ≡ option_map (seen_table reader held) (table_with_id tables id)
-table_at reader held [] id = refl
-table_at reader held (t ∷ tables) id = by (t.id == id) (table_at reader held tables id)
+-- what the table with a number shows a reader
+pub seen_at_id : (reader : Reader) (held : List HeldRecord) (tables : List Table) (id : ℕ) → table_with_id (map (seen_table reader held) tables) id ≡ option_map (seen_table reader held) (table_with_id tables id)
+seen_at_id reader held [] id = refl
+seen_at_id reader held (t ∷ tables) id = by (t.id == id) (seen_at_id reader held tables id)
   where
     by : (b : Bool) → table_with_id (map (seen_table reader held) tables) id ≡ option_map (seen_table reader held) (table_with_id tables id)
         → cond b (Some (seen_table reader held t)) (table_with_id (map (seen_table reader held) tables) id) ≡ option_map (seen_table reader held) (cond b (Some t) (table_with_id tables id))
@@ -21,7 +22,7 @@ table_at reader held (t ∷ tables) id = by (t.id == id) (table_at reader held t
 pub seen_record_in : (reader : Reader) (store : VersionedTables) (table : ℕ) (bookmark : List ℕ) → is_some (table_with_id store.tables table) ≡ true
     → record_in (seen_tables reader store) table bookmark ≡ seen_record table bookmark reader (record_in store.tables table bookmark) store.held
 seen_record_in reader store table bookmark there =
-    ap (λ o. row_at (rows_of o) bookmark) (table_at reader store.held store.tables table) ∙ by (table_with_id store.tables table) refl there
+    ap (λ o. row_at (rows_of o) bookmark) (seen_at_id reader store.held store.tables table) ∙ by (table_with_id store.tables table) refl there
   where
     by : (o : Option Table) → table_with_id store.tables table ≡ o → is_some o ≡ true
         → row_at (rows_of (option_map (seen_table reader store.held) o)) bookmark ≡ seen_record table bookmark reader (row_at (rows_of o) bookmark) store.held

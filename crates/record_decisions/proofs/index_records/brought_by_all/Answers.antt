@@ -7,7 +7,7 @@ use Rattle.index_derive.specs.declared.rules.IndexRule.{IndexRule}
 use Rattle.index_derive.specs.declared.rules.Schema.{Schema}
 use Rattle.index_derive.specs.Derived.{IsDerived}
 use Rattle.index_derive.specs.Entries.{KeyRefusal, entries, own_order}
-use Rattle.table_versions.proofs.Neighbours.{fewer_left, left_from}
+use Rattle.versioned_tables.proofs.Neighbours.{fewer_left, left_from}
 use Rattle.versioned_tables.specs.HeldRecords.{seen_record}
 use Rattle.versioned_tables.specs.VersionedTables.{VersionedTables, seen_tables}
 use Rattle.record_decisions.specs.CreatingIndexes.{entries_of, rows_shown}

@@ -5,7 +5,7 @@ use Rattle.index_derive.specs.declared.entries.IndexEntry.{IndexEntry}
 use Rattle.index_derive.specs.declared.entries.Place.TheVariants.{Gap}
 use Rattle.record_changes.proofs.Tests.{not_true}
 use Rattle.table_trees.specs.StoredTables.{index_entries}
-use Rattle.table_versions.proofs.Neighbours.{fewer_left, left_from}
+use Rattle.versioned_tables.proofs.Neighbours.{fewer_left, left_from}
 use Rattle.table_versions.proofs.StoredConflicts.{OfRecord, conflict_in_tree, rule_in_store}
 use Rattle.table_versions.proofs.WithKey.{KeyWalk, not_false, walk_begins, walk_ends, walk_finds, walk_goes_on, walk_passes}
 use Rattle.table_versions.proofs.store.TableVersions.conflict_at_entries.Goals as goal

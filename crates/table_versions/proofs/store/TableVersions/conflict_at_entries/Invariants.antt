@@ -1,6 +1,6 @@
 use Rattle.cursor_nav.specs.Places.{found_pair}
 use Rattle.table_trees.specs.StoredTables.{index_entries}
-use Rattle.table_versions.proofs.Neighbours.{left_from}
+use Rattle.versioned_tables.proofs.Neighbours.{left_from}
 use Rattle.table_versions.proofs.StoredConflicts.{OfRecord}
 use Rattle.table_versions.proofs.WithKey.{KeyWalk}
 use Rattle.table_versions.proofs.store.TableVersions.conflict_at_entries.Given as goal

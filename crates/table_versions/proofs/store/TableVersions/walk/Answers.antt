@@ -5,7 +5,7 @@ use Rattle.index_derive.specs.declared.entries.IndexEntry.{IndexEntry}
 use Rattle.index_derive.specs.declared.entries.Place.TheVariants.{On}
 use Rattle.table_versions.specs.StoredVersions.{seen_entries}
 use Rattle.table_versions.specs.Walks.{is_shown, stored_entries}
-use Rattle.table_versions.proofs.Neighbours.{fewer_left, left_from, shown_after, shown_from}
+use Rattle.versioned_tables.proofs.Neighbours.{fewer_left, left_from, shown_after, shown_from}
 use Rattle.table_versions.proofs.ShownEntries.{seen_of_stored, stored_sorted}
 use Rattle.table_versions.proofs.StoredRules.{legal_in_store}
 use Rattle.table_versions.proofs.store.TableVersions.walk.Goals as goal

@@ -6,7 +6,7 @@ use Rattle.index_derive.specs.declared.entries.Place.TheVariants.{On}
 use Rattle.table_trees.specs.StoredNodes.{bookmark_entries}
 use Rattle.table_trees.specs.StoredTables.{table_nodes}
 use Rattle.table_versions.specs.Walks.{is_seen}
-use Rattle.table_versions.proofs.Neighbours.{fewer_left, left_from, shown_after, shown_from}
+use Rattle.versioned_tables.proofs.Neighbours.{fewer_left, left_from, shown_after, shown_from}
 use Rattle.table_versions.proofs.ShownRecords.{seen_of_nodes}
 use Rattle.table_versions.proofs.store.TableVersions.walk_records.Goals as goal
 

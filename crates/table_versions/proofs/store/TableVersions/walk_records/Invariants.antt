@@ -3,7 +3,7 @@ use Rattle.cursor_nav.specs.Places.{entry_after, found_pair}
 use Rattle.table_trees.specs.StoredNodes.{bookmark_entries}
 use Rattle.table_trees.specs.StoredTables.{table_nodes}
 use Rattle.table_versions.specs.Walks.{is_seen}
-use Rattle.table_versions.proofs.Neighbours.{left_from, shown_from}
+use Rattle.versioned_tables.proofs.Neighbours.{left_from, shown_from}
 use Rattle.table_versions.proofs.store.TableVersions.walk_records.Given as goal
 
 -- the bookmark that was found, or else the next one that is shown, is the one that is looked for

@@ -5,9 +5,9 @@ use Rattle.std.specs.List.{AllByRecursion, last_or, list_all}
 use Rattle.index_derive.specs.declared.entries.Place.{Place}
 use Rattle.index_derive.specs.declared.entries.Place.TheVariants.{On}
 use Rattle.cursor_nav.specs.Places.{Pair, are_sorted, entry_after, entry_before, is_beyond, is_short_of, pair_lt}
-use Rattle.table_versions.proofs.Lists.{all_filter, filter_none}
+use Rattle.versioned_tables.proofs.Lists.{all_filter, filter_none}
 use Rattle.record_changes.proofs.Tests.{and_left, and_right, impossible}
-use Rattle.table_versions.proofs.Order.{beyond_more, lt_trans, not_back, not_itself, short_more}
+use Rattle.versioned_tables.proofs.Order.{beyond_more, lt_trans, not_back, not_itself, short_more}
 
 same_some : {X : Type 0} (x y : X) → Some x ≡ Some y → x ≡ y
 same_some {X} x y e = ap (λ (o : Option X). unwrap_or o x) e

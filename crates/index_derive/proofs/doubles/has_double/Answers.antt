@@ -1,8 +1,8 @@
 use Rattle.std.proofs.Common.{ℕ, length, ap, ◌∙◌}
 use Rattle.std.specs.Prelude.{nat_lt}
 use Rattle.std.proofs.lemmas.List.Filters.{dedup_is}
-use Rattle.record_decisions.proofs.DoubleKeys.{fewer_once}
-use Rattle.record_decisions.proofs.index_records.has_double.Goals as goal
+use Rattle.index_derive.proofs.DoubleKeys.{fewer_once}
+use Rattle.index_derive.proofs.doubles.has_double.Goals as goal
 
 pub returns : goal.returns
 returns c =
