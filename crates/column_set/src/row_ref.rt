@@ -4,7 +4,7 @@ ghost use Rattle.std.specs.Prelude.{◌≡◌, ◌≤◌, ℕ, List, length, sli
 ghost use Rattle.std.specs.List.{flat_map};
 ghost use Rattle.column_set.specs.declared.rows.RowValue.{RowValue};
 ghost use Rattle.column_set.specs.Rows.{IsRowBytes, RowFields, apart_at, here_fields, is_row, row_bytes, row_values_of, value_bytes, values_in_order};
-ghost use Rattle.column_set.specs.RowReading.{are_in_order, of_column};
+ghost use Rattle.column_set.specs.RowReading.{are_in_order, of_column, row_in};
 ghost use Rattle.column_set.specs.RowSeen.{Sees, seen};
 
 use crate::reading::{ValueRef, value};
