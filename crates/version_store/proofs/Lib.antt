@@ -8,3 +8,4 @@ pub mod RecordLemmas
 pub mod SpanLemmas
 pub mod SpanSteps
 pub mod WalkLemmas
+pub mod SumLemmas

@@ -51,7 +51,7 @@ walk-falls slot slots end next walk some is =
 abbrev pub HasSlot : (HeldChange → Bool) → ℕ → Type 0
 HasSlot test slot = (held : HeldChange) → test held ≡ true → held_slot held ≡ slot
 
-off : (test : HeldChange → Bool) (slot : ℕ) (held : HeldChange) → HasSlot test slot → (held_slot held == slot) ≡ false → test held ≡ false
+pub off : (test : HeldChange → Bool) (slot : ℕ) (held : HeldChange) → HasSlot test slot → (held_slot held == slot) ≡ false → test held ≡ false
 off test slot held only e = not_here (test held) refl
   where
     not_here : (b : Bool) → test held ≡ b → b ≡ false
@@ -155,6 +155,43 @@ find-step test slot changes slots end next d found only are walk some is =
     ap (λ (o : Option HeldChange). option_or o (option_or (if test h then Some h else None) found)) (ap (find test) f.front ∙ find-latest test slot (take (end - 1) changes) only)
     ∙ sym (or-assoc (find test (take (end - 1) changes)) (if test h then Some h else None) found)
     ∙ ap (λ (o : Option HeldChange). option_or o found) (sym (ap (find test) (take_last changes end d some f.within) ∙ find-append test (take (end - 1) changes) (h ∷ [])))
+
+-- ---- what a change makes of what stands for those behind it, where a change of another slot leaves that
+
+-- the changes of a list, oldest first, from the newest back
+abbrev pub from_the_newest : {X : Type 0} → (HeldChange → X → X) → X → List HeldChange → X
+from_the_newest step after [] = after
+from_the_newest step after (held ∷ changes) = step held (from_the_newest step after changes)
+
+abbrev pub LeavesOthers : {X : Type 0} → (HeldChange → X → X) → ℕ → Type 0
+LeavesOthers {X} step slot = (held : HeldChange) (after : X) → (held_slot held == slot) ≡ false → step held after ≡ after
+
+newest-append : {X : Type 0} (step : HeldChange → X → X) (after : X) (changes : List HeldChange) (last : HeldChange) → from_the_newest step after (changes ++ last ∷ []) ≡ from_the_newest step (step last after) changes
+newest-append step after [] last = refl
+newest-append step after (h ∷ changes) last = ap (step h) (newest-append step after changes last)
+
+newest-latest : {X : Type 0} (step : HeldChange → X → X) (slot : ℕ) (changes : List HeldChange) (after : X) → LeavesOthers step slot → from_the_newest step after (take (latest slot (map held_slot changes)) changes) ≡ from_the_newest step after changes
+newest-latest step slot [] after leaves = refl
+newest-latest {X} step slot (h ∷ changes) after leaves = at (newest-latest step slot changes after leaves) (latest slot (map held_slot changes)) refl
+  where
+    first : (b : Bool) → (held_slot h == slot) ≡ b → after ≡ from_the_newest step after changes → from_the_newest step after (take (one_later b 0) (h ∷ changes)) ≡ step h (from_the_newest step after changes)
+    first true e none = ap (step h) none
+    first false e none = none ∙ sym (leaves h (from_the_newest step after changes) e)
+
+    at : from_the_newest step after (take (latest slot (map held_slot changes)) changes) ≡ from_the_newest step after changes → (n : ℕ) → latest slot (map held_slot changes) ≡ n → from_the_newest step after (take (one_later (held_slot h == slot) n) (h ∷ changes)) ≡ step h (from_the_newest step after changes)
+    at rest zero e = first (held_slot h == slot) refl (sym (ap (λ (k : ℕ). from_the_newest step after (take k changes)) e) ∙ rest)
+    at rest (suc n) e = ap (step h) (ap (λ (k : ℕ). from_the_newest step after (take k changes)) (sym e) ∙ rest)
+
+pub newest-start : {X : Type 0} (step : HeldChange → X → X) (slot : ℕ) (changes : List HeldChange) (slots : List ℕ) (after : X) → LeavesOthers step slot → slots ≡ map held_slot changes → from_the_newest step after (take (latest slot slots) changes) ≡ from_the_newest step after changes
+newest-start step slot changes slots after leaves are = ap (λ (l : List ℕ). from_the_newest step after (take (latest slot l) changes)) are ∙ newest-latest step slot changes after leaves
+
+pub newest-step : {X : Type 0} (step : HeldChange → X → X) (slot : ℕ) (changes : List HeldChange) (slots : List ℕ) (end next : ℕ) (d : HeldChange) (after : X) → LeavesOthers step slot → slots ≡ map held_slot changes → Walk slot slots end → 0 < end → next ≡ latest (get_or slots (end - 1) 0) (take (end - 1) slots)
+    → from_the_newest step (step (get_or changes (end - 1) d) after) (take next changes) ≡ from_the_newest step after (take end changes)
+newest-step step slot changes slots end next d after leaves are walk some is =
+    let f = front-at slot changes slots end next are walk some is in
+    let h : HeldChange = get_or changes (end - 1) d in
+    ap (from_the_newest step (step h after)) f.front ∙ newest-latest step slot (take (end - 1) changes) (step h after) leaves
+    ∙ sym (ap (from_the_newest step after) (take_last changes end d some f.within) ∙ newest-append step after (take (end - 1) changes) h)
 
 -- the place of the item just passed, where it passes the test, and else the one that was found
 pub later-at : (changes : List HeldChange) (place : ℕ) (d : HeldChange) (b : Bool) (o : Option ℕ) → place < length changes → change_at changes (option_or (if b then Some place else None) o) ≡ option_or (if b then Some (get_or changes place d) else None) (change_at changes o)

@@ -6,3 +6,4 @@ pub mod Kept
 pub mod OpenChanges
 pub mod Samples
 pub mod Slots
+pub mod Sums

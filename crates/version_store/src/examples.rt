@@ -1,9 +1,11 @@
 //! Worked examples. Each function has an empty body, and its clause says what the definitions give.
 
-ghost use Rattle.std.specs.Prelude.{◌≡◌, [], ◌∷◌, ◌++◌, true, false, Some, None, map, replicate};
+ghost use Rattle.std.specs.Prelude.{◌≡◌, [], ◌∷◌, ◌++◌, true, false, Some, None, map, replicate, negsuc};
 ghost use Rattle.database_state.specs.State.{uncommitted, committed, undone};
 ghost use Rattle.version_store.specs.declared.calls.ChangeKind.TheVariants as kind;
 ghost use Rattle.version_store.specs.HeldChanges.{seen_row, current, row_before, absent, has_conflict, span, has_room, newest_undone, released_change, committed_change, with_status};
+ghost use Rattle.version_store.specs.Sums.{unseen_sum};
+ghost use Rattle.jet_base.specs.Ids.{column_id};
 ghost use Rattle.version_store.specs.Samples.{sample, sample_at, reader_of, by_first, dropped, added, sum};
 
 /// A reader sees the row before the oldest put that was committed after its begin, or that is open elsewhere.
@@ -52,4 +54,19 @@ pub fn levels()
         ≡ sample_at 1 1 kind.Put None uncommitted ∷ sample_at 1 1 kind.Drop None undone ∷ sample_at 1 2 kind.Hold None uncommitted ∷ [] }
     ensures commit { map (committed_change 1 9) (sample 1 kind.Put None uncommitted ∷ sample 1 kind.Put None undone ∷ sample 2 kind.Put None uncommitted ∷ [])
         ≡ sample 1 kind.Put None (committed 9) ∷ sample 1 kind.Put None undone ∷ sample 2 kind.Put None uncommitted ∷ [] }
+{}
+
+/// A reader does not see the sums of others that are open or were committed after its begin. Those behind a put that it does
+/// not see either are no part of the row that it sees, and those of another column are of no matter.
+pub fn sums_of_readers()
+    ensures open_elsewhere { unseen_sum 1 (1 ∷ []) 2 (reader_of 2 (Some 5)) (sample 1 sum None uncommitted ∷ []) ≡ 5 }
+    ensures its_own { unseen_sum 1 (1 ∷ []) 2 (reader_of 1 (Some 5)) (sample 1 sum None uncommitted ∷ []) ≡ 0 }
+    ensures committed_before { unseen_sum 1 (1 ∷ []) 2 (reader_of 2 (Some 5)) (sample 1 sum None (committed 5) ∷ []) ≡ 0 }
+    ensures committed_since { unseen_sum 1 (1 ∷ []) 2 (reader_of 2 (Some 5)) (sample 1 sum None (committed 6) ∷ []) ≡ 5 }
+    ensures outside_a_transaction { unseen_sum 1 (1 ∷ []) 2 (reader_of 2 None) (sample 1 sum None (committed 6) ∷ sample 3 sum None uncommitted ∷ []) ≡ 5 }
+    ensures undone_again { unseen_sum 1 (1 ∷ []) 2 (reader_of 2 (Some 5)) (sample 1 sum None undone ∷ []) ≡ 0 }
+    ensures another_column { unseen_sum 1 (1 ∷ []) 3 (reader_of 2 (Some 5)) (sample 1 sum None uncommitted ∷ []) ≡ 0 }
+    ensures before_a_put { unseen_sum 1 (1 ∷ []) 2 (reader_of 2 (Some 5)) (sample 1 sum None (committed 6) ∷ sample 1 kind.Put None uncommitted ∷ sample 1 sum None uncommitted ∷ []) ≡ 5 }
+    ensures behind_a_put { unseen_sum 1 (1 ∷ []) 2 (reader_of 2 (Some 5)) (sample 1 kind.Put None uncommitted ∷ sample 1 sum None uncommitted ∷ []) ≡ 0 }
+    ensures wrapping { unseen_sum 1 (1 ∷ []) 2 (reader_of 2 (Some 5)) (sample 1 sum None uncommitted ∷ sample 3 (kind.Add (column_id 2) (negsuc 6)) None uncommitted ∷ []) ≡ 4294967294 }
 {}

@@ -4,10 +4,11 @@ ghost use Rattle.std.specs.Prelude.{◌≡◌, ◌≤◌, [], option_copied, len
 ghost use Rattle.version_store.specs.HeldChanges.{kind_of, is_add, is_rewrite, cost, is_after, is_record, is_unseen, is_concurrent, is_standing, is_standing_rewrite, hides, conflicts, is_kept, is_open_of, is_open_at};
 ghost use Rattle.database_state.specs.Changes.{changed_table, changed_bookmark};
 ghost use Rattle.version_store.specs.Items.{held_change, row_of, released_item, committed_item};
+ghost use Rattle.version_store.specs.Sums.{amount_on, unseen_with};
 
 use crate::calls::{By, ChangeKind, Reader};
 use column_set::{Bookmark, Change};
-use jet_base::{Session, TableId};
+use jet_base::{ColumnId, Session, TableId};
 
 /// The bytes that a change costs without its row.
 const COST: u64 = 64;
@@ -96,6 +97,16 @@ fn rewrites(kind: ChangeKind) -> bool
     }
 }
 
+// What it adds to the column, as a number of 32 bits.
+fn amount_on(kind: ChangeKind, column: ColumnId) -> u32
+    ensures { result ≡ amount_on column.0 kind }
+{
+    match kind {
+        ChangeKind::Add(other, amount) if other.0 == column.0 => amount.cast_unsigned(),
+        _ => 0,
+    }
+}
+
 /// The bytes that a change costs.
 pub(crate) fn cost_of(change: &Change, before: Option<&[u8]>) -> u64
     requires { length (unwrap_or (option_copied before) []) ≤ 4096 }
@@ -155,6 +166,26 @@ impl Item {
         ensures { result ≡ hides table.0 bookmark.now reader (held_change self.now []) }
     {
         self.is_record(table, bookmark) && rewrites(self.kind) && self.is_unseen(reader)
+    }
+
+    /// What the reader does not see of a column's sums from this change on, where it does not see `after` of those behind it.
+    pub(crate) fn unseen_with(
+        &self,
+        table: TableId,
+        bookmark: &[u8],
+        column: ColumnId,
+        reader: Reader,
+        after: u32,
+    ) -> u32
+        ensures { result ≡ unseen_with table.0 bookmark.now column.0 reader (held_change self.now []) after }
+    {
+        if !(self.is_record(table, bookmark) && self.is_unseen(reader)) {
+            after
+        } else if rewrites(self.kind) {
+            0
+        } else {
+            amount_on(self.kind, column).wrapping_add(after)
+        }
     }
 
     /// Whether it is a put or a drop that is not undone.

@@ -5,6 +5,7 @@ ghost use Rattle.std.specs.List.{list_any};
 ghost use Rattle.version_store.specs.declared.fault.VersionFault.TheVariants as fault;
 ghost use Rattle.version_store.specs.Answers.{change_at};
 ghost use Rattle.version_store.specs.HeldChanges.{HeldChange, is_concurrent, is_kept, is_record, is_standing, is_standing_rewrite, new_change, has_conflict, has_room, span as the_span, seen_row, shown, hides, conflicts, last_place, is_open_at, newest_undone, released_change, committed_change};
+ghost use Rattle.version_store.specs.Sums.{unseen_sum};
 
 use crate::calls::{By, ChangeKind, Reader, Undone, Variant};
 use crate::chains::Chains;
@@ -17,7 +18,7 @@ use crate::item::{Item, Status, bookmark_of, cost_of, row_parts, table_of, what}
 use crate::records::{newest_standing, newest_touching};
 use crate::slot::slot_of;
 use column_set::{Bookmark, Change};
-use jet_base::{OutOfMemory, Session, TableId};
+use jet_base::{ColumnId, OutOfMemory, Session, TableId};
 use std::alloc::Global;
 use std::collections::VecDeque;
 use std::marker::Model;
@@ -204,6 +205,29 @@ impl Versions {
             },
             None => Variant::Current,
         }
+    }
+
+    /// What of a column's sum the reader does not see: the wrapping sum of the amounts on the column of the record that are
+    /// open in other sessions or were committed after its begin, of those that stand before the oldest put or drop that it does
+    /// not see. The row of [`Versions::variant`] has them in its sum, and the sum without them is the reader's. It takes no
+    /// memory.
+    pub fn unseen_sum(
+        &self,
+        table: TableId,
+        bookmark: &[u8],
+        column: ColumnId,
+        reader: Reader,
+    ) -> u32
+        ensures { result ≡ unseen_sum table.0 bookmark.now column.0 reader self.now }
+    {
+        let mut sum = 0;
+        let mut end = self.chains.newest(slot_of(table, bookmark));
+        while end > 0 {
+            let place = end - 1;
+            sum = self.items[place].unseen_with(table, bookmark, column, reader, sum);
+            end = self.chains.before(place);
+        }
+        sum
     }
 
     // The place of the oldest put or drop of the record that the reader does not see.
