@@ -26,7 +26,7 @@ use Rattle.version_history.proofs.LawfulEntries.{outside}
 use Rattle.version_history.proofs.Lists.{all_both, all_true, each_and, each_append, each_both, each_map}
 use Rattle.version_history.proofs.Transactions.{same-with, transaction-begun, transaction-ended, transaction-entered, transaction-left, transaction-levels}
 use Rattle.version_keys.specs.UniqueKeys.{BringsFreeKeys, BringsKey, HasFreeKeys, InKeyOrder, MeetsKey, SeesEarlier}
-use Rattle.version_keys.specs.Variants.{HasNoSums}
+use Rattle.version_keys.specs.KeySums.{SeesNoSum}
 use Rattle.version_keys.proofs.KeepingKeys.{keys_append, keys_undone}
 
 -- ---- changes that become others of the same records
@@ -85,7 +85,7 @@ stays_pair rule schema table n tables transactions session test next p q pp pq o
 
 pub keys_undone_own : (rule : IndexRule) (schema : Schema) (table n : ℕ) (tables : List Table) (transactions : ℕ → Option Transaction) (base : Records) (kept : List PastChange) (session : ℕ) (test : PastChange → Bool)
     → ((p q : PastChange) → is_own_open session test p ≡ true → is_open_change_of session q ≡ true → IsPlaced n tables transactions q → LevelsRise p q → test q ≡ true)
-    → HasNoSums kept → KeepsHistory n tables transactions base kept → HasFreeKeys rule schema table transactions base kept → HasFreeKeys rule schema table transactions base (map (undone_where (is_own_open session test)) kept)
+    → SeesNoSum rule table kept → KeepsHistory n tables transactions base kept → HasFreeKeys rule schema table transactions base kept → HasFreeKeys rule schema table transactions base (map (undone_where (is_own_open session test)) kept)
 keys_undone_own rule schema table n tables transactions base kept session test next none keeps h = record {
   at_first = h.at_first;
   free_keys = keys_undone rule schema table (is_own_open session test) (λ item e. open_live item.status (and_left _ _ (and_left _ _ e))) kept base keeps.befores none
@@ -172,7 +172,7 @@ two_levels : (n : ℕ) → nat_le 2 n ≡ true → nat_lt 1 n ≡ true
 two_levels n e = grind (arith, nat_tests)
 
 pub keys_by_kind : (rule : IndexRule) (schema : Schema) (table : ℕ) (base : Records) (dropped kept : List PastChange) (state : DatabaseState) (label : ℕ) (kind : EntryKind) → changes_records kind ≡ false
-    → IsHistory base dropped kept state → HasNoSums kept → is_lawful_kind state label kind ≡ true → IsHistory base dropped (kept_after state label kind kept) (applied label kind (with_next_number state))
+    → IsHistory base dropped kept state → SeesNoSum rule table kept → is_lawful_kind state label kind ≡ true → IsHistory base dropped (kept_after state label kind kept) (applied label kind (with_next_number state))
     → HasFreeKeys rule schema table (transaction_of state) base kept → HasFreeKeys rule schema table (transaction_of (applied label kind (with_next_number state))) base (kept_after state label kind kept)
 keys_by_kind rule schema table base dropped kept state label entry.Enter plain h none e after free =
     keys_same rule schema table base kept (transaction_of state) _ (transaction-entered label (with_next_number state) (not_true (is_some (live_session state label)) (and_left _ _ e))) free

@@ -1,0 +1,2 @@
+pub mod StoredRecord
+pub mod StoredSums
