@@ -1,4 +1,6 @@
-pub mod WithoutSums
+pub mod KeySums
+pub mod FoundKeys
+pub mod KeyConflicts
 pub mod Walking
 pub mod VariantKeys
 pub mod UniqueThroughout
