@@ -17,3 +17,5 @@ pub mod UniqueLaws
 pub mod CommitKeys
 pub mod OrderedTables
 pub mod LawfulCommits
+pub mod SumBefores
+pub mod EscrowSums

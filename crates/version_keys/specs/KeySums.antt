@@ -59,11 +59,9 @@ is_plain_column table id = elim (column_of_id table.columns id) [ Some column �
 abbrev pub IsPlainIndex : Table → IndexRule → Type 0
 IsPlainIndex table rule = AllByRecursion (λ id. is_plain_column table id ≡ true) (rule_columns rule)
 
--- An index that names plain columns alone, sees none of the kept sums, nor anything of them in the records before them.
-pub record IsApartFromSums (base : Records) (kept : List PastChange) (table : Table) (rule : IndexRule) : Type 0 where
-  pub plain : IsPlainIndex table rule
-  pub sums : SeesNoSum rule table.id kept
-  pub befores : HasKeyBefores rule (schema_of table) table.id base kept
+-- An index that names plain columns alone, and sees none of the kept sums, nor anything of them in the records before them.
+abbrev pub IsApartFromSums : Records → List PastChange → Table → IndexRule → Type 0
+IsApartFromSums base kept table rule = IsPlainIndex table rule × SeesNoSum rule table.id kept × HasKeyBefores rule (schema_of table) table.id base kept
 
 -- So are all indexes of all tables.
 pub record HasEscrowSums (base : Records) (kept : List PastChange) (state : DatabaseState) : Type 0 where
