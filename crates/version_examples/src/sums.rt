@@ -18,7 +18,7 @@ pub fn a_sum_under_a_reader_that_began_before_it()
         (shown state 2 3 ≡ Some (fields 1 7 0)) × (unseen state 2 3 ≡ (3, pos 4) ∷ []) × (seen_number state 2 3 ≡ pos 0)
         × (shown state 3 3 ≡ Some (fields 1 7 4)) × (unseen state 3 3 ≡ []) × (seen_number state 3 3 ≡ pos 4) }
     ensures own_sum { let state = after ((2, entry.Begin) ∷ (1, entry.Begin) ∷ (1, entry.Change (add 3 (pos 4))) ∷ (2, entry.Change (add 3 (negsuc 0))) ∷ (1, entry.Commit) ∷ []) in
-        (shown state 2 3 ≡ Some (fields 1 7 4294967295)) × (latest state 3 ≡ Some (fields 1 7 3)) × (stored_number state 2 3 ≡ pos 3) × (seen_number state 2 3 ≡ negsuc 0) }
+        (shown state 2 3 ≡ Some ((1, (1 ∷ 0 ∷ 0 ∷ 0 ∷ []) ∷ []) ∷ (2, (7 ∷ 0 ∷ 0 ∷ 0 ∷ []) ∷ []) ∷ (3, (255 ∷ 255 ∷ 255 ∷ 255 ∷ []) ∷ []) ∷ [])) × (latest state 3 ≡ Some (fields 1 7 3)) × (stored_number state 2 3 ≡ pos 3) × (seen_number state 2 3 ≡ negsuc 0) }
 {}
 
 /// Behind that sum session 3 replaces the record: session 2 finds the row before the put, which has the sum, and sees it without
