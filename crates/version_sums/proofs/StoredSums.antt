@@ -57,7 +57,7 @@ number_of_sum stored a =
     ap (λ n. n % 2 ^ 32) (from_le_bytes-to_le_bytes_4 ((from_le_bytes w32 stored + cast_unsigned w32 a) % 2 ^ 32) (small (from_le_bytes w32 stored + cast_unsigned w32 a)))
     ∙ again (from_le_bytes w32 stored) (cast_unsigned w32 a)
 
-one_sum : (values : RecordFields) (c d : ℕ) (a : ℤ) → number_in (with_sum values c a) d ≡ cond (c == d) (plus (number_in values d) a) (number_in values d)
+pub one_sum : (values : RecordFields) (c d : ℕ) (a : ℤ) → number_in (with_sum values c a) d ≡ cond (c == d) (plus (number_in values d) a) (number_in values d)
 one_sum values c d a =
     ap (λ found. from_le_bytes w32 (unwrap_or (slice_get found 0) (0 ∷ 0 ∷ 0 ∷ 0 ∷ [])) % 2 ^ 32) (values_seen values c d a ∙ ap (λ b. cond b (escrow_sum (escrow_bytes values c) a ∷ []) (values_of values d)) (turned c d))
     ∙ elim (c == d) as (λ b. (c == d) ≡ b → from_le_bytes w32 (unwrap_or (slice_get (cond b (escrow_sum (escrow_bytes values c) a ∷ []) (values_of values d)) 0) (0 ∷ 0 ∷ 0 ∷ 0 ∷ [])) % 2 ^ 32
