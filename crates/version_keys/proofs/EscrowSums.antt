@@ -1,5 +1,5 @@
 -- Lawful entries keep all indexes apart from sums.
-use Rattle.std.proofs.Common.{◌≡◌, ℕ, ◌+◌, Bool, true, false, not, ◌||◌, cond, List, [], ◌∷◌, ◌++◌, Option, Some, None, refl, sym, ap, subst, ◌∙◌}
+use Rattle.std.proofs.Common.{◌≡◌, ℕ, ◌+◌, Bool, true, false, not, ◌||◌, List, [], ◌∷◌, ◌++◌, Option, Some, None, refl, sym, ap, ◌∙◌}
 use Rattle.std.specs.Prelude.{◌==◌, if◌then◌else◌, is_none, is_some, map, IfSome}
 use Rattle.std.specs.List.{AllByRecursion, list_any}
 use Rattle.column_set.specs.declared.changes.Change.{Change}
@@ -18,14 +18,13 @@ use Rattle.database_state.specs.Table.{Table, schema_of, table_with_id}
 use Rattle.database_state.specs.Changes.{changed_table, is_sum, without_copied}
 use Rattle.database_state.specs.SchemaChanges.{has_column, new_table, rule_columns, schema_refusal, tables_after_step, with_column, with_index, without_column, without_index}
 use Rattle.database_state.specs.State.{DatabaseState, PastChange, is_open_change_of, is_undone, levels, transaction_of}
-use Rattle.database_state.specs.View.{newest}
 use Rattle.database_state.specs.Conflicts.{yields_key}
 use Rattle.database_state.specs.Step.{applied, every_change, is_at_level, state_after}
 use Rattle.database_state.specs.Lawful.{has_number, is_lawful, is_lawful_at, is_lawful_change, is_lawful_kind}
 use Rattle.database_state.proofs.Columns.{column_of_id-columns_with}
 use Rattle.record_changes.specs.Records.{Records, after_item, records_after_items, records_of}
 use Rattle.record_changes.proofs.Tests.{and_left, and_right, impossible, refuted, same_number}
-use Rattle.version_history.specs.History.{IsHistory, IsPlaced, LevelsRise, NumbersRise}
+use Rattle.version_history.specs.History.{IsHistory, IsPlaced, LevelsRise}
 use Rattle.version_history.specs.KeptSteps.{base_after, committed_own, is_own_open, kept_after, lowered_own, new_change, undone_where, with_next_number}
 use Rattle.version_history.specs.Readers.{is_standing}
 use Rattle.version_history.proofs.Befores.{at}
@@ -39,7 +38,7 @@ use Rattle.version_keys.proofs.IndexNumbers.{none_of}
 use Rattle.version_keys.proofs.KeysOfEntries.{changes_records}
 use Rattle.version_keys.proofs.SchemaKeys.{at_found, at_table, found_has, other_column, unused_by, with_last, without_table}
 use Rattle.version_keys.proofs.SumBefores.{key_befores-append, key_befores-map, key_befores-undo, sees_mapped}
-use Rattle.version_keys.proofs.UniqueKept.{id_of, same_defined, same_tables, some_at, undone_before}
+use Rattle.version_keys.proofs.UniqueKept.{id_of, same_defined, same_tables, some_at}
 
 -- ---- plain columns
 
@@ -93,9 +92,11 @@ step_keeps_plain state label (step.DeleteColumn table column) e h id =
 step_keeps_plain state label (step.CreateIndex table rule) e h id =
     at_table ArePlain table.0 (with_index rule) (λ t. refl) state.tables
     (λ t found is. let refused = at_found state label (step.CreateIndex table rule) t e found in
-    all_append (IsPlainIndex (with_index rule t)) t.indexes (rule ∷ []) is
-    (all_both (λ id. not (has_column t id) ≡ false) (λ id. is_escrow_column (schema_of t) id ≡ false) (λ id. is_plain_column t id ≡ true) (plain_of t) (rule_columns rule)
-    (none_of (λ id. not (has_column t id)) (rule_columns rule) refused.1.1.1.1.0) (none_of (is_escrow_column (schema_of t)) (rule_columns rule) refused.1.1.1.1.1.0), tt)) h id
+    all_append (IsPlainIndex (with_index rule t)) t.indexes (rule ∷ []) is (
+      all_both (λ id. not (has_column t id) ≡ false) (λ id. is_escrow_column (schema_of t) id ≡ false) (λ id. is_plain_column t id ≡ true) (plain_of t) (rule_columns rule)
+          (none_of (λ id. not (has_column t id)) (rule_columns rule) refused.1.1.1.1.0) (none_of (is_escrow_column (schema_of t)) (rule_columns rule) refused.1.1.1.1.1.0),
+      tt,
+    )) h id
 step_keeps_plain state label (step.DeleteIndex table index) e h id =
     at_table ArePlain table.0 (without_index index.0) (λ t. refl) state.tables
     (λ t found is. all_filter (IsPlainIndex t) (λ r. not (r.id.0 == index.0)) t.indexes is) h id

@@ -1,8 +1,7 @@
 -- What keeps the keys of a unique index free.
-use Rattle.std.proofs.Common.{◌≡◌, ◌⊎◌, inl, inr, ℕ, Bool, true, false, not, ◌&&◌, cond, List, [], ◌∷◌, ◌++◌, Option, refl, sym, ap, subst, ◌∙◌, bytes_eq}
+use Rattle.std.proofs.Common.{◌≡◌, ◌⊎◌, inl, inr, ℕ, Bool, true, false, not, ◌&&◌, cond, List, [], ◌∷◌, ◌++◌, refl, sym, ap, subst, ◌∙◌, bytes_eq}
 use Rattle.std.specs.Prelude.{◌==◌, map, filter, fold}
 use Rattle.std.specs.List.{AllByRecursion}
-use Rattle.column_set.specs.RecordValues.{RecordFields}
 use Rattle.index_derive.specs.declared.rules.IndexRule.{IndexRule}
 use Rattle.index_derive.specs.declared.rules.Schema.{Schema}
 use Rattle.database_state.specs.Changes.{changed_table, changed_bookmark, is_sum}
@@ -11,7 +10,7 @@ use Rattle.database_state.specs.Conflicts.{collide, yields_key}
 use Rattle.record_changes.specs.Records.{Records, record_after, after_item, records_after_items, is_change_of}
 use Rattle.version_history.specs.Readers.{is_standing}
 use Rattle.version_history.specs.History.{EachTwo, HasBefores}
-use Rattle.version_keys.specs.KeySums.{HasSameKeys, SeesNoSum, adds_to_index}
+use Rattle.version_keys.specs.KeySums.{HasSameKeys, SeesNoSum}
 use Rattle.version_keys.proofs.KeySums.{item_keeps, item_same}
 use Rattle.version_keys.specs.UniqueKeys.{BringsKey, BringsFreeKeys, SeesEarlier}
 use Rattle.record_changes.proofs.Commuting.{both_touch}

@@ -1,5 +1,5 @@
 -- Keys see no sum.
-use Rattle.std.proofs.Common.{◌≡◌, ℕ, Bool, true, false, ◌&&◌, cond, List, [], ◌∷◌, Option, Some, None, refl, sym, ap, subst, ◌∙◌}
+use Rattle.std.proofs.Common.{◌≡◌, ℕ, Bool, true, false, cond, List, [], ◌∷◌, Option, Some, None, refl, sym, ap, subst, ◌∙◌}
 use Rattle.std.specs.Prelude.{ℤ, ◌==◌, filter, fold, IfSome}
 use Rattle.std.specs.List.{AllByRecursion, list_any}
 use Rattle.column_set.specs.declared.changes.Change.{Change}

@@ -1,8 +1,8 @@
 -- The numbers in escrow columns with sums made, and with amounts taken away.
 use Rattle.std.proofs.Common.{◌≡◌, ℕ, ◌+◌, ◌-◌, ◌^◌, ◌%◌, ◌<◌, Bool, true, false, cond, List, [], ◌∷◌, Some, refl, sym, ap, ◌∙◌, arith}
 use Rattle.std.specs.Prelude.{ℤ, ◌==◌, filter, fold, map, slice_get, unwrap_or, FitsSigned}
-use Rattle.std.specs.Int.{w32, cast_signed, cast_unsigned, from_le_bytes, int_wrapping_sub, to_le_bytes}
-use Rattle.std.specs.Ordering.{nat_cmp, eq_by_cmp}
+use Rattle.std.specs.Int.{w32, cast_signed, cast_unsigned, from_le_bytes, int_wrapping_sub}
+use Rattle.std.specs.Ordering.{nat_cmp}
 use Rattle.std.specs.Cmp.{nat_cmp_total, unsigned_tied}
 use Rattle.std.specs.FinMap.Entries.{find-put}
 use Rattle.std.proofs.lemmas.Int.{of_z-to_z}
@@ -14,7 +14,7 @@ use Rattle.database_state.specs.Changes.{escrow_bytes, escrow_sum, with_sum}
 use Rattle.database_state.specs.State.{DatabaseState, PastChange, transaction_of}
 use Rattle.database_state.specs.View.{newest, view}
 use Rattle.record_changes.specs.Records.{Records, records_of}
-use Rattle.record_changes.proofs.Tests.{impossible, same_number, self_equal}
+use Rattle.record_changes.proofs.Tests.{same_number, self_equal}
 use Rattle.version_history.specs.History.{IsHistory}
 use Rattle.version_history.specs.Readers.{found_record}
 use Rattle.version_sums.specs.EscrowSums.{amounts_to, escrow_value, seen_value, unseen_sums, with_sums, without_amount}

@@ -1,13 +1,13 @@
 -- A sum that is undone is taken away again, whatever sums of others came after it.
-use Rattle.std.proofs.Common.{◌≡◌, ℕ, ◌+◌, ◌-◌, ◌^◌, ◌%◌, ◌<◌, ◌≤◌, Bool, true, cond, zero, suc, List, [], ◌∷◌, ◌++◌, Option, Some, None, refl, sym, ap, ◌∙◌, arith}
-use Rattle.std.specs.Prelude.{ℤ, pos, negsuc, neg_ℤ, ◌==◌, map, filter, option_map, FitsSigned}
+use Rattle.std.proofs.Common.{◌≡◌, ℕ, ◌+◌, ◌-◌, ◌^◌, ◌%◌, ◌<◌, ◌≤◌, true, cond, zero, suc, List, [], ◌∷◌, ◌++◌, Option, Some, None, refl, ap, ◌∙◌, arith}
+use Rattle.std.specs.Prelude.{ℤ, pos, negsuc, neg_ℤ, map, option_map, FitsSigned}
 use Rattle.std.specs.Int.{w32, cast_signed, from_le_bytes}
 use Rattle.column_set.specs.declared.changes.Change.{Change}
 use Rattle.column_set.specs.declared.changes.Change.TheVariants.{Put, Drop, Hold, Add}
 use Rattle.column_set.specs.RecordValues.{RecordFields}
 use Rattle.database_state.specs.Changes.{changed_table, changed_bookmark, escrow_bytes, is_sum, with_sum}
 use Rattle.database_state.specs.State.{PastChange}
-use Rattle.record_changes.specs.Records.{Records, is_change_of, record_after, records_after_items}
+use Rattle.record_changes.specs.Records.{Records, record_after, records_after_items}
 use Rattle.record_changes.proofs.Tests.{and_both, equal_bytes, impossible, self_equal}
 use Rattle.version_history.specs.Readers.{is_standing}
 use Rattle.version_history.proofs.Undoing.{IsLastOf, made_last}
