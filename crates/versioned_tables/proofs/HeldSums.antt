@@ -1,6 +1,6 @@
 -- What a reader is shown has the sums that it does not see, and its indexes do not see them.
 use Rattle.std.proofs.Common.{◌≡◌, ◌⊎◌, inl, inr, ℕ, Bool, true, false, ◌&&◌, cond, List, [], ◌∷◌, ◌++◌, Option, Some, None, refl, sym, ap, ◌∙◌}
-use Rattle.std.specs.Prelude.{ℤ, ◌==◌, bytes_eq, filter, flat_map, is_some, option_map}
+use Rattle.std.specs.Prelude.{◌==◌, bytes_eq, filter, flat_map, is_some, option_map}
 use Rattle.column_set.specs.declared.changes.Change.{Change}
 use Rattle.column_set.specs.declared.changes.Change.TheVariants.{Put, Drop, Hold, Add}
 use Rattle.column_set.specs.RecordValues.{RecordFields, values_of}
