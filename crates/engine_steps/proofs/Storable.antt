@@ -25,6 +25,7 @@ use Rattle.version_history.proofs.Lists.{all_weaker}
 use Rattle.version_history.proofs.Unhindered.{finds_newest}
 use Rattle.version_keys.specs.UniqueKeys.{HasUniqueIndexes, IsSoundIndex, IsUniqueIndex}
 use Rattle.version_keys.proofs.IndexNumbers.{all_primary_first}
+use Rattle.version_keys.proofs.KeySums.{all_see_none}
 use Rattle.version_records.specs.Bookmarks.{is_bookmark}
 use Rattle.version_records.proofs.EntryNumbers.{entry_number-own}
 use Rattle.version_records.proofs.PrimaryKeys.{found_passes, of_found}
@@ -113,7 +114,7 @@ seen_eight engine state h session id table found bookmark none there = by (recor
     stands : (bookmark : List ℕ) → IfSome (record_in (view state session) id bookmark) (λ values. is_bookmark state.number (schema_of table) (primary_rule (schema_of table)) bookmark values ≡ true)
     stands =
         subst (λ (o : Option Table). IfSome o (λ t. (bookmark : List ℕ) → IfSome (records_of (view state session) id bookmark) (λ values. is_bookmark state.number (schema_of t) (primary_rule (schema_of t)) bookmark values ≡ true))) found
-        (bookmarks_seen h.base h.dropped h.kept state h.reached.history h.reached.no_sums h.reached.bookmarks session id)
+        (bookmarks_seen h.base h.dropped h.kept state h.reached.history (all_see_none h.kept state h.reached.no_sums) h.reached.bookmarks session id)
 
     by : (o : Option RecordFields) → is_some o ≡ true → IfSome o (λ values. is_bookmark state.number (schema_of table) (primary_rule (schema_of table)) bookmark values ≡ true) → length bookmark ≡ 8
     by None e s = impossible e

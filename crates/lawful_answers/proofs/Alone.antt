@@ -31,6 +31,7 @@ use Rattle.version_history.proofs.Transactions.{transaction-begun}
 use Rattle.version_history.proofs.Viewing.{none_open}
 use Rattle.version_keys.specs.Variants.{HasNoSums}
 use Rattle.version_keys.proofs.BookmarkKeys.{HasOneEntry}
+use Rattle.version_keys.proofs.KeySums.{all_see_none}
 use Rattle.version_keys.proofs.LawfulCommits.{commit_lawful}
 use Rattle.version_keys.proofs.OrderedTables.{order_kept}
 use Rattle.version_keys.proofs.UniqueLaws.{keys_kept}
@@ -125,7 +126,7 @@ pub alone_lawful : HasOneEntry → KeysRise → (base : Records) (dropped kept :
 alone_lawful one rise base dropped kept state session change r few live out sum e =
     let begins = begin_lawful state session few live out in
     let first = keeps_lawful base dropped kept state (begin_of session) r.history begins in
-    let unique = keys_kept one base dropped kept state (begin_of session) r.history begins r.no_sums r.no_sums r.unique in
+    let unique = keys_kept one base dropped kept state (begin_of session) r.history begins (all_see_none kept state r.no_sums) (all_see_none kept state r.no_sums) r.unique in
     let no_sums : HasNoSums (kept_after (state_after state (begin_of session)) session (entry.Change change) kept) =
     all_append (λ item. is_sum item.change ≡ false) kept (new_change session change (with_next_number (state_after state (begin_of session))) ∷ []) r.no_sums (no_sum change sum, tt) in (
       begins,
@@ -133,8 +134,11 @@ alone_lawful one rise base dropped kept state session change r few live out sum 
         e,
         (
           commit_lawful rise base dropped (kept_after (state_after state (begin_of session)) session (entry.Change change) kept) (state_after (state_after state (begin_of session)) (record { session = record { 0 = session }; kind = entry.Change change })) session
-              (keeps_lawful base dropped kept (state_after state (begin_of session)) (record { session = record { 0 = session }; kind = entry.Change change }) first e) no_sums
-              (keys_kept one base dropped kept (state_after state (begin_of session)) (record { session = record { 0 = session }; kind = entry.Change change }) first e r.no_sums no_sums unique)
+              (keeps_lawful base dropped kept (state_after state (begin_of session)) (record { session = record { 0 = session }; kind = entry.Change change }) first e)
+              (all_see_none (kept_after (state_after state (begin_of session)) session (entry.Change change) kept) (state_after (state_after state (begin_of session)) (record { session = record { 0 = session }; kind = entry.Change change })) no_sums)
+              (keys_kept one base dropped kept (state_after state (begin_of session)) (record { session = record { 0 = session }; kind = entry.Change change }) first e
+              (all_see_none kept (state_after state (begin_of session)) r.no_sums)
+              (all_see_none (kept_after (state_after state (begin_of session)) session (entry.Change change) kept) (state_after state (begin_of session)) no_sums) unique)
               (order_kept (state_after state (begin_of session)) (record { session = record { 0 = session }; kind = entry.Change change }) (order_kept state (begin_of session) r.order begins) e)
               (same_levels (state_after state (begin_of session)) session change ∙ one_level state session live),
           tt,

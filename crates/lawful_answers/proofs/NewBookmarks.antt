@@ -23,6 +23,7 @@ use Rattle.version_history.proofs.Concurrent.{key_conflict_kept, write_conflict_
 use Rattle.version_history.proofs.EndEntries.{no_conflict}
 use Rattle.version_history.proofs.Lists.{all_both, all_weaker}
 use Rattle.version_keys.proofs.BookmarkKeys.{HasOneEntry}
+use Rattle.version_keys.proofs.KeySums.{all_see_none}
 use Rattle.version_records.specs.Bookmarks.{StandsUnder, TouchesRecord, is_bookmark, is_entry_number}
 use Rattle.version_records.specs.EachRecord.{HasBoth}
 use Rattle.version_records.proofs.EachRecord.{AtChange}
@@ -122,7 +123,7 @@ hidden_row base dropped kept asked c reached at few none = by (row_at (rows_seen
   where
     stands : (bookmark : List ℕ) → IfSome (row_at (rows_seen asked c) bookmark) (StandsUnder asked.state.number (schema_of at.table) bookmark)
     stands = subst (λ (o : Option Table). IfSome o (λ table. (bookmark : List ℕ) → IfSome (records_of (view asked.state asked.session) c.cursor.table bookmark) (StandsUnder asked.state.number (schema_of table) bookmark))) at.found
-        (bookmarks_seen base dropped kept asked.state reached.history reached.no_sums reached.bookmarks asked.session c.cursor.table)
+        (bookmarks_seen base dropped kept asked.state reached.history (all_see_none kept asked.state reached.no_sums) reached.bookmarks asked.session c.cursor.table)
 
     by : (o : Option RecordFields) → IfSome o (StandsUnder asked.state.number (schema_of at.table) (big_endian 8 (number_of_change asked))) → o ≡ None
     by None s = refl

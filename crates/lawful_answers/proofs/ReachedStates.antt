@@ -23,6 +23,7 @@ use Rattle.version_keys.specs.TableOrder.{HasTablesInOrder}
 use Rattle.version_keys.specs.UniqueKeys.{IsUniqueTable}
 use Rattle.version_keys.specs.Variants.{HasNoSums}
 use Rattle.version_keys.proofs.BookmarkKeys.{HasOneEntry}
+use Rattle.version_keys.proofs.KeySums.{all_see_none}
 use Rattle.version_keys.proofs.OrderedTables.{order_kept}
 use Rattle.version_keys.proofs.UniqueLaws.{keys_begin, keys_cleaned, keys_kept}
 use Rattle.version_records.specs.Bookmarks.{StandsUnder}
@@ -64,9 +65,9 @@ reaches one base dropped kept state made reached e plain =
     record {
       history = keeps_lawful base dropped kept state made reached.history e;
       no_sums = none;
-      unique = keys_kept one base dropped kept state made reached.history e reached.no_sums none reached.unique;
+      unique = keys_kept one base dropped kept state made reached.history e (all_see_none kept state reached.no_sums) (all_see_none (kept_after state made.session.0 made.kind kept) state none) reached.unique;
       order = order_kept state made reached.order e;
-      bookmarks = bookmarks_kept one base dropped kept state made reached.history e reached.no_sums none reached.unique reached.bookmarks;
+      bookmarks = bookmarks_kept one base dropped kept state made reached.history e (all_see_none kept state reached.no_sums) (all_see_none (kept_after state made.session.0 made.kind kept) state none) reached.unique reached.bookmarks;
     }
 
 pub reaches_all : HasOneEntry → (state : DatabaseState) (entries : List Entry) → IsReachedState state → AreLawful state entries → AllByRecursion (λ made. is_sum_entry made.kind ≡ false) entries → IsReachedState (state_after_all state entries)
@@ -86,9 +87,9 @@ pub cleaned : (base : Records) (dropped : List PastChange) (item : PastChange) (
 cleaned base dropped item kept state reached unneeded = record {
   history = history_cleaned base dropped item kept state reached.history unneeded;
   no_sums = reached.no_sums.1;
-  unique = keys_cleaned base dropped item kept state reached.history reached.no_sums reached.unique;
+  unique = keys_cleaned base dropped item kept state reached.history (all_see_none (item ∷ kept) state reached.no_sums) reached.unique;
   order = reached.order;
-  bookmarks = bookmarks_cleaned base dropped item kept state reached.history reached.no_sums reached.bookmarks;
+  bookmarks = bookmarks_cleaned base dropped item kept state reached.history (all_see_none (item ∷ kept) state reached.no_sums) reached.bookmarks;
 }
 
 -- ---- where it begins

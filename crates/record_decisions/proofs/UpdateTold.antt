@@ -19,7 +19,9 @@ use Rattle.database_state.specs.View.{view}
 use Rattle.record_changes.specs.Records.{Records, records_of}
 use Rattle.record_changes.proofs.Tests.{and_left, impossible, same_bytes}
 use Rattle.version_history.specs.History.{IsHistory, without_rows}
+use Rattle.version_keys.specs.KeySums.{IndexesSeeNoSum}
 use Rattle.version_keys.specs.Variants.{HasNoSums}
+use Rattle.version_keys.proofs.KeySums.{all_see_none}
 use Rattle.version_records.specs.Bookmarks.{HasBookmarks, StandsUnder, is_bookmark, is_entry_number}
 use Rattle.version_records.proofs.PrimaryKeys.{of_found}
 use Rattle.version_store.specs.declared.calls.Reader.{Reader}
@@ -93,7 +95,7 @@ keys-told alike engine state session local label c h step found own values =
 
 abbrev pub SeesBookmarks : Type 0
 SeesBookmarks =
-    (base : Records) (dropped kept : List PastChange) (state : DatabaseState) → IsHistory base dropped kept state → HasNoSums kept → HasBookmarks base kept state → (session id : ℕ)
+    (base : Records) (dropped kept : List PastChange) (state : DatabaseState) → IsHistory base dropped kept state → IndexesSeeNoSum kept state → HasBookmarks base kept state → (session id : ℕ)
     → IfSome (table_with_id state.tables id) (λ table. (bookmark : List ℕ) → IfSome (records_of (view state session) id bookmark) (StandsUnder state.number (schema_of table) bookmark))
 
 pub legal-primary : (schema : Schema) (rule : IndexRule) → HasLegalRules schema → primary_rule schema ≡ Some rule → rule.key_most ≤ 255
@@ -146,7 +148,7 @@ short_by sees engine state session local label c (replacing bookmark) values h s
     replaced_short c.schema bookmark values (primary_rule c.schema) rules refl same
     (replaced_hidden state session c bookmark (table_with_id state.tables c.cursor.table)
     (of_found (λ (c : OpenCursor). HasSchemaOf c (table_with_id state.tables c.cursor.table)) (λ (c : OpenCursor). c.label == label) local.cursors c found step.agrees.schemas)
-    (sees h.base h.dropped h.kept state h.reached.history h.reached.no_sums h.reached.bookmarks session c.cursor.table) may)
+    (sees h.base h.dropped h.kept state h.reached.history (all_see_none h.kept state h.reached.no_sums) h.reached.bookmarks session c.cursor.table) may)
 
 pub bookmarks-short : SeesBookmarks → HasShortBookmarks
 bookmarks-short sees engine state session local label c prepared h step found is rules same =

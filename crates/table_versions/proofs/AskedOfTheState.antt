@@ -14,7 +14,9 @@ use Rattle.index_derive.specs.declared.rules.Schema.{Schema}
 use Rattle.index_derive.specs.Entries.{key_list}
 use Rattle.jet_base.specs.declared.replies.Jet.TheVariants as jet
 use Rattle.record_changes.specs.Records.{Records, records_of}
+use Rattle.version_keys.specs.KeySums.{HasKeyBefores, SeesNoSum}
 use Rattle.version_keys.specs.Variants.{HasNoSums}
+use Rattle.version_keys.proofs.KeySums.{befores_of_none, sees_none}
 use Rattle.version_store.specs.declared.calls.Reader.{Reader}
 use Rattle.versioned_tables.specs.HeldRecords.{has_key_conflict, seen_record}
 use Rattle.versioned_tables.specs.Holding.{Holds, begin_of}
@@ -26,8 +28,9 @@ use Rattle.versioned_tables.proofs.SeenTables.{seen_at_id}
 -- the laws that it rests on
 abbrev pub TellsConflicts : Type 0
 TellsConflicts =
-    (base : Records) (dropped kept : List PastChange) (store : VersionedTables) (state : DatabaseState) → Holds base dropped kept store state → HasNoSums kept
-    → (reader : Reader) → reader.begin ≡ begin_of (transaction_of state reader.session.0) → (table : ℕ) (schema : Schema) (rule : IndexRule) (key : List ℕ)
+    (base : Records) (dropped kept : List PastChange) (store : VersionedTables) (state : DatabaseState) → Holds base dropped kept store state
+    → (reader : Reader) → reader.begin ≡ begin_of (transaction_of state reader.session.0) → (table : ℕ) (schema : Schema) (rule : IndexRule)
+    → SeesNoSum rule table kept → HasKeyBefores rule schema table base kept → (key : List ℕ)
     → has_key_conflict reader (records_of store.tables) table rule schema key store.held ≡ has_key_conflict_in state reader.session.0 table schema rule key
 
 abbrev pub ShowsTheView : Type 0
@@ -68,7 +71,7 @@ asked_of_the_state tells shows finds base dropped kept store state h none reader
     is_seen = shows base dropped kept store state h none reader e table ∙ found
 
     over : (key : List ℕ) → has_conflict_over reader store table rule (schema_of seen) key ≡ has_key_conflict_in state reader.session.0 table (schema_of seen) rule key
-    over key = tells base dropped kept store state h none reader e table (schema_of seen) rule key
+    over key = tells base dropped kept store state h reader e table (schema_of seen) rule (sees_none rule table kept none) (befores_of_none rule (schema_of seen) table kept base none) key
 
     conflicts : list_any (has_conflict_over reader store table rule (schema_of seen)) (new_keys rule (schema_of seen) (replaced_seen reader store table own) values)
         ≡ list_any (has_key_conflict_in state reader.session.0 table (schema_of seen) rule) (new_keys rule (schema_of seen) (replaced_record seen.rows own) values)

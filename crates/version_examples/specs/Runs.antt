@@ -16,6 +16,7 @@ use Rattle.database_state.specs.Step.{state_after, state_after_all}
 use Rattle.database_state.specs.Lawful.{is_lawful}
 use Rattle.record_changes.specs.Records.{records_of}
 use Rattle.version_history.specs.Readers.{found_record}
+use Rattle.version_sums.specs.EscrowSums.{amounts_to, escrow_value, seen_value, unseen_sums}
 use Rattle.version_keys.specs.Variants.{is_key_held, is_variant_key, shown_entries}
 use Rattle.definition_examples.specs.States.{entry_by, unique_rule, sample_table, fields, hidden_key}
 
@@ -54,6 +55,17 @@ latest state n = records_of (newest state) 1 (hidden_key n)
 -- what a session finds of record n among all past changes
 abbrev pub found : DatabaseState → ℕ → ℕ → Option RecordFields
 found state session n = found_record session (transaction_of state session) 1 (hidden_key n) (latest state n) state.past
+
+-- the sums of record n that a session does not see in what it finds
+abbrev pub unseen : DatabaseState → ℕ → ℕ → List (ℕ × ℤ)
+unseen state session n = unseen_sums session (transaction_of state session) 1 (hidden_key n) state.past
+
+-- the number in column 3 of what a session finds of record n, and without these sums
+abbrev pub stored_number : DatabaseState → ℕ → ℕ → ℤ
+stored_number state session n = escrow_value (unwrap_or (found state session n) []) 3
+
+abbrev pub seen_number : DatabaseState → ℕ → ℕ → ℤ
+seen_number state session n = seen_value (stored_number state session n) (amounts_to 3 (unseen state session n))
 
 -- of each past change the record before and after it, its level and its state
 abbrev pub befores : DatabaseState → List (Option RecordFields)

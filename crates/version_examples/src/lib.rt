@@ -4,3 +4,4 @@
 
 pub mod histories;
 pub mod keys;
+pub mod sums;

@@ -8,7 +8,7 @@ use Rattle.index_derive.specs.declared.rules.IndexRule.{IndexRule}
 use Rattle.index_derive.specs.declared.rules.Schema.{Schema}
 use Rattle.index_derive.specs.Entries.{NullKeyDisallowed, KeyTruncated, entries, is_legal, key_columns, keys_or_none, primary_key, whole_key}
 use Rattle.index_derive.specs.Primary.{first_values, primary_entries}
-use Rattle.database_state.specs.Changes.{changed_table, changed_bookmark}
+use Rattle.database_state.specs.Changes.{changed_table, changed_bookmark, is_sum}
 use Rattle.database_state.specs.State.{PastChange}
 use Rattle.database_state.specs.Conflicts.{yields_key}
 use Rattle.record_changes.specs.Records.{Records, after_item, is_change_of, record_after, records_after_items}
@@ -17,7 +17,8 @@ use Rattle.version_history.specs.History.{HasBefores}
 use Rattle.version_history.specs.Readers.{is_standing}
 use Rattle.version_history.proofs.Lists.{all_append, all_map, all_weaker}
 use Rattle.version_keys.specs.UniqueKeys.{BringsKey, HasBookmarkKeys, HasOwnKey, MeetsKey}
-use Rattle.version_keys.specs.Variants.{HasNoSums}
+use Rattle.version_keys.specs.KeySums.{SeesNoSum}
+use Rattle.version_keys.proofs.KeySums.{sum_keeps}
 
 -- what the law of a primary index says
 abbrev pub HasOneEntry : Type 0
@@ -44,13 +45,13 @@ own_key one rule schema legal primary values bookmark is key had =
 
 -- ---- the newest records
 
-pub newest_own : (rule : IndexRule) (schema : Schema) (table : ℕ) (items : List PastChange) (records : Records) → HasBefores records items → HasNoSums items → AllByRecursion (λ item. item.after ≡ record_after item.change item.before) items
+pub newest_own : (rule : IndexRule) (schema : Schema) (table : ℕ) (items : List PastChange) (records : Records) → HasBefores records items → SeesNoSum rule table items → AllByRecursion (λ item. item.after ≡ record_after item.change item.before) items
     → HasBookmarkKeys rule schema table records items → (bookmark : List ℕ) → HasOwnKey rule schema bookmark (records_after_items is_standing records items table bookmark)
-newest_own rule schema table [] records befores none afters h bookmark = h.at_first bookmark
-newest_own rule schema table (item ∷ items) records befores none afters h bookmark =
+newest_own rule schema table [] records befores plain afters h bookmark = h.at_first bookmark
+newest_own rule schema table (item ∷ items) records befores plain afters h bookmark =
     elim (is_standing item) as (λ b. is_standing item ≡ b → HasBefores (cond b (after_item records item) records) items → HasOwnKey rule schema bookmark (fold after_item records (cond b (item ∷ filter is_standing items) (filter is_standing items)) table bookmark)) [
-      | true ↦ λ live g. newest_own rule schema table items (after_item records item) g none.1 afters.1 (record { at_first = next live; changes = h.changes.1 }) bookmark
-      | false ↦ λ live g. newest_own rule schema table items records g none.1 afters.1 (record { at_first = h.at_first; changes = h.changes.1 }) bookmark
+      | true ↦ λ live g. newest_own rule schema table items (after_item records item) g plain.1 afters.1 (record { at_first = next live; changes = h.changes.1 }) bookmark
+      | false ↦ λ live g. newest_own rule schema table items records g plain.1 afters.1 (record { at_first = h.at_first; changes = h.changes.1 }) bookmark
     ] refl befores.1
   where
     next : is_standing item ≡ true → (at : List ℕ) → HasOwnKey rule schema at (after_item records item table at)
@@ -59,8 +60,12 @@ newest_own rule schema table (item ∷ items) records befores none afters h book
           | true ↦ λ mine key had.
               let of_table : changed_table item.change ≡ table = same_number (changed_table item.change) table (and_left _ _ mine) in
               let of_bookmark : changed_bookmark item.change ≡ at = same_bytes (changed_bookmark item.change) at (and_right (changed_table item.change == table) _ mine) in
-              let was : item.before ≡ records table at = befores.0 live none.0 ∙ ap (λ (k : ℕ). records k (changed_bookmark item.change)) of_table ∙ ap (records table) of_bookmark in
-              (h.changes.0 of_table).1 key (ap (yields_key rule schema key) (afters.0 ∙ ap (record_after item.change) was) ∙ had) ∙ of_bookmark
+              elim (is_sum item.change) as (λ b. is_sum item.change ≡ b → key ≡ at) [
+                | true ↦ λ sum. h.at_first at key (sym (sum_keeps rule schema item.change (plain.0 of_table) sum (records table at) key) ∙ had)
+                | false ↦ λ sum.
+                    let was : item.before ≡ records table at = befores.0 live sum ∙ ap (λ (k : ℕ). records k (changed_bookmark item.change)) of_table ∙ ap (records table) of_bookmark in
+                    (h.changes.0 of_table).1 key (ap (yields_key rule schema key) (afters.0 ∙ ap (record_after item.change) was) ∙ had) ∙ of_bookmark
+              ] refl
           | false ↦ λ other. h.at_first at
         ] refl
 

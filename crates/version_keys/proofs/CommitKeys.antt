@@ -13,7 +13,7 @@ use Rattle.index_derive.specs.declared.rules.Schema.{Schema}
 use Rattle.index_derive.specs.declared.log.EntryKind.TheVariants as entry
 use Rattle.index_derive.specs.Entries.{has_double, has_double_key, is_unique, key_list}
 use Rattle.database_state.specs.Table.{Rows, Table, row_at, schema_of, table_with_id}
-use Rattle.database_state.specs.Changes.{is_sum, tables_after_all}
+use Rattle.database_state.specs.Changes.{changed_table, tables_after_all}
 use Rattle.database_state.specs.State.{DatabaseState, PastChange, Transaction, committed, open_changes_of, transaction_of}
 use Rattle.database_state.specs.View.{view, view_in}
 use Rattle.database_state.specs.Conflicts.{yields_key}
@@ -34,7 +34,8 @@ use Rattle.version_history.proofs.Keeping.{with_at}
 use Rattle.version_history.proofs.Lists.{all_both, all_map, all_weaker}
 use Rattle.version_history.proofs.Transactions.{transaction-ended}
 use Rattle.version_keys.specs.UniqueKeys.{AreUnique, HasFreeKeys, HasUniqueIndexes, HasUniqueKeys, IsSoundIndex, IsUniqueIndex}
-use Rattle.version_keys.specs.Variants.{HasNoSums}
+use Rattle.version_keys.specs.KeySums.{IndexesSeeNoSum, SeesNoSum, adds_to_index}
+use Rattle.version_keys.proofs.KeySums.{seen_by}
 use Rattle.version_keys.proofs.BookmarkKeys.{own_mapped}
 use Rattle.version_keys.proofs.Finding.{unique_in_view}
 use Rattle.version_keys.proofs.KeysOfEntries.{commit_after, keys_committed, keys_same}
@@ -140,33 +141,46 @@ all_listed p [] h = refl
 all_listed p (x ∷ xs) h = and_both (p x) (list_all p xs) h.0 (all_listed p xs h.1)
 
 -- the committed tables of a state in which a session is in no transaction
-pub unique_outside : KeysRise → (base : Records) (dropped kept : List PastChange) (state : DatabaseState) (label : ℕ) → IsHistory base dropped kept state → HasNoSums kept → transaction_of state label ≡ None → HasUniqueKeys base kept state
+pub unique_outside : KeysRise → (base : Records) (dropped kept : List PastChange) (state : DatabaseState) (label : ℕ) → IsHistory base dropped kept state → IndexesSeeNoSum kept state → transaction_of state label ≡ None → HasUniqueKeys base kept state
     → AllByRecursion (λ t. (table_with_id state.tables t.id ≡ Some t) × RowsRise t.rows) state.tables → is_unique_throughout state.tables ≡ true
 unfolding view
-unique_outside rise base dropped kept state label h none outside unique found =
+unique_outside rise base dropped kept state label h sees outside unique found =
     all_listed (λ t. list_all (λ rule. not (is_unique rule && has_double_key rule (schema_of t) t.rows)) t.indexes) state.tables
     (all_weaker (λ t. (table_with_id state.tables t.id ≡ Some t) × RowsRise t.rows) (λ t. list_all (λ rule. not (is_unique rule && has_double_key rule (schema_of t) t.rows)) t.indexes ≡ true)
     (λ t is. all_listed (λ rule. not (is_unique rule && has_double_key rule (schema_of t) t.rows)) t.indexes
-    (all_weaker (λ rule. IsSoundIndex t rule × IsUniqueIndex (transaction_of state) base kept t rule) (λ rule. not (is_unique rule && has_double_key rule (schema_of t) t.rows) ≡ true)
-    (λ rule known. elim (is_unique rule) as (λ b. (b ≡ true → HasFreeKeys rule (schema_of t) t.id (transaction_of state) base kept) → not (b && has_double_key rule (schema_of t) t.rows) ≡ true) [
-      | true ↦ λ keys. ap not (no_double_key rise rule (schema_of t) t.rows is.1 (rows_unique t is.0 rule (keys refl)))
+    (all_both (λ rule. IsSoundIndex t rule × IsUniqueIndex (transaction_of state) base kept t rule) (λ rule. SeesNoSum rule t.id kept) (λ rule. not (is_unique rule && has_double_key rule (schema_of t) t.rows) ≡ true)
+    (λ rule known plain. elim (is_unique rule) as (λ b. (b ≡ true → HasFreeKeys rule (schema_of t) t.id (transaction_of state) base kept) → not (b && has_double_key rule (schema_of t) t.rows) ≡ true) [
+      | true ↦ λ keys. ap not (no_double_key rise rule (schema_of t) t.rows is.1 (rows_unique t is.0 rule plain (keys refl)))
       | false ↦ λ keys. refl
     ] (λ e. (known.1 e).0))
-    t.indexes (subst (λ (o : Option Table). IfSome o (HasUniqueIndexes (transaction_of state) base kept)) is.0 (unique.tables t.id)))) state.tables found)
+    t.indexes (subst (λ (o : Option Table). IfSome o (HasUniqueIndexes (transaction_of state) base kept)) is.0 (unique.tables t.id)) (seen_by kept state sees t.id t is.0))) state.tables found)
   where
-    rows_unique : (t : Table) → table_with_id state.tables t.id ≡ Some t → (rule : IndexRule) → HasFreeKeys rule (schema_of t) t.id (transaction_of state) base kept → AreUniqueRows rule (schema_of t) t.rows
-    rows_unique t is rule keys one other key apart had also =
-        (subst (λ (tables : List Table). AreUnique rule (schema_of t) t.id (records_of tables)) (ap (view_in state label) outside) (unique_in_view base dropped kept state h none rule (schema_of t) t.id keys label)) one other key apart
+    rows_unique : (t : Table) → table_with_id state.tables t.id ≡ Some t → (rule : IndexRule) → SeesNoSum rule t.id kept → HasFreeKeys rule (schema_of t) t.id (transaction_of state) base kept → AreUniqueRows rule (schema_of t) t.rows
+    rows_unique t is rule plain keys one other key apart had also =
+        (subst (λ (tables : List Table). AreUnique rule (schema_of t) t.id (records_of tables)) (ap (view_in state label) outside) (unique_in_view base dropped kept state h rule (schema_of t) t.id plain keys label)) one other key apart
         (ap (yields_key rule (schema_of t) key) (rows_found state.tables t.id t is one) ∙ had) (ap (yields_key rule (schema_of t) key) (rows_found state.tables t.id t is other) ∙ also)
 
-pub committed_unique : KeysRise → (base : Records) (dropped kept : List PastChange) (state : DatabaseState) (label : ℕ) → IsHistory base dropped kept state → HasNoSums kept → HasUniqueKeys base kept state
+pub committed_unique : KeysRise → (base : Records) (dropped kept : List PastChange) (state : DatabaseState) (label : ℕ) → IsHistory base dropped kept state → IndexesSeeNoSum kept state → HasUniqueKeys base kept state
     → AllByRecursion (λ t. (table_with_id (tables_after_all state.tables (open_changes_of label state.past)) t.id ≡ Some t) × RowsRise t.rows) (tables_after_all state.tables (open_changes_of label state.past))
     → is_unique_throughout (tables_after_all state.tables (open_changes_of label state.past)) ≡ true
-committed_unique rise base dropped kept state label h none unique found =
+committed_unique rise base dropped kept state label h sees unique found =
     unique_outside rise base dropped (kept_after state label entry.Commit kept) (applied label entry.Commit (with_next_number state)) label (history_committed base dropped kept label state h)
-    (all_map (λ item. is_sum item.change ≡ false) (committed_own label (state.number + 1)) kept (all_weaker (λ item. is_sum item.change ≡ false) (λ item. is_sum (committed_own label (state.number + 1) item).change ≡ false) (λ item e. ap is_sum (commit_change label (state.number + 1) item) ∙ e) kept none))
+    (λ id. same_defined Unseeing (λ t p. p) (λ t p. p) (tables_after_all state.tables (open_changes_of label state.past)) state.tables (same_definitions state.tables (open_changes_of label state.past)) id
+    (some_at (λ t. AllByRecursion (λ rule. SeesNoSum rule t.id kept) t.indexes) Unseeing (table_with_id state.tables id)
+    (λ t is each. all_weaker (λ rule. SeesNoSum rule t.id kept) (λ rule. SeesNoSum rule t.id after_kept)
+    (λ rule plain. all_map (λ item. changed_table item.change ≡ t.id → adds_to_index rule item.change ≡ false) (committed_own label (state.number + 1)) kept
+    (all_weaker (λ item. changed_table item.change ≡ t.id → adds_to_index rule item.change ≡ false)
+    (λ item. changed_table (committed_own label (state.number + 1) item).change ≡ t.id → adds_to_index rule (committed_own label (state.number + 1) item).change ≡ false)
+    (λ item unseen own. ap (adds_to_index rule) (commit_change label (state.number + 1) item) ∙ unseen (sym (ap changed_table (commit_change label (state.number + 1) item)) ∙ own)) kept plain))
+    t.indexes each) (sees id)))
     (ap (λ (ts : ℕ → Option Transaction). ts label) (transaction-ended label committing) ∙ ap (λ b. cond b None (transaction_of state label)) (self_equal label))
     (unique_committed base kept state label unique) found
   where
     committing : DatabaseState
     committing = with_changes_at label every_change (λ item. record item { status = committed (state.number + 1) }) (record (with_next_number state) { tables = tables_after_all state.tables (open_changes_of label state.past) })
+
+    after_kept : List PastChange
+    after_kept = map (committed_own label (state.number + 1)) kept
+
+    Unseeing : Table → Type 0
+    Unseeing t = AllByRecursion (λ rule. SeesNoSum rule t.id after_kept) t.indexes

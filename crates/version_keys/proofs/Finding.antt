@@ -9,7 +9,7 @@ use Rattle.record_changes.specs.Records.{Records, record_after, records_of}
 use Rattle.version_history.specs.History.{InOrder, IsHistory, IsPlaced}
 use Rattle.version_history.specs.Readers.{is_standing, sees}
 use Rattle.version_keys.specs.UniqueKeys.{AreUnique, HasFreeKeys, InKeyOrder, SeesEarlier}
-use Rattle.version_keys.specs.Variants.{HasNoSums}
+use Rattle.version_keys.specs.KeySums.{SeesNoSum}
 use Rattle.version_history.proofs.FoundRecord.{seen_live}
 use Rattle.version_history.proofs.Lists.{all_weaker, each_and, each_both, each_weaker}
 use Rattle.version_history.proofs.SeenEarlier.{seen_where_apart}
@@ -24,25 +24,25 @@ seen_pair : (rule : IndexRule) (schema : Schema) (table : ℕ) (number : ℕ) (t
 seen_pair rule schema table number tables transactions session p q placed_p placed_q orders live seen either =
     seen_where_apart number tables transactions session p q placed_q live (λ standing. elim either [ inl hit ↦ orders.0 live standing hit | inr meets ↦ orders.1 live standing meets ]) seen
 
-pub unique_in_view : (base : Records) (dropped kept : List PastChange) (state : DatabaseState) → IsHistory base dropped kept state → HasNoSums kept → (rule : IndexRule) (schema : Schema) (table : ℕ)
-    → HasFreeKeys rule schema table (transaction_of state) base kept → (session : ℕ) → AreUnique rule schema table (records_of (view state session))
-unique_in_view base dropped kept state h none rule schema table free session =
+pub unique_in_view : (base : Records) (dropped kept : List PastChange) (state : DatabaseState) → IsHistory base dropped kept state → (rule : IndexRule) (schema : Schema) (table : ℕ)
+    → SeesNoSum rule table kept → HasFreeKeys rule schema table (transaction_of state) base kept → (session : ℕ) → AreUnique rule schema table (records_of (view state session))
+unique_in_view base dropped kept state h rule schema table plain free session =
     subst (AreUnique rule schema table) (sym (view_records base dropped kept state h session))
-    (unique_throughout rule schema table (sees session (transaction_of state session)) (seen_live session (transaction_of state session)) kept base base h.keeps.befores none
+    (unique_throughout rule schema table (sees session (transaction_of state session)) (seen_live session (transaction_of state session)) kept base base h.keeps.befores plain
     (all_weaker (IsPlaced state.number state.tables (transaction_of state)) (λ item. item.after ≡ record_after item.change item.before) (λ item p. p.3) kept h.keeps.placed)
     free.free_keys
     (each_both (IsPlaced state.number state.tables (transaction_of state)) (λ p q. InOrder (transaction_of state) p q × InKeyOrder rule schema table (transaction_of state) p q) (SeesEarlier rule schema table (sees session (transaction_of state session)))
     (seen_pair rule schema table state.number state.tables (transaction_of state) session) kept h.keeps.placed (each_and (InOrder (transaction_of state)) (InKeyOrder rule schema table (transaction_of state)) kept h.keeps.in_order free.key_order))
-    (λ bookmark. inl refl) free.at_first)
+    (λ bookmark. inl (λ key. refl)) free.at_first)
 
 -- ---- the newest state
 
-pub unique_newest : (base : Records) (dropped kept : List PastChange) (state : DatabaseState) → IsHistory base dropped kept state → HasNoSums kept → (rule : IndexRule) (schema : Schema) (table : ℕ)
-    → HasFreeKeys rule schema table (transaction_of state) base kept → AreUnique rule schema table (records_of (newest state))
-unique_newest base dropped kept state h none rule schema table free =
+pub unique_newest : (base : Records) (dropped kept : List PastChange) (state : DatabaseState) → IsHistory base dropped kept state → (rule : IndexRule) (schema : Schema) (table : ℕ)
+    → SeesNoSum rule table kept → HasFreeKeys rule schema table (transaction_of state) base kept → AreUnique rule schema table (records_of (newest state))
+unique_newest base dropped kept state h rule schema table plain free =
     subst (AreUnique rule schema table) (sym (newest_records base dropped kept state h))
-    (unique_throughout rule schema table is_standing (λ item standing. standing) kept base base h.keeps.befores none
+    (unique_throughout rule schema table is_standing (λ item standing. standing) kept base base h.keeps.befores plain
     (all_weaker (IsPlaced state.number state.tables (transaction_of state)) (λ item. item.after ≡ record_after item.change item.before) (λ item p. p.3) kept h.keeps.placed)
     free.free_keys
     (each_weaker (InOrder (transaction_of state)) (SeesEarlier rule schema table is_standing) (λ p q order live seen either. live) kept h.keeps.in_order)
-    (λ bookmark. inl refl) free.at_first)
+    (λ bookmark. inl (λ key. refl)) free.at_first)

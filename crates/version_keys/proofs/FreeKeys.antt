@@ -31,7 +31,7 @@ use Rattle.version_history.proofs.SeenEarlier.{seen_in_order}
 use Rattle.version_history.proofs.Unhindered.{seen_unless}
 use Rattle.version_history.proofs.Viewing.{view_records}
 use Rattle.version_keys.specs.UniqueKeys.{BringsKey, MeetsKey}
-use Rattle.version_keys.specs.Variants.{HasNoSums}
+use Rattle.version_keys.specs.KeySums.{SeesNoSum}
 use Rattle.version_keys.proofs.KeepingKeys.{key_of_newest}
 
 -- ---- the unique indexes among all, and the new keys among all
@@ -168,16 +168,16 @@ put_meets base dropped kept state h label table schema rule rows bookmark values
     (or_first (has_key_conflict state label table schema rule key) _ (brought state label table schema rule rows bookmark values new lawful key brings))))
 
 -- and no other newest record has it
-pub put_free : (base : Records) (dropped kept : List PastChange) (state : DatabaseState) → IsHistory base dropped kept state → HasNoSums kept → (label table : ℕ) (t : Transaction) → transaction_of state label ≡ Some t
-    → (schema : Schema) (rule : IndexRule) (rows : Rows) → ((other : List ℕ) → row_at rows other ≡ records_of (view state label) table other)
+pub put_free : (base : Records) (dropped kept : List PastChange) (state : DatabaseState) → IsHistory base dropped kept state → (label table : ℕ) (t : Transaction) → transaction_of state label ≡ Some t
+    → (schema : Schema) (rule : IndexRule) → SeesNoSum rule table kept → (rows : Rows) → ((other : List ℕ) → row_at rows other ≡ records_of (view state label) table other)
     → (bookmark : List ℕ) (values : RecordFields) (new : PastChange) → IsLawfulKey state label table schema rule rows bookmark values new
     → (key other : List ℕ) → BringsKey rule schema key new → bytes_eq (changed_bookmark new.change) other ≡ false → yields_key rule schema key (records_after_items is_standing base kept table other) ≡ false
-put_free base dropped kept state h none label table t e schema rule rows seen bookmark values new lawful key other brings apart =
+put_free base dropped kept state h label table t e schema rule plain rows seen bookmark values new lawful key other brings apart =
     refuted (yields_key rule schema key (records_after_items is_standing base kept table other)) (λ had.
     impossible (sym (ap (yields_key rule schema key) (sym (seen other ∙ ap (λ (r : Records). r table other) (view_records base dropped kept state h label))) ∙ off)
-    ∙ key_of_newest rule schema key table other (sees label (transaction_of state label)) (seen_live label (transaction_of state label)) kept base base h.keeps.befores none
+    ∙ key_of_newest rule schema key table other (sees label (transaction_of state label)) (seen_live label (transaction_of state label)) kept base base h.keeps.befores plain
     (all_weaker (IsPlaced state.number state.tables (transaction_of state)) (λ item. item.after ≡ record_after item.change item.before) (λ item p. p.3) kept h.keeps.placed)
-    bare (seen_in_order base dropped kept state h label) (inl refl) had))
+    bare (seen_in_order base dropped kept state h label) (inl (λ key. refl)) had))
   where
     free : (has_key_conflict state label table schema rule key || is_taken schema rows rule (Some bookmark) key) ≡ false
     free = brought state label table schema rule rows bookmark values new lawful key brings

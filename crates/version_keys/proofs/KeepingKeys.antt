@@ -1,8 +1,7 @@
 -- What keeps the keys of a unique index free.
-use Rattle.std.proofs.Common.{◌≡◌, ◌⊎◌, inl, inr, ℕ, Bool, true, false, not, ◌&&◌, cond, List, [], ◌∷◌, ◌++◌, Option, refl, sym, ap, subst, ◌∙◌, bytes_eq}
+use Rattle.std.proofs.Common.{◌≡◌, ◌⊎◌, inl, inr, ℕ, Bool, true, false, not, ◌&&◌, cond, List, [], ◌∷◌, ◌++◌, refl, sym, ap, subst, ◌∙◌, bytes_eq}
 use Rattle.std.specs.Prelude.{◌==◌, map, filter, fold}
 use Rattle.std.specs.List.{AllByRecursion}
-use Rattle.column_set.specs.RecordValues.{RecordFields}
 use Rattle.index_derive.specs.declared.rules.IndexRule.{IndexRule}
 use Rattle.index_derive.specs.declared.rules.Schema.{Schema}
 use Rattle.database_state.specs.Changes.{changed_table, changed_bookmark, is_sum}
@@ -11,7 +10,8 @@ use Rattle.database_state.specs.Conflicts.{collide, yields_key}
 use Rattle.record_changes.specs.Records.{Records, record_after, after_item, records_after_items, is_change_of}
 use Rattle.version_history.specs.Readers.{is_standing}
 use Rattle.version_history.specs.History.{EachTwo, HasBefores}
-use Rattle.version_keys.specs.Variants.{HasNoSums}
+use Rattle.version_keys.specs.KeySums.{HasSameKeys, SeesNoSum}
+use Rattle.version_keys.proofs.KeySums.{item_keeps, item_same}
 use Rattle.version_keys.specs.UniqueKeys.{BringsKey, BringsFreeKeys, SeesEarlier}
 use Rattle.record_changes.proofs.Commuting.{both_touch}
 use Rattle.record_changes.proofs.Tests.{and_both, and_left, and_right, impossible, same_bytes, same_number}
@@ -29,17 +29,17 @@ abbrev stays : (PastChange → Bool) → PastChange → Bool
 stays gone item = is_standing item && not (gone item)
 
 free_undone : (rule : IndexRule) (schema : Schema) (table : ℕ) (gone : PastChange → Bool) → ((item : PastChange) → gone item ≡ true → is_standing item ≡ true) → (items : List PastChange) (r newest : Records)
-    → HasBefores newest items → HasNoSums items → EachTwo (SeesEarlier rule schema table (stays gone)) items → AreOpenOrShut rule schema table (stays gone) r newest items
+    → HasBefores newest items → SeesNoSum rule table items → EachTwo (SeesEarlier rule schema table (stays gone)) items → AreOpenOrShut rule schema table (stays gone) r newest items
     → BringsFreeKeys rule schema table newest items → BringsFreeKeys rule schema table r (map (undone_where gone) items)
-free_undone rule schema table gone alive [] r newest befores none earlier either free = tt
-free_undone rule schema table gone alive (item ∷ items) r newest befores none earlier either free =
+free_undone rule schema table gone alive [] r newest befores plain earlier either free = tt
+free_undone rule schema table gone alive (item ∷ items) r newest befores plain earlier either free =
     elim (gone item) as (λ b. gone item ≡ b → BringsFreeKeys rule schema table r (cond b (record item { status = undone }) item ∷ map (undone_where gone) items)) [
       | true ↦ λ goes.
           let live = alive item goes in (
             (λ l. impossible l),
             free_undone rule schema table gone alive items r (after_item newest item)
-                (subst (λ (x : Records). HasBefores x items) (ap (λ b. cond b (after_item newest item) newest) live) befores.1) none.1 earlier.1
-                (open_unseen rule schema table (stays gone) r newest item items (ap (λ b. is_standing item && not b) goes ∙ last (is_standing item)) live none.0 (befores.0 live none.0) earlier.0 either)
+                (subst (λ (x : Records). HasBefores x items) (ap (λ b. cond b (after_item newest item) newest) live) befores.1) plain.1 earlier.1
+                (open_unseen rule schema table (stays gone) r newest item items (ap (λ b. is_standing item && not b) goes ∙ last (is_standing item)) live plain.0 (befores.0 live) earlier.0 either)
                 (subst (λ (x : Records). BringsFreeKeys rule schema table x items) (ap (λ b. cond b (after_item newest item) newest) live) free.1),
           )
       | false ↦ λ left. elim (is_standing item) as (λ b. is_standing item ≡ b → HasBefores (cond b (after_item newest item) newest) items → BringsFreeKeys rule schema table (cond b (after_item newest item) newest) items
@@ -48,12 +48,12 @@ free_undone rule schema table gone alive (item ∷ items) r newest befores none 
             | true ↦ λ live g f.
                 let seen : stays gone item ≡ true = and_both _ _ live (ap not left) in (
                   (λ l own key other brings apart. elim (either other) [
-                    | inl same ↦ ap (yields_key rule schema key) same ∙ free.0 live own key other brings apart
+                    | inl same ↦ same key ∙ free.0 live own key other brings apart
                     | inr shut ↦ refuse (yields_key rule schema key (r table other)) (λ had. (shut.0 seen own).1 key had brings apart)
                   ]),
-                  free_undone rule schema table gone alive items (after_item r item) (after_item newest item) g none.1 earlier.1 (open_seen rule schema table (stays gone) r newest item items seen either) f,
+                  free_undone rule schema table gone alive items (after_item r item) (after_item newest item) g plain.1 earlier.1 (open_seen rule schema table (stays gone) r newest item items seen plain.0 either) f,
                 )
-            | false ↦ λ live g f. ((λ l. impossible l), free_undone rule schema table gone alive items r newest g none.1 earlier.1 (tails either) f)
+            | false ↦ λ live g f. ((λ l. impossible l), free_undone rule schema table gone alive items r newest g plain.1 earlier.1 (tails either) f)
           ] refl befores.1 free.1
     ] refl
   where
@@ -69,38 +69,38 @@ free_undone rule schema table gone alive (item ∷ items) r newest befores none 
     tails h bookmark = elim (h bookmark) [ inl s ↦ inl s | inr shut ↦ inr shut.1 ]
 
 pub keys_undone : (rule : IndexRule) (schema : Schema) (table : ℕ) (gone : PastChange → Bool) → ((item : PastChange) → gone item ≡ true → is_standing item ≡ true) → (items : List PastChange) (base : Records)
-    → HasBefores base items → HasNoSums items → EachTwo (SeesEarlier rule schema table (λ item. is_standing item && not (gone item))) items
+    → HasBefores base items → SeesNoSum rule table items → EachTwo (SeesEarlier rule schema table (λ item. is_standing item && not (gone item))) items
     → BringsFreeKeys rule schema table base items → BringsFreeKeys rule schema table base (map (undone_where gone) items)
-keys_undone rule schema table gone alive items base befores none earlier free = free_undone rule schema table gone alive items base base befores none earlier (λ bookmark. inl refl) free
+keys_undone rule schema table gone alive items base befores plain earlier free = free_undone rule schema table gone alive items base base befores plain earlier (λ bookmark. inl (λ key. refl)) free
 
 -- ---- a change
 
--- what is known of a record while going on: the reader has it as it is newest, or no key, and then no change that it sees touches it
+-- what is known of a record while going on: the reader's has the keys of the newest, or that one not the key, and then no change that it sees touches it
 abbrev IsSameOrBare : IndexRule → Schema → List ℕ → ℕ → List ℕ → (PastChange → Bool) → Records → Records → List PastChange → Type 0
 IsSameOrBare rule schema key table bookmark test r newest items =
-    (r table bookmark ≡ newest table bookmark)
+    HasSameKeys rule schema (r table bookmark) (newest table bookmark)
     ⊎ ((yields_key rule schema key (newest table bookmark) ≡ false) × AllByRecursion (λ q. test q ≡ true → is_change_of table bookmark q.change ≡ true → ⊥) items)
 
 -- A key of a newest record is one of the reader's record, where no change that the reader does not see left it there.
 pub key_of_newest : (rule : IndexRule) (schema : Schema) (key : List ℕ) (table : ℕ) (bookmark : List ℕ) (test : PastChange → Bool) → ((item : PastChange) → test item ≡ true → is_standing item ≡ true) → (items : List PastChange) (r newest : Records)
-    → HasBefores newest items → HasNoSums items → AllByRecursion (λ item. item.after ≡ record_after item.change item.before) items
+    → HasBefores newest items → SeesNoSum rule table items → AllByRecursion (λ item. item.after ≡ record_after item.change item.before) items
     → AllByRecursion (λ p. is_standing p ≡ true → test p ≡ false → is_change_of table bookmark p.change ≡ true → yields_key rule schema key p.after ≡ false) items
     → EachTwo (λ p q. is_standing p ≡ true → test q ≡ true → collide p.change q.change ≡ true → test p ≡ true) items
     → IsSameOrBare rule schema key table bookmark test r newest items
     → yields_key rule schema key (records_after_items is_standing newest items table bookmark) ≡ true → yields_key rule schema key (records_after_items test r items table bookmark) ≡ true
-key_of_newest rule schema key table bookmark test alive [] r newest befores none afters bare earlier either had =
-    elim either [ inl same ↦ ap (yields_key rule schema key) same ∙ had | inr c ↦ never (sym had ∙ c.0) ]
-key_of_newest rule schema key table bookmark test alive (p ∷ items) r newest befores none afters bare earlier either had =
+key_of_newest rule schema key table bookmark test alive [] r newest befores plain afters bare earlier either had =
+    elim either [ inl same ↦ same key ∙ had | inr c ↦ never (sym had ∙ c.0) ]
+key_of_newest rule schema key table bookmark test alive (p ∷ items) r newest befores plain afters bare earlier either had =
     elim (is_standing p) as (λ b. is_standing p ≡ b → HasBefores (cond b (after_item newest p) newest) items → yields_key rule schema key (fold after_item newest (cond b (p ∷ filter is_standing items) (filter is_standing items)) table bookmark) ≡ true
     → yields_key rule schema key (records_after_items test r (p ∷ items) table bookmark) ≡ true) [
       | true ↦ λ live g h.
           elim (test p) as (λ b. test p ≡ b → yields_key rule schema key (fold after_item r (cond b (p ∷ filter test items) (filter test items)) table bookmark) ≡ true) [
-            | true ↦ λ seen. key_of_newest rule schema key table bookmark test alive items (after_item r p) (after_item newest p) g none.1 afters.1 bare.1 earlier.1 (both seen) h
-            | false ↦ λ unseen. key_of_newest rule schema key table bookmark test alive items r (after_item newest p) g none.1 afters.1 bare.1 earlier.1 (one live unseen) h
+            | true ↦ λ seen. key_of_newest rule schema key table bookmark test alive items (after_item r p) (after_item newest p) g plain.1 afters.1 bare.1 earlier.1 (both seen) h
+            | false ↦ λ unseen. key_of_newest rule schema key table bookmark test alive items r (after_item newest p) g plain.1 afters.1 bare.1 earlier.1 (one live unseen) h
           ] refl
       | false ↦ λ live g h.
           ap (λ b. yields_key rule schema key (fold after_item r (cond b (p ∷ filter test items) (filter test items)) table bookmark)) (refuse (test p) (λ e. sym (alive p e) ∙ live))
-          ∙ key_of_newest rule schema key table bookmark test alive items r newest g none.1 afters.1 bare.1 earlier.1 (tails either) h
+          ∙ key_of_newest rule schema key table bookmark test alive items r newest g plain.1 afters.1 bare.1 earlier.1 (tails either) h
     ] refl befores.1 had
   where
     refuse : (b : Bool) → (b ≡ true → true ≡ false) → b ≡ false
@@ -115,28 +115,37 @@ key_of_newest rule schema key table bookmark test alive (p ∷ items) r newest b
 
     both : test p ≡ true → IsSameOrBare rule schema key table bookmark test (after_item r p) (after_item newest p) items
     both seen = elim either [
-      | inl same ↦ inl (ap (λ (x : Option RecordFields). cond (is_change_of table bookmark p.change) (record_after p.change x) x) same)
+      | inl same ↦ inl (item_same rule schema r newest p table bookmark plain.0 same)
       | inr c ↦ inr (ap (yields_key rule schema key) (off newest (refuse (is_change_of table bookmark p.change) (λ e. absurd (c.1.0 seen e)))) ∙ c.0, c.1.1)
     ]
 
     one : is_standing p ≡ true → test p ≡ false → IsSameOrBare rule schema key table bookmark test r (after_item newest p) items
-    one live unseen =
-        elim (is_change_of table bookmark p.change) as (λ b. is_change_of table bookmark p.change ≡ b → IsSameOrBare rule schema key table bookmark test r (after_item newest p) items) [
-          | true ↦ λ e.
-              let of_table : changed_table p.change ≡ table = same_number (changed_table p.change) table (and_left _ _ e) in
-              let of_bookmark : changed_bookmark p.change ≡ bookmark = same_bytes (changed_bookmark p.change) bookmark (and_right (changed_table p.change == table) _ e) in
-              let was : p.before ≡ newest table bookmark = befores.0 live none.0 ∙ ap (λ (k : ℕ). newest k (changed_bookmark p.change)) of_table ∙ ap (newest table) of_bookmark in
-              let is : after_item newest p table bookmark ≡ p.after = ap (λ b. cond b (record_after p.change (newest table bookmark)) (newest table bookmark)) e ∙ ap (record_after p.change) (sym was) ∙ sym afters.0 in
-              inr (
-                ap (yields_key rule schema key) is ∙ bare.0 live unseen e,
-                all_weaker (λ q. is_standing p ≡ true → test q ≡ true → collide p.change q.change ≡ true → test p ≡ true) (λ q. test q ≡ true → is_change_of table bookmark q.change ≡ true → ⊥)
-                    (λ q h seen mine. never (sym (h live seen (and_both _ _ (both_touch table bookmark p.change q.change e mine) (ap (λ s. not (s && is_sum q.change)) none.0))) ∙ unseen)) items earlier.0,
-              )
-          | false ↦ λ e. elim either [
-            | inl same ↦ inl (same ∙ sym (off newest e))
-            | inr c ↦ inr (ap (yields_key rule schema key) (off newest e) ∙ c.0, c.1.1)
-          ]
-        ] refl
+    one live unseen = elim (is_sum p.change) as (λ b. is_sum p.change ≡ b → IsSameOrBare rule schema key table bookmark test r (after_item newest p) items) [
+      | true ↦ λ sum. elim either [
+        | inl same ↦ inl (λ k. same k ∙ sym (item_keeps rule schema newest p table bookmark sum plain.0 k))
+        | inr c ↦ inr (item_keeps rule schema newest p table bookmark sum plain.0 key ∙ c.0, c.1.1)
+      ]
+      | false ↦ λ sum. rewritten sum live unseen
+    ] refl
+      where
+        rewritten : is_sum p.change ≡ false → is_standing p ≡ true → test p ≡ false → IsSameOrBare rule schema key table bookmark test r (after_item newest p) items
+        rewritten sum live unseen =
+            elim (is_change_of table bookmark p.change) as (λ b. is_change_of table bookmark p.change ≡ b → IsSameOrBare rule schema key table bookmark test r (after_item newest p) items) [
+              | true ↦ λ e.
+                  let of_table : changed_table p.change ≡ table = same_number (changed_table p.change) table (and_left _ _ e) in
+                  let of_bookmark : changed_bookmark p.change ≡ bookmark = same_bytes (changed_bookmark p.change) bookmark (and_right (changed_table p.change == table) _ e) in
+                  let was : p.before ≡ newest table bookmark = befores.0 live sum ∙ ap (λ (k : ℕ). newest k (changed_bookmark p.change)) of_table ∙ ap (newest table) of_bookmark in
+                  let is : after_item newest p table bookmark ≡ p.after = ap (λ b. cond b (record_after p.change (newest table bookmark)) (newest table bookmark)) e ∙ ap (record_after p.change) (sym was) ∙ sym afters.0 in
+                  inr (
+                    ap (yields_key rule schema key) is ∙ bare.0 live unseen e,
+                    all_weaker (λ q. is_standing p ≡ true → test q ≡ true → collide p.change q.change ≡ true → test p ≡ true) (λ q. test q ≡ true → is_change_of table bookmark q.change ≡ true → ⊥)
+                        (λ q h seen mine. never (sym (h live seen (and_both _ _ (both_touch table bookmark p.change q.change e mine) (ap (λ s. not (s && is_sum q.change)) sum))) ∙ unseen)) items earlier.0,
+                  )
+              | false ↦ λ e. elim either [
+                | inl same ↦ inl (λ k. same k ∙ ap (yields_key rule schema k) (sym (off newest e)))
+                | inr c ↦ inr (ap (yields_key rule schema key) (off newest e) ∙ c.0, c.1.1)
+              ]
+            ] refl
 
 -- ---- one more
 

@@ -26,7 +26,7 @@ use Rattle.version_history.proofs.LawfulEntries.{outside}
 use Rattle.version_history.proofs.Lists.{all_both, all_true, each_and, each_append, each_both, each_map}
 use Rattle.version_history.proofs.Transactions.{same-with, transaction-begun, transaction-ended, transaction-entered, transaction-left, transaction-levels}
 use Rattle.version_keys.specs.UniqueKeys.{BringsFreeKeys, BringsKey, HasFreeKeys, InKeyOrder, MeetsKey, SeesEarlier}
-use Rattle.version_keys.specs.Variants.{HasNoSums}
+use Rattle.version_keys.specs.KeySums.{SeesNoSum}
 use Rattle.version_keys.proofs.KeepingKeys.{keys_append, keys_undone}
 
 -- ---- changes that become others of the same records
@@ -85,10 +85,10 @@ stays_pair rule schema table n tables transactions session test next p q pp pq o
 
 pub keys_undone_own : (rule : IndexRule) (schema : Schema) (table n : ℕ) (tables : List Table) (transactions : ℕ → Option Transaction) (base : Records) (kept : List PastChange) (session : ℕ) (test : PastChange → Bool)
     → ((p q : PastChange) → is_own_open session test p ≡ true → is_open_change_of session q ≡ true → IsPlaced n tables transactions q → LevelsRise p q → test q ≡ true)
-    → HasNoSums kept → KeepsHistory n tables transactions base kept → HasFreeKeys rule schema table transactions base kept → HasFreeKeys rule schema table transactions base (map (undone_where (is_own_open session test)) kept)
-keys_undone_own rule schema table n tables transactions base kept session test next none keeps h = record {
+    → SeesNoSum rule table kept → KeepsHistory n tables transactions base kept → HasFreeKeys rule schema table transactions base kept → HasFreeKeys rule schema table transactions base (map (undone_where (is_own_open session test)) kept)
+keys_undone_own rule schema table n tables transactions base kept session test next sees keeps h = record {
   at_first = h.at_first;
-  free_keys = keys_undone rule schema table (is_own_open session test) (λ item e. open_live item.status (and_left _ _ (and_left _ _ e))) kept base keeps.befores none
+  free_keys = keys_undone rule schema table (is_own_open session test) (λ item e. open_live item.status (and_left _ _ (and_left _ _ e))) kept base keeps.befores sees
       (each_both (IsPlaced n tables transactions) (λ p q. LevelsRise p q × (InOrder transactions p q × InKeyOrder rule schema table transactions p q))
       (SeesEarlier rule schema table (λ item. is_standing item && not (is_own_open session test item))) (stays_pair rule schema table n tables transactions session test next) kept keeps.placed
       (each_and LevelsRise (λ p q. InOrder transactions p q × InKeyOrder rule schema table transactions p q) kept keeps.levels (each_and (InOrder transactions) (InKeyOrder rule schema table transactions) kept keeps.in_order h.key_order)))
@@ -172,15 +172,15 @@ two_levels : (n : ℕ) → nat_le 2 n ≡ true → nat_lt 1 n ≡ true
 two_levels n e = grind (arith, nat_tests)
 
 pub keys_by_kind : (rule : IndexRule) (schema : Schema) (table : ℕ) (base : Records) (dropped kept : List PastChange) (state : DatabaseState) (label : ℕ) (kind : EntryKind) → changes_records kind ≡ false
-    → IsHistory base dropped kept state → HasNoSums kept → is_lawful_kind state label kind ≡ true → IsHistory base dropped (kept_after state label kind kept) (applied label kind (with_next_number state))
+    → IsHistory base dropped kept state → SeesNoSum rule table kept → is_lawful_kind state label kind ≡ true → IsHistory base dropped (kept_after state label kind kept) (applied label kind (with_next_number state))
     → HasFreeKeys rule schema table (transaction_of state) base kept → HasFreeKeys rule schema table (transaction_of (applied label kind (with_next_number state))) base (kept_after state label kind kept)
-keys_by_kind rule schema table base dropped kept state label entry.Enter plain h none e after free =
+keys_by_kind rule schema table base dropped kept state label entry.Enter plain h sees e after free =
     keys_same rule schema table base kept (transaction_of state) _ (transaction-entered label (with_next_number state) (not_true (is_some (live_session state label)) (and_left _ _ e))) free
-keys_by_kind rule schema table base dropped kept state label entry.Leave plain h none e after free =
+keys_by_kind rule schema table base dropped kept state label entry.Leave plain h sees e after free =
     let undoing : DatabaseState = with_changes_at label every_change (λ item. record item { status = undone }) (with_next_number state) in
     keys_moved rule schema table base dropped kept _ state _ label None
     (transaction-left label (all_undone label (with_next_number state)) ∙ ap (with_at label None) (transaction-ended label (with_changes_at label every_change (λ item. record item { status = undone }) (with_next_number state))) ∙ twice, tt) h after
-    (keys_undone_own rule schema table state.number state.tables (transaction_of state) base kept label every_change (λ p q x y z w. refl) none h.keeps free)
+    (keys_undone_own rule schema table state.number state.tables (transaction_of state) base kept label every_change (λ p q x y z w. refl) sees h.keeps free)
   where
     twice : with_at label None (with_at label None (transaction_of state)) ≡ with_at label None (transaction_of state)
     twice = λ i (x : ℕ). same (x == label) (transaction_of state x) i
@@ -188,11 +188,11 @@ keys_by_kind rule schema table base dropped kept state label entry.Leave plain h
         same : (b : Bool) (t : Option Transaction) → cond b None (cond b None t) ≡ cond b None t
         same true t = refl
         same false t = refl
-keys_by_kind rule schema table base dropped kept state label (entry.Open opened) plain h none e after free =
+keys_by_kind rule schema table base dropped kept state label (entry.Open opened) plain h sees e after free =
     keys_same rule schema table base kept (transaction_of state) _ (same-with label _ (λ s. refl) (λ s. refl) (with_next_number state)) free
-keys_by_kind rule schema table base dropped kept state label (entry.Shut opened) plain h none e after free =
+keys_by_kind rule schema table base dropped kept state label (entry.Shut opened) plain h sees e after free =
     keys_same rule schema table base kept (transaction_of state) _ (same-with label _ (λ s. refl) (λ s. refl) (with_next_number state)) free
-keys_by_kind rule schema table base dropped kept state label entry.Begin plain h none e after free =
+keys_by_kind rule schema table base dropped kept state label entry.Begin plain h sees e after free =
     keys_same rule schema table base kept (with_at label (Some (record { levels = 1; begin = state.number + 1; snapshot = state.tables })) (transaction_of state)) _
     (transaction-begun label (record { levels = 1; begin = state.number + 1; snapshot = state.tables }) (with_next_number state) (and_left _ _ e))
     (record {
@@ -203,14 +203,14 @@ keys_by_kind rule schema table base dropped kept state label entry.Begin plain h
           (λ p q pp pq. order_begun (MeetsKey rule schema table) state.number label state.tables (transaction_of state) (outside base dropped kept state h label (and_right (is_some (live_session state label)) _ e))
           (record { levels = 1; begin = state.number + 1; snapshot = state.tables }) p q pq) kept h.keeps.placed free.key_order;
     })
-keys_by_kind rule schema table base dropped kept state label entry.Save plain h none e after free =
+keys_by_kind rule schema table base dropped kept state label entry.Save plain h sees e after free =
     keys_moved rule schema table base dropped kept kept state _ label (at_levels (λ n. n + 1) (transaction_of state label)) (transaction-levels label (λ n. n + 1) (with_next_number state), more (transaction_of state label)) h after free
-keys_by_kind rule schema table base dropped kept state label (entry.Change change) plain h none e after free = impossible (sym plain)
-keys_by_kind rule schema table base dropped kept state label entry.Release plain h none e after free =
+keys_by_kind rule schema table base dropped kept state label (entry.Change change) plain h sees e after free = impossible (sym plain)
+keys_by_kind rule schema table base dropped kept state label entry.Release plain h sees e after free =
     keys_moved rule schema table base dropped kept _ state _ label (at_levels (λ n. n - 1) (transaction_of state label))
     (transaction-levels label (λ n. n - 1) (with_changes_at label (is_at_level (levels state label)) (λ item. record item { level = item.level - 1 }) (with_next_number state)), fewer (transaction_of state label) (two_levels (levels state label) e))
     h after (keys_lowered rule schema table (transaction_of state) base kept label (levels state label) free)
-keys_by_kind rule schema table base dropped kept state label entry.Undo plain h none e after free =
+keys_by_kind rule schema table base dropped kept state label entry.Undo plain h sees e after free =
     elim (nat_lt 1 (levels state label)) as (λ b. nat_lt 1 (levels state label) ≡ b → IsHistory base dropped kept_undone (cond b (with_levels label (λ n. n - 1) undoing) (with_transaction label None undoing))
     → HasFreeKeys rule schema table (transaction_of (cond b (with_levels label (λ n. n - 1) undoing) (with_transaction label None undoing))) base kept_undone) [
       | true ↦ λ more after. keys_moved rule schema table base dropped kept kept_undone state _ label (at_levels (λ n. n - 1) (transaction_of state label))
@@ -225,11 +225,11 @@ keys_by_kind rule schema table base dropped kept state label entry.Undo plain h 
     kept_undone = map (undone_where (is_own_open label (is_at_level (levels state label)))) kept
 
     made : HasFreeKeys rule schema table (transaction_of state) base kept_undone
-    made = keys_undone_own rule schema table state.number state.tables (transaction_of state) base kept label (is_at_level (levels state label)) (at_innermost label state) none h.keeps free
-keys_by_kind rule schema table base dropped kept state label entry.UndoAll plain h none e after free =
+    made = keys_undone_own rule schema table state.number state.tables (transaction_of state) base kept label (is_at_level (levels state label)) (at_innermost label state) sees h.keeps free
+keys_by_kind rule schema table base dropped kept state label entry.UndoAll plain h sees e after free =
     keys_moved rule schema table base dropped kept _ state _ label None (transaction-ended label (with_changes_at label every_change (λ item. record item { status = undone }) (with_next_number state)), tt) h after
-    (keys_undone_own rule schema table state.number state.tables (transaction_of state) base kept label every_change (λ p q x y z w. refl) none h.keeps free)
-keys_by_kind rule schema table base dropped kept state label entry.Commit plain h none e after free =
+    (keys_undone_own rule schema table state.number state.tables (transaction_of state) base kept label every_change (λ p q x y z w. refl) sees h.keeps free)
+keys_by_kind rule schema table base dropped kept state label entry.Commit plain h sees e after free =
     keys_same rule schema table base _ (with_at label None (transaction_of state)) _ (transaction-ended label (with_changes_at label every_change (λ item. record item { status = committed (state.number + 1) }) (record (with_next_number state) { tables = tables_after_all state.tables (open_changes_of label state.past) })))
     (keys_committed rule schema table state.number (transaction_of state) base kept label free)
-keys_by_kind rule schema table base dropped kept state label (entry.Schema made) plain h none e after free = impossible (sym plain)
+keys_by_kind rule schema table base dropped kept state label (entry.Schema made) plain h sees e after free = impossible (sym plain)

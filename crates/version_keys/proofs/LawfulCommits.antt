@@ -15,16 +15,16 @@ use Rattle.version_history.specs.History.{IsHistory}
 use Rattle.version_history.proofs.Lists.{all_both}
 use Rattle.version_keys.specs.TableOrder.{HasTablesInOrder}
 use Rattle.version_keys.specs.UniqueKeys.{HasUniqueKeys}
-use Rattle.version_keys.specs.Variants.{HasNoSums}
+use Rattle.version_keys.specs.KeySums.{IndexesSeeNoSum}
 use Rattle.version_keys.proofs.CommitKeys.{committed_unique}
 use Rattle.version_keys.proofs.OrderedTables.{found_each, order_after, to_rise}
 
-pub commit_lawful : KeysRise → (base : Records) (dropped kept : List PastChange) (state : DatabaseState) (label : ℕ) → IsHistory base dropped kept state → HasNoSums kept → HasUniqueKeys base kept state → HasTablesInOrder state → levels state label ≡ 1
+pub commit_lawful : KeysRise → (base : Records) (dropped kept : List PastChange) (state : DatabaseState) (label : ℕ) → IsHistory base dropped kept state → IndexesSeeNoSum kept state → HasUniqueKeys base kept state → HasTablesInOrder state → levels state label ≡ 1
     → is_lawful state (record { session = record { 0 = label }; kind = entry.Commit }) ≡ true
 unfolding is_lawful state_after
-commit_lawful rise base dropped kept state label h none unique ordered one =
+commit_lawful rise base dropped kept state label h sees unique ordered one =
     let order = order_after state.greatest_table state.tables (open_changes_of label state.past) (to_rise state ordered) in
     and_both _ _ (ap (λ n. n == 1) one ∙ self_equal 1)
-    (committed_unique rise base dropped kept state label h none unique
+    (committed_unique rise base dropped kept state label h sees unique
     (all_both (λ t. table_with_id (tables_after_all state.tables (open_changes_of label state.past)) t.id ≡ Some t) (λ t. RowsRise t.rows) (λ t. (table_with_id (tables_after_all state.tables (open_changes_of label state.past)) t.id ≡ Some t) × RowsRise t.rows)
     (λ t found rise. (found, rise)) (tables_after_all state.tables (open_changes_of label state.past)) (found_each (tables_after_all state.tables (open_changes_of label state.past)) order.0) order.2))

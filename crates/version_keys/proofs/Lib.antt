@@ -1,4 +1,6 @@
-pub mod WithoutSums
+pub mod KeySums
+pub mod FoundKeys
+pub mod KeyConflicts
 pub mod Walking
 pub mod VariantKeys
 pub mod UniqueThroughout
@@ -15,3 +17,5 @@ pub mod UniqueLaws
 pub mod CommitKeys
 pub mod OrderedTables
 pub mod LawfulCommits
+pub mod SumBefores
+pub mod EscrowSums

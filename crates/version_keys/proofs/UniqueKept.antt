@@ -11,7 +11,7 @@ use Rattle.index_derive.specs.declared.log.EntryKind.{EntryKind}
 use Rattle.index_derive.specs.declared.log.EntryKind.TheVariants as entry
 use Rattle.index_derive.specs.Entries.{is_unique}
 use Rattle.database_state.specs.Table.{Rows, Table, primary_rule, row_at, rows_of, schema_of, table_with_id}
-use Rattle.database_state.specs.Changes.{changed_table, changed_bookmark, is_sum, without_copied}
+use Rattle.database_state.specs.Changes.{changed_table, changed_bookmark, without_copied}
 use Rattle.database_state.specs.Puts.{is_taken, new_keys}
 use Rattle.database_state.specs.State.{DatabaseState, PastChange, Transaction, levels, levels_of, open_changes_of, transaction_of, undone}
 use Rattle.database_state.specs.View.{newest, view}
@@ -27,11 +27,12 @@ use Rattle.version_history.proofs.EndEntries.{back, same_definitions}
 use Rattle.version_history.proofs.Ending.{commit_before, commit_change, lower_before, lower_change}
 use Rattle.version_history.proofs.Entries.{history_later}
 use Rattle.version_history.proofs.Keeping.{undone_change}
-use Rattle.version_history.proofs.Lists.{all_true, all_weaker}
+use Rattle.version_history.proofs.Lists.{all_both, all_true, all_weaker}
 use Rattle.version_history.proofs.SeenRecords.{newest_records}
 use Rattle.version_history.proofs.Unhindered.{finds_newest}
 use Rattle.version_keys.specs.UniqueKeys.{BringsKey, HasBookmarkKeys, HasOwnKey, HasUniqueIndexes, HasUniqueKeys, IsSoundIndex, IsUniqueIndex, MeetsKey}
-use Rattle.version_keys.specs.Variants.{HasNoSums}
+use Rattle.version_keys.specs.KeySums.{IndexesSeeNoSum, SeesNoSum, adds_to_index}
+use Rattle.version_keys.proofs.KeySums.{seen_by, sum_keeps}
 use Rattle.version_keys.proofs.BookmarkKeys.{HasOneEntry, newest_own, own_appended, own_free, own_key, own_mapped, own_meets}
 use Rattle.version_keys.proofs.FreeKeys.{IsLawfulKey, in_any_order, put_free, put_meets, rules_pass}
 use Rattle.version_keys.proofs.KeysOfEntries.{changes_records, commit_after, keys_by_kind, keys_changed, lower_after}
@@ -116,20 +117,20 @@ same_tables state label entry.UndoAll plain = refl
 same_tables state label entry.Commit plain = same_definitions state.tables (open_changes_of label state.past)
 same_tables state label (entry.Schema made) plain = impossible (sym plain)
 
-pub unique_by_kind : (base : Records) (dropped kept : List PastChange) (state : DatabaseState) (label : ℕ) (kind : EntryKind) → changes_records kind ≡ false → IsHistory base dropped kept state → HasNoSums kept
+pub unique_by_kind : (base : Records) (dropped kept : List PastChange) (state : DatabaseState) (label : ℕ) (kind : EntryKind) → changes_records kind ≡ false → IsHistory base dropped kept state → IndexesSeeNoSum kept state
     → is_lawful_kind state label kind ≡ true → IsHistory base dropped (kept_after state label kind kept) (applied label kind (with_next_number state))
     → HasUniqueKeys base kept state → HasUniqueKeys base (kept_after state label kind kept) (applied label kind (with_next_number state))
-unique_by_kind base dropped kept state label kind plain h none e h_after unique = record {
+unique_by_kind base dropped kept state label kind plain h sees e h_after unique = record {
   tables = λ id. same_defined (HasUniqueIndexes after_transactions base after_kept) (λ t p. p) (λ t p. p) (applied label kind (with_next_number state)).tables state.tables (same_tables state label kind plain) id
       (some_at (HasUniqueIndexes (transaction_of state) base kept) (HasUniqueIndexes after_transactions base after_kept) (table_with_id state.tables id)
-      (λ t f each. all_weaker (λ rule. IsSoundIndex t rule × IsUniqueIndex (transaction_of state) base kept t rule) (λ rule. IsSoundIndex t rule × IsUniqueIndex after_transactions base after_kept t rule)
-      (λ rule both. (
+      (λ t f each. all_both (λ rule. IsSoundIndex t rule × IsUniqueIndex (transaction_of state) base kept t rule) (λ rule. SeesNoSum rule t.id kept) (λ rule. IsSoundIndex t rule × IsUniqueIndex after_transactions base after_kept t rule)
+      (λ rule both unseen. (
         both.0,
         λ is. let keys = both.1 is in (
-          keys_by_kind rule (schema_of t) t.id base dropped kept state label kind plain h none e h_after keys.0,
+          keys_by_kind rule (schema_of t) t.id base dropped kept state label kind plain h unseen e h_after keys.0,
           λ primary. own_by_kind rule (schema_of t) t.id base kept state label kind plain (keys.1 primary),
         ),
-      )) t.indexes each) (unique.tables id));
+      )) t.indexes each (seen_by kept state sees id t f)) (unique.tables id));
 }
   where
     after_transactions : ℕ → Option Transaction
@@ -146,6 +147,10 @@ NewKeys state base kept label t new table rule =
     ((changed_table new.change ≡ table.id → (key other : List ℕ) → BringsKey rule (schema_of table) key new → bytes_eq (changed_bookmark new.change) other ≡ false → yields_key rule (schema_of table) key (records_after_items is_standing base kept table.id other) ≡ false)
     × AllByRecursion (λ p. is_standing p ≡ true → MeetsKey rule (schema_of table) table.id p new → is_concurrent label (Some t) p ≡ false) kept)
     × (rule.flags.primary ≡ true → changed_table new.change ≡ table.id → HasOwnKey rule (schema_of table) (changed_bookmark new.change) new.before × HasOwnKey rule (schema_of table) (changed_bookmark new.change) new.after)
+
+-- what is known of an index of the table
+abbrev IsKnown : DatabaseState → Records → List PastChange → Table → IndexRule → Type 0
+IsKnown state base kept table rule = (IsSoundIndex table rule × IsUniqueIndex (transaction_of state) base kept table rule) × SeesNoSum rule table.id kept
 
 -- a change that brings no key
 brings_none : (state : DatabaseState) (base : Records) (kept : List PastChange) (label : ℕ) (t : Transaction) (new : PastChange) (table : Table) (rule : IndexRule)
@@ -165,30 +170,30 @@ brings_none state base kept label t new table rule keeps own = (
 newest_before : (base : Records) (dropped kept : List PastChange) (state : DatabaseState) → IsHistory base dropped kept state → records_of (newest (with_next_number state)) ≡ records_after_items is_standing base kept
 newest_before base dropped kept state h = newest_records base dropped kept (with_next_number state) (history_later base dropped kept state h)
 
-own_before : (base : Records) (dropped kept : List PastChange) (state : DatabaseState) → IsHistory base dropped kept state → HasNoSums kept → (table : Table) (rule : IndexRule) → HasBookmarkKeys rule (schema_of table) table.id base kept
+own_before : (base : Records) (dropped kept : List PastChange) (state : DatabaseState) → IsHistory base dropped kept state → (table : Table) (rule : IndexRule) → SeesNoSum rule table.id kept → HasBookmarkKeys rule (schema_of table) table.id base kept
     → (bookmark : List ℕ) → HasOwnKey rule (schema_of table) bookmark (records_after_items is_standing base kept table.id bookmark)
-own_before base dropped kept state h none table rule own bookmark =
-    newest_own rule (schema_of table) table.id kept base h.keeps.befores none
+own_before base dropped kept state h table rule sees own bookmark =
+    newest_own rule (schema_of table) table.id kept base h.keeps.befores sees
     (all_weaker (IsPlaced state.number state.tables (transaction_of state)) (λ item. item.after ≡ record_after item.change item.before) (λ item p. p.3) kept h.keeps.placed) own bookmark
 
 parts_of_lawful : (state : DatabaseState) (label : ℕ) (table : Table) (rows : Rows) (bookmark : List ℕ) (copied : Option (List ℕ)) (values : RecordFields) → is_lawful_put state label table rows bookmark copied values ≡ true
     → (has_free_keys state label table.id (schema_of table) rows bookmark values ≡ true) × (is_bookmark_of (state.number + 1) (schema_of table) rows (primary_rule (schema_of table)) bookmark values ≡ true)
 parts_of_lawful state label table rows bookmark copied values lawful = (and_right _ _ (and_left _ _ (and_left _ _ (and_left _ _ lawful))), and_right _ _ (and_left _ _ (and_left _ _ lawful)))
 
-put_keys : HasOneEntry → (base : Records) (dropped kept : List PastChange) (state : DatabaseState) (label : ℕ) (t : Transaction) → IsHistory base dropped kept state → HasNoSums kept → transaction_of state label ≡ Some t
+put_keys : HasOneEntry → (base : Records) (dropped kept : List PastChange) (state : DatabaseState) (label : ℕ) (t : Transaction) → IsHistory base dropped kept state → transaction_of state label ≡ Some t
     → (table : Table) (rows : Rows) → rows ≡ rows_of (table_with_id (view state label) table.id) → (bookmark : List ℕ) (copied : Option (List ℕ)) (values : RecordFields) (new : PastChange)
     → is_lawful_put state label table rows bookmark copied values ≡ true → changed_bookmark new.change ≡ bookmark → new.before ≡ records_after_items is_standing base kept table.id bookmark
     → new.before ≡ row_at rows bookmark → new.after ≡ Some values
-    → AllByRecursion (λ rule. IsSoundIndex table rule × IsUniqueIndex (transaction_of state) base kept table rule) table.indexes
+    → AllByRecursion (IsKnown state base kept table) table.indexes
     → AllByRecursion (λ rule. is_unique rule ≡ true → NewKeys state base kept label t new table rule) table.indexes
-put_keys one base dropped kept state label t h none e table rows is_rows bookmark copied values new lawful of_bookmark newest_is before after each =
-    both (λ rule. IsSoundIndex table rule × IsUniqueIndex (transaction_of state) base kept table rule) (λ rule. is_unique rule ≡ true → test rule ≡ true) (λ rule. is_unique rule ≡ true → NewKeys state base kept label t new table rule)
+put_keys one base dropped kept state label t h e table rows is_rows bookmark copied values new lawful of_bookmark newest_is before after each =
+    both (IsKnown state base kept table) (λ rule. is_unique rule ≡ true → test rule ≡ true) (λ rule. is_unique rule ≡ true → NewKeys state base kept label t new table rule)
     (λ rule known passes is. elim (rule.flags.primary) as (λ b. rule.flags.primary ≡ b → NewKeys state base kept label t new table rule) [
-      | true ↦ λ primary. primary_keys rule primary known.0 ((known.1 is).1 primary)
+      | true ↦ λ primary. primary_keys rule primary known.1 known.0.0 ((known.0.1 is).1 primary)
       | false ↦ λ plain.
-          let is_lawful_key : IsLawfulKey state label table.id (schema_of table) rule rows bookmark values new = record { found = known.0.0; plain = plain; passes = passes is; after = after; before = before; bookmark_of = of_bookmark } in (
+          let is_lawful_key : IsLawfulKey state label table.id (schema_of table) rule rows bookmark values new = record { found = known.0.0.0; plain = plain; passes = passes is; after = after; before = before; bookmark_of = of_bookmark } in (
             (
-              (λ of_table. put_free base dropped kept state h none label table.id t e (schema_of table) rule rows (λ other. ap (λ (r : Rows). row_at r other) is_rows) bookmark values new is_lawful_key),
+              (λ of_table. put_free base dropped kept state h label table.id t e (schema_of table) rule known.1 rows (λ other. ap (λ (r : Rows). row_at r other) is_rows) bookmark values new is_lawful_key),
               all_weaker (λ p. is_standing p ≡ true → MeetsKey rule (schema_of table) table.id p new → is_concurrent label (transaction_of state label) p ≡ false) (λ p. is_standing p ≡ true → MeetsKey rule (schema_of table) table.id p new → is_concurrent label (Some t) p ≡ false)
                   (λ p f live meets. ap (λ u. is_concurrent label u p) (sym e) ∙ f live meets) kept (put_meets base dropped kept state h label table.id (schema_of table) rule rows bookmark values new is_lawful_key),
             ),
@@ -210,66 +215,75 @@ put_keys one base dropped kept state label t h none e table rows is_rows bookmar
     under : is_bookmark_of (state.number + 1) (schema_of table) rows (primary_rule (schema_of table)) bookmark values ≡ true
     under = (parts_of_lawful state label table rows bookmark copied values lawful).1
 
-    primary_keys : (rule : IndexRule) → rule.flags.primary ≡ true → IsSoundIndex table rule → HasBookmarkKeys rule (schema_of table) table.id base kept → NewKeys state base kept label t new table rule
-    primary_keys rule primary sound own =
+    primary_keys : (rule : IndexRule) → rule.flags.primary ≡ true → SeesNoSum rule table.id kept → IsSoundIndex table rule → HasBookmarkKeys rule (schema_of table) table.id base kept → NewKeys state base kept label t new table rule
+    primary_keys rule primary sees sound own =
         let legal = sound.2 primary in
         let has : HasOwnKey rule (schema_of table) bookmark (Some values) =
         own_key one rule (schema_of table) legal.1 primary values bookmark (ap (λ found. is_bookmark_of (state.number + 1) (schema_of table) rows found bookmark values) (sym legal.0) ∙ under) in
         let owns : HasOwnKey rule (schema_of table) (changed_bookmark new.change) new.after = λ key had. has key (ap (yields_key rule (schema_of table) key) (sym after) ∙ had) ∙ sym of_bookmark in (
           (
-            (λ of_table. own_free rule (schema_of table) table.id (records_after_items is_standing base kept) new (own_before base dropped kept state h none table rule own) owns),
+            (λ of_table. own_free rule (schema_of table) table.id (records_after_items is_standing base kept) new (own_before base dropped kept state h table rule sees own) owns),
             own_meets rule (schema_of table) table.id base kept new (λ p. is_concurrent label (Some t) p ≡ false) own owns,
           ),
           λ is of_table. (
-            (λ key had. own_before base dropped kept state h none table rule own bookmark key (ap (yields_key rule (schema_of table) key) (sym newest_is) ∙ had) ∙ sym of_bookmark),
+            (λ key had. own_before base dropped kept state h table rule sees own bookmark key (ap (yields_key rule (schema_of table) key) (sym newest_is) ∙ had) ∙ sym of_bookmark),
             owns,
           ),
         )
 
--- a change of another table, or one that is no put
-other_keys : (base : Records) (dropped kept : List PastChange) (state : DatabaseState) (label : ℕ) (t : Transaction) → IsHistory base dropped kept state → HasNoSums kept → (table : Table) (new : PastChange)
-    → new.before ≡ records_after_items is_standing base kept (changed_table new.change) (changed_bookmark new.change)
-    → ((rule : IndexRule) → changed_table new.change ≡ table.id → (key : List ℕ) → yields_key rule (schema_of table) key new.after ≡ true → yields_key rule (schema_of table) key new.before ≡ true)
-    → AllByRecursion (λ rule. IsSoundIndex table rule × IsUniqueIndex (transaction_of state) base kept table rule) table.indexes
-    → AllByRecursion (λ rule. is_unique rule ≡ true → NewKeys state base kept label t new table rule) table.indexes
-other_keys base dropped kept state label t h none table new newest_is keeps each =
-    all_weaker (λ rule. IsSoundIndex table rule × IsUniqueIndex (transaction_of state) base kept table rule) (λ rule. is_unique rule ≡ true → NewKeys state base kept label t new table rule)
-    (λ rule known is. brings_none state base kept label t new table rule (keeps rule)
-    (λ primary of_table key had. own_before base dropped kept state h none table rule ((known.1 is).1 primary) (changed_bookmark new.change) key
-    (ap (yields_key rule (schema_of table) key) (sym (newest_is ∙ ap (λ k. records_after_items is_standing base kept k (changed_bookmark new.change)) of_table)) ∙ had))) table.indexes each
+-- the change brings no key to the index
+abbrev BringsNone : PastChange → Table → IndexRule → Type 0
+BringsNone new table rule = changed_table new.change ≡ table.id → (key : List ℕ) → yields_key rule (schema_of table) key new.after ≡ true → yields_key rule (schema_of table) key new.before ≡ true
 
-keys_of_change : HasOneEntry → (base : Records) (dropped kept : List PastChange) (state : DatabaseState) (label : ℕ) (t : Transaction) (change : Change) → IsHistory base dropped kept state → HasNoSums kept → is_sum change ≡ false → transaction_of state label ≡ Some t
+-- a change of another table, or one that is no put
+other_keys : (base : Records) (dropped kept : List PastChange) (state : DatabaseState) (label : ℕ) (t : Transaction) → IsHistory base dropped kept state → (table : Table) (new : PastChange)
+    → new.before ≡ records_after_items is_standing base kept (changed_table new.change) (changed_bookmark new.change)
+    → AllByRecursion (BringsNone new table) table.indexes → AllByRecursion (IsKnown state base kept table) table.indexes
+    → AllByRecursion (λ rule. is_unique rule ≡ true → NewKeys state base kept label t new table rule) table.indexes
+other_keys base dropped kept state label t h table new newest_is keeps each =
+    all_both (BringsNone new table) (IsKnown state base kept table) (λ rule. is_unique rule ≡ true → NewKeys state base kept label t new table rule)
+    (λ rule brings known is. brings_none state base kept label t new table rule brings
+    (λ primary of_table key had. own_before base dropped kept state h table rule known.1 ((known.0.1 is).1 primary) (changed_bookmark new.change) key
+    (ap (yields_key rule (schema_of table) key) (sym (newest_is ∙ ap (λ k. records_after_items is_standing base kept k (changed_bookmark new.change)) of_table)) ∙ had))) table.indexes keeps each
+
+keys_of_change : HasOneEntry → (base : Records) (dropped kept : List PastChange) (state : DatabaseState) (label : ℕ) (t : Transaction) (change : Change) → IsHistory base dropped kept state → transaction_of state label ≡ Some t
     → has_write_conflict state label change ≡ false → is_lawful_at state label (table_with_id state.tables (changed_table change)) change ≡ true
     → (new_change label change (with_next_number state)).after ≡ record_after (without_copied change) (new_change label change (with_next_number state)).before
-    → (table : Table) → table_with_id state.tables table.id ≡ Some table → AllByRecursion (λ rule. IsSoundIndex table rule × IsUniqueIndex (transaction_of state) base kept table rule) table.indexes
+    → (table : Table) → table_with_id state.tables table.id ≡ Some table → AllByRecursion (IsKnown state base kept table) table.indexes
+    → AllByRecursion (λ rule. changed_table change ≡ table.id → adds_to_index rule change ≡ false) table.indexes
     → AllByRecursion (λ rule. is_unique rule ≡ true → NewKeys state base kept label t (new_change label change (with_next_number state)) table rule) table.indexes
-keys_of_change one base dropped kept state label t (Put id bookmark copied values) h none sum e free lawful after table is_table each =
+keys_of_change one base dropped kept state label t (Put id bookmark copied values) h e free lawful after table is_table each adds =
     elim (id.0 == table.id) as (λ b. (id.0 == table.id) ≡ b → AllByRecursion (λ rule. is_unique rule ≡ true → NewKeys state base kept label t (new_change label (Put id bookmark copied values) (with_next_number state)) table rule) table.indexes) [
       | true ↦ λ f.
           let same : id.0 ≡ table.id = same_number id.0 table.id f in
           let newest_is : (new_change label (Put id bookmark copied values) (with_next_number state)).before ≡ records_after_items is_standing base kept table.id bookmark =
           ap (λ (r : Records). r id.0 bookmark) (newest_before base dropped kept state h) ∙ ap (λ k. records_after_items is_standing base kept k bookmark) same in
-          put_keys one base dropped kept state label t h none e table (rows_of (table_with_id (view state label) table.id)) refl bookmark copied values (new_change label (Put id bookmark copied values) (with_next_number state))
+          put_keys one base dropped kept state label t h e table (rows_of (table_with_id (view state label) table.id)) refl bookmark copied values (new_change label (Put id bookmark copied values) (with_next_number state))
           (sym (ap (λ found. is_lawful_at state label found (Put id bookmark copied values)) (ap (table_with_id state.tables) same ∙ is_table)) ∙ lawful) refl newest_is
           (newest_is ∙ sym (ap (λ (r : Records). r table.id bookmark) (newest_records base dropped kept state h)) ∙ sym (ap (λ k. records_of (newest state) k bookmark) same)
-          ∙ finds_newest base dropped kept state h label t (Put id bookmark copied values) e sum free ∙ ap (λ k. records_of (view state label) k bookmark) same)
+          ∙ finds_newest base dropped kept state h label t (Put id bookmark copied values) e refl free ∙ ap (λ k. records_of (view state label) k bookmark) same)
           after each
-      | false ↦ λ f. other_keys base dropped kept state label t h none table (new_change label (Put id bookmark copied values) (with_next_number state)) (ap (λ (r : Records). r id.0 bookmark) (newest_before base dropped kept state h))
-          (λ rule of_table. absurd (impossible (sym f ∙ ap (λ k. k == table.id) of_table ∙ self_equal table.id))) each
+      | false ↦ λ f. other_keys base dropped kept state label t h table (new_change label (Put id bookmark copied values) (with_next_number state)) (ap (λ (r : Records). r id.0 bookmark) (newest_before base dropped kept state h))
+          (all_true (BringsNone (new_change label (Put id bookmark copied values) (with_next_number state)) table) (λ rule of_table. absurd (impossible (sym f ∙ ap (λ k. k == table.id) of_table ∙ self_equal table.id))) table.indexes) each
     ] refl
-keys_of_change one base dropped kept state label t (Drop id bookmark) h none sum e free lawful after table is_table each =
-    other_keys base dropped kept state label t h none table (new_change label (Drop id bookmark) (with_next_number state)) (ap (λ (r : Records). r id.0 bookmark) (newest_before base dropped kept state h))
-    (λ rule of_table key had. impossible (ap (yields_key rule (schema_of table) key) (sym after) ∙ had)) each
-keys_of_change one base dropped kept state label t (Hold id bookmark) h none sum e free lawful after table is_table each =
-    other_keys base dropped kept state label t h none table (new_change label (Hold id bookmark) (with_next_number state)) (ap (λ (r : Records). r id.0 bookmark) (newest_before base dropped kept state h))
-    (λ rule of_table key had. ap (yields_key rule (schema_of table) key) (sym after) ∙ had) each
-keys_of_change one base dropped kept state label t (Add id bookmark column amount) h none sum e free lawful after table is_table each = impossible (sym sum)
+keys_of_change one base dropped kept state label t (Drop id bookmark) h e free lawful after table is_table each adds =
+    other_keys base dropped kept state label t h table (new_change label (Drop id bookmark) (with_next_number state)) (ap (λ (r : Records). r id.0 bookmark) (newest_before base dropped kept state h))
+    (all_true (BringsNone (new_change label (Drop id bookmark) (with_next_number state)) table) (λ rule of_table key had. impossible (ap (yields_key rule (schema_of table) key) (sym after) ∙ had)) table.indexes) each
+keys_of_change one base dropped kept state label t (Hold id bookmark) h e free lawful after table is_table each adds =
+    other_keys base dropped kept state label t h table (new_change label (Hold id bookmark) (with_next_number state)) (ap (λ (r : Records). r id.0 bookmark) (newest_before base dropped kept state h))
+    (all_true (BringsNone (new_change label (Hold id bookmark) (with_next_number state)) table) (λ rule of_table key had. ap (yields_key rule (schema_of table) key) (sym after) ∙ had) table.indexes) each
+keys_of_change one base dropped kept state label t (Add id bookmark column amount) h e free lawful after table is_table each adds =
+    other_keys base dropped kept state label t h table (new_change label (Add id bookmark column amount) (with_next_number state)) (ap (λ (r : Records). r id.0 bookmark) (newest_before base dropped kept state h))
+    (all_weaker (λ rule. id.0 ≡ table.id → adds_to_index rule (Add id bookmark column amount) ≡ false) (BringsNone (new_change label (Add id bookmark column amount) (with_next_number state)) table)
+    (λ rule unseen of_table key had.
+    sym (sum_keeps rule (schema_of table) (Add id bookmark column amount) (unseen of_table) refl (new_change label (Add id bookmark column amount) (with_next_number state)).before key)
+    ∙ ap (yields_key rule (schema_of table) key) (sym after) ∙ had) table.indexes adds) each
 
 -- the change with what is known of it
-change_by : HasOneEntry → (base : Records) (dropped kept : List PastChange) (state : DatabaseState) (label : ℕ) (t : Transaction) (change : Change) → transaction_of state label ≡ Some t → IsHistory base dropped kept state → HasNoSums kept → is_sum change ≡ false
+change_by : HasOneEntry → (base : Records) (dropped kept : List PastChange) (state : DatabaseState) (label : ℕ) (t : Transaction) (change : Change) → transaction_of state label ≡ Some t → IsHistory base dropped kept state → IndexesSeeNoSum kept state → IndexesSeeNoSum (kept_after state label (entry.Change change) kept) state
     → is_lawful_change state label change ≡ true → IsHistory base dropped (kept_after state label (entry.Change change) kept) (applied label (entry.Change change) (with_next_number state))
     → HasUniqueKeys base kept state → HasUniqueKeys base (kept_after state label (entry.Change change) kept) (applied label (entry.Change change) (with_next_number state))
-change_by one base dropped kept state label t change e h none sum lawful h_after unique = record {
+change_by one base dropped kept state label t change e h sees sees_after lawful h_after unique = record {
   tables = λ id. some_at (HasUniqueIndexes (transaction_of state) base kept) (HasUniqueIndexes (transaction_of state) base (kept ++ new ∷ [])) (table_with_id state.tables id)
       (λ table is each. both (λ rule. IsSoundIndex table rule × IsUniqueIndex (transaction_of state) base kept table rule) (λ rule. is_unique rule ≡ true → NewKeys state base kept label t new table rule)
       (λ rule. IsSoundIndex table rule × IsUniqueIndex (transaction_of state) base (kept ++ new ∷ []) table rule)
@@ -280,12 +294,28 @@ change_by one base dropped kept state label t change e h none sum lawful h_after
           λ primary. own_appended rule (schema_of table) table.id base kept new (new_keys.1 primary) (keys.1 primary),
         ),
       )) table.indexes each
-      (keys_of_change one base dropped kept state label t change h none sum e (not_true (has_write_conflict state label change) (and_right _ _ (and_left _ _ lawful))) (and_right _ _ lawful) after table
-      (ap (table_with_id state.tables) (id_of state.tables id table is) ∙ is) each)) (unique.tables id);
+      (keys_of_change one base dropped kept state label t change h e (not_true (has_write_conflict state label change) (and_right _ _ (and_left _ _ lawful))) (and_right _ _ lawful) after table
+      (ap (table_with_id state.tables) (id_of state.tables id table is) ∙ is)
+      (both (λ rule. IsSoundIndex table rule × IsUniqueIndex (transaction_of state) base kept table rule) (λ rule. SeesNoSum rule table.id kept) (IsKnown state base kept table) (λ rule known plain. (known, plain)) table.indexes each (seen_by kept state sees id table is))
+      (all_weaker (λ rule. SeesNoSum rule table.id (kept ++ new ∷ [])) (λ rule. changed_table change ≡ table.id → adds_to_index rule change ≡ false)
+      (λ rule plain of_table. unadded rule change ((back (λ item. changed_table item.change ≡ table.id → adds_to_index rule item.change ≡ false) kept (new ∷ []) plain).0 (same_place change ∙ of_table))) table.indexes
+      (seen_by (kept ++ new ∷ []) state sees_after id table is)))) (unique.tables id);
 }
   where
     new : PastChange
     new = new_change label change (with_next_number state)
+
+    same_place : (c : Change) → changed_table (without_copied c) ≡ changed_table c
+    same_place (Put id bookmark copied values) = refl
+    same_place (Drop id bookmark) = refl
+    same_place (Hold id bookmark) = refl
+    same_place (Add id bookmark column amount) = refl
+
+    unadded : (rule : IndexRule) (c : Change) → adds_to_index rule (without_copied c) ≡ false → adds_to_index rule c ≡ false
+    unadded rule (Put id bookmark copied values) g = g
+    unadded rule (Drop id bookmark) g = g
+    unadded rule (Hold id bookmark) g = g
+    unadded rule (Add id bookmark column amount) g = g
 
     after : (new_change label change (with_next_number state)).after ≡ record_after (without_copied change) (new_change label change (with_next_number state)).before
     after = (back (IsPlaced (state.number + 1) state.tables (transaction_of state)) kept (new_change label change (with_next_number state) ∷ []) h_after.keeps.placed).0.3
@@ -294,11 +324,11 @@ change_by one base dropped kept state label t change e h none sum lawful h_after
     both P Q R f [] p q = tt
     both P Q R f (rule ∷ rules) p q = (f rule p.0 q.0, both P Q R f rules p.1 q.1)
 
-pub unique_changed : HasOneEntry → (base : Records) (dropped kept : List PastChange) (state : DatabaseState) (label : ℕ) (change : Change) → IsHistory base dropped kept state → HasNoSums kept → is_sum change ≡ false
+pub unique_changed : HasOneEntry → (base : Records) (dropped kept : List PastChange) (state : DatabaseState) (label : ℕ) (change : Change) → IsHistory base dropped kept state → IndexesSeeNoSum kept state → IndexesSeeNoSum (kept_after state label (entry.Change change) kept) state
     → is_lawful_change state label change ≡ true → IsHistory base dropped (kept_after state label (entry.Change change) kept) (applied label (entry.Change change) (with_next_number state))
     → HasUniqueKeys base kept state → HasUniqueKeys base (kept_after state label (entry.Change change) kept) (applied label (entry.Change change) (with_next_number state))
-unique_changed one base dropped kept state label change h none sum lawful h_after unique = by (transaction_of state label) refl
+unique_changed one base dropped kept state label change h sees sees_after lawful h_after unique = by (transaction_of state label) refl
   where
     by : (t : Option Transaction) → transaction_of state label ≡ t → HasUniqueKeys base (kept_after state label (entry.Change change) kept) (applied label (entry.Change change) (with_next_number state))
     by None e = impossible (sym (ap (λ u. nat_lt 0 (levels_of u)) e) ∙ and_left _ _ (and_left _ _ lawful))
-    by (Some t) e = change_by one base dropped kept state label t change e h none sum lawful h_after unique
+    by (Some t) e = change_by one base dropped kept state label t change e h sees sees_after lawful h_after unique

@@ -2,8 +2,6 @@
 use Rattle.std.proofs.Common.{◌≡◌, inl, ℕ, true, false, not, List, [], ◌∷◌, Option, Some, None, refl, sym, ap, subst, ◌∙◌}
 use Rattle.std.specs.Prelude.{if◌then◌else◌, is_none, IfSome}
 use Rattle.std.specs.List.{AllByRecursion}
-use Rattle.column_set.specs.declared.changes.Change.{Change}
-use Rattle.column_set.specs.declared.changes.Change.TheVariants.{Put, Drop, Hold, Add}
 use Rattle.index_derive.specs.declared.rules.IndexRule.{IndexRule}
 use Rattle.index_derive.specs.declared.rules.Schema.{Schema}
 use Rattle.index_derive.specs.declared.log.Entry.{Entry}
@@ -12,7 +10,7 @@ use Rattle.index_derive.specs.declared.log.EntryKind.TheVariants as entry
 use Rattle.index_derive.specs.declared.schema_calls.SchemaStep.{SchemaStep}
 use Rattle.index_derive.specs.Entries.{has_double_key, is_unique}
 use Rattle.database_state.specs.Table.{Table, row_at, rows_of, schema_of, table_with_id}
-use Rattle.database_state.specs.Changes.{changed_table, changed_bookmark, is_sum, without_copied}
+use Rattle.database_state.specs.Changes.{changed_table, changed_bookmark, is_sum}
 use Rattle.database_state.specs.State.{DatabaseState, PastChange, Status, Transaction, committed, is_undone, transaction_of, uncommitted, undone}
 use Rattle.database_state.specs.Conflicts.{yields_key}
 use Rattle.database_state.specs.SchemaChanges.{schema_refusal, tables_after_step}
@@ -24,12 +22,12 @@ use Rattle.record_changes.proofs.Tests.{and_left, and_right}
 use Rattle.version_history.specs.History.{IsHistory, IsOpenIn, IsPlaced, IsPlacedBy}
 use Rattle.version_history.specs.KeptSteps.{base_after, dropped_after, kept_after, with_next_number}
 use Rattle.version_history.specs.Readers.{is_standing, was_committed, was_committed_status}
-use Rattle.version_history.proofs.EndEntries.{back}
 use Rattle.version_history.proofs.LawfulEntries.{all_outside, keeps_lawful}
-use Rattle.version_history.proofs.Lists.{all_weaker}
+use Rattle.version_history.proofs.Lists.{all_both, all_weaker}
 use Rattle.version_history.proofs.SeenRecords.{newest_records}
 use Rattle.version_keys.specs.UniqueKeys.{AreUnique, HasBookmarkKeys, HasFreeKeys, HasOwnKey, HasUniqueIndexes, HasUniqueKeys, IsSoundIndex, IsUniqueIndex, IsUniqueTable}
-use Rattle.version_keys.specs.Variants.{HasNoSums}
+use Rattle.version_keys.specs.KeySums.{IndexesSeeNoSum, SeesNoSum, adds_to_index}
+use Rattle.version_keys.proofs.KeySums.{seen_by}
 use Rattle.version_keys.proofs.BookmarkKeys.{HasOneEntry, newest_own}
 use Rattle.version_keys.proofs.Finding.{unique_newest}
 use Rattle.version_keys.proofs.SchemaKeys.{AreTableIndexes, IsTableIndex, step_keeps_indexes, unique_rows}
@@ -81,78 +79,72 @@ all_committed_newest base dropped kept state h none =
     h.keeps.committed ∙ folded-same (was_committed None) is_standing kept
     (all_weaker (IsPlaced state.number state.tables (transaction_of state)) (λ item. was_committed None item ≡ is_standing item) (settled state.number state.tables (transaction_of state) none) kept h.keeps.placed) base
 
-pub to_rows : (base : Records) (dropped kept : List PastChange) (state : DatabaseState) → IsHistory base dropped kept state → HasNoSums kept → (records_of state.tables ≡ records_after_items is_standing base kept) → HasUniqueKeys base kept state
+pub to_rows : (base : Records) (dropped kept : List PastChange) (state : DatabaseState) → IsHistory base dropped kept state → IndexesSeeNoSum kept state → (records_of state.tables ≡ records_after_items is_standing base kept) → HasUniqueKeys base kept state
     → (id : ℕ) → IfSome (table_with_id state.tables id) AreTableIndexes
-to_rows base dropped kept state h none is unique id = some_at (HasUniqueIndexes (transaction_of state) base kept) AreTableIndexes (table_with_id state.tables id)
-    (λ t found each. all_weaker (λ rule. IsSoundIndex t rule × IsUniqueIndex (transaction_of state) base kept t rule) (IsTableIndex t)
-    (λ rule both. (
+to_rows base dropped kept state h sees is unique id = some_at (HasUniqueIndexes (transaction_of state) base kept) AreTableIndexes (table_with_id state.tables id)
+    (λ t found each. all_both (λ rule. IsSoundIndex t rule × IsUniqueIndex (transaction_of state) base kept t rule) (λ rule. SeesNoSum rule t.id kept) (IsTableIndex t)
+    (λ rule both plain. (
       both.0,
       λ is_unique_rule. let keys = both.1 is_unique_rule in (
         (λ one other key apart had also.
-            (subst (AreUnique rule (schema_of t) t.id) (newest_records base dropped kept state h ∙ sym is) (unique_newest base dropped kept state h none rule (schema_of t) t.id keys.0)) one other key apart
+            (subst (AreUnique rule (schema_of t) t.id) (newest_records base dropped kept state h ∙ sym is) (unique_newest base dropped kept state h rule (schema_of t) t.id plain keys.0)) one other key apart
             (ap (yields_key rule (schema_of t) key) (rows_found state.tables id t found one) ∙ had) (ap (yields_key rule (schema_of t) key) (rows_found state.tables id t found other) ∙ also)),
         λ primary bookmark key had.
-            newest_own rule (schema_of t) t.id kept base h.keeps.befores none (afters_of base dropped kept state h) (keys.1 primary) bookmark key
+            newest_own rule (schema_of t) t.id kept base h.keeps.befores plain (afters_of base dropped kept state h) (keys.1 primary) bookmark key
             (ap (yields_key rule (schema_of t) key) (ap (λ (r : Records). r t.id bookmark) (sym is) ∙ rows_found state.tables id t found bookmark) ∙ had),
       ),
-    )) t.indexes each) (unique.tables id)
+    )) t.indexes each (seen_by kept state sees id t found)) (unique.tables id)
   where
     afters_of : (base : Records) (dropped kept : List PastChange) (state : DatabaseState) → IsHistory base dropped kept state → AllByRecursion (λ item. item.after ≡ record_after item.change item.before) kept
     afters_of base dropped kept state h = all_weaker (IsPlaced state.number state.tables (transaction_of state)) (λ item. item.after ≡ record_after item.change item.before) (λ item p. p.3) kept h.keeps.placed
 
-unique_defined : (base : Records) (dropped kept : List PastChange) (state : DatabaseState) (label : ℕ) (made : SchemaStep) → IsHistory base dropped kept state → HasNoSums kept → is_none (schema_refusal state label made) ≡ true → has_next_numbers state made ≡ true
+unique_defined : (base : Records) (dropped kept : List PastChange) (state : DatabaseState) (label : ℕ) (made : SchemaStep) → IsHistory base dropped kept state → IndexesSeeNoSum kept state → is_none (schema_refusal state label made) ≡ true → has_next_numbers state made ≡ true
     → HasUniqueKeys base kept state → HasUniqueKeys (base_after state (entry.Schema made) base) (kept_after state label (entry.Schema made) kept) (applied label (entry.Schema made) (with_next_number state))
-unique_defined base dropped kept state label made h none free numbers unique = record {
+unique_defined base dropped kept state label made h sees free numbers unique = record {
   tables = from_rows (tables_after_step state.tables made) (transaction_of (applied label (entry.Schema made) (with_next_number state)))
-      (step_keeps_indexes state label made free numbers (to_rows base dropped kept state h none (all_committed_newest base dropped kept state h (all_outside base dropped kept state label made h free)) unique));
+      (step_keeps_indexes state label made free numbers (to_rows base dropped kept state h sees (all_committed_newest base dropped kept state h (all_outside base dropped kept state label made h free)) unique));
 }
 
 -- ---- any entry
 
-no_sum : (change : Change) → is_sum (without_copied change) ≡ false → is_sum change ≡ false
-no_sum (Put table bookmark copied values) e = e
-no_sum (Drop table bookmark) e = e
-no_sum (Hold table bookmark) e = e
-no_sum (Add table bookmark column amount) e = e
-
-by_kind : HasOneEntry → (base : Records) (dropped kept : List PastChange) (state : DatabaseState) (label : ℕ) (kind : EntryKind) → IsHistory base dropped kept state → HasNoSums kept → HasNoSums (kept_after state label kind kept) → is_lawful_kind state label kind ≡ true
+by_kind : HasOneEntry → (base : Records) (dropped kept : List PastChange) (state : DatabaseState) (label : ℕ) (kind : EntryKind) → IsHistory base dropped kept state → IndexesSeeNoSum kept state → IndexesSeeNoSum (kept_after state label kind kept) state → is_lawful_kind state label kind ≡ true
     → IsHistory (base_after state kind base) (dropped_after kind dropped kept) (kept_after state label kind kept) (applied label kind (with_next_number state)) → HasUniqueKeys base kept state
     → HasUniqueKeys (base_after state kind base) (kept_after state label kind kept) (applied label kind (with_next_number state))
-by_kind one base dropped kept state label entry.Enter h none after_none e after unique = unique_by_kind base dropped kept state label entry.Enter refl h none e after unique
-by_kind one base dropped kept state label entry.Leave h none after_none e after unique = unique_by_kind base dropped kept state label entry.Leave refl h none e after unique
-by_kind one base dropped kept state label (entry.Open table) h none after_none e after unique = unique_by_kind base dropped kept state label (entry.Open table) refl h none e after unique
-by_kind one base dropped kept state label (entry.Shut table) h none after_none e after unique = unique_by_kind base dropped kept state label (entry.Shut table) refl h none e after unique
-by_kind one base dropped kept state label entry.Begin h none after_none e after unique = unique_by_kind base dropped kept state label entry.Begin refl h none e after unique
-by_kind one base dropped kept state label entry.Save h none after_none e after unique = unique_by_kind base dropped kept state label entry.Save refl h none e after unique
-by_kind one base dropped kept state label (entry.Change change) h none after_none e after unique =
-    unique_changed one base dropped kept state label change h none (no_sum change (back (λ item. is_sum item.change ≡ false) kept _ after_none).0) e after unique
-by_kind one base dropped kept state label entry.Release h none after_none e after unique = unique_by_kind base dropped kept state label entry.Release refl h none e after unique
-by_kind one base dropped kept state label entry.Undo h none after_none e after unique = unique_by_kind base dropped kept state label entry.Undo refl h none e after unique
-by_kind one base dropped kept state label entry.UndoAll h none after_none e after unique = unique_by_kind base dropped kept state label entry.UndoAll refl h none e after unique
-by_kind one base dropped kept state label entry.Commit h none after_none e after unique = unique_by_kind base dropped kept state label entry.Commit refl h none e after unique
-by_kind one base dropped kept state label (entry.Schema made) h none after_none e after unique =
-    unique_defined base dropped kept state label made h none (and_right _ _ (and_left _ _ e)) (and_right _ _ e) unique
+by_kind one base dropped kept state label entry.Enter h sees sees_after e after unique = unique_by_kind base dropped kept state label entry.Enter refl h sees e after unique
+by_kind one base dropped kept state label entry.Leave h sees sees_after e after unique = unique_by_kind base dropped kept state label entry.Leave refl h sees e after unique
+by_kind one base dropped kept state label (entry.Open table) h sees sees_after e after unique = unique_by_kind base dropped kept state label (entry.Open table) refl h sees e after unique
+by_kind one base dropped kept state label (entry.Shut table) h sees sees_after e after unique = unique_by_kind base dropped kept state label (entry.Shut table) refl h sees e after unique
+by_kind one base dropped kept state label entry.Begin h sees sees_after e after unique = unique_by_kind base dropped kept state label entry.Begin refl h sees e after unique
+by_kind one base dropped kept state label entry.Save h sees sees_after e after unique = unique_by_kind base dropped kept state label entry.Save refl h sees e after unique
+by_kind one base dropped kept state label (entry.Change change) h sees sees_after e after unique =
+    unique_changed one base dropped kept state label change h sees sees_after e after unique
+by_kind one base dropped kept state label entry.Release h sees sees_after e after unique = unique_by_kind base dropped kept state label entry.Release refl h sees e after unique
+by_kind one base dropped kept state label entry.Undo h sees sees_after e after unique = unique_by_kind base dropped kept state label entry.Undo refl h sees e after unique
+by_kind one base dropped kept state label entry.UndoAll h sees sees_after e after unique = unique_by_kind base dropped kept state label entry.UndoAll refl h sees e after unique
+by_kind one base dropped kept state label entry.Commit h sees sees_after e after unique = unique_by_kind base dropped kept state label entry.Commit refl h sees e after unique
+by_kind one base dropped kept state label (entry.Schema made) h sees sees_after e after unique =
+    unique_defined base dropped kept state label made h sees (and_right _ _ (and_left _ _ e)) (and_right _ _ e) unique
 
-pub keys_kept : HasOneEntry → (base : Records) (dropped kept : List PastChange) (state : DatabaseState) (made : Entry) → IsHistory base dropped kept state → is_lawful state made ≡ true → HasNoSums kept → HasNoSums (kept_after state made.session.0 made.kind kept)
+pub keys_kept : HasOneEntry → (base : Records) (dropped kept : List PastChange) (state : DatabaseState) (made : Entry) → IsHistory base dropped kept state → is_lawful state made ≡ true → IndexesSeeNoSum kept state → IndexesSeeNoSum (kept_after state made.session.0 made.kind kept) state
     → HasUniqueKeys base kept state → HasUniqueKeys (base_after state made.kind base) (kept_after state made.session.0 made.kind kept) (state_after state made)
 unfolding is_lawful state_after
-keys_kept one base dropped kept state made h e none after_none unique =
-    by_kind one base dropped kept state made.session.0 made.kind h none after_none (and_right (has_number state.number made.kind) _ e) (keeps_lawful base dropped kept state made h e) unique
+keys_kept one base dropped kept state made h e sees sees_after unique =
+    by_kind one base dropped kept state made.session.0 made.kind h sees sees_after (and_right (has_number state.number made.kind) _ e) (keeps_lawful base dropped kept state made h e) unique
 
 -- ---- a clean
 
 cleaned_free : (rule : IndexRule) (schema : Schema) (table : ℕ) (number : ℕ) (tables : List Table) (transactions : ℕ → Option Transaction) (base : Records) (item : PastChange) (kept : List PastChange) → (IsPlaced number tables transactions item)
-    → (is_standing item ≡ true → is_sum item.change ≡ false → item.before ≡ base (changed_table item.change) (changed_bookmark item.change)) → is_sum item.change ≡ false
+    → (is_standing item ≡ true → is_sum item.change ≡ false → item.before ≡ base (changed_table item.change) (changed_bookmark item.change)) → (changed_table item.change ≡ table → adds_to_index rule item.change ≡ false)
     → HasFreeKeys rule schema table transactions base (item ∷ kept) → HasFreeKeys rule schema table transactions (if is_standing item then after_item base item else base) kept
 cleaned_free rule schema table number tables transactions base item kept placed before sum h = record {
   at_first = subst (AreUnique rule schema table) (folded-cons is_standing base item [])
-      (unique_throughout rule schema table is_standing (λ item standing. standing) (item ∷ []) base base (before, tt) (sum, tt) (placed.3, tt) (h.free_keys.0, tt) (tt, tt) (λ bookmark. inl refl) h.at_first);
+      (unique_throughout rule schema table is_standing (λ item standing. standing) (item ∷ []) base base (before, tt) (sum, tt) (placed.3, tt) (h.free_keys.0, tt) (tt, tt) (λ bookmark. inl (λ key. refl)) h.at_first);
   free_keys = h.free_keys.1;
   key_order = h.key_order.1;
 }
 
 cleaned_own : (rule : IndexRule) (schema : Schema) (table : ℕ) (number : ℕ) (tables : List Table) (transactions : ℕ → Option Transaction) (base : Records) (item : PastChange) (kept : List PastChange) → (IsPlaced number tables transactions item)
-    → (is_standing item ≡ true → is_sum item.change ≡ false → item.before ≡ base (changed_table item.change) (changed_bookmark item.change)) → is_sum item.change ≡ false
+    → (is_standing item ≡ true → is_sum item.change ≡ false → item.before ≡ base (changed_table item.change) (changed_bookmark item.change)) → (changed_table item.change ≡ table → adds_to_index rule item.change ≡ false)
     → HasBookmarkKeys rule schema table base (item ∷ kept) → HasBookmarkKeys rule schema table (if is_standing item then after_item base item else base) kept
 cleaned_own rule schema table number tables transactions base item kept placed before sum h = record {
   at_first = λ bookmark. subst (λ (r : Records). HasOwnKey rule schema bookmark (r table bookmark)) (folded-cons is_standing base item [])
@@ -160,17 +152,17 @@ cleaned_own rule schema table number tables transactions base item kept placed b
   changes = h.changes.1;
 }
 
-pub keys_cleaned : (base : Records) (dropped : List PastChange) (item : PastChange) (kept : List PastChange) (state : DatabaseState) → IsHistory base dropped (item ∷ kept) state → HasNoSums (item ∷ kept)
+pub keys_cleaned : (base : Records) (dropped : List PastChange) (item : PastChange) (kept : List PastChange) (state : DatabaseState) → IsHistory base dropped (item ∷ kept) state → IndexesSeeNoSum (item ∷ kept) state
     → HasUniqueKeys base (item ∷ kept) state → HasUniqueKeys (if is_standing item then after_item base item else base) kept state
-keys_cleaned base dropped item kept state h none unique = record {
+keys_cleaned base dropped item kept state h sees unique = record {
   tables = λ id. some_at (HasUniqueIndexes (transaction_of state) base (item ∷ kept)) (HasUniqueIndexes (transaction_of state) (if is_standing item then after_item base item else base) kept) (table_with_id state.tables id)
-      (λ t found each. all_weaker (λ rule. IsSoundIndex t rule × IsUniqueIndex (transaction_of state) base (item ∷ kept) t rule)
+      (λ t found each. all_both (λ rule. IsSoundIndex t rule × IsUniqueIndex (transaction_of state) base (item ∷ kept) t rule) (λ rule. SeesNoSum rule t.id (item ∷ kept))
       (λ rule. IsSoundIndex t rule × IsUniqueIndex (transaction_of state) (if is_standing item then after_item base item else base) kept t rule)
-      (λ rule both. (
+      (λ rule both plain. (
         both.0,
         λ is. let keys = both.1 is in (
-          cleaned_free rule (schema_of t) t.id state.number state.tables (transaction_of state) base item kept h.keeps.placed.0 h.keeps.befores.0 none.0 keys.0,
-          λ primary. cleaned_own rule (schema_of t) t.id state.number state.tables (transaction_of state) base item kept h.keeps.placed.0 h.keeps.befores.0 none.0 (keys.1 primary),
+          cleaned_free rule (schema_of t) t.id state.number state.tables (transaction_of state) base item kept h.keeps.placed.0 h.keeps.befores.0 plain.0 keys.0,
+          λ primary. cleaned_own rule (schema_of t) t.id state.number state.tables (transaction_of state) base item kept h.keeps.placed.0 h.keeps.befores.0 plain.0 (keys.1 primary),
         ),
-      )) t.indexes each) (unique.tables id);
+      )) t.indexes each (seen_by (item ∷ kept) state sees id t found)) (unique.tables id);
 }

@@ -17,8 +17,9 @@ use Rattle.record_changes.specs.Records.{Records, is_change_of, records_of}
 use Rattle.record_changes.proofs.Tests.{and_both, and_left, and_right, impossible, same_bytes}
 use Rattle.version_history.specs.History.{IsHistory}
 use Rattle.version_history.specs.Readers.{before_or, found_record, hides, is_rewrite, is_standing}
-use Rattle.version_keys.specs.Variants.{HasNoSums, HoldsVariants, is_standing_rewrite, is_variant_key, shown_entries}
-use Rattle.version_keys.proofs.WithoutSums.{found_without_sums}
+use Rattle.version_keys.specs.KeySums.{SeesNoSum}
+use Rattle.version_keys.specs.Variants.{HoldsVariants, is_standing_rewrite, is_variant_key, shown_entries}
+use Rattle.version_keys.proofs.FoundKeys.{found_keys}
 
 -- ---- what is found is a variant
 
@@ -85,16 +86,16 @@ shown_by seen rule schema table key bookmark (entry ∷ entries) =
     gone false b c f = refl
 
 -- Of the entries of all variants, a session is shown exactly those of the records that it sees.
-pub walks_by_variants : (base : Records) (dropped kept : List PastChange) (state : DatabaseState) → IsHistory base dropped kept state → HasNoSums kept → (session table : ℕ) (rule : IndexRule) (schema : Schema) (entries : List Pair)
+pub walks_by_variants : (base : Records) (dropped kept : List PastChange) (state : DatabaseState) → IsHistory base dropped kept state → (session table : ℕ) (rule : IndexRule) (schema : Schema) → SeesNoSum rule table kept → (entries : List Pair)
     → HoldsVariants (records_of (newest state)) kept rule schema table entries → (key bookmark : List ℕ)
     → has_entry key bookmark (shown_entries (records_of (view state session)) rule schema table entries)
     ≡ yields_key rule schema key (records_of (view state session) table bookmark)
-walks_by_variants base dropped kept state h none session table rule schema entries holds key bookmark =
+walks_by_variants base dropped kept state h session table rule schema plain entries holds key bookmark =
     shown_by (records_of (view state session)) rule schema table key bookmark entries
     ∙ ap (λ b. b && yields_key rule schema key (records_of (view state session) table bookmark)) (holds key bookmark)
     ∙ inside (is_variant_key (records_of (newest state)) kept rule schema table key bookmark) (yields_key rule schema key (records_of (view state session) table bookmark))
     (λ e. found_is_variant session (transaction_of state session) table rule schema key bookmark (records_of (newest state) table bookmark) kept
-    (ap (yields_key rule schema key) (found_without_sums base dropped kept state h none session table bookmark) ∙ e))
+    (found_keys base dropped kept state h session table rule schema plain bookmark key ∙ e))
   where
     inside : (a b : Bool) → (b ≡ true → a ≡ true) → (a && b) ≡ b
     inside true b f = refl
@@ -107,12 +108,12 @@ pub shown_is_derived : ((one other : List Pair) → are_sorted one ≡ true → 
     → ((test : Pair → Bool) (entries : List Pair) → are_sorted entries ≡ true → are_sorted (filter test entries) ≡ true)
     → ((rule : IndexRule) (schema : Schema) (rows : List (List ℕ × RecordFields)) → are_sorted (own_order rows) ≡ true → are_sorted (derive rule schema rows) ≡ true)
     → ((rule : IndexRule) (schema : Schema) (rows : List (List ℕ × RecordFields)) (key bookmark : List ℕ) → are_sorted (own_order rows) ≡ true → has_entry key bookmark (derive rule schema rows) ≡ yields_key rule schema key (lookup_by_key bookmark rows))
-    → (base : Records) (dropped kept : List PastChange) (state : DatabaseState) → IsHistory base dropped kept state → HasNoSums kept → (session table : ℕ) (rule : IndexRule) (schema : Schema) (entries : List Pair)
+    → (base : Records) (dropped kept : List PastChange) (state : DatabaseState) → IsHistory base dropped kept state → (session table : ℕ) (rule : IndexRule) (schema : Schema) → SeesNoSum rule table kept → (entries : List Pair)
     → HoldsVariants (records_of (newest state)) kept rule schema table entries → are_sorted entries ≡ true → are_sorted (own_order (rows_of (table_with_id (view state session) table))) ≡ true
     → shown_entries (records_of (view state session)) rule schema table entries ≡ derive rule schema (rows_of (table_with_id (view state session) table))
-shown_is_derived same_sorted sorted_filter in_order of_records base dropped kept state h none session table rule schema entries holds sorted rows_rise =
+shown_is_derived same_sorted sorted_filter in_order of_records base dropped kept state h session table rule schema plain entries holds sorted rows_rise =
     same_sorted (shown_entries (records_of (view state session)) rule schema table entries) (derive rule schema (rows_of (table_with_id (view state session) table)))
     (sorted_filter (λ entry. yields_key rule schema entry.0 (records_of (view state session) table entry.1)) entries sorted)
     (in_order rule schema (rows_of (table_with_id (view state session) table)) rows_rise)
-    (λ key bookmark. walks_by_variants base dropped kept state h none session table rule schema entries holds key bookmark
+    (λ key bookmark. walks_by_variants base dropped kept state h session table rule schema plain entries holds key bookmark
     ∙ sym (of_records rule schema (rows_of (table_with_id (view state session) table)) key bookmark rows_rise))

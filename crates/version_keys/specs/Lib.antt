@@ -1,3 +1,4 @@
 pub mod Variants
+pub mod KeySums
 pub mod UniqueKeys
 pub mod TableOrder

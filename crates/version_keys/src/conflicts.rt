@@ -8,11 +8,12 @@ ghost use Rattle.database_state.specs.View.{newest};
 ghost use Rattle.database_state.specs.Conflicts.{is_concurrent, has_key_conflict};
 ghost use Rattle.record_changes.specs.Records.{Records, records_of};
 ghost use Rattle.version_history.specs.History.{IsHistory};
-ghost use Rattle.version_keys.specs.Variants.{HasNoSums, is_key_held};
+ghost use Rattle.version_keys.specs.KeySums.{HasKeyBefores, SeesNoSum};
+ghost use Rattle.version_keys.specs.Variants.{is_key_held};
 
-/// A key conflict is there where a concurrent change has the key in the variant before it or in the next one, where no escrow
-/// column was changed: no record after a change need be kept, and none before a lock.
+/// A key conflict is there where a concurrent change has the key in the variant before it or in the next one, sums among the
+/// changes, where the index sees none of them: no record after a change need be kept, and none before a lock or a sum.
 pub fn variants_tell_key_conflicts()
-    ensures { (base : Records) (dropped kept : List PastChange) (state : DatabaseState) → IsHistory base dropped kept state → HasNoSums kept → (session table : ℕ) (schema : Schema) (rule : IndexRule) (key : List ℕ)
-        → has_key_conflict state session table schema rule key ≡ is_key_held (is_concurrent session (transaction_of state session)) (records_of (newest state)) table rule schema key kept }
+    ensures { (base : Records) (dropped kept : List PastChange) (state : DatabaseState) → IsHistory base dropped kept state → (session table : ℕ) (schema : Schema) (rule : IndexRule)
+        → SeesNoSum rule table kept → HasKeyBefores rule schema table base kept → (key : List ℕ) → has_key_conflict state session table schema rule key ≡ is_key_held (is_concurrent session (transaction_of state session)) (records_of (newest state)) table rule schema key kept }
 {}

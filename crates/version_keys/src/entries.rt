@@ -12,24 +12,25 @@ ghost use Rattle.database_state.specs.View.{newest, view};
 ghost use Rattle.derived_index.specs.KeptEntries.{has_entry};
 ghost use Rattle.record_changes.specs.Records.{Records, records_of};
 ghost use Rattle.version_history.specs.History.{IsHistory};
-ghost use Rattle.version_keys.specs.Variants.{HasNoSums, HoldsVariants, shown_entries};
+ghost use Rattle.version_keys.specs.KeySums.{SeesNoSum};
+ghost use Rattle.version_keys.specs.Variants.{HoldsVariants, shown_entries};
 
 use derived_index::{
     derived_entries_are_in_order, entries_are_of_their_records,
     entries_in_order_are_told_by_those_that_are_there,
 };
 
-/// Of the entries of all variants a session is shown exactly those of the records that it sees, where no escrow column was
-/// changed.
+/// Of the entries of all variants a session is shown exactly those of the records that it sees, whatever sums it does not see:
+/// the index names no column of theirs.
 pub fn a_session_walks_among_the_entries_of_variants()
-    ensures { (base : Records) (dropped kept : List PastChange) (state : DatabaseState) → IsHistory base dropped kept state → HasNoSums kept → (session table : ℕ) (rule : IndexRule) (schema : Schema) (entries : List Pair)
+    ensures { (base : Records) (dropped kept : List PastChange) (state : DatabaseState) → IsHistory base dropped kept state → (session table : ℕ) (rule : IndexRule) (schema : Schema) → SeesNoSum rule table kept → (entries : List Pair)
         → HoldsVariants (records_of (newest state)) kept rule schema table entries → (key bookmark : List ℕ)
         → has_entry key bookmark (shown_entries (records_of (view state session)) rule schema table entries) ≡ yields_key rule schema key (records_of (view state session) table bookmark) }
 {}
 
 /// In order, they are the index that is derived afresh of the records that the session sees.
 pub fn the_entries_that_a_session_is_shown_are_derived()
-    ensures { (base : Records) (dropped kept : List PastChange) (state : DatabaseState) → IsHistory base dropped kept state → HasNoSums kept → (session table : ℕ) (rule : IndexRule) (schema : Schema) (entries : List Pair)
+    ensures { (base : Records) (dropped kept : List PastChange) (state : DatabaseState) → IsHistory base dropped kept state → (session table : ℕ) (rule : IndexRule) (schema : Schema) → SeesNoSum rule table kept → (entries : List Pair)
         → HoldsVariants (records_of (newest state)) kept rule schema table entries → are_sorted entries ≡ true → are_sorted (own_order (rows_of (table_with_id (view state session) table))) ≡ true
         → shown_entries (records_of (view state session)) rule schema table entries ≡ derive rule schema (rows_of (table_with_id (view state session) table)) }
 {

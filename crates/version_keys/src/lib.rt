@@ -1,10 +1,11 @@
 //! Laws of keys beside versions: the entries of all variants of records against what each reader sees, key conflicts told by
 //! variants, that no reader finds a key of a unique index at two records, and that lawful entries keep it so, wherefore a
-//! commit is always lawful. The functions do nothing: their contracts are the laws.
+//! commit is always lawful. Keys see no sum of an escrow column, and neither do these laws. The functions do nothing: their contracts are the laws.
 #![tactic(auto)]
 
 mod conflicts;
 mod entries;
+mod sums;
 mod tables;
 mod unique;
 mod variants;
@@ -12,6 +13,10 @@ mod variants;
 pub use conflicts::variants_tell_key_conflicts;
 pub use entries::{
     a_session_walks_among_the_entries_of_variants, the_entries_that_a_session_is_shown_are_derived,
+};
+pub use sums::{
+    a_clean_keeps_indexes_apart_from_sums, indexes_begin_apart_from_sums,
+    lawful_entries_keep_indexes_apart_from_sums, no_index_sees_a_sum,
 };
 pub use tables::lawful_entries_keep_tables_in_order;
 pub use unique::{

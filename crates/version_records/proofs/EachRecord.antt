@@ -1,6 +1,6 @@
 -- What every record has, as entries and cleans keep it.
 use Rattle.std.proofs.Common.{◌≡◌, ℕ, ◌+◌, ◌-◌, Bool, true, false, cond, List, [], ◌∷◌, Option, Some, None, refl, sym, ap, subst, ◌∙◌}
-use Rattle.std.specs.Prelude.{◌==◌, filter, fold, map, if◌then◌else◌, nat_lt, IfSome}
+use Rattle.std.specs.Prelude.{ℤ, ◌==◌, filter, fold, map, if◌then◌else◌, nat_lt, option_map, IfSome}
 use Rattle.std.specs.List.{AllByRecursion}
 use Rattle.column_set.specs.declared.changes.Change.{Change}
 use Rattle.column_set.specs.declared.changes.Change.TheVariants.{Put, Drop, Hold, Add}
@@ -9,7 +9,7 @@ use Rattle.index_derive.specs.declared.rules.Schema.{Schema}
 use Rattle.index_derive.specs.declared.log.EntryKind.{EntryKind}
 use Rattle.index_derive.specs.declared.log.EntryKind.TheVariants as entry
 use Rattle.database_state.specs.Table.{Rows, Table, row_at, rows_of, schema_of, table_with_id}
-use Rattle.database_state.specs.Changes.{changed_table, changed_bookmark, is_sum, without_copied}
+use Rattle.database_state.specs.Changes.{changed_table, changed_bookmark, is_sum, with_sum, without_copied}
 use Rattle.database_state.specs.State.{DatabaseState, PastChange, levels, transaction_of, undone}
 use Rattle.database_state.specs.View.{newest, view}
 use Rattle.database_state.specs.Step.{applied, every_change, is_at_level, with_changes_at, with_levels, with_transaction}
@@ -31,25 +31,61 @@ use Rattle.version_keys.proofs.KeysOfEntries.{changes_records, commit_after, low
 use Rattle.version_keys.proofs.UniqueKept.{id_of, same_defined, same_tables, some_at, undone_after, undone_before}
 use Rattle.version_records.specs.EachRecord.{EachRecordHas, HasBoth}
 
+-- ---- sums
+
+-- a sum leaves what has it
+abbrev pub SumKeeps : (RecordFields → Type 0) → Change → Type 0
+SumKeeps P (Put table bookmark copied values) = Unit {0}
+SumKeeps P (Drop table bookmark) = Unit {0}
+SumKeeps P (Hold table bookmark) = Unit {0}
+SumKeeps P (Add table bookmark column amount) = (values : RecordFields) → P values → P (with_sum values column.0 amount)
+
+-- so does each sum of its own table's records
+abbrev pub SumsKeep : (ℕ → Schema → List ℕ → RecordFields → Type 0) → ℕ → List Table → List PastChange → Type 0
+SumsKeep P number tables items = AllByRecursion (λ item. IfSome (table_with_id tables (changed_table item.change)) (λ table. SumKeeps (P number (schema_of table) (changed_bookmark item.change)) item.change)) items
+
+plain_keeps : (P : RecordFields → Type 0) (change : Change) → is_sum change ≡ false → SumKeeps P change
+plain_keeps P (Put table bookmark copied values) e = tt
+plain_keeps P (Drop table bookmark) e = tt
+plain_keeps P (Hold table bookmark) e = tt
+plain_keeps P (Add table bookmark column amount) e = impossible (sym e)
+
+pub plain_change_keeps : (P : ℕ → Schema → List ℕ → RecordFields → Type 0) (number : ℕ) (tables : List Table) (change : Change) → is_sum change ≡ false
+    → IfSome (table_with_id tables (changed_table change)) (λ table. SumKeeps (P number (schema_of table) (changed_bookmark change)) change)
+plain_change_keeps P number tables change e = by (table_with_id tables (changed_table change))
+  where
+    by : (found : Option Table) → IfSome found (λ table. SumKeeps (P number (schema_of table) (changed_bookmark change)) change)
+    by None = tt
+    by (Some table) = plain_keeps (P number (schema_of table) (changed_bookmark change)) change e
+
+-- where no escrow column was changed
+pub no_sums_keep : (P : ℕ → Schema → List ℕ → RecordFields → Type 0) (number : ℕ) (tables : List Table) (items : List PastChange) → HasNoSums items → SumsKeep P number tables items
+no_sums_keep P number tables items none = all_weaker (λ item. is_sum item.change ≡ false) (λ item. IfSome (table_with_id tables (changed_table item.change)) (λ table. SumKeeps (P number (schema_of table) (changed_bookmark item.change)) item.change))
+    (λ item e. plain_change_keeps P number tables item.change e) items none
+
+summed : (P : RecordFields → Type 0) (column : ℕ) (amount : ℤ) → ((values : RecordFields) → P values → P (with_sum values column amount)) → (found : Option RecordFields) → IfSome found P → IfSome (option_map (λ values. with_sum values column amount) found) P
+summed P column amount keeps None p = tt
+summed P column amount keeps (Some values) p = keeps values p
+
 -- ---- the records after changes
 
-one_after : (P : RecordFields → Type 0) (id : ℕ) (bookmark : List ℕ) (item : PastChange) → is_sum item.change ≡ false → item.after ≡ record_after item.change item.before → (is_change_of id bookmark item.change ≡ true → IfSome item.after P)
+one_after : (P : RecordFields → Type 0) (id : ℕ) (bookmark : List ℕ) (item : PastChange) → (is_change_of id bookmark item.change ≡ true → SumKeeps P item.change) → item.after ≡ record_after item.change item.before → (is_change_of id bookmark item.change ≡ true → IfSome item.after P)
     → (records : Records) → IfSome (records id bookmark) P → IfSome (after_item records item id bookmark) P
 one_after P id bookmark item sum is after records p =
     elim (is_change_of id bookmark item.change) as (λ b. is_change_of id bookmark item.change ≡ b → IfSome (cond b (record_after item.change (records id bookmark)) (records id bookmark)) P) [
-      | true ↦ λ mine. left item.change sum is (after mine)
+      | true ↦ λ mine. left item.change (sum mine) is (after mine)
       | false ↦ λ other. p
     ] refl
   where
-    left : (c : Change) → is_sum c ≡ false → item.after ≡ record_after c item.before → IfSome item.after P → IfSome (record_after c (records id bookmark)) P
-    left (Put table at copied values) none made had = subst (λ (o : Option RecordFields). IfSome o P) made had
-    left (Drop table at) none made had = tt
-    left (Hold table at) none made had = p
-    left (Add table at column amount) none made had = impossible (sym none)
+    left : (c : Change) → SumKeeps P c → item.after ≡ record_after c item.before → IfSome item.after P → IfSome (record_after c (records id bookmark)) P
+    left (Put table at copied values) keeps made had = subst (λ (o : Option RecordFields). IfSome o P) made had
+    left (Drop table at) keeps made had = tt
+    left (Hold table at) keeps made had = p
+    left (Add table at column amount) keeps made had = summed P column.0 amount keeps (records id bookmark) p
 
 -- a change that is known to leave what has it
 abbrev pub Leaves : (RecordFields → Type 0) → ℕ → List ℕ → PastChange → Type 0
-Leaves P id bookmark item = (is_sum item.change ≡ false) × (item.after ≡ record_after item.change item.before) × (is_change_of id bookmark item.change ≡ true → IfSome item.after P)
+Leaves P id bookmark item = (is_change_of id bookmark item.change ≡ true → SumKeeps P item.change) × (item.after ≡ record_after item.change item.before) × (is_change_of id bookmark item.change ≡ true → IfSome item.after P)
 
 pub each_after : (P : RecordFields → Type 0) (test : PastChange → Bool) (id : ℕ) (bookmark : List ℕ) (items : List PastChange) → AllByRecursion (Leaves P id bookmark) items
     → (records : Records) → IfSome (records id bookmark) P → IfSome (records_after_items test records items id bookmark) P
@@ -61,34 +97,34 @@ each_after P test id bookmark (item ∷ items) h records p =
     ]
 
 -- of the change's own table
-at_its : (P : ℕ → Schema → List ℕ → RecordFields → Type 0) (number : ℕ) (tables : List Table) (id : ℕ) (table : Table) (item : PastChange) → table_with_id tables id ≡ Some table → changed_table item.change ≡ id
-    → IfSome (table_with_id tables (changed_table item.change)) (λ table. HasBoth P number (schema_of table) item) → HasBoth P number (schema_of table) item
-at_its P number tables id table item found same h = subst (λ (o : Option Table). IfSome o (λ table. HasBoth P number (schema_of table) item)) (ap (table_with_id tables) same ∙ found) h
+at_its : (Q : Table → Type 0) (tables : List Table) (id : ℕ) (table : Table) (item : PastChange) → table_with_id tables id ≡ Some table → changed_table item.change ≡ id → IfSome (table_with_id tables (changed_table item.change)) Q → Q table
+at_its Q tables id table item found same h = subst (λ (o : Option Table). IfSome o Q) (ap (table_with_id tables) same ∙ found) h
 
-pub leaves_each : (P : ℕ → Schema → List ℕ → RecordFields → Type 0) (number : ℕ) (tables : List Table) (id : ℕ) (table : Table) → table_with_id tables id ≡ Some table → (bookmark : List ℕ) (items : List PastChange) → HasNoSums items
+pub leaves_each : (P : ℕ → Schema → List ℕ → RecordFields → Type 0) (number : ℕ) (tables : List Table) (id : ℕ) (table : Table) → table_with_id tables id ≡ Some table → (bookmark : List ℕ) (items : List PastChange) → SumsKeep P number tables items
     → AllByRecursion (λ item. item.after ≡ record_after item.change item.before) items → AllByRecursion (λ item. IfSome (table_with_id tables (changed_table item.change)) (λ table. HasBoth P number (schema_of table) item)) items
     → AllByRecursion (Leaves (P number (schema_of table) bookmark) id bookmark) items
-leaves_each P number tables id table found bookmark [] none afters h = tt
-leaves_each P number tables id table found bookmark (item ∷ items) none afters h = (
+leaves_each P number tables id table found bookmark [] keeps afters h = tt
+leaves_each P number tables id table found bookmark (item ∷ items) keeps afters h = (
   (
-    none.0,
+    λ mine. subst (λ (at : List ℕ). SumKeeps (P number (schema_of table) at) item.change) (same_bytes (changed_bookmark item.change) bookmark (and_right (changed_table item.change == id) _ mine))
+        (at_its (λ t. SumKeeps (P number (schema_of t) (changed_bookmark item.change)) item.change) tables id table item found (same_number (changed_table item.change) id (and_left _ _ mine)) keeps.0),
     afters.0,
     λ mine. subst (λ (at : List ℕ). IfSome item.after (P number (schema_of table) at)) (same_bytes (changed_bookmark item.change) bookmark (and_right (changed_table item.change == id) _ mine))
-        (at_its P number tables id table item found (same_number (changed_table item.change) id (and_left _ _ mine)) h.0).1,
+        (at_its (λ t. HasBoth P number (schema_of t) item) tables id table item found (same_number (changed_table item.change) id (and_left _ _ mine)) h.0).1,
   ),
-  leaves_each P number tables id table found bookmark items none.1 afters.1 h.1,
+  leaves_each P number tables id table found bookmark items keeps.1 afters.1 h.1,
 )
 
 pub afters_of : (base : Records) (dropped kept : List PastChange) (state : DatabaseState) → IsHistory base dropped kept state → AllByRecursion (λ item. item.after ≡ record_after item.change item.before) kept
 afters_of base dropped kept state h = all_weaker (IsPlaced state.number state.tables (transaction_of state)) (λ item. item.after ≡ record_after item.change item.before) (λ item p. p.3) kept h.keeps.placed
 
 -- what the kept changes leave, if some of them are made
-pub each_made : (P : ℕ → Schema → List ℕ → RecordFields → Type 0) (base : Records) (dropped kept : List PastChange) (state : DatabaseState) → IsHistory base dropped kept state → HasNoSums kept → EachRecordHas P base kept state → (test : PastChange → Bool) (id : ℕ)
+pub each_made : (P : ℕ → Schema → List ℕ → RecordFields → Type 0) (base : Records) (dropped kept : List PastChange) (state : DatabaseState) → IsHistory base dropped kept state → SumsKeep P state.number state.tables kept → EachRecordHas P base kept state → (test : PastChange → Bool) (id : ℕ)
     → IfSome (table_with_id state.tables id) (λ table. (bookmark : List ℕ) → IfSome (records_after_items test base kept id bookmark) (P state.number (schema_of table) bookmark))
-each_made P base dropped kept state history none h test id =
+each_made P base dropped kept state history keeps h test id =
     some_at (λ table. (bookmark : List ℕ) → IfSome (base id bookmark) (P state.number (schema_of table) bookmark)) (λ table. (bookmark : List ℕ) → IfSome (records_after_items test base kept id bookmark) (P state.number (schema_of table) bookmark)) (table_with_id state.tables id)
     (λ table found first bookmark. each_after (P state.number (schema_of table) bookmark) test id bookmark kept
-    (leaves_each P state.number state.tables id table found bookmark kept none (afters_of base dropped kept state history) h.changes) base (first bookmark)) (h.at_first id)
+    (leaves_each P state.number state.tables id table found bookmark kept keeps (afters_of base dropped kept state history) h.changes) base (first bookmark)) (h.at_first id)
 
 -- ---- as the number of entries goes on
 
@@ -191,64 +227,79 @@ PutsHave P state label = (table : Table) (rows : Rows) (bookmark : List ℕ) (co
     → ((at : List ℕ) → IfSome (row_at rows at) (P state.number (schema_of table) at)) → is_lawful_put state label table rows bookmark copied values ≡ true → P (state.number + 1) (schema_of table) bookmark values
 
 -- what a session sees has it
+pub each_viewed : (P : ℕ → Schema → List ℕ → RecordFields → Type 0) (base : Records) (dropped kept : List PastChange) (state : DatabaseState) → IsHistory base dropped kept state → SumsKeep P state.number state.tables kept → EachRecordHas P base kept state → (session id : ℕ)
+    → IfSome (table_with_id state.tables id) (λ table. (bookmark : List ℕ) → IfSome (records_of (view state session) id bookmark) (P state.number (schema_of table) bookmark))
+each_viewed P base dropped kept state history keeps h session id =
+    subst (λ (r : Records). IfSome (table_with_id state.tables id) (λ table. (bookmark : List ℕ) → IfSome (r id bookmark) (P state.number (schema_of table) bookmark)))
+    (sym (view_records base dropped kept state history session)) (each_made P base dropped kept state history keeps h (sees session (transaction_of state session)) id)
+
 pub each_seen : (P : ℕ → Schema → List ℕ → RecordFields → Type 0) (base : Records) (dropped kept : List PastChange) (state : DatabaseState) → IsHistory base dropped kept state → HasNoSums kept → EachRecordHas P base kept state → (session id : ℕ)
     → IfSome (table_with_id state.tables id) (λ table. (bookmark : List ℕ) → IfSome (records_of (view state session) id bookmark) (P state.number (schema_of table) bookmark))
-each_seen P base dropped kept state history none h session id =
-    subst (λ (r : Records). IfSome (table_with_id state.tables id) (λ table. (bookmark : List ℕ) → IfSome (r id bookmark) (P state.number (schema_of table) bookmark)))
-    (sym (view_records base dropped kept state history session)) (each_made P base dropped kept state history none h (sees session (transaction_of state session)) id)
+each_seen P base dropped kept state history none h session id = each_viewed P base dropped kept state history (no_sums_keep P state.number state.tables kept none) h session id
 
-seen_at : (P : ℕ → Schema → List ℕ → RecordFields → Type 0) (base : Records) (dropped kept : List PastChange) (state : DatabaseState) → IsHistory base dropped kept state → HasNoSums kept → EachRecordHas P base kept state → (session : ℕ)
+seen_at : (P : ℕ → Schema → List ℕ → RecordFields → Type 0) (base : Records) (dropped kept : List PastChange) (state : DatabaseState) → IsHistory base dropped kept state → SumsKeep P state.number state.tables kept → EachRecordHas P base kept state → (session : ℕ)
     → (table : Table) → table_with_id state.tables table.id ≡ Some table → (at : List ℕ) → IfSome (row_at (rows_of (table_with_id (view state session) table.id)) at) (P state.number (schema_of table) at)
-seen_at P base dropped kept state history none h session table found =
+seen_at P base dropped kept state history keeps h session table found =
     subst (λ (o : Option Table). IfSome o (λ table_found. (bookmark : List ℕ) → IfSome (records_of (view state session) table.id bookmark) (P state.number (schema_of table_found) bookmark))) found
-    (each_seen P base dropped kept state history none h session table.id)
+    (each_viewed P base dropped kept state history keeps h session table.id)
 
 -- the record before a change
-had_before : (P : ℕ → Schema → List ℕ → RecordFields → Type 0) → GoesOn P → (base : Records) (dropped kept : List PastChange) (state : DatabaseState) → IsHistory base dropped kept state → HasNoSums kept → EachRecordHas P base kept state → (id : ℕ) (bookmark : List ℕ)
+had_before : (P : ℕ → Schema → List ℕ → RecordFields → Type 0) → GoesOn P → (base : Records) (dropped kept : List PastChange) (state : DatabaseState) → IsHistory base dropped kept state → SumsKeep P state.number state.tables kept → EachRecordHas P base kept state → (id : ℕ) (bookmark : List ℕ)
     → IfSome (table_with_id state.tables id) (λ table. IfSome (records_of (newest (with_next_number state)) id bookmark) (P (state.number + 1) (schema_of table) bookmark))
-had_before P on base dropped kept state history none h id bookmark =
+had_before P on base dropped kept state history keeps h id bookmark =
     some_map (λ table. (at : List ℕ) → IfSome (records_after_items is_standing base kept id at) (P state.number (schema_of table) at))
     (λ table. IfSome (records_of (newest (with_next_number state)) id bookmark) (P (state.number + 1) (schema_of table) bookmark))
     (λ table made. subst (λ (r : Records). IfSome (r id bookmark) (P (state.number + 1) (schema_of table) bookmark)) (sym (newest_records base dropped kept (with_next_number state) (history_later base dropped kept state history)))
     (some_map (P state.number (schema_of table) bookmark) (P (state.number + 1) (schema_of table) bookmark) (on state.number (schema_of table) bookmark) (records_after_items is_standing base kept id bookmark) (made bookmark)))
-    (table_with_id state.tables id) (each_made P base dropped kept state history none h is_standing id)
+    (table_with_id state.tables id) (each_made P base dropped kept state history keeps h is_standing id)
 
-new_has : (P : ℕ → Schema → List ℕ → RecordFields → Type 0) → GoesOn P → (base : Records) (dropped kept : List PastChange) (state : DatabaseState) (label : ℕ) (change : Change) → IsHistory base dropped kept state → HasNoSums kept → is_sum change ≡ false
+new_has : (P : ℕ → Schema → List ℕ → RecordFields → Type 0) → GoesOn P → (base : Records) (dropped kept : List PastChange) (state : DatabaseState) (label : ℕ) (change : Change) → IsHistory base dropped kept state → SumsKeep P state.number state.tables kept
+    → IfSome (table_with_id state.tables (changed_table change)) (λ table. SumKeeps (P (state.number + 1) (schema_of table) (changed_bookmark change)) change)
     → is_lawful_at state label (table_with_id state.tables (changed_table change)) change ≡ true → PutsHave P state label
     → (new_change label change (with_next_number state)).after ≡ record_after (without_copied change) (new_change label change (with_next_number state)).before
     → EachRecordHas P base kept state → AtChange P (state.number + 1) state.tables (new_change label change (with_next_number state))
-new_has P on base dropped kept state label (Put id bookmark copied values) history none sum lawful puts after h =
+new_has P on base dropped kept state label (Put id bookmark copied values) history keeps sum lawful puts after h =
     some_at (λ table. IfSome (records_of (newest (with_next_number state)) id.0 bookmark) (P (state.number + 1) (schema_of table) bookmark))
     (λ table. HasBoth P (state.number + 1) (schema_of table) (new_change label (Put id bookmark copied values) (with_next_number state))) (table_with_id state.tables id.0)
     (λ table found before.
     let itself : table_with_id state.tables table.id ≡ Some table = ap (table_with_id state.tables) (id_of state.tables id.0 table found) ∙ found in (
       before,
       subst (λ (o : Option RecordFields). IfSome o (P (state.number + 1) (schema_of table) bookmark)) (sym after)
-          (puts table (rows_of (table_with_id (view state label) table.id)) bookmark copied values itself (seen_at P base dropped kept state history none h label table itself)
+          (puts table (rows_of (table_with_id (view state label) table.id)) bookmark copied values itself (seen_at P base dropped kept state history keeps h label table itself)
           (ap (λ (o : Option Table). is_lawful_at state label o (Put id bookmark copied values)) (sym found) ∙ lawful)),
     ))
-    (had_before P on base dropped kept state history none h id.0 bookmark)
-new_has P on base dropped kept state label (Drop id bookmark) history none sum lawful puts after h =
+    (had_before P on base dropped kept state history keeps h id.0 bookmark)
+new_has P on base dropped kept state label (Drop id bookmark) history keeps sum lawful puts after h =
     some_map (λ table. IfSome (records_of (newest (with_next_number state)) id.0 bookmark) (P (state.number + 1) (schema_of table) bookmark))
     (λ table. HasBoth P (state.number + 1) (schema_of table) (new_change label (Drop id bookmark) (with_next_number state)))
     (λ table before. (before, subst (λ (o : Option RecordFields). IfSome o (P (state.number + 1) (schema_of table) bookmark)) (sym after) tt))
-    (table_with_id state.tables id.0) (had_before P on base dropped kept state history none h id.0 bookmark)
-new_has P on base dropped kept state label (Hold id bookmark) history none sum lawful puts after h =
+    (table_with_id state.tables id.0) (had_before P on base dropped kept state history keeps h id.0 bookmark)
+new_has P on base dropped kept state label (Hold id bookmark) history keeps sum lawful puts after h =
     some_map (λ table. IfSome (records_of (newest (with_next_number state)) id.0 bookmark) (P (state.number + 1) (schema_of table) bookmark))
     (λ table. HasBoth P (state.number + 1) (schema_of table) (new_change label (Hold id bookmark) (with_next_number state)))
     (λ table before. (before, subst (λ (o : Option RecordFields). IfSome o (P (state.number + 1) (schema_of table) bookmark)) (sym after) before))
-    (table_with_id state.tables id.0) (had_before P on base dropped kept state history none h id.0 bookmark)
-new_has P on base dropped kept state label (Add id bookmark column amount) history none sum lawful puts after h = impossible (sym sum)
+    (table_with_id state.tables id.0) (had_before P on base dropped kept state history keeps h id.0 bookmark)
+new_has P on base dropped kept state label (Add id bookmark column amount) history keeps sum lawful puts after h =
+    some_at (λ table. IfSome (records_of (newest (with_next_number state)) id.0 bookmark) (P (state.number + 1) (schema_of table) bookmark))
+    (λ table. HasBoth P (state.number + 1) (schema_of table) (new_change label (Add id bookmark column amount) (with_next_number state))) (table_with_id state.tables id.0)
+    (λ table found before. (
+      before,
+      subst (λ (o : Option RecordFields). IfSome o (P (state.number + 1) (schema_of table) bookmark)) (sym after)
+          (summed (P (state.number + 1) (schema_of table) bookmark) column.0 amount (subst (λ (o : Option Table). IfSome o (λ t. SumKeeps (P (state.number + 1) (schema_of t) bookmark) (Add id bookmark column amount))) found sum)
+          (new_change label (Add id bookmark column amount) (with_next_number state)).before before),
+    ))
+    (had_before P on base dropped kept state history keeps h id.0 bookmark)
 
-pub each_changed : (P : ℕ → Schema → List ℕ → RecordFields → Type 0) → GoesOn P → (base : Records) (dropped kept : List PastChange) (state : DatabaseState) (label : ℕ) (change : Change) → IsHistory base dropped kept state → HasNoSums kept → is_sum change ≡ false
+pub each_changed : (P : ℕ → Schema → List ℕ → RecordFields → Type 0) → GoesOn P → (base : Records) (dropped kept : List PastChange) (state : DatabaseState) (label : ℕ) (change : Change) → IsHistory base dropped kept state → SumsKeep P state.number state.tables kept
+    → IfSome (table_with_id state.tables (changed_table change)) (λ table. SumKeeps (P (state.number + 1) (schema_of table) (changed_bookmark change)) change)
     → is_lawful_at state label (table_with_id state.tables (changed_table change)) change ≡ true → PutsHave P state label
     → (new_change label change (with_next_number state)).after ≡ record_after (without_copied change) (new_change label change (with_next_number state)).before
     → EachRecordHas P base kept state → EachRecordHas P base (kept_after state label (entry.Change change) kept) (applied label (entry.Change change) (with_next_number state))
-each_changed P on base dropped kept state label change history none sum lawful puts after h = record {
+each_changed P on base dropped kept state label change history keeps sum lawful puts after h = record {
   at_first = first_goes_on P on state.number base state.tables state.tables refl h.at_first;
   changes = all_append (AtChange P (state.number + 1) state.tables) kept (new_change label change (with_next_number state) ∷ [])
       (all_weaker (AtChange P state.number state.tables) (AtChange P (state.number + 1) state.tables) (change_goes_on P on state.number state.tables state.tables refl) kept h.changes)
-      (new_has P on base dropped kept state label change history none sum lawful puts after h, tt);
+      (new_has P on base dropped kept state label change history keeps sum lawful puts after h, tt);
 }
 
 -- ---- tables without changes
@@ -256,13 +307,13 @@ each_changed P on base dropped kept state label change history none sum lawful p
 abbrev pub RowsHave : (ℕ → Schema → List ℕ → RecordFields → Type 0) → ℕ → List Table → Type 0
 RowsHave P number tables = (id : ℕ) → IfSome (table_with_id tables id) (λ table. (bookmark : List ℕ) → IfSome (row_at table.rows bookmark) (P number (schema_of table) bookmark))
 
-pub each_row : (P : ℕ → Schema → List ℕ → RecordFields → Type 0) (base : Records) (dropped kept : List PastChange) (state : DatabaseState) → IsHistory base dropped kept state → HasNoSums kept → EachRecordHas P base kept state → RowsHave P state.number state.tables
-each_row P base dropped kept state history none h id =
+pub each_row : (P : ℕ → Schema → List ℕ → RecordFields → Type 0) (base : Records) (dropped kept : List PastChange) (state : DatabaseState) → IsHistory base dropped kept state → SumsKeep P state.number state.tables kept → EachRecordHas P base kept state → RowsHave P state.number state.tables
+each_row P base dropped kept state history keeps h id =
     some_at (λ table. (bookmark : List ℕ) → IfSome (records_after_items (was_committed None) base kept id bookmark) (P state.number (schema_of table) bookmark))
     (λ table. (bookmark : List ℕ) → IfSome (row_at table.rows bookmark) (P state.number (schema_of table) bookmark)) (table_with_id state.tables id)
     (λ table found made bookmark. subst (λ (o : Option RecordFields). IfSome o (P state.number (schema_of table) bookmark))
     (sym (ap (λ (r : Records). r id bookmark) history.keeps.committed) ∙ ap (λ (o : Option Table). row_at (rows_of o) bookmark) found) (made bookmark))
-    (each_made P base dropped kept state history none h (was_committed None) id)
+    (each_made P base dropped kept state history keeps h (was_committed None) id)
 
 pub each_begun : (P : ℕ → Schema → List ℕ → RecordFields → Type 0) (state : DatabaseState) → RowsHave P state.number state.tables → EachRecordHas P (records_of state.tables) [] state
 each_begun P state h = record {
@@ -273,12 +324,16 @@ each_begun P state h = record {
 
 -- ---- a clean
 
-pub each_cleaned : (P : ℕ → Schema → List ℕ → RecordFields → Type 0) (base : Records) (dropped : List PastChange) (item : PastChange) (kept : List PastChange) (state : DatabaseState) → IsHistory base dropped (item ∷ kept) state → HasNoSums (item ∷ kept)
+pub each_cleaned_where : (P : ℕ → Schema → List ℕ → RecordFields → Type 0) (base : Records) (dropped : List PastChange) (item : PastChange) (kept : List PastChange) (state : DatabaseState) → IsHistory base dropped (item ∷ kept) state → SumsKeep P state.number state.tables (item ∷ kept)
     → EachRecordHas P base (item ∷ kept) state → EachRecordHas P (if is_standing item then after_item base item else base) kept state
-each_cleaned P base dropped item kept state history none h = record {
+each_cleaned_where P base dropped item kept state history keeps h = record {
   at_first = λ id. some_at (AtFirst P state.number base id) (AtFirst P state.number (if is_standing item then after_item base item else base) id) (table_with_id state.tables id)
       (λ table found first bookmark. subst (λ (r : Records). IfSome (r id bookmark) (P state.number (schema_of table) bookmark)) (folded-cons is_standing base item [])
       (each_after (P state.number (schema_of table) bookmark) is_standing id bookmark (item ∷ [])
-      (leaves_each P state.number state.tables id table found bookmark (item ∷ []) (none.0, tt) ((afters_of base dropped (item ∷ kept) state history).0, tt) (h.changes.0, tt)) base (first bookmark))) (h.at_first id);
+      (leaves_each P state.number state.tables id table found bookmark (item ∷ []) (keeps.0, tt) ((afters_of base dropped (item ∷ kept) state history).0, tt) (h.changes.0, tt)) base (first bookmark))) (h.at_first id);
   changes = h.changes.1;
 }
+
+pub each_cleaned : (P : ℕ → Schema → List ℕ → RecordFields → Type 0) (base : Records) (dropped : List PastChange) (item : PastChange) (kept : List PastChange) (state : DatabaseState) → IsHistory base dropped (item ∷ kept) state → HasNoSums (item ∷ kept)
+    → EachRecordHas P base (item ∷ kept) state → EachRecordHas P (if is_standing item then after_item base item else base) kept state
+each_cleaned P base dropped item kept state history none h = each_cleaned_where P base dropped item kept state history (no_sums_keep P state.number state.tables (item ∷ kept) none) h

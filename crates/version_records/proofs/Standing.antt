@@ -1,6 +1,6 @@
 -- Every record stands under its bookmark, after each entry.
-use Rattle.std.proofs.Common.{◌≡◌, ℕ, ◌+◌, Bool, true, false, not, ◌&&◌, ◌||◌, List, [], ◌∷◌, Option, Some, None, refl, sym, ap, subst, ◌∙◌, bytes_eq}
-use Rattle.std.specs.Prelude.{◌==◌, is_none, is_some, option_map, unwrap_or, if◌then◌else◌, IfSome}
+use Rattle.std.proofs.Common.{◌≡◌, ℕ, ◌+◌, Bool, true, false, not, ◌&&◌, ◌||◌, cond, List, [], ◌∷◌, ◌++◌, Option, Some, None, refl, sym, ap, subst, ◌∙◌, bytes_eq}
+use Rattle.std.specs.Prelude.{◌==◌, find, is_none, is_some, option_map, unwrap_or, if◌then◌else◌, IfSome}
 use Rattle.std.specs.List.{AllByRecursion}
 use Rattle.jet_base.specs.ColumnType.{big_endian}
 use Rattle.column_set.specs.declared.changes.Change.{Change}
@@ -16,7 +16,7 @@ use Rattle.index_derive.specs.declared.schema_calls.SchemaStep.{SchemaStep}
 use Rattle.index_derive.specs.declared.schema_calls.SchemaStep.TheVariants as step
 use Rattle.index_derive.specs.Entries.{entries, primary_key}
 use Rattle.database_state.specs.Table.{Rows, Table, primary_rule, row_at, schema_of, table_with_id}
-use Rattle.database_state.specs.Changes.{is_sum, without_copied}
+use Rattle.database_state.specs.Changes.{changed_table, changed_bookmark, is_sum, with_sum, without_copied}
 use Rattle.database_state.specs.Conflicts.{yields_key}
 use Rattle.database_state.specs.Puts.{is_cut_refusal, is_null_refusal, null_refusals}
 use Rattle.database_state.specs.SchemaChanges.{has_column, new_table, rule_columns, schema_refusal, tables_after_step, with_column, with_index, without_column, without_index}
@@ -33,16 +33,17 @@ use Rattle.version_history.proofs.EndEntries.{back}
 use Rattle.version_history.proofs.LawfulEntries.{keeps_lawful}
 use Rattle.version_history.proofs.Lists.{all_weaker}
 use Rattle.version_keys.specs.UniqueKeys.{HasUniqueIndexes, HasUniqueKeys, IsSoundIndex, IsUniqueIndex}
-use Rattle.version_keys.specs.Variants.{HasNoSums}
+use Rattle.version_keys.specs.KeySums.{IndexesSeeNoSum, SeesNoSum, adds_to_index}
+use Rattle.version_keys.proofs.KeySums.{keys_with_sum}
 use Rattle.version_keys.proofs.BookmarkKeys.{HasOneEntry}
 use Rattle.version_keys.proofs.IndexNumbers.{all_primary_first, found_with, found_without, none_of}
 use Rattle.version_keys.proofs.SameColumns.{SameAt, yields_same}
 use Rattle.version_keys.proofs.SchemaKeys.{at_found, at_table, each_column, found_has, mapped_row, no_rows, other_column, other_values, unrefused, unused_by, with_last, without_table}
-use Rattle.version_keys.proofs.UniqueKept.{some_at}
+use Rattle.version_keys.proofs.UniqueKept.{id_of, some_at}
 use Rattle.database_state.proofs.Columns.{column_of_id-columns_with}
 use Rattle.version_records.specs.Bookmarks.{HasBookmarks, StandsUnder, is_bookmark, is_entry_number}
 use Rattle.version_records.specs.EachRecord.{EachRecordHas}
-use Rattle.version_records.proofs.EachRecord.{GoesOn, PutsHave, RowsHave, each_begun, each_by_kind, each_changed, each_cleaned, each_row, each_seen}
+use Rattle.version_records.proofs.EachRecord.{GoesOn, PutsHave, RowsHave, SumKeeps, SumsKeep, each_begun, each_by_kind, each_changed, each_cleaned_where, each_row, each_viewed}
 use Rattle.version_records.proofs.EntryNumbers.{entry_number-own, entry_number-stays}
 use Rattle.version_records.proofs.PrimaryKeys.{each_null, found_passes, of_found, primary_listed}
 use Rattle.version_records.proofs.Touching.{touched_after}
@@ -198,6 +199,54 @@ step_stands state label (step.DeleteIndex table index) free sound h id =
     at_table (Stand (state.number + 1)) table.0 (without_index index.0) (λ t. refl) state.tables
     (λ t found s. dropped_index (state.number + 1) index.0 t (none_of (λ r. (r.id.0 == index.0) && r.flags.primary) t.indexes (at_found state label (step.DeleteIndex table index) t free found).1.0) s) h id
 
+-- ---- a sum
+
+-- a sum of a column that no index names leaves the key that is the bookmark
+stands : (number : ℕ) (table : Table) (bookmark : List ℕ) (change : Change) → AllByRecursion (λ rule. adds_to_index rule change ≡ false) table.indexes → SumKeeps (StandsUnder number (schema_of table) bookmark) change
+stands number table bookmark (Put id at copied values) h = tt
+stands number table bookmark (Drop id at) h = tt
+stands number table bookmark (Hold id at) h = tt
+stands number table bookmark (Add id at column amount) h = λ values had. by (primary_rule (schema_of table)) refl values had
+  where
+    among : (rules : List IndexRule) → AllByRecursion (λ rule. adds_to_index rule (Add id at column amount) ≡ false) rules → (rule : IndexRule) → find (λ r. r.flags.primary) rules ≡ Some rule → adds_to_index rule (Add id at column amount) ≡ false
+    among [] p rule e = cc
+    among (first ∷ rules) p rule e = elim (first.flags.primary) as (λ b. cond b (Some first) (find (λ r. r.flags.primary) rules) ≡ Some rule → adds_to_index rule (Add id at column amount) ≡ false) [
+      | true ↦ λ g. subst (λ (r : IndexRule). adds_to_index r (Add id at column amount) ≡ false) (same first rule g) p.0
+      | false ↦ λ g. among rules p.1 rule g
+    ] e
+      where
+        same : (x y : IndexRule) → Some x ≡ Some y → x ≡ y
+        same x y e = cc
+
+    by : (found : Option IndexRule) → primary_rule (schema_of table) ≡ found → (values : RecordFields) → is_bookmark number (schema_of table) found bookmark values ≡ true → is_bookmark number (schema_of table) found bookmark (with_sum values column.0 amount) ≡ true
+    by None e values had = had
+    by (Some rule) e values had =
+        keys_with_sum rule (schema_of table) bookmark values column.0 amount
+        (among (schema_of table).indexes (all_primary_first (λ r. adds_to_index r (Add id at column amount) ≡ false) table.indexes h) rule e) ∙ had
+
+stand_sums : (number : ℕ) (state : DatabaseState) (kept : List PastChange) → IndexesSeeNoSum kept state → SumsKeep StandsUnder number state.tables kept
+stand_sums number state [] sees = tt
+stand_sums number state (item ∷ kept) sees = (
+  some_at (λ t. AllByRecursion (λ rule. SeesNoSum rule t.id (item ∷ kept)) t.indexes) (λ t. SumKeeps (StandsUnder number (schema_of t) (changed_bookmark item.change)) item.change) (table_with_id state.tables (changed_table item.change))
+      (λ t found each. stands number t (changed_bookmark item.change) item.change
+      (all_weaker (λ rule. SeesNoSum rule t.id (item ∷ kept)) (λ rule. adds_to_index rule item.change ≡ false) (λ rule unseen. unseen.0 (sym (id_of state.tables (changed_table item.change) t found))) t.indexes each)) (sees (changed_table item.change)),
+  stand_sums number state kept (λ id. some_at (λ t. AllByRecursion (λ rule. SeesNoSum rule t.id (item ∷ kept)) t.indexes) (λ t. AllByRecursion (λ rule. SeesNoSum rule t.id kept) t.indexes) (table_with_id state.tables id)
+      (λ t found each. all_weaker (λ rule. SeesNoSum rule t.id (item ∷ kept)) (λ rule. SeesNoSum rule t.id kept) (λ rule unseen. unseen.1) t.indexes each) (sees id)),
+)
+
+stand_new : (state : DatabaseState) (label : ℕ) (change : Change) (kept : List PastChange) → IndexesSeeNoSum (kept_after state label (entry.Change change) kept) state
+    → IfSome (table_with_id state.tables (changed_table change)) (λ table. SumKeeps (StandsUnder (state.number + 1) (schema_of table) (changed_bookmark change)) change)
+stand_new state label change kept sees =
+    of_copied change (back (λ item. IfSome (table_with_id state.tables (changed_table item.change)) (λ table. SumKeeps (StandsUnder (state.number + 1) (schema_of table) (changed_bookmark item.change)) item.change)) kept
+    (new_change label change (with_next_number state) ∷ []) (stand_sums (state.number + 1) state (kept ++ new_change label change (with_next_number state) ∷ []) sees)).0
+  where
+    of_copied : (c : Change) → IfSome (table_with_id state.tables (changed_table (without_copied c))) (λ table. SumKeeps (StandsUnder (state.number + 1) (schema_of table) (changed_bookmark (without_copied c))) (without_copied c))
+        → IfSome (table_with_id state.tables (changed_table c)) (λ table. SumKeeps (StandsUnder (state.number + 1) (schema_of table) (changed_bookmark c)) c)
+    of_copied (Put id at copied values) h = h
+    of_copied (Drop id at) h = h
+    of_copied (Hold id at) h = h
+    of_copied (Add id at column amount) h = h
+
 -- ---- any entry
 
 pub plain_sum : (change : Change) → is_sum (without_copied change) ≡ false → is_sum change ≡ false
@@ -206,45 +255,45 @@ plain_sum (Drop table bookmark) e = e
 plain_sum (Hold table bookmark) e = e
 plain_sum (Add table bookmark column amount) e = e
 
-by_kind : HasOneEntry → (base : Records) (dropped kept : List PastChange) (state : DatabaseState) (label : ℕ) (kind : EntryKind) → IsHistory base dropped kept state → HasNoSums kept → HasNoSums (kept_after state label kind kept) → is_lawful_kind state label kind ≡ true
+by_kind : HasOneEntry → (base : Records) (dropped kept : List PastChange) (state : DatabaseState) (label : ℕ) (kind : EntryKind) → IsHistory base dropped kept state → IndexesSeeNoSum kept state → IndexesSeeNoSum (kept_after state label kind kept) state → is_lawful_kind state label kind ≡ true
     → IsHistory (base_after state kind base) (dropped_after kind dropped kept) (kept_after state label kind kept) (applied label kind (with_next_number state)) → HasUniqueKeys base kept state → EachRecordHas StandsUnder base kept state
     → EachRecordHas StandsUnder (base_after state kind base) (kept_after state label kind kept) (applied label kind (with_next_number state))
-by_kind one base dropped kept state label entry.Enter h none after_none e after unique each = each_by_kind StandsUnder goes_on base kept state label entry.Enter refl each
-by_kind one base dropped kept state label entry.Leave h none after_none e after unique each = each_by_kind StandsUnder goes_on base kept state label entry.Leave refl each
-by_kind one base dropped kept state label (entry.Open table) h none after_none e after unique each = each_by_kind StandsUnder goes_on base kept state label (entry.Open table) refl each
-by_kind one base dropped kept state label (entry.Shut table) h none after_none e after unique each = each_by_kind StandsUnder goes_on base kept state label (entry.Shut table) refl each
-by_kind one base dropped kept state label entry.Begin h none after_none e after unique each = each_by_kind StandsUnder goes_on base kept state label entry.Begin refl each
-by_kind one base dropped kept state label entry.Save h none after_none e after unique each = each_by_kind StandsUnder goes_on base kept state label entry.Save refl each
-by_kind one base dropped kept state label (entry.Change change) h none after_none e after unique each =
-    each_changed StandsUnder goes_on base dropped kept state label change h none (plain_sum change (back (λ item. is_sum item.change ≡ false) kept _ after_none).0) (and_right _ _ e) (put_stands one base kept state label unique)
+by_kind one base dropped kept state label entry.Enter h sees sees_after e after unique each = each_by_kind StandsUnder goes_on base kept state label entry.Enter refl each
+by_kind one base dropped kept state label entry.Leave h sees sees_after e after unique each = each_by_kind StandsUnder goes_on base kept state label entry.Leave refl each
+by_kind one base dropped kept state label (entry.Open table) h sees sees_after e after unique each = each_by_kind StandsUnder goes_on base kept state label (entry.Open table) refl each
+by_kind one base dropped kept state label (entry.Shut table) h sees sees_after e after unique each = each_by_kind StandsUnder goes_on base kept state label (entry.Shut table) refl each
+by_kind one base dropped kept state label entry.Begin h sees sees_after e after unique each = each_by_kind StandsUnder goes_on base kept state label entry.Begin refl each
+by_kind one base dropped kept state label entry.Save h sees sees_after e after unique each = each_by_kind StandsUnder goes_on base kept state label entry.Save refl each
+by_kind one base dropped kept state label (entry.Change change) h sees sees_after e after unique each =
+    each_changed StandsUnder goes_on base dropped kept state label change h (stand_sums state.number state kept sees) (stand_new state label change kept sees_after) (and_right _ _ e) (put_stands one base kept state label unique)
     (back (IsPlaced (state.number + 1) state.tables (transaction_of state)) kept (new_change label change (with_next_number state) ∷ []) after.keeps.placed).0.3 each
-by_kind one base dropped kept state label entry.Release h none after_none e after unique each = each_by_kind StandsUnder goes_on base kept state label entry.Release refl each
-by_kind one base dropped kept state label entry.Undo h none after_none e after unique each = each_by_kind StandsUnder goes_on base kept state label entry.Undo refl each
-by_kind one base dropped kept state label entry.UndoAll h none after_none e after unique each = each_by_kind StandsUnder goes_on base kept state label entry.UndoAll refl each
-by_kind one base dropped kept state label entry.Commit h none after_none e after unique each = each_by_kind StandsUnder goes_on base kept state label entry.Commit refl each
-by_kind one base dropped kept state label (entry.Schema made_step) h none after_none e after unique each =
+by_kind one base dropped kept state label entry.Release h sees sees_after e after unique each = each_by_kind StandsUnder goes_on base kept state label entry.Release refl each
+by_kind one base dropped kept state label entry.Undo h sees sees_after e after unique each = each_by_kind StandsUnder goes_on base kept state label entry.Undo refl each
+by_kind one base dropped kept state label entry.UndoAll h sees sees_after e after unique each = each_by_kind StandsUnder goes_on base kept state label entry.UndoAll refl each
+by_kind one base dropped kept state label entry.Commit h sees sees_after e after unique each = each_by_kind StandsUnder goes_on base kept state label entry.Commit refl each
+by_kind one base dropped kept state label (entry.Schema made_step) h sees sees_after e after unique each =
     each_begun StandsUnder (applied label (entry.Schema made_step) (with_next_number state))
     (step_stands state label made_step (and_right _ _ (and_left _ _ e)) (λ id table found. sound_rules base kept state unique id table found)
-    (λ id. some_at (Stand state.number) (Stand (state.number + 1)) (table_with_id state.tables id) (λ t found s. stand_later state.number t s) (each_row StandsUnder base dropped kept state h none each id)))
+    (λ id. some_at (Stand state.number) (Stand (state.number + 1)) (table_with_id state.tables id) (λ t found s. stand_later state.number t s) (each_row StandsUnder base dropped kept state h (stand_sums state.number state kept sees) each id)))
 
-pub bookmarks_kept : HasOneEntry → (base : Records) (dropped kept : List PastChange) (state : DatabaseState) (made_entry : Entry) → IsHistory base dropped kept state → is_lawful state made_entry ≡ true → HasNoSums kept → HasNoSums (kept_after state made_entry.session.0 made_entry.kind kept)
+pub bookmarks_kept : HasOneEntry → (base : Records) (dropped kept : List PastChange) (state : DatabaseState) (made_entry : Entry) → IsHistory base dropped kept state → is_lawful state made_entry ≡ true → IndexesSeeNoSum kept state → IndexesSeeNoSum (kept_after state made_entry.session.0 made_entry.kind kept) state
     → HasUniqueKeys base kept state → HasBookmarks base kept state → HasBookmarks (base_after state made_entry.kind base) (kept_after state made_entry.session.0 made_entry.kind kept) (state_after state made_entry)
 unfolding is_lawful state_after
-bookmarks_kept one base dropped kept state made_entry h e none after_none unique marks =
+bookmarks_kept one base dropped kept state made_entry h e sees sees_after unique marks =
     let lawful : is_lawful_kind state made_entry.session.0 made_entry.kind ≡ true = and_right (has_number state.number made_entry.kind) _ e in
     let after = keeps_lawful base dropped kept state made_entry h e in
     record {
-      records = by_kind one base dropped kept state made_entry.session.0 made_entry.kind h none after_none lawful after unique marks.records;
-      touched = touched_after base dropped kept state made_entry.session.0 made_entry.kind h after_none lawful after marks.touched;
+      records = by_kind one base dropped kept state made_entry.session.0 made_entry.kind h sees sees_after lawful after unique marks.records;
+      touched = touched_after base dropped kept state made_entry.session.0 made_entry.kind h lawful after marks.touched;
     }
 
 pub bookmarks_begun : (state : DatabaseState) → RowsHave StandsUnder state.number state.tables → HasBookmarks (records_of state.tables) [] state
 bookmarks_begun state h = record { records = each_begun StandsUnder state h; touched = tt }
 
-pub bookmarks_cleaned : (base : Records) (dropped : List PastChange) (item : PastChange) (kept : List PastChange) (state : DatabaseState) → IsHistory base dropped (item ∷ kept) state → HasNoSums (item ∷ kept)
+pub bookmarks_cleaned : (base : Records) (dropped : List PastChange) (item : PastChange) (kept : List PastChange) (state : DatabaseState) → IsHistory base dropped (item ∷ kept) state → IndexesSeeNoSum (item ∷ kept) state
     → HasBookmarks base (item ∷ kept) state → HasBookmarks (if is_standing item then after_item base item else base) kept state
-bookmarks_cleaned base dropped item kept state h none marks = record { records = each_cleaned StandsUnder base dropped item kept state h none marks.records; touched = marks.touched.1 }
+bookmarks_cleaned base dropped item kept state h sees marks = record { records = each_cleaned_where StandsUnder base dropped item kept state h (stand_sums state.number state (item ∷ kept) sees) marks.records; touched = marks.touched.1 }
 
-pub bookmarks_seen : (base : Records) (dropped kept : List PastChange) (state : DatabaseState) → IsHistory base dropped kept state → HasNoSums kept → HasBookmarks base kept state → (session id : ℕ)
+pub bookmarks_seen : (base : Records) (dropped kept : List PastChange) (state : DatabaseState) → IsHistory base dropped kept state → IndexesSeeNoSum kept state → HasBookmarks base kept state → (session id : ℕ)
     → IfSome (table_with_id state.tables id) (λ table. (bookmark : List ℕ) → IfSome (records_of (view state session) id bookmark) (StandsUnder state.number (schema_of table) bookmark))
-bookmarks_seen base dropped kept state h none marks session id = each_seen StandsUnder base dropped kept state h none marks.records session id
+bookmarks_seen base dropped kept state h sees marks session id = each_viewed StandsUnder base dropped kept state h (stand_sums state.number state kept sees) marks.records session id

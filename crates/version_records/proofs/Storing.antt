@@ -28,7 +28,7 @@ use Rattle.version_keys.specs.Variants.{HasNoSums}
 use Rattle.version_keys.proofs.SchemaKeys.{at_found, at_table, mapped_row, no_rows, other_column, other_values, with_last, without_table}
 use Rattle.version_records.specs.EachRecord.{EachRecordHas}
 use Rattle.version_records.specs.StoredRecords.{IsStored, leaves_records_short, makes_kept_column}
-use Rattle.version_records.proofs.EachRecord.{GoesOn, PutsHave, each_begun, each_by_kind, each_changed, each_row}
+use Rattle.version_records.proofs.EachRecord.{GoesOn, PutsHave, each_begun, each_by_kind, each_changed, each_row, no_sums_keep, plain_change_keeps}
 use Rattle.version_records.proofs.Standing.{plain_sum}
 
 stored_goes_on : GoesOn IsStored
@@ -143,14 +143,15 @@ stored_by_kind base dropped kept state label (entry.Shut table) h none after_non
 stored_by_kind base dropped kept state label entry.Begin h none after_none short e after each = each_by_kind IsStored stored_goes_on base kept state label entry.Begin refl each
 stored_by_kind base dropped kept state label entry.Save h none after_none short e after each = each_by_kind IsStored stored_goes_on base kept state label entry.Save refl each
 stored_by_kind base dropped kept state label (entry.Change change) h none after_none short e after each =
-    each_changed IsStored stored_goes_on base dropped kept state label change h none (plain_sum change (back (λ item. is_sum item.change ≡ false) kept _ after_none).0) (and_right _ _ e) (stored_puts state label)
+    each_changed IsStored stored_goes_on base dropped kept state label change h (no_sums_keep IsStored state.number state.tables kept none)
+    (plain_change_keeps IsStored (state.number + 1) state.tables change (plain_sum change (back (λ item. is_sum item.change ≡ false) kept _ after_none).0)) (and_right _ _ e) (stored_puts state label)
     (back (IsPlaced (state.number + 1) state.tables (transaction_of state)) kept (new_change label change (with_next_number state) ∷ []) after.keeps.placed).0.3 each
 stored_by_kind base dropped kept state label entry.Release h none after_none short e after each = each_by_kind IsStored stored_goes_on base kept state label entry.Release refl each
 stored_by_kind base dropped kept state label entry.Undo h none after_none short e after each = each_by_kind IsStored stored_goes_on base kept state label entry.Undo refl each
 stored_by_kind base dropped kept state label entry.UndoAll h none after_none short e after each = each_by_kind IsStored stored_goes_on base kept state label entry.UndoAll refl each
 stored_by_kind base dropped kept state label entry.Commit h none after_none short e after each = each_by_kind IsStored stored_goes_on base kept state label entry.Commit refl each
 stored_by_kind base dropped kept state label (entry.Schema made) h none after_none short e after each =
-    each_begun IsStored (applied label (entry.Schema made) (with_next_number state)) (step_stores state label made (and_right _ _ (and_left _ _ e)) short (each_row IsStored base dropped kept state h none each))
+    each_begun IsStored (applied label (entry.Schema made) (with_next_number state)) (step_stores state label made (and_right _ _ (and_left _ _ e)) short (each_row IsStored base dropped kept state h (no_sums_keep IsStored state.number state.tables kept none) each))
 
 pub stored_kept : (base : Records) (dropped kept : List PastChange) (state : DatabaseState) (made : Entry) → IsHistory base dropped kept state → is_lawful state made ≡ true → HasNoSums kept → HasNoSums (kept_after state made.session.0 made.kind kept)
     → leaves_records_short made.kind ≡ false → EachRecordHas IsStored base kept state → EachRecordHas IsStored (base_after state made.kind base) (kept_after state made.session.0 made.kind kept) (state_after state made)

@@ -23,7 +23,6 @@ use Rattle.version_history.proofs.Entries.{history_later}
 use Rattle.version_history.proofs.Lists.{all_append, all_map, all_weaker}
 use Rattle.version_history.proofs.SeenRecords.{newest_records}
 use Rattle.version_history.proofs.Unhindered.{finds_newest}
-use Rattle.version_keys.specs.Variants.{HasNoSums}
 use Rattle.version_keys.proofs.UniqueKept.{id_of}
 use Rattle.version_records.specs.Bookmarks.{TouchesRecord}
 use Rattle.version_records.proofs.EachRecord.{KeepsRecords, commit_keeps, lower_keeps, undone_keeps}
@@ -73,19 +72,19 @@ changed_touches base dropped kept state label change h lawful after None e = imp
 changed_touches base dropped kept state label change h lawful after (Some t) e =
     touches_new base dropped kept state label t change h e (not_true (has_write_conflict state label change) (and_right _ _ (and_left _ _ lawful))) (and_right _ _ lawful) after
 
-pub touched_after : (base : Records) (dropped kept : List PastChange) (state : DatabaseState) (label : ℕ) (kind : EntryKind) → IsHistory base dropped kept state → HasNoSums (kept_after state label kind kept) → is_lawful_kind state label kind ≡ true
+pub touched_after : (base : Records) (dropped kept : List PastChange) (state : DatabaseState) (label : ℕ) (kind : EntryKind) → IsHistory base dropped kept state → is_lawful_kind state label kind ≡ true
     → IsHistory (base_after state kind base) (dropped_after kind dropped kept) (kept_after state label kind kept) (applied label kind (with_next_number state)) → AllByRecursion TouchesRecord kept → AllByRecursion TouchesRecord (kept_after state label kind kept)
-touched_after base dropped kept state label entry.Enter h none e after touched = touched
-touched_after base dropped kept state label entry.Leave h none e after touched = touched_mapped (undone_where (is_own_open label every_change)) (undone_keeps (is_own_open label every_change)) kept touched
-touched_after base dropped kept state label (entry.Open table) h none e after touched = touched
-touched_after base dropped kept state label (entry.Shut table) h none e after touched = touched
-touched_after base dropped kept state label entry.Begin h none e after touched = touched
-touched_after base dropped kept state label entry.Save h none e after touched = touched
-touched_after base dropped kept state label (entry.Change change) h none e after touched =
+touched_after base dropped kept state label entry.Enter h e after touched = touched
+touched_after base dropped kept state label entry.Leave h e after touched = touched_mapped (undone_where (is_own_open label every_change)) (undone_keeps (is_own_open label every_change)) kept touched
+touched_after base dropped kept state label (entry.Open table) h e after touched = touched
+touched_after base dropped kept state label (entry.Shut table) h e after touched = touched
+touched_after base dropped kept state label entry.Begin h e after touched = touched
+touched_after base dropped kept state label entry.Save h e after touched = touched
+touched_after base dropped kept state label (entry.Change change) h e after touched =
     all_append TouchesRecord kept (new_change label change (with_next_number state) ∷ []) touched
     (changed_touches base dropped kept state label change h e (back (IsPlaced (state.number + 1) state.tables (transaction_of state)) kept (new_change label change (with_next_number state) ∷ []) after.keeps.placed).0.3 (transaction_of state label) refl, tt)
-touched_after base dropped kept state label entry.Release h none e after touched = touched_mapped (lowered_own label (levels state label)) (lower_keeps label (levels state label)) kept touched
-touched_after base dropped kept state label entry.Undo h none e after touched = touched_mapped (undone_where (is_own_open label (is_at_level (levels state label)))) (undone_keeps (is_own_open label (is_at_level (levels state label)))) kept touched
-touched_after base dropped kept state label entry.UndoAll h none e after touched = touched_mapped (undone_where (is_own_open label every_change)) (undone_keeps (is_own_open label every_change)) kept touched
-touched_after base dropped kept state label entry.Commit h none e after touched = touched_mapped (committed_own label (state.number + 1)) (commit_keeps label (state.number + 1)) kept touched
-touched_after base dropped kept state label (entry.Schema made) h none e after touched = tt
+touched_after base dropped kept state label entry.Release h e after touched = touched_mapped (lowered_own label (levels state label)) (lower_keeps label (levels state label)) kept touched
+touched_after base dropped kept state label entry.Undo h e after touched = touched_mapped (undone_where (is_own_open label (is_at_level (levels state label)))) (undone_keeps (is_own_open label (is_at_level (levels state label)))) kept touched
+touched_after base dropped kept state label entry.UndoAll h e after touched = touched_mapped (undone_where (is_own_open label every_change)) (undone_keeps (is_own_open label every_change)) kept touched
+touched_after base dropped kept state label entry.Commit h e after touched = touched_mapped (committed_own label (state.number + 1)) (commit_keeps label (state.number + 1)) kept touched
+touched_after base dropped kept state label (entry.Schema made) h e after touched = tt

@@ -13,7 +13,7 @@ ghost use Rattle.version_history.specs.Readers.{is_standing};
 ghost use Rattle.version_history.specs.History.{IsHistory};
 ghost use Rattle.version_history.specs.KeptSteps.{kept_after, base_after};
 ghost use Rattle.version_keys.specs.UniqueKeys.{HasUniqueKeys};
-ghost use Rattle.version_keys.specs.Variants.{HasNoSums};
+ghost use Rattle.version_keys.specs.KeySums.{IndexesSeeNoSum};
 ghost use Rattle.version_records.specs.Bookmarks.{HasBookmarks, StandsUnder, is_entry_number};
 
 use index_derive::a_primary_index_has_one_entry;
@@ -30,10 +30,10 @@ pub fn bookmarks_begin_with_those_of_tables()
         → HasBookmarks (records_of state.tables) [] state }
 {}
 
-/// Every lawful entry keeps the bookmarks, schema steps among them, where no escrow column is changed.
+/// Every lawful entry keeps the bookmarks, schema steps among them, where no index sees a sum.
 pub fn lawful_entries_keep_bookmarks()
     ensures { (base : Records) (dropped kept : List PastChange) (state : DatabaseState) (made : Entry) → IsHistory base dropped kept state → is_lawful state made ≡ true
-        → HasNoSums kept → HasNoSums (kept_after state made.session.0 made.kind kept) → HasUniqueKeys base kept state → HasBookmarks base kept state
+        → IndexesSeeNoSum kept state → IndexesSeeNoSum (kept_after state made.session.0 made.kind kept) state → HasUniqueKeys base kept state → HasBookmarks base kept state
         → HasBookmarks (base_after state made.kind base) (kept_after state made.session.0 made.kind kept) (state_after state made) }
 {
     a_primary_index_has_one_entry();
@@ -41,12 +41,12 @@ pub fn lawful_entries_keep_bookmarks()
 
 /// So does a clean of the oldest kept change.
 pub fn a_clean_keeps_bookmarks()
-    ensures { (base : Records) (dropped : List PastChange) (item : PastChange) (kept : List PastChange) (state : DatabaseState) → IsHistory base dropped (item ∷ kept) state → HasNoSums (item ∷ kept)
+    ensures { (base : Records) (dropped : List PastChange) (item : PastChange) (kept : List PastChange) (state : DatabaseState) → IsHistory base dropped (item ∷ kept) state → IndexesSeeNoSum (item ∷ kept) state
         → HasBookmarks base (item ∷ kept) state → HasBookmarks (if is_standing item then after_item base item else base) kept state }
 {}
 
 /// Every record that a session sees has its bookmark.
 pub fn every_record_seen_has_its_bookmark()
-    ensures { (base : Records) (dropped kept : List PastChange) (state : DatabaseState) → IsHistory base dropped kept state → HasNoSums kept → HasBookmarks base kept state → (session id : ℕ)
+    ensures { (base : Records) (dropped kept : List PastChange) (state : DatabaseState) → IsHistory base dropped kept state → IndexesSeeNoSum kept state → HasBookmarks base kept state → (session id : ℕ)
         → IfSome (table_with_id state.tables id) (λ table. (bookmark : List ℕ) → IfSome (records_of (view state session) id bookmark) (StandsUnder state.number (schema_of table) bookmark)) }
 {}

@@ -37,7 +37,7 @@ unseen_status reader t owner undone e = refl
 pub same_unseen : (item : PastChange) (held : HeldRecord) → Matches item held → (reader : Reader) (t : Option Transaction) → reader.begin ≡ begin_of t → is_unseen reader held ≡ is_unseen_change reader.session.0 t item
 same_unseen item held m reader t e = (λ i. is_unseen_status reader (m.session i) (m.status i)) ∙ unseen_status reader t item.session item.status e
 
-same_hides : (item : PastChange) (held : HeldRecord) → Matches item held → (reader : Reader) (t : Option Transaction) → reader.begin ≡ begin_of t → (table : ℕ) (bookmark : List ℕ)
+pub same_hides : (item : PastChange) (held : HeldRecord) → Matches item held → (reader : Reader) (t : Option Transaction) → reader.begin ≡ begin_of t → (table : ℕ) (bookmark : List ℕ)
     → hides table bookmark reader held ≡ hides_record reader.session.0 t table bookmark item
 same_hides item held m reader t e table bookmark =
     λ i. ((m.table i == table) && bytes_eq (m.bookmark i) bookmark) && (ap is_rewrite m.kind ∙ rewrite_kind item.change) i && same_unseen item held m reader t e i

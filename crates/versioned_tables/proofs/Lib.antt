@@ -20,3 +20,4 @@ pub mod SeenTables
 pub mod Lists
 pub mod Order
 pub mod Neighbours
+pub mod HeldSums

@@ -11,7 +11,8 @@ use Rattle.record_changes.specs.Records.{Records, is_change_of, records_of}
 use Rattle.record_changes.proofs.Tests.{and_left, and_right}
 use Rattle.version_history.specs.History.{IsHistory}
 use Rattle.version_history.specs.Readers.{before_or as kept_before, is_rewrite as rewrites}
-use Rattle.version_keys.specs.Variants.{HasNoSums, is_key_held, is_standing_rewrite as is_kept_rewrite, next_variant as next_kept}
+use Rattle.version_keys.specs.KeySums.{HasKeyBefores, SeesNoSum}
+use Rattle.version_keys.specs.Variants.{is_key_held, is_standing_rewrite as is_kept_rewrite, next_variant as next_kept}
 use Rattle.version_store.specs.declared.calls.Reader.{Reader}
 use Rattle.version_store.specs.HeldChanges.{is_rewrite}
 use Rattle.versioned_tables.specs.HeldRecords.{HeldRecord, before_or, has_key_conflict, is_standing_rewrite, next_variant}
@@ -55,12 +56,12 @@ key_is_kept reader t e newest table rule schema key (item ∷ items) (h ∷ held
 -- the law that the variants of records tell key conflicts
 abbrev pub VariantsTellKeyConflicts : Type 0
 VariantsTellKeyConflicts =
-    (base : Records) (dropped kept : List PastChange) (state : DatabaseState) → IsHistory base dropped kept state → HasNoSums kept → (session table : ℕ) (schema : Schema) (rule : IndexRule) (key : List ℕ)
-    → has_key_conflict_in state session table schema rule key ≡ is_key_held (is_concurrent_change session (transaction_of state session)) (records_of (newest state)) table rule schema key kept
+    (base : Records) (dropped kept : List PastChange) (state : DatabaseState) → IsHistory base dropped kept state → (session table : ℕ) (schema : Schema) (rule : IndexRule)
+    → SeesNoSum rule table kept → HasKeyBefores rule schema table base kept → (key : List ℕ) → has_key_conflict_in state session table schema rule key ≡ is_key_held (is_concurrent_change session (transaction_of state session)) (records_of (newest state)) table rule schema key kept
 
-pub key_conflict_is_told : VariantsTellKeyConflicts → (base : Records) (dropped kept : List PastChange) (store : VersionedTables) (state : DatabaseState) → Holds base dropped kept store state → HasNoSums kept → (reader : Reader) → reader.begin ≡ begin_of (transaction_of state reader.session.0)
-    → (table : ℕ) (schema : Schema) (rule : IndexRule) (key : List ℕ) → has_key_conflict reader (records_of store.tables) table rule schema key store.held ≡ has_key_conflict_in state reader.session.0 table schema rule key
-key_conflict_is_told by_variants base dropped kept store state h none reader e table schema rule key =
+pub key_conflict_is_told : VariantsTellKeyConflicts → (base : Records) (dropped kept : List PastChange) (store : VersionedTables) (state : DatabaseState) → Holds base dropped kept store state → (reader : Reader) → reader.begin ≡ begin_of (transaction_of state reader.session.0)
+    → (table : ℕ) (schema : Schema) (rule : IndexRule) → SeesNoSum rule table kept → HasKeyBefores rule schema table base kept → (key : List ℕ) → has_key_conflict reader (records_of store.tables) table rule schema key store.held ≡ has_key_conflict_in state reader.session.0 table schema rule key
+key_conflict_is_told by_variants base dropped kept store state h reader e table schema rule plain sums key =
     ap (λ (r : Records). has_key_conflict reader r table rule schema key store.held) h.newest
     ∙ key_is_kept reader (transaction_of state reader.session.0) e (records_of (newest state)) table rule schema key kept store.held h.held
-    ∙ sym (by_variants base dropped kept state h.history none reader.session.0 table schema rule key)
+    ∙ sym (by_variants base dropped kept state h.history reader.session.0 table schema rule plain sums key)

@@ -66,7 +66,7 @@ seen_found reader held (t ∷ tables) id = by (t.id == id) (seen_found reader he
     by true rest = refl
     by false rest = rest
 
-no_record : (tables : List Table) (id : ℕ) (bookmark : List ℕ) → is_some (table_with_id tables id) ≡ false → record_in tables id bookmark ≡ None
+pub no_record : (tables : List Table) (id : ℕ) (bookmark : List ℕ) → is_some (table_with_id tables id) ≡ false → record_in tables id bookmark ≡ None
 no_record tables id bookmark e = by (table_with_id tables id) e
   where
     by : (t : Option Table) → is_some t ≡ false → row_at (rows_of t) bookmark ≡ None

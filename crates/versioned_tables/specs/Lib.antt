@@ -1,4 +1,5 @@
 pub mod HeldRecords
+pub mod HeldSums
 pub mod VersionedTables
 pub mod Holding
 pub mod Samples

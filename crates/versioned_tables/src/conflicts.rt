@@ -9,7 +9,7 @@ ghost use Rattle.database_state.specs.State.{DatabaseState, LiveSession, PastCha
 ghost use Rattle.database_state.specs.VersionStore.{is_needed, version_span};
 ghost use Rattle.record_changes.specs.Records.{Records, records_of};
 ghost use Rattle.version_history.specs.History.{EachTwo, LabelsRise};
-ghost use Rattle.version_keys.specs.Variants.{HasNoSums};
+ghost use Rattle.version_keys.specs.KeySums.{HasKeyBefores, SeesNoSum};
 ghost use Rattle.version_store.specs.declared.calls.Reader.{Reader};
 ghost use Rattle.version_store.specs.HeldChanges.{is_kept_status};
 ghost use Rattle.versioned_tables.specs.HeldRecords.{HeldRecord, has_conflict, has_key_conflict, span};
@@ -25,10 +25,11 @@ pub fn held_changes_tell_write_conflicts()
         → (change : Change) → has_conflict reader change store.held ≡ has_write_conflict state reader.session.0 change }
 {}
 
-/// A key conflict is told by the records before and after the held changes, where no escrow column was changed.
+/// A key conflict is told by the records before and after the held changes, where the index sees no sum among them.
 pub fn held_changes_tell_key_conflicts()
-    ensures { (base : Records) (dropped kept : List PastChange) (store : VersionedTables) (state : DatabaseState) → Holds base dropped kept store state → HasNoSums kept
-        → (reader : Reader) → reader.begin ≡ begin_of (transaction_of state reader.session.0) → (table : ℕ) (schema : Schema) (rule : IndexRule) (key : List ℕ)
+    ensures { (base : Records) (dropped kept : List PastChange) (store : VersionedTables) (state : DatabaseState) → Holds base dropped kept store state
+        → (reader : Reader) → reader.begin ≡ begin_of (transaction_of state reader.session.0) → (table : ℕ) (schema : Schema) (rule : IndexRule)
+        → SeesNoSum rule table kept → HasKeyBefores rule schema table base kept → (key : List ℕ)
         → has_key_conflict reader (records_of store.tables) table rule schema key store.held ≡ has_key_conflict_in state reader.session.0 table schema rule key }
 {
     variants_tell_key_conflicts();

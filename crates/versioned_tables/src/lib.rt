@@ -7,6 +7,7 @@ mod examples;
 mod one_by_one;
 mod readers;
 mod steps;
+mod sums;
 mod variants;
 mod walks;
 
@@ -27,6 +28,10 @@ pub use steps::{
     entries_leave_records_in_order, entries_of_a_session_leave_the_tables,
     releases_and_commits_leave_the_tables, tables_alone_hold_a_state,
     tables_in_order_have_records_that_rise, undone_changes_are_taken_back,
+};
+pub use sums::{
+    a_reader_is_shown_records_with_unseen_sums, a_reader_is_shown_the_index_of_its_view,
+    a_reader_sees_stored_numbers_without_unseen_sums,
 };
 pub use variants::{
     a_change_adds_the_keys_that_it_leaves, a_clean_takes_the_keys_that_no_variant_has,

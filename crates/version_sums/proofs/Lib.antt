@@ -1,0 +1,3 @@
+pub mod StoredRecord
+pub mod StoredSums
+pub mod UndoneSums

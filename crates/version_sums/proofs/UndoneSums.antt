@@ -1,0 +1,72 @@
+-- A sum that is undone is taken away again, whatever sums of others came after it.
+use Rattle.std.proofs.Common.{◌≡◌, ℕ, ◌+◌, ◌-◌, ◌^◌, ◌%◌, ◌<◌, ◌≤◌, true, cond, zero, suc, List, [], ◌∷◌, ◌++◌, Option, Some, None, refl, ap, ◌∙◌, arith}
+use Rattle.std.specs.Prelude.{ℤ, pos, negsuc, neg_ℤ, map, option_map, FitsSigned}
+use Rattle.std.specs.Int.{w32, cast_signed, from_le_bytes}
+use Rattle.column_set.specs.declared.changes.Change.{Change}
+use Rattle.column_set.specs.declared.changes.Change.TheVariants.{Put, Drop, Hold, Add}
+use Rattle.column_set.specs.RecordValues.{RecordFields}
+use Rattle.database_state.specs.Changes.{changed_table, changed_bookmark, escrow_bytes, is_sum, with_sum}
+use Rattle.database_state.specs.State.{PastChange}
+use Rattle.record_changes.specs.Records.{Records, record_after, records_after_items}
+use Rattle.record_changes.proofs.Tests.{and_both, equal_bytes, impossible, self_equal}
+use Rattle.version_history.specs.Readers.{is_standing}
+use Rattle.version_history.proofs.Undoing.{IsLastOf, made_last}
+use Rattle.version_sums.specs.EscrowSums.{escrow_value, seen_value, sums_by, with_sums, without_amount}
+use Rattle.version_sums.proofs.StoredSums.{number_in, one_sum, plus, value_without}
+
+-- ---- the record that it leaves
+
+made : (c : Change) → is_sum c ≡ true → (r : Option RecordFields) → record_after c r ≡ option_map (λ values. with_sums values (sums_by c)) r
+made (Put t b copied values) e r = impossible e
+made (Drop t b) e r = impossible e
+made (Hold t b) e r = impossible e
+made (Add t b c a) e None = refl
+made (Add t b c a) e (Some values) = refl
+
+pub undone_sum : (base : Records) (front : List PastChange) (item : PastChange) (rest : List PastChange) → is_standing item ≡ true → is_sum item.change ≡ true → IsLastOf item rest
+    → records_after_items is_standing base (front ++ item ∷ rest) (changed_table item.change) (changed_bookmark item.change)
+    ≡ option_map (λ values. with_sums values (sums_by item.change)) (records_after_items is_standing base (front ++ rest) (changed_table item.change) (changed_bookmark item.change))
+undone_sum base front item rest live sum last =
+    ap (λ (r : Records). r (changed_table item.change) (changed_bookmark item.change)) (made_last base front item rest live last)
+    ∙ ap (λ b. cond b (record_after item.change without) without) (and_both _ _ (self_equal (changed_table item.change)) (equal_bytes (changed_bookmark item.change) (changed_bookmark item.change) refl))
+    ∙ made item.change sum without
+  where
+    without : Option RecordFields
+    without = records_after_items is_standing base (front ++ rest) (changed_table item.change) (changed_bookmark item.change)
+
+-- ---- its number
+
+pub number_taken : (values : RecordFields) (column : ℕ) (amount : ℤ) → escrow_value values column ≡ without_amount (escrow_value (with_sum values column amount) column) amount
+number_taken values column amount =
+    value_without values column ((column, amount) ∷ [])
+    ∙ ap (λ b. seen_value (escrow_value (with_sum values column amount) column) (map (λ (one : ℕ × ℤ). one.1) (cond b ((column, amount) ∷ []) []))) (self_equal column)
+
+there_and_back : (n u : ℕ) → n < 4294967296 → u ≤ 4294967296 → ((n + u) % 4294967296 + (4294967296 - u)) % 4294967296 ≡ n
+there_and_back n u h g = omega arith
+
+back_and_there : (n u : ℕ) → n < 4294967296 → u ≤ 4294967296 → ((n + (4294967296 - u)) % 4294967296 + u) % 4294967296 ≡ n
+back_and_there n u h g = omega arith
+
+nothing : (n : ℕ) → n < 4294967296 → ((n + 0) % 4294967296 + 0) % 4294967296 ≡ n
+nothing n h = omega arith
+
+within : (k : ℕ) → k < 2147483648 → suc k ≤ 4294967296
+within k h = omega arith
+
+within_all : (k : ℕ) → suc k < 2147483648 → suc k ≤ 4294967296
+within_all k h = omega arith
+
+opposite : (n : ℕ) (amount : ℤ) → FitsSigned w32 amount → n < 2 ^ 32 → plus (plus n amount) (neg_ℤ amount) ≡ n
+opposite n (pos zero) f h = nothing n h
+opposite n (pos (suc k)) f h = there_and_back n (suc k) h (within_all k f.sfits)
+opposite n (negsuc k) f h = back_and_there n (suc k) h (within k f.sfits)
+
+small : (n : ℕ) → n % 4294967296 < 4294967296
+small n = omega arith
+
+pub opposite_sum : (values : RecordFields) (column : ℕ) (amount : ℤ) → FitsSigned w32 amount → escrow_value (with_sum (with_sum values column amount) column (neg_ℤ amount)) column ≡ escrow_value values column
+opposite_sum values column amount f =
+    ap (cast_signed w32)
+    (one_sum (with_sum values column amount) column column (neg_ℤ amount) ∙ ap (λ b. cond b (plus (number_in (with_sum values column amount) column) (neg_ℤ amount)) (number_in (with_sum values column amount) column)) (self_equal column)
+    ∙ ap (λ n. plus n (neg_ℤ amount)) (one_sum values column column amount ∙ ap (λ b. cond b (plus (number_in values column) amount) (number_in values column)) (self_equal column))
+    ∙ opposite (number_in values column) amount f (small (from_le_bytes w32 (escrow_bytes values column))))

@@ -1,0 +1,11 @@
+use Rattle.version_sums.proofs.UndoneSums.{number_taken, opposite_sum, undone_sum}
+use Rattle.version_sums.proofs.undone.an_undone_sum_is_taken_away.Goals as goal
+
+pub returns-clause-last : goal.returns-clause-last
+returns-clause-last c = undone_sum
+
+pub returns-clause-number : goal.returns-clause-number
+returns-clause-number c = number_taken
+
+pub returns-clause-opposite : goal.returns-clause-opposite
+returns-clause-opposite c = opposite_sum

@@ -1,0 +1,37 @@
+//! The record that a session sees, and the stored one that it finds.
+
+ghost use Rattle.std.specs.Prelude.{◌≡◌, ℕ, ℤ, List, [], Option, Some, option_map, is_some, FitsSigned};
+ghost use Rattle.std.specs.Int.{w32, int_wrapping_sub};
+ghost use Rattle.column_set.specs.RecordValues.{RecordFields, values_of};
+ghost use Rattle.database_state.specs.State.{DatabaseState, PastChange, transaction_of};
+ghost use Rattle.database_state.specs.View.{newest, view};
+ghost use Rattle.record_changes.specs.Records.{Records, records_of};
+ghost use Rattle.version_history.specs.Readers.{found_record};
+ghost use Rattle.version_history.specs.History.{IsHistory};
+ghost use Rattle.version_sums.specs.EscrowSums.{with_sums, amounts_to, unseen_sums, escrow_value, without_amount, seen_value};
+
+/// The record that a session finds, which is the one before the oldest put or drop that it does not see or else the newest
+/// one, is the record that it sees with the sums made that it does not see and that stand before that put or drop.
+pub fn a_session_finds_its_record_with_unseen_sums()
+    ensures { (base : Records) (dropped kept : List PastChange) (state : DatabaseState) → IsHistory base dropped kept state → (session table : ℕ) (bookmark : List ℕ)
+        → found_record session (transaction_of state session) table bookmark (records_of (newest state) table bookmark) kept
+        ≡ option_map (λ values. with_sums values (unseen_sums session (transaction_of state session) table bookmark kept)) (records_of (view state session) table bookmark) }
+{}
+
+/// So the record that it sees is the one that it finds without these sums: it is there where that one is, a column without such
+/// a sum has the same values, and an escrow column holds the stored number without their amounts, wrapping at 32 bits.
+pub fn a_session_sees_its_record_without_unseen_sums()
+    ensures there { (base : Records) (dropped kept : List PastChange) (state : DatabaseState) → IsHistory base dropped kept state → (session table : ℕ) (bookmark : List ℕ)
+        → is_some (records_of (view state session) table bookmark) ≡ is_some (found_record session (transaction_of state session) table bookmark (records_of (newest state) table bookmark) kept) }
+    ensures columns { (base : Records) (dropped kept : List PastChange) (state : DatabaseState) → IsHistory base dropped kept state → (session table : ℕ) (bookmark : List ℕ) (stored seen : RecordFields)
+        → found_record session (transaction_of state session) table bookmark (records_of (newest state) table bookmark) kept ≡ Some stored → records_of (view state session) table bookmark ≡ Some seen
+        → (column : ℕ) → amounts_to column (unseen_sums session (transaction_of state session) table bookmark kept) ≡ [] → values_of seen column ≡ values_of stored column }
+    ensures sums { (base : Records) (dropped kept : List PastChange) (state : DatabaseState) → IsHistory base dropped kept state → (session table : ℕ) (bookmark : List ℕ) (stored seen : RecordFields)
+        → found_record session (transaction_of state session) table bookmark (records_of (newest state) table bookmark) kept ≡ Some stored → records_of (view state session) table bookmark ≡ Some seen
+        → (column : ℕ) → escrow_value seen column ≡ seen_value (escrow_value stored column) (amounts_to column (unseen_sums session (transaction_of state session) table bookmark kept)) }
+{}
+
+/// Of 32-bit numbers an amount is taken away by a wrapping subtraction.
+pub fn an_amount_is_taken_away_wrapping()
+    ensures { (stored amount : ℤ) → FitsSigned w32 amount → without_amount stored amount ≡ int_wrapping_sub w32 stored amount }
+{}
