@@ -1,6 +1,7 @@
 //! Bytes at the end of a text that has room for them.
 
-ghost use Rattle.std.specs.Prelude.{◌≡◌, ◌+◌, ◌*◌, ◌<◌, ◌≤◌, [], ◌∷◌, ◌++◌, length, vec_len};
+ghost use Rattle.std.specs.Prelude.{◌≡◌, ◌+◌, ◌*◌, ◌/◌, ◌%◌, ◌<◌, ◌≤◌, [], ◌∷◌, ◌++◌, length, vec_len};
+ghost use Rattle.std.specs.Char.{digit_char};
 ghost use Rattle.std.specs.Vec.{vec_capacity};
 ghost use Rattle.std.specs.Fmt.{decimal, signed_decimal};
 ghost use Rattle.std.specs.List.{flat_map};
@@ -60,26 +61,64 @@ pub fn append_signed(text: &mut Vec<u8>, number: i64)
 /// The hexadecimal digits, with lower case letters.
 static DIGITS: [u8; 16] = *b"0123456789abcdef";
 
-/// The two hexadecimal digits of a byte, the high one first.
+/// The first hexadecimal digit of a byte.
 #[tactic(auto, using(crate::proofs::Digits::hexadecimal))]
 #[inline(always)]
-fn digits_of(byte: u8) -> [u8; 2]
-    ensures { result ≡ byte_digits byte }
+fn high_digit(byte: u8) -> u8
+    ensures { result ≡ digit_char (byte / 16) }
+{
+    DIGITS[usize::from(byte / 16)]
+}
+
+/// The second hexadecimal digit of a byte.
+#[tactic(auto, using(crate::proofs::Digits::hexadecimal))]
+#[inline(always)]
+fn low_digit(byte: u8) -> u8
+    ensures { result ≡ digit_char (byte % 16) }
+{
+    DIGITS[usize::from(byte % 16)]
+}
+
+/// The hexadecimal digits of four bytes.
+#[inline(always)]
+fn digits_of_four(a: u8, b: u8, c: u8, d: u8) -> [u8; 8]
+    ensures { result ≡ flat_map byte_digits (a ∷ b ∷ c ∷ d ∷ []) }
 {
     [
-        DIGITS[usize::from(byte / 16)],
-        DIGITS[usize::from(byte % 16)],
+        high_digit(a),
+        low_digit(a),
+        high_digit(b),
+        low_digit(b),
+        high_digit(c),
+        low_digit(c),
+        high_digit(d),
+        low_digit(d),
     ]
 }
 
-/// Puts two hexadecimal digits at the end for each byte.
+/// Puts two hexadecimal digits at the end for each byte, those of four bytes at once while there are so many.
 pub fn append_hex(text: &mut Vec<u8>, bytes: &[u8])
     requires { vec_len text.old + 2 * length bytes.now ≤ vec_capacity text.old }
     ensures items { text.new.items ≡ text.old.items ++ flat_map byte_digits bytes.now }
     ensures len { vec_len text.new ≡ vec_len text.old + 2 * length bytes.now }
     ensures room { vec_capacity text.old ≤ vec_capacity text.new }
 {
+    let mut rest = bytes;
+    while let [a, b, c, d, others @ ..] = rest {
+        append(text, &digits_of_four(*a, *b, *c, *d));
+        rest = others;
+    }
+    append_few_hex(text, rest);
+}
+
+/// The same, byte by byte.
+fn append_few_hex(text: &mut Vec<u8>, bytes: &[u8])
+    requires { vec_len text.old + 2 * length bytes.now ≤ vec_capacity text.old }
+    ensures items { text.new.items ≡ text.old.items ++ flat_map byte_digits bytes.now }
+    ensures len { vec_len text.new ≡ vec_len text.old + 2 * length bytes.now }
+    ensures room { vec_capacity text.old ≤ vec_capacity text.new }
+{
     for byte in bytes {
-        append(text, &digits_of(*byte));
+        append(text, &[high_digit(*byte), low_digit(*byte)]);
     }
 }
