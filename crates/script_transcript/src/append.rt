@@ -20,18 +20,7 @@ pub fn append(text: &mut Vec<u8>, bytes: &[u8])
     text.extend_from_slice(bytes).unwrap();
 }
 
-/// Puts one byte at the end.
-#[inline]
-fn append_byte(text: &mut Vec<u8>, byte: u8)
-    requires { vec_len text.old + 1 ≤ vec_capacity text.old }
-    ensures items { text.new.items ≡ text.old.items ++ byte ∷ [] }
-    ensures len { vec_len text.new ≡ vec_len text.old + 1 }
-    ensures room { vec_capacity text.old ≤ vec_capacity text.new }
-{
-    text.push(byte).unwrap();
-}
-
-/// Puts a number at the end, of at most 20 digits. Labels of sessions have one digit mostly, which needs no buffer.
+/// Puts a number at the end, of at most 20 digits.
 #[tactic(auto, using(crate::proofs::Digits::decimal_digits))]
 pub fn append_number(text: &mut Vec<u8>, number: u64)
     requires { vec_len text.old + 20 ≤ vec_capacity text.old }
@@ -39,11 +28,23 @@ pub fn append_number(text: &mut Vec<u8>, number: u64)
     ensures len { vec_len text.new ≤ vec_len text.old + 20 }
     ensures room { vec_capacity text.old ≤ vec_capacity text.new }
 {
-    if number < 10 {
-        append_byte(text, b'0' + number as u8);
+    let mut buffer = Buffer::new();
+    append(text, buffer.format(number).as_bytes());
+}
+
+/// Puts the label of a session at the end, behind a space. Mostly it has one digit, which needs no buffer.
+#[tactic(auto, using(crate::proofs::Digits::decimal_digits))]
+pub fn append_label(text: &mut Vec<u8>, label: u32)
+    requires { vec_len text.old + 21 ≤ vec_capacity text.old }
+    ensures items { text.new.items ≡ text.old.items ++ 32 ∷ decimal label }
+    ensures len { vec_len text.new ≤ vec_len text.old + 21 }
+    ensures room { vec_capacity text.old ≤ vec_capacity text.new }
+{
+    if label < 10 {
+        append(text, &[b' ', b'0' + label as u8]);
     } else {
-        let mut buffer = Buffer::new();
-        append(text, buffer.format(number).as_bytes());
+        append(text, b" ");
+        append_number(text, u64::from(label));
     }
 }
 
