@@ -7,8 +7,8 @@ ghost use Rattle.session_local.specs.Answer.{shown_by};
 ghost use Rattle.script_transcript.specs.TranscriptLine.{shown_text, transcript_line, NamesNoMore};
 ghost use Rattle.std.specs.Vec.{vec_capacity};
 
-use crate::append::{append, append_hex, append_number, append_signed};
-use crate::names::name_of_call;
+use crate::append::{append, append_hex, append_label, append_number, append_signed};
+use crate::names::spaced_name_of_call;
 use jet_base::{Jet, OutOfMemory, Session, name};
 use session_local::{Reply, Request, Value};
 use std::alloc::Global;
@@ -151,11 +151,8 @@ fn append_line(
     ensures room { vec_capacity text.old ≤ vec_capacity text.new }
 {
     append_number(text, n);
-    append(text, b" ");
-    append_number(text, u64::from(session.0));
-    append(text, b" ");
-    append(text, name_of_call(request).as_bytes());
-    append(text, b" ");
+    append_label(text, session.0);
+    append(text, spaced_name_of_call(request).as_bytes());
     append_reply_name(text, reply.jet);
     append_value(text, reply, bytes);
     append(text, b"\n");
