@@ -4,3 +4,7 @@ pub mod Keys
 pub mod Sessions
 pub mod Changing
 pub mod Steps
+pub mod Unneeded
+pub mod Lawful
+pub mod LawfulSteps
+pub mod Answering

@@ -3,7 +3,7 @@ use Rattle.std.proofs.Common.{◌≡◌, ℕ, ◌+◌, ◌-◌, ◌≤◌, Bool,
 use Rattle.std.specs.Prelude.{◌==◌, nat_lt, filter, map, IfSome, if◌then◌else◌}
 use Rattle.std.specs.List.{AllByRecursion, list_any}
 use Rattle.std.proofs.lemmas.Bool.Decides.{nat_tests}
-use Rattle.std.proofs.lemmas.List.Elements.{map-append}
+use Rattle.std.proofs.lemmas.List.{map-append}
 use Rattle.column_set.specs.declared.changes.Change.{Change}
 use Rattle.index_derive.specs.declared.log.Entry.{Entry}
 use Rattle.index_derive.specs.declared.log.EntryKind.{EntryKind}
@@ -57,6 +57,10 @@ any_past state past others e less =
 
 -- ---- the session's own open changes become others
 
+-- what becomes of a change is needed only where the change was
+abbrev IsLess : List LiveSession → List LiveSession → ℕ → (PastChange → Bool) → (PastChange → PastChange) → PastChange → Type 0
+IsLess sessions others label test change x = is_needed others (if is_open_change_of label x && test x then change x else x) ≡ true → is_needed sessions x ≡ true
+
 own_past : (state : DatabaseState) (past : List PastChange) (label : ℕ) (after : List Table) (others : List LiveSession) (test : PastChange → Bool) (change : PastChange → PastChange) (essential : EssentialChange → EssentialChange)
     → ((x : PastChange) → (is_open_change_of label (essential_change state.tables x).item && test (essential_change state.tables x).item) ≡ (is_open_change_of label x && test x))
     → ((x : PastChange) → essential_change after x ≡ essential_change state.tables x)
@@ -68,12 +72,9 @@ own_past state past label after others test change essential told same step less
     (λ x. if is_open_change_of label x && test x then change x else x)
     (λ es. if is_open_change_of label es.item && test es.item then essential es else es)
     (changed_alike state.tables after (λ x. is_open_change_of label x && test x) change essential told same step)
-    state.past past (all_of Less each state.past) (all_of Less each past) e
+    state.past past (all_of (IsLess state.sessions others label test change) each state.past) (all_of (IsLess state.sessions others label test change) each past) e
   where
-    abbrev Less : PastChange → Type 0
-    Less x = is_needed others (if is_open_change_of label x && test x then change x else x) ≡ true → is_needed state.sessions x ≡ true
-
-    each : (x : PastChange) → Less x
+    each : (x : PastChange) → IsLess state.sessions others label test change x
     each x =
         less_changed state.sessions others (λ x. is_open_change_of label x && test x) change
         (λ y own. and_left (is_open y.status) (y.session == label) (and_left (is_open_change_of label y) (test y) own))
@@ -123,6 +124,10 @@ new_in label change state tables = record {
   after = record_in (tables_after tables change) (changed_table change) (changed_bookmark change);
   status = uncommitted;
 }
+
+-- the state without the open changes of a level
+abbrev level_undone : ℕ → ℕ → DatabaseState → DatabaseState
+level_undone label level state = with_changes_at label (is_at_level level) (λ item. record item { status = undone }) state
 
 -- ---- entry by entry, in the state whose number is already the entry's own
 
@@ -194,11 +199,8 @@ applied_alike state past e label entry.Release p q =
     λ i. record { number = state.number; greatest_table = state.greatest_table; tables = state.tables; sessions = with_one label (λ s. record s { transaction = at_levels (λ n. n - 1) s.transaction }) state.sessions; past = same i }
 applied_alike state past e label entry.Undo p q = by (nat_lt 1 (levels state label))
   where
-    abbrev undoing : DatabaseState → DatabaseState
-    undoing s = with_changes_at label (is_at_level (levels state label)) (λ item. record item { status = undone }) s
-
-    by : (b : Bool) → essence (cond b (with_levels label (λ n. n - 1) (undoing state)) (with_transaction label None (undoing state)))
-        ≡ essence (cond b (with_levels label (λ n. n - 1) (undoing (with_past state past))) (with_transaction label None (undoing (with_past state past))))
+    by : (b : Bool) → essence (cond b (with_levels label (λ n. n - 1) (level_undone label (levels state label) state)) (with_transaction label None (level_undone label (levels state label) state)))
+        ≡ essence (cond b (with_levels label (λ n. n - 1) (level_undone label (levels state label) (with_past state past))) (with_transaction label None (level_undone label (levels state label) (with_past state past))))
     by true =
         let same = undone_past state past label (with_one label (λ s. record s { transaction = at_levels (λ n. n - 1) s.transaction }) state.sessions) (is_at_level (levels state label)) (level_told state label (levels state label)) (levels_less state label (λ n. n - 1)) e in
         λ i. record { number = state.number; greatest_table = state.greatest_table; tables = state.tables; sessions = with_one label (λ s. record s { transaction = at_levels (λ n. n - 1) s.transaction }) state.sessions; past = same i }
