@@ -8,20 +8,18 @@ use Rattle.jet_base.specs.declared.words.ColType.TheVariants as kind
 use Rattle.jet_base.specs.declared.words.Given.{Given}
 use Rattle.jet_base.specs.declared.words.Prepare.{Prepare}
 use Rattle.jet_base.specs.declared.words.Prepare.TheVariants as prepare
-use Rattle.jet_base.specs.declared.words.Way.{Way}
 use Rattle.jet_base.specs.ColumnType.{number_of}
 use Rattle.jet_base.specs.Given.{given_fits}
 use Rattle.column_set.specs.declared.columns.Column.{Column}
 use Rattle.column_set.specs.declared.changes.Change.{Change}
 use Rattle.column_set.specs.declared.changes.Change.TheVariants as change
-use Rattle.column_set.specs.RecordValues.{RecordFields, column_named, is_missing_a_value, record_fits, record_size, values_of}
+use Rattle.column_set.specs.RecordValues.{RecordFields, column_named, is_missing_a_value, values_of}
 use Rattle.index_derive.specs.declared.rules.IndexRule.{IndexRule}
 use Rattle.index_derive.specs.declared.rules.Schema.{Schema}
 use Rattle.index_derive.specs.declared.rules.Segment.{Segment}
 use Rattle.index_derive.specs.declared.schema_calls.SchemaStep.{SchemaStep}
 use Rattle.index_derive.specs.declared.log.EntryKind.TheVariants as entry
 use Rattle.index_derive.specs.Entries.{is_unique, key_list}
-use Rattle.cursor_nav.specs.declared.seek_by.SeekBy.{SeekBy}
 use Rattle.cursor_nav.specs.Places.{Pair, least_entry_of}
 use Rattle.cursor_nav.specs.Navigation.{MadeKey, new_cursor, moved, index_set, sought, ranged, count_from}
 use Rattle.cursor_nav.specs.MakingKeys.{begun_key, segment_kind, with_segment}
@@ -29,21 +27,21 @@ use Rattle.database_state.specs.Refusals.{Refusals, first_refusal}
 use Rattle.database_state.specs.Table.{Rows, Table, index_entries, primary_order, primary_rule, record_in, row_at, rows_of, schema_of, table_named, table_with_id, rule_with_id}
 use Rattle.database_state.specs.SchemaSteps.{table_step, deleted_table_step, column_step, deleted_column_step, index_step, deleted_index_step}
 use Rattle.database_state.specs.Changes.{changed_table, changed_bookmark, escrow_bytes}
-use Rattle.database_state.specs.Conflicts.{has_key_conflict, has_write_conflict}
-use Rattle.database_state.specs.Puts.{is_taken, new_keys, null_refusals, key_refusals, put_refusals, replaced_record}
+use Rattle.database_state.specs.Conflicts.{has_key_conflict}
+use Rattle.database_state.specs.Puts.{is_taken, new_keys, null_refusals, put_refusals, replaced_record}
 use Rattle.database_state.specs.SchemaChanges.{schema_refusal}
 use Rattle.database_state.specs.State.{DatabaseState, PastChange, levels}
-use Rattle.database_state.specs.VersionStore.{cost_of, version_span}
-use Rattle.database_state.specs.View.{newest, view}
+use Rattle.database_state.specs.VersionStore.{cost_of}
+use Rattle.database_state.specs.View.{view}
 use Rattle.database_state.specs.Lawful.{keeps_escrow}
 use Rattle.session_local.specs.declared.request.Request.{Request}
 use Rattle.session_local.specs.declared.request.Request.TheVariants as call
-use Rattle.session_local.specs.Agreement.{Agrees, HasSchemaOf, IsStorable, MayReplace, has_lock, is_lock_on, replaced_in}
+use Rattle.session_local.specs.Agreement.{Agrees, HasSchemaOf, IsStorable, MayReplace, is_lock_on, replaced_in}
 use Rattle.session_local.specs.Answer.{Nothing, Number, Count}
 use Rattle.session_local.specs.Calls.{answer, answer_begun, answer_not_begun, prepare_update}
 use Rattle.session_local.specs.CursorCalls.{close_table, current_entries, get_bookmark, move_cursor, remove_index_range, seek_key, set_index_range, gone_to, goto_bookmark, index_record_count, retrieve_key, index_chosen, index_chosen_by, key_made_in, make_key, opened, segment_made, set_current_index, whole}
 use Rattle.session_local.specs.Local.{LocalState, OpenCursor, PreparedFor, PreparedUpdate, cursor_labelled, with_cursor, with_new_cursor, without_prepared, inserting, replacing, place_bookmark, place_key}
-use Rattle.session_local.specs.Outcome.{Asked, Outcome, at_cursor, current_refusals, done, is_outside, navigated, number_refusals, on_cursor, one, refused, rows_seen, said, span_refusals, step_of_change, unless, unless_refused}
+use Rattle.session_local.specs.Outcome.{Asked, Outcome, at_cursor, current_refusals, done, is_outside, navigated, number_refusals, on_cursor, one, rows_seen, said, span_refusals, step_of_change, unless, unless_refused}
 use Rattle.session_local.specs.RecordCalls.{bookmark_at, bookmark_for, column_shown, conflict_refusals, copied_in, delete, drop_at, escrow_update, get_lock, hold_at, inserted_bookmark, is_primary_changed, on_column, on_prepared, own_refusals, prepare_copy, prepare_replace, prepared_refusals, put_of, record_at, replaced_by, retrieve_column, retrieve_copy, set_column, set_column_in, sum_in, transaction_refusals, update, update_with, value_shown, with_prepared, with_sums_at_zero}
 use Rattle.record_edit.specs.SetColumn.{set_refusals, size_refusals, fields_after}
 use Rattle.session_local.specs.SessionCalls.{begin_session}
@@ -330,14 +328,14 @@ update_alike asked past e v none c has = prepared_alike asked past c.prepared (u
     by prepared (Some table) f h =
         let marked = marked_alike asked past c.schema prepared.for prepared.values in
         let put : put_of asked c prepared (bookmark_for asked c.schema prepared.for prepared.values) ≡ put_of (again asked past) c prepared (bookmark_for (again asked past) c.schema prepared.for prepared.values)
-            = λ i. change.Put (record { 0 = c.cursor.table }) (marked i) (copied_in (rows_in c (v i)) prepared.for) prepared.values in
+        = λ i. change.Put (record { 0 = c.cursor.table }) (marked i) (copied_in (rows_in c (v i)) prepared.for) prepared.values in
         let span = cost_alike asked past e _ _ put in
         let keys : put_refusals asked.state asked.session c.cursor.table c.schema (rows_seen asked c) (replaced_by prepared.for) prepared.values
-            ≡ put_refusals (again asked past).state asked.session c.cursor.table c.schema (rows_seen (again asked past) c) (replaced_by prepared.for) prepared.values
-            = ap (λ tables. put_refusals asked.state asked.session c.cursor.table c.schema (rows_in c tables) (replaced_by prepared.for) prepared.values) v
-            ∙ ap (λ schema. put_refusals asked.state asked.session c.cursor.table schema (rows_seen (again asked past) c) (replaced_by prepared.for) prepared.values) h.0
-            ∙ put_alike asked.state past e none asked.session c.cursor.table table f (rows_seen (again asked past) c) (replaced_by prepared.for) prepared.values
-            ∙ ap (λ schema. put_refusals (again asked past).state asked.session c.cursor.table schema (rows_seen (again asked past) c) (replaced_by prepared.for) prepared.values) (sym h.0) in
+        ≡ put_refusals (again asked past).state asked.session c.cursor.table c.schema (rows_seen (again asked past) c) (replaced_by prepared.for) prepared.values
+        = ap (λ tables. put_refusals asked.state asked.session c.cursor.table c.schema (rows_in c tables) (replaced_by prepared.for) prepared.values) v
+        ∙ ap (λ schema. put_refusals asked.state asked.session c.cursor.table schema (rows_seen (again asked past) c) (replaced_by prepared.for) prepared.values) h.0
+        ∙ put_alike asked.state past e none asked.session c.cursor.table table f (rows_seen (again asked past) c) (replaced_by prepared.for) prepared.values
+        ∙ ap (λ schema. put_refusals (again asked past).state asked.session c.cursor.table schema (rows_seen (again asked past) c) (replaced_by prepared.for) prepared.values) (sym h.0) in
         unless_alike asked past _ _ _ _
         (λ i. (is_missing_a_value c.schema.columns prepared.values, jet.NullInvalid) ∷ (is_primary_changed c.schema prepared.for prepared.values, jet.RecordPrimaryChanged) ∷ keys i ++ number_refusals asked ++ span i)
         (λ i. done (with_prepared asked c None) (whole (marked i)) (step_of_change asked (put i)))

@@ -1,12 +1,12 @@
 -- What becomes of the essence of a change when its session ends a level or its transaction.
-use Rattle.std.proofs.Common.{◌≡◌, ℕ, ◌-◌, Bool, true, false, ◌&&◌, cond, List, [], ◌∷◌, Option, Some, None, refl, sym, ap, ◌∙◌}
-use Rattle.std.specs.Prelude.{◌==◌, find, fold, map, option_map, if◌then◌else◌}
+use Rattle.std.proofs.Common.{◌≡◌, ℕ, ◌-◌, Bool, true, false, ◌&&◌, cond, List, [], ◌∷◌, Some, refl, sym, ap, ◌∙◌}
+use Rattle.std.specs.Prelude.{◌==◌, find, map, if◌then◌else◌}
 use Rattle.column_set.specs.declared.columns.Column.{Column}
 use Rattle.column_set.specs.declared.changes.Change.{Change}
 use Rattle.database_state.specs.Table.{Table, table_with_id}
 use Rattle.database_state.specs.Changes.{changed_table, is_sum, rows_after, tables_after, tables_after_all}
-use Rattle.database_state.specs.State.{PastChange, Status, uncommitted, committed, undone, is_open, is_undone, is_open_change_of}
-use Rattle.database_state.specs.Equivalence.{EssentialChange, columns_of, essential_item, essential_change, without_sums}
+use Rattle.database_state.specs.State.{PastChange, committed, undone, is_open, is_undone, is_open_change_of}
+use Rattle.database_state.specs.Equivalence.{EssentialChange, columns_of, essential_item, essential_change}
 use Rattle.equivalent_states.proofs.Essential.{forgotten, kept_of, open_stands, summed}
 
 -- ---- the columns of a table, after changes of records

@@ -1,5 +1,5 @@
 -- What the essence of a past keeps of its changes.
-use Rattle.std.proofs.Common.{◌≡◌, Bool, true, false, ◌||◌, cond, List, [], ◌∷◌, Option, Some, None, refl, sym, ap, ◌∙◌}
+use Rattle.std.proofs.Common.{◌≡◌, Bool, true, false, ◌||◌, cond, List, [], ◌∷◌, None, refl, sym, ap, ◌∙◌}
 use Rattle.std.specs.Prelude.{map, filter, option_map, if◌then◌else◌}
 use Rattle.std.specs.List.{AllByRecursion, list_any}
 use Rattle.column_set.specs.declared.columns.Column.{Column}
@@ -108,7 +108,7 @@ filter_from sessions test needed (x ∷ xs) = by (filter_from sessions test need
     by rest true e = refl
     by rest false e = ap (λ b. cond b (x ∷ filter test xs) (filter test xs)) (contradicted (test x) (λ g. sym (needed x g) ∙ e)) ∙ rest
 
-read_essential : {Y : Type 0} (tables : List Table) (test : PastChange → Bool) (h : PastChange → Y) → ((x : PastChange) → test (essential_change tables x).item ≡ test x)
+pub read_essential : {Y : Type 0} (tables : List Table) (test : PastChange → Bool) (h : PastChange → Y) → ((x : PastChange) → test (essential_change tables x).item ≡ test x)
     → ((x : PastChange) → test x ≡ true → h (essential_change tables x).item ≡ h x)
     → (items : List PastChange) → map h (filter test items) ≡ map (λ (e : EssentialChange). h e.item) (filter (λ (e : EssentialChange). test e.item) (map (essential_change tables) items))
 read_essential tables test h told same [] = refl

@@ -1,6 +1,6 @@
 -- The keys of an index that reads no sum, in the records of sums whose sums are forgotten.
-use Rattle.std.proofs.Common.{◌≡◌, ℕ, Bool, true, false, not, ◌&&◌, ◌||◌, cond, List, [], ◌∷◌, Option, Some, None, refl, sym, ap, ◌∙◌, arith}
-use Rattle.std.specs.Prelude.{◌==◌, filter, fold, map, option_map, unwrap_or}
+use Rattle.std.proofs.Common.{◌≡◌, ℕ, Bool, true, false, ◌&&◌, ◌||◌, cond, List, [], ◌∷◌, Option, Some, None, refl, sym, ap, ◌∙◌, arith}
+use Rattle.std.specs.Prelude.{◌==◌, filter, fold, option_map, unwrap_or}
 use Rattle.std.specs.List.{AllByRecursion, list_any}
 use Rattle.std.proofs.lemmas.Bool.Decides.{nat_tests}
 use Rattle.column_set.specs.declared.columns.Column.{Column}
@@ -8,11 +8,11 @@ use Rattle.column_set.specs.RecordValues.{RecordFields, values_of, with_values}
 use Rattle.index_derive.specs.declared.rules.IndexRule.{IndexRule}
 use Rattle.index_derive.specs.declared.rules.Schema.{Schema}
 use Rattle.database_state.specs.Table.{Table, schema_of, table_with_id}
-use Rattle.database_state.specs.Changes.{changed_table, is_sum}
+use Rattle.database_state.specs.Changes.{changed_table}
 use Rattle.database_state.specs.SchemaChanges.{rule_columns}
-use Rattle.database_state.specs.State.{DatabaseState, PastChange, is_undone}
+use Rattle.database_state.specs.State.{DatabaseState, PastChange}
 use Rattle.database_state.specs.Conflicts.{concurrent_changes, has_key_conflict, yields_key}
-use Rattle.database_state.specs.Equivalence.{columns_of, essential_change, without_sums}
+use Rattle.database_state.specs.Equivalence.{columns_of, without_sums}
 use Rattle.record_changes.proofs.Tests.{and_second, or_first, or_second, not_true, same_number}
 use Rattle.version_keys.proofs.SchemaKeys.{other_values}
 use Rattle.version_keys.proofs.SameColumns.{SameAt, yields_same}

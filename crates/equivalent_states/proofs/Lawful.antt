@@ -1,7 +1,7 @@
 -- Which entries may come, in two states of one essence.
-use Rattle.std.proofs.Common.{◌≡◌, ℕ, ◌+◌, ◌≤◌, Bool, true, false, not, ◌&&◌, ◌||◌, cond, List, [], ◌∷◌, ◌++◌, Option, Some, None, refl, sym, ap, subst, ◌∙◌}
-use Rattle.std.specs.Prelude.{◌==◌, nat_lt, nat_le, length, filter, find, is_none, is_some, unwrap_or}
-use Rattle.std.specs.List.{AllByRecursion, list_all, list_any}
+use Rattle.std.proofs.Common.{◌≡◌, ℕ, ◌+◌, Bool, true, false, not, ◌&&◌, ◌||◌, cond, List, [], ◌∷◌, Option, Some, None, refl, sym, ap, subst, ◌∙◌}
+use Rattle.std.specs.Prelude.{◌==◌, nat_lt, nat_le, filter, is_none, unwrap_or}
+use Rattle.std.specs.List.{AllByRecursion, list_all}
 use Rattle.jet_base.specs.declared.replies.Jet.TheVariants as jet
 use Rattle.column_set.specs.declared.changes.Change.{Change}
 use Rattle.column_set.specs.declared.changes.Change.TheVariants.{Put, Drop, Hold, Add}
@@ -14,16 +14,16 @@ use Rattle.index_derive.specs.declared.schema_calls.SchemaStep.{SchemaStep}
 use Rattle.index_derive.specs.declared.schema_calls.SchemaStep.TheVariants as step
 use Rattle.index_derive.specs.Entries.{is_unique}
 use Rattle.database_state.specs.Refusals.{first_refusal}
-use Rattle.database_state.specs.Table.{Rows, Table, primary_first, primary_rule, row_at, rows_of, schema_of, table_with_id}
+use Rattle.database_state.specs.Table.{Rows, Table, primary_rule, row_at, rows_of, schema_of, table_with_id}
 use Rattle.database_state.specs.Changes.{changed_table, tables_after_all}
 use Rattle.database_state.specs.SchemaChanges.{is_in_use, makes_table, new_table, schema_refusal, step_refusals, step_table}
-use Rattle.database_state.specs.State.{DatabaseState, LiveSession, PastChange, levels, open_changes_of}
+use Rattle.database_state.specs.State.{DatabaseState, PastChange, levels}
 use Rattle.database_state.specs.View.{view}
-use Rattle.database_state.specs.Conflicts.{has_write_conflict, has_key_conflict}
+use Rattle.database_state.specs.Conflicts.{has_key_conflict}
 use Rattle.database_state.specs.Puts.{is_taken, new_keys}
-use Rattle.database_state.specs.Lawful.{has_next_numbers, has_number, is_bookmark_of, is_copied_in, is_indexable, is_live, is_lawful, is_lawful_at, is_lawful_change, is_lawful_in, is_lawful_kind, is_lawful_put, is_unique_throughout, keeps_escrow, has_free_keys}
+use Rattle.database_state.specs.Lawful.{has_next_numbers, has_number, is_bookmark_of, is_copied_in, is_indexable, is_live, is_lawful, is_lawful_at, is_lawful_change, is_lawful_in, is_lawful_kind, is_unique_throughout, keeps_escrow, has_free_keys}
 use Rattle.database_state.specs.Step.{state_after}
-use Rattle.record_changes.proofs.Tests.{and_left, and_right, impossible, same_number}
+use Rattle.record_changes.proofs.Tests.{and_left, and_right, same_number}
 use Rattle.version_history.proofs.Lists.{all_append, all_filter}
 use Rattle.equivalent_states.specs.PlainIndexes.{reads_no_sum, read_no_sums}
 use Rattle.equivalent_states.proofs.Keys.{key_conflict_alike}

@@ -1,18 +1,17 @@
 -- A lawful entry, in two states of one essence that have histories.
-use Rattle.std.proofs.Common.{◌≡◌, ℕ, ◌+◌, ◌≤◌, Bool, true, false, ◌&&◌, List, [], ◌∷◌, ◌++◌, Option, Some, None, refl, sym, ap, subst, ◌∙◌, arith}
-use Rattle.std.specs.Prelude.{is_none}
+use Rattle.std.proofs.Common.{◌≡◌, ℕ, ◌+◌, ◌≤◌, true, false, List, [], ◌++◌, Option, sym, ap, subst, ◌∙◌, arith}
 use Rattle.std.specs.List.{AllByRecursion}
 use Rattle.index_derive.specs.declared.log.Entry.{Entry}
 use Rattle.index_derive.specs.declared.log.EntryKind.{EntryKind}
 use Rattle.index_derive.specs.declared.log.EntryKind.TheVariants as entry
 use Rattle.index_derive.specs.declared.schema_calls.SchemaStep.{SchemaStep}
 use Rattle.database_state.specs.Table.{Table}
-use Rattle.database_state.specs.State.{DatabaseState, PastChange, Transaction, committed, transaction_of}
+use Rattle.database_state.specs.State.{DatabaseState, PastChange, Transaction, transaction_of}
 use Rattle.database_state.specs.VersionStore.{is_needed, from_oldest_needed}
 use Rattle.database_state.specs.Equivalence.{AreEquivalent}
 use Rattle.database_state.specs.Step.{state_after}
 use Rattle.database_state.specs.Lawful.{is_lawful}
-use Rattle.version_history.specs.History.{EachTwo, HasHistory, IsHistory, IsPassed, IsPassedBy, IsPlaced, IsPlacedBy, LabelsRise}
+use Rattle.version_history.specs.History.{EachTwo, HasHistory, IsPassed, IsPassedBy, IsPlaced, IsPlacedBy, LabelsRise}
 use Rattle.version_history.specs.KeptSteps.{with_next_number}
 use Rattle.version_history.proofs.Labels.{are_labelled}
 use Rattle.version_history.proofs.LawfulEntries.{keeps_lawful}

@@ -4,12 +4,12 @@ use Rattle.std.specs.Prelude.{◌==◌, map, filter, find, option_and_then, sum,
 use Rattle.std.specs.List.{list_any}
 use Rattle.std.proofs.lemmas.List.Sums.{sum-map}
 use Rattle.column_set.specs.declared.changes.Change.{Change}
-use Rattle.database_state.specs.Table.{Table, table_with_id}
+use Rattle.database_state.specs.Table.{table_with_id}
 use Rattle.database_state.specs.Changes.{changed_table, tables_after_all}
 use Rattle.database_state.specs.State.{DatabaseState, LiveSession, PastChange, Status, Transaction, uncommitted, committed, undone, change_of, is_open, is_undone, is_open_change_of, open_changes, open_changes_of, transaction_of}
 use Rattle.database_state.specs.View.{newest, view, view_in}
 use Rattle.database_state.specs.Conflicts.{collide, concurrent_changes, has_write_conflict, is_after_begin, is_concurrent, is_concurrent_status}
-use Rattle.database_state.specs.VersionStore.{cost_of, from_oldest_needed, is_needed, is_needed_status, version_span}
+use Rattle.database_state.specs.VersionStore.{cost_of, from_oldest_needed, is_needed_status, version_span}
 use Rattle.database_state.specs.Equivalence.{AreEquivalent, EssentialChange, columns_of, essence, essential_change}
 use Rattle.record_changes.proofs.Tests.{and_left, and_right, impossible}
 use Rattle.equivalent_states.proofs.Essential.{any_mapped, essential_status, kept_of, kept_of_standing, open_needed, open_stands, read_alike}

@@ -1,8 +1,7 @@
 -- What the sessions still need of the past after an entry: no more than before it.
-use Rattle.std.proofs.Common.{◌≡◌, ℕ, ◌≤◌, Bool, true, false, not, ◌||◌, cond, List, [], ◌∷◌, Option, Some, None, refl, sym, ap, subst, ◌∙◌, arith}
+use Rattle.std.proofs.Common.{◌≡◌, ℕ, Bool, true, false, ◌||◌, cond, List, [], ◌∷◌, Option, Some, None, refl, sym, ap, ◌∙◌}
 use Rattle.std.specs.Prelude.{◌==◌, nat_lt, map, filter, if◌then◌else◌}
 use Rattle.std.specs.List.{AllByRecursion, list_any}
-use Rattle.std.proofs.lemmas.Bool.Decides.{nat_tests}
 use Rattle.database_state.specs.State.{LiveSession, PastChange, Status, Transaction, uncommitted, committed, undone, is_open}
 use Rattle.database_state.specs.Conflicts.{is_after_begin}
 use Rattle.database_state.specs.Step.{at_levels, insert_session}

@@ -1,27 +1,23 @@
 -- What an entry leads to from two states of one essence.
-use Rattle.std.proofs.Common.{◌≡◌, ℕ, ◌+◌, ◌-◌, ◌≤◌, Bool, true, false, not, ◌&&◌, cond, List, [], ◌∷◌, ◌++◌, Option, Some, None, refl, sym, ap, subst, ◌∙◌, arith}
-use Rattle.std.specs.Prelude.{◌==◌, nat_lt, filter, map, IfSome, if◌then◌else◌}
-use Rattle.std.specs.List.{AllByRecursion, list_any}
+use Rattle.std.proofs.Common.{◌≡◌, ℕ, ◌+◌, ◌-◌, ◌≤◌, Bool, true, false, not, ◌&&◌, cond, List, [], ◌∷◌, ◌++◌, Option, Some, None, refl, sym, ap, ◌∙◌, arith}
+use Rattle.std.specs.Prelude.{◌==◌, nat_lt, filter, map, if◌then◌else◌}
+use Rattle.std.specs.List.{AllByRecursion}
 use Rattle.std.proofs.lemmas.Bool.Decides.{nat_tests}
 use Rattle.std.proofs.lemmas.List.{map-append}
 use Rattle.column_set.specs.declared.changes.Change.{Change}
-use Rattle.index_derive.specs.declared.log.Entry.{Entry}
 use Rattle.index_derive.specs.declared.log.EntryKind.{EntryKind}
 use Rattle.index_derive.specs.declared.log.EntryKind.TheVariants as entry
-use Rattle.index_derive.specs.declared.schema_calls.SchemaStep.{SchemaStep}
 use Rattle.database_state.specs.Table.{Table, record_in}
 use Rattle.database_state.specs.Changes.{changed_table, changed_bookmark, tables_after, tables_after_all, without_copied}
-use Rattle.database_state.specs.SchemaChanges.{tables_after_step}
-use Rattle.database_state.specs.State.{DatabaseState, LiveSession, PastChange, Status, Transaction, uncommitted, committed, undone, is_open, is_open_change_of, levels, open_changes_of, transaction_of}
-use Rattle.database_state.specs.Conflicts.{is_after_begin}
+use Rattle.database_state.specs.State.{DatabaseState, LiveSession, PastChange, Transaction, uncommitted, committed, undone, is_open, is_open_change_of, levels, open_changes_of}
 use Rattle.database_state.specs.View.{newest}
-use Rattle.database_state.specs.VersionStore.{is_needed, is_needed_status, from_oldest_needed}
+use Rattle.database_state.specs.VersionStore.{is_needed, from_oldest_needed}
 use Rattle.database_state.specs.Equivalence.{EssentialChange, essence, essential_change}
-use Rattle.database_state.specs.Step.{applied, at_levels, every_change, innermost_undone, insert_session, is_at_level, state_after, with_changes_at, with_levels, with_transaction, with_one as with_table, without_one as without_table}
-use Rattle.record_changes.proofs.Tests.{and_left, impossible}
-use Rattle.equivalent_states.proofs.Essential.{essential_status, forgotten, stay_alike}
+use Rattle.database_state.specs.Step.{applied, at_levels, every_change, insert_session, is_at_level, with_changes_at, with_levels, with_transaction, with_one as with_table, without_one as without_table}
+use Rattle.record_changes.proofs.Tests.{and_left}
+use Rattle.equivalent_states.proofs.Essential.{forgotten, stay_alike}
 use Rattle.equivalent_states.proofs.Reading.{SamePast, newest_alike, own_open_alike, with_past}
-use Rattle.equivalent_states.proofs.Sessions.{NeedsLess, all_of, is_needed_at, less_begun, less_changed, less_ended, less_inserted, less_status, less_with, less_without, none_needed, same_begin, with_one}
+use Rattle.equivalent_states.proofs.Sessions.{NeedsLess, all_of, less_begun, less_changed, less_ended, less_inserted, less_status, less_with, less_without, same_begin, with_one}
 use Rattle.equivalent_states.proofs.Changing.{changed_alike, columns_after, committed_alike, lowered_alike, same_essence, told_own, undone_alike}
 
 -- a change that was committed, was so at this number at most
@@ -195,7 +191,7 @@ applied_alike state past e label (entry.Change change) p q =
     λ i. record { number = state.number; greatest_table = state.greatest_table; tables = state.tables; sessions = state.sessions; past = same i }
 applied_alike state past e label entry.Release p q =
     let same = own_past state past label state.tables (with_one label (λ s. record s { transaction = at_levels (λ n. n - 1) s.transaction }) state.sessions) (is_at_level (levels state label)) (λ item. record item { level = item.level - 1 })
-        (λ es. record es { item = record es.item { level = es.item.level - 1 } }) (level_told state label (levels state label)) (λ x. refl) (λ x own. lowered_alike state.tables x) (levels_less state label (λ n. n - 1)) e in
+    (λ es. record es { item = record es.item { level = es.item.level - 1 } }) (level_told state label (levels state label)) (λ x. refl) (λ x own. lowered_alike state.tables x) (levels_less state label (λ n. n - 1)) e in
     λ i. record { number = state.number; greatest_table = state.greatest_table; tables = state.tables; sessions = with_one label (λ s. record s { transaction = at_levels (λ n. n - 1) s.transaction }) state.sessions; past = same i }
 applied_alike state past e label entry.Undo p q = by (nat_lt 1 (levels state label))
   where
@@ -214,10 +210,10 @@ applied_alike state past e label entry.Commit p q =
     let changes = own_open_alike state past e label in
     let after = tables_after_all state.tables (open_changes_of label state.past) in
     let same = own_past state past label after (with_one label ended state.sessions) every_change (λ item. record item { status = committed state.number })
-        (λ es. record es { item = record es.item { status = committed state.number } }) (every_told state label)
-        (same_essence state.tables after (λ id. columns_after id (open_changes_of label state.past) state.tables))
-        (λ x own. committed_alike state.tables after state.number x (columns_after (changed_table x.change) (open_changes_of label state.past) state.tables)
-        (and_left (is_open x.status) (x.session == label) (and_left (is_open_change_of label x) (every_change x) own))) (ends_less state label) e in
+    (λ es. record es { item = record es.item { status = committed state.number } }) (every_told state label)
+    (same_essence state.tables after (λ id. columns_after id (open_changes_of label state.past) state.tables))
+    (λ x own. committed_alike state.tables after state.number x (columns_after (changed_table x.change) (open_changes_of label state.past) state.tables)
+    (and_left (is_open x.status) (x.session == label) (and_left (is_open_change_of label x) (every_change x) own))) (ends_less state label) e in
     (λ i. record { number = state.number; greatest_table = state.greatest_table; tables = after; sessions = with_one label ended state.sessions; past = same i })
     ∙ ap (λ made. essence (with_transaction label None
     (with_changes_at label every_change (λ item. record item { status = committed state.number })

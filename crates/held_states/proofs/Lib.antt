@@ -1,0 +1,4 @@
+pub mod UncopiedSteps
+pub mod BuiltIndexes
+pub mod HeldPast
+pub mod HeldStates
