@@ -2,5 +2,6 @@
 //! what the definitions give; it is what the laws of the past changes say.
 #![tactic(auto)]
 
+pub mod equivalence;
 pub mod histories;
 pub mod keys;
