@@ -4,11 +4,13 @@
 ghost use Rattle.std.specs.Prelude.{◌≡◌, List, [], ◌∷◌, true, false, Some, None, pos};
 ghost use Rattle.index_derive.specs.declared.log.EntryKind.TheVariants as entry;
 ghost use Rattle.database_state.specs.Conflicts.{has_write_conflict};
+ghost use Rattle.database_state.specs.State.{committed};
+ghost use Rattle.database_state.specs.Step.{state_after};
 ghost use Rattle.database_state.specs.Equivalence.{essence};
 ghost use Rattle.database_state.specs.Lawful.{is_lawful};
 ghost use Rattle.database_state.specs.VersionStore.{version_span};
-ghost use Rattle.definition_examples.specs.States.{entry_by, fields, put};
-ghost use Rattle.version_examples.specs.Runs.{after, lock, add, shown, latest, meets_key};
+ghost use Rattle.definition_examples.specs.States.{entry_by, fields, past_change, put};
+ghost use Rattle.version_examples.specs.Runs.{after, first_state, lock, add, shown, latest, meets_key};
 ghost use Rattle.version_examples.specs.Forgetting.{cleaned, with_undone, with_sums, numbers_kept, costs_kept, meets_sum};
 
 /// Session 1 commits a put before session 2 begins, and one after. A clean takes the first; the second is needed. Session 2 sees
@@ -47,4 +49,13 @@ pub fn a_sum_whose_sums_are_forgotten()
         (meets_key state 3 7 ≡ true) × (meets_key (with_sums (fields 1 7 0) state) 3 7 ≡ true) × (meets_key state 3 9 ≡ false) × (meets_key (with_sums (fields 1 7 0) state) 3 9 ≡ false) }
     ensures index_on_sum { let state = after ((1, entry.Begin) ∷ (2, entry.Begin) ∷ (3, entry.Begin) ∷ (1, entry.Change (add 3 (pos 4))) ∷ (2, entry.Change (add 3 (pos 5))) ∷ (1, entry.Undo) ∷ []) in
         (meets_sum state 3 9 ≡ true) × (meets_sum (with_sums (fields 1 7 0) state) 3 9 ≡ false) }
+{}
+
+/// What a history asks is needed: a past that names a commit after the state's own number, as no entries lead to, is missed once
+/// a transaction begins below it.
+pub fn a_commit_that_is_yet_to_come()
+    ensures kept { let state = record first_state { past = past_change 6 (put 3 (fields 5 7 0)) (Some (fields 1 7 0)) (Some (fields 5 7 0)) (committed 99) ∷ [] } in
+        (numbers_kept state ≡ []) × (numbers_kept (cleaned state) ≡ []) }
+    ensures begun { let state = record first_state { past = past_change 6 (put 3 (fields 5 7 0)) (Some (fields 1 7 0)) (Some (fields 5 7 0)) (committed 99) ∷ [] } in
+        (numbers_kept (state_after state (entry_by 2 entry.Begin)) ≡ 6 ∷ []) × (numbers_kept (state_after (cleaned state) (entry_by 2 entry.Begin)) ≡ []) }
 {}
