@@ -39,8 +39,7 @@ next_equivalent =
 pub all_lawful : (one other : DatabaseState) → AreEquivalent one other → HasHistory one → HasHistory other → EachTwo LabelsRise one.sessions → HasPlainIndexes one → (entries : List Entry) → AreLawful one entries → AreLawful other entries
 all_lawful one other e h g rise plain [] lawful = tt
 all_lawful one other e h g rise plain (made ∷ entries) lawful =
-    let too = lawful_too one other e plain made lawful.0 in
-    (
+    let too = lawful_too one other e plain made lawful.0 in (
       too,
       all_lawful (state_after one made) (state_after other made) (next_equivalent one other e h g rise made lawful.0) (keeps_some one made h lawful.0) (keeps_some other made g too) (labels_rise one made rise lawful.0)
           (stays_plain one made plain lawful.0) entries lawful.1,

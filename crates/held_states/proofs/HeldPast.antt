@@ -1,6 +1,6 @@
 -- What held changes tell of the kept ones, from the newest records back.
-use Rattle.std.proofs.Common.{◌≡◌, ℕ, Bool, true, false, not, ◌&&◌, cond, List, [], ◌∷◌, Option, Some, None, refl, sym, ap, subst, ◌∙◌, bytes_eq}
-use Rattle.std.specs.Prelude.{◌==◌, map, if◌then◌else◌}
+use Rattle.std.proofs.Common.{◌≡◌, ℕ, Bool, true, false, not, ◌&&◌, cond, List, [], ◌∷◌, Option, Some, None, refl, sym, ap, ◌∙◌, bytes_eq}
+use Rattle.std.specs.Prelude.{◌==◌, map}
 use Rattle.std.specs.List.{AllByRecursion}
 use Rattle.column_set.specs.declared.changes.Change.{Change}
 use Rattle.column_set.specs.declared.changes.Change.TheVariants.{Put, Drop, Hold, Add}
@@ -9,10 +9,10 @@ use Rattle.database_state.specs.Table.{Table, table_with_id}
 use Rattle.database_state.specs.Changes.{changed_table, changed_bookmark, is_sum, without_copied}
 use Rattle.database_state.specs.State.{PastChange, Status, is_undone}
 use Rattle.database_state.specs.VersionStore.{cost_of}
-use Rattle.database_state.specs.Equivalence.{EssentialChange, columns_of, essential_item, essential_change, without_record}
-use Rattle.record_changes.specs.Records.{Records, after_item, is_change_of, record_after, records_after, records_after_items}
+use Rattle.database_state.specs.Equivalence.{columns_of, essential_change, without_record}
+use Rattle.record_changes.specs.Records.{Records, after_item, is_change_of, record_after, records_after_items}
 use Rattle.record_changes.proofs.Folds.{folded-cons}
-use Rattle.record_changes.proofs.Tests.{and_left, and_right, equal_bytes, not_true, same_bytes, same_number, self_equal}
+use Rattle.record_changes.proofs.Tests.{and_left, and_right, equal_bytes, same_bytes, same_number, self_equal}
 use Rattle.version_history.specs.History.{HasBefores}
 use Rattle.version_history.specs.Readers.{is_rewrite, is_standing}
 use Rattle.version_keys.specs.Variants.{HasNoSums}

@@ -1,5 +1,5 @@
 -- What an engine tells of the states that it holds.
-use Rattle.std.proofs.Common.{◌≡◌, ℕ, Bool, true, false, not, cond, List, [], ◌∷◌, ◌++◌, Option, Some, None, refl, sym, ap, subst, ◌∙◌}
+use Rattle.std.proofs.Common.{◌≡◌, true, false, not, List, [], ◌∷◌, ◌++◌, Option, Some, None, refl, sym, ap, subst, ◌∙◌}
 use Rattle.std.specs.Prelude.{filter, fold, map, nat_lt, option_map, unwrap_or, IfSome, is_some, T}
 use Rattle.std.specs.List.{AllByRecursion}
 use Rattle.std.proofs.lemmas.List.Folds.{fold-map}
@@ -9,16 +9,15 @@ use Rattle.database_state.specs.Changes.{changed_table}
 use Rattle.database_state.specs.Table.{table_with_id}
 use Rattle.database_state.specs.VersionStore.{from_oldest_needed}
 use Rattle.database_state.specs.Equivalence.{AreEquivalent, EssentialChange, columns_of, essential_change}
-use Rattle.database_state.specs.View.{newest}
-use Rattle.record_changes.specs.Records.{Records, after_item, records_after, records_after_items, records_of}
+use Rattle.record_changes.specs.Records.{Records, records_after, records_after_items, records_of}
 use Rattle.record_changes.proofs.Tests.{impossible}
-use Rattle.version_history.specs.History.{EachTwo, IsBegun, IsHistory, IsPlaced, KeepsHistory, LabelsRise, without_rows}
+use Rattle.version_history.specs.History.{EachTwo, IsBegun, IsPlaced, KeepsHistory, LabelsRise, without_rows}
 use Rattle.version_history.specs.Readers.{is_standing, was_committed, was_committed_status}
 use Rattle.version_history.proofs.Labels.{are_labelled}
 use Rattle.version_history.proofs.Lists.{all_both, all_weaker}
 use Rattle.version_history.proofs.SeenRecords.{newest_records as newest_of_kept}
 use Rattle.version_keys.specs.TableOrder.{IdsRise}
-use Rattle.version_cleanup.specs.LiveSessions.{LiveState, live_state, without_snapshot}
+use Rattle.version_cleanup.specs.LiveSessions.{live_state, without_snapshot}
 use Rattle.versioned_tables.specs.Holding.{AllRise, SnapshotRises}
 use Rattle.versioned_tables.proofs.Rising.{same_table}
 use Rattle.engine_versions.specs.EngineState.{EngineState}
@@ -98,8 +97,8 @@ transaction_same one other base last xs ys past defined ids (Some t) None e p q 
 transaction_same one other base last xs ys past defined ids (Some t) (Some u) e p q =
     let live : without_snapshot t ≡ without_snapshot u = ap (λ o. unwrap_or o (without_snapshot t)) e in
     let snapshot : t.snapshot ≡ u.snapshot =
-        tables_same t.snapshot u.snapshot (p.1 ∙ defined ∙ sym q.1) (ids_rise_alike u.snapshot other q.1 ids) p.2 q.2
-        (p.0 ∙ committed_same one base last xs ys past (Some t) ∙ ap (λ test. records_after_items test last ys) (same_reader t u (λ i. (live i).begin)) ∙ sym q.0) in
+    tables_same t.snapshot u.snapshot (p.1 ∙ defined ∙ sym q.1) (ids_rise_alike u.snapshot other q.1 ids) p.2 q.2
+    (p.0 ∙ committed_same one base last xs ys past (Some t) ∙ ap (λ test. records_after_items test last ys) (same_reader t u (λ i. (live i).begin)) ∙ sym q.0) in
     λ i. Some (record { levels = (live i).levels; begin = (live i).begin; snapshot = snapshot i })
 
 abbrev first_or : {X : Type 0} → X → List X → X
@@ -136,27 +135,27 @@ held_equivalent engine one other h g plain_one plain_other =
     let keeps_one = h.reached.history.keeps in
     let keeps_other = g.reached.history.keeps in
     let newest_records : records_after_items is_standing h.base h.kept ≡ records_after_items is_standing g.base g.kept =
-        sym (newest_of_kept h.base h.dropped h.kept one h.reached.history) ∙ sym h.holds.newest ∙ g.holds.newest ∙ newest_of_kept g.base g.dropped g.kept other g.reached.history in
+    sym (newest_of_kept h.base h.dropped h.kept one h.reached.history) ∙ sym h.holds.newest ∙ g.holds.newest ∙ newest_of_kept g.base g.dropped g.kept other g.reached.history in
     let past : IsOnePast one.tables h.base g.base h.kept g.kept =
-        one_past one.tables h.kept g.kept engine.store.held h.holds.held g.holds.held h.base g.base keeps_one.befores keeps_other.befores h.reached.no_sums g.reached.no_sums
-        (all_weaker (IsPlaced one.number one.tables (transaction_of one)) LeavesAfter (λ x p. p.3) h.kept keeps_one.placed)
-        (all_weaker (IsPlaced other.number other.tables (transaction_of other)) LeavesAfter (λ x p. p.3) g.kept keeps_other.placed)
-        (all_kept IsUncopied h.dropped h.kept (subst (AllByRecursion IsUncopied) h.reached.history.past plain_one))
-        (all_kept IsUncopied g.dropped g.kept (subst (AllByRecursion IsUncopied) g.reached.history.past plain_other)) newest_records in
+    one_past one.tables h.kept g.kept engine.store.held h.holds.held g.holds.held h.base g.base keeps_one.befores keeps_other.befores h.reached.no_sums g.reached.no_sums
+    (all_weaker (IsPlaced one.number one.tables (transaction_of one)) LeavesAfter (λ x p. p.3) h.kept keeps_one.placed)
+    (all_weaker (IsPlaced other.number other.tables (transaction_of other)) LeavesAfter (λ x p. p.3) g.kept keeps_other.placed)
+    (all_kept IsUncopied h.dropped h.kept (subst (AllByRecursion IsUncopied) h.reached.history.past plain_one))
+    (all_kept IsUncopied g.dropped g.kept (subst (AllByRecursion IsUncopied) g.reached.history.past plain_other)) newest_records in
     let defined : map without_rows one.tables ≡ map without_rows other.tables = sym h.holds.defined ∙ g.holds.defined in
     let tables : one.tables ≡ other.tables =
-        tables_same one.tables other.tables defined g.reached.order.ids h.holds.rise.committed g.holds.rise.committed
-        (keeps_one.committed ∙ committed_same one.tables h.base g.base h.kept g.kept past None ∙ sym keeps_other.committed) in
+    tables_same one.tables other.tables defined g.reached.order.ids h.holds.rise.committed g.holds.rise.committed
+    (keeps_one.committed ∙ committed_same one.tables h.base g.base h.kept g.kept past None ∙ sym keeps_other.committed) in
     let sessions : one.sessions ≡ other.sessions =
-        sessions_same one.tables other.tables h.base g.base h.kept g.kept past defined g.reached.order.ids one.sessions other.sessions (h.sessions ∙ sym g.sessions)
-        (all_known one h.base h.kept keeps_one h.labels h.holds.rise.snapshots) (all_known other g.base g.kept keeps_other g.labels g.holds.rise.snapshots) in
+    sessions_same one.tables other.tables h.base g.base h.kept g.kept past defined g.reached.order.ids one.sessions other.sessions (h.sessions ∙ sym g.sessions)
+    (all_known one h.base h.kept keeps_one h.labels h.holds.rise.snapshots) (all_known other g.base g.kept keeps_other g.labels g.holds.rise.snapshots) in
     let number : one.number ≡ other.number = h.number ∙ sym g.number in
     let greatest : one.greatest_table ≡ other.greatest_table = h.greatest ∙ sym g.greatest in
     let needed : map (essential_change one.tables) (from_oldest_needed one.sessions one.past) ≡ map (essential_change other.tables) (from_oldest_needed other.sessions other.past) =
-        ap (map (essential_change one.tables)) (needed_kept h.base h.dropped h.kept one h.reached.history h.labels)
-        ∙ essential_from one.tables one.sessions h.kept
-        ∙ ap (from_essential one.sessions) past.essence
-        ∙ sym (essential_from one.tables one.sessions g.kept)
-        ∙ (λ i. map (essential_change (tables i)) (from_oldest_needed (sessions i) g.kept))
-        ∙ sym (ap (map (essential_change other.tables)) (needed_kept g.base g.dropped g.kept other g.reached.history g.labels)) in
+    ap (map (essential_change one.tables)) (needed_kept h.base h.dropped h.kept one h.reached.history h.labels)
+    ∙ essential_from one.tables one.sessions h.kept
+    ∙ ap (from_essential one.sessions) past.essence
+    ∙ sym (essential_from one.tables one.sessions g.kept)
+    ∙ (λ i. map (essential_change (tables i)) (from_oldest_needed (sessions i) g.kept))
+    ∙ sym (ap (map (essential_change other.tables)) (needed_kept g.base g.dropped g.kept other g.reached.history g.labels)) in
     λ i. record { number = number i; greatest_table = greatest i; tables = tables i; sessions = sessions i; past = needed i }
