@@ -4,3 +4,4 @@ pub mod HeldPast
 pub mod HeldStates
 pub mod PlainSteps
 pub mod EquivalentRuns
+pub mod LinesAlike
