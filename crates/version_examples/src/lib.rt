@@ -2,6 +2,7 @@
 //! what the definitions give; it is what the laws of the past changes say.
 #![tactic(auto)]
 
+pub mod equivalence;
 pub mod histories;
 pub mod keys;
 pub mod sums;

@@ -1,0 +1,3 @@
+pub mod UncopiedPast
+pub mod PlainColumns
+pub mod LawfulRuns
