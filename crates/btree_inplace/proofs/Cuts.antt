@@ -1,10 +1,9 @@
 -- Where a page is cut, and what room the parts have.
 use Rattle.std.proofs.Common.{◌≡◌, ℕ, ◌+◌, ◌<◌, ◌≤◌, inl, inr, true, false, Option, Some, None, Result, Ok, Err, List, [], ◌∷◌, length, take, drop, refl, sym, ap, subst, ◌∙◌, arith, eq-eqb}
-use Rattle.std.specs.Prelude.{All, find, insert, remove, nat_eq, sum_by, IsOk, MatchOption, OnOk}
+use Rattle.std.specs.Prelude.{All, find, insert, remove, nat_eq, IsOk, MatchOption, OnOk}
 use Rattle.std.proofs.lemmas.Bool.{cases_eq, ne_eqb}
-use Rattle.std.proofs.lemmas.List.{drop_all}
 use Rattle.std.proofs.lemmas.List.Edits.{get_or-remove_above, length-remove}
-use Rattle.std.proofs.lemmas.List.Sums.{sum_by-cons, sum_by-drop_more, sum_by-take-drop}
+use Rattle.std.proofs.lemmas.List.Sums.{sum_by-drop_more, sum_by-take-drop}
 use Rattle.page_image.specs.Page.{Node, HasRisingKeys, IsBelow, IsInsertPlace, no_node, node_at, node_size, page_size}
 use Rattle.common_lemmas.proofs.Orders.{less-asymmetric, less-irreflexive}
 use Rattle.btree_inplace.specs.Alterations.{HasRoom, IsParted, Needs, cleared, separator}
@@ -37,12 +36,6 @@ needs_small need (Some n) h = omega arith
 needs_found : (need : ℕ) (o : Option Node) (n : Node) → o ≡ Some n → MatchOption o (need ≤ 2032) (λ n. node_size n + need ≤ 2032) → node_size n + need ≤ 2032
 needs_found need o n e h = subst (λ r. MatchOption r (need ≤ 2032) (λ n. node_size n + need ≤ 2032)) e h
 
--- A page that is more than half full has two nodes.
-pub two_nodes : (nodes : List Node) → 2064 < page_size nodes → All (λ n. node_size n ≤ 2032) nodes → 1 < length nodes
-two_nodes [] full small = absurd (omega arith)
-two_nodes (x ∷ []) full small = absurd (omega (arith, sum_by-cons node_size x [], small 0 no_node (omega arith)))
-two_nodes (x ∷ y ∷ nodes) full small = omega arith
-
 -- the part behind the half
 pub behind_half : (nodes : List Node) (h : ℕ) → page_size nodes ≤ 4096 → 2064 < page_size (take (h + 1) nodes) → page_size (drop (h + 1) nodes) < 2064
 behind_half nodes h size more = omega (arith, sum_by-take-drop node_size nodes (h + 1))
@@ -50,36 +43,27 @@ behind_half nodes h size more = omega (arith, sum_by-take-drop node_size nodes (
 pub from_half : (nodes : List Node) (h : ℕ) → h < length nodes → page_size (drop h nodes) ≡ page_size (drop (h + 1) nodes) + node_size (node_at nodes h)
 from_half nodes h within = omega (arith, sum_by-drop_more node_size nodes h no_node within)
 
--- a key behind all others
-pub room_last : (nodes : List Node) (key : List ℕ) (at need : ℕ) → IsInsertPlace nodes key (at + 1) → at + 1 ≡ length nodes → All (λ n. node_size n ≤ 2032) nodes → need ≤ 2032 → HasRoom nodes key need at (node_at nodes at).key
-room_last nodes key at need place last small needs = record {
-  left = λ b. absurd (less-asymmetric (node_at nodes at).key key (place.below at (omega arith)) b);
-  right = λ _. omega (arith, from_half nodes at (omega arith), small at no_node (omega arith), ap (sum_by node_size) (drop_all (at + 1) nodes (omega arith)));
+-- a new key, which stands in the first part
+pub room_before : (nodes : List Node) (key : List ℕ) (i at need : ℕ) → IsInsertPlace nodes key i → i ≤ at → at < length nodes → page_size (take at nodes) + need ≤ 4096 → HasRoom nodes key need at (node_at nodes at).key
+room_before nodes key i at need place le within room = record {
+  left = λ _. room;
+  right = λ not. absurd (not (place.above at le within));
 }
 
--- a new key up to the half
-pub room_before : (nodes : List Node) (key : List ℕ) (i h need : ℕ) → IsInsertPlace nodes key i → i ≤ h → h < length nodes → page_size (take h nodes) ≤ 2064 → need ≤ 2032 → HasRoom nodes key need h (node_at nodes h).key
-room_before nodes key i h need place le within half needs = record {
-  left = λ _. omega arith;
-  right = λ not. absurd (not (place.above h le within));
-}
-
--- a new key behind the half
-pub parted_behind : (nodes : List Node) (key : List ℕ) (i h : ℕ) → HasRisingKeys nodes → IsInsertPlace nodes key i → h < i → i < length nodes → IsParted nodes (h + 1) (separator nodes key (h + 1) (nat_eq i (h + 1)))
-parted_behind nodes key i h rising place lt within = elim (cases_eq i (h + 1)) [
-  | inl at ↦ subst (λ b. IsParted nodes (h + 1) (separator nodes key (h + 1) b)) (sym (eq-eqb i (h + 1) at))
-      (parted_by nodes key (h + 1) (subst (IsInsertPlace nodes key) at place) (omega arith) (omega arith))
-  | inr ne ↦ subst (λ b. IsParted nodes (h + 1) (separator nodes key (h + 1) b)) (sym (ne_eqb i (h + 1) ne))
-      (parted_at nodes (h + 1) rising (omega arith) (omega arith))
+-- and one which stands in the second part, at its front or behind
+pub parted_behind : (nodes : List Node) (key : List ℕ) (i at : ℕ) → HasRisingKeys nodes → IsInsertPlace nodes key i → at ≤ i → 0 < at → at < length nodes → IsParted nodes at (separator nodes key at (nat_eq i at))
+parted_behind nodes key i at rising place le some within = elim (cases_eq i at) [
+  | inl same ↦ subst (λ b. IsParted nodes at (separator nodes key at b)) (sym (eq-eqb i at same)) (parted_by nodes key at (subst (IsInsertPlace nodes key) same place) some within)
+  | inr ne ↦ subst (λ b. IsParted nodes at (separator nodes key at b)) (sym (ne_eqb i at ne)) (parted_at nodes at rising some within)
 ]
 
-pub room_behind : (nodes : List Node) (key : List ℕ) (i h need : ℕ) → IsInsertPlace nodes key i → h < i → i < length nodes → page_size nodes ≤ 4096 → 2064 < page_size (take (h + 1) nodes) → need ≤ 2032 → HasRoom nodes key need (h + 1) (separator nodes key (h + 1) (nat_eq i (h + 1)))
-room_behind nodes key i h need place lt within size more needs = record {
-  left = λ b. absurd (elim (cases_eq i (h + 1)) [
-    | inl at ↦ less-irreflexive key (subst (λ t. IsBelow key (separator nodes key (h + 1) t)) (eq-eqb i (h + 1) at) b)
-    | inr ne ↦ less-asymmetric (node_at nodes (h + 1)).key key (place.below (h + 1) (omega arith)) (subst (λ t. IsBelow key (separator nodes key (h + 1) t)) (ne_eqb i (h + 1) ne) b)
+pub room_behind : (nodes : List Node) (key : List ℕ) (i at need : ℕ) → IsInsertPlace nodes key i → at ≤ i → page_size (drop at nodes) + need ≤ 4096 → HasRoom nodes key need at (separator nodes key at (nat_eq i at))
+room_behind nodes key i at need place le room = record {
+  left = λ b. absurd (elim (cases_eq i at) [
+    | inl same ↦ less-irreflexive key (subst (λ t. IsBelow key (separator nodes key at t)) (eq-eqb i at same) b)
+    | inr ne ↦ less-asymmetric (node_at nodes at).key key (place.below at (omega arith)) (subst (λ t. IsBelow key (separator nodes key at t)) (ne_eqb i at ne) b)
   ]);
-  right = λ _. omega (arith, behind_half nodes h size more);
+  right = λ _. room;
 }
 
 -- a key that is there, up to the half

@@ -1,13 +1,13 @@
 -- A tree has no more nodes than its pages have places for, and no more pages than its space.
-use Rattle.std.proofs.Common.{◌≡◌, ◌≢◌, ℕ, zero, suc, ◌+◌, ◌*◌, ◌<◌, ◌≤◌, Bool, true, false, List, [], ◌∷◌, ◌++◌, length, get_or, eqb, arith}
-use Rattle.std.specs.Prelude.{AllPairs, Contains}
-use Rattle.std.specs.List.{flat_map, list_any, IsDistinct, AllByRecursion}
+use Rattle.std.proofs.Common.{◌≡◌, ◌≢◌, ℕ, zero, suc, ◌*◌, ◌<◌, ◌≤◌, true, false, List, [], ◌∷◌, length, get_or, eqb, arith}
+use Rattle.std.specs.Prelude.{AllPairs}
+use Rattle.std.specs.List.{flat_map, IsDistinct, AllByRecursion}
 use Rattle.std.proofs.lemmas.List.{length-append}
 use Rattle.std.proofs.lemmas.Bool.Decides.{nat_tests}
 use Rattle.std.proofs.lemmas.Map.Steps.{length-le_from_distinct_below}
 use Rattle.std.proofs.lemmas.Map.Views.{Contains-from_any}
-use Rattle.page_image.specs.Page.{Node, PageContents, IsPage, no_node, node_at}
-use Rattle.page_space.specs.Frames.{Frames, IsTaken}
+use Rattle.page_image.specs.Page.{PageContents, IsPage, no_node, node_at}
+use Rattle.page_space.specs.Frames.{Frames}
 use Rattle.btree_inplace.specs.Shape.{IsSubtree, child_of, entries, page_in, pages}
 use Rattle.btree_inplace.specs.Trees.{IsTree, nodes_of, pages_of}
 use Rattle.btree_inplace.specs.declared.Tree.{Tree}

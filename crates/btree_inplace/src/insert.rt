@@ -2,7 +2,7 @@
 
 ghost use Rattle.std.specs.Prelude.{◌≡◌, ◌≢◌, ◌+◌, ◌-◌, ◌<◌, ◌≤◌, ℕ, None, [], ◌∷◌, zero, suc, false, length, take, drop, find, slice_set, All, AllPairs, IfOk, IsSome, IsSomeAnd, OnErr, OnOk};
 ghost use Rattle.byteorder.specs.Endian.{little_number};
-ghost use Rattle.page_image.specs.Page.{IsPage, node_at, node_size, page_size};
+ghost use Rattle.page_image.specs.Page.{IsInsertPlace, IsPage, node_at, node_size, page_size};
 ghost use Rattle.btree_node.specs.Cut.{IsChildPlace};
 ghost use Rattle.btree_inplace.specs.Alterations.{AlteredTree, Entered, HasRoom, IsParted, IsRootAbove, Needs, Reaches, cleared, room_at, separator};
 ghost use Rattle.btree_inplace.specs.Changes.{inserted, with_extent_at};
@@ -11,28 +11,20 @@ ghost use Rattle.btree_inplace.specs.Shape.{IsSubtree, IsTreeNode, child_of, ent
 ghost use Rattle.btree_inplace.specs.Trees.{Exchanges, IsTree, nodes_of, pages_of};
 
 use crate::Tree;
-use btree_node::child;
+use btree_node::{child, half, split_at};
 use byteorder::{ByteOrder, LittleEndian};
 use jet_base::OutOfMemory;
-use page_image::Page;
+use page_image::{NODE_HEAD_BYTES, PAGE_BYTES, Page};
 use page_space::Space;
 
 /// The kind of a page that is no leaf.
 const INNER: u8 = 2;
-
-const PAGE_BYTES: usize = 4096;
-
-/// The bytes of a node before its key.
-const NODE_HEAD_BYTES: usize = 6;
 
 /// The bytes of a child's number.
 const CHILD_BYTES: usize = 4;
 
 /// The most that a node of an inner page takes: its head, a key of 755 bytes and a child's number.
 const INNER_NODE_BYTES: usize = 765;
-
-/// The bytes of a page before its nodes, with half of those that its nodes may take.
-const HALF_BYTES: usize = 2064;
 
 /// Where a page is cut in two: before which node, and whether a key that stands between the parts
 /// belongs to the second one.
@@ -210,7 +202,7 @@ fn enter(
         return Ok(below);
     }
     let cut = if depth == 0 {
-        leaf_cut(full, key)
+        leaf_cut(full, key, need)
     } else {
         inner_cut(full)
     };
@@ -257,31 +249,18 @@ fn split(
     Ok(if is_left { below } else { number })
 }
 
-/// Where to cut a leaf for a key, so that the part that the key belongs to has room.
-fn leaf_cut(page: &Page, key: &[u8]) -> Cut
+/// Where to cut a leaf for a change of `need` bytes at a key, so that the part that the key belongs to
+/// has room.
+fn leaf_cut(page: &Page, key: &[u8], need: usize) -> Cut
     requires small { All IsTreeNode page.now.nodes }
-    requires full { 2064 < page_size page.now.nodes }
+    requires full { 4096 < page_size page.now.nodes + need }
+    requires needs { Needs key.now need page.now.nodes }
     ensures parted { IsParted page.now.nodes result.at (separator page.now.nodes key.now result.at result.by_key) }
-    ensures room { (need : ℕ) → Needs key.now need page.now.nodes → HasRoom page.now.nodes key.now need result.at (separator page.now.nodes key.now result.at result.by_key) }
+    ensures room { HasRoom page.now.nodes key.now need result.at (separator page.now.nodes key.now result.at result.by_key) }
 {
-    let count = page.len();
+    let _ = page.len();
     match page.find(key) {
-        // A node behind all others, as rising keys bring it, leaves the first part nearly full.
-        Err(i) if i == count => Cut {
-            at: count - 1,
-            by_key: false,
-        },
-        Err(i) => {
-            let at = half(page);
-            if i <= at {
-                Cut { at, by_key: false }
-            } else {
-                Cut {
-                    at: at + 1,
-                    by_key: i == at + 1,
-                }
-            }
-        }
+        Err(i) => new_node_cut(page, key, i, need),
         Ok(i) => {
             let at = half(page);
             Cut {
@@ -289,6 +268,29 @@ fn leaf_cut(page: &Page, key: &[u8]) -> Cut
                 by_key: false,
             }
         }
+    }
+}
+
+/// Where to cut a leaf for a node with a new key, which stands at place `i`.
+fn new_node_cut(page: &Page, key: &[u8], i: usize, need: usize) -> Cut
+    requires place { IsInsertPlace page.now.nodes key.now i }
+    requires all_small { All (λ n. node_size n ≤ 2032) page.now.nodes }
+    requires full { 4096 < page_size page.now.nodes + need }
+    requires small { need ≤ 2032 }
+    ensures parted { IsParted page.now.nodes result.at (separator page.now.nodes key.now result.at result.by_key) }
+    ensures room { HasRoom page.now.nodes key.now need result.at (separator page.now.nodes key.now result.at result.by_key) }
+{
+    let _ = page.len();
+    let cut = split_at(page, i, need);
+    if cut > i {
+        return Cut {
+            at: cut - 1,
+            by_key: false,
+        };
+    }
+    Cut {
+        at: cut,
+        by_key: i == cut,
     }
 }
 
@@ -305,29 +307,6 @@ fn inner_cut(page: &Page) -> Cut
         at: half(page),
         by_key: false,
     }
-}
-
-/// How many nodes of a full page stand in its first half.
-fn half(page: &Page) -> usize
-    requires small { All (λ n. node_size n ≤ 2032) page.now.nodes }
-    requires full { 2064 < page_size page.now.nodes }
-    ensures some { 0 < result }
-    ensures within { result < length page.now.nodes }
-    ensures half { page_size (take result page.now.nodes) ≤ 2064 }
-    ensures more { 2064 < page_size (take (result + 1) page.now.nodes) }
-    ensures page { IsPage page.now }
-{
-    let mut used = 32;
-    let mut m = 0;
-    while m < page.len() {
-        let size = NODE_HEAD_BYTES + page.key(m).len() + page.extent(m);
-        if used + size > HALF_BYTES {
-            break;
-        }
-        used += size;
-        m += 1;
-    }
-    m
 }
 
 /// Makes the first key of an inner page empty, so that each key has a child there.

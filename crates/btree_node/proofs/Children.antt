@@ -1,5 +1,5 @@
 -- The child that a key belongs to.
-use Rattle.std.proofs.Common.{◌≡◌, ℕ, zero, suc, ◌+◌, ◌-◌, ◌<◌, ◌≤◌, List, [], ◌∷◌, length, sym, subst, ◌∙◌, arith}
+use Rattle.std.proofs.Common.{◌≡◌, ℕ, zero, suc, ◌+◌, ◌-◌, ◌<◌, ◌≤◌, List, [], length, subst, arith}
 use Rattle.common_lemmas.proofs.Orders.{less-asymmetric, less-irreflexive, none_less}
 use Rattle.page_image.specs.Page.{Node, no_node, node_at, IsBelow, IsInsertPlace, HasRisingKeys}
 use Rattle.btree_node.specs.Cut.{IsChildPlace}

@@ -1,2 +1,3 @@
 pub mod Children
+pub mod Keeping
 pub mod Sizes

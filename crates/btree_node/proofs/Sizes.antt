@@ -89,7 +89,7 @@ cut_here nodes i need m before size whole place small all within before_is left 
     first (suc m) some = omega arith
 
 -- more nodes take more
-sum-take-rises : (xs : List ℕ) (j k : ℕ) → j ≤ k → sum (take j xs) ≤ sum (take k xs)
+pub sum-take-rises : (xs : List ℕ) (j k : ℕ) → j ≤ k → sum (take j xs) ≤ sum (take k xs)
 sum-take-rises xs zero k h = omega arith
 sum-take-rises [] (suc j) k h = omega arith
 sum-take-rises (x ∷ xs) (suc j) zero h = absurd (omega arith)

@@ -12,9 +12,16 @@ pub record IsChildPlace (nodes : List Node) (key : List ℕ) (i : ℕ) : Type 0 
 abbrev pub sizes_with : List Node → ℕ → ℕ → List ℕ
 sizes_with nodes i need = insert (map node_size nodes) i need
 
--- The first m of the nodes with the new one fit on a page, the others on another, and neither is empty.
+-- The first m of the nodes with the new one fit on a page, the others on another, and neither part is empty.
 pub record IsCut (nodes : List Node) (i need m : ℕ) : Type 0 where
   pub first : 0 < m
   pub last : m ≤ length nodes
   pub left : 32 + sum (take m (sizes_with nodes i need)) ≤ 4096
   pub right : 32 + sum (drop m (sizes_with nodes i need)) ≤ 4096
+
+-- On either side of the cut stands a node other than the new one, so that no part is empty before that one is put in.
+pub record PartsNodes (nodes : List Node) (i m : ℕ) : Type 0 where
+  pub first : 0 < m
+  pub first_other : i < m → 1 < m
+  pub last : m ≤ length nodes
+  pub last_other : m ≤ i → m < length nodes

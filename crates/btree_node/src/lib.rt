@@ -1,15 +1,15 @@
 //! The steps of a B-tree on one page: which child a key belongs to, and where a full page is cut in two.
 #![tactic(auto)]
 
-ghost use Rattle.std.specs.Prelude.{◌≡◌, ℕ, ◌+◌, ◌<◌, ◌≤◌, [], length, slice_index, All};
-ghost use Rattle.page_image.specs.Page.{node_at, node_size, page_size};
-ghost use Rattle.btree_node.specs.Cut.{IsChildPlace, IsCut, sizes_with};
+ghost use Rattle.std.specs.Prelude.{◌≡◌, ℕ, ◌+◌, ◌-◌, ◌<◌, ◌≤◌, [], length, take, drop, slice_index, All};
+ghost use Rattle.page_image.specs.Page.{IsPage, node_at, node_size, page_size};
+ghost use Rattle.btree_node.specs.Cut.{IsChildPlace, IsCut, PartsNodes, sizes_with};
 ghost use Rattle.btree_node.specs.Parts.{larger_part};
 
-use page_image::Page;
+use page_image::{HEAD_BYTES, NODE_HEAD_BYTES, Page};
 
-/// The bytes of a node before its key.
-const NODE_HEAD_BYTES: usize = 6;
+/// The bytes of a page before its nodes, with half of those that its nodes may take.
+const HALF_BYTES: usize = 2064;
 
 /// The place of the child that a key belongs to, on an inner page. The first key of such a page is
 /// empty, so that each key has a child.
@@ -27,22 +27,44 @@ pub fn child(page: &Page, key: &[u8]) -> usize
 
 /// Where to cut a page that has no room for a new node at place `i`, counted in the nodes with the
 /// new one among them: those before the cut stay, and the others go to another page. `need` is what
-/// the new node takes: 6 bytes, its key and its extent. A node behind all others, as rising keys
-/// bring it, goes alone, so that such pages stay full; else the larger part is as small as can be.
+/// the new node takes: 6 bytes, its key and its extent. Both parts have nodes that are there already.
+/// A node behind all others, as rising keys bring it, takes only the last of them along, so that such
+/// pages stay full; else the larger part is as small as can be.
 pub fn split_at(page: &Page, i: usize, need: usize) -> usize
     requires place { i ≤ length page.now.nodes }
     requires full { 4096 < page_size page.now.nodes + need }
     requires small { need ≤ 2032 }
     requires all_small { All (λ n. node_size n ≤ 2032) page.now.nodes }
     ensures cut { IsCut page.now.nodes i need result }
-    ensures behind_all { i ≡ length page.now.nodes → result ≡ i }
-    ensures even { i < length page.now.nodes → (k : ℕ) → larger_part (sizes_with page.now.nodes i need) result ≤ larger_part (sizes_with page.now.nodes i need) k }
+    ensures nodes { PartsNodes page.now.nodes i result }
+    ensures before { i < result → page_size (take (result - 1) page.now.nodes) + need ≤ 4096 }
+    ensures behind { result ≤ i → page_size (drop result page.now.nodes) + need ≤ 4096 }
+    ensures behind_all { i ≡ length page.now.nodes → result + 1 ≡ i }
+    ensures even { i < length page.now.nodes → (k : ℕ) → PartsNodes page.now.nodes i k → larger_part (sizes_with page.now.nodes i need) result ≤ larger_part (sizes_with page.now.nodes i need) k }
 {
     let count = page.len();
     if i == count {
-        return count;
+        return count - 1;
     }
-    let whole = page.used() - 32 + need;
+    let cut = even_cut(page, i, need);
+    if i == 0 {
+        // Not the new node alone.
+        return cut.max(2);
+    }
+    cut
+}
+
+/// The cut whose larger part is smallest, where a part may be the new node alone.
+fn even_cut(page: &Page, i: usize, need: usize) -> usize
+    requires place { i < length page.now.nodes }
+    requires full { 4096 < page_size page.now.nodes + need }
+    requires small { need ≤ 2032 }
+    requires all_small { All (λ n. node_size n ≤ 2032) page.now.nodes }
+    ensures cut { IsCut page.now.nodes i need result }
+    ensures even { (k : ℕ) → larger_part (sizes_with page.now.nodes i need) result ≤ larger_part (sizes_with page.now.nodes i need) k }
+{
+    let count = page.len();
+    let whole = page.used() - HEAD_BYTES + need;
     let mut before = 0;
     let mut m = 0;
     while m < count {
@@ -51,6 +73,30 @@ pub fn split_at(page: &Page, i: usize, need: usize) -> usize
             break;
         }
         before += size;
+        m += 1;
+    }
+    m
+}
+
+/// How many nodes of a page stand in its first half. A page that is more than half full is cut there
+/// where no node is to be put in, so that either part has room for as much as it has.
+pub fn half(page: &Page) -> usize
+    requires small { All (λ n. node_size n ≤ 2032) page.now.nodes }
+    requires full { 2064 < page_size page.now.nodes }
+    ensures some { 0 < result }
+    ensures within { result < length page.now.nodes }
+    ensures half { page_size (take result page.now.nodes) ≤ 2064 }
+    ensures more { 2064 < page_size (take (result + 1) page.now.nodes) }
+    ensures page { IsPage page.now }
+{
+    let mut used = HEAD_BYTES;
+    let mut m = 0;
+    while m < page.len() {
+        let size = NODE_HEAD_BYTES + page.key(m).len() + page.extent(m);
+        if used + size > HALF_BYTES {
+            break;
+        }
+        used += size;
         m += 1;
     }
     m

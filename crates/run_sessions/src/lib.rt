@@ -5,7 +5,5 @@
 mod laws;
 mod sessions;
 
-pub use laws::{
-    a_run_begins_with_fresh_sessions, a_written_session_is_the_only_one, sessions_follow_a_line,
-};
+pub use laws::{a_run_begins_with_fresh_sessions, sessions_follow_a_line};
 pub use sessions::{RunSession, RunSessions};

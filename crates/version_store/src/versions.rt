@@ -1,7 +1,6 @@
 //! The held changes, and the calls on them.
 
 ghost use Rattle.std.specs.Prelude.{◌≡◌, ℕ, ◌≤◌, ◌<◌, ◌↔◌, ◌==◌, true, false, Option, Some, None, [], ◌∷◌, ◌++◌, length, map, take, drop, find, slice_get, option_copied, option_map, unwrap_or, IfSome, IsErrOf, OnOk, OnErr};
-ghost use Rattle.std.specs.List.{list_any};
 ghost use Rattle.version_store.specs.declared.fault.VersionFault.TheVariants as fault;
 ghost use Rattle.version_store.specs.Answers.{change_at};
 ghost use Rattle.version_store.specs.HeldChanges.{HeldChange, is_concurrent, is_kept, is_record, is_standing, is_standing_rewrite, new_change, has_conflict, has_room, span as the_span, seen_row, shown, hides, conflicts, last_place, is_open_at, newest_undone, released_change, committed_change};
@@ -359,13 +358,6 @@ impl Versions {
             item.table,
             item.bookmark.as_bytes(),
         )
-    }
-
-    /// Whether any put or drop of the record is held that is not undone.
-    pub fn has_rewrite(&self, table: TableId, bookmark: &[u8]) -> bool
-        ensures { result ≡ list_any (is_standing_rewrite table.0 bookmark.now) self.now }
-    {
-        self.newest_rewrite(table, bookmark).is_some()
     }
 
     /// The newest open change of the session at the level becomes undone. None where there is none.

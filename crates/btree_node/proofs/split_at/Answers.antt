@@ -1,42 +1,87 @@
--- Each part is at most half of all and of one node more.
-use Rattle.std.proofs.Common.{◌≡◌, ◌+◌, ◌-◌, sum, take, ap, arith}
-use Rattle.btree_node.specs.Cut.{sizes_with}
-use Rattle.btree_node.proofs.Sizes.{cut_here, cut_last, larger_part-least, length-sizes_with, sizes_small, sum-sizes_with, sum-take-all, sum-take-more, nodes_are_some}
+-- The most even cut, but where it is the new node alone.
+use Rattle.std.proofs.Common.{◌≡◌, ◌+◌, ◌-◌, ◌<◌, ◌≤◌, ℕ, List, max, sym, subst, arith}
+use Rattle.std.specs.Prelude.{All}
+use Rattle.page_image.specs.Page.{Node, node_size, page_size}
+use Rattle.btree_node.specs.Cut.{IsCut, sizes_with}
+use Rattle.btree_node.specs.Parts.{larger_part}
+use Rattle.btree_node.proofs.Keeping.{cut_rising, first_cut, first_even, room_before, room_behind, two_nodes}
 use Rattle.btree_node.proofs.split_at.Goals as goal
 
-pub loop-m-preserved : goal.loop-m-preserved
-loop-m-preserved c =
-    let sizes = sizes_with c.args.page.now.nodes c.args.i c.args.need in
-    let small = sizes_small c.args.page.now.nodes c.args.i c.args.need c.requires.place c.requires.small c.requires.all_small c.loop-m.m (omega (arith, c.loop-m-test.true, c.len-count.ensures.value)) in
-    let more = sum-take-more sizes c.loop-m.m (omega (arith, c.loop-m-test.true, c.len-count.ensures.value, length-sizes_with c.args.page.now.nodes c.args.i c.args.need c.requires.place)) in
+-- ---- a node behind all others
+
+rising : (c : goal.Then-i-count) → IsCut c.args.page.now.nodes c.args.i c.args.need (c.len-count.result - 1)
+rising c =
+    let nodes = c.args.page.now.nodes in
+    let two = two_nodes nodes c.args.need c.requires.full c.requires.small c.requires.all_small in
+    cut_rising nodes c.args.i c.args.need (c.len-count.result - 1) (omega (arith, two, c.len-count.ensures.value, c.if-i-count.true)) (omega (arith, c.len-count.ensures.value, c.if-i-count.true)) two c.requires.small c.requires.all_small c.len-count.ensures.page.size
+
+pub returns-then-i-count-clause-cut : goal.returns-then-i-count-clause-cut
+returns-then-i-count-clause-cut c = rising c
+
+pub returns-then-i-count-clause-nodes : goal.returns-then-i-count-clause-nodes
+returns-then-i-count-clause-nodes c =
+    let cut = rising c in
     record {
-      within = omega arith;
-      total = omega (arith, c.loop-m.invariant.total, c.size_with-size.ensures, more);
-      left = omega (arith, c.if-before-size.false, c.used.ensures.within, c.requires.small, small, c.size_with-size.ensures);
-      less = λ j e.
-          let last : j ≡ c.loop-m.m = omega arith in
-          omega (arith, ap (λ k. sum (take k sizes)) last, c.loop-m.invariant.total, c.size_with-size.ensures, more, c.if-before-size.false, c.used.ensures.value, sum-sizes_with c.args.page.now.nodes c.args.i c.args.need);
+      first = cut.first;
+      first_other = λ low. absurd (omega (arith, low, c.if-i-count.true));
+      last = cut.last;
+      last_other = λ _. omega (arith, cut.first, c.len-count.ensures.value);
     }
 
-pub returns-after-loop-m-clause-cut : goal.returns-after-loop-m-clause-cut
-returns-after-loop-m-clause-cut c =
-    cut_last c.args.page.now.nodes c.args.i c.args.need c.loop-m.m c.loop-m.before c.requires.place c.requires.small c.requires.all_small (nodes_are_some c.args.page.now.nodes c.args.need c.requires.full c.requires.small)
-    (omega (arith, c.loop-m-test.false, c.loop-m.invariant.within, c.len-count.ensures.value)) c.loop-m.invariant.total c.loop-m.invariant.left
+pub returns-then-i-count-clause-before : goal.returns-then-i-count-clause-before
+returns-then-i-count-clause-before c = λ low. absurd (omega (arith, low, c.if-i-count.true))
 
-pub returns-after-loop-m-clause-even : goal.returns-after-loop-m-clause-even
-returns-after-loop-m-clause-even c = λ _ k.
-    larger_part-least (sizes_with c.args.page.now.nodes c.args.i c.args.need) c.loop-m.m k c.loop-m.invariant.less
-    (omega (arith, sum-take-all c.args.page.now.nodes c.args.i c.args.need c.loop-m.m c.requires.place (omega (arith, c.loop-m-test.false, c.loop-m.invariant.within, c.len-count.ensures.value))))
+pub returns-then-i-count-clause-behind : goal.returns-then-i-count-clause-behind
+returns-then-i-count-clause-behind c = λ high. room_behind c.args.page.now.nodes c.args.i c.args.need (c.len-count.result - 1) c.requires.place (rising c) high
 
-pub returns-then-before-size-clause-cut : goal.returns-then-before-size-clause-cut
-returns-then-before-size-clause-cut c =
-    cut_here c.args.page.now.nodes c.args.i c.args.need c.loop-m.m c.loop-m.before c.size_with-size.result (c.used.result - 32 + c.args.need) c.requires.place c.requires.small c.requires.all_small
-    (omega (arith, c.loop-m-test.true, c.len-count.ensures.value)) c.loop-m.invariant.total c.loop-m.invariant.left c.size_with-size.ensures (omega (arith, c.used.ensures.value)) c.if-before-size.true
-    (omega (arith, c.requires.full, c.used.ensures.value)) (omega (arith, c.used.ensures.within, c.requires.small))
+-- ---- a node before all others
 
-pub returns-then-before-size-clause-even : goal.returns-then-before-size-clause-even
-returns-then-before-size-clause-even c = λ _ k.
-    let sizes = sizes_with c.args.page.now.nodes c.args.i c.args.need in
-    let more = sum-take-more sizes c.loop-m.m (omega (arith, c.loop-m-test.true, c.len-count.ensures.value, length-sizes_with c.args.page.now.nodes c.args.i c.args.need c.requires.place)) in
-    larger_part-least sizes c.loop-m.m k c.loop-m.invariant.less
-    (omega (arith, c.loop-m.invariant.total, c.size_with-size.ensures, more, c.if-before-size.true, c.used.ensures.value, sum-sizes_with c.args.page.now.nodes c.args.i c.args.need))
+first_of_all : (nodes : List Node) (i need even : ℕ) → i ≡ 0 → 4096 < page_size nodes + need → need ≤ 2032 → All (λ n. node_size n ≤ 2032) nodes → IsCut nodes i need even → IsCut nodes i need (max even 2)
+first_of_all nodes i need even first full small all cut = first_cut nodes i need even first (two_nodes nodes need full small all) small all cut
+
+pub returns-then-i-eq0-clause-cut : goal.returns-then-i-eq0-clause-cut
+returns-then-i-eq0-clause-cut c = subst (IsCut c.args.page.now.nodes c.args.i c.args.need) (sym c.max.ensures) (first_of_all c.args.page.now.nodes c.args.i c.args.need c.even_cut-cut.result c.if-i-eq0.true c.requires.full c.requires.small c.requires.all_small c.even_cut-cut.ensures.cut)
+
+pub returns-then-i-eq0-clause-nodes : goal.returns-then-i-eq0-clause-nodes
+returns-then-i-eq0-clause-nodes c =
+    let cut = first_of_all c.args.page.now.nodes c.args.i c.args.need c.even_cut-cut.result c.if-i-eq0.true c.requires.full c.requires.small c.requires.all_small c.even_cut-cut.ensures.cut in
+    let is = c.max.ensures in
+    record {
+      first = omega (arith, is);
+      first_other = λ _. omega (arith, is);
+      last = omega (arith, is, cut.last);
+      last_other = λ high. absurd (omega (arith, high, is, c.if-i-eq0.true));
+    }
+
+pub returns-then-i-eq0-clause-before : goal.returns-then-i-eq0-clause-before
+returns-then-i-eq0-clause-before c =
+    room_before c.args.page.now.nodes c.args.i c.args.need c.max.result c.requires.place (subst (IsCut c.args.page.now.nodes c.args.i c.args.need) (sym c.max.ensures) (first_of_all c.args.page.now.nodes c.args.i c.args.need c.even_cut-cut.result c.if-i-eq0.true c.requires.full c.requires.small c.requires.all_small c.even_cut-cut.ensures.cut))
+
+pub returns-then-i-eq0-clause-behind : goal.returns-then-i-eq0-clause-behind
+returns-then-i-eq0-clause-behind c = λ high. absurd (omega (arith, high, c.max.ensures, c.if-i-eq0.true))
+
+pub returns-then-i-eq0-clause-even : goal.returns-then-i-eq0-clause-even
+returns-then-i-eq0-clause-even c = λ within k parts.
+    subst (λ r. larger_part (sizes_with c.args.page.now.nodes c.args.i c.args.need) r ≤ larger_part (sizes_with c.args.page.now.nodes c.args.i c.args.need) k) (sym c.max.ensures)
+    (first_even c.args.page.now.nodes c.args.i c.args.need c.even_cut-cut.result c.if-i-eq0.true (omega arith) c.even_cut-cut.ensures.cut.first c.even_cut-cut.ensures.even k parts)
+
+-- ---- any other
+
+pub returns-clause-nodes : goal.returns-clause-nodes
+returns-clause-nodes c =
+    let cut = c.even_cut-cut.ensures.cut in
+    record {
+      first = cut.first;
+      first_other = λ low. omega (arith, low, c.if-i-eq0.false);
+      last = cut.last;
+      last_other = λ high. omega (arith, high, c.requires.place, c.if-i-count.false, c.len-count.ensures.value);
+    }
+
+pub returns-clause-before : goal.returns-clause-before
+returns-clause-before c = room_before c.args.page.now.nodes c.args.i c.args.need c.even_cut-cut.result c.requires.place c.even_cut-cut.ensures.cut
+
+pub returns-clause-behind : goal.returns-clause-behind
+returns-clause-behind c = room_behind c.args.page.now.nodes c.args.i c.args.need c.even_cut-cut.result c.requires.place c.even_cut-cut.ensures.cut
+
+pub returns-clause-even : goal.returns-clause-even
+returns-clause-even c = λ within k parts. c.even_cut-cut.ensures.even k

@@ -1,6 +1,6 @@
 use Rattle.std.proofs.Common.{ℕ, ◌+◌, ◌-◌, ◌≡◌, ◌≤◌, sum, take}
 use Rattle.btree_node.specs.Cut.{sizes_with}
-use Rattle.btree_node.proofs.split_at.Given as goal
+use Rattle.btree_node.proofs.even_cut.Given as goal
 
 abbrev pub invariant-loop-m : goal.invariant-loop-m
 invariant-loop-m l = record {

@@ -1,6 +1,6 @@
 use Rattle.std.proofs.Common.{◌≡◌, ◌-◌, ◌≤◌, length, take}
 use Rattle.page_image.specs.Page.{page_size}
-use Rattle.btree_inplace.proofs.insert.half.Given as goal
+use Rattle.btree_node.proofs.half.Given as goal
 
 abbrev pub invariant-loop-m : goal.invariant-loop-m
 invariant-loop-m l = record {
