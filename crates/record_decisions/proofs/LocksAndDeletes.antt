@@ -1,6 +1,6 @@
 -- What decides Delete and GetLock.
 use Rattle.std.proofs.Common.{◌≡◌, ℕ, Bool, true, false, cond, [], ◌∷◌, ◌++◌, Option, Some, None, refl, sym, ap, ◌∙◌}
-use Rattle.std.specs.Prelude.{◌==◌, ◌+◌, not, nat_le, nat_lt, is_none, IsTrue}
+use Rattle.std.specs.Prelude.{◌==◌, ◌+◌, not, nat_le, nat_lt, is_none}
 use Rattle.jet_base.specs.declared.ids.CursorId.{CursorId}
 use Rattle.jet_base.specs.declared.ids.Session.{Session}
 use Rattle.jet_base.specs.declared.replies.Jet.{Jet}
@@ -31,7 +31,6 @@ use Rattle.session_local.specs.Finishing.{finished}
 use Rattle.session_local.specs.RecordCalls.{conflict_refusals, current, delete, drop_at, get_lock, hold_at}
 use Rattle.session_local.specs.Run.{flushes_step}
 use Rattle.version_cleanup.specs.Cleaning.{reader_in}
-use Rattle.version_cleanup.specs.LiveSessions.{are_rising}
 use Rattle.versioned_tables.specs.HeldRecords.{has_conflict}
 use Rattle.agreeing_sessions.specs.InStep.{IsInStep}
 use Rattle.engine_versions.specs.EngineState.{EngineState}
@@ -59,18 +58,18 @@ current-told sees engine state side label c h step found =
     ap (λ (r : Option RecordFields). (not (is_on c.cursor.place), jet.NoCurrentRecord) ∷ (is_none r, jet.RecordDeleted) ∷ [])
     (sym (sees engine state side.session side.state label c h step found (place_bookmark c.cursor.place)))
 
-pub room_told : TellsRoom → (engine : EngineState) (state : DatabaseState) (side : SessionSide) (made : Change) → HoldsState engine state → IsTrue (are_rising engine.sessions)
+pub room_told : TellsRoom → (engine : EngineState) (state : DatabaseState) (side : SessionSide) (made : Change) → HoldsState engine state
     → number_refusals (asked_by engine state side) ++ span_refusals (asked_by engine state side) made ≡ room_in engine made
-room_told rooms engine state side made h rising =
+room_told rooms engine state side made h =
     let before = version_span state + cost_of made (record_in (newest state) (changed_table made) (changed_bookmark made)) in
     ap (λ n. (nat_le log_limit n, jet.LogSequenceEnd) ∷ (nat_lt engine.limit before, jet.VersionStoreOutOfMemory) ∷ []) h.number
-    ∙ ap (λ n. (nat_le log_limit engine.number, jet.LogSequenceEnd) ∷ (nat_lt engine.limit n, jet.VersionStoreOutOfMemory) ∷ []) (sym (rooms engine state h rising made))
+    ∙ ap (λ n. (nat_le log_limit engine.number, jet.LogSequenceEnd) ∷ (nat_lt engine.limit n, jet.VersionStoreOutOfMemory) ∷ []) (sym (rooms engine state h made))
 
-pub change-told : TellsConflicts → TellsRoom → (engine : EngineState) (state : DatabaseState) (side : SessionSide) (made : Change) → HoldsState engine state → IsTrue (are_rising engine.sessions)
+pub change-told : TellsConflicts → TellsRoom → (engine : EngineState) (state : DatabaseState) (side : SessionSide) (made : Change) → HoldsState engine state
     → conflict_refusals (asked_by engine state side) made ++ number_refusals (asked_by engine state side) ++ span_refusals (asked_by engine state side) made ≡ change_in engine side.session made
-change-told conflicts rooms engine state side made h rising =
+change-told conflicts rooms engine state side made h =
     ap (λ b. (b, jet.WriteConflict) ∷ number_refusals (asked_by engine state side) ++ span_refusals (asked_by engine state side) made) (sym (conflicts engine state h side.session made))
-    ∙ ap (λ (rest : Refusals). (has_conflict (reader_in side.session engine.sessions) made engine.store.held, jet.WriteConflict) ∷ rest) (room_told rooms engine state side made h rising)
+    ∙ ap (λ (rest : Refusals). (has_conflict (reader_in side.session engine.sessions) made engine.store.held, jet.WriteConflict) ∷ rest) (room_told rooms engine state side made h)
 
 -- ---- steps
 
@@ -142,28 +141,28 @@ lock-outside engine session c is = by (is_outside_in engine session) is
 pub lock-shared : (side : SessionSide) (cursor : CursorId) → is_answered_locally side.state (call.GetLock cursor) ≡ false → (side.state.begun ≡ true) × (is_none (cursor_labelled side.state cursor.0) ≡ false)
 lock-shared side cursor shared = at_if side.state.begun (cursor_labelled side.state cursor.0) shared
 
-pub lock-changes : SeesRecords → TellsConflicts → TellsRoom → (engine : EngineState) (side : SessionSide) (cursor : CursorId) (c : OpenCursor) → IsTrue (are_rising engine.sessions) → is_answered_locally side.state (call.GetLock cursor) ≡ false
+pub lock-changes : SeesRecords → TellsConflicts → TellsRoom → (engine : EngineState) (side : SessionSide) (cursor : CursorId) (c : OpenCursor) → is_answered_locally side.state (call.GetLock cursor) ≡ false
     → cursor_labelled side.state cursor.0 ≡ Some c → Changes engine side (call.GetLock cursor) (lock_in engine side.session c) (hold_at c)
-lock-changes sees conflicts rooms engine side cursor c rising shared found = λ state h step.
+lock-changes sees conflicts rooms engine side cursor c shared found = λ state h step.
     let asked = asked_by engine state side in
     answer-begun asked (call.GetLock cursor) (lock-shared side cursor shared).0
     ∙ ap (λ o. on_cursor asked o (get_lock asked)) found
     ∙ ap (λ b. changed asked ((b, jet.NotInTransaction) ∷ current asked c ++ conflict_refusals asked (hold_at c) ++ number_refusals asked ++ span_refusals asked (hold_at c)) (hold_at c)) (outside-told engine state side h)
     ∙ ap (λ (l : Refusals). changed asked ((is_outside_in engine side.session, jet.NotInTransaction) ∷ l ++ conflict_refusals asked (hold_at c) ++ number_refusals asked ++ span_refusals asked (hold_at c)) (hold_at c))
     (current-told sees engine state side cursor.0 c h step found)
-    ∙ ap (λ (l : Refusals). changed asked ((is_outside_in engine side.session, jet.NotInTransaction) ∷ current_in engine side.session c ++ l) (hold_at c)) (change-told conflicts rooms engine state side (hold_at c) h rising)
+    ∙ ap (λ (l : Refusals). changed asked ((is_outside_in engine side.session, jet.NotInTransaction) ∷ current_in engine side.session c ++ l) (hold_at c)) (change-told conflicts rooms engine state side (hold_at c) h)
 
 -- ---- Delete
 
 pub delete-shared : (side : SessionSide) (cursor : CursorId) → is_answered_locally side.state (call.Delete cursor) ≡ false → (side.state.begun ≡ true) × (is_none (cursor_labelled side.state cursor.0) ≡ false)
 delete-shared side cursor shared = at_if side.state.begun (cursor_labelled side.state cursor.0) shared
 
-pub delete-changes : SeesRecords → TellsConflicts → TellsRoom → (engine : EngineState) (side : SessionSide) (cursor : CursorId) (c : OpenCursor) → IsTrue (are_rising engine.sessions) → is_answered_locally side.state (call.Delete cursor) ≡ false
+pub delete-changes : SeesRecords → TellsConflicts → TellsRoom → (engine : EngineState) (side : SessionSide) (cursor : CursorId) (c : OpenCursor) → is_answered_locally side.state (call.Delete cursor) ≡ false
     → cursor_labelled side.state cursor.0 ≡ Some c → Changes engine side (call.Delete cursor) (delete_in engine side.session side.state c) (drop_at c)
-delete-changes sees conflicts rooms engine side cursor c rising shared found = λ state h step.
+delete-changes sees conflicts rooms engine side cursor c shared found = λ state h step.
     let asked = asked_by engine state side in
     answer-begun asked (call.Delete cursor) (delete-shared side cursor shared).0
     ∙ ap (λ o. on_cursor asked o (delete asked)) found
     ∙ ap (λ (l : Refusals). changed asked (l ++ own_in side.state c ++ conflict_refusals asked (drop_at c) ++ number_refusals asked ++ span_refusals asked (drop_at c)) (drop_at c))
     (current-told sees engine state side cursor.0 c h step found)
-    ∙ ap (λ (l : Refusals). changed asked (current_in engine side.session c ++ own_in side.state c ++ l) (drop_at c)) (change-told conflicts rooms engine state side (drop_at c) h rising)
+    ∙ ap (λ (l : Refusals). changed asked (current_in engine side.session c ++ own_in side.state c ++ l) (drop_at c)) (change-told conflicts rooms engine state side (drop_at c) h)

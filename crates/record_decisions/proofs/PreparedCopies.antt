@@ -40,7 +40,6 @@ use Rattle.engine_versions.specs.EngineState.{EngineState}
 use Rattle.engine_versions.specs.HoldsState.{HoldsState}
 use Rattle.engine_versions.proofs.WellFormed.{no_sums}
 use Rattle.engine_parts.specs.Deciding.{Decides, IsBeside, IsDecision, IsLawfulStep}
-use Rattle.version_cleanup.specs.LiveSessions.{are_rising}
 use Rattle.record_decisions.specs.Changing.{SeesRecords, TellsConflicts, TellsRoom, change_in, current_in, is_outside_in, own_in, record_for, step_by}
 use Rattle.record_decisions.specs.Preparing.{HasFormedRecords, IsCopied, copy_in, copy_of, replace_in, replace_of, values_seen}
 use Rattle.record_decisions.proofs.Chains.{unless-refused, unless-passed}
@@ -211,10 +210,10 @@ values-told sees engine state side label c h step found =
 abbrev pub lock_step : EngineState → ℕ → OpenCursor → Option Step
 lock_step engine session c = Some (step_by (is_outside_in engine session) (changed_by session (hold_at c)))
 
-pub replace-prepares : SeesRecords → TellsConflicts → TellsRoom → (engine : EngineState) (side : SessionSide) (cursor : CursorId) (c : OpenCursor) → IsTrue (are_rising engine.sessions) → is_answered_locally side.state (call.PrepareUpdate cursor prepare.Replace) ≡ false
+pub replace-prepares : SeesRecords → TellsConflicts → TellsRoom → (engine : EngineState) (side : SessionSide) (cursor : CursorId) (c : OpenCursor) → is_answered_locally side.state (call.PrepareUpdate cursor prepare.Replace) ≡ false
     → cursor_labelled side.state cursor.0 ≡ Some c
     → Prepares engine side (call.PrepareUpdate cursor prepare.Replace) (replace_in engine side.session side.state c) c (replace_of engine side.session c) (lock_step engine side.session c)
-replace-prepares sees conflicts rooms engine side cursor c rising shared found = λ state h step.
+replace-prepares sees conflicts rooms engine side cursor c shared found = λ state h step.
     let asked = asked_by engine state side in
     let by : Refusals → RecordFields → Option Step → Outcome = λ refusals values step. prepared_by asked refusals c (record { for = replacing (bookmark_at c); values = values }) step in
     let values = record_at asked c in
@@ -224,7 +223,7 @@ replace-prepares sees conflicts rooms engine side cursor c rising shared found =
     ∙ ap (λ b. by (prepared_refusals c ++ (b, jet.NotInTransaction) ∷ current asked c ++ own_refusals asked c ++ conflict_refusals asked (hold_at c) ++ number_refusals asked ++ span_refusals asked (hold_at c)) values made) (outside-told engine state side h)
     ∙ ap (λ (l : Refusals). by (prepared_refusals c ++ (is_outside_in engine side.session, jet.NotInTransaction) ∷ l ++ own_refusals asked c ++ conflict_refusals asked (hold_at c) ++ number_refusals asked ++ span_refusals asked (hold_at c)) values made)
     (current-told sees engine state side cursor.0 c h step found)
-    ∙ ap (λ (l : Refusals). by (prepared_refusals c ++ (is_outside_in engine side.session, jet.NotInTransaction) ∷ current_in engine side.session c ++ own_in side.state c ++ l) values made) (change-told conflicts rooms engine state side (hold_at c) h rising)
+    ∙ ap (λ (l : Refusals). by (prepared_refusals c ++ (is_outside_in engine side.session, jet.NotInTransaction) ∷ current_in engine side.session c ++ own_in side.state c ++ l) values made) (change-told conflicts rooms engine state side (hold_at c) h)
     ∙ ap (λ (v : RecordFields). by (replace_in engine side.session side.state c) v made) (values-told sees engine state side cursor.0 c h step found)
     ∙ ap (λ (s : Option Step). by (replace_in engine side.session side.state c) (values_seen engine side.session c) s) (step_of_change-told engine state side (hold_at c) (is_outside_in engine side.session) h refl)
 

@@ -1,7 +1,6 @@
 -- What decides the schema calls that go over no record.
 use Rattle.std.proofs.Common.{◌≡◌, ℕ, suc, ◌≤◌, ◌<◌, Bool, true, false, cond, ◌&&◌, ◌||◌, List, [], ◌∷◌, length, map, Option, Some, None, Result, Ok, Err, refl, sym, ap, subst, ◌∙◌, option_map, unwrap_or, arith}
 use Rattle.std.specs.Prelude.{◌==◌, nat_le, nat_lt, not, bytes_eq, is_none, is_some, IfSome, IsTrue}
-use Rattle.std.specs.List.{list_any}
 use Rattle.std.specs.Option.{option_or}
 use Rattle.std.proofs.lemmas.Bool.Decides.{nat_tests}
 use Rattle.jet_base.specs.declared.replies.Jet.{Jet}
@@ -16,7 +15,7 @@ use Rattle.index_derive.specs.declared.schema_calls.SchemaStep.{SchemaStep}
 use Rattle.index_derive.specs.Entries.{own_order}
 use Rattle.cursor_nav.specs.Places.{entry_after}
 use Rattle.database_state.specs.Table.{Rows, Table, rows_of, table_named, table_with_id}
-use Rattle.database_state.specs.State.{DatabaseState, LiveSession, PastChange, Transaction, levels_of, transaction_of}
+use Rattle.database_state.specs.State.{DatabaseState, PastChange, Transaction, levels_of, transaction_of}
 use Rattle.database_state.specs.View.{view, view_in}
 use Rattle.database_state.specs.Lawful.{is_name, log_limit}
 use Rattle.database_state.specs.Refusals.{Refusals, first_refusal}
@@ -25,7 +24,7 @@ use Rattle.database_state.specs.SchemaSteps.{called_name, step_of_call}
 use Rattle.record_changes.specs.Records.{Records}
 use Rattle.version_history.specs.History.{IsBegun}
 use Rattle.version_keys.specs.TableOrder.{HasTablesInOrder}
-use Rattle.version_cleanup.specs.LiveSessions.{has_open, has_other_transaction, levels_in, live_state, without_snapshot}
+use Rattle.version_cleanup.specs.LiveSessions.{levels_in}
 use Rattle.jet_catalog.specs.Catalog.{CatalogState, IsNumbered, catalog_of, database_of, ids_rise, without_rows}
 use Rattle.jet_catalog.specs.Decisions.{call_refusals, called_table, decided, makes_named, refused_or, refusal_after, session_refusals, table_or_new}
 use Rattle.session_local.specs.declared.request.Request.{Request}
@@ -59,6 +58,8 @@ pub record SchemaLaws : Type 0 where
   pub decisions : (state : DatabaseState) (holds_records : Bool) (asked : SchemaCall) → decided (database_of (catalog_of state)) holds_records asked ≡ decided state holds_records asked
   pub named : (tables : List Table) (name : List ℕ) → table_named (map without_rows tables) name ≡ option_map without_rows (table_named tables name)
   pub shows : ShowsView
+  pub uses : (engine : EngineState) (state : DatabaseState) → HoldsState engine state → (session : ℕ) (found : Option Table) → is_in_use state session found ≡ is_used engine session found
+  pub catalog : (engine : EngineState) (state : DatabaseState) → HoldsState engine state → catalog_of state ≡ catalog_in engine
 
 -- ---- the request
 
@@ -104,33 +105,12 @@ no_index _ called state t changes same = cc
 
 -- ---- what sessions do
 
-pub catalog-told : (engine : EngineState) (state : DatabaseState) → HoldsState engine state → catalog_of state ≡ catalog_in engine
-catalog-told engine state h =
-    let made : ℕ → List Table → CatalogState = λ greatest tables. record { greatest_table = greatest; tables = tables } in
-    ap (λ greatest. made greatest (map without_rows state.tables)) h.greatest ∙ ap (made engine.greatest_table) (sym h.holds.defined)
-
 pub found-told : SchemaLaws → (engine : EngineState) (state : DatabaseState) (called : SchemaCall) → HoldsState engine state → engine_table engine called ≡ option_map without_rows (called_table state called)
 found-told laws engine state called h = ap (λ (tables : List Table). table_named tables (called_name called)) h.holds.defined ∙ laws.named state.tables (called_name called)
 
-is_some-live : (transaction : Option Transaction) → is_some (option_map without_snapshot transaction) ≡ is_some transaction
-is_some-live None = refl
-is_some-live (Some t) = refl
-
-other-live : (session : ℕ) (sessions : List LiveSession) → has_other_transaction session (map live_state sessions) ≡ list_any (λ (s : LiveSession). not (s.label == session) && is_some s.transaction) sessions
-other-live session [] = refl
-other-live session (s ∷ rest) =
-    ap (λ b. (not (s.label == session) && b) || has_other_transaction session (map live_state rest)) (is_some-live s.transaction)
-    ∙ ap (λ b. (not (s.label == session) && is_some s.transaction) || b) (other-live session rest)
-
-open-live : (table : ℕ) (sessions : List LiveSession) → has_open table (map live_state sessions) ≡ list_any (λ (s : LiveSession). list_any (λ id. id == table) s.open_tables) sessions
-open-live table [] = refl
-open-live table (s ∷ rest) = ap (λ b. list_any (λ id. id == table) s.open_tables || b) (open-live table rest)
-
-used-told : (engine : EngineState) (state : DatabaseState) (session : ℕ) (found : Option Table) → HoldsState engine state → is_in_use state session found ≡ is_used engine session (option_map without_rows found)
-used-told engine state session None h = ap (λ b. b || false) (sym (other-live session state.sessions) ∙ ap (has_other_transaction session) h.sessions)
-used-told engine state session (Some t) h =
-    ap (λ b. b || list_any (λ (s : LiveSession). list_any (λ id. id == t.id) s.open_tables) state.sessions) (sym (other-live session state.sessions) ∙ ap (has_other_transaction session) h.sessions)
-    ∙ ap (λ b. has_other_transaction session engine.sessions || b) (sym (open-live t.id state.sessions) ∙ ap (has_open t.id) h.sessions)
+used-told : SchemaLaws → (engine : EngineState) (state : DatabaseState) (session : ℕ) (found : Option Table) → HoldsState engine state → is_in_use state session found ≡ is_used engine session (option_map without_rows found)
+used-told laws engine state session None h = laws.uses engine state h session None
+used-told laws engine state session (Some t) h = laws.uses engine state h session (Some t)
 
 missing : (found : Option Table) → is_none found ≡ is_none (option_map without_rows found)
 missing None = refl
@@ -152,7 +132,7 @@ sessions-told : SchemaLaws → (engine : EngineState) (state : DatabaseState) (s
 sessions-told laws engine state session called h =
     let absent : is_none (called_table state called) ≡ is_none (engine_table engine called) = missing (called_table state called) ∙ ap is_none (sym (found-told laws engine state called h)) in
     let used : is_in_use state session (called_table state called) ≡ is_used engine session (engine_table engine called) =
-    used-told engine state session (called_table state called) h ∙ ap (is_used engine session) (sym (found-told laws engine state called h)) in
+    used-told laws engine state session (called_table state called) h ∙ ap (is_used engine session) (sym (found-told laws engine state called h)) in
     ap (λ n. of_sessions (n == 0) (makes_table (step_of_call state called)) (is_none (called_table state called)) (is_in_use state session (called_table state called))) (levels-told engine state session h)
     ∙ ap (λ b. of_sessions (levels_in session engine.sessions == 0) b (is_none (called_table state called)) (is_in_use state session (called_table state called))) (makes state called)
     ∙ ap (λ b. of_sessions (levels_in session engine.sessions == 0) (makes_new called) b (is_in_use state session (called_table state called))) absent
@@ -250,7 +230,7 @@ decided-told : SchemaLaws → (engine : EngineState) (state : DatabaseState) (se
 decided-told laws engine state session called h rise outside =
     ap (λ holds. decided state holds called) (records-told laws engine state session called h rise outside)
     ∙ sym (laws.decisions state (has_rows_in engine session (engine_table engine called)) called)
-    ∙ ap (λ (c : CatalogState). decided (database_of c) (has_rows_in engine session (engine_table engine called)) called) (catalog-told engine state h)
+    ∙ ap (λ (c : CatalogState). decided (database_of c) (has_rows_in engine session (engine_table engine called)) called) (laws.catalog engine state h)
 
 -- a step that is decided is the one that is asked for
 made_as : (refusal : Option Jet) (asked made : SchemaStep) → refused_or refusal asked ≡ Ok made → asked ≡ made
@@ -263,7 +243,7 @@ made-decided state holds called made is = made_as (first_refusal (call_refusals 
 
 made-told : SchemaLaws → (engine : EngineState) (state : DatabaseState) (session : ℕ) (called : SchemaCall) (made : SchemaStep) → HoldsState engine state → decided_in engine session called ≡ Ok made → step_of_call state called ≡ made
 made-told laws engine state session called made h is =
-    sym (laws.steps state called) ∙ ap (λ (c : CatalogState). step_of_call (database_of c) called) (catalog-told engine state h)
+    sym (laws.steps state called) ∙ ap (λ (c : CatalogState). step_of_call (database_of c) called) (laws.catalog engine state h)
     ∙ made-decided (database_of (catalog_in engine)) (has_rows_in engine session (engine_table engine called)) called made is
 
 -- ---- decisions
@@ -278,7 +258,7 @@ refusal-told : SchemaLaws → (engine : EngineState) (side : SessionSide) (reque
     → schema_refusal state side.session (step_of_call state called)
     ≡ option_or (first_refusal (sessions_in engine side.session called)) (refusal_after (decided state (has_records (table_or_new state called)) called) (table_or_new state called))
 refusal-told laws engine side request called state h asked =
-    laws.composed state side.session called (subst IsNumbered (sym (catalog-told engine state h)) asked.rise)
+    laws.composed state side.session called (subst IsNumbered (sym (laws.catalog engine state h)) asked.rise)
     ∙ ap (λ (l : Refusals). option_or (first_refusal l) (refusal_after (decided state (has_records (table_or_new state called)) called) (table_or_new state called))) (sessions-told laws engine state side.session called h)
 
 -- the outcome by what refuses it, and whether the log is full

@@ -42,6 +42,6 @@ abbrev pub TellsNewest : Type 0
 TellsNewest = (engine : EngineState) (state : DatabaseState) → HoldsState engine state → (table : ℕ) (bookmark : List ℕ) → record_in engine.store.tables table bookmark ≡ record_in (newest state) table bookmark
 
 pub room-told : TellsSpan → TellsNewest → TellsRoom
-room-told spans records engine state h rising made =
+room-told spans records engine state h made =
     ap (λ n. n + cost_of made (record_in engine.store.tables (changed_table made) (changed_bookmark made))) (spans engine state h)
     ∙ ap (λ (before : Option RecordFields). version_span state + cost_of made before) (records engine state h (changed_table made) (changed_bookmark made))

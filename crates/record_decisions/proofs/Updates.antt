@@ -30,7 +30,6 @@ use Rattle.session_local.specs.Outcome.{Asked, Outcome, done, refused, unless, n
 use Rattle.session_local.specs.RecordCalls.{bookmark_for, copied_in, inserted_bookmark, is_primary_changed, on_prepared, replaced_by, update, update_with}
 use Rattle.session_local.specs.SessionSide.{SessionSide}
 use Rattle.session_local.specs.Showing.{names_within}
-use Rattle.version_cleanup.specs.LiveSessions.{are_rising}
 use Rattle.agreeing_sessions.specs.InStep.{IsInStep}
 use Rattle.engine_versions.specs.EngineState.{EngineState}
 use Rattle.engine_versions.specs.HoldsState.{HoldsState}
@@ -107,14 +106,14 @@ update-put asked c p bookmark copied is was =
 
 -- the same by what the engine holds
 updated-as : SeesRecords → TellsRoom → TellsKeys → (engine : EngineState) (state : DatabaseState) (side : SessionSide) (label : ℕ) (c : OpenCursor) (p : PreparedUpdate) → HoldsState engine state → IsInStep state side.session side.state
-    → IsTrue (are_rising engine.sessions) → cursor_labelled side.state label ≡ Some c
+    → cursor_labelled side.state label ≡ Some c
     → update_with (asked_by engine state side) c p ≡ unless (asked_by engine state side) (update_in engine side.session c p) (λ _. done_with (asked_by engine state side) c (put_by engine side.session c p))
-updated-as sees rooms tells engine state side label c p h step rising found =
+updated-as sees rooms tells engine state side label c p h step found =
     let asked = asked_by engine state side in
     let put = put_by engine side.session c p in
     update-put asked c p (bookmark_by engine side.session c.schema p.for p.values) (copied_by engine side.session c.cursor.table p.for) (bookmark-told engine state side c.schema p.for p.values h) (copied-told sees engine state side label c p.for h step found)
     ∙ ap (λ (x : Refusals). put_at asked c p x (room_of asked put) put) (sym (tells engine state side.session side.state label c h step found (replaced_by p.for) p.values))
-    ∙ ap (λ (x : Refusals). put_at asked c p (keys_in engine side.session c.cursor.table c.schema (replaced_by p.for) p.values) x put) (room_told rooms engine state side put h rising)
+    ∙ ap (λ (x : Refusals). put_at asked c p (keys_in engine side.session c.cursor.table c.schema (replaced_by p.for) p.values) x put) (room_told rooms engine state side put h)
 
 -- ---- by what is made
 
@@ -136,33 +135,33 @@ came-by asked label c refusals put (Ok made) found is =
 came-by asked label c refusals put (Err reply) found is = unless-refused asked refusals (λ _. done_with asked c put) reply is
 
 came-on : SeesRecords → TellsRoom → TellsKeys → (engine : EngineState) (state : DatabaseState) (side : SessionSide) (label : ℕ) (c : OpenCursor) (prepared : Option PreparedUpdate) (made : Result Change Jet) → HoldsState engine state
-    → IsInStep state side.session side.state → IsTrue (are_rising engine.sessions) → cursor_labelled side.state label ≡ Some c → IsMadeOf engine side.session c prepared made
+    → IsInStep state side.session side.state → cursor_labelled side.state label ≡ Some c → IsMadeOf engine side.session c prepared made
     → on_prepared (asked_by engine state side) prepared (update_with (asked_by engine state side) c) ≡ came_to (asked_by engine state side) label made
-came-on sees rooms tells engine state side label c None made h step rising found is = ap (came_to (asked_by engine state side) label) (sym is)
-came-on sees rooms tells engine state side label c (Some p) made h step rising found is =
-    updated-as sees rooms tells engine state side label c p h step rising found
+came-on sees rooms tells engine state side label c None made h step found is = ap (came_to (asked_by engine state side) label) (sym is)
+came-on sees rooms tells engine state side label c (Some p) made h step found is =
+    updated-as sees rooms tells engine state side label c p h step found
     ∙ came-by (asked_by engine state side) label c (update_in engine side.session c p) (put_by engine side.session c p) made found is
 
 came-at : SeesRecords → TellsRoom → TellsKeys → (engine : EngineState) (state : DatabaseState) (side : SessionSide) (label : ℕ) (labelled : Option OpenCursor) (made : Result Change Jet) → HoldsState engine state → IsInStep state side.session side.state
-    → IsTrue (are_rising engine.sessions) → is_none labelled ≡ false → cursor_labelled side.state label ≡ labelled → IfSome labelled (λ c. IsMadeOf engine side.session c c.prepared made)
+    → is_none labelled ≡ false → cursor_labelled side.state label ≡ labelled → IfSome labelled (λ c. IsMadeOf engine side.session c c.prepared made)
     → on_cursor (asked_by engine state side) labelled (update (asked_by engine state side)) ≡ came_to (asked_by engine state side) label made
-came-at sees rooms tells engine state side label None made h step rising there found is = not_there there
-came-at sees rooms tells engine state side label (Some c) made h step rising there found is = came-on sees rooms tells engine state side label c c.prepared made h step rising found is
+came-at sees rooms tells engine state side label None made h step there found is = not_there there
+came-at sees rooms tells engine state side label (Some c) made h step there found is = came-on sees rooms tells engine state side label c c.prepared made h step found is
 
 -- the answer is what was made
 answer-came : SeesRecords → TellsRoom → TellsKeys → (engine : EngineState) (state : DatabaseState) (side : SessionSide) (cursor : CursorId) (made : Result Change Jet) → HoldsState engine state → IsInStep state side.session side.state
-    → IsTrue (are_rising engine.sessions) → is_answered_locally side.state (call.Update cursor) ≡ false → MadeAt engine side cursor made → answer (asked_by engine state side) (call.Update cursor) ≡ came_to (asked_by engine state side) cursor.0 made
-answer-came sees rooms tells engine state side cursor made h step rising shared is =
+    → is_answered_locally side.state (call.Update cursor) ≡ false → MadeAt engine side cursor made → answer (asked_by engine state side) (call.Update cursor) ≡ came_to (asked_by engine state side) cursor.0 made
+answer-came sees rooms tells engine state side cursor made h step shared is =
     let held = update-shared side cursor shared in
     answer-begun (asked_by engine state side) (call.Update cursor) held.0
-    ∙ came-at sees rooms tells engine state side cursor.0 (cursor_labelled side.state cursor.0) made h step rising held.1 refl is
+    ∙ came-at sees rooms tells engine state side cursor.0 (cursor_labelled side.state cursor.0) made h step held.1 refl is
 
 -- ---- decisions
 
-pub update-refused : SeesRecords → TellsRoom → TellsKeys → (engine : EngineState) (side : SessionSide) (cursor : CursorId) (reply : Jet) → IsTrue (are_rising engine.sessions) → is_answered_locally side.state (call.Update cursor) ≡ false
+pub update-refused : SeesRecords → TellsRoom → TellsKeys → (engine : EngineState) (side : SessionSide) (cursor : CursorId) (reply : Jet) → is_answered_locally side.state (call.Update cursor) ≡ false
     → MadeAt engine side cursor (Err reply) → Decides engine side (call.Update cursor) side (refused_with reply)
-update-refused sees rooms tells engine side cursor reply rising shared made = λ state h step.
-    answer-refused (asked_by engine state side) (call.Update cursor) side reply refl (answer-came sees rooms tells engine state side cursor (Err reply) h step rising shared made)
+update-refused sees rooms tells engine side cursor reply shared made = λ state h step.
+    answer-refused (asked_by engine state side) (call.Update cursor) side reply refl (answer-came sees rooms tells engine state side cursor (Err reply) h step shared made)
 
 -- success with a step and a value
 abbrev pub shown_by_step : Step → Value → Bool → Decision
@@ -171,13 +170,13 @@ shown_by_step step value flush = record { step = Some step; reply = record { jet
 abbrev success : ShownValue → Answered
 success shown = record { jet = jet.Success; shown = shown }
 
-pub update-done : SeesRecords → TellsRoom → TellsKeys → (engine : EngineState) (side new : SessionSide) (cursor : CursorId) (put : Change) (value : Value) (alone : Bool) → IsTrue (are_rising engine.sessions)
+pub update-done : SeesRecords → TellsRoom → TellsKeys → (engine : EngineState) (side new : SessionSide) (cursor : CursorId) (put : Change) (value : Value) (alone : Bool)
     → is_answered_locally side.state (call.Update cursor) ≡ false → MadeAt engine side cursor (Ok put) → is_outside_in engine side.session ≡ alone
     → shown_by value new.reply ≡ whole (changed_bookmark put) → new.state ≡ side.state
     → Decides engine side (call.Update cursor) new (shown_by_step (step_by alone (changed_by side.session put)) value alone)
-update-done sees rooms tells engine side new cursor put value alone rising shared made outside shown same = λ state h step.
+update-done sees rooms tells engine side new cursor put value alone shared made outside shown same = λ state h step.
     answer-is (asked_by engine state side) (call.Update cursor) new (shown_by_step (step_by alone (changed_by side.session put)) value alone) (came_to (asked_by engine state side) cursor.0 (Ok put))
-    (answer-came sees rooms tells engine state side cursor (Ok put) h step rising shared made)
+    (answer-came sees rooms tells engine state side cursor (Ok put) h step shared made)
     (ap success shown)
     (sym (step_of_change-told engine state side put alone h outside))
     (ap (λ (l : LocalState). with_update_at l cursor.0 None) same)

@@ -1,5 +1,5 @@
 -- Why the engine refuses a change of a record, by what it holds.
-use Rattle.std.specs.Prelude.{ℕ, ◌+◌, ◌==◌, Bool, true, false, not, nat_le, nat_lt, List, [], ◌∷◌, ◌++◌, ◌≡◌, Some, IsTrue, is_none}
+use Rattle.std.specs.Prelude.{ℕ, ◌+◌, ◌==◌, Bool, true, false, not, nat_le, nat_lt, List, [], ◌∷◌, ◌++◌, ◌≡◌, Some, is_none}
 use Rattle.jet_base.specs.declared.replies.Jet.TheVariants as jet
 use Rattle.column_set.specs.declared.changes.Change.{Change}
 use Rattle.index_derive.specs.declared.log.Entry.{Entry}
@@ -16,7 +16,7 @@ use Rattle.database_state.specs.Lawful.{log_limit}
 use Rattle.session_local.specs.Local.{LocalState, OpenCursor, cursor_labelled, has_replace_of, is_on, place_bookmark}
 use Rattle.session_local.specs.RecordCalls.{bookmark_at, drop_at, hold_at}
 use Rattle.version_cleanup.specs.Cleaning.{reader_in}
-use Rattle.version_cleanup.specs.LiveSessions.{are_rising, levels_in, oldest_begin}
+use Rattle.version_cleanup.specs.LiveSessions.{levels_in, oldest_begin}
 use Rattle.versioned_tables.specs.HeldRecords.{has_conflict, span}
 use Rattle.engine_versions.specs.EngineState.{EngineState}
 use Rattle.engine_versions.specs.HoldsState.{HoldsState, asked_of}
@@ -82,8 +82,7 @@ abbrev pub TellsConflicts : Type 0
 TellsConflicts =
     (engine : EngineState) (state : DatabaseState) → HoldsState engine state → (session : ℕ) (made : Change) → has_conflict (reader_in session engine.sessions) made engine.store.held ≡ has_write_conflict state session made
 
--- the labels of the sessions rise, as the list of the live sessions keeps them
 abbrev pub TellsRoom : Type 0
 TellsRoom =
-    (engine : EngineState) (state : DatabaseState) → HoldsState engine state → IsTrue (are_rising engine.sessions) → (made : Change)
+    (engine : EngineState) (state : DatabaseState) → HoldsState engine state → (made : Change)
     → span_with engine made ≡ version_span state + cost_of made (record_in (newest state) (changed_table made) (changed_bookmark made))

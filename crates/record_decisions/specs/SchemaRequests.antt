@@ -16,19 +16,11 @@ use Rattle.jet_catalog.specs.Decisions.{decided}
 use Rattle.session_local.specs.declared.request.Request.{Request}
 use Rattle.session_local.specs.declared.request.Request.TheVariants as call
 use Rattle.version_cleanup.specs.Cleaning.{reader_in}
-use Rattle.version_cleanup.specs.LiveSessions.{has_open, has_other_transaction, levels_in}
+use Rattle.version_cleanup.specs.LiveSessions.{has_other_transaction, levels_in}
 use Rattle.versioned_tables.specs.VersionedTables.{seen_tables}
-use Rattle.engine_versions.specs.EngineState.{EngineState}
+use Rattle.engine_versions.specs.EngineState.{EngineState, has_table_open}
 
--- the calls that make or delete a table or a column, or delete an index
-abbrev pub is_schema_request : Request → Bool
-is_schema_request (call.CreateTable table) = true
-is_schema_request (call.DeleteTable table) = true
-is_schema_request (call.AddColumn table column kind flags) = true
-is_schema_request (call.DeleteColumn table column) = true
-is_schema_request (call.DeleteIndex table index) = true
-is_schema_request _ = false
-
+-- the schema call that a call is
 abbrev pub schema_call_of : Request → Option SchemaCall
 schema_call_of (call.CreateTable table) = Some (schema.CreateTable table)
 schema_call_of (call.DeleteTable table) = Some (schema.DeleteTable table)
@@ -37,6 +29,11 @@ schema_call_of (call.DeleteColumn table column) = Some (schema.DeleteColumn tabl
 schema_call_of (call.CreateIndex table index flags key_most segments conditions) = Some (schema.CreateIndex table index flags key_most segments conditions)
 schema_call_of (call.DeleteIndex table index) = Some (schema.DeleteIndex table index)
 schema_call_of _ = None
+
+-- the schema calls that go over no record: those that make no index
+abbrev pub is_schema_request : Request → Bool
+is_schema_request (call.CreateIndex table index flags key_most segments conditions) = false
+is_schema_request request = is_some (schema_call_of request)
 
 -- whether the call makes a table, and so needs none
 abbrev pub makes_new : SchemaCall → Bool
@@ -60,14 +57,9 @@ engine_table engine called = table_named (map without_rows engine.store.tables) 
 abbrev pub is_missing : SchemaCall → Option Table → Bool
 is_missing called found = not (makes_new called) && is_none found
 
--- whether any session has a cursor open on a table that was found
-abbrev pub is_open_on : EngineState → Option Table → Bool
-is_open_on engine None = false
-is_open_on engine (Some table) = has_open table.id engine.sessions
-
 -- whether another session is in a transaction, or any has the table open
 abbrev pub is_used : EngineState → ℕ → Option Table → Bool
-is_used engine session found = has_other_transaction session engine.sessions || is_open_on engine found
+is_used engine session found = has_other_transaction session engine.sessions || has_table_open engine.sessions found
 
 -- the records of a table that the session sees
 abbrev pub rows_for : EngineState → ℕ → ℕ → Rows

@@ -1,13 +1,12 @@
 //! Delete and GetLock, and what refuses a change of a record.
 
-ghost use Rattle.std.specs.Prelude.{◌≡◌, false, IfOk, IsTrue, nat_lt};
+ghost use Rattle.std.specs.Prelude.{◌≡◌, false, IfOk, nat_lt};
 ghost use Rattle.database_state.specs.Refusals.{first_refusal};
 ghost use Rattle.session_local.specs.declared.request.Request.TheVariants as call;
 ghost use Rattle.session_local.specs.Local.{has_replace_of, is_replace_of};
 ghost use Rattle.session_local.specs.LocalCalls.{is_answered_locally};
 ghost use Rattle.session_local.specs.RecordCalls.{bookmark_at, drop_at, hold_at};
 ghost use Rattle.index_derive.specs.declared.log.EntryKind.TheVariants as entry;
-ghost use Rattle.version_cleanup.specs.LiveSessions.{are_rising};
 ghost use Rattle.engine_parts.specs.Deciding.{Decides, IsDecision};
 ghost use Rattle.record_decisions.specs.Changing.{change_in, current_in, delete_in, lock_in, own_in, span_with, step_by};
 
@@ -31,7 +30,6 @@ pub fn get_lock(engine: &Engine, local: &Local, cursor: CursorId) -> Result<Deci
     sessions_see_their_records();
     changes_are_refused_alike();
     the_step_of_a_lock_is_lawful();
-    labels_rise(engine);
     let Some(found) = local.cursor(cursor) else {
         unreachable!()
     };
@@ -52,7 +50,6 @@ pub fn delete(engine: &Engine, local: &Local, cursor: CursorId) -> Result<Decisi
     sessions_see_their_records();
     changes_are_refused_alike();
     the_step_of_a_delete_is_lawful();
-    labels_rise(engine);
     let Some(found) = local.cursor(cursor) else {
         unreachable!()
     };
@@ -65,13 +62,6 @@ pub fn delete(engine: &Engine, local: &Local, cursor: CursorId) -> Result<Decisi
             Ok(done(change_step(session, change, outside), outside))
         }
     }
-}
-
-/// The labels of the live sessions rise.
-pub(crate) fn labels_rise(engine: &Engine)
-    ensures { IsTrue (are_rising engine.now.sessions) }
-{
-    let _count = engine.sessions().len();
 }
 
 // Why a record may not be locked.

@@ -11,7 +11,9 @@ use crate::answers::{done, is_full, one, refused};
 use crate::index_records::records_refusal;
 use crate::schema_calls::{called_table, has_records, sessions_refusal};
 use engine_parts::Engine;
-use engine_versions::an_answer_is_lawful_and_stays_in_step;
+use engine_versions::{
+    an_answer_is_lawful_and_stays_in_step, tables_are_told, uses_are_told,
+};
 use index_derive::{EntryKind, NamedCondition, NamedSegment, SchemaCall, SchemaStep};
 use jet_base::{Items, Jet, OutOfMemory, Session};
 use jet_catalog::{
@@ -38,6 +40,8 @@ pub fn create_index(
     calls_ask_the_same_without_records();
     tables_are_found_without_records();
     a_session_is_shown_its_view();
+    uses_are_told();
+    tables_are_told();
     an_answer_is_lawful_and_stays_in_step();
     let session = local.session();
     let call = index_call(engine.alloc, request)?;

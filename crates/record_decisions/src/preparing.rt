@@ -17,7 +17,6 @@ ghost use Rattle.record_decisions.specs.Preparing.{IsCopied, IsPreparedAs, copy_
 use crate::answers::{is_outside, refused};
 use crate::changing::{
     bookmark_at, change_refusal, change_step, current_refusal, has_own_replace, hold_at,
-    labels_rise,
 };
 use crate::laws::{changes_are_refused_alike, records_are_formed};
 use column_set::{Bookmark, Change, Column, Record, RowRef, Values};
@@ -44,7 +43,6 @@ pub fn prepare_replace(
     changes_are_refused_alike();
     the_step_of_a_replace_is_lawful();
     records_are_formed(engine);
-    labels_rise(engine);
     let Some(found) = local.cursor(cursor) else {
         unreachable!()
     };

@@ -11,6 +11,7 @@ ghost use Rattle.record_decisions.specs.SchemaRequests.{engine_table, has_rows_i
 
 use crate::answers::{done, is_full, is_outside, one, refused};
 use engine_parts::Engine;
+use engine_versions::{tables_are_told, uses_are_told};
 use index_derive::{EntryKind, Place, SchemaCall};
 use jet_base::{Jet, OutOfMemory, Session};
 use jet_catalog::{
@@ -39,6 +40,8 @@ pub fn change_schema(
     calls_ask_the_same_without_records();
     tables_are_found_without_records();
     a_session_is_shown_its_view();
+    uses_are_told();
+    tables_are_told();
     steps_of_tables_are_lawful();
     steps_of_columns_are_lawful();
     steps_of_indexes_are_lawful();

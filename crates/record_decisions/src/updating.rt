@@ -14,7 +14,7 @@ ghost use Rattle.engine_parts.specs.Deciding.{Decides, IsBeside, IsDecision};
 ghost use Rattle.record_decisions.specs.Updating.{HasLegalRules, IsMade, IsMadeOf, IsSchemaOf, put_by, span_in, update_in};
 
 use crate::answers::{is_full, is_outside, refused};
-use crate::changing::{change_step, labels_rise, lacks_room};
+use crate::changing::{change_step, lacks_room};
 use crate::laws::{changes_are_refused_alike, sessions_see_their_records};
 use crate::putting::put_by;
 use crate::refusing_puts::record_refusal;
@@ -41,7 +41,6 @@ pub fn update(engine: &Engine, local: &mut Local, cursor: CursorId) -> Result<De
     changes_are_refused_alike();
     unique_keys_are_refused_alike();
     the_step_of_an_update_is_lawful();
-    labels_rise(engine);
     match made_put(engine, local, cursor) {
         Ok(Ok(put)) => {
             let session = local.session();

@@ -14,7 +14,7 @@ returns-in-Some-delete_refusal-clause-answer c =
     let engine = c.args.engine.now in
     let side = c.args.local.now in
     let found = c.in-Some.found.now in
-    let changes = delete-changes c.sessions_see_their_records.ensures c.changes_are_refused_alike.ensures.conflicts c.changes_are_refused_alike.ensures.room engine side c.args.cursor found c.labels_rise.ensures c.requires.shared c.in-Some.ensures in
+    let changes = delete-changes c.sessions_see_their_records.ensures c.changes_are_refused_alike.ensures.conflicts c.changes_are_refused_alike.ensures.room engine side c.args.cursor found c.requires.shared c.in-Some.ensures in
     rw c.refused.ensures
     (change-refused engine side (call.Delete c.args.cursor) (delete_in engine side.session side.state found) (drop_at found) c.in-Some-delete_refusal.refusal changes
     (sym c.in-Some-delete_refusal.ensures))
@@ -24,7 +24,7 @@ returns-in-None-clause-answer c =
     let engine = c.args.engine.now in
     let side = c.args.local.now in
     let found = c.in-Some.found.now in
-    let changes = delete-changes c.sessions_see_their_records.ensures c.changes_are_refused_alike.ensures.conflicts c.changes_are_refused_alike.ensures.room engine side c.args.cursor found c.labels_rise.ensures c.requires.shared c.in-Some.ensures in
+    let changes = delete-changes c.sessions_see_their_records.ensures c.changes_are_refused_alike.ensures.conflicts c.changes_are_refused_alike.ensures.room engine side c.args.cursor found c.requires.shared c.in-Some.ensures in
     let none : first_refusal (delete_in engine side.session side.state found) ≡ None = sym c.in-None.ensures in
     let alone = c.is_outside-outside.result in
     let outside : is_outside_in engine side.session ≡ alone = sym (c.is_outside-outside.ensures ∙ ap (λ s. is_outside_in engine s) c.session-session.ensures) in
@@ -38,7 +38,7 @@ returns-in-None-clause-decided c =
     let engine = c.args.engine.now in
     let side = c.args.local.now in
     let found = c.in-Some.found.now in
-    let changes = delete-changes c.sessions_see_their_records.ensures c.changes_are_refused_alike.ensures.conflicts c.changes_are_refused_alike.ensures.room engine side c.args.cursor found c.labels_rise.ensures c.requires.shared c.in-Some.ensures in
+    let changes = delete-changes c.sessions_see_their_records.ensures c.changes_are_refused_alike.ensures.conflicts c.changes_are_refused_alike.ensures.room engine side c.args.cursor found c.requires.shared c.in-Some.ensures in
     let none : first_refusal (delete_in engine side.session side.state found) ≡ None = sym c.in-None.ensures in
     let alone = c.is_outside-outside.result in
     let outside : is_outside_in engine side.session ≡ alone = sym (c.is_outside-outside.ensures ∙ ap (λ s. is_outside_in engine s) c.session-session.ensures) in

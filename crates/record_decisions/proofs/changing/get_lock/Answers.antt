@@ -14,7 +14,7 @@ returns-in-Some-lock_refusal-clause-answer c =
     let engine = c.args.engine.now in
     let side = c.args.local.now in
     let found = c.in-Some.found.now in
-    let changes = lock-changes c.sessions_see_their_records.ensures c.changes_are_refused_alike.ensures.conflicts c.changes_are_refused_alike.ensures.room engine side c.args.cursor found c.labels_rise.ensures c.requires.shared c.in-Some.ensures in
+    let changes = lock-changes c.sessions_see_their_records.ensures c.changes_are_refused_alike.ensures.conflicts c.changes_are_refused_alike.ensures.room engine side c.args.cursor found c.requires.shared c.in-Some.ensures in
     rw c.refused.ensures
     (change-refused engine side (call.GetLock c.args.cursor) (lock_in engine side.session found) (hold_at found) c.in-Some-lock_refusal.refusal changes
     (sym (c.in-Some-lock_refusal.ensures ∙ ap (λ s. first_refusal (lock_in engine s found)) c.session-session.ensures)))
@@ -24,7 +24,7 @@ returns-in-None-clause-answer c =
     let engine = c.args.engine.now in
     let side = c.args.local.now in
     let found = c.in-Some.found.now in
-    let changes = lock-changes c.sessions_see_their_records.ensures c.changes_are_refused_alike.ensures.conflicts c.changes_are_refused_alike.ensures.room engine side c.args.cursor found c.labels_rise.ensures c.requires.shared c.in-Some.ensures in
+    let changes = lock-changes c.sessions_see_their_records.ensures c.changes_are_refused_alike.ensures.conflicts c.changes_are_refused_alike.ensures.room engine side c.args.cursor found c.requires.shared c.in-Some.ensures in
     let none : first_refusal (lock_in engine side.session found) ≡ None = sym (c.in-None.ensures ∙ ap (λ s. first_refusal (lock_in engine s found)) c.session-session.ensures) in
     let step = made-as c.change_step.result c.session-session.result c.in_ok-change.change side.session (hold_at found) false c.change_step.ensures c.session-session.ensures c.in_ok-change.ensures in
     let decision : c.done.result ≡ stepped_with (step_by false (changed_by side.session (hold_at found))) None false = c.done.ensures ∙ ap (λ (s : Step). stepped_with s None false) step in
@@ -36,7 +36,7 @@ returns-in-None-clause-decided c =
     let engine = c.args.engine.now in
     let side = c.args.local.now in
     let found = c.in-Some.found.now in
-    let changes = lock-changes c.sessions_see_their_records.ensures c.changes_are_refused_alike.ensures.conflicts c.changes_are_refused_alike.ensures.room engine side c.args.cursor found c.labels_rise.ensures c.requires.shared c.in-Some.ensures in
+    let changes = lock-changes c.sessions_see_their_records.ensures c.changes_are_refused_alike.ensures.conflicts c.changes_are_refused_alike.ensures.room engine side c.args.cursor found c.requires.shared c.in-Some.ensures in
     let none : first_refusal (lock_in engine side.session found) ≡ None = sym (c.in-None.ensures ∙ ap (λ s. first_refusal (lock_in engine s found)) c.session-session.ensures) in
     let step = made-as c.change_step.result c.session-session.result c.in_ok-change.change side.session (hold_at found) false c.change_step.ensures c.session-session.ensures c.in_ok-change.ensures in
     let decision : c.done.result ≡ stepped_with (step_by false (changed_by side.session (hold_at found))) None false = c.done.ensures ∙ ap (λ (s : Step). stepped_with s None false) step in

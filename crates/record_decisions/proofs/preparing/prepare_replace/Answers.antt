@@ -23,7 +23,7 @@ returns-in-Some-replace_refusal-clause-answer c =
     let engine = c.args.engine.now in
     let side = c.args.local.now in
     let found = c.in-Some.found.now in
-    let prepares = replace-prepares c.a_session_reads_its_view.ensures.records c.changes_are_refused_alike.ensures.conflicts c.changes_are_refused_alike.ensures.room engine side c.args.cursor found c.labels_rise.ensures c.requires.shared c.in-Some.ensures in
+    let prepares = replace-prepares c.a_session_reads_its_view.ensures.records c.changes_are_refused_alike.ensures.conflicts c.changes_are_refused_alike.ensures.room engine side c.args.cursor found c.requires.shared c.in-Some.ensures in
     rw c.refused.ensures
     (prepare-refused engine side (call.PrepareUpdate c.args.cursor prepare.Replace) (replace_in engine side.session side.state found) found (replace_of engine side.session found) (lock_step engine side.session found) c.in-Some-replace_refusal.refusal prepares
     (sym c.in-Some-replace_refusal.ensures))
@@ -34,7 +34,7 @@ returns-in_ok-prepared-in-None-clause-answer c =
     let side = c.args.local.now in
     let found = c.in-Some.found.now in
     let prepared = c.in_ok-prepared-in-None.prepared in
-    let prepares = replace-prepares c.a_session_reads_its_view.ensures.records c.changes_are_refused_alike.ensures.conflicts c.changes_are_refused_alike.ensures.room engine side c.args.cursor found c.labels_rise.ensures c.requires.shared c.in-Some.ensures in
+    let prepares = replace-prepares c.a_session_reads_its_view.ensures.records c.changes_are_refused_alike.ensures.conflicts c.changes_are_refused_alike.ensures.room engine side c.args.cursor found c.requires.shared c.in-Some.ensures in
     let none : first_refusal (replace_in engine side.session side.state found) ≡ None = sym c.in-None.ensures in
     let same : update_of prepared ≡ replace_of engine side.session found = c.in_ok-prepared-in-None.ensures.0 ∙ ap (λ s. replace_of engine s found) c.session-session.ensures in
     let step : c.change_step.result ≡ step_by false (changed_by side.session (hold_at found)) = made-as c.change_step.result c.session-session.result c.in_ok-change.change side.session (hold_at found) false c.change_step.ensures c.session-session.ensures c.in_ok-change.ensures in

@@ -20,7 +20,7 @@ show_bookmark-value-requires-clause-short c = let told = rw c.in-Ok-Ok.field-0-i
 pub returns-in-Ok-Err-clause-answer : goal.returns-in-Ok-Err-clause-answer
 returns-in-Ok-Err-clause-answer c =
     rw c.refused.ensures
-    (update-refused c.sessions_see_their_records.ensures c.changes_are_refused_alike.ensures.room c.unique_keys_are_refused_alike.ensures c.args.engine.now c.args.local.now c.args.cursor c.in-Ok-Err.refusal c.labels_rise.ensures c.requires.shared
+    (update-refused c.sessions_see_their_records.ensures c.changes_are_refused_alike.ensures.room c.unique_keys_are_refused_alike.ensures c.args.engine.now c.args.local.now c.args.cursor c.in-Ok-Err.refusal c.requires.shared
     (rw c.in-Ok-Err.field-0-is at c.in-Ok-Err.ensures.made))
 
 pub returns-in-Ok-Ok-clause-answer : goal.returns-in-Ok-Ok-clause-answer
@@ -35,7 +35,7 @@ returns-in-Ok-Ok-clause-answer c =
     let step = made-as c.change_step.result c.session-session.result put side.session put alone c.change_step.ensures c.session-session.ensures refl in
     let decision : c.shown_with.result ≡ shown_by_step (step_by alone (changed_by side.session put)) value alone = c.shown_with.ensures ∙ ap (λ (s : Step). shown_by_step s value alone) step in
     subst (Decides engine side (call.Update c.args.cursor) new) (sym decision)
-    (update-done c.sessions_see_their_records.ensures c.changes_are_refused_alike.ensures.room c.unique_keys_are_refused_alike.ensures engine side new c.args.cursor put value alone c.labels_rise.ensures c.requires.shared
+    (update-done c.sessions_see_their_records.ensures c.changes_are_refused_alike.ensures.room c.unique_keys_are_refused_alike.ensures engine side new c.args.cursor put value alone c.requires.shared
     (rw c.in-Ok-Ok.field-0-is at c.in-Ok-Ok.ensures.made) outside c.show_bookmark-value.ensures.shown c.show_bookmark-value.ensures.state)
 
 pub returns-in-Ok-Ok-clause-decided : goal.returns-in-Ok-Ok-clause-decided
@@ -51,7 +51,7 @@ returns-in-Ok-Ok-clause-decided c =
     let decision : c.shown_with.result ≡ shown_by_step (step_by alone (changed_by side.session put)) value alone = c.shown_with.ensures ∙ ap (λ (s : Step). shown_by_step s value alone) step in
     subst (IsDecision engine side (call.Update c.args.cursor) new) (sym decision)
     (decision-shown engine side new c.args.cursor put value alone
-    (update-done c.sessions_see_their_records.ensures c.changes_are_refused_alike.ensures.room c.unique_keys_are_refused_alike.ensures engine side new c.args.cursor put value alone c.labels_rise.ensures c.requires.shared
+    (update-done c.sessions_see_their_records.ensures c.changes_are_refused_alike.ensures.room c.unique_keys_are_refused_alike.ensures engine side new c.args.cursor put value alone c.requires.shared
     (rw c.in-Ok-Ok.field-0-is at c.in-Ok-Ok.ensures.made) outside c.show_bookmark-value.ensures.shown c.show_bookmark-value.ensures.state)
     (λ state h step. c.the_step_of_an_update_is_lawful.ensures h.base h.dropped h.kept (asked_by engine state side) c.args.cursor h.reached step.agrees)
     c.show_bookmark-value.ensures.session c.show_bookmark-value.ensures.state c.show_bookmark-value.ensures.room c.show_bookmark-value.ensures.named)
