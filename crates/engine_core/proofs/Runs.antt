@@ -9,7 +9,6 @@ use Rattle.index_derive.specs.declared.log.Entry.{Entry}
 use Rattle.index_derive.specs.declared.log.Step.{Step}
 use Rattle.index_derive.specs.Steps.{entries_of_step}
 use Rattle.database_state.specs.Step.{state_after_all}
-use Rattle.record_changes.proofs.Tests.{self_equal}
 use Rattle.session_local.specs.Local.{LocalState, no_session}
 use Rattle.session_local.specs.Outcome.{Outcome}
 use Rattle.session_local.specs.Run.{Line, RunState, SessionRun, after_outcome, after_served, last_after, outcome_of, session_run}
@@ -37,19 +36,11 @@ picked : (own : Bool) (made : SessionRun) (found : Option SessionRun) → unwrap
 picked true made found = refl
 picked false made found = refl
 
-pub session_run-after : (run : RunState) (line : Line) (outcome : Outcome) (session : ℕ) → session_run (after_outcome run line outcome) session ≡ (if session == line.0 then made_of run line outcome else session_run run session)
+session_run-after : (run : RunState) (line : Line) (outcome : Outcome) (session : ℕ) → session_run (after_outcome run line outcome) session ≡ (if session == line.0 then made_of run line outcome else session_run run session)
 session_run-after run line outcome session =
     ap (λ (found : Option SessionRun). unwrap_or found not_seen) (find-put nat_cmp nat_cmp_total session line.0 (made_of run line outcome) run.sessions)
     ∙ ap (λ (own : Bool). unwrap_or (cond own (Some (made_of run line outcome)) (lookup_by_number session run.sessions)) not_seen) (unsigned_tied session line.0)
     ∙ picked (session == line.0) (made_of run line outcome) (lookup_by_number session run.sessions)
-
-pub session_run-own : (run : RunState) (line : Line) (outcome : Outcome) → session_run (after_outcome run line outcome) line.0 ≡ made_of run line outcome
-session_run-own run line outcome =
-    session_run-after run line outcome line.0 ∙ ap (λ (own : Bool). if own then made_of run line outcome else session_run run line.0) (self_equal line.0)
-
-pub session_run-other : (run : RunState) (line : Line) (outcome : Outcome) (session : ℕ) → (session == line.0) ≡ false → session_run (after_outcome run line outcome) session ≡ session_run run session
-session_run-other run line outcome session other =
-    session_run-after run line outcome session ∙ ap (λ (own : Bool). if own then made_of run line outcome else session_run run session) other
 
 local_of : (own : Bool) (made seen : SessionRun) → (if own then made else seen).local ≡ (if own then made.local else seen.local)
 local_of true made seen = refl

@@ -1,6 +1,6 @@
 //! Laws of the engine in the run of a script. The functions do nothing: their contracts are the laws.
 
-ghost use Rattle.std.specs.Prelude.{◌≡◌, ◌≢◌, ◌==◌, ℕ, Bool, true, false, None, Some};
+ghost use Rattle.std.specs.Prelude.{◌≡◌, ◌≢◌, ℕ, Bool, true, false, None, Some};
 ghost use Rattle.jet_base.specs.declared.replies.Jet.TheVariants.{OutOfMemory};
 ghost use Rattle.index_derive.specs.declared.log.Step.{Step};
 ghost use Rattle.session_local.specs.declared.request.Request.{Request};
@@ -8,7 +8,7 @@ ghost use Rattle.session_local.specs.declared.decision.Decision.{Decision};
 ghost use Rattle.session_local.specs.Calls.{answer};
 ghost use Rattle.session_local.specs.LocalCalls.{is_answered_locally};
 ghost use Rattle.session_local.specs.Outcome.{Asked};
-ghost use Rattle.session_local.specs.Run.{Line, RunState, after_served, asked_in, last_after, outcome_of, run_from, session_run, takes_no_memory};
+ghost use Rattle.session_local.specs.Run.{Line, RunState, after_served, asked_in, outcome_of, run_from, takes_no_memory};
 ghost use Rattle.session_local.specs.SessionSide.{SessionSide};
 ghost use Rattle.database_state.specs.State.{empty_state};
 ghost use Rattle.engine_versions.specs.BuiltCalls.{is_built_request};
@@ -59,12 +59,6 @@ pub fn a_run_is_held_after_its_lines()
     a_clean_leaves_the_state();
     local_calls_take_no_step();
 }
-
-/// A served line leaves the other sessions of a run as they are, and brings its own session to what the answer leaves.
-pub fn a_line_is_of_one_session()
-    ensures own { (limit : ℕ) (run : RunState) (line : Line) → session_run (after_served limit run line) line.0 ≡ record { local = (outcome_of limit run line).local; last = last_after run line (outcome_of limit run line) } }
-    ensures others { (limit : ℕ) (run : RunState) (line : Line) (session : ℕ) → (session == line.0) ≡ false → session_run (after_served limit run line) session ≡ session_run run session }
-{}
 
 /// The step of a line may be taken by the engine that holds the run.
 pub fn steps_of_a_run_may_be_taken()

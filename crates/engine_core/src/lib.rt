@@ -8,7 +8,7 @@ pub use deciding::decide;
 pub use engine_parts::Engine;
 pub use engine_steps::{apply, clean};
 pub use laws::{
-    a_line_is_of_one_session, a_run_is_held_after_its_lines, a_session_of_a_run_is_beside,
+    a_run_is_held_after_its_lines, a_session_of_a_run_is_beside,
     an_empty_engine_holds_an_empty_run, no_answer_is_want_of_memory, steps_of_a_run_may_be_taken,
     steps_of_calls_without_memory_lack_none,
 };

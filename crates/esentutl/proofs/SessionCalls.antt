@@ -33,7 +33,7 @@ use Rattle.engine_versions.specs.EngineSteps.{engine_after_answer}
 use Rattle.engine_parts.specs.Deciding.{IsAnswer as IsDecidedAnswer}
 use Rattle.engine_steps.specs.Steps.{step_may_lack_memory}
 use Rattle.engine_core.specs.Runs.{HoldsRun, IsInRun as IsPartOf}
-use Rattle.esentutl.specs.SessionRun.{outcome_told, reply_bytes, HasItsBuffer, LacksMemory, IsInRun, GoesOn}
+use Rattle.esentutl.specs.SessionRun.{outcome_told, reply_bytes, LacksMemory, IsInRun, GoesOn}
 use Rattle.esentutl.proofs.SessionRuns.{SessionsFollow, IsBrought, goes_on, number-after_answer, number-local, last-local, number-by, last-by}
 
 -- ---- what the laws of the engine say

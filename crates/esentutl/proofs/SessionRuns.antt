@@ -13,7 +13,7 @@ use Rattle.session_local.specs.declared.reply.Reply.{Reply}
 use Rattle.session_local.specs.Answer.{Answered, answered_by}
 use Rattle.session_local.specs.Outcome.{Outcome}
 use Rattle.session_local.specs.Calls.{is_local}
-use Rattle.session_local.specs.Run.{RunState, SessionRun, Line, LineOutcome, served, no_memory, session_run, outcome_of, number_of_line, last_after, after_outcome, takes_no_memory}
+use Rattle.session_local.specs.Run.{RunState, SessionRun, Line, LineOutcome, served, session_run, outcome_of, number_of_line, last_after, after_outcome, takes_no_memory}
 use Rattle.run_sessions.specs.declared.sessions.RunSession.{RunSession}
 use Rattle.run_sessions.specs.Sessions.{last_label, session_at, HasPlace, OthersStay, AreSessionsOf, in_run}
 use Rattle.engine_versions.specs.EngineState.{EngineState}

@@ -1,15 +1,14 @@
 -- What the engine of a script goes on to, line by line.
-use Rattle.std.proofs.Common.{Result, Ok, Err, true≢false, ◌≡◌, ℕ, Bool, true, false, ◌≤◌, List, length, refl, sym, ap, subst, ◌∙◌, arith}
+use Rattle.std.proofs.Common.{Result, Ok, Err, true≢false, ◌≡◌, ℕ, Bool, true, false, ◌≤◌, List, refl, sym, subst, arith}
 use Rattle.std.specs.Prelude.{if◌then◌else◌}
 use Rattle.std.specs.Result.{OnOk, OnErr, is_err}
 use Rattle.std.proofs.lemmas.Bool.{false≢true}
 use Rattle.database_state.specs.State.{empty_state}
 use Rattle.session_local.specs.Run.{run_from}
 use Rattle.session_local.specs.declared.reply.Reply.{Reply}
-use Rattle.session_local.specs.SessionSide.{SessionSide}
 use Rattle.script_transcript.specs.TranscriptLine.{NamesNoMore}
 use Rattle.run_sessions.specs.declared.sessions.RunSession.{RunSession}
-use Rattle.run_sessions.specs.Sessions.{fresh_session, last_label, session_at, AreFresh, AreSessionsOf, HasPlace}
+use Rattle.run_sessions.specs.Sessions.{fresh_session, last_label, AreFresh, AreSessionsOf, HasPlace}
 use Rattle.engine_versions.specs.EngineState.{EngineState, empty_engine}
 use Rattle.engine_core.specs.Runs.{HoldsRun}
 use Rattle.esentutl.specs.SessionRun.{no_memory_reply, HasItsBuffer, IsInRun}

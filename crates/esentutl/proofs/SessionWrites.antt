@@ -1,5 +1,5 @@
 -- What a session's own state that is written leaves of the run.
-use Rattle.std.proofs.Common.{◌≡◌, ◌≢◌, ◌≤◌, ℕ, Bool, true, List, length, Option, Some, None, refl, sym, ap, subst, ◌∙◌}
+use Rattle.std.proofs.Common.{◌≡◌, ◌≢◌, ◌≤◌, ℕ, Bool, List, length, Option, Some, None, sym, ap, subst, ◌∙◌}
 use Rattle.std.specs.Prelude.{if◌then◌else◌}
 use Rattle.jet_base.specs.declared.ids.Session.{Session}
 use Rattle.index_derive.specs.declared.log.Step.{Step}
@@ -9,7 +9,7 @@ use Rattle.session_local.specs.Calls.{is_local}
 use Rattle.session_local.specs.Deciding.{decided_in, reply_after}
 use Rattle.session_local.specs.Finishing.{finished}
 use Rattle.session_local.specs.Local.{LocalState}
-use Rattle.session_local.specs.Run.{RunState, SessionRun, asked_in}
+use Rattle.session_local.specs.Run.{RunState, asked_in}
 use Rattle.session_local.specs.SessionSide.{SessionSide}
 use Rattle.run_sessions.specs.declared.sessions.RunSession.{RunSession}
 use Rattle.run_sessions.specs.Sessions.{last_label, session_at, HasPlace, with_local, with_last, in_run}

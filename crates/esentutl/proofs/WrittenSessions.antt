@@ -1,5 +1,5 @@
 -- The sessions of a script, one of which is written.
-use Rattle.std.proofs.Common.{◌≡◌, ◌≢◌, ◌<◌, ◌≤◌, ℕ, List, length, sym, ap, subst, ◌∙◌, arith}
+use Rattle.std.proofs.Common.{◌≡◌, ◌<◌, ◌≤◌, ℕ, List, length, sym, ap, subst, ◌∙◌, arith}
 use Rattle.std.proofs.lemmas.List.{get_or-set_same, get_or-set_other, length-set}
 use Rattle.session_local.specs.SessionSide.{SessionSide}
 use Rattle.run_sessions.specs.declared.sessions.RunSession.{RunSession}

@@ -1,4 +1,3 @@
-use Rattle.std.proofs.Common.{ℕ}
 use Rattle.esentutl.proofs.BuiltRequests.{label_is, request_is, rest_is}
 use Rattle.esentutl.proofs.session_engine.SessionEngine.serve.Goals as goal
 

@@ -3,7 +3,6 @@ use Rattle.std.specs.Prelude.{if◌then◌else◌}
 use Rattle.session_local.specs.LocalCalls.{is_answered_locally, IsAnswer}
 use Rattle.session_local.specs.Answer.{answered_by}
 use Rattle.session_local.specs.SessionSide.{SessionSide}
-use Rattle.session_local.specs.WellFormed.{IsWellFormed}
 use Rattle.script_transcript.specs.TranscriptLine.{NamesNoMore}
 use Rattle.run_sessions.specs.declared.sessions.RunSession.{RunSession}
 use Rattle.run_sessions.specs.Sessions.{session_at, with_local}

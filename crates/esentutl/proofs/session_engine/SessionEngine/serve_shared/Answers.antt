@@ -1,4 +1,4 @@
-use Rattle.std.proofs.Common.{◌≡◌, ℕ, false, List, length, sym, ap, subst, ◌∙◌}
+use Rattle.std.proofs.Common.{◌≡◌, ℕ, List, length, sym, ap, subst, ◌∙◌}
 use Rattle.std.specs.Prelude.{if◌then◌else◌}
 use Rattle.session_local.specs.Deciding.{CopiedFits, decided_in, reply_after}
 use Rattle.session_local.specs.Finishing.{finished}
@@ -7,7 +7,7 @@ use Rattle.session_local.specs.SessionSide.{SessionSide}
 use Rattle.session_local.specs.Run.{RunState, asked_in}
 use Rattle.script_transcript.specs.TranscriptLine.{NamesNoMore}
 use Rattle.run_sessions.specs.declared.sessions.RunSession.{RunSession}
-use Rattle.run_sessions.specs.Sessions.{last_label, session_at, with_local}
+use Rattle.run_sessions.specs.Sessions.{session_at, with_local}
 use Rattle.engine_versions.specs.EngineState.{EngineState}
 use Rattle.engine_core.specs.Runs.{HoldsRun}
 use Rattle.esentutl.proofs.SessionCalls.{WasMade, decided-goes_on, takes_some_by_step, told_after}
