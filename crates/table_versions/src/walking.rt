@@ -204,9 +204,8 @@ pub(crate) fn own_entry(bookmark: &[u8]) -> IndexEntry
     ensures key { result.key ≡ bookmark.now }
     ensures bookmark { result.bookmark ≡ bookmark.now }
 {
-    let key = Key::from_slice(bookmark);
     IndexEntry {
-        bookmark: key.copy(),
-        key,
+        key: Key::from_slice(bookmark),
+        bookmark: Key::from_slice(bookmark),
     }
 }
