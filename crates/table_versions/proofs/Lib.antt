@@ -49,6 +49,7 @@ pub mod StepInStore
 pub mod KeysPut
 pub mod NewEntries
 pub mod NodeWalks
+pub mod NodesShown
 pub mod FilledIndexes
 pub mod IndexTrees
 pub mod RewrittenNodes

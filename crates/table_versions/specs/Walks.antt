@@ -1,5 +1,5 @@
 -- The entries that are stored of an index, and which of them a reader is shown.
-use Rattle.std.specs.Prelude.{ℕ, Bool, List, Option, Some, None, is_some}
+use Rattle.std.specs.Prelude.{ℕ, Bool, true, false, List, Option, Some, None, is_some}
 use Rattle.column_set.specs.RecordValues.{RecordFields}
 use Rattle.cursor_nav.specs.Places.{Pair}
 use Rattle.database_state.specs.Conflicts.{yields_key}
@@ -9,6 +9,7 @@ use Rattle.index_derive.specs.declared.rules.Schema.{Schema}
 use Rattle.table_trees.specs.StoredNodes.{bookmark_entries}
 use Rattle.table_trees.specs.StoredTables.{StoredTable, index_entries, table_nodes}
 use Rattle.version_store.specs.declared.calls.Reader.{Reader}
+use Rattle.version_store.specs.HeldChanges.{SeenRow, current, row_before, absent}
 use Rattle.versioned_tables.specs.HeldRecords.{seen_record}
 use Rattle.versioned_tables.specs.VersionedTables.{VersionedTables}
 
@@ -29,3 +30,9 @@ is_shown reader store table schema rule entry = is_entry_of rule schema entry.0 
 -- whether the reader sees a record under the bookmark of an entry
 abbrev pub is_seen : Reader → VersionedTables → ℕ → Pair → Bool
 is_seen reader store table entry = is_some (seen_record table entry.1 reader (record_in store.tables table entry.1) store.held)
+
+-- whether the row that a reader sees is there, given the newest one
+abbrev pub is_row_seen : Option (List ℕ) → SeenRow → Bool
+is_row_seen newest current = is_some newest
+is_row_seen newest (row_before row) = true
+is_row_seen newest absent = false

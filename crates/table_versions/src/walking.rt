@@ -4,11 +4,13 @@ ghost use Rattle.std.specs.Prelude.{◌≡◌, ◌≤◌, length, IfSome, IsSome
 ghost use Rattle.cursor_nav.specs.Places.{entry_after, entry_before, found_pair};
 ghost use Rattle.database_state.specs.Table.{record_in, rows_of, rule_with_id, schema_of, table_with_id};
 ghost use Rattle.index_derive.specs.Entries.{is_legal, own_order};
+ghost use Rattle.version_store.specs.HeldChanges.{seen_row};
 ghost use Rattle.versioned_tables.specs.HeldRecords.{seen_record};
 ghost use Rattle.versioned_tables.specs.VersionedTables.{seen_tables};
+ghost use Rattle.table_versions.specs.RecordRows.{row_in_node};
 ghost use Rattle.table_versions.specs.StoredVersions.{seen_entries};
 ghost use Rattle.table_versions.specs.VersionsKept.{only_secondary};
-ghost use Rattle.table_versions.specs.Walks.{is_entry_of, is_seen, stored_entries};
+ghost use Rattle.table_versions.specs.Walks.{is_entry_of, is_row_seen, stored_entries};
 
 use crate::store::TableVersions;
 use derived_index::entries_in_order_are_told_by_those_that_are_there;
@@ -17,7 +19,7 @@ use index_derive::{IndexEntry, IndexRule, Place, Schema};
 use jet_base::{IndexId, TableId};
 use key_normal::Key;
 use table_trees::{TableTrees, neighbours_are_those_of_bookmarks};
-use version_store::Reader;
+use version_store::{Reader, Variant, Versions};
 use versioned_tables::{
     a_reader_is_shown_the_records_that_it_sees, a_reader_walks_the_index_of_what_it_sees,
 };
@@ -44,6 +46,9 @@ impl TableVersions {
         self.trees.nodes_are_in_order();
         self.trees.entries_are_in_order();
         let rule = secondary_rule(schema, index);
+        if rule.is_none() {
+            return self.walk_records(table, place, reader);
+        }
         let mut found = stored_after(&self.trees, table, rule, place);
         while let Some(entry) = found {
             if self.shows(table, schema, rule, &entry, reader) {
@@ -93,26 +98,17 @@ impl TableVersions {
     {
         a_reader_is_shown_the_records_that_it_sees();
         entries_in_order_are_told_by_those_that_are_there();
+        neighbours_are_those_of_bookmarks();
         self.trees.nodes_are_in_order();
-        let mut found = stored_after(&self.trees, table, None, place);
-        while let Some(entry) = found {
-            if self.shows_record(table, &entry, reader) {
-                return Some(entry);
+        let mut found = self.trees.node_after(table, place);
+        while let Some((bookmark, row)) = found {
+            if is_shown_in_place(&self.versions, table, bookmark, row, reader) {
+                return Some(own_entry(bookmark));
             }
-            let last = Place::On(entry.key, entry.bookmark);
-            found = stored_after(&self.trees, table, None, &last);
+            let last = Place::On(Key::from_slice(bookmark), Key::from_slice(bookmark));
+            found = self.trees.node_after(table, &last);
         }
         None
-    }
-
-    // Whether the reader sees a record under the bookmark of the entry.
-    fn shows_record(&self, table: TableId, entry: &IndexEntry, reader: Reader) -> bool
-        ensures { result ≡ is_seen reader self.now.store table.0 (entry.now.key, entry.now.bookmark) }
-    {
-        match self.look_up(table, entry.bookmark.as_bytes(), reader) {
-            Some(_) => true,
-            None => false,
-        }
     }
 
     // Whether an entry of the index stands for the record that the reader sees under its bookmark.
@@ -134,6 +130,23 @@ impl TableVersions {
             },
             None => false,
         }
+    }
+}
+
+// Whether the reader sees a record under the bookmark of a node with these bytes: without a look for the node.
+fn is_shown_in_place(
+    versions: &Versions,
+    table: TableId,
+    bookmark: &[u8],
+    bytes: &[u8],
+    reader: Reader,
+) -> bool
+    ensures { result ≡ is_row_seen (row_in_node bytes.now) (seen_row table.0 bookmark.now reader versions.now) }
+{
+    match versions.variant(table, bookmark, reader) {
+        Variant::Current => !bytes.is_empty(),
+        Variant::Before(_) => true,
+        Variant::Absent => false,
     }
 }
 
@@ -191,9 +204,8 @@ pub(crate) fn own_entry(bookmark: &[u8]) -> IndexEntry
     ensures key { result.key ≡ bookmark.now }
     ensures bookmark { result.bookmark ≡ bookmark.now }
 {
-    let key = Key::from_slice(bookmark);
     IndexEntry {
-        bookmark: key.copy(),
-        key,
+        key: Key::from_slice(bookmark),
+        bookmark: Key::from_slice(bookmark),
     }
 }
