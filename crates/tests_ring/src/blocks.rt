@@ -83,9 +83,7 @@ fn gives(alloc: Global, volume: &mut MemVolume, bytes: &[u8]) -> bool {
 /// A log of one block that is opened, gets another one, crashes and is opened again.
 fn with_another(rt: &impl Abort, alloc: Global, stop: Option<u64>, pick: u64) -> Reopened {
     let fresh = of_log(rt, alloc, LOG);
-    let volume = fresh
-        .crash(0, Vec::new(alloc), stop)
-        .expect(rt, "memory");
+    let volume = fresh.crash(0, Vec::new(alloc), stop).expect(rt, "memory");
     reopen(alloc, volume, START, ENTRY, pick)
         .ok()
         .expect(rt, "opened")

@@ -29,6 +29,7 @@ static ROUND: &[usize] = &[200, 300, 60];
 
 /// The stream positions at which the generations 9 and 10 are begun, or would be behind the block before.
 const ROUND_AT: u64 = 1_048_105;
+
 const BEHIND_AT: u64 = 1_048_465;
 
 /// The byte of the stream at a position.
@@ -156,7 +157,10 @@ fn round(rt: &impl Abort, alloc: Global, to_come: bool) -> Run {
     append_all(rt, alloc, &mut ring, &mut volume, CROSSING);
     append_all(rt, alloc, &mut ring, &mut volume, FILLING);
     Run {
-        log: volume.bytes(jet_volume::File::Log).to_vec(alloc).expect(rt, "memory"),
+        log: volume
+            .bytes(jet_volume::File::Log)
+            .to_vec(alloc)
+            .expect(rt, "memory"),
         end: ring.end(),
         sizes: ROUND,
         calls: 16,
@@ -209,7 +213,7 @@ fn is_sealed_again(
 }
 
 /// Whether a run that stops at a call and crashes leaves a front of the stream that has all that was acknowledged, and
-/// so does a seal of what it left.
+/// so does a seal of what it left, which is tried in one image of five.
 fn is_kept(rt: &impl Abort, alloc: Global, run: &Run, stop: u64, pick: u64) -> bool {
     let mut volume = volume_of(rt, alloc, &run.log, &[], Some(stop));
     let appended = run_over(rt, alloc, run, &mut volume);
@@ -217,7 +221,8 @@ fn is_kept(rt: &impl Abort, alloc: Global, run: &Run, stop: u64, pick: u64) -> b
         .crash(pick, Vec::new(alloc), None)
         .expect(rt, "memory");
     let end = end_of(alloc, &mut left).expect(rt, "a front");
-    has_all(run, appended, end, stop) && is_sealed_again(rt, alloc, left, end, pick)
+    let is_tried = pick % 5 == stop % 5;
+    has_all(run, appended, end, stop) && (!is_tried || is_sealed_again(rt, alloc, left, end, pick))
 }
 
 /// Whether the stream ends behind what was acknowledged, and not behind what was given; these are the same exactly where
@@ -228,32 +233,47 @@ fn has_all(run: &Run, appended: Appended, end: LogStart, call: u64) -> bool {
         && (appended.acknowledged == appended.given) == (run.calls < call)
 }
 
-/// Whether each stop of a run, and one behind it, is survived in so many images.
-fn is_kept_at_each_stop(rt: &impl Abort, alloc: Global, run: &Run, picks: u64) -> bool {
-    for stop in 1..=run.calls.min(99) + 1 {
-        for pick in 0..picks {
+/// Whether the stops of a run from one on, up to one behind its last call, are survived in 40 images.
+fn is_kept_at_stops(rt: &impl Abort, alloc: Global, run: &Run, first: u64, last: u64) -> bool {
+    for stop in first..=last {
+        for pick in 0..40 {
             assert!(rt; is_kept(rt, alloc, run, stop, pick), "{stop} and {pick}");
         }
     }
     true
 }
 
+// The next generation is begun behind the block of the calls 1 to 4, and made ready with the calls 5 to 10.
+#[test]
+fn a_stop_before_the_next_generation_leaves_what_was_acknowledged(rt: HostRuntime) {
+    let run = crossing(&rt, rt.alloc());
+    assert!(&rt; is_kept_at_stops(&rt, rt.alloc(), &run, 1, 10));
+}
+
 #[test]
 fn a_stop_in_the_next_generation_leaves_what_was_acknowledged(rt: HostRuntime) {
     let run = crossing(&rt, rt.alloc());
-    assert!(&rt; is_kept_at_each_stop(&rt, rt.alloc(), &run, 40));
+    assert!(&rt; is_kept_at_stops(&rt, rt.alloc(), &run, 11, 19));
+}
+
+// The first slot is begun behind the block of the calls 1 to 4, and made ready with the calls 5 to 8.
+#[test]
+fn a_stop_before_the_first_slot_leaves_what_was_acknowledged(rt: HostRuntime) {
+    let run = round(&rt, rt.alloc(), false);
+    assert!(&rt; is_kept_at_stops(&rt, rt.alloc(), &run, 1, 8));
 }
 
 #[test]
 fn a_stop_in_the_first_slot_leaves_what_was_acknowledged(rt: HostRuntime) {
     let run = round(&rt, rt.alloc(), false);
-    assert!(&rt; is_kept_at_each_stop(&rt, rt.alloc(), &run, 40));
+    assert!(&rt; is_kept_at_stops(&rt, rt.alloc(), &run, 9, 17));
 }
 
+// At these calls the first slot is begun, where blocks of the two generations to come were left.
 #[test]
 fn blocks_of_generations_to_come_are_not_read(rt: HostRuntime) {
     let run = round(&rt, rt.alloc(), true);
-    assert!(&rt; is_kept_at_each_stop(&rt, rt.alloc(), &run, 8));
+    assert!(&rt; is_kept_at_stops(&rt, rt.alloc(), &run, 5, 13));
 }
 
 /// Whether a run whose call fails leaves a front of the stream that has all that was acknowledged, and goes on.

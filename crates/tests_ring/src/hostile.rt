@@ -135,7 +135,11 @@ fn is_right_for_length(rt: &impl Abort, alloc: Global, case: (u32, u32, bool)) -
     }
     let start = at + 21;
     let want = if is_open { len as usize } else { 0 };
-    let payload = log.get(start..start + want).unwrap_or(&[]).to_vec(alloc).expect(rt, "memory");
+    let payload = log
+        .get(start..start + want)
+        .unwrap_or(&[])
+        .to_vec(alloc)
+        .expect(rt, "memory");
     gives(rt, alloc, &log, from, &payload)
 }
 
