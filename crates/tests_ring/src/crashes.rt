@@ -269,11 +269,13 @@ fn a_stop_in_the_first_slot_leaves_what_was_acknowledged(rt: HostRuntime) {
     assert!(&rt; is_kept_at_stops(&rt, rt.alloc(), &run, 9, 17));
 }
 
-// At these calls the first slot is begun, where blocks of the two generations to come were left.
+// In the first slot and the one behind it blocks of the two generations to come were left, of which the second is
+// barred with the calls 5 to 7.
 #[test]
 fn blocks_of_generations_to_come_are_not_read(rt: HostRuntime) {
     let run = round(&rt, rt.alloc(), true);
-    assert!(&rt; is_kept_at_stops(&rt, rt.alloc(), &run, 5, 13));
+    assert!(&rt; is_kept_at_stops(&rt, rt.alloc(), &run, 5, 8));
+    assert!(&rt; is_kept_at_stops(&rt, rt.alloc(), &run, 17, 17));
 }
 
 /// Whether a run whose call fails leaves a front of the stream that has all that was acknowledged, and goes on.
