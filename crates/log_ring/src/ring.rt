@@ -10,7 +10,7 @@ ghost use Rattle.log_ring.specs.Writes.{LogIs, LogGoes};
 
 use crate::fault::{RingFault, VolumeFault};
 use crate::places::{BLOCK_LEN, address_of, behind_of, choose_place};
-use crate::writing::{make_ready, write_synced};
+use crate::writing::{make_ready, open_gate, write_behind};
 use jet_base::OutOfMemory;
 use jet_io::Failed;
 use jet_volume::{LogStart, Volume};
@@ -73,8 +73,8 @@ fn store<V: Volume>(
 {
     lay_block(buffer, place, payload);
     let gate = address_of(place);
-    match write_synced(volume, gate + 1, &buffer[1..22 + payload.len()]) {
-        Ok(()) => write_synced(volume, gate, &[1]),
+    match write_behind(volume, gate, &buffer[..22 + payload.len()]) {
+        Ok(()) => open_gate(volume, gate),
         Err(fault) => Err(fault),
     }
 }

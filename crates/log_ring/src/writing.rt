@@ -1,6 +1,6 @@
 //! The single steps that change the log file, each of them synced before it answers.
 
-ghost use Rattle.std.specs.Prelude.{◌≡◌, ◌<◌, ◌≤◌, ℕ, ◌+◌, ◌^◌, List, [], ◌∷◌, length, OnOk};
+ghost use Rattle.std.specs.Prelude.{◌≡◌, ◌<◌, ◌≤◌, ℕ, ◌+◌, ◌^◌, List, [], ◌∷◌, length, drop, OnOk};
 ghost use Rattle.jet_io.specs.Faults.{CountsFault};
 ghost use Rattle.jet_volume.specs.Crash.{written, Torn};
 ghost use Rattle.log_ring.specs.Gates.{bars, barred, needs_zero, closed, BarringLeaves, ClosingLeaves, ReadyingLeaves};
@@ -11,7 +11,7 @@ use jet_io::Failed;
 use jet_volume::{File, Volume};
 
 /// Writes a piece into the log and syncs it.
-pub fn write_synced<V: Volume>(volume: &mut V, at: u64, piece: &[u8]) -> Result<(), Failed>
+fn write_synced<V: Volume>(volume: &mut V, at: u64, piece: &[u8]) -> Result<(), Failed>
     requires some { 0 < length piece.now }
     requires end { at + length piece.now ≤ 2 ^ 40 }
     ensures ok { V.tells_contents → (log : List ℕ) → LogIs V.seen V.moment V.left_at volume.old log
@@ -26,7 +26,7 @@ pub fn write_synced<V: Volume>(volume: &mut V, at: u64, piece: &[u8]) -> Result<
 }
 
 /// Writes a closed gate and syncs it.
-pub fn close_gate<V: Volume>(volume: &mut V, at: u64) -> Result<(), Failed>
+fn close_gate<V: Volume>(volume: &mut V, at: u64) -> Result<(), Failed>
     requires { at < 2 ^ 40 }
     ensures ok { V.tells_contents → (log : List ℕ) → LogIs V.seen V.moment V.left_at volume.old log
         → OnOk result (LogIs V.seen V.moment V.left_at volume.new (written at (0 ∷ []) log)) }
@@ -34,6 +34,29 @@ pub fn close_gate<V: Volume>(volume: &mut V, at: u64) -> Result<(), Failed>
     ensures faults { CountsFault result (V.faults volume.old) (V.faults volume.new) }
 {
     write_synced(volume, at, &[0])
+}
+
+/// Writes a block but for its gate and syncs it.
+pub fn write_behind<V: Volume>(volume: &mut V, gate: u64, block: &[u8]) -> Result<(), Failed>
+    requires some { 1 < length block.now }
+    requires end { gate + length block.now ≤ 2 ^ 40 }
+    ensures ok { V.tells_contents → (log : List ℕ) → LogIs V.seen V.moment V.left_at volume.old log
+        → OnOk result (LogIs V.seen V.moment V.left_at volume.new (written (gate + 1) (drop 1 block.now) log)) }
+    ensures any_moment { LogGoes V.moment V.left_at (Torn (gate + 1) (length (drop 1 block.now))) volume.old volume.new }
+    ensures faults { CountsFault result (V.faults volume.old) (V.faults volume.new) }
+{
+    write_synced(volume, gate + 1, &block[1..])
+}
+
+/// Writes an open gate and syncs it.
+pub fn open_gate<V: Volume>(volume: &mut V, at: u64) -> Result<(), Failed>
+    requires { at < 2 ^ 40 }
+    ensures ok { V.tells_contents → (log : List ℕ) → LogIs V.seen V.moment V.left_at volume.old log
+        → OnOk result (LogIs V.seen V.moment V.left_at volume.new (written at (1 ∷ []) log)) }
+    ensures any_moment { LogGoes V.moment V.left_at (Torn at 1) volume.old volume.new }
+    ensures faults { CountsFault result (V.faults volume.old) (V.faults volume.new) }
+{
+    write_synced(volume, at, &[1])
 }
 
 /// Whether a generation is barred, by the first nine bytes of its slot that the file has.

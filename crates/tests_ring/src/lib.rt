@@ -1,8 +1,14 @@
 //! Tests of the log file: appends that are cut short at each call, what a crash leaves of them, and hostile bytes.
 #![tactic(auto)]
 
-mod reopening;
 #[cfg(test)]
-mod ring;
+mod blocks;
+#[cfg(test)]
+mod counting;
+#[cfg(test)]
+mod crashes;
+#[cfg(test)]
+mod hostile;
+mod reopening;
 
 pub use reopening::{Reopened, open, reopen};

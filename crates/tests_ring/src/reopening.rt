@@ -32,16 +32,18 @@ pub fn open(alloc: Global, volume: &mut MemVolume, from: LogStart) -> Result<(Lo
     }
 }
 
-/// What a log gave before an append and after a crash, and whether the append was acknowledged.
+/// What a log gave before an append and after a crash, whether the append was acknowledged, and the log that goes on.
 #[derive(Drop)]
 pub struct Reopened {
     pub before: Vec<u8>,
     pub acknowledged: bool,
     pub after: Vec<u8>,
+    pub volume: MemVolume,
+    pub ring: LogRing,
 }
 
 /// Opens a log, appends to it, crashes, and opens it again: all that was acknowledged is there, and what was
-/// not is there whole or not at all.
+/// not is there whole or not at all. It can be appended to again.
 pub fn reopen(
     alloc: Global,
     mut volume: MemVolume,
@@ -59,6 +61,7 @@ pub fn reopen(
         → IfOk result (λ r. (r.after.items ≡ r.before.items) ⊎ (r.after.items ≡ r.before.items ++ bytes.now)) }
     ensures acknowledged { IsSettled mem_moment mem_left_at mem_seen volume
         → IfOk result (λ r. r.acknowledged ≡ true → r.after.items ≡ r.before.items ++ bytes.now) }
+    ensures ready { IfOk result (λ r. IsRingOf mem_seen mem_moment mem_left_at r.volume r.ring from r.after.items) }
 {
     scans_once();
     match open(alloc, &mut volume, from) {
@@ -66,10 +69,12 @@ pub fn reopen(
             let acknowledged = ring.append(&mut volume, bytes).is_ok();
             match volume.crash(pick, Vec::new(alloc), None) {
                 Ok(mut left) => match open(alloc, &mut left, from) {
-                    Ok((_ring, after)) => Ok(Reopened {
+                    Ok((again, after)) => Ok(Reopened {
                         before,
                         acknowledged,
                         after,
+                        volume: left,
+                        ring: again,
                     }),
                     Err(()) => Err(()),
                 },

@@ -24,8 +24,8 @@ returns-in-Ok-open-clause-kept c settled =
     let one = leaves_now mem_moment mem_left_at c.open.new.volume c.append.new.volume (ChangesLog mem_moment mem_left_at c.open.new.volume (λ old new. GivesBeforeOrAfter from before bytes new)) moments
     (mem_seen c.in-Ok-crash.left) c.in-Ok-crash.ensures.image in
     ⊎_elim
-    (λ (gives : Gives from before log). inl (c.scans_once.ensures.stream log from c.in-Ok-open.after.items before (ring_end c.in-Ok-open._ring) gives.0 c.in-Ok-open.ensures.stream gives.1))
-    (λ (gives : Gives from (before ++ bytes) log). inr (c.scans_once.ensures.stream log from c.in-Ok-open.after.items (before ++ bytes) (ring_end c.in-Ok-open._ring) gives.0 c.in-Ok-open.ensures.stream gives.1))
+    (λ (gives : Gives from before log). inl (c.scans_once.ensures.stream log from c.in-Ok-open.after.items before (ring_end c.in-Ok-open.again) gives.0 c.in-Ok-open.ensures.stream gives.1))
+    (λ (gives : Gives from (before ++ bytes) log). inr (c.scans_once.ensures.stream log from c.in-Ok-open.after.items (before ++ bytes) (ring_end c.in-Ok-open.again) gives.0 c.in-Ok-open.ensures.stream gives.1))
     one.log
 
 pub returns-in-Ok-open-clause-acknowledged : goal.returns-in-Ok-open-clause-acknowledged
@@ -36,5 +36,5 @@ returns-in-Ok-open-clause-acknowledged c settled told =
     let log = (mem_seen c.in-Ok-crash.left).log in
     let ring = on_ok_at c.append.result _ (sym c.is_ok-acknowledged.ensures.value ∙ told) (c.append.ensures.appended tt from before c.requires.first (c.in-Ok.ensures.ready settled)) in
     let same : log ≡ ring.log = ring.is.left (mem_seen c.in-Ok-crash.left) c.in-Ok-crash.ensures.image in
-    c.scans_once.ensures.stream log from c.in-Ok-open.after.items (before ++ bytes) (ring_end c.in-Ok-open._ring) (ring_end c.append.new.self) c.in-Ok-open.ensures.stream
+    c.scans_once.ensures.stream log from c.in-Ok-open.after.items (before ++ bytes) (ring_end c.in-Ok-open.again) (ring_end c.append.new.self) c.in-Ok-open.ensures.stream
     (subst (λ (l : List _). Scans l from (before ++ bytes) (ring_end c.append.new.self)) (sym same) ring.ready.scans)
