@@ -1,4 +1,5 @@
 pub mod Bytes
 pub mod FileLemmas
+pub mod OpenFiles
 pub mod Calls
 pub mod Outcomes

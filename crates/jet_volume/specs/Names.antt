@@ -1,5 +1,5 @@
 -- How the files of a volume are named.
-use Rattle.std.specs.Prelude.{ℕ, List, codes}
+use Rattle.std.specs.Prelude.{ℕ, List, ◌++◌, codes}
 use Rattle.jet_volume.specs.declared.files.File.{File}
 use Rattle.jet_volume.specs.declared.files.File.TheVariants.{Database, CheckpointA, CheckpointB, Log}
 
@@ -9,3 +9,7 @@ ending_of Database = codes ".edb"
 ending_of CheckpointA = codes "0.chk"
 ending_of CheckpointB = codes "1.chk"
 ending_of Log = codes ".log"
+
+-- the path of a file of the volume of this name
+abbrev pub file_path : List ℕ → File → List ℕ
+file_path name file = name ++ ending_of file
