@@ -150,6 +150,8 @@ impl<V: Volume> Store<V> {
         ensures any_moment { V.tells_contents → (checkpoint : Option Checkpoint) (stream : List ℕ)
             → IsOpened V.seen V.moment V.left_at self.old checkpoint stream
             → LeavesOnly V.moment V.left_at (store_volume self.old) (store_volume self.new) (Stands checkpoint stream) }
+        // A new volume has no log to make ready.
+        ensures new { (store_standing self.old).number ≡ 0 → self.new ≡ self.old }
         ensures end { store_end self.new ≡ store_end self.old }
         ensures standing { store_standing self.new ≡ store_standing self.old }
         ensures room { IsNotNoRoom result }
