@@ -1,3 +1,4 @@
+pub mod Clean
 pub mod FileParts
 pub mod Files
 pub mod Follows

@@ -60,11 +60,25 @@ abbrev pub HasSameBytes : Option PageContents → PageContents → Type 0
 HasSameBytes None page = ⊥
 HasSameBytes (Some old) page = page_bytes old ≡ page_bytes page
 
+-- A page is dirty where the standing checkpoint has in use no page of its number with the same bytes. A free page is not.
+abbrev pub IsDirty : Option PageContents → ℕ → Option PageContents → Type 0
+IsDirty old slot None = ⊥
+IsDirty old slot (Some page) = HasSameBytes old page → slot < 2 → ⊥
+
+-- both slots of every page that is not dirty hold what they held
+pub record SparesClean (dirty : ℕ → Type 0) (before image : Image) : Type 0 where
+  pub no_shorter : length before.database ≤ length image.database
+  pub spared : (p s : ℕ) → (dirty p → ⊥) → s < 2 → slot_start p s + 4096 ≤ length before.database → slot_of image.database p s ≡ slot_of before.database p s
+
 -- Where a page goes: it keeps its slot where the standing checkpoint has a page of its number with the same bytes, and
 -- else takes the slot that is not in use. A free page has none.
 abbrev pub TakesSlot : Option PageContents → ℕ → Option PageContents → ℕ → Type 0
 TakesSlot old slot None next = next ≡ 2
 TakesSlot old slot (Some page) next = (HasSameBytes old page × (slot < 2) × (next ≡ slot)) ⊎ ((HasSameBytes old page → slot < 2 → ⊥) × (next ≡ other_slot slot))
+
+-- the slot of a page in the list of an image that is being written: the one from before, or the one where the page goes
+abbrev pub KeepsOrTakesSlot : Option PageContents → ℕ → Option PageContents → ℕ → ℕ → Type 0
+KeepsOrTakesSlot old slot page before next = (next ≡ before) ⊎ TakesSlot old slot page next
 
 -- the other files stay, and this one too, or its gate is closed, or it is open and says what it is to say
 pub record WritesFile (file : File) (c : Contents) (before image : Image) : Type 0 where

@@ -7,7 +7,7 @@ ghost use Rattle.jet_volume.specs.Crash.{CrashLeaves};
 ghost use Rattle.page_image.specs.Page.{IsPage, page_bytes};
 ghost use Rattle.checkpoint.specs.Opening.{SlotSays};
 ghost use Rattle.checkpoint.specs.Shape.{HasOwnNumber};
-ghost use Rattle.checkpoint.specs.Steps.{EachFollows, HasSameBytes, SparesAllBut, SparesSlots, TakesSlot, other_slot};
+ghost use Rattle.checkpoint.specs.Steps.{EachFollows, HasSameBytes, IsDirty, KeepsOrTakesSlot, SparesAllBut, SparesClean, SparesSlots, TakesSlot, other_slot};
 
 use crate::image::Standing;
 use jet_io::Failed;
@@ -86,6 +86,7 @@ fn write_page<V: Volume>(
         → IfOk result (λ next. SlotSays (V.seen volume.new).database number next page.now) }
     ensures spares { V.tells_contents → SparesAllBut number (other_slot (slice_index_or standing.now.slots.items number 2)) (V.seen volume.old) (V.seen volume.new) }
     ensures each { EachFollows V.moment V.left_at (SparesAllBut number (other_slot (slice_index_or standing.now.slots.items number 2))) volume.old volume.new }
+    ensures clean { EachFollows V.moment V.left_at (SparesClean (λ p. (p ≡ number) × IsDirty (slice_index_or standing.now.pages.items number None) (slice_index_or standing.now.slots.items number 2) page.now)) volume.old volume.new }
     ensures faults { CountsFault result (V.faults volume.old) (V.faults volume.new) }
 {
     let Some(page) = page else {
@@ -114,10 +115,12 @@ fn write_dirty<V: Volume>(
     requires slots { length slots.old ≡ length pages.now }
     requires own { (p : ℕ) → HasOwnNumber pages.now p }
     ensures slots { OnOk result ((p : ℕ) → p < length pages.now → TakesSlot (slice_index_or standing.now.pages.items p None) (slice_index_or standing.now.slots.items p 2) (slice_index_or pages.now p None) (slice_index_or slots.new p 2)) }
+    ensures left_slots { (p : ℕ) → p < length pages.now → KeepsOrTakesSlot (slice_index_or standing.now.pages.items p None) (slice_index_or standing.now.slots.items p 2) (slice_index_or pages.now p None) (slice_index_or slots.old p 2) (slice_index_or slots.new p 2) }
     ensures held { V.tells_contents → ((p : ℕ) → SlotSays (V.seen volume.old).database p (slice_index_or standing.now.slots.items p 2) (slice_index_or standing.now.pages.items p None))
         → OnOk result ((p : ℕ) → p < length pages.now → SlotSays (V.seen volume.new).database p (slice_index_or slots.new p 2) (slice_index_or pages.now p None)) }
     ensures spares { V.tells_contents → SparesSlots standing.now.slots.items (V.seen volume.old) (V.seen volume.new) }
     ensures each { EachFollows V.moment V.left_at (SparesSlots standing.now.slots.items) volume.old volume.new }
+    ensures clean { EachFollows V.moment V.left_at (SparesClean (λ p. IsDirty (slice_index_or standing.now.pages.items p None) (slice_index_or standing.now.slots.items p 2) (slice_index_or pages.now p None))) volume.old volume.new }
     ensures faults { CountsFault result (V.faults volume.old) (V.faults volume.new) }
 {
     for number in 0..pages.len() {
@@ -140,11 +143,13 @@ pub fn write_pages<V: Volume>(
     requires slots { length slots.old ≡ length pages.now }
     requires own { (p : ℕ) → HasOwnNumber pages.now p }
     ensures slots { OnOk result ((p : ℕ) → p < length pages.now → TakesSlot (slice_index_or standing.now.pages.items p None) (slice_index_or standing.now.slots.items p 2) (slice_index_or pages.now p None) (slice_index_or slots.new p 2)) }
+    ensures left_slots { (p : ℕ) → p < length pages.now → KeepsOrTakesSlot (slice_index_or standing.now.pages.items p None) (slice_index_or standing.now.slots.items p 2) (slice_index_or pages.now p None) (slice_index_or slots.old p 2) (slice_index_or slots.new p 2) }
     ensures held { V.tells_contents → ((p : ℕ) → SlotSays (V.seen volume.old).database p (slice_index_or standing.now.slots.items p 2) (slice_index_or standing.now.pages.items p None))
         → OnOk result ((p : ℕ) → p < length pages.now → SlotSays (V.seen volume.new).database p (slice_index_or slots.new p 2) (slice_index_or pages.now p None)) }
     ensures spares { V.tells_contents → SparesSlots standing.now.slots.items (V.seen volume.old) (V.seen volume.new) }
     ensures durable { OnOk result (CrashLeaves V.moment V.left_at volume.new (λ image. image.database ≡ (V.seen volume.new).database)) }
     ensures each { EachFollows V.moment V.left_at (SparesSlots standing.now.slots.items) volume.old volume.new }
+    ensures clean { EachFollows V.moment V.left_at (SparesClean (λ p. IsDirty (slice_index_or standing.now.pages.items p None) (slice_index_or standing.now.slots.items p 2) (slice_index_or pages.now p None))) volume.old volume.new }
     ensures faults { CountsFault result (V.faults volume.old) (V.faults volume.new) }
 {
     match write_dirty(volume, pages, slots, standing) {

@@ -5,7 +5,7 @@ ghost use Rattle.jet_io.specs.Faults.{CountsFault};
 ghost use Rattle.jet_volume.specs.Crash.{CrashLeaves};
 ghost use Rattle.checkpoint.specs.Opening.{HasCheckpoint};
 ghost use Rattle.checkpoint.specs.Shape.{HasOwnNumber, IsInShape, IsStanding, contents_of, contents_with};
-ghost use Rattle.checkpoint.specs.Steps.{EachFollows, KeepsOrBrings, TakesSlot};
+ghost use Rattle.checkpoint.specs.Steps.{EachFollows, IsDirty, KeepsOrBrings, KeepsOrTakesSlot, SparesClean, TakesSlot};
 
 use crate::image::{Image, Standing};
 use crate::pages::write_pages;
@@ -40,6 +40,10 @@ fn write_parts<V: Volume>(
         → EachFollows V.moment V.left_at (KeepsOrBrings (λ s. contents_with head s live.now) pages.now) volume.old volume.new }
     ensures slots { OnOk result ((p : ℕ) → p < length pages.now
         → TakesSlot (slice_index_or standing.now.pages.items p None) (slice_index_or standing.now.slots.items p 2) (slice_index_or pages.now p None) (slice_index_or slots.new p 2)) }
+    ensures left_slots { (p : ℕ) → p < length pages.now
+        → KeepsOrTakesSlot (slice_index_or standing.now.pages.items p None) (slice_index_or standing.now.slots.items p 2) (slice_index_or pages.now p None) (slice_index_or slots.old p 2) (slice_index_or slots.new p 2) }
+    ensures clean { V.tells_contents → EachFollows V.moment V.left_at
+        (SparesClean (λ p. IsDirty (slice_index_or standing.now.pages.items p None) (slice_index_or standing.now.slots.items p 2) (slice_index_or pages.now p None))) volume.old volume.new }
     ensures log { V.tells_contents → (V.seen volume.new).log ≡ (V.seen volume.old).log }
     ensures faults { CountsFault result (V.faults volume.old) (V.faults volume.new) }
 {
@@ -50,7 +54,9 @@ fn write_parts<V: Volume>(
 /// Writes an image as the next checkpoint, whose log goes on at `start`. It takes no memory.
 ///
 /// Pages whose bytes are those of the standing checkpoint keep their slots and are not written. On success the
-/// image has the pages and slots of the checkpoint that stood before, and `standing` is the new one.
+/// image has the pages and slots of the checkpoint that stood before, and `standing` is the new one. After a fault
+/// `standing` is unchanged, and the image is in shape: it has its pages, and each of its slots is the one from before
+/// or the one where the page goes.
 pub fn write<V: Volume>(
     volume: &mut V,
     image: &mut Image,
@@ -67,6 +73,9 @@ pub fn write<V: Volume>(
         → EachFollows V.moment V.left_at (KeepsOrBrings (λ slots. contents_of (standing.old.number + 1) start slots image.old) image.old.pages.items) volume.old volume.new }
     ensures slots { OnOk result ((p : ℕ) → p < length image.old.pages.items
         → TakesSlot (slice_index_or standing.old.pages.items p None) (slice_index_or standing.old.slots.items p 2) (slice_index_or image.old.pages.items p None) (slice_index_or standing.new.slots.items p 2)) }
+    // What is not dirty is not written.
+    ensures clean { V.tells_contents → EachFollows V.moment V.left_at
+        (SparesClean (λ p. IsDirty (slice_index_or standing.old.pages.items p None) (slice_index_or standing.old.slots.items p 2) (slice_index_or image.old.pages.items p None))) volume.old volume.new }
     ensures count { OnOk result (length standing.new.slots.items ≡ length image.old.pages.items) }
     ensures number { OnOk result (standing.new.number ≡ standing.old.number + 1) }
     ensures format { OnOk result (standing.new.format ≡ 1) }
@@ -77,6 +86,9 @@ pub fn write<V: Volume>(
     ensures log { V.tells_contents → (V.seen volume.new).log ≡ (V.seen volume.old).log }
     ensures kept { (image.new.number ≡ image.old.number) × (image.new.catalog_root ≡ image.old.catalog_root) × (image.new.live.items ≡ image.old.live.items) }
     ensures same_pages { OnErr result (image.new.pages.items ≡ image.old.pages.items) }
+    ensures same_shape { OnErr result (IsInShape image.new) }
+    ensures left_slots { OnErr result ((p : ℕ) → p < length image.old.pages.items
+        → KeepsOrTakesSlot (slice_index_or standing.old.pages.items p None) (slice_index_or standing.old.slots.items p 2) (slice_index_or image.old.pages.items p None) (slice_index_or image.old.slots.items p 2) (slice_index_or image.new.slots.items p 2)) }
     ensures unchanged { OnErr result (standing.new ≡ standing.old) }
     ensures faults { CountsFault result (V.faults volume.old) (V.faults volume.new) }
 {

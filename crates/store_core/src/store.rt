@@ -32,6 +32,13 @@ pub struct Store<V> {
     ghost position: { standing.start.position ≤ (ring_end ring).position },
 }
 
+/// The count of faults that a volume shows when a call of a store has met one: the store is down since then.
+fn down_since<V: Volume>(volume: &V) -> Option<u64>
+    ensures { result ≡ Some (min (V.faults volume.now) (2 ^ 64 - 1)) }
+{
+    Some(volume.faults())
+}
+
 impl<V: Volume> Store<V> {
     ghost use Rattle.store_core.specs.Store.{store_volume, store_end, store_standing, store_down, checkpoint_of, IsCopyOf, IsOpened, IsWritable, CountsStoreFault, CountsOpenFault, IsNotNoRoom, checkpoint_found, may_be_opened};
 
@@ -143,6 +150,8 @@ impl<V: Volume> Store<V> {
         ensures any_moment { V.tells_contents → (checkpoint : Option Checkpoint) (stream : List ℕ)
             → IsOpened V.seen V.moment V.left_at self.old checkpoint stream
             → LeavesOnly V.moment V.left_at (store_volume self.old) (store_volume self.new) (Stands checkpoint stream) }
+        // A new volume has no log to make ready.
+        ensures new { (store_standing self.old).number ≡ 0 → self.new ≡ self.old }
         ensures end { store_end self.new ≡ store_end self.old }
         ensures standing { store_standing self.new ≡ store_standing self.old }
         ensures room { IsNotNoRoom result }
@@ -157,7 +166,7 @@ impl<V: Volume> Store<V> {
         match self.ring.seal(&mut self.volume) {
             Ok(()) => Ok(()),
             Err(_) => {
-                self.down = Some(self.volume.faults());
+                self.down = down_since(&self.volume);
                 Err(StoreFault::VolumeFault)
             }
         }
@@ -201,7 +210,7 @@ impl<V: Volume> Store<V> {
             Ok(()) => Ok(()),
             Err(RingFault::NoRoom) => Err(StoreFault::NoRoom),
             Err(RingFault::VolumeFault) => {
-                self.down = Some(self.volume.faults());
+                self.down = down_since(&self.volume);
                 Err(StoreFault::VolumeFault)
             }
         }
@@ -210,7 +219,7 @@ impl<V: Volume> Store<V> {
     /// Writes an image as the next checkpoint, behind which the log goes on at its end. At `Ok` every crash leaves it,
     /// and no byte of the log behind it. A crash at any moment of the call leaves the old checkpoint with its stream,
     /// or the new one with none. It takes no memory; on success the image has the pages and slots of the checkpoint
-    /// that stood before.
+    /// that stood before, and after a refusal it is in shape, with its pages.
     pub fn checkpoint(&mut self, image: &mut Image) -> Result<(), StoreFault>
         requires shape { IsInShape image.old }
         requires number { (store_standing self.old).number < 2 ^ 63 }
@@ -233,6 +242,7 @@ impl<V: Volume> Store<V> {
         ensures end { store_end self.new ≡ store_end self.old }
         ensures unchanged { OnErr result (store_standing self.new ≡ store_standing self.old) }
         ensures same_pages { OnErr result (image.new.pages.items ≡ image.old.pages.items) }
+        ensures same_shape { OnErr result (IsInShape image.new) }
         ensures untouched { (count : ℕ) → result ≡ Err (StoreFault.Down count) → image.new ≡ image.old }
         ensures room { IsNotNoRoom result }
         ensures faults { CountsStoreFault V.faults result self.old self.new }
@@ -249,7 +259,7 @@ impl<V: Volume> Store<V> {
                 Ok(())
             }
             Err(_) => {
-                self.down = Some(self.volume.faults());
+                self.down = down_since(&self.volume);
                 Err(StoreFault::VolumeFault)
             }
         }

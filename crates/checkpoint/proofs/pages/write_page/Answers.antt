@@ -1,7 +1,8 @@
-use Rattle.std.proofs.Common.{◌≡◌, sym, ◌∙◌, ap, subst, slice_index_or, MatchOption, None}
+use Rattle.std.proofs.Common.{◌≡◌, ◌<◌, refl, sym, ◌∙◌, ap, subst, slice_index_or, MatchOption, None, rules}
 use Rattle.page_image.specs.Page.{PageContents}
 use Rattle.checkpoint.specs.Opening.{SlotSays}
-use Rattle.checkpoint.specs.Steps.{SparesAllBut, other_slot}
+use Rattle.checkpoint.specs.Steps.{HasSameBytes, IsDirty, SparesAllBut, other_slot}
+use Rattle.checkpoint.proofs.Clean.{nothing_written, dirty_written}
 use Rattle.checkpoint.proofs.Follows.{follows_none}
 use Rattle.checkpoint.proofs.Regions.{spares_all, kept_says}
 use Rattle.checkpoint.proofs.Writes.{page_torn, page_follows, written_holds}
@@ -52,3 +53,35 @@ returns-then-has_same_bytes-clause-held g c tells says =
     subst (λ o. SlotSays (g.V.Volume.seen c.args.volume.now).database c.args.number c.used_slot-used.result o) (sym c.in-Some.is)
     (kept_says (g.V.Volume.seen c.args.volume.now).database c.args.number c.used_slot-used.result (slice_index_or c.args.standing.now.pages.items c.args.number None) c.in-Some.page
     (c.has_same_bytes.ensures.0 c.if-has_same_bytes.true) c.bytes_of-bytes.ensures.is_page own at_used)
+
+pub returns-in_default-clause-clean : goal.returns-in_default-clause-clean
+returns-in_default-clause-clean g c =
+    nothing_written g.V.Volume.moment g.V.Volume.left_at c.args.volume.now
+    (λ p. (p ≡ c.args.number) × IsDirty (slice_index_or c.args.standing.now.pages.items c.args.number None) (slice_index_or c.args.standing.now.slots.items c.args.number 2) c.args.page.now)
+
+pub returns-then-has_same_bytes-clause-clean : goal.returns-then-has_same_bytes-clause-clean
+returns-then-has_same_bytes-clause-clean g c =
+    nothing_written g.V.Volume.moment g.V.Volume.left_at c.args.volume.now
+    (λ p. (p ≡ c.args.number) × IsDirty (slice_index_or c.args.standing.now.pages.items c.args.number None) (slice_index_or c.args.standing.now.slots.items c.args.number 2) c.args.page.now)
+
+pub returns-in-Ok-clause-clean : goal.returns-in-Ok-clause-clean
+returns-in-Ok-clause-clean g c =
+    let old = slice_index_or c.args.standing.now.pages.items c.args.number None in
+    let slot = slice_index_or c.args.standing.now.slots.items c.args.number 2 in
+    let dirty : HasSameBytes old c.in-Some.page → slot < 2 → ⊥ = search rules in
+    dirty_written g.V.Volume.moment g.V.Volume.left_at c.args.volume.now c.write_at.new.self
+    (λ p. (p ≡ c.args.number) × IsDirty (slice_index_or c.args.standing.now.pages.items c.args.number None) (slice_index_or c.args.standing.now.slots.items c.args.number 2) c.args.page.now)
+    c.args.number (other_slot slot) (refl, subst (λ o. IsDirty old slot o) (sym c.in-Some.is) dirty)
+    (page_follows g.V.Volume.moment g.V.Volume.left_at c.args.volume.now c.write_at.new.self c.args.number c.unused_slot-slot.result _ c.slot_start.result _
+    c.unused_slot-slot.ensures.within (c.unused_slot-slot.ensures.value ∙ ap other_slot c.used_slot-used.ensures) c.slot_start.ensures c.bytes_of-bytes.ensures.whole c.write_at.ensures.time c.write_at.ensures.crash)
+
+pub returns-in-Err-clause-clean : goal.returns-in-Err-clause-clean
+returns-in-Err-clause-clean g c =
+    let old = slice_index_or c.args.standing.now.pages.items c.args.number None in
+    let slot = slice_index_or c.args.standing.now.slots.items c.args.number 2 in
+    let dirty : HasSameBytes old c.in-Some.page → slot < 2 → ⊥ = search rules in
+    dirty_written g.V.Volume.moment g.V.Volume.left_at c.args.volume.now c.write_at.new.self
+    (λ p. (p ≡ c.args.number) × IsDirty (slice_index_or c.args.standing.now.pages.items c.args.number None) (slice_index_or c.args.standing.now.slots.items c.args.number 2) c.args.page.now)
+    c.args.number (other_slot slot) (refl, subst (λ o. IsDirty old slot o) (sym c.in-Some.is) dirty)
+    (page_follows g.V.Volume.moment g.V.Volume.left_at c.args.volume.now c.write_at.new.self c.args.number c.unused_slot-slot.result _ c.slot_start.result _
+    c.unused_slot-slot.ensures.within (c.unused_slot-slot.ensures.value ∙ ap other_slot c.used_slot-used.ensures) c.slot_start.ensures c.bytes_of-bytes.ensures.whole c.write_at.ensures.time c.write_at.ensures.crash)

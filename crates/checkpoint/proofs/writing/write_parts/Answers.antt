@@ -1,8 +1,10 @@
-use Rattle.std.proofs.Common.{◌≡◌, [], length, refl, arith}
+use Rattle.std.proofs.Common.{◌≡◌, [], None, get_or, length, refl, arith}
 use Rattle.std.proofs.lemmas.Result.{on_ok_weaker}
 use Rattle.checkpoint.specs.Contents.{IsLawful}
 use Rattle.checkpoint.specs.Opening.{HoldsPages}
 use Rattle.checkpoint.specs.Shape.{contents_with}
+use Rattle.checkpoint.specs.Steps.{IsDirty}
+use Rattle.checkpoint.proofs.Clean.{file_beside}
 use Rattle.checkpoint.proofs.Files.{pages_keep, file_brings, new_alone, all_small}
 use Rattle.checkpoint.proofs.Stands.{says_all}
 use Rattle.checkpoint.proofs.writing.write_parts.Goals as goal
@@ -60,3 +62,10 @@ returns-clause-written g c =
     new_alone g.V.Volume.moment g.V.Volume.left_at c.args.volume.now c.write_pages.new.volume c.write_file.new.volume c.args.standing.now (λ s. contents_with c.args.head s c.args.live.now) c.args.head.number slots
     c.args.pages.now (g.V.Volume.seen c.write_pages.new.volume).database c.requires.next stands c.write_pages.ensures.each lawful refl c.in_ok-write_pages.ensures.durable holds (c.write_file.ensures.each tells) (says tells))
     c.write_file.ensures.written
+
+pub returns-clause-clean : goal.returns-clause-clean
+returns-clause-clean g c tells =
+    let olds = c.args.standing.now in
+    file_beside g.V.Volume.moment g.V.Volume.left_at c.args.volume.now c.write_pages.new.volume c.write_file.new.volume
+    (λ p. IsDirty (get_or olds.pages.items p None) (get_or olds.slots.items p 2) (get_or c.args.pages.now p None))
+    c.args.head.number (contents_with c.args.head c.write_pages.new.slots c.args.live.now) c.write_pages.ensures.clean (c.write_file.ensures.each tells)
