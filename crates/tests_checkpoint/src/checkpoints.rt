@@ -1,12 +1,12 @@
 //! Checkpoints of one page: the bytes of their files, the slots of dirty and clean pages, and each call failing.
 
-ghost use Rattle.std.specs.Prelude.{◌≡◌, ◌⊎◌, ◌<◌, IfOk, IfSome};
+ghost use Rattle.std.specs.Prelude.{◌≡◌, ◌<◌, IfOk};
 ghost use Rattle.checkpoint.specs.Shape.{IsInShape};
 
+use crate::images::{image_of, pages_of};
 use crate::reopening::{Reopened, reopen};
 use checkpoint::{CheckFault, Found, Image, Standing, write};
 use jet_volume::{File, LogStart, MemVolume, Volume};
-use page_image::Page;
 use std::alloc::{AllocError, Global};
 use std::test::Fail;
 
@@ -30,22 +30,11 @@ fn nothing(alloc: Global) -> Standing
     }
 }
 
-/// An image of one page without a node, of this kind.
+/// An image of five log entries with one page, of this kind.
 fn one_page(alloc: Global, kind: u8) -> Result<Image, AllocError>
-    requires { (kind ≡ 1) ⊎ (kind ≡ 2) }
     ensures { IfOk result (λ image. IsInShape image) }
 {
-    let page = Page::empty(0, kind);
-    let pages = vec![in alloc; Some(page)]?;
-    let slots = vec![in alloc; 2]?;
-    let live = vec![in alloc; 9, 8]?;
-    Ok(Image {
-        number: 5,
-        pages,
-        slots,
-        catalog_root: 0,
-        live,
-    })
+    image_of(alloc, 5, &[kind])
 }
 
 #[test]
@@ -92,9 +81,7 @@ fn a_dirty_page_takes_the_other_slot(rt: HostRuntime) -> Result<(), Fail> {
     let mut standing = nothing(alloc);
     for (kind, slot, size) in [(1, 0, 4096), (2, 1, 8192), (2, 1, 8192), (1, 0, 8192)] {
         let number = standing.number;
-        let Some(mut image) = image_of(alloc, kind)? else {
-            break;
-        };
+        let mut image = one_page(alloc, kind)?;
         if number > 9 || write(&mut volume, &mut image, START, &mut standing).is_err() {
             break;
         }
@@ -103,17 +90,6 @@ fn a_dirty_page_takes_the_other_slot(rt: HostRuntime) -> Result<(), Fail> {
     }
     assert_eq!(rt; standing.number, 4);
     Ok(())
-}
-
-/// An image of one page, where a page may be of this kind.
-fn image_of(alloc: Global, kind: u8) -> Result<Option<Image>, AllocError>
-    ensures { IfOk result (λ image. IfSome image IsInShape) }
-{
-    if kind == 1 || kind == 2 {
-        Ok(Some(one_page(alloc, kind)?))
-    } else {
-        Ok(None)
-    }
 }
 
 /// A volume with two checkpoints, of a page of kind 1 and then of kind 2.
@@ -181,5 +157,31 @@ fn each_call_of_reading_fails_as_told(rt: HostRuntime) -> Result<(), Fail> {
         let fault = reopen(alloc, volume, &mut one_page(alloc, 1)?, START, 0).err();
         assert_eq!(rt; fault, Some(CheckFault::VolumeFault), "call {call}");
     }
+    Ok(())
+}
+
+/// The pages of 64 MiB.
+const MANY: usize = 16_384;
+
+/// Whether an image of many pages, of which the first alone is dirty, is written on a volume that stops at this call.
+/// Then the database file ends behind that page.
+fn is_written_by(alloc: Global, stop: u64) -> Result<bool, AllocError> {
+    let mut kinds = vec![in alloc; 1; MANY]?;
+    let mut standing = nothing(alloc);
+    standing.pages = pages_of(alloc, &kinds)?;
+    standing.slots = vec![in alloc; 0; MANY]?;
+    kinds[0] = 2;
+    let mut image = image_of(alloc, 5, &kinds)?;
+    let mut volume = MemVolume::new(alloc, Vec::new(alloc), Some(stop));
+    let written = write(&mut volume, &mut image, START, &mut standing).is_ok();
+    Ok(written && volume.bytes(File::Database).len() == 8192)
+}
+
+// As many calls as for one page: that page and a sync, and eleven for one checkpoint file.
+#[test]
+fn of_many_pages_the_dirty_one_alone_is_written(rt: HostRuntime) -> Result<(), Fail> {
+    let alloc = rt.alloc();
+    assert!(rt; !is_written_by(alloc, 13)?);
+    assert!(rt; is_written_by(alloc, 14)?);
     Ok(())
 }

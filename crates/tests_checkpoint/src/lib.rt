@@ -3,8 +3,10 @@
 
 #[cfg(test)]
 mod checkpoints;
+mod images;
 #[cfg(test)]
 mod readings;
 mod reopening;
 
+pub use images::{image_of, pages_of};
 pub use reopening::{Reopened, reopen};
