@@ -3,6 +3,10 @@
 
 mod reopening;
 #[cfg(test)]
+mod rounds;
+#[cfg(test)]
+mod stops;
+#[cfg(test)]
 mod stores;
 
 pub use reopening::{Reopened, reopen};
