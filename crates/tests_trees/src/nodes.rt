@@ -43,7 +43,7 @@ fn keys_belong_to_children(rt: HostRuntime) {
 fn a_full_page_is_cut(rt: HostRuntime) {
     let page = three_nodes(&rt);
     assert!(&rt; page.used() == 3802 && page.len() == 3 && all_small(&page));
-    assert!(&rt; split_at(&page, 3, 300) == 3);
+    assert!(&rt; split_at(&page, 3, 300) == 2);
     assert!(&rt; split_at(&page, 1, 300) == 2);
 }
 
