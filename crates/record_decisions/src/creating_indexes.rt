@@ -11,9 +11,7 @@ use crate::answers::{done, is_full, one, refused};
 use crate::index_records::records_refusal;
 use crate::schema_calls::{called_table, has_records, sessions_refusal};
 use engine_parts::Engine;
-use engine_versions::{
-    an_answer_is_lawful_and_stays_in_step, tables_are_told, uses_are_told,
-};
+use engine_versions::{an_answer_is_lawful_and_stays_in_step, tables_are_told, uses_are_told};
 use index_derive::{EntryKind, NamedCondition, NamedSegment, SchemaCall, SchemaStep};
 use jet_base::{Items, Jet, OutOfMemory, Session};
 use jet_catalog::{
