@@ -4,7 +4,7 @@ ghost use Rattle.std.specs.Prelude.{◌≡◌, true, false, IfOk, OnErr};
 ghost use Rattle.session_local.specs.LocalCalls.{is_answered_locally};
 ghost use Rattle.session_local.specs.Run.{takes_no_memory};
 ghost use Rattle.session_local.specs.declared.request.Request.TheVariants as call;
-ghost use Rattle.engine_versions.specs.BuiltCalls.{is_built_request};
+ghost use Rattle.built_calls.specs.BuiltCalls.{is_built_request};
 ghost use Rattle.engine_parts.specs.Deciding.{Decides, IsBeside, IsDecision};
 
 use engine_parts::Engine;

@@ -11,7 +11,7 @@ ghost use Rattle.session_local.specs.Outcome.{Asked};
 ghost use Rattle.session_local.specs.Run.{Line, RunState, after_served, asked_in, outcome_of, run_from, takes_no_memory};
 ghost use Rattle.session_local.specs.SessionSide.{SessionSide};
 ghost use Rattle.database_state.specs.State.{empty_state};
-ghost use Rattle.engine_versions.specs.BuiltCalls.{is_built_request};
+ghost use Rattle.built_calls.specs.BuiltCalls.{is_built_request};
 ghost use Rattle.engine_versions.specs.EngineState.{EngineState, empty_engine};
 ghost use Rattle.engine_versions.specs.EngineSteps.{cleaned_for, engine_after_answer};
 ghost use Rattle.engine_parts.specs.Deciding.{Decides, IsAnswer, IsBeside};

@@ -25,7 +25,7 @@ use Rattle.table_versions.specs.StoredVersions.{entries_in}
 use Rattle.session_local.specs.Agreement.{HasSchemaOf}
 use Rattle.session_local.specs.Local.{LocalState, OpenCursor, cursor_labelled}
 use Rattle.agreeing_sessions.specs.InStep.{IsInStep}
-use Rattle.engine_versions.specs.BuiltTables.{is_built_column, is_built_table}
+use Rattle.built_calls.specs.BuiltTables.{is_built_column, is_built_table}
 use Rattle.engine_versions.specs.EngineState.{EngineState}
 use Rattle.engine_versions.specs.HoldsState.{HoldsState}
 use Rattle.engine_parts.specs.Reading.{entries_for, record_for}

@@ -26,7 +26,7 @@ use Rattle.session_local.specs.Showing.{names_within}
 use Rattle.session_local.specs.WellFormed.{IsWellFormed, is_well_formed_cursor, is_well_formed_schema, is_well_formed_update, number_of_column}
 use Rattle.session_local.specs.Calls.{answer}
 use Rattle.agreeing_sessions.specs.InStep.{IsInStep}
-use Rattle.engine_versions.specs.BuiltTables.{is_built_column}
+use Rattle.built_calls.specs.BuiltTables.{is_built_column}
 use Rattle.engine_versions.specs.EngineState.{EngineState}
 use Rattle.engine_versions.specs.HoldsState.{HoldsState, asked_of}
 use Rattle.engine_parts.specs.Deciding.{Decides, IsBeside, IsDecision}

@@ -15,7 +15,7 @@ use Rattle.column_set.specs.Reading.{IsFront}
 use Rattle.record_changes.proofs.Tests.{and_both, and_left, and_right}
 use Rattle.session_local.specs.SessionSide.{are_distinct}
 use Rattle.session_local.specs.WellFormed.{number_of_column}
-use Rattle.engine_versions.specs.BuiltTables.{is_built_column}
+use Rattle.built_calls.specs.BuiltTables.{is_built_column}
 use Rattle.engine_parts.specs.Retrieving.{AreReadable}
 use Rattle.engine_parts.proofs.Found.{all_at, all_found, by_number, same_number, values_of-counted, values_of-fit}
 

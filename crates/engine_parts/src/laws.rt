@@ -8,7 +8,7 @@ ghost use Rattle.database_state.specs.Table.{row_at};
 ghost use Rattle.session_local.specs.Local.{LocalState, OpenCursor, cursor_labelled};
 ghost use Rattle.session_local.specs.Outcome.{entries_seen, rows_seen};
 ghost use Rattle.agreeing_sessions.specs.InStep.{IsInStep};
-ghost use Rattle.engine_versions.specs.BuiltTables.{is_built_column};
+ghost use Rattle.built_calls.specs.BuiltTables.{is_built_column};
 ghost use Rattle.engine_versions.specs.EngineState.{EngineState};
 ghost use Rattle.engine_versions.specs.HoldsState.{HoldsState, asked_of};
 ghost use Rattle.engine_parts.specs.Reading.{entries_for, record_for};

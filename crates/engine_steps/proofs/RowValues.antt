@@ -13,7 +13,8 @@ use Rattle.database_state.specs.Table.{GreatestColumns}
 use Rattle.record_changes.proofs.Tests.{and_left, and_right, and_both, impossible, same_number}
 use Rattle.session_local.specs.WellFormed.{stands_in}
 use Rattle.version_records.proofs.PrimaryKeys.{found_passes}
-use Rattle.engine_versions.specs.BuiltTables.{are_in_range, is_built_column, is_given_number}
+use Rattle.built_calls.specs.BuiltTables.{is_built_column}
+use Rattle.engine_versions.specs.ColumnNumbers.{are_in_range, is_given_number}
 
 -- ---- values of types that are not long
 

@@ -23,8 +23,8 @@ use Rattle.version_keys.proofs.FreeKeys.{in_any_order}
 use Rattle.version_keys.proofs.IndexNumbers.{all_primary_first, none_of}
 use Rattle.version_keys.proofs.SchemaKeys.{IsNewIndex, at_found, new_index, unrefused}
 use Rattle.version_records.proofs.PrimaryKeys.{found_passes, of_found}
+use Rattle.built_calls.specs.BuiltTables.{is_built_column, makes_built}
 use Rattle.engine_parts.specs.Parts.{tables_of}
-use Rattle.engine_versions.specs.BuiltTables.{is_built_column, makes_built}
 use Rattle.engine_versions.specs.EngineState.{EngineState}
 use Rattle.engine_versions.proofs.Telling.{tables_settled}
 use Rattle.versioned_tables.specs.HeldRecords.{HeldRecord}

@@ -30,7 +30,8 @@ use Rattle.version_records.specs.Bookmarks.{is_bookmark}
 use Rattle.version_records.proofs.EntryNumbers.{entry_number-own}
 use Rattle.version_records.proofs.PrimaryKeys.{found_passes, of_found}
 use Rattle.version_records.proofs.Standing.{bookmarks_seen}
-use Rattle.engine_versions.specs.BuiltTables.{are_in_range, has_own_numbers, is_built_column, is_built_rule, is_built_table, is_given_number}
+use Rattle.built_calls.specs.BuiltTables.{is_built_column, is_built_rule, is_built_table}
+use Rattle.engine_versions.specs.ColumnNumbers.{are_in_range, has_own_numbers, is_given_number}
 use Rattle.engine_versions.specs.EngineState.{EngineState}
 use Rattle.engine_versions.specs.HoldsState.{HoldsState}
 use Rattle.engine_versions.proofs.AfterEntries.{no_sum_comes}

@@ -17,7 +17,7 @@ use Rattle.version_history.specs.History.{EachTwo, LabelsRise}
 use Rattle.version_history.proofs.LawfulEntries.{outside}
 use Rattle.version_cleanup.specs.declared.live.Transaction.{Transaction}
 use Rattle.version_cleanup.specs.LiveSessions.{LiveState, began, ended, live_state, with_session, without_snapshot}
-use Rattle.engine_versions.specs.BuiltTables.{makes_built}
+use Rattle.built_calls.specs.BuiltTables.{makes_built}
 use Rattle.engine_versions.specs.EngineState.{EngineState, HasRoomForEnds}
 use Rattle.engine_versions.specs.EngineSteps.{cleaned_for, effect_on, engine_after, step_cleans}
 use Rattle.engine_versions.specs.HoldsState.{HoldsAllInStep, HoldsState}

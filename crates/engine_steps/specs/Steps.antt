@@ -12,7 +12,7 @@ use Rattle.database_state.specs.Lawful.{is_lawful}
 use Rattle.lawful_answers.specs.LawfulSteps.{AreLawful}
 use Rattle.version_cleanup.specs.LiveSessions.{ended, with_session}
 use Rattle.versioned_tables.specs.HeldRecords.{HeldRecord}
-use Rattle.engine_versions.specs.BuiltTables.{AllMakeBuilt, makes_built}
+use Rattle.built_calls.specs.BuiltTables.{AllMakeBuilt, makes_built}
 use Rattle.engine_versions.specs.EngineState.{EngineState}
 use Rattle.engine_versions.specs.HoldsState.{HoldsState}
 

@@ -32,7 +32,7 @@ use Rattle.versioned_tables.proofs.Unchanged.{unchanged_holds}
 use Rattle.versioned_tables.proofs.Undoing.{all_undone_holds, left_holds, undone_holds}
 use Rattle.lawful_answers.specs.LawfulSteps.{AreLawful, IsReached, is_sum_entry}
 use Rattle.lawful_answers.proofs.ReachedStates.{reaches}
-use Rattle.engine_versions.specs.BuiltTables.{AllMakeBuilt, is_built_column, is_built_rule, is_built_table, makes_built}
+use Rattle.built_calls.specs.BuiltTables.{AllMakeBuilt, is_built_column, is_built_rule, is_built_table, makes_built}
 use Rattle.engine_versions.specs.EngineState.{EngineState}
 use Rattle.engine_versions.specs.EngineSteps.{engine_after, engine_after_all, greatest_after, maker, store_after}
 use Rattle.engine_versions.specs.HoldsState.{HoldsState}

@@ -1,9 +1,7 @@
 -- Answers: their steps are lawful, and the sessions stay in step.
-use Rattle.std.proofs.Common.{◌≡◌, ℕ, true, false, not, ◌&&◌, Option, Some, None, refl, sym}
-use Rattle.std.specs.Prelude.{nat_le}
+use Rattle.std.proofs.Common.{◌≡◌, ℕ, true, false, Option, Some, None, refl, sym}
 use Rattle.std.specs.List.{AllByRecursion}
 use Rattle.jet_base.specs.declared.words.Prepare.TheVariants as prepare
-use Rattle.jet_base.specs.TypeKinds.{is_long_type}
 use Rattle.index_derive.specs.declared.log.Step.{Step}
 use Rattle.index_derive.specs.Steps.{entries_of_step}
 use Rattle.database_state.specs.Lawful.{is_name}
@@ -30,8 +28,8 @@ use Rattle.agreeing_sessions.proofs.Moves.{cancels, chooses_index, goes_to, make
 use Rattle.agreeing_sessions.proofs.OwnSessions.{closes, commits, opens, rolls_back, session_begins, session_ends, transaction_begins}
 use Rattle.agreeing_sessions.proofs.Replacing.{replaces}
 use Rattle.agreeing_sessions.proofs.SchemaCalls.{column_added, column_deleted, index_created, index_deleted, table_created, table_deleted}
-use Rattle.engine_versions.specs.BuiltCalls.{is_built_request}
-use Rattle.engine_versions.specs.BuiltTables.{AllMakeBuilt}
+use Rattle.built_calls.specs.BuiltCalls.{is_built_request}
+use Rattle.built_calls.specs.BuiltTables.{AllMakeBuilt, is_built_kind, is_built_limit}
 use Rattle.engine_versions.specs.EngineState.{EngineState, HasRoomForEnds}
 use Rattle.engine_versions.specs.EngineSteps.{engine_after_answer, engine_after_step}
 use Rattle.engine_versions.specs.HoldsState.{HoldsAllInStep, HoldsState, asked_of, with_local}
@@ -56,13 +54,13 @@ answer_lawful one rise engine state h session local request step built = elim (t
     stepping call.BeginTransaction b e = lawful_sessions.transaction_begins (asked_of engine state session local) step.agrees
     stepping (call.CommitTransaction lazy) b e = lawful_sessions.commits rise h.base h.dropped h.kept (asked_of engine state session local) lazy h.reached step.agrees
     stepping (call.Rollback all) b e = lawful_sessions.rolled_back (asked_of engine state session local) all step.agrees
-    stepping (call.CreateTable table) b e = lawful_schema.table_made (asked_of engine state session local) table step.agrees b
+    stepping (call.CreateTable table) b e = lawful_schema.table_made (asked_of engine state session local) table step.agrees (and_left (is_name table) true b)
     stepping (call.DeleteTable table) b e = lawful_schema.table_deleted (asked_of engine state session local) table step.agrees
     stepping (call.AddColumn table column kind flags) b e =
-        lawful_schema.column_made (asked_of engine state session local) table column kind flags step.agrees h.reached.order (and_left (is_name column) _ (and_left (is_name column && not (is_long_type kind)) _ b))
+        lawful_schema.column_made (asked_of engine state session local) table column kind flags step.agrees h.reached.order (and_left (is_name column) (is_built_kind kind flags.escrow flags.version flags.auto) b)
     stepping (call.DeleteColumn table column) b e = lawful_schema.column_deleted (asked_of engine state session local) table column step.agrees
     stepping (call.CreateIndex table index flags key_most segments conditions) b e =
-        lawful_schema.index_made (asked_of engine state session local) table index flags key_most segments conditions step.agrees h.reached.order (and_left (is_name index) (nat_le key_most 255) b)
+        lawful_schema.index_made (asked_of engine state session local) table index flags key_most segments conditions step.agrees h.reached.order (and_left (is_name index) (is_built_limit key_most) b)
     stepping (call.DeleteIndex table index) b e = lawful_schema.index_deleted (asked_of engine state session local) table index step.agrees
     stepping (call.OpenTable cursor table) b e = lawful_sessions.table_opens (asked_of engine state session local) cursor table step.agrees
     stepping (call.CloseTable cursor) b e = lawful_sessions.table_closes (asked_of engine state session local) cursor step.agrees

@@ -14,7 +14,8 @@ use Rattle.version_cleanup.specs.LiveSessions.{live_state}
 use Rattle.versioned_tables.proofs.Alone.{alone_holds}
 use Rattle.versioned_tables.proofs.TablesInOrder.{in_order_rise}
 use Rattle.lawful_answers.proofs.ReachedStates.{begins}
-use Rattle.engine_versions.specs.BuiltTables.{are_built, have_own_numbers}
+use Rattle.built_calls.specs.BuiltTables.{are_built}
+use Rattle.engine_versions.specs.ColumnNumbers.{have_own_numbers}
 use Rattle.engine_versions.specs.EngineState.{HasRoomForEnds, empty_engine, engine_of}
 use Rattle.engine_versions.specs.HoldsState.{HoldsState}
 

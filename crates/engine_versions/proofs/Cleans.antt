@@ -20,7 +20,7 @@ use Rattle.versioned_tables.specs.Holding.{Holds, Matches}
 use Rattle.versioned_tables.proofs.Changing.{cleaned as held_cleaned}
 use Rattle.lawful_answers.specs.LawfulSteps.{AreLawful, IsReached}
 use Rattle.lawful_answers.proofs.ReachedStates.{cleaned as reached_cleaned}
-use Rattle.engine_versions.specs.BuiltTables.{AllMakeBuilt}
+use Rattle.built_calls.specs.BuiltTables.{AllMakeBuilt}
 use Rattle.engine_versions.specs.EngineState.{EngineState, cleaned}
 use Rattle.engine_versions.specs.EngineSteps.{cleaned_for, engine_after_all, engine_after_step, step_cleans}
 use Rattle.engine_versions.specs.HoldsState.{HoldsState}

@@ -2,7 +2,6 @@
 use Rattle.std.proofs.Common.{◌≡◌, ℕ, Bool, true, false, not, ◌&&◌, ◌||◌, cond, List, [], ◌∷◌, ◌++◌, length, Option, Some, None, refl, sym}
 use Rattle.std.specs.Prelude.{◌==◌, ◌-◌, is_none, is_some, nat_le, nat_lt, find, slice_get, bytes_eq}
 use Rattle.std.specs.List.{AllByRecursion}
-use Rattle.jet_base.specs.TypeKinds.{is_long_type}
 use Rattle.jet_base.specs.ColumnType.{is_number_type}
 use Rattle.jet_base.specs.Given.{given_fits}
 use Rattle.jet_base.specs.declared.replies.Jet.{Jet}
@@ -41,8 +40,8 @@ use Rattle.session_local.specs.Local.{LocalState, OpenCursor, PreparedUpdate, cu
 use Rattle.session_local.specs.Outcome.{Asked, Outcome, at_cursor, current_refusals, is_outside, number_refusals, on_cursor, one, refused, rows_seen, span_refusals, step_of_change, unless, unless_refused}
 use Rattle.session_local.specs.RecordCalls.{bookmark_for, column_shown, conflict_refusals, current, delete, drop_at, get_lock, hold_at, is_primary_changed, on_column, on_prepared, own_refusals, prepare_replace, prepared_refusals, put_of, record_at, replaced_by, retrieve_column, retrieve_copy, set_column, set_column_in, transaction_refusals, update, update_with, value_shown}
 use Rattle.session_local.specs.SchemaCalls.{schema_changed}
-use Rattle.engine_versions.specs.BuiltCalls.{is_built_request}
-use Rattle.engine_versions.specs.BuiltTables.{AllMakeBuilt, makes_built}
+use Rattle.built_calls.specs.BuiltCalls.{is_built_request}
+use Rattle.built_calls.specs.BuiltTables.{AllMakeBuilt, is_built_kind, is_built_limit, makes_built}
 
 -- it holds of every answer without a step
 abbrev pub Quiet : (Outcome → Type 0) → Type 0
@@ -214,10 +213,6 @@ ends_built : (asked : Asked) (b : Bool) → AreOwnBuilt asked.session (entries_o
 ends_built asked true = ((refl, refl), tt)
 ends_built asked false = ((refl, refl), tt)
 
-plain_column : (a b c : Bool) → (a && b && c) ≡ true → (b && c) ≡ true
-plain_column true b c e = e
-plain_column false b c e = impossible e
-
 abbrev begin_refusals : Asked → Refusals
 begin_refusals asked = (asked.local.begun, jet.SessionInUse) ∷ (nat_le 64 (length asked.state.sessions), jet.OutOfSessions) ∷ number_refusals asked
 
@@ -231,10 +226,10 @@ step_built asked (call.Rollback all) e f = begun_each (TakesBuilt asked.session)
 step_built asked (call.CreateTable table) e f = begun_each (TakesBuilt asked.session) asked _ (λ b. schema_built asked (table_step asked.state table) refl) (λ b. tt)
 step_built asked (call.DeleteTable table) e f = begun_each (TakesBuilt asked.session) asked _ (λ b. schema_built asked (deleted_table_step asked.state table) refl) (λ b. tt)
 step_built asked (call.AddColumn table column kind flags) e f =
-    begun_each (TakesBuilt asked.session) asked _ (λ b. schema_built asked (column_step asked.state table column kind flags) (plain_column (is_name column) (not (is_long_type kind)) (not (flags.escrow || (flags.version || flags.auto))) e)) (λ b. tt)
+    begun_each (TakesBuilt asked.session) asked _ (λ b. schema_built asked (column_step asked.state table column kind flags) (and_right (is_name column) (is_built_kind kind flags.escrow flags.version flags.auto) e)) (λ b. tt)
 step_built asked (call.DeleteColumn table column) e f = begun_each (TakesBuilt asked.session) asked _ (λ b. schema_built asked (deleted_column_step asked.state table column) refl) (λ b. tt)
 step_built asked (call.CreateIndex table index flags key_most segments conditions) e f =
-    begun_each (TakesBuilt asked.session) asked _ (λ b. schema_built asked (index_step asked.state table index flags key_most segments conditions) (and_right (is_name index) (nat_le key_most 255) e)) (λ b. tt)
+    begun_each (TakesBuilt asked.session) asked _ (λ b. schema_built asked (index_step asked.state table index flags key_most segments conditions) (and_right (is_name index) (is_built_limit key_most) e)) (λ b. tt)
 step_built asked (call.DeleteIndex table index) e f = begun_each (TakesBuilt asked.session) asked _ (λ b. schema_built asked (deleted_index_step asked.state table index) refl) (λ b. tt)
 step_built asked (call.OpenTable cursor table) e f = begun_each (TakesBuilt asked.session) asked _ (λ b. unless_each (TakesBuilt asked.session) (quiet_built asked.session) asked ((is_some (cursor_labelled asked.local cursor.0), jet.InvalidTableId) ∷ (nat_le 16 (length asked.local.cursors), jet.OutOfCursors) ∷ []) _ (opened_built asked cursor.0 (table_named asked.state.tables table))) (λ b. tt)
 step_built asked (call.CloseTable cursor) e f = begun_each (TakesBuilt asked.session) asked _ (λ b. cursor_each (TakesBuilt asked.session) (quiet_built asked.session) asked cursor.0 (close_table asked) (λ c g. ((refl, refl), tt))) (λ b. tt)

@@ -22,7 +22,8 @@ use Rattle.version_history.proofs.EndEntries.{same_definitions}
 use Rattle.version_keys.specs.TableOrder.{IdsRise}
 use Rattle.version_keys.proofs.OrderedTables.{found_each}
 use Rattle.version_keys.proofs.SchemaKeys.{at_found, at_table, with_last, without_table}
-use Rattle.engine_versions.specs.BuiltTables.{are_built, are_in_range, has_own_numbers, have_own_numbers, is_built_column, is_built_rule, is_built_table, is_given_number, makes_built}
+use Rattle.built_calls.specs.BuiltTables.{are_built, is_built_column, is_built_rule, is_built_table, makes_built}
+use Rattle.engine_versions.specs.ColumnNumbers.{are_in_range, has_own_numbers, have_own_numbers, is_given_number}
 use Rattle.engine_versions.proofs.ColumnNumbers.{has_own_numbers-with_column}
 
 -- ---- tests of all tables

@@ -16,7 +16,8 @@ use Rattle.session_local.specs.Local.{LocalState, OpenCursor, PreparedUpdate}
 use Rattle.session_local.specs.SessionSide.{are_distinct}
 use Rattle.session_local.specs.WellFormed.{has_short_keys, is_long_if_sum, is_sum, is_well_formed_cursor, is_well_formed_schema, is_well_formed_update, number_of_column, stands_in}
 use Rattle.agreeing_sessions.specs.InStep.{IsInStep}
-use Rattle.engine_versions.specs.BuiltTables.{are_in_range, has_own_numbers, is_built_column, is_built_rule, is_built_table, is_given_number}
+use Rattle.built_calls.specs.BuiltTables.{is_built_column, is_built_rule, is_built_table}
+use Rattle.engine_versions.specs.ColumnNumbers.{are_in_range, has_own_numbers, is_given_number}
 use Rattle.engine_versions.specs.EngineState.{EngineState}
 use Rattle.engine_versions.specs.HoldsState.{HoldsState}
 use Rattle.engine_versions.proofs.ColumnNumbers.{all_mono}

@@ -11,7 +11,8 @@ use Rattle.lawful_answers.specs.LawfulSteps.{IsReached}
 use Rattle.session_local.specs.Local.{LocalState}
 use Rattle.session_local.specs.Outcome.{Asked}
 use Rattle.agreeing_sessions.specs.InStep.{IsInStep}
-use Rattle.engine_versions.specs.BuiltTables.{are_built, have_own_numbers}
+use Rattle.built_calls.specs.BuiltTables.{are_built}
+use Rattle.engine_versions.specs.ColumnNumbers.{have_own_numbers}
 use Rattle.engine_versions.specs.EngineState.{EngineState}
 
 -- The engine holds a state that lawful entries reach: its tables and held changes hold it, its sessions are those of the state

@@ -1,5 +1,4 @@
 pub mod EngineState
 pub mod EngineSteps
-pub mod BuiltTables
-pub mod BuiltCalls
+pub mod ColumnNumbers
 pub mod HoldsState

@@ -8,7 +8,7 @@ ghost use Rattle.database_state.specs.State.{DatabaseState};
 ghost use Rattle.database_state.specs.Step.{state_after, state_after_all};
 ghost use Rattle.database_state.specs.Lawful.{is_lawful};
 ghost use Rattle.lawful_answers.specs.LawfulSteps.{AreLawful};
-ghost use Rattle.engine_versions.specs.BuiltTables.{AllMakeBuilt, makes_built};
+ghost use Rattle.built_calls.specs.BuiltTables.{AllMakeBuilt, makes_built};
 ghost use Rattle.engine_versions.specs.EngineState.{EngineState, HasRoomForEnds, cleaned};
 ghost use Rattle.engine_versions.specs.EngineSteps.{engine_after, engine_after_all, engine_after_step};
 ghost use Rattle.engine_versions.specs.HoldsState.{HoldsState};

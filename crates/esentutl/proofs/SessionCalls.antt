@@ -25,9 +25,9 @@ use Rattle.session_local.specs.Outcome.{Asked, Outcome, done, refused, one, numb
 use Rattle.session_local.specs.Calls.{answer, is_local}
 use Rattle.session_local.specs.Run.{RunState, SessionRun, Line, session_run, asked_in, outcome_of, number_of_line, last_after, after_served, takes_no_memory}
 use Rattle.script_transcript.specs.TranscriptLine.{names_at_most}
+use Rattle.built_calls.specs.BuiltCalls.{is_built_request}
 use Rattle.run_sessions.specs.declared.sessions.RunSession.{RunSession}
 use Rattle.run_sessions.specs.Sessions.{session_at, in_run}
-use Rattle.engine_versions.specs.BuiltCalls.{is_built_request}
 use Rattle.engine_versions.specs.EngineState.{EngineState}
 use Rattle.engine_versions.specs.EngineSteps.{engine_after_answer}
 use Rattle.engine_parts.specs.Deciding.{IsAnswer as IsDecidedAnswer}

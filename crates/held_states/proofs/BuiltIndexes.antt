@@ -7,8 +7,8 @@ use Rattle.index_derive.specs.declared.rules.IndexRule.{IndexRule}
 use Rattle.database_state.specs.Table.{Table}
 use Rattle.database_state.specs.SchemaChanges.{is_long_type, rule_columns}
 use Rattle.record_changes.proofs.Tests.{and_both, and_left, and_right, not_true, or_first}
-use Rattle.engine_versions.specs.BuiltTables.{are_built, is_built_column, is_built_rule, is_built_table}
 use Rattle.equivalent_states.specs.PlainIndexes.{is_sum_number, read_no_sums, reads_no_sum}
+use Rattle.built_calls.specs.BuiltTables.{are_built, is_built_column, is_built_rule, is_built_table}
 
 no_sum : (columns : List Column) → list_all is_built_column columns ≡ true → (id : ℕ) → is_sum_number columns id ≡ false
 no_sum [] h id = refl

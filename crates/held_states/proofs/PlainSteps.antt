@@ -27,7 +27,7 @@ use Rattle.version_keys.specs.TableOrder.{IdsRise}
 use Rattle.version_keys.proofs.IndexNumbers.{found_in_filter}
 use Rattle.version_keys.proofs.OrderedTables.{order_kept}
 use Rattle.version_keys.proofs.SchemaKeys.{at_found, at_table, unused_by, with_last, without_table}
-use Rattle.engine_versions.specs.BuiltTables.{are_in_range, has_own_numbers, have_own_numbers, is_given_number}
+use Rattle.engine_versions.specs.ColumnNumbers.{are_in_range, has_own_numbers, have_own_numbers, is_given_number}
 use Rattle.engine_versions.proofs.ColumnNumbers.{all_mono}
 use Rattle.engine_versions.proofs.Tables.{all_filtered, all_found, all_listed, definitions_stay, is_schema_entry, numbers_stay, tested_alike}
 use Rattle.equivalent_states.specs.PlainIndexes.{is_sum_number, read_no_sums, reads_no_sum}

@@ -20,7 +20,8 @@ use Rattle.database_state.specs.SchemaChanges.{has_column, index_number_refusals
 use Rattle.database_state.specs.SchemaSteps.{asked_index, called_name}
 use Rattle.database_state.specs.State.{DatabaseState}
 use Rattle.database_state.specs.Table.{Rows, Table, schema_of, table_named}
-use Rattle.engine_versions.specs.BuiltCalls.{is_built_request}
+use Rattle.built_calls.specs.BuiltCalls.{is_built_request}
+use Rattle.built_calls.specs.SchemaRequests.{schema_call_of}
 use Rattle.engine_versions.specs.EngineState.{EngineState}
 use Rattle.engine_versions.specs.HoldsState.{HoldsState}
 use Rattle.jet_catalog.specs.Catalog.{CatalogState, IsNumbered, database_of, without_rows}
@@ -31,7 +32,7 @@ use Rattle.session_local.specs.declared.request.Request.TheVariants as call
 use Rattle.session_local.specs.SessionSide.{SessionSide}
 use Rattle.version_cleanup.specs.LiveSessions.{levels_in}
 use Rattle.record_decisions.specs.CreatingIndexes.{HasKeys, makes_index, step_refusals_in}
-use Rattle.record_decisions.specs.SchemaRequests.{catalog_in, engine_table, schema_call_of, sessions_in}
+use Rattle.record_decisions.specs.SchemaRequests.{catalog_in, engine_table, sessions_in}
 use Rattle.record_decisions.proofs.SchemaCalls.{IsAsked, SchemaLaws, found-told, outside-passed, rows-told}
 
 -- ---- the records of the table

@@ -35,7 +35,7 @@ use Rattle.session_local.specs.Run.{flushes_step}
 use Rattle.session_local.specs.SessionSide.{SessionSide, are_distinct}
 use Rattle.session_local.specs.WellFormed.{IsWellFormed, is_well_formed_cursor, is_well_formed_schema, is_well_formed_update, number_of_column, stands_in}
 use Rattle.agreeing_sessions.specs.InStep.{IsInStep}
-use Rattle.engine_versions.specs.BuiltTables.{is_built_column}
+use Rattle.built_calls.specs.BuiltTables.{is_built_column}
 use Rattle.engine_versions.specs.EngineState.{EngineState}
 use Rattle.engine_versions.specs.HoldsState.{HoldsState}
 use Rattle.engine_versions.proofs.WellFormed.{no_sums}

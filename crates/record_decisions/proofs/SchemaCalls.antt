@@ -1,6 +1,6 @@
 -- What decides the schema calls that go over no record.
 use Rattle.std.proofs.Common.{◌≡◌, ℕ, suc, ◌≤◌, ◌<◌, Bool, true, false, cond, ◌&&◌, ◌||◌, List, [], ◌∷◌, length, map, Option, Some, None, Result, Ok, Err, refl, sym, ap, subst, ◌∙◌, option_map, unwrap_or, arith}
-use Rattle.std.specs.Prelude.{◌==◌, nat_le, nat_lt, not, bytes_eq, is_none, is_some, IfSome, IsTrue}
+use Rattle.std.specs.Prelude.{◌==◌, nat_le, nat_lt, not, bytes_eq, is_none, is_some, IfSome}
 use Rattle.std.specs.Option.{option_or}
 use Rattle.std.proofs.lemmas.Bool.Decides.{nat_tests}
 use Rattle.jet_base.specs.declared.replies.Jet.{Jet}
@@ -26,7 +26,7 @@ use Rattle.version_history.specs.History.{IsBegun}
 use Rattle.version_keys.specs.TableOrder.{HasTablesInOrder}
 use Rattle.version_cleanup.specs.LiveSessions.{levels_in}
 use Rattle.jet_catalog.specs.Catalog.{CatalogState, IsNumbered, catalog_of, database_of, ids_rise, without_rows}
-use Rattle.jet_catalog.specs.Decisions.{call_refusals, called_table, decided, makes_named, refused_or, refusal_after, session_refusals, table_or_new}
+use Rattle.jet_catalog.specs.Decisions.{call_refusals, called_table, decided, refused_or, refusal_after, session_refusals, table_or_new}
 use Rattle.session_local.specs.declared.request.Request.{Request}
 use Rattle.session_local.specs.declared.request.Request.TheVariants as call
 use Rattle.session_local.specs.SessionSide.{SessionSide}
@@ -41,10 +41,12 @@ use Rattle.session_local.specs.Deciding.{decided_in as decided_by_decision}
 use Rattle.session_local.specs.Run.{is_lazy}
 use Rattle.lawful_answers.specs.LawfulSteps.{HasLawfulStep}
 use Rattle.table_versions.specs.StoredVersions.{StoredVersions}
+use Rattle.built_calls.specs.BuiltCalls.{makes_named}
+use Rattle.built_calls.specs.SchemaRequests.{schema_call_of}
 use Rattle.engine_versions.specs.EngineState.{EngineState}
 use Rattle.engine_versions.specs.HoldsState.{HoldsState}
 use Rattle.engine_parts.specs.Deciding.{Decides, IsDecision}
-use Rattle.record_decisions.specs.SchemaRequests.{catalog_in, decided_in, engine_table, has_rows_in, is_missing, is_used, makes_new, is_schema_request, rows_for, schema_call_of, sessions_in}
+use Rattle.record_decisions.specs.SchemaRequests.{catalog_in, decided_in, engine_table, has_rows_in, is_missing, is_used, makes_new, is_schema_request, rows_for, sessions_in}
 use Rattle.record_decisions.proofs.Refusing.{AnswersLawfully, asked_by, refused_with, stepped_with, one_by, answer-begun, answer-is, answer-refused, decision-stepped}
 use Rattle.record_decisions.proofs.Seen.{ShowsView, seen-told}
 use Rattle.record_decisions.proofs.Told.{levels-told}
@@ -354,7 +356,7 @@ pub record StepLaws : Type 0 where
   pub delete_column : (asked : Asked) (table column : List ℕ) → Agrees asked.state asked.session asked.local → HasLawfulStep asked.state (answer asked (call.DeleteColumn table column))
   pub delete_index : (asked : Asked) (table index : List ℕ) → Agrees asked.state asked.session asked.local → HasLawfulStep asked.state (answer asked (call.DeleteIndex table index))
 
-pub answers-lawfully : StepLaws → (engine : EngineState) (side : SessionSide) (request : Request) → is_schema_request request ≡ true → IfSome (schema_call_of request) (λ called. IsTrue (makes_named called)) → AnswersLawfully engine side request
+pub answers-lawfully : StepLaws → (engine : EngineState) (side : SessionSide) (request : Request) → is_schema_request request ≡ true → makes_named request ≡ true → AnswersLawfully engine side request
 answers-lawfully laws engine side (call.CreateTable table) changes named = λ state h step. laws.create_table (asked_by engine state side) table step.agrees named
 answers-lawfully laws engine side (call.DeleteTable table) changes named = λ state h step. laws.delete_table (asked_by engine state side) table step.agrees
 answers-lawfully laws engine side (call.AddColumn table column kind flags) changes named = λ state h step. laws.add_column (asked_by engine state side) table column kind flags step.agrees h.reached.order named

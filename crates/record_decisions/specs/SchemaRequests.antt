@@ -18,17 +18,8 @@ use Rattle.session_local.specs.declared.request.Request.TheVariants as call
 use Rattle.version_cleanup.specs.Cleaning.{reader_in}
 use Rattle.version_cleanup.specs.LiveSessions.{has_other_transaction, levels_in}
 use Rattle.versioned_tables.specs.VersionedTables.{seen_tables}
+use Rattle.built_calls.specs.SchemaRequests.{schema_call_of}
 use Rattle.engine_versions.specs.EngineState.{EngineState, has_table_open}
-
--- the schema call that a call is
-abbrev pub schema_call_of : Request → Option SchemaCall
-schema_call_of (call.CreateTable table) = Some (schema.CreateTable table)
-schema_call_of (call.DeleteTable table) = Some (schema.DeleteTable table)
-schema_call_of (call.AddColumn table column kind flags) = Some (schema.AddColumn table column kind flags)
-schema_call_of (call.DeleteColumn table column) = Some (schema.DeleteColumn table column)
-schema_call_of (call.CreateIndex table index flags key_most segments conditions) = Some (schema.CreateIndex table index flags key_most segments conditions)
-schema_call_of (call.DeleteIndex table index) = Some (schema.DeleteIndex table index)
-schema_call_of _ = None
 
 -- the schema calls that go over no record: those that make no index
 abbrev pub is_schema_request : Request → Bool

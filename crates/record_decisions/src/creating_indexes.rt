@@ -2,10 +2,10 @@
 
 ghost use Rattle.std.specs.Prelude.{◌≡◌, true, IfOk, IfSome, Some, option_copied};
 ghost use Rattle.database_state.specs.Refusals.{first_refusal};
+ghost use Rattle.built_calls.specs.BuiltCalls.{is_built_request};
+ghost use Rattle.built_calls.specs.SchemaRequests.{schema_call_of};
 ghost use Rattle.engine_parts.specs.Deciding.{Decides, IsDecision};
-ghost use Rattle.engine_versions.specs.BuiltCalls.{is_built_request};
 ghost use Rattle.record_decisions.specs.CreatingIndexes.{HasKeys, makes_index, step_refusals_in};
-ghost use Rattle.record_decisions.specs.SchemaRequests.{schema_call_of};
 
 use crate::answers::{done, is_full, one, refused};
 use crate::index_records::records_refusal;

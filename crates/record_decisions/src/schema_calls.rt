@@ -1,13 +1,14 @@
 //! Schema calls.
 
-ghost use Rattle.std.specs.Prelude.{◌≡◌, true, IsTrue, IfOk, IfSome, Some, option_copied};
+ghost use Rattle.std.specs.Prelude.{◌≡◌, true, IfOk, Some, option_copied};
 ghost use Rattle.database_state.specs.Refusals.{first_refusal};
 ghost use Rattle.jet_catalog.specs.Catalog.{IsNumbered};
-ghost use Rattle.jet_catalog.specs.Decisions.{makes_named};
+ghost use Rattle.built_calls.specs.BuiltCalls.{makes_named};
+ghost use Rattle.built_calls.specs.SchemaRequests.{schema_call_of};
 ghost use Rattle.engine_parts.specs.Deciding.{Decides, IsDecision};
 ghost use Rattle.database_state.specs.Table.{table_named};
 ghost use Rattle.database_state.specs.SchemaSteps.{called_name};
-ghost use Rattle.record_decisions.specs.SchemaRequests.{engine_table, has_rows_in, is_missing, is_schema_request, is_used, schema_call_of, sessions_in};
+ghost use Rattle.record_decisions.specs.SchemaRequests.{engine_table, has_rows_in, is_missing, is_schema_request, is_used, sessions_in};
 
 use crate::answers::{done, is_full, is_outside, one, refused};
 use engine_parts::Engine;
@@ -31,7 +32,7 @@ pub fn change_schema(
     request: &Request,
 ) -> Result<Decision, OutOfMemory>
     requires schema { is_schema_request request.now ≡ true }
-    requires named { IfSome (schema_call_of request.now) (λ called. IsTrue (makes_named called)) }
+    requires named { makes_named request.now ≡ true }
     requires shared { local.now.state.begun ≡ true }
     ensures answer { IfOk result (λ decision. Decides engine.now local.now request.now local.now decision) }
     ensures decided { IfOk result (λ decision. IsDecision engine.now local.now request.now local.now decision) }

@@ -1,17 +1,14 @@
 -- What is built is in the grammar, each line by itself.
 use Rattle.std.proofs.Common.{◌≡◌, ℕ, Bool, true, false, Option, Some, None, Ok, Err, List, [], ◌∷◌, refl, sym, ap, ◌∙◌}
 use Rattle.std.specs.Prelude.{if◌then◌else◌, ◌&&◌, IfSome}
+use Rattle.std.proofs.lemmas.Bool.{and_from}
 use Rattle.session_local.specs.declared.request.Request.{Request}
+use Rattle.built_calls.specs.BuiltCalls.{is_built_call, makes_named}
 use Rattle.script_words.specs.Words.{◌>>=◌}
-use Rattle.script_text.specs.BuiltCalls.{is_built_call, makes_named}
 use Rattle.script_text.specs.Grammar.{ScriptResult, with_front, said_lines, line_request, requests_of, script_lines}
 use Rattle.script_text.specs.Built.{is_label, is_built, are_built, built_call, built_from, built_lines}
 use Rattle.script_text.proofs.Labels.{line-labelled}
 use Rattle.script_text.proofs.MadeNames.{line-named}
-
-and_both : (a b : Bool) → a ≡ true → b ≡ true → (a && b) ≡ true
-and_both true b h k = k
-and_both false b h k = absurd cc
 
 -- what a built line says: what the grammar reads, which is built
 record IsBuilt (line : List ℕ) (said : ℕ × Request) : Type 0 where
@@ -30,7 +27,7 @@ behind_line line said (Some given) read labelled named h =
     record {
       read = read ∙ ap Some same;
       built = ap is_built (sym same)
-          ∙ and_both (is_label given.0) (is_built_call given.1 && makes_named given.1) labelled (and_both (is_built_call given.1) (makes_named given.1) built named);
+          ∙ and_from (is_label given.0) (makes_named given.1 && is_built_call given.1) labelled (and_from (makes_named given.1) (is_built_call given.1) named built);
     }
 
 built_call-built : (line : List ℕ) (said : ℕ × Request) → built_call line ≡ Some said → IsBuilt line said

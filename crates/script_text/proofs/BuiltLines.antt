@@ -2,7 +2,7 @@
 use Rattle.std.proofs.Common.{◌≡◌, ℕ, Bool, true, false, Option, Some, None, List, [], ◌∷◌, ◌++◌, refl}
 use Rattle.std.specs.Prelude.{if◌then◌else◌}
 use Rattle.session_local.specs.declared.request.Request.{Request}
-use Rattle.script_text.specs.BuiltCalls.{is_built_call}
+use Rattle.built_calls.specs.BuiltCalls.{is_built_call}
 use Rattle.script_words.specs.Words.{◌>>=◌, first_word, words_of, label_of}
 use Rattle.script_text.specs.Calls.{named_call}
 use Rattle.script_text.specs.Grammar.{words_request, line_request}

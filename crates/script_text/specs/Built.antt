@@ -2,7 +2,7 @@
 use Rattle.std.specs.Prelude.{ℕ, Bool, ◌&&◌, nat_le, if◌then◌else◌, List, [], ◌∷◌, Option, Some, None, Ok, Err}
 use Rattle.std.specs.List.{list_all}
 use Rattle.session_local.specs.declared.request.Request.{Request}
-use Rattle.script_text.specs.BuiltCalls.{is_built_call, makes_named}
+use Rattle.built_calls.specs.BuiltCalls.{is_built_call, is_built_request}
 use Rattle.script_words.specs.Words.{◌>>=◌}
 use Rattle.script_text.specs.Grammar.{ScriptResult, with_front, said_lines, line_request}
 
@@ -12,7 +12,7 @@ is_label label = nat_le 1 label && nat_le label 99
 
 -- whether the call of a line is built, whichever session makes it, and what it makes has a name of 1 to 64 bytes
 abbrev pub is_built : ℕ × Request → Bool
-is_built said = is_label said.0 && (is_built_call said.1 && makes_named said.1)
+is_built said = is_label said.0 && is_built_request said.1
 
 -- whether every line is so
 abbrev pub are_built : List (ℕ × Request) → Bool

@@ -2,8 +2,8 @@
 use Rattle.std.specs.Prelude.{ℕ, List, [], ◌∷◌, ◌++◌, Option, Some, None, if◌then◌else◌}
 use Rattle.jet_base.specs.declared.ids.Session.{Session}
 use Rattle.session_local.specs.declared.request.Request.{Request}
+use Rattle.built_calls.specs.BuiltCalls.{is_built_call}
 use Rattle.script_text.specs.declared.kept.Calls.TheInside as kept
-use Rattle.script_text.specs.BuiltCalls.{is_built_call}
 use Rattle.script_words.specs.Words.{◌>>=◌}
 
 -- the session of the line that is being read, and the calls so far, each with its session

@@ -1,6 +1,5 @@
 pub mod Calls
 pub mod CallNames
-pub mod BuiltCalls
 pub mod Kept
 pub mod Grammar
 pub mod Built

@@ -1,10 +1,10 @@
 //! The calls of the lines that are read so far.
 
 ghost use Rattle.std.specs.Prelude.{◌≡◌, []};
+ghost use Rattle.built_calls.specs.BuiltCalls.{is_built_call};
 ghost use Rattle.script_words.specs.Reading.{Reads};
 ghost use Rattle.script_text.specs.Kept.{kept_behind};
 
-use crate::built_calls::is_built_call;
 use jet_base::Session;
 use script_words::Refusal;
 use session_local::Request;
@@ -66,4 +66,19 @@ pub fn keep(kept: &mut Calls, request: Request) -> Result<(), Refusal>
     }
     kept.calls.push((kept.session, request))?;
     Ok(())
+}
+
+/// Whether a call is built, in whatever state it comes. A script with a call that is not is refused before its first line
+/// runs.
+fn is_built_call(request: &Request) -> bool
+    ensures { result ≡ is_built_call request.now }
+{
+    match request {
+        Request::AddColumn { kind, flags, .. } => {
+            !kind.is_long() && !(flags.escrow || flags.version || flags.auto)
+        }
+        Request::CreateIndex { key_most, .. } => *key_most <= 255,
+        Request::EscrowUpdate { .. } => false,
+        _ => true,
+    }
 }

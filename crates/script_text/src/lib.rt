@@ -3,7 +3,6 @@
 
 mod bare_calls;
 mod built;
-mod built_calls;
 mod call_names;
 mod calls;
 mod choices;

@@ -1,0 +1,41 @@
+-- Which columns, indexes and tables are built: those whose records stand whole in their rows. And which entries make only such.
+use Rattle.std.specs.Prelude.{◌≡◌, ℕ, Bool, true, not, ◌&&◌, ◌||◌, nat_le, List}
+use Rattle.std.specs.List.{list_all, AllByRecursion}
+use Rattle.jet_base.specs.declared.words.ColType.{ColType}
+use Rattle.jet_base.specs.TypeKinds.{is_long_type}
+use Rattle.column_set.specs.declared.columns.Column.{Column}
+use Rattle.index_derive.specs.declared.rules.IndexRule.{IndexRule}
+use Rattle.index_derive.specs.declared.log.Entry.{Entry}
+use Rattle.index_derive.specs.declared.log.EntryKind.{EntryKind}
+use Rattle.index_derive.specs.declared.log.EntryKind.TheVariants as entry
+use Rattle.index_derive.specs.declared.schema_calls.SchemaStep.TheVariants as step
+use Rattle.database_state.specs.Table.{Table}
+
+-- the columns of a type with these flags: of no long type, no sum, and not kept up by the engine
+abbrev pub is_built_kind : ColType → (escrow version auto : Bool) → Bool
+is_built_kind kind escrow version auto = not (is_long_type kind) && not (escrow || (version || auto))
+
+abbrev pub is_built_column : Column → Bool
+is_built_column column = is_built_kind column.kind column.escrow column.version column.auto
+
+-- keys of so many bytes at most: of 255
+abbrev pub is_built_limit : ℕ → Bool
+is_built_limit key_most = nat_le key_most 255
+
+abbrev pub is_built_rule : IndexRule → Bool
+is_built_rule rule = is_built_limit rule.key_most
+
+abbrev pub is_built_table : Table → Bool
+is_built_table table = list_all is_built_column table.columns && list_all is_built_rule table.indexes
+
+abbrev pub are_built : List Table → Bool
+are_built tables = list_all is_built_table tables
+
+-- whether an entry makes only what is built
+abbrev pub makes_built : EntryKind → Bool
+makes_built (entry.Schema (step.AddColumn table column)) = is_built_column column
+makes_built (entry.Schema (step.CreateIndex table rule)) = is_built_rule rule
+makes_built _ = true
+
+abbrev pub AllMakeBuilt : List Entry → Type 0
+AllMakeBuilt entries = AllByRecursion (λ made. makes_built made.kind ≡ true) entries

@@ -1,0 +1,3 @@
+pub mod BuiltTables
+pub mod SchemaRequests
+pub mod BuiltCalls
