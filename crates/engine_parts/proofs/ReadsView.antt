@@ -73,7 +73,7 @@ SeesStored =
 seen_is_view : ShowsView → (engine : EngineState) (state : DatabaseState) (session : ℕ) → HoldsState engine state → (table : ℕ)
     → table_with_id (seen_tables (reader_in session engine.sessions) engine.store) table ≡ table_with_id (view state session) table
 seen_is_view shows engine state session h table =
-    shows h.base h.dropped h.kept engine.store state h.holds h.reached.no_sums (reader_in session engine.sessions) (reader_told engine state session h.sessions) table
+    shows h.base h.dropped h.kept engine.store state h.holds h.no_sums (reader_in session engine.sessions) (reader_told engine state session h.sessions) table
 
 plain_at_id : (tables : List Table) (id : ℕ) → table_with_id (map without_rows tables) id ≡ option_map without_rows (table_with_id tables id)
 plain_at_id [] id = refl
@@ -166,7 +166,7 @@ pub stored_read : ShowsView → FindsShown → SeesStored → (engine : EngineSt
 stored_read shows finds stored engine state session local label c h step found bookmark values is =
     let id = c.cursor.table in
     stored_at c state.number (table_with_id state.tables id) (records_of (view state session) id) bookmark values (schema_at state session local label c step found)
-    (stored h.base h.dropped h.kept state h.reached.history h.reached.no_sums h.stored session id)
+    (stored h.base h.dropped h.kept state h.reached.history h.no_sums h.stored session id)
     (sym (record_read shows finds engine state session local label c h step found bookmark) ∙ is)
 
 -- ---- columns are built

@@ -115,7 +115,7 @@ seen_eight engine state h session id table found bookmark none there = by (recor
     stands : (bookmark : List ℕ) → IfSome (record_in (view state session) id bookmark) (λ values. is_bookmark state.number (schema_of table) (primary_rule (schema_of table)) bookmark values ≡ true)
     stands =
         subst (λ (o : Option Table). IfSome o (λ t. (bookmark : List ℕ) → IfSome (records_of (view state session) id bookmark) (λ values. is_bookmark state.number (schema_of t) (primary_rule (schema_of t)) bookmark values ≡ true))) found
-        (bookmarks_seen h.base h.dropped h.kept state h.reached.history (all_see_none h.kept state h.reached.no_sums) h.reached.bookmarks session id)
+        (bookmarks_seen h.base h.dropped h.kept state h.reached.history (all_see_none h.kept state h.no_sums) h.reached.bookmarks session id)
 
     by : (o : Option RecordFields) → is_some o ≡ true → IfSome o (λ values. is_bookmark state.number (schema_of table) (primary_rule (schema_of table)) bookmark values ≡ true) → length bookmark ≡ 8
     by None e s = impossible e

@@ -19,6 +19,7 @@ use Rattle.database_state.specs.Lawful.{has_number, is_lawful, is_lawful_at, is_
 use Rattle.record_changes.proofs.Tests.{and_left, and_right, impossible}
 use Rattle.version_history.specs.KeptSteps.{base_after, dropped_after, kept_after, with_next_number}
 use Rattle.version_history.proofs.Labels.{labels_rise}
+use Rattle.version_keys.specs.Variants.{HasNoSums}
 use Rattle.version_keys.proofs.BookmarkKeys.{HasOneEntry}
 use Rattle.version_records.specs.StoredRecords.{leaves_records_short}
 use Rattle.version_records.proofs.Storing.{stored_kept}
@@ -30,9 +31,10 @@ use Rattle.versioned_tables.proofs.Changing.{changed_holds, committed_holds, rel
 use Rattle.versioned_tables.proofs.SchemaStepping.{stepped_holds}
 use Rattle.versioned_tables.proofs.Unchanged.{unchanged_holds}
 use Rattle.versioned_tables.proofs.Undoing.{all_undone_holds, left_holds, undone_holds}
-use Rattle.lawful_answers.specs.LawfulSteps.{AreLawful, IsReached, is_sum_entry}
+use Rattle.lawful_answers.specs.LawfulSteps.{AreLawful, IsReached}
 use Rattle.lawful_answers.proofs.ReachedStates.{reaches}
 use Rattle.built_calls.specs.BuiltTables.{AllMakeBuilt, is_built_column, is_built_rule, is_built_table, makes_built}
+use Rattle.engine_versions.proofs.SumFree.{is_sum_entry, no_sums_after}
 use Rattle.engine_versions.specs.EngineState.{EngineState}
 use Rattle.engine_versions.specs.EngineSteps.{engine_after, engine_after_all, greatest_after, maker, store_after}
 use Rattle.engine_versions.specs.HoldsState.{HoldsState}
@@ -88,11 +90,11 @@ store_holds engine state session (entry.Open table) h e = unchanged_holds h.base
 store_holds engine state session (entry.Shut table) h e = unchanged_holds h.base h.dropped h.kept engine.store state session (entry.Shut table) refl h.holds e
 store_holds engine state session entry.Begin h e = unchanged_holds h.base h.dropped h.kept engine.store state session entry.Begin refl h.holds e
 store_holds engine state session entry.Save h e = unchanged_holds h.base h.dropped h.kept engine.store state session entry.Save refl h.holds e
-store_holds engine state session entry.Leave h e = left_holds h.base h.dropped h.kept engine.store state session h.holds h.reached.no_sums e
-store_holds engine state session entry.UndoAll h e = all_undone_holds h.base h.dropped h.kept engine.store state session h.holds h.reached.no_sums e
+store_holds engine state session entry.Leave h e = left_holds h.base h.dropped h.kept engine.store state session h.holds h.no_sums e
+store_holds engine state session entry.UndoAll h e = all_undone_holds h.base h.dropped h.kept engine.store state session h.holds h.no_sums e
 store_holds engine state session entry.Undo h e =
     subst (λ (n : ℕ). Holds h.base h.dropped (kept_after state session entry.Undo h.kept) (with_changes_undone (is_open_at session n) engine.store) (state_after state (entry_by session entry.Undo)))
-    (sym (levels_told engine state h session)) (undone_holds h.base h.dropped h.kept engine.store state session h.holds h.reached.no_sums e)
+    (sym (levels_told engine state h session)) (undone_holds h.base h.dropped h.kept engine.store state session h.holds h.no_sums e)
 store_holds engine state session entry.Release h e =
     subst (λ (n : ℕ). Holds h.base h.dropped (kept_after state session entry.Release h.kept) (with_level_released session n engine.store) (state_after state (entry_by session entry.Release)))
     (sym (levels_told engine state h session)) (released_holds h.base h.dropped h.kept engine.store state session h.holds e)
@@ -173,14 +175,16 @@ entry_holds one alike engine state made h e built =
     let session = made.session.0 in
     let lawful : is_lawful_kind state session made.kind ≡ true = kind_lawful state made e in
     let plain : is_sum_entry made.kind ≡ false = no_sum_comes engine state h session made.kind lawful in
-    let reached : IsReached (base_after state made.kind h.base) (dropped_after made.kind h.dropped h.kept) (kept_after state session made.kind h.kept) (state_after state made) = reaches one h.base h.dropped h.kept state made h.reached e plain in
+    let reached : IsReached (base_after state made.kind h.base) (dropped_after made.kind h.dropped h.kept) (kept_after state session made.kind h.kept) (state_after state made) = reaches one h.base h.dropped h.kept state made h.reached e in
+    let none : HasNoSums (kept_after state session made.kind h.kept) = no_sums_after state session made.kind h.kept plain h.no_sums in
     record {
       base = base_after state made.kind h.base;
       dropped = dropped_after made.kind h.dropped h.kept;
       kept = kept_after state session made.kind h.kept;
       reached = reached;
       holds = store_holds engine state session made.kind h e;
-      stored = stored_kept h.base h.dropped h.kept state made h.reached.history e h.reached.no_sums reached.no_sums (short_of made.kind built) h.stored;
+      no_sums = none;
+      stored = stored_kept h.base h.dropped h.kept state made h.reached.history e h.no_sums none (short_of made.kind built) h.stored;
       number = number_after state session made.kind ∙ ap (λ (n : ℕ). n + 1) h.number;
       greatest = greatest_stays state session made.kind ∙ ap (λ (n : ℕ). greatest_after n made.kind) h.greatest;
       sessions = alike state made ∙ (λ i. sessions_after (h.number i + 1) session made.kind (h.sessions i));

@@ -101,7 +101,7 @@ answer_in_step one rise keeps engine state h session local (call.GetBookmark cur
 answer_in_step one rise keeps engine state h session local (call.GotoBookmark cursor bookmark) step b = goes_to (asked_of engine state session local) cursor bookmark step
 answer_in_step one rise keeps engine state h session local (call.PrepareUpdate cursor prepare.Insert) step b = insert_prepared keeps engine state session local cursor h step
 answer_in_step one rise keeps engine state h session local (call.PrepareUpdate cursor prepare.InsertCopy) step b = copy_prepared engine state session local cursor h step
-answer_in_step one rise keeps engine state h session local (call.PrepareUpdate cursor prepare.Replace) step b = replaces h.base h.dropped h.kept (asked_of engine state session local) cursor h.reached.history h.reached.no_sums h.stored step
+answer_in_step one rise keeps engine state h session local (call.PrepareUpdate cursor prepare.Replace) step b = replaces h.base h.dropped h.kept (asked_of engine state session local) cursor h.reached.history h.no_sums h.stored step
 answer_in_step one rise keeps engine state h session local (call.PrepareUpdate cursor prepare.Cancel) step b = cancels (asked_of engine state session local) cursor step
 answer_in_step one rise keeps engine state h session local (call.SetColumn cursor column sequence value) step b = column_is_set keeps engine state session local cursor column sequence value h step
 answer_in_step one rise keeps engine state h session local (call.RetrieveColumn cursor column sequence copy most) step b = shows_value (asked_of engine state session local) cursor column sequence copy most step

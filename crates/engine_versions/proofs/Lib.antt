@@ -2,6 +2,7 @@ pub mod Sessions
 pub mod InUse
 pub mod ColumnNumbers
 pub mod Tables
+pub mod SumFree
 pub mod AfterEntries
 pub mod Cleans
 pub mod SameTables

@@ -200,7 +200,7 @@ copy_storable engine state session local h c at (Some values) e there prepared i
     stored =
         subst (λ (o : Option RecordFields). IfSome o (IsStored state.number (schema_of at.table) (bookmark_at c))) e
         (subst (λ (o : Option Table). IfSome o (λ table. (bookmark : List ℕ) → IfSome (records_of (view state session) c.cursor.table bookmark) (IsStored state.number (schema_of table) bookmark))) at.found
-        (each_seen IsStored h.base h.dropped h.kept state h.reached.history h.reached.no_sums h.stored session c.cursor.table) (bookmark_at c))
+        (each_seen IsStored h.base h.dropped h.kept state h.reached.history h.no_sums h.stored session c.cursor.table) (bookmark_at c))
 
 pub copy_prepared : (engine : EngineState) (state : DatabaseState) (session : ℕ) (local : LocalState) (cursor : CursorId) → HoldsState engine state → IsInStep state session local
     → StaysInStep (asked_of engine state session local) (answer (asked_of engine state session local) (call.PrepareUpdate cursor prepare.InsertCopy))

@@ -30,7 +30,7 @@ begin_told engine state h session = ap (λ (sessions : List LiveState). (reader_
 
 pub table_seen : FindsItsRecord → (engine : EngineState) (state : DatabaseState) → HoldsState engine state → (session table : ℕ) → table_with_id (seen_tables (reader_in session engine.sessions) engine.store) table ≡ table_with_id (view state session) table
 table_seen finds engine state h session table =
-    is_shown finds h.base h.dropped h.kept engine.store state h.holds h.reached.no_sums (reader_in session engine.sessions) (begin_told engine state h session) table
+    is_shown finds h.base h.dropped h.kept engine.store state h.holds h.no_sums (reader_in session engine.sessions) (begin_told engine state h session) table
 
 pub view_seen : FindsItsRecord → (engine : EngineState) (state : DatabaseState) → HoldsState engine state → (session : ℕ) → seen_tables (reader_in session engine.sessions) engine.store ≡ view state session
 view_seen finds engine state h session =

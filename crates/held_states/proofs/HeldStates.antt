@@ -137,7 +137,7 @@ held_equivalent engine one other h g plain_one plain_other =
     let newest_records : records_after_items is_standing h.base h.kept ≡ records_after_items is_standing g.base g.kept =
     sym (newest_of_kept h.base h.dropped h.kept one h.reached.history) ∙ sym h.holds.newest ∙ g.holds.newest ∙ newest_of_kept g.base g.dropped g.kept other g.reached.history in
     let past : IsOnePast one.tables h.base g.base h.kept g.kept =
-    one_past one.tables h.kept g.kept engine.store.held h.holds.held g.holds.held h.base g.base keeps_one.befores keeps_other.befores h.reached.no_sums g.reached.no_sums
+    one_past one.tables h.kept g.kept engine.store.held h.holds.held g.holds.held h.base g.base keeps_one.befores keeps_other.befores h.no_sums g.no_sums
     (all_weaker (IsPlaced one.number one.tables (transaction_of one)) LeavesAfter (λ x p. p.3) h.kept keeps_one.placed)
     (all_weaker (IsPlaced other.number other.tables (transaction_of other)) LeavesAfter (λ x p. p.3) g.kept keeps_other.placed)
     (all_kept IsUncopied h.dropped h.kept (subst (AllByRecursion IsUncopied) h.reached.history.past plain_one))

@@ -4,14 +4,13 @@ use Rattle.std.specs.Prelude.{◌==◌, filter, map, nat_lt}
 use Rattle.std.specs.List.{AllByRecursion, list_any}
 use Rattle.std.proofs.lemmas.Bool.Decides.{nat_tests}
 use Rattle.column_set.specs.declared.changes.Change.{Change}
-use Rattle.column_set.specs.declared.changes.Change.TheVariants.{Put, Drop, Hold, Add}
 use Rattle.index_derive.specs.declared.log.EntryKind.TheVariants as entry
 use Rattle.index_derive.specs.declared.log.Step.TheVariants.{Alone}
 use Rattle.index_derive.specs.declared.rules.IndexRule.{IndexRule}
 use Rattle.index_derive.specs.declared.rules.Schema.{Schema}
 use Rattle.index_derive.specs.Steps.{entries_of_step}
 use Rattle.database_state.specs.Table.{Table}
-use Rattle.database_state.specs.Changes.{changed_table, is_sum, tables_after_all, without_copied}
+use Rattle.database_state.specs.Changes.{changed_table, tables_after_all}
 use Rattle.database_state.specs.State.{DatabaseState, PastChange, Status, Transaction, change_of, committed, is_open_change_of, levels, levels_of, transaction_of, uncommitted, undone}
 use Rattle.database_state.specs.View.{view, view_in}
 use Rattle.database_state.specs.Conflicts.{collide, concurrent_changes, has_key_conflict, has_write_conflict, is_concurrent, is_concurrent_status, yields_key}
@@ -21,21 +20,19 @@ use Rattle.derived_index.proofs.Adding.{KeysRise}
 use Rattle.record_changes.specs.Records.{Records}
 use Rattle.record_changes.proofs.Tests.{and_both, and_left, self_equal}
 use Rattle.version_history.specs.History.{IsHistory, IsPlaced, IsPlacedBy}
-use Rattle.version_history.specs.KeptSteps.{kept_after, new_change, with_next_number}
+use Rattle.version_history.specs.KeptSteps.{kept_after, with_next_number}
 use Rattle.version_history.proofs.Concurrent.{concurrent_kept}
 use Rattle.version_history.proofs.Entries.{history_begun}
-use Rattle.version_history.proofs.LawfulEntries.{keeps_lawful, outside}
-use Rattle.version_history.proofs.Lists.{all_append, all_weaker, none_passes}
+use Rattle.version_history.proofs.LawfulEntries.{outside}
+use Rattle.version_history.proofs.Lists.{all_weaker, none_passes}
 use Rattle.version_history.proofs.SeenRecords.{of_kept}
 use Rattle.version_history.proofs.Transactions.{transaction-begun}
 use Rattle.version_history.proofs.Viewing.{none_open}
-use Rattle.version_keys.specs.Variants.{HasNoSums}
 use Rattle.version_keys.proofs.BookmarkKeys.{HasOneEntry}
-use Rattle.version_keys.proofs.KeySums.{all_see_none}
+use Rattle.version_keys.proofs.EscrowSums.{unseen_now}
 use Rattle.version_keys.proofs.LawfulCommits.{commit_lawful}
-use Rattle.version_keys.proofs.OrderedTables.{order_kept}
-use Rattle.version_keys.proofs.UniqueLaws.{keys_kept}
 use Rattle.lawful_answers.specs.LawfulSteps.{AreLawful, IsReached, begin_of}
+use Rattle.lawful_answers.proofs.ReachedStates.{reaches}
 
 -- ---- after the begin
 
@@ -110,36 +107,24 @@ begin_lawful : (state : DatabaseState) (session : ℕ) → nat_lt state.number l
 unfolding is_lawful
 begin_lawful state session few live out = and_both _ _ few (and_both _ _ live out)
 
-no_sum : (change : Change) → is_sum change ≡ false → is_sum (without_copied change) ≡ false
-no_sum (Put table bookmark copied values) e = e
-no_sum (Drop table bookmark) e = e
-no_sum (Hold table bookmark) e = e
-no_sum (Add table bookmark column amount) e = e
-
 same_levels : (state : DatabaseState) (session : ℕ) (change : Change) → levels (state_after state (record { session = record { 0 = session }; kind = entry.Change change })) session ≡ levels state session
 unfolding state_after
 same_levels state session change = refl
 
 pub alone_lawful : HasOneEntry → KeysRise → (base : Records) (dropped kept : List PastChange) (state : DatabaseState) (session : ℕ) (change : Change) → IsReached base dropped kept state → nat_lt state.number log_limit ≡ true → is_live state session ≡ true
-    → (levels state session == 0) ≡ true → is_sum change ≡ false → is_lawful (state_after state (begin_of session)) (record { session = record { 0 = session }; kind = entry.Change change }) ≡ true
+    → (levels state session == 0) ≡ true → is_lawful (state_after state (begin_of session)) (record { session = record { 0 = session }; kind = entry.Change change }) ≡ true
     → AreLawful state (entries_of_step (Some (Alone (record { session = record { 0 = session }; kind = entry.Change change }))))
-alone_lawful one rise base dropped kept state session change r few live out sum e =
+alone_lawful one rise base dropped kept state session change r few live out e =
     let begins = begin_lawful state session few live out in
-    let first = keeps_lawful base dropped kept state (begin_of session) r.history begins in
-    let unique = keys_kept one base dropped kept state (begin_of session) r.history begins (all_see_none kept state r.no_sums) (all_see_none kept state r.no_sums) r.unique in
-    let no_sums : HasNoSums (kept_after (state_after state (begin_of session)) session (entry.Change change) kept) =
-    all_append (λ item. is_sum item.change ≡ false) kept (new_change session change (with_next_number (state_after state (begin_of session))) ∷ []) r.no_sums (no_sum change sum, tt) in (
+    let begun = reaches one base dropped kept state (begin_of session) r begins in
+    let made = reaches one base dropped kept (state_after state (begin_of session)) (record { session = record { 0 = session }; kind = entry.Change change }) begun e in
+    let changed : DatabaseState = state_after (state_after state (begin_of session)) (record { session = record { 0 = session }; kind = entry.Change change }) in
+    let kept_changes : List PastChange = kept_after (state_after state (begin_of session)) session (entry.Change change) kept in (
       begins,
       (
         e,
         (
-          commit_lawful rise base dropped (kept_after (state_after state (begin_of session)) session (entry.Change change) kept) (state_after (state_after state (begin_of session)) (record { session = record { 0 = session }; kind = entry.Change change })) session
-              (keeps_lawful base dropped kept (state_after state (begin_of session)) (record { session = record { 0 = session }; kind = entry.Change change }) first e)
-              (all_see_none (kept_after (state_after state (begin_of session)) session (entry.Change change) kept) (state_after (state_after state (begin_of session)) (record { session = record { 0 = session }; kind = entry.Change change })) no_sums)
-              (keys_kept one base dropped kept (state_after state (begin_of session)) (record { session = record { 0 = session }; kind = entry.Change change }) first e
-              (all_see_none kept (state_after state (begin_of session)) r.no_sums)
-              (all_see_none (kept_after (state_after state (begin_of session)) session (entry.Change change) kept) (state_after state (begin_of session)) no_sums) unique)
-              (order_kept (state_after state (begin_of session)) (record { session = record { 0 = session }; kind = entry.Change change }) (order_kept state (begin_of session) r.order begins) e)
+          commit_lawful rise base dropped kept_changes changed session made.history (unseen_now base kept_changes changed made.sums) made.unique made.order
               (same_levels (state_after state (begin_of session)) session change ∙ one_level state session live),
           tt,
         ),

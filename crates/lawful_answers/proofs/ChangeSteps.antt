@@ -9,7 +9,7 @@ use Rattle.index_derive.specs.declared.log.Step.TheVariants.{One, Alone}
 use Rattle.index_derive.specs.declared.log.EntryKind.TheVariants as entry
 use Rattle.index_derive.specs.Steps.{entries_of_step}
 use Rattle.database_state.specs.Table.{Rows, Table, row_at, rows_of, schema_of, table_with_id}
-use Rattle.database_state.specs.Changes.{changed_table, is_sum}
+use Rattle.database_state.specs.Changes.{changed_table}
 use Rattle.database_state.specs.State.{DatabaseState, PastChange, levels}
 use Rattle.database_state.specs.View.{view}
 use Rattle.database_state.specs.Conflicts.{has_write_conflict}
@@ -70,13 +70,13 @@ some_inside : (n : ℕ) → (n == 0) ≡ false → nat_lt 0 n ≡ true
 some_inside n e = grind (arith, nat_tests)
 
 pub changes_lawful : HasOneEntry → KeysRise → (base : Records) (dropped kept : List PastChange) (asked : Asked) (change : Change) → IsReached base dropped kept asked.state → is_live asked.state asked.session ≡ true → nat_le log_limit asked.state.number ≡ false
-    → is_sum change ≡ false → has_write_conflict asked.state asked.session change ≡ false
+    → has_write_conflict asked.state asked.session change ≡ false
     → (is_outside asked ≡ false → IsLawfulAtTable asked.state asked.state asked.session change)
     → (is_outside asked ≡ true → IsLawfulAtTable asked.state (state_after asked.state (begin_of asked.session)) asked.session change)
     → AreLawful asked.state (entries_of_step (step_of_change asked change))
-changes_lawful one rise base dropped kept asked change reached live few sum free inside alone =
+changes_lawful one rise base dropped kept asked change reached live few free inside alone =
     elim (is_outside asked) as (λ b. is_outside asked ≡ b → AreLawful asked.state (entries_of_step (if b then Some (Alone (record { session = record { 0 = asked.session }; kind = entry.Change change })) else Some (One (record { session = record { 0 = asked.session }; kind = entry.Change change }))))) [
-      | true ↦ λ out. alone_lawful one rise base dropped kept asked.state asked.session change reached (below log_limit asked.state.number few) live out sum
+      | true ↦ λ out. alone_lawful one rise base dropped kept asked.state asked.session change reached (below log_limit asked.state.number few) live out
           (changed_in begun asked.session change (ap (λ n. nat_le n log_limit) (after_tables asked.state asked.session).1 ∙ few_after log_limit asked.state.number few) (ap (nat_lt 0) (one_level asked.state asked.session live))
           (conflict_after base dropped kept asked.state asked.session reached.history live out change ∙ free)
           (ap (λ tables. is_lawful_at begun asked.session (table_with_id tables (changed_table change)) change) (after_tables asked.state asked.session).0 ∙ alone out))
@@ -103,14 +103,14 @@ there None e = sym e
 there (Some x) e = refl
 
 seen_change : HasOneEntry → KeysRise → (base : Records) (dropped kept : List PastChange) (asked : Asked) (label : ℕ) (c : OpenCursor) (change : Change) → IsReached base dropped kept asked.state → Agrees asked.state asked.session asked.local → asked.local.begun ≡ true
-    → cursor_labelled asked.local label ≡ Some c → changed_table change ≡ c.cursor.table → is_sum change ≡ false
+    → cursor_labelled asked.local label ≡ Some c → changed_table change ≡ c.cursor.table
     → ((state : DatabaseState) (table : Table) (rows : Rows) → is_lawful_in state asked.session table rows change ≡ is_some (row_at rows (bookmark_at c)))
     → is_none (row_at (rows_seen asked c) (bookmark_at c)) ≡ false → has_write_conflict asked.state asked.session change ≡ false → nat_le log_limit asked.state.number ≡ false
     → AreLawful asked.state (entries_of_step (step_of_change asked change))
-seen_change one rise base dropped kept asked label c change reached agrees begun e of_table sum reads seen free few =
+seen_change one rise base dropped kept asked label c change reached agrees begun e of_table reads seen free few =
     let live : is_live asked.state asked.session ≡ true = sym agrees.begun ∙ begun in
     let at = at_its_table asked label c agrees e in
-    changes_lawful one rise base dropped kept asked change reached live few sum free
+    changes_lawful one rise base dropped kept asked change reached live few free
     (λ inside. seen_lawful asked c at change asked.state refl of_table reads (there (row_at (rows_seen asked c) (bookmark_at c)) seen))
     (λ out. seen_lawful asked c at change (state_after asked.state (begin_of asked.session)) (view_after base dropped kept asked.state asked.session reached.history live out) of_table reads (there (row_at (rows_seen asked c) (bookmark_at c)) seen))
 
@@ -119,7 +119,7 @@ pub deletes : HasOneEntry → KeysRise → (base : Records) (dropped kept : List
 deletes one rise base dropped kept asked cursor reached agrees = when_begun asked (call.Delete cursor)
     (λ begun. at_found asked cursor.0 (delete asked) (λ c e.
     past asked (current asked c ++ own_refusals asked c ++ conflict_refusals asked (drop_at c) ++ number_refusals asked ++ span_refusals asked (drop_at c)) _ (λ r.
-    seen_change one rise base dropped kept asked cursor.0 c (drop_at c) reached agrees begun e refl refl (λ state table rows. refl) r.1.0 r.1.1.1.0 r.1.1.1.1.0)))
+    seen_change one rise base dropped kept asked cursor.0 c (drop_at c) reached agrees begun e refl (λ state table rows. refl) r.1.0 r.1.1.1.0 r.1.1.1.1.0)))
     (λ e. tt)
 
 pub locks : HasOneEntry → KeysRise → (base : Records) (dropped kept : List PastChange) (asked : Asked) (cursor : CursorId) → IsReached base dropped kept asked.state → Agrees asked.state asked.session asked.local
@@ -127,7 +127,7 @@ pub locks : HasOneEntry → KeysRise → (base : Records) (dropped kept : List P
 locks one rise base dropped kept asked cursor reached agrees = when_begun asked (call.GetLock cursor)
     (λ begun. at_found asked cursor.0 (get_lock asked) (λ c e.
     past asked (transaction_refusals asked ++ current asked c ++ conflict_refusals asked (hold_at c) ++ number_refusals asked ++ span_refusals asked (hold_at c)) _ (λ r.
-    seen_change one rise base dropped kept asked cursor.0 c (hold_at c) reached agrees begun e refl refl (λ state table rows. refl) r.1.1.0 r.1.1.1.0 r.1.1.1.1.0)))
+    seen_change one rise base dropped kept asked cursor.0 c (hold_at c) reached agrees begun e refl (λ state table rows. refl) r.1.1.0 r.1.1.1.0 r.1.1.1.1.0)))
     (λ e. tt)
 
 pub replaces : HasOneEntry → KeysRise → (base : Records) (dropped kept : List PastChange) (asked : Asked) (cursor : CursorId) → IsReached base dropped kept asked.state → Agrees asked.state asked.session asked.local
@@ -135,5 +135,5 @@ pub replaces : HasOneEntry → KeysRise → (base : Records) (dropped kept : Lis
 replaces one rise base dropped kept asked cursor reached agrees = when_begun asked (call.PrepareUpdate cursor prepare.Replace)
     (λ begun. at_found asked cursor.0 (prepare_replace asked) (λ c e.
     past asked (prepared_refusals c ++ transaction_refusals asked ++ current asked c ++ own_refusals asked c ++ conflict_refusals asked (hold_at c) ++ number_refusals asked ++ span_refusals asked (hold_at c)) _ (λ r.
-    seen_change one rise base dropped kept asked cursor.0 c (hold_at c) reached agrees begun e refl refl (λ state table rows. refl) r.1.1.1.0 r.1.1.1.1.1.0 r.1.1.1.1.1.1.0)))
+    seen_change one rise base dropped kept asked cursor.0 c (hold_at c) reached agrees begun e refl (λ state table rows. refl) r.1.1.1.0 r.1.1.1.1.1.0 r.1.1.1.1.1.1.0)))
     (λ e. tt)

@@ -10,7 +10,7 @@ use Rattle.index_derive.specs.declared.rules.IndexRule.{IndexRule}
 use Rattle.index_derive.specs.declared.rules.Schema.{Schema}
 use Rattle.index_derive.specs.Entries.{entries, is_legal, is_unique, key_list, primary_key}
 use Rattle.database_state.specs.Table.{Rows, Table, primary_rule, row_at, rule_with_id, schema_of, table_with_id}
-use Rattle.database_state.specs.Changes.{changed_bookmark, changed_table, is_sum}
+use Rattle.database_state.specs.Changes.{changed_bookmark, changed_table}
 use Rattle.database_state.specs.Puts.{is_cut_refusal, is_null_refusal, is_taken, new_keys, null_refusals}
 use Rattle.database_state.specs.State.{PastChange, transaction_of}
 use Rattle.database_state.specs.View.{view}
@@ -23,7 +23,7 @@ use Rattle.version_history.proofs.Concurrent.{key_conflict_kept, write_conflict_
 use Rattle.version_history.proofs.EndEntries.{no_conflict}
 use Rattle.version_history.proofs.Lists.{all_both, all_weaker}
 use Rattle.version_keys.proofs.BookmarkKeys.{HasOneEntry}
-use Rattle.version_keys.proofs.KeySums.{all_see_none}
+use Rattle.version_keys.proofs.EscrowSums.{unseen_now}
 use Rattle.version_records.specs.Bookmarks.{StandsUnder, TouchesRecord, is_bookmark, is_entry_number}
 use Rattle.version_records.specs.EachRecord.{HasBoth}
 use Rattle.version_records.proofs.EachRecord.{AtChange}
@@ -123,7 +123,7 @@ hidden_row base dropped kept asked c reached at few none = by (row_at (rows_seen
   where
     stands : (bookmark : List ℕ) → IfSome (row_at (rows_seen asked c) bookmark) (StandsUnder asked.state.number (schema_of at.table) bookmark)
     stands = subst (λ (o : Option Table). IfSome o (λ table. (bookmark : List ℕ) → IfSome (records_of (view asked.state asked.session) c.cursor.table bookmark) (StandsUnder asked.state.number (schema_of table) bookmark))) at.found
-        (bookmarks_seen base dropped kept asked.state reached.history (all_see_none kept asked.state reached.no_sums) reached.bookmarks asked.session c.cursor.table)
+        (bookmarks_seen base dropped kept asked.state reached.history (unseen_now base kept asked.state reached.sums) reached.bookmarks asked.session c.cursor.table)
 
     by : (o : Option RecordFields) → IfSome o (StandsUnder asked.state.number (schema_of at.table) (big_endian 8 (number_of_change asked))) → o ≡ None
     by None s = refl
@@ -158,32 +158,26 @@ not_concurrent : HasOneEntry → (base : Records) (dropped kept : List PastChang
 not_concurrent one base dropped kept asked c reached at few values found whole free =
     elim (primary_rule c.schema) as (λ o. primary_rule c.schema ≡ o
     → AllByRecursion (λ p. is_change_at c.cursor.table (inserted_bookmark asked c.schema o values) p ≡ true → is_concurrent asked.session (transaction_of asked.state asked.session) p ≡ false) kept) [
-      | None ↦ λ e. all_both Known Touches (λ p. is_change_at c.cursor.table (big_endian 8 (number_of_change asked)) p ≡ true → is_concurrent asked.session (transaction_of asked.state asked.session) p ≡ false)
+      | None ↦ λ e. all_both Known TouchesRecord (λ p. is_change_at c.cursor.table (big_endian 8 (number_of_change asked)) p ≡ true → is_concurrent asked.session (transaction_of asked.state asked.session) p ≡ false)
           (λ p known touches mine. hidden e p (both_at p known (same_number (changed_table p.change) c.cursor.table (and_left _ _ mine))) touches (same_bytes (changed_bookmark p.change) (big_endian 8 (number_of_change asked)) (and_right (changed_table p.change == c.cursor.table) _ mine)))
-          kept reached.bookmarks.records.changes all_touch
+          kept reached.bookmarks.records.changes reached.bookmarks.touched
       | Some rule ↦ λ e.
           let is = has_primary one asked c.cursor.table c.schema (rows_seen asked c) values found whole free rule e in
           let none : list_any (λ item. (changed_table item.change == c.cursor.table) && (yields_key rule c.schema (primary_key rule c.schema values) item.before || yields_key rule c.schema (primary_key rule c.schema values) item.after))
           (filter (is_concurrent asked.session (transaction_of asked.state asked.session)) kept) ≡ false =
           sym (key_conflict_kept base dropped kept asked.state reached.history asked.session c.cursor.table c.schema rule (primary_key rule c.schema values))
           ∙ not_any (has_key_conflict asked.state asked.session c.cursor.table c.schema rule) (primary_key rule c.schema values) (new_keys rule c.schema None values) (listed_new (primary_key rule c.schema values) (key_list rule c.schema values) is.listed) is.free.0 in
-          three Known Touches (λ p. ((changed_table p.change == c.cursor.table) && (yields_key rule c.schema (primary_key rule c.schema values) p.before || yields_key rule c.schema (primary_key rule c.schema values) p.after)) ≡ true → is_concurrent asked.session (transaction_of asked.state asked.session) p ≡ false)
+          three Known TouchesRecord (λ p. ((changed_table p.change == c.cursor.table) && (yields_key rule c.schema (primary_key rule c.schema values) p.before || yields_key rule c.schema (primary_key rule c.schema values) p.after)) ≡ true → is_concurrent asked.session (transaction_of asked.state asked.session) p ≡ false)
           (λ p. is_change_at c.cursor.table (primary_key rule c.schema values) p ≡ true → is_concurrent asked.session (transaction_of asked.state asked.session) p ≡ false)
           (λ p known touches clear mine. clear (and_both _ _ (and_left _ _ mine) (keyed rule e p (primary_key rule c.schema values) (both_at p known (same_number (changed_table p.change) c.cursor.table (and_left _ _ mine))) touches
           (same_bytes (changed_bookmark p.change) (primary_key rule c.schema values) (and_right (changed_table p.change == c.cursor.table) _ mine)))))
-          kept reached.bookmarks.records.changes all_touch
+          kept reached.bookmarks.records.changes reached.bookmarks.touched
           (no_conflict (λ item. (changed_table item.change == c.cursor.table) && (yields_key rule c.schema (primary_key rule c.schema values) item.before || yields_key rule c.schema (primary_key rule c.schema values) item.after))
           (is_concurrent asked.session (transaction_of asked.state asked.session)) kept none)
     ] refl
   where
     Known : PastChange → Type 0
     Known p = AtChange StandsUnder asked.state.number asked.state.tables p
-
-    Touches : PastChange → Type 0
-    Touches p = (is_some p.before || is_some p.after) ≡ true
-
-    all_touch : AllByRecursion (λ p. (is_some p.before || is_some p.after) ≡ true) kept
-    all_touch = all_both TouchesRecord (λ item. is_sum item.change ≡ false) (λ p. (is_some p.before || is_some p.after) ≡ true) (λ p touches sum. touches sum) kept reached.bookmarks.touched reached.no_sums
 
     both_at : (p : PastChange) → AtChange StandsUnder asked.state.number asked.state.tables p → changed_table p.change ≡ c.cursor.table → HasBoth StandsUnder asked.state.number c.schema p
     both_at p known same = subst (λ (s : Schema). HasBoth StandsUnder asked.state.number s p) (sym at.schema)

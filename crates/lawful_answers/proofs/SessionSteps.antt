@@ -12,7 +12,7 @@ use Rattle.database_state.specs.Lawful.{has_open, is_lawful, log_limit}
 use Rattle.derived_index.proofs.Adding.{KeysRise}
 use Rattle.record_changes.specs.Records.{Records}
 use Rattle.record_changes.proofs.Tests.{and_both, impossible, or_first, or_second, self_equal}
-use Rattle.version_keys.proofs.KeySums.{all_see_none}
+use Rattle.version_keys.proofs.EscrowSums.{unseen_now}
 use Rattle.version_keys.proofs.LawfulCommits.{commit_lawful}
 use Rattle.session_local.specs.declared.request.Request.TheVariants as call
 use Rattle.session_local.specs.Agreement.{Agrees, cursor_table, open_tables_of}
@@ -87,7 +87,7 @@ commits rise base dropped kept asked lazy reached agrees = when_begun asked (cal
     elim (nat_lt 1 (levels asked.state asked.session)) as (λ b. nat_lt 1 (levels asked.state asked.session) ≡ b
     → HasLawfulStep asked.state (if b then done asked.local Nothing (one asked entry.Release) else done (without_prepared asked.local) Nothing (one asked entry.Commit))) [
       | true ↦ λ e. (released asked e, tt)
-      | false ↦ λ e. (commit_lawful rise base dropped kept asked.state asked.session reached.history (all_see_none kept asked.state reached.no_sums) reached.unique reached.order (last_level (levels asked.state asked.session) r.0 e), tt)
+      | false ↦ λ e. (commit_lawful rise base dropped kept asked.state asked.session reached.history (unseen_now base kept asked.state reached.sums) reached.unique reached.order (last_level (levels asked.state asked.session) r.0 e), tt)
     ] refl))
     (λ e. tt)
   where

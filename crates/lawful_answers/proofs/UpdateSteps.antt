@@ -143,7 +143,7 @@ update_entries one rise base dropped kept asked label c for values reached agree
     let second = parted (λ refusal. refusal.0 ≡ false) (put_refusals asked.state asked.session c.cursor.table c.schema (rows_seen asked c) (replaced_by for) values) (number_refusals asked) first.0 in
     let parts = parts_of_put asked.state asked.session c.cursor.table c.schema (rows_seen asked c) (replaced_by for) values second.0 in
     let new = new_for one base dropped kept asked c for values reached at second.1.0 (sound_schema base dropped kept asked c reached at) parts.0 parts.1 in
-    changes_lawful one rise base dropped kept asked put reached live second.1.0 refl (free_of_conflict base dropped kept asked c for values reached storable.3 new)
+    changes_lawful one rise base dropped kept asked put reached live second.1.0 (free_of_conflict base dropped kept asked c for values reached storable.3 new)
     (λ inside. put_at asked c at asked.state refl bookmark copied values (fits asked.state (λ rule key. refl) (ap (λ b. asked.state.number + (if b then 2 else 1)) inside) r.0 r.1.0 parts.0 parts.1 new))
     (λ out. put_at asked c at begun_state (view_after base dropped kept asked.state asked.session reached.history live out) bookmark copied values
     (fits begun_state (key_conflict_after base dropped kept asked.state asked.session reached.history live out c.cursor.table c.schema)

@@ -1,18 +1,16 @@
 -- Steps of which each entry may come in its turn, and the states in which calls are answered.
-use Rattle.std.specs.Prelude.{◌≡◌, ℕ, Bool, true, false, List, [], ◌∷◌}
+use Rattle.std.specs.Prelude.{◌≡◌, ℕ, true, List, [], ◌∷◌}
 use Rattle.index_derive.specs.declared.log.Entry.{Entry}
-use Rattle.index_derive.specs.declared.log.EntryKind.{EntryKind}
 use Rattle.index_derive.specs.declared.log.EntryKind.TheVariants as entry
 use Rattle.index_derive.specs.Steps.{entries_of_step}
-use Rattle.database_state.specs.Changes.{is_sum}
 use Rattle.database_state.specs.State.{DatabaseState, PastChange}
 use Rattle.database_state.specs.Step.{state_after}
 use Rattle.database_state.specs.Lawful.{is_lawful}
 use Rattle.record_changes.specs.Records.{Records}
 use Rattle.version_history.specs.History.{IsHistory}
+use Rattle.version_keys.specs.KeySums.{HasEscrowSums}
 use Rattle.version_keys.specs.TableOrder.{HasTablesInOrder}
 use Rattle.version_keys.specs.UniqueKeys.{HasUniqueKeys}
-use Rattle.version_keys.specs.Variants.{HasNoSums}
 use Rattle.version_records.specs.Bookmarks.{HasBookmarks}
 use Rattle.session_local.specs.Outcome.{Outcome}
 
@@ -29,11 +27,11 @@ HasLawfulStep state outcome = AreLawful state (entries_of_step outcome.step)
 abbrev pub begin_of : ℕ → Entry
 begin_of session = record { session = record { 0 = session }; kind = entry.Begin }
 
--- What holds of every state that lawful entries reach from tables that are in order and unique and whose records have their
--- bookmarks, where no escrow column was changed.
+-- What holds of every state that lawful entries reach from tables that are in order and unique, whose records have their
+-- bookmarks and whose indexes name no escrow column.
 pub record IsReached (base : Records) (dropped kept : List PastChange) (state : DatabaseState) : Type 0 where
   pub history : IsHistory base dropped kept state
-  pub no_sums : HasNoSums kept
+  pub sums : HasEscrowSums base kept state
   pub unique : HasUniqueKeys base kept state
   pub order : HasTablesInOrder state
   pub bookmarks : HasBookmarks base kept state
@@ -44,8 +42,3 @@ pub record IsReachedState (state : DatabaseState) : Type 0 where
   pub dropped : List PastChange
   pub kept : List PastChange
   pub is_reached : IsReached base dropped kept state
-
--- whether an entry changes an escrow column
-abbrev pub is_sum_entry : EntryKind → Bool
-is_sum_entry (entry.Change change) = is_sum change
-is_sum_entry _ = false

@@ -9,7 +9,7 @@ ghost use Rattle.index_derive.specs.declared.rules.Schema.{Schema};
 ghost use Rattle.index_derive.specs.declared.log.EntryKind.TheVariants as entry;
 ghost use Rattle.index_derive.specs.declared.log.Step.TheVariants.{Alone};
 ghost use Rattle.index_derive.specs.Steps.{entries_of_step};
-ghost use Rattle.database_state.specs.Changes.{changed_table, changed_bookmark, is_sum};
+ghost use Rattle.database_state.specs.Changes.{changed_table, changed_bookmark};
 ghost use Rattle.database_state.specs.State.{DatabaseState, PastChange, levels};
 ghost use Rattle.database_state.specs.View.{view};
 ghost use Rattle.database_state.specs.Conflicts.{has_write_conflict, has_key_conflict};
@@ -39,7 +39,7 @@ pub fn a_session_meets_the_same_after_its_begin()
 /// A change outside a transaction, where it is lawful behind its begin: so are the begin before it and the commit behind it.
 pub fn a_change_alone_is_lawful()
     ensures { (base : Records) (dropped kept : List PastChange) (state : DatabaseState) (session : ℕ) (change : Change) → IsReached base dropped kept state → nat_lt state.number log_limit ≡ true → is_live state session ≡ true
-        → (levels state session == 0) ≡ true → is_sum change ≡ false → is_lawful (state_after state (begin_of session)) (record { session = record { 0 = session }; kind = entry.Change change }) ≡ true
+        → (levels state session == 0) ≡ true → is_lawful (state_after state (begin_of session)) (record { session = record { 0 = session }; kind = entry.Change change }) ≡ true
         → AreLawful state (entries_of_step (Some (Alone (record { session = record { 0 = session }; kind = entry.Change change })))) }
 {
     a_primary_index_has_one_entry();

@@ -11,19 +11,20 @@ ghost use Rattle.database_state.specs.Lawful.{is_lawful};
 ghost use Rattle.record_changes.specs.Records.{Records, records_of, after_item};
 ghost use Rattle.version_history.specs.Readers.{is_standing};
 ghost use Rattle.version_history.specs.KeptSteps.{kept_after, dropped_after, base_after};
+ghost use Rattle.version_keys.specs.KeySums.{IsPlainIndex};
 ghost use Rattle.version_keys.specs.TableOrder.{HasTablesInOrder};
 ghost use Rattle.version_keys.specs.UniqueKeys.{IsUniqueTable};
 ghost use Rattle.version_records.specs.Bookmarks.{StandsUnder};
-ghost use Rattle.lawful_answers.specs.LawfulSteps.{AreLawful, IsReached, IsReachedState, is_sum_entry};
+ghost use Rattle.lawful_answers.specs.LawfulSteps.{AreLawful, IsReached, IsReachedState};
 
 use index_derive::a_primary_index_has_one_entry;
 
-/// Every lawful entry that changes no escrow column reaches a state of the same kind, with the history that it leaves. So do
-/// entries that are lawful each in its turn.
+/// Every lawful entry reaches a state of the same kind, with the history that it leaves, sums of escrow columns among the entries.
+/// So do entries that are lawful each in its turn.
 pub fn lawful_entries_reach_the_next_state()
-    ensures one { (base : Records) (dropped kept : List PastChange) (state : DatabaseState) (made : Entry) → IsReached base dropped kept state → is_lawful state made ≡ true → is_sum_entry made.kind ≡ false
+    ensures one { (base : Records) (dropped kept : List PastChange) (state : DatabaseState) (made : Entry) → IsReached base dropped kept state → is_lawful state made ≡ true
         → IsReached (base_after state made.kind base) (dropped_after made.kind dropped kept) (kept_after state made.session.0 made.kind kept) (state_after state made) }
-    ensures many { (state : DatabaseState) (entries : List Entry) → IsReachedState state → AreLawful state entries → AllByRecursion (λ made. is_sum_entry made.kind ≡ false) entries → IsReachedState (state_after_all state entries) }
+    ensures many { (state : DatabaseState) (entries : List Entry) → IsReachedState state → AreLawful state entries → IsReachedState (state_after_all state entries) }
 {
     a_primary_index_has_one_entry();
 }
@@ -35,10 +36,11 @@ pub fn a_clean_reaches_the_same_state()
 {}
 
 /// The empty state is one of these, and so is each state without sessions and past changes whose tables are in order and
-/// unique, and whose records have their bookmarks.
+/// unique, whose records have their bookmarks, and whose indexes name columns that are there and no escrow column.
 pub fn states_without_sessions_are_reached()
     ensures empty { IsReached (records_of empty_state.tables) [] [] empty_state }
     ensures tables { (state : DatabaseState) → state.sessions ≡ [] → state.past ≡ [] → HasTablesInOrder state → ((id : ℕ) → IfSome (table_with_id state.tables id) IsUniqueTable)
         → ((id : ℕ) → IfSome (table_with_id state.tables id) (λ table. (bookmark : List ℕ) → IfSome (row_at table.rows bookmark) (StandsUnder state.number (schema_of table) bookmark)))
+        → ((id : ℕ) → IfSome (table_with_id state.tables id) (λ table. AllByRecursion (IsPlainIndex table) table.indexes))
         → IsReached (records_of state.tables) [] [] state }
 {}

@@ -30,7 +30,7 @@ ShowsView =
 pub seen-told : ShowsView → (engine : EngineState) (state : DatabaseState) (session : ℕ) → HoldsState engine state → (table : ℕ)
     → table_with_id (seen_tables (reader_in session engine.sessions) engine.store) table ≡ table_with_id (view state session) table
 seen-told shows engine state session h table =
-    shows h.base h.dropped h.kept engine.store state h.holds h.reached.no_sums (reader_in session engine.sessions) (begin_told engine state h session) table
+    shows h.base h.dropped h.kept engine.store state h.holds h.no_sums (reader_in session engine.sessions) (begin_told engine state h session) table
 
 -- ---- the room of a change
 

@@ -84,7 +84,7 @@ keys_at alike engine state session table schema own values (Some t) h is has =
     let reader : Reader = reader_in session engine.sessions in
     subst (λ (s : Schema). keys_in engine session table s own values ≡ key_refusals state session table s t.rows own values) (sym has)
     (asked-alike (λ rule. unique_refusals reader engine.store table (schema_of t) rule own values) (asked_of_state state session table (schema_of t) t.rows own values) (filter is_unique (schema_of t).indexes)
-    (λ rule. alike h.base h.dropped h.kept engine.store state h.holds h.reached.no_sums reader (begin_told engine state h session) table t is rule own values))
+    (λ rule. alike h.base h.dropped h.kept engine.store state h.holds h.no_sums reader (begin_told engine state h session) table t is rule own values))
 
 pub keys-told : AsksAlike → TellsKeys
 keys-told alike engine state session local label c h step found own values =
@@ -148,7 +148,7 @@ short_by sees engine state session local label c (replacing bookmark) values h s
     replaced_short c.schema bookmark values (primary_rule c.schema) rules refl same
     (replaced_hidden state session c bookmark (table_with_id state.tables c.cursor.table)
     (of_found (λ (c : OpenCursor). HasSchemaOf c (table_with_id state.tables c.cursor.table)) (λ (c : OpenCursor). c.label == label) local.cursors c found step.agrees.schemas)
-    (sees h.base h.dropped h.kept state h.reached.history (all_see_none h.kept state h.reached.no_sums) h.reached.bookmarks session c.cursor.table) may)
+    (sees h.base h.dropped h.kept state h.reached.history (all_see_none h.kept state h.no_sums) h.reached.bookmarks session c.cursor.table) may)
 
 pub bookmarks-short : SeesBookmarks → HasShortBookmarks
 bookmarks-short sees engine state session local label c prepared h step found is rules same =

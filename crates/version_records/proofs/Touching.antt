@@ -8,7 +8,7 @@ use Rattle.column_set.specs.RecordValues.{RecordFields}
 use Rattle.index_derive.specs.declared.log.EntryKind.{EntryKind}
 use Rattle.index_derive.specs.declared.log.EntryKind.TheVariants as entry
 use Rattle.database_state.specs.Table.{Table, table_with_id}
-use Rattle.database_state.specs.Changes.{changed_bookmark, changed_table, is_sum, without_copied}
+use Rattle.database_state.specs.Changes.{changed_bookmark, changed_table, without_copied}
 use Rattle.database_state.specs.State.{DatabaseState, PastChange, Transaction, levels, levels_of, transaction_of}
 use Rattle.database_state.specs.View.{newest, view}
 use Rattle.database_state.specs.Conflicts.{has_write_conflict}
@@ -22,14 +22,15 @@ use Rattle.version_history.proofs.EndEntries.{back}
 use Rattle.version_history.proofs.Entries.{history_later}
 use Rattle.version_history.proofs.Lists.{all_append, all_map, all_weaker}
 use Rattle.version_history.proofs.SeenRecords.{newest_records}
-use Rattle.version_history.proofs.Unhindered.{finds_newest}
+use Rattle.version_sums.proofs.StoredRecord.{found_there}
+use Rattle.version_sums.proofs.UnhinderedSums.{unhindered_found}
 use Rattle.version_keys.proofs.UniqueKept.{id_of}
 use Rattle.version_records.specs.Bookmarks.{TouchesRecord}
 use Rattle.version_records.proofs.EachRecord.{KeepsRecords, commit_keeps, lower_keeps, undone_keeps}
 
 touched_mapped : (f : PastChange → PastChange) → KeepsRecords f → (kept : List PastChange) → AllByRecursion TouchesRecord kept → AllByRecursion TouchesRecord (map f kept)
 touched_mapped f keeps kept h = all_map TouchesRecord f kept (all_weaker TouchesRecord (λ item. TouchesRecord (f item))
-    (λ item touches sum. ap (λ (o : Option RecordFields). is_some o || is_some (f item).after) (keeps item).1 ∙ ap (λ (o : Option RecordFields). is_some item.before || is_some o) (keeps item).2 ∙ touches (sym (ap is_sum (keeps item).0) ∙ sum)) kept h)
+    (λ item touches. ap (λ (o : Option RecordFields). is_some o || is_some (f item).after) (keeps item).1 ∙ ap (λ (o : Option RecordFields). is_some item.before || is_some o) (keeps item).2 ∙ touches) kept h)
 
 left : (a b : Bool) → a ≡ true → (a || b) ≡ true
 left true b e = refl
@@ -39,31 +40,37 @@ right : (a b : Bool) → b ≡ true → (a || b) ≡ true
 right true b e = refl
 right false b e = e
 
--- a record that the session sees under a change that meets no write conflict is the newest one
-was_seen : (base : Records) (dropped kept : List PastChange) (state : DatabaseState) (label : ℕ) (t : Transaction) (change : Change) → IsHistory base dropped kept state → transaction_of state label ≡ Some t → is_sum change ≡ false → has_write_conflict state label change ≡ false
+-- where the session sees a record under a change that meets no write conflict there is a newest one
+was_seen : (base : Records) (dropped kept : List PastChange) (state : DatabaseState) (label : ℕ) (t : Transaction) (change : Change) → IsHistory base dropped kept state → transaction_of state label ≡ Some t → has_write_conflict state label change ≡ false
     → is_some (records_of (view state label) (changed_table change) (changed_bookmark change)) ≡ true → is_some (records_of (newest (with_next_number state)) (changed_table change) (changed_bookmark change)) ≡ true
-was_seen base dropped kept state label t change h e sum free seen =
+was_seen base dropped kept state label t change h e free seen =
     ap (λ (r : Records). is_some (r (changed_table change) (changed_bookmark change))) (newest_records base dropped kept (with_next_number state) (history_later base dropped kept state h) ∙ sym (newest_records base dropped kept state h))
-    ∙ ap is_some (finds_newest base dropped kept state h label t change e sum free) ∙ seen
+    ∙ sym (ap is_some (unhindered_found base dropped kept state h label t change e free))
+    ∙ sym (found_there base dropped kept state h label (changed_table change) (changed_bookmark change)) ∙ seen
 
 touches_new : (base : Records) (dropped kept : List PastChange) (state : DatabaseState) (label : ℕ) (t : Transaction) (change : Change) → IsHistory base dropped kept state → transaction_of state label ≡ Some t → has_write_conflict state label change ≡ false
     → is_lawful_at state label (table_with_id state.tables (changed_table change)) change ≡ true
     → (new_change label change (with_next_number state)).after ≡ record_after (without_copied change) (new_change label change (with_next_number state)).before
     → TouchesRecord (new_change label change (with_next_number state))
-touches_new base dropped kept state label t (Put id bookmark copied values) h e free lawful after sum = right (is_some (new_change label (Put id bookmark copied values) (with_next_number state)).before) _ (ap is_some after)
-touches_new base dropped kept state label t (Drop id bookmark) h e free lawful after sum =
-    left _ (is_some (new_change label (Drop id bookmark) (with_next_number state)).after) (was_seen base dropped kept state label t (Drop id bookmark) h e refl free (seen (table_with_id state.tables id.0) refl lawful))
+touches_new base dropped kept state label t (Put id bookmark copied values) h e free lawful after = right (is_some (new_change label (Put id bookmark copied values) (with_next_number state)).before) _ (ap is_some after)
+touches_new base dropped kept state label t (Drop id bookmark) h e free lawful after =
+    left _ (is_some (new_change label (Drop id bookmark) (with_next_number state)).after) (was_seen base dropped kept state label t (Drop id bookmark) h e free (seen (table_with_id state.tables id.0) refl lawful))
   where
     seen : (o : Option Table) → table_with_id state.tables id.0 ≡ o → is_lawful_at state label o (Drop id bookmark) ≡ true → is_some (records_of (view state label) id.0 bookmark) ≡ true
     seen None f g = impossible g
     seen (Some table) f g = ap (λ k. is_some (records_of (view state label) k bookmark)) (sym (id_of state.tables id.0 table f)) ∙ g
-touches_new base dropped kept state label t (Hold id bookmark) h e free lawful after sum =
-    left _ (is_some (new_change label (Hold id bookmark) (with_next_number state)).after) (was_seen base dropped kept state label t (Hold id bookmark) h e refl free (seen (table_with_id state.tables id.0) refl lawful))
+touches_new base dropped kept state label t (Hold id bookmark) h e free lawful after =
+    left _ (is_some (new_change label (Hold id bookmark) (with_next_number state)).after) (was_seen base dropped kept state label t (Hold id bookmark) h e free (seen (table_with_id state.tables id.0) refl lawful))
   where
     seen : (o : Option Table) → table_with_id state.tables id.0 ≡ o → is_lawful_at state label o (Hold id bookmark) ≡ true → is_some (records_of (view state label) id.0 bookmark) ≡ true
     seen None f g = impossible g
     seen (Some table) f g = ap (λ k. is_some (records_of (view state label) k bookmark)) (sym (id_of state.tables id.0 table f)) ∙ g
-touches_new base dropped kept state label t (Add id bookmark column amount) h e free lawful after sum = impossible (sym sum)
+touches_new base dropped kept state label t (Add id bookmark column amount) h e free lawful after =
+    left _ (is_some (new_change label (Add id bookmark column amount) (with_next_number state)).after) (was_seen base dropped kept state label t (Add id bookmark column amount) h e free (seen (table_with_id state.tables id.0) refl lawful))
+  where
+    seen : (o : Option Table) → table_with_id state.tables id.0 ≡ o → is_lawful_at state label o (Add id bookmark column amount) ≡ true → is_some (records_of (view state label) id.0 bookmark) ≡ true
+    seen None f g = impossible g
+    seen (Some table) f g = ap (λ k. is_some (records_of (view state label) k bookmark)) (sym (id_of state.tables id.0 table f)) ∙ and_left _ _ g
 
 changed_touches : (base : Records) (dropped kept : List PastChange) (state : DatabaseState) (label : ℕ) (change : Change) → IsHistory base dropped kept state → is_lawful_change state label change ≡ true
     → (new_change label change (with_next_number state)).after ≡ record_after (without_copied change) (new_change label change (with_next_number state)).before → (t : Option Transaction) → transaction_of state label ≡ t

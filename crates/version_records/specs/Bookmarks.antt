@@ -1,12 +1,11 @@
 -- Under which bookmarks records stand, and that changes find records.
-use Rattle.std.specs.Prelude.{◌≡◌, ℕ, ◌==◌, Bool, true, false, ◌&&◌, ◌||◌, nat_le, length, reverse, List, Option, Some, None, is_some}
+use Rattle.std.specs.Prelude.{◌≡◌, ℕ, ◌==◌, Bool, true, ◌&&◌, ◌||◌, nat_le, length, reverse, List, Option, Some, None, is_some}
 use Rattle.std.specs.List.{AllByRecursion}
 use Rattle.jet_base.specs.ColumnType.{from_little_endian}
 use Rattle.column_set.specs.RecordValues.{RecordFields}
 use Rattle.index_derive.specs.declared.rules.IndexRule.{IndexRule}
 use Rattle.index_derive.specs.declared.rules.Schema.{Schema}
 use Rattle.database_state.specs.Table.{primary_rule}
-use Rattle.database_state.specs.Changes.{is_sum}
 use Rattle.database_state.specs.State.{DatabaseState, PastChange}
 use Rattle.database_state.specs.Conflicts.{yields_key}
 use Rattle.record_changes.specs.Records.{Records}
@@ -25,9 +24,9 @@ is_bookmark number schema (Some rule) bookmark values = yields_key rule schema b
 abbrev pub StandsUnder : ℕ → Schema → List ℕ → RecordFields → Type 0
 StandsUnder number schema bookmark values = is_bookmark number schema (primary_rule schema) bookmark values ≡ true
 
--- A change that is no sum finds a record under its bookmark, or leaves one.
+-- A change finds a record under its bookmark, or leaves one.
 abbrev pub TouchesRecord : PastChange → Type 0
-TouchesRecord item = is_sum item.change ≡ false → (is_some item.before || is_some item.after) ≡ true
+TouchesRecord item = (is_some item.before || is_some item.after) ≡ true
 
 -- Every record stands under a bookmark that is its own, and every kept change touches one.
 pub record HasBookmarks (base : Records) (kept : List PastChange) (state : DatabaseState) : Type 0 where

@@ -1,3 +1,4 @@
 pub mod StoredRecord
 pub mod StoredSums
 pub mod UndoneSums
+pub mod UnhinderedSums

@@ -1,9 +1,12 @@
 //! The record that a session sees, and the stored one that it finds.
 
-ghost use Rattle.std.specs.Prelude.{◌≡◌, ℕ, ℤ, List, [], Option, Some, option_map, is_some, FitsSigned};
+ghost use Rattle.std.specs.Prelude.{◌≡◌, ℕ, ℤ, List, [], Option, Some, option_map, is_some, false, FitsSigned};
 ghost use Rattle.std.specs.Int.{w32, int_wrapping_sub};
+ghost use Rattle.column_set.specs.declared.changes.Change.{Change};
 ghost use Rattle.column_set.specs.RecordValues.{RecordFields, values_of};
-ghost use Rattle.database_state.specs.State.{DatabaseState, PastChange, transaction_of};
+ghost use Rattle.database_state.specs.Changes.{changed_bookmark, changed_table};
+ghost use Rattle.database_state.specs.Conflicts.{has_write_conflict};
+ghost use Rattle.database_state.specs.State.{DatabaseState, PastChange, Transaction, transaction_of};
 ghost use Rattle.database_state.specs.View.{newest, view};
 ghost use Rattle.record_changes.specs.Records.{Records, records_of};
 ghost use Rattle.version_history.specs.Readers.{found_record};
@@ -29,6 +32,15 @@ pub fn a_session_sees_its_record_without_unseen_sums()
     ensures sums { (base : Records) (dropped kept : List PastChange) (state : DatabaseState) → IsHistory base dropped kept state → (session table : ℕ) (bookmark : List ℕ) (stored seen : RecordFields)
         → found_record session (transaction_of state session) table bookmark (records_of (newest state) table bookmark) kept ≡ Some stored → records_of (view state session) table bookmark ≡ Some seen
         → (column : ℕ) → escrow_value seen column ≡ seen_value (escrow_value stored column) (amounts_to column (unseen_sums session (transaction_of state session) table bookmark kept)) }
+{}
+
+/// A change that meets no write conflict finds the newest record, also where it is a sum: no put or drop of the record stands that
+/// its session does not see.
+pub fn an_unhindered_change_finds_the_stored_record_newest()
+    ensures { (base : Records) (dropped kept : List PastChange) (state : DatabaseState) → IsHistory base dropped kept state → (session : ℕ) (t : Transaction) (change : Change) → transaction_of state session ≡ Some t
+        → has_write_conflict state session change ≡ false
+        → found_record session (transaction_of state session) (changed_table change) (changed_bookmark change) (records_of (newest state) (changed_table change) (changed_bookmark change)) kept
+        ≡ records_of (newest state) (changed_table change) (changed_bookmark change) }
 {}
 
 /// Of 32-bit numbers an amount is taken away by a wrapping subtraction.

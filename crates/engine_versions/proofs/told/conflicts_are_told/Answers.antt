@@ -13,6 +13,6 @@ pub returns : goal.returns
 returns c = record {
   write = λ engine state h session. conflict_is_told h.base h.dropped h.kept engine.store state h.holds (reader_in session engine.sessions) (begin_told engine state h session);
   key = λ engine state h session table schema rule. key_conflict_is_told c.variants_tell_key_conflicts.ensures h.base h.dropped h.kept engine.store state h.holds (reader_in session engine.sessions) (begin_told engine state h session)
-      table schema rule (sees_none rule table h.kept h.reached.no_sums) (befores_of_none rule schema table h.kept h.base h.reached.no_sums);
+      table schema rule (sees_none rule table h.kept h.no_sums) (befores_of_none rule schema table h.kept h.base h.no_sums);
   span = λ engine state h. ap (λ oldest. span oldest engine.store.held) (ap oldest_begin (sym h.sessions) ∙ oldest_alike state.sessions) ∙ span_is_told h.base h.dropped h.kept engine.store state h.holds h.labels;
 }

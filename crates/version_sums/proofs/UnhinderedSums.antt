@@ -1,0 +1,61 @@
+-- A change that meets no write conflict finds the newest record, also where it is a sum.
+use Rattle.std.proofs.Common.{◌≡◌, ℕ, Bool, true, false, not, ◌&&◌, cond, List, [], ◌∷◌, Option, Some, None, refl, sym, ap, ◌∙◌}
+use Rattle.std.specs.Prelude.{find}
+use Rattle.std.specs.List.{AllByRecursion}
+use Rattle.column_set.specs.declared.changes.Change.{Change}
+use Rattle.column_set.specs.declared.changes.Change.TheVariants.{Put, Drop, Hold, Add}
+use Rattle.database_state.specs.Changes.{changed_bookmark, changed_table, is_sum}
+use Rattle.database_state.specs.State.{DatabaseState, PastChange, Transaction, transaction_of}
+use Rattle.database_state.specs.View.{newest}
+use Rattle.database_state.specs.Conflicts.{collide, has_write_conflict, is_concurrent}
+use Rattle.record_changes.specs.Records.{Records, is_change_of, records_of}
+use Rattle.record_changes.proofs.Commuting.{both_touch}
+use Rattle.record_changes.proofs.Tests.{and_both, and_left, and_right, equal_bytes, impossible, refuted, self_equal}
+use Rattle.version_history.specs.History.{IsHistory, IsPlaced}
+use Rattle.version_history.specs.Readers.{before_or, found_record, hides, is_rewrite, is_standing, is_unseen, sees}
+use Rattle.version_history.proofs.EndEntries.{free_of}
+use Rattle.version_history.proofs.Lists.{all_both}
+use Rattle.version_history.proofs.Unhindered.{seen_unless}
+
+none_found : {X : Type 0} (p : X → Bool) (xs : List X) → AllByRecursion (λ x. p x ≡ false) xs → find p xs ≡ None
+none_found p [] h = refl
+none_found p (x ∷ xs) h = ap (λ b. cond b (Some x) (find p xs)) h.0 ∙ none_found p xs h.1
+
+no_sum : (c : Change) → is_rewrite c ≡ true → is_sum c ≡ false
+no_sum (Put t b copied values) h = refl
+no_sum (Drop t b) h = refl
+no_sum (Hold t b) h = refl
+no_sum (Add t b c a) h = sym h
+
+-- a put or a drop of the change's record collides with it
+rewrite_collides : (p change : Change) → is_change_of (changed_table change) (changed_bookmark change) p ≡ true → is_rewrite p ≡ true → collide p change ≡ true
+rewrite_collides p change mine rewrite =
+    and_both _ _ (both_touch (changed_table change) (changed_bookmark change) p change mine itself) (ap (λ b. not (b && is_sum change)) (no_sum p rewrite))
+  where
+    itself : is_change_of (changed_table change) (changed_bookmark change) change ≡ true
+    itself = and_both _ _ (self_equal (changed_table change)) (equal_bytes (changed_bookmark change) (changed_bookmark change) refl)
+
+pub unhindered_found : (base : Records) (dropped kept : List PastChange) (state : DatabaseState) → IsHistory base dropped kept state → (session : ℕ) (t : Transaction) (change : Change) → transaction_of state session ≡ Some t
+    → has_write_conflict state session change ≡ false
+    → found_record session (transaction_of state session) (changed_table change) (changed_bookmark change) (records_of (newest state) (changed_table change) (changed_bookmark change)) kept
+    ≡ records_of (newest state) (changed_table change) (changed_bookmark change)
+unhindered_found base dropped kept state h session t change e free =
+    ap (before_or (records_of (newest state) (changed_table change) (changed_bookmark change))) (none_found hidden kept
+    (all_both (IsPlaced state.number state.tables (transaction_of state)) (λ p. is_standing p ≡ true → collide p.change change ≡ true → is_concurrent session (Some t) p ≡ false) (λ p. hidden p ≡ false)
+    (λ p placed apart. refuted (hidden p) (λ hit.
+    let touched : (is_change_of (changed_table change) (changed_bookmark change) p.change && is_rewrite p.change) ≡ true = and_left _ _ hit in
+    let unseen : is_unseen session (transaction_of state session) p ≡ true = and_right (is_change_of (changed_table change) (changed_bookmark change) p.change && is_rewrite p.change) _ hit in
+    let collides : collide p.change change ≡ true = rewrite_collides p.change change (and_left _ _ touched) (and_right (is_change_of (changed_table change) (changed_bookmark change) p.change) _ touched) in
+    both (is_standing p) (sees session (transaction_of state session) p)
+    (seen_unless state.number (transaction_of state) session t p e placed.2 (λ live. apart live collides) ∙ ap (λ u. sees session u p) (sym e)) unseen))
+    kept h.keeps.placed (free_of base dropped kept session change t state h e free)))
+  where
+    hidden : PastChange → Bool
+    hidden = hides session (transaction_of state session) (changed_table change) (changed_bookmark change)
+
+    both : (a b : Bool) → a ≡ b → (a && not b) ≡ true → ⊥
+    both true b e h = never (ap not e ∙ h)
+      where
+        never : false ≡ true → ⊥
+        never e = cc
+    both false b e h = impossible h
