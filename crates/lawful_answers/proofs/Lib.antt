@@ -9,3 +9,4 @@ pub mod UpdateSteps
 pub mod SchemaCallSteps
 pub mod ReachedStates
 pub mod SumSteps
+pub mod UncopiedChanges

@@ -1,17 +1,23 @@
 -- A sum and the opposite one leave the very record.
-use Rattle.std.proofs.Common.{◌≡◌, ℕ, ◌+◌, ◌*◌, ◌/◌, ◌^◌, ◌%◌, ◌<◌, Bool, true, false, ◌&&◌, cond, zero, suc, List, [], ◌∷◌, Option, Some, None, refl, sym, ap, subst, ◌∙◌, arith}
-use Rattle.std.specs.Prelude.{ℤ, neg_ℤ, ◌==◌, get_or, length, nat_lt, slice_get, FitsSigned, unwrap_or}
-use Rattle.std.specs.Int.{w32, cast_unsigned, from_le_bytes, to_le_bytes}
+use Rattle.std.proofs.Common.{◌≡◌, ℕ, ◌+◌, ◌-◌, ◌*◌, ◌/◌, ◌≤◌, ◌^◌, ◌%◌, ◌<◌, Bool, true, false, ◌&&◌, cond, zero, suc, List, [], ◌∷◌, Option, Some, None, refl, sym, ap, subst, ◌∙◌, arith}
+use Rattle.std.specs.Prelude.{ℤ, pos, negsuc, neg_ℤ, ◌==◌, get_or, length, nat_lt, slice_get, FitsSigned, unwrap_or}
+use Rattle.std.specs.Int.{w32, cast_signed, cast_unsigned, from_le_bytes, to_le_bytes}
 use Rattle.std.specs.List.{list_all}
 use Rattle.std.specs.Cmp.{nat_cmp_total, unsigned_tied}
 use Rattle.std.specs.Ordering.{nat_cmp}
 use Rattle.std.specs.FinMap.Entries.{find-put, is_sorted-put}
 use Rattle.std.proofs.lemmas.Bool.Decides.{nat_tests}
+use Rattle.std.proofs.Math.Facts.{to_z-neg}
+use Rattle.std.proofs.Math.Nat.{mod-eq_of_lt}
+use Rattle.std.proofs.lemmas.Int.{to_z_pos}
 use Rattle.std.proofs.lemmas.Nat.{from_le_bytes-to_le_bytes_4, le_bytes_4}
+use Rattle.jet_base.specs.declared.words.ColType.TheVariants.{Long}
+use Rattle.jet_base.specs.ColumnType.{from_little_endian, from_twos_complement, number_of}
 use Rattle.column_set.specs.RecordValues.{RecordFields, lookup_by_number, put_by_number, values_of}
 use Rattle.database_state.specs.Changes.{escrow_bytes, escrow_sum, with_sum}
 use Rattle.record_changes.proofs.Tests.{and_both, and_left, and_right, impossible, same_number, self_equal}
 use Rattle.version_sums.specs.EscrowNumbers.{ColumnsRise, holds_number, is_number, is_one_number}
+use Rattle.version_sums.specs.EscrowSums.{escrow_value}
 use Rattle.version_sums.proofs.Puts.{put_again, put_found}
 use Rattle.version_sums.proofs.StoredSums.{plus, values_seen}
 use Rattle.version_sums.proofs.UndoneSums.{opposite}
@@ -85,6 +91,44 @@ sum_holds values c d amount h =
 
 pub sum_rises : (values : RecordFields) (c : ℕ) (amount : ℤ) → ColumnsRise values → ColumnsRise (with_sum values c amount)
 sum_rises values c amount rise = is_sorted-put nat_cmp nat_cmp_total c (escrow_sum (escrow_bytes values c) amount ∷ []) values rise
+
+-- ---- the number that is answered
+
+signed_number : (n : ℕ) → n < 2 ^ 32 → from_twos_complement 32 n ≡ cast_signed w32 (n % 2 ^ 32)
+signed_number n h = by (nat_lt n (2 ^ 31)) refl ∙ ap (cast_signed w32) (sym (mod-eq_of_lt h))
+  where
+    lower : (n : ℕ) → nat_lt n 2147483648 ≡ true → n < 2147483648
+    lower n e = grind (arith, nat_tests)
+
+    upper : (n : ℕ) → nat_lt n 2147483648 ≡ false → 2147483648 ≤ n
+    upper n e = grind (arith, nat_tests)
+
+    written : (n : ℕ) → n < 4294967296 → 4294967296 - suc (4294967296 - n - 1) ≡ n
+    written n h = omega arith
+
+    below : (n : ℕ) → n < 4294967296 → 2147483648 ≤ n → 4294967296 - n - 1 < 2147483648
+    below n h le = omega arith
+
+    by : (b : Bool) → nat_lt n (2 ^ 31) ≡ b → from_twos_complement 32 n ≡ cast_signed w32 n
+    by true e = ap (λ x. cond x (pos n) (negsuc (2 ^ 32 - n - 1))) e ∙ sym (to_z_pos w32 n (lower n e))
+    by false e = ap (λ x. cond x (pos n) (negsuc (2 ^ 32 - n - 1))) e ∙ sym (to_z-neg w32 (4294967296 - n - 1) (below n h (upper n e))) ∙ ap (cast_signed w32) (written n h)
+
+low_first : (bytes : List ℕ) → length bytes ≡ 4 → from_little_endian bytes ≡ from_le_bytes w32 bytes
+low_first [] l = absurd (omega arith)
+low_first (a ∷ []) l = absurd (omega arith)
+low_first (a ∷ b ∷ []) l = absurd (omega arith)
+low_first (a ∷ b ∷ c ∷ []) l = absurd (omega arith)
+low_first (a ∷ b ∷ c ∷ d ∷ []) l = four a b c d
+  where
+    four : (a b c d : ℕ) → a + 256 * (b + 256 * (c + 256 * (d + 256 * 0))) ≡ a + b * 256 + c * 65536 + d * 16777216
+    four a b c d = omega arith
+low_first (a ∷ b ∷ c ∷ d ∷ e ∷ bytes) l = absurd (omega arith)
+
+pub read_as_long : (values : RecordFields) (column : ℕ) → holds_number values column ≡ true → number_of Long (escrow_bytes values column) ≡ escrow_value values column
+read_as_long values column h =
+    let one = one_value values column h in
+    ap (λ (n : ℕ). from_twos_complement 32 n) (low_first (escrow_bytes values column) (same_number (length (escrow_bytes values column)) 4 (and_left _ _ one.1)))
+    ∙ signed_number (from_le_bytes w32 (escrow_bytes values column)) (number_below (escrow_bytes values column) one.1)
 
 -- ---- there and back
 
