@@ -1,5 +1,5 @@
 -- No past change names a copied record.
-use Rattle.std.proofs.Common.{◌≡◌, ℕ, ◌-◌, Bool, true, false, ◌&&◌, cond, List, None, refl}
+use Rattle.std.proofs.Common.{ℕ, ◌-◌, Bool, true, false, ◌&&◌, cond, List, None}
 use Rattle.std.specs.Prelude.{map, nat_lt, if◌then◌else◌}
 use Rattle.index_derive.specs.declared.log.Entry.{Entry}
 use Rattle.index_derive.specs.declared.log.EntryKind.{EntryKind}

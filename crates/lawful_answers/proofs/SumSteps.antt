@@ -1,5 +1,5 @@
 -- The step of a sum of an escrow column.
-use Rattle.std.proofs.Common.{◌≡◌, ℕ, Bool, true, false, not, ◌&&◌, ◌||◌, cond, List, [], ◌∷◌, ◌++◌, Option, Some, None, refl, sym, ap, subst, ◌∙◌, bytes_eq}
+use Rattle.std.proofs.Common.{◌≡◌, ℕ, Bool, true, false, not, ◌||◌, cond, List, [], ◌∷◌, ◌++◌, Option, Some, None, refl, sym, ap, subst, ◌∙◌, bytes_eq}
 use Rattle.std.specs.Prelude.{ℤ, ◌==◌, is_none, is_some, map, IfSome}
 use Rattle.std.specs.List.{list_any}
 use Rattle.jet_base.specs.declared.ids.CursorId.{CursorId}
@@ -8,8 +8,7 @@ use Rattle.column_set.specs.declared.changes.Change.{Change}
 use Rattle.column_set.specs.declared.changes.Change.TheVariants.{Add}
 use Rattle.column_set.specs.declared.columns.Column.{Column}
 use Rattle.column_set.specs.RecordValues.{column_named, column_of_id}
-use Rattle.index_derive.specs.Entries.{is_escrow_column}
-use Rattle.database_state.specs.Table.{Table, row_at, rows_of, schema_of, table_with_id}
+use Rattle.database_state.specs.Table.{Table, row_at, rows_of, table_with_id}
 use Rattle.database_state.specs.State.{PastChange}
 use Rattle.database_state.specs.View.{view}
 use Rattle.database_state.specs.Lawful.{is_lawful_at}

@@ -1,5 +1,5 @@
 -- Every record holds numbers in its escrow columns, after each entry.
-use Rattle.std.proofs.Common.{◌≡◌, ℕ, ◌+◌, suc, Bool, true, false, not, ◌&&◌, ◌||◌, cond, List, [], ◌∷◌, ◌++◌, Option, Some, None, refl, sym, ap, subst, ◌∙◌, arith, bytes_eq, inl, inr}
+use Rattle.std.proofs.Common.{◌≡◌, ℕ, ◌+◌, suc, Bool, true, false, not, ◌&&◌, ◌||◌, cond, List, [], ◌∷◌, Option, Some, None, refl, sym, ap, subst, ◌∙◌, arith, bytes_eq, inl, inr}
 use Rattle.std.specs.Prelude.{◌==◌, ◌⊎◌, filter, if◌then◌else◌, is_none, length, map, nat_le, nat_lt, option_map, slice_get, unwrap_or, IfSome}
 use Rattle.std.specs.List.{AllByRecursion, list_all}
 use Rattle.std.specs.Ordering.{nat_cmp}
@@ -17,14 +17,14 @@ use Rattle.index_derive.specs.declared.schema_calls.SchemaStep.{SchemaStep}
 use Rattle.index_derive.specs.declared.schema_calls.SchemaStep.TheVariants as step
 use Rattle.index_derive.specs.Entries.{is_escrow_column}
 use Rattle.database_state.specs.Table.{Rows, Table, row_at, schema_of, table_with_id}
-use Rattle.database_state.specs.Changes.{changed_bookmark, changed_table, escrow_bytes, without_copied}
+use Rattle.database_state.specs.Changes.{changed_bookmark, changed_table, escrow_bytes}
 use Rattle.database_state.specs.SchemaChanges.{columns_with, new_table, schema_refusal, tables_after_step, with_column, with_index, without_column, without_index}
 use Rattle.database_state.specs.State.{DatabaseState, PastChange, levels, transaction_of}
 use Rattle.database_state.specs.View.{view}
 use Rattle.database_state.specs.Step.{applied, every_change, is_at_level, state_after}
 use Rattle.database_state.specs.Lawful.{has_number, is_lawful, is_lawful_at, is_lawful_kind, is_lawful_put, keeps_escrow}
 use Rattle.database_state.proofs.Columns.{list_all-columns_with}
-use Rattle.record_changes.specs.Records.{Records, after_item, record_after, records_of}
+use Rattle.record_changes.specs.Records.{Records, after_item, records_of}
 use Rattle.record_changes.proofs.Tests.{and_both, and_left, and_right, and_second, impossible, same_bytes, same_number}
 use Rattle.version_history.specs.History.{IsHistory, IsPlaced, without_rows}
 use Rattle.version_history.specs.KeptSteps.{base_after, committed_own, dropped_after, is_own_open, kept_after, lowered_own, new_change, undone_where, with_next_number}
@@ -32,13 +32,12 @@ use Rattle.version_history.specs.Readers.{is_standing}
 use Rattle.version_history.proofs.EndEntries.{back}
 use Rattle.version_history.proofs.LawfulEntries.{keeps_lawful}
 use Rattle.version_history.proofs.Lists.{all_append, all_map, all_weaker}
-use Rattle.version_sums.specs.EscrowNumbers.{ColumnsRise, IsOfItsType, holds_number, is_number, is_one_number}
+use Rattle.version_sums.specs.EscrowNumbers.{IsOfItsType, holds_number, is_number, is_one_number}
 use Rattle.version_sums.proofs.Puts.{found_has}
 use Rattle.version_sums.proofs.VeryRecords.{one_value, sum_holds, sum_rises}
 use Rattle.version_keys.proofs.KeysOfEntries.{changes_records}
 use Rattle.version_keys.proofs.SchemaKeys.{at_found, at_table, mapped_row, no_rows, other_column, other_values, with_last, without_table}
-use Rattle.version_keys.proofs.UniqueKept.{same_defined, same_tables, some_at}
-use Rattle.version_records.specs.EachRecord.{EachRecordHas}
+use Rattle.version_keys.proofs.UniqueKept.{same_defined, same_tables}
 use Rattle.version_records.specs.EscrowNumbers.{AddsToEscrow, HasEscrowNumbers, HasItsType, HasSingleSums, HoldsNumbers}
 use Rattle.version_records.proofs.EachRecord.{GoesOn, KeepsRecords, PutHas, RowsHave, SumKeeps, SumsKeep, commit_keeps, each_begun, each_by_kind, each_changed, each_cleaned_where, each_row, each_viewed, lower_keeps, undone_keeps}
 

@@ -1,6 +1,6 @@
 -- Every record fits its row and its columns, with sums of escrow columns among the changes.
 use Rattle.std.proofs.Common.{◌≡◌, ℕ, ◌+◌, ◌≤◌, Bool, true, false, not, ◌&&◌, ◌||◌, cond, List, [], ◌∷◌, Option, Some, None, refl, sym, ap, subst, ◌∙◌, arith, bytes_eq}
-use Rattle.std.specs.Prelude.{ℤ, ◌==◌, if◌then◌else◌, length, nat_le, nat_lt, sum_by, IfSome, IsTrue}
+use Rattle.std.specs.Prelude.{ℤ, ◌==◌, if◌then◌else◌, length, nat_le, nat_lt, sum_by, IfSome}
 use Rattle.std.specs.List.{AllByRecursion, list_all}
 use Rattle.jet_base.specs.declared.words.ColType.{ColType}
 use Rattle.jet_base.specs.declared.words.ColType.TheVariants as type
@@ -8,20 +8,20 @@ use Rattle.jet_base.specs.ColumnType.{largest_value}
 use Rattle.column_set.specs.declared.changes.Change.{Change}
 use Rattle.column_set.specs.declared.changes.Change.TheVariants.{Put, Drop, Hold, Add}
 use Rattle.column_set.specs.declared.columns.Column.{Column}
-use Rattle.column_set.specs.RecordValues.{RecordFields, column_of_id, has_value, is_kept_column, lookup_by_number, record_fits, record_size, size_of_length, size_of_values, value_fits, values_fit, values_of}
+use Rattle.column_set.specs.RecordValues.{RecordFields, column_of_id, has_value, is_kept_column, lookup_by_number, size_of_length, size_of_values, value_fits, values_fit, values_of}
 use Rattle.index_derive.specs.declared.log.Entry.{Entry}
 use Rattle.index_derive.specs.declared.log.EntryKind.{EntryKind}
 use Rattle.index_derive.specs.declared.log.EntryKind.TheVariants as entry
 use Rattle.index_derive.specs.declared.rules.Schema.{Schema}
 use Rattle.index_derive.specs.Entries.{is_escrow_column}
-use Rattle.database_state.specs.Table.{Rows, Table, row_at, schema_of, table_with_id}
-use Rattle.database_state.specs.Changes.{changed_bookmark, changed_table, escrow_bytes, escrow_sum, with_sum, without_copied}
+use Rattle.database_state.specs.Table.{Table, row_at, schema_of, table_with_id}
+use Rattle.database_state.specs.Changes.{changed_bookmark, changed_table, escrow_bytes, escrow_sum, with_sum}
 use Rattle.database_state.specs.State.{DatabaseState, PastChange, transaction_of}
 use Rattle.database_state.specs.View.{view}
 use Rattle.database_state.specs.Step.{applied, state_after}
-use Rattle.database_state.specs.Lawful.{has_number, is_lawful, is_lawful_at, is_lawful_kind, is_lawful_put}
+use Rattle.database_state.specs.Lawful.{has_number, is_lawful, is_lawful_at, is_lawful_kind}
 use Rattle.record_changes.specs.Records.{Records, after_item, records_of}
-use Rattle.record_changes.proofs.Tests.{and_both, and_left, and_right, impossible, same_bytes, same_number}
+use Rattle.record_changes.proofs.Tests.{and_both, and_left, and_right, same_bytes, same_number}
 use Rattle.version_history.specs.History.{IsHistory, IsPlaced}
 use Rattle.version_history.specs.KeptSteps.{base_after, dropped_after, kept_after, new_change, with_next_number}
 use Rattle.version_history.specs.Readers.{is_standing}
@@ -29,14 +29,14 @@ use Rattle.version_history.proofs.EndEntries.{back}
 use Rattle.version_history.proofs.Keeping.{some_map}
 use Rattle.version_history.proofs.LawfulEntries.{keeps_lawful}
 use Rattle.version_history.proofs.Lists.{all_both, all_weaker}
-use Rattle.version_sums.specs.EscrowNumbers.{IsOfItsType, is_number}
+use Rattle.version_sums.specs.EscrowNumbers.{is_number}
 use Rattle.version_sums.proofs.Puts.{all_put, found_has, sum_put}
 use Rattle.version_sums.proofs.StoredSums.{values_seen}
 use Rattle.version_sums.proofs.VeryRecords.{one_value, sum_is_number}
 use Rattle.version_records.specs.EachRecord.{EachRecordHas, HasBoth}
 use Rattle.version_records.specs.EscrowNumbers.{AddsToEscrow, HasEscrowNumbers, HasItsType, HoldsNumbers}
 use Rattle.version_records.specs.StoredRecords.{IsStored, leaves_records_short}
-use Rattle.version_records.proofs.EachRecord.{AtChange, AtFirst, GoesOn, PutHas, RowsHave, SumKeeps, SumsKeep, any_put, each_begun, each_by_kind, each_changed, each_cleaned_where, each_row, each_viewed}
+use Rattle.version_records.proofs.EachRecord.{AtChange, AtFirst, GoesOn, PutHas, RowsHave, SumKeeps, SumsKeep, each_begun, each_by_kind, each_changed, each_cleaned_where, each_row, each_viewed}
 use Rattle.version_records.proofs.EscrowRecords.{AtSum, put_numbers, sum_keeps}
 use Rattle.version_records.proofs.Storing.{all_stronger, step_stores, stored_goes_on, stored_puts}
 

@@ -1,6 +1,6 @@
 //! The record that a session sees, and the stored one that it finds.
 
-ghost use Rattle.std.specs.Prelude.{◌≡◌, ℕ, ℤ, List, [], Option, Some, option_map, is_some, true, false, FitsSigned};
+ghost use Rattle.std.specs.Prelude.{◌≡◌, ℕ, ℤ, List, [], Some, option_map, is_some, true, false, FitsSigned};
 ghost use Rattle.std.specs.Int.{w32, int_wrapping_sub};
 ghost use Rattle.jet_base.specs.declared.words.ColType.TheVariants.{Long};
 ghost use Rattle.jet_base.specs.ColumnType.{number_of};

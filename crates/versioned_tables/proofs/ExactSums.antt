@@ -1,12 +1,12 @@
 -- Of which records the opposite sum gives the very one back.
-use Rattle.std.proofs.Common.{◌≡◌, ℕ, true, false, List, [], ◌∷◌, Option, Some, None, refl, sym, ap, subst, ◌∙◌}
-use Rattle.std.specs.Prelude.{neg_ℤ, is_some, IfSome, IsTrue}
+use Rattle.std.proofs.Common.{◌≡◌, ℕ, true, false, List, [], ◌∷◌, Option, Some, None, sym, subst}
+use Rattle.std.specs.Prelude.{is_some, IfSome}
 use Rattle.std.specs.List.{AllByRecursion}
 use Rattle.column_set.specs.declared.changes.Change.{Change}
 use Rattle.column_set.specs.declared.changes.Change.TheVariants.{Put, Drop, Hold, Add}
 use Rattle.column_set.specs.RecordValues.{RecordFields}
 use Rattle.database_state.specs.Table.{Table, schema_of, table_with_id}
-use Rattle.database_state.specs.Changes.{changed_bookmark, changed_table, is_sum, with_sum}
+use Rattle.database_state.specs.Changes.{changed_bookmark, changed_table, is_sum}
 use Rattle.database_state.specs.State.{DatabaseState, PastChange, transaction_of}
 use Rattle.record_changes.specs.Records.{Records, record_after}
 use Rattle.record_changes.proofs.Tests.{impossible}

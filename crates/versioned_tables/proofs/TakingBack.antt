@@ -171,9 +171,9 @@ sum_inverse P (Add t b column amount) held records sum goes first = λ i table b
     at table bookmark = elim (is_change_of table bookmark (Add t b column amount)) as (λ x. is_change_of table bookmark (Add t b column amount) ≡ x
         → cond x (option_map (λ values. with_sum values column.0 (neg_ℤ amount)) (cond x (option_map (λ values. with_sum values column.0 amount) (records table bookmark)) (records table bookmark)))
         (cond x (option_map (λ values. with_sum values column.0 amount) (records table bookmark)) (records table bookmark)) ≡ records table bookmark) [
-      | true ↦ λ f. twice (records table bookmark) (at_its_record (Add t b column amount) (λ n k. IfSome (records n k) P) table bookmark f first)
-      | false ↦ λ f. refl
-    ] refl
+          | true ↦ λ f. twice (records table bookmark) (at_its_record (Add t b column amount) (λ n k. IfSome (records n k) P) table bookmark f first)
+          | false ↦ λ f. refl
+        ] refl
 
 -- what a change leaves, it leaves undone too
 leaves_undone : (P : ℕ → List ℕ → RecordFields → Type 0) (gone : PastChange → Bool) (t : ℕ) (b : List ℕ) (items : List PastChange) → AllByRecursion (TakesBack P) items → EachLeaves (P t b) t b (map (undone_where gone) items)
