@@ -1,9 +1,11 @@
 -- The calls that change a record.
-use Rattle.std.proofs.Common.{◌≡◌, ℕ, true, false, List, ◌++◌, Option, Some, None, refl, subst}
-use Rattle.std.specs.Prelude.{◌==◌, if◌then◌else◌}
+use Rattle.std.proofs.Common.{◌≡◌, ℕ, true, false, not, List, ◌∷◌, ◌++◌, Option, Some, None, refl, subst}
+use Rattle.std.specs.Prelude.{ℤ, ◌==◌, if◌then◌else◌}
 use Rattle.jet_base.specs.declared.ids.CursorId.{CursorId}
+use Rattle.jet_base.specs.declared.replies.Jet.TheVariants as jet
 use Rattle.column_set.specs.declared.changes.Change.{Change}
-use Rattle.column_set.specs.RecordValues.{RecordFields}
+use Rattle.column_set.specs.declared.changes.Change.TheVariants.{Add}
+use Rattle.column_set.specs.RecordValues.{RecordFields, column_named}
 use Rattle.index_derive.specs.declared.log.EntryKind.TheVariants as entry
 use Rattle.index_derive.specs.declared.log.Step.TheVariants.{Alone, One}
 use Rattle.index_derive.specs.Steps.{entries_of_step}
@@ -21,13 +23,13 @@ use Rattle.session_local.specs.Agreement.{IsStorable}
 use Rattle.session_local.specs.Calls.{answer}
 use Rattle.session_local.specs.Local.{OpenCursor, PreparedFor, PreparedUpdate, cursor_labelled}
 use Rattle.session_local.specs.Outcome.{Asked, entry_of, is_outside, number_refusals, rows_seen, span_refusals, step_of_change}
-use Rattle.session_local.specs.RecordCalls.{bookmark_at, bookmark_for, conflict_refusals, copied_in, current, delete, drop_at, get_lock, hold_at, on_prepared, own_refusals, put_of, transaction_refusals, update, update_with}
+use Rattle.session_local.specs.RecordCalls.{bookmark_at, bookmark_for, conflict_refusals, copied_in, current, delete, drop_at, escrow_update, get_lock, hold_at, on_column, on_prepared, own_refusals, put_of, sum_in, transaction_refusals, update, update_with}
 use Rattle.lawful_answers.specs.LawfulSteps.{AreLawful, IsReached}
 use Rattle.lawful_answers.proofs.UpdateSteps.{update_entries, update_refusals}
 use Rattle.agreeing_sessions.specs.InStep.{IsInStep, StaysInStep}
 use Rattle.agreeing_sessions.proofs.Answering.{at_found, past, when_begun}
 use Rattle.agreeing_sessions.proofs.OpenCursors.{unprepared_in_step}
-use Rattle.agreeing_sessions.proofs.OwnChanges.{all_after, change_in_step, drops_allowed, locks_allowed, put_of_entry, puts_allowed}
+use Rattle.agreeing_sessions.proofs.OwnChanges.{all_after, change_in_step, drops_allowed, locks_allowed, put_of_entry, puts_allowed, sums_allowed}
 use Rattle.agreeing_sessions.proofs.Prepared.{AreStorable}
 
 -- the same state, as an entry or as its effect
@@ -49,6 +51,21 @@ deletes base dropped kept asked cursor h step = when_begun asked (call.Delete cu
     past asked step (current asked c ++ own_refusals asked c ++ conflict_refusals asked (drop_at c) ++ number_refusals asked ++ span_refusals asked (drop_at c)) _ (λ r.
     change_in_step base dropped kept asked (drop_at c) h step (λ t f in_one. after_entry asked (drop_at c)
     (all_after asked.state asked.session (drop_at c) t f asked.local.cursors (drops_allowed asked.state asked.session (record { 0 = c.cursor.table }) (bookmark_at c) asked.local.cursors r.1.1.0) step.agrees.prepared)))))
+    (λ e. step)
+
+pub sums : (base : Records) (dropped kept : List PastChange) (asked : Asked) (cursor : CursorId) (name : List ℕ) (amount : ℤ) → IsHistory base dropped kept asked.state → IsInStep asked.state asked.session asked.local
+    → StaysInStep asked (answer asked (call.EscrowUpdate cursor name amount))
+sums base dropped kept asked cursor name amount h step = when_begun asked (call.EscrowUpdate cursor name amount)
+    (λ begun. at_found asked step cursor.0 (λ c. escrow_update asked c name amount) (λ c e.
+    past asked step (transaction_refusals asked ++ current asked c) _ (λ r.
+    elim (column_named c.schema.columns name) as (λ o. StaysInStep asked (on_column asked o (sum_in asked c amount))) [
+      | None ↦ step
+      | Some column ↦
+          let sum : Change = Add (record { 0 = c.cursor.table }) (bookmark_at c) column.id amount in
+          past asked step ((not column.escrow, jet.InvalidColumnType) ∷ own_refusals asked c ++ conflict_refusals asked sum ++ number_refusals asked ++ span_refusals asked sum) _ (λ s.
+          change_in_step base dropped kept asked sum h step (λ t f in_one. after_entry asked sum
+          (all_after asked.state asked.session sum t f asked.local.cursors (sums_allowed asked.state asked.session (record { 0 = c.cursor.table }) (bookmark_at c) column.id amount asked.local.cursors s.1.0) step.agrees.prepared)))
+    ])))
     (λ e. step)
 
 update_in_step : HasOneEntry → KeysRise → (base : Records) (dropped kept : List PastChange) (asked : Asked) (label : ℕ) (c : OpenCursor) (for : PreparedFor) (values : RecordFields) → IsReached base dropped kept asked.state

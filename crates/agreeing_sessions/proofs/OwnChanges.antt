@@ -1,15 +1,16 @@
 -- A session's own changes of records: what it sees of the records that it has prepared to replace.
 use Rattle.std.proofs.Common.{◌≡◌, ℕ, Bool, true, false, not, ◌&&◌, ◌||◌, cond, List, [], ◌∷◌, ◌++◌, Option, Some, None, refl, sym, ap, subst, ◌∙◌, arith, bytes_eq}
-use Rattle.std.specs.Prelude.{◌==◌, filter, is_some, map, if◌then◌else◌, IsSome, IsTrue}
+use Rattle.std.specs.Prelude.{ℤ, ◌==◌, filter, is_some, map, if◌then◌else◌, IsSome, IsTrue}
 use Rattle.std.specs.List.{AllByRecursion, list_any}
 use Rattle.std.proofs.lemmas.Bool.Decides.{nat_tests}
 use Rattle.std.proofs.lemmas.List.{map-append}
 use Rattle.std.proofs.lemmas.List.Elements.{filter-append}
 use Rattle.std.proofs.lemmas.List.Folds.{list_any-append}
 use Rattle.std.proofs.lemmas.List.Sums.{fold-append}
+use Rattle.jet_base.specs.declared.ids.ColumnId.{ColumnId}
 use Rattle.jet_base.specs.declared.ids.TableId.{TableId}
 use Rattle.column_set.specs.declared.changes.Change.{Change}
-use Rattle.column_set.specs.declared.changes.Change.TheVariants.{Put, Drop, Hold}
+use Rattle.column_set.specs.declared.changes.Change.TheVariants.{Put, Drop, Hold, Add}
 use Rattle.column_set.specs.declared.columns.Column.{Column}
 use Rattle.column_set.specs.RecordValues.{RecordFields}
 use Rattle.index_derive.specs.declared.log.EntryKind.TheVariants as entry
@@ -129,7 +130,7 @@ all_after state session change t e cursors allows h =
     all_both (λ c. AllowsChange state session (without_copied change) c c.prepared) (λ c. IsStorable state session c c.prepared) (λ c. IsStorable (applied session (entry.Change change) (with_next_number state)) session c c.prepared)
     (λ c a s. storable_after state (applied session (entry.Change change) (with_next_number state)) session (without_copied change) (view_changed state session change t e) (locks_more state session change) c c.prepared a s) cursors allows h
 
--- ---- a lock, a drop, a put
+-- ---- a lock, a drop, a sum, a put
 
 lock_allowed : (state : DatabaseState) (session : ℕ) (id : TableId) (bookmark : List ℕ) (c : OpenCursor) (o : Option PreparedUpdate) → AllowsChange state session (Hold id bookmark) c o
 lock_allowed state session id bookmark c None = tt
@@ -143,21 +144,31 @@ pub locks_allowed : (state : DatabaseState) (session : ℕ) (id : TableId) (book
 locks_allowed state session id bookmark [] = tt
 locks_allowed state session id bookmark (c ∷ cursors) = (lock_allowed state session id bookmark c c.prepared, locks_allowed state session id bookmark cursors)
 
-drop_allowed : (state : DatabaseState) (session : ℕ) (id : TableId) (bookmark : List ℕ) (c : OpenCursor) (o : Option PreparedUpdate) → ((c.cursor.table == id.0) && is_replace_of bookmark o) ≡ false → AllowsChange state session (Drop id bookmark) c o
-drop_allowed state session id bookmark c None e = tt
-drop_allowed state session id bookmark c (Some p) e = by p.for p.values e
+-- a change of a record that the session is not to replace
+beside_allowed : (state : DatabaseState) (session table : ℕ) (bookmark : List ℕ) (change : Change) → changed_table change ≡ table → changed_bookmark change ≡ bookmark → (c : OpenCursor) (o : Option PreparedUpdate)
+    → ((c.cursor.table == table) && is_replace_of bookmark o) ≡ false → AllowsChange state session change c o
+beside_allowed state session table bookmark change is at c None e = tt
+beside_allowed state session table bookmark change is at c (Some p) e = by p.for p.values e
   where
-    by : (for : PreparedFor) (values : RecordFields) → ((c.cursor.table == id.0) && is_replace_of bookmark (Some (record { for = for; values = values }))) ≡ false → LeavesReplaced state session (Drop id bookmark) c p for
+    by : (for : PreparedFor) (values : RecordFields) → ((c.cursor.table == table) && is_replace_of bookmark (Some (record { for = for; values = values }))) ≡ false → LeavesReplaced state session change c p for
     by (inserting copied) values f = tt
-    by (replacing b) values f = λ row g mine h. impossible (sym f ∙ and_both (c.cursor.table == id.0) (bytes_eq b bookmark)
-        (ap (λ k. c.cursor.table == k) (same_number id.0 c.cursor.table (and_left _ _ mine)) ∙ self_equal c.cursor.table)
-        (equal_bytes b bookmark (sym (same_bytes bookmark b (and_right (id.0 == c.cursor.table) _ mine)))))
+    by (replacing b) values f = λ row g mine h. impossible (sym f ∙ and_both (c.cursor.table == table) (bytes_eq b bookmark)
+        (ap (λ k. c.cursor.table == k) (sym is ∙ same_number (changed_table change) c.cursor.table (and_left _ _ mine)) ∙ self_equal c.cursor.table)
+        (equal_bytes b bookmark (sym (sym at ∙ same_bytes (changed_bookmark change) b (and_right (changed_table change == c.cursor.table) _ mine)))))
+
+all_beside : (state : DatabaseState) (session table : ℕ) (bookmark : List ℕ) (change : Change) → changed_table change ≡ table → changed_bookmark change ≡ bookmark → (cursors : List OpenCursor)
+    → list_any (λ c. (c.cursor.table == table) && is_replace_of bookmark c.prepared) cursors ≡ false → AllByRecursion (λ c. AllowsChange state session change c c.prepared) cursors
+all_beside state session table bookmark change is at cursors none =
+    all_weaker (λ c. ((c.cursor.table == table) && is_replace_of bookmark c.prepared) ≡ false) (λ c. AllowsChange state session change c c.prepared)
+    (λ c e. beside_allowed state session table bookmark change is at c c.prepared e) cursors (none_of (λ c. (c.cursor.table == table) && is_replace_of bookmark c.prepared) cursors none)
 
 pub drops_allowed : (state : DatabaseState) (session : ℕ) (id : TableId) (bookmark : List ℕ) (cursors : List OpenCursor) → list_any (λ c. (c.cursor.table == id.0) && is_replace_of bookmark c.prepared) cursors ≡ false
     → AllByRecursion (λ c. AllowsChange state session (Drop id bookmark) c c.prepared) cursors
-drops_allowed state session id bookmark cursors none =
-    all_weaker (λ c. ((c.cursor.table == id.0) && is_replace_of bookmark c.prepared) ≡ false) (λ c. AllowsChange state session (Drop id bookmark) c c.prepared)
-    (λ c e. drop_allowed state session id bookmark c c.prepared e) cursors (none_of (λ c. (c.cursor.table == id.0) && is_replace_of bookmark c.prepared) cursors none)
+drops_allowed state session id bookmark cursors none = all_beside state session id.0 bookmark (Drop id bookmark) refl refl cursors none
+
+pub sums_allowed : (state : DatabaseState) (session : ℕ) (id : TableId) (bookmark : List ℕ) (column : ColumnId) (amount : ℤ) (cursors : List OpenCursor) → list_any (λ c. (c.cursor.table == id.0) && is_replace_of bookmark c.prepared) cursors ≡ false
+    → AllByRecursion (λ c. AllowsChange state session (Add id bookmark column amount) c c.prepared) cursors
+sums_allowed state session id bookmark column amount cursors none = all_beside state session id.0 bookmark (Add id bookmark column amount) refl refl cursors none
 
 -- two records of the sums of a third have the same sums
 same_sums : (columns : List Column) (row one other : RecordFields) → keeps_escrow columns (Some row) one ≡ true → keeps_escrow columns (Some row) other ≡ true → keeps_escrow columns (Some one) other ≡ true

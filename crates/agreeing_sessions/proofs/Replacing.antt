@@ -23,17 +23,14 @@ use Rattle.record_changes.specs.Records.{Records, is_change_of, records_of}
 use Rattle.record_changes.proofs.Tests.{and_both, equal_bytes, impossible, self_equal}
 use Rattle.version_history.specs.History.{IsHistory}
 use Rattle.version_history.specs.KeptSteps.{new_change, with_next_number}
-use Rattle.version_keys.specs.Variants.{HasNoSums}
-use Rattle.version_records.specs.EachRecord.{EachRecordHas}
 use Rattle.version_records.specs.StoredRecords.{IsStored}
-use Rattle.version_records.proofs.EachRecord.{each_seen}
 use Rattle.session_local.specs.declared.request.Request.TheVariants as call
 use Rattle.session_local.specs.Agreement.{IsStorable, has_lock, is_lock_on}
 use Rattle.session_local.specs.Calls.{answer}
 use Rattle.session_local.specs.Local.{OpenCursor, cursor_labelled, replacing}
 use Rattle.session_local.specs.Outcome.{Asked, entry_of, is_outside, number_refusals, rows_seen, span_refusals, step_of_change}
 use Rattle.session_local.specs.RecordCalls.{bookmark_at, conflict_refusals, current, hold_at, own_refusals, prepare_replace, prepared_refusals, record_at, transaction_refusals, with_prepared}
-use Rattle.agreeing_sessions.specs.InStep.{IsInStep, StaysInStep}
+use Rattle.agreeing_sessions.specs.InStep.{IsInStep, SeesStored, StaysInStep}
 use Rattle.lawful_answers.proofs.ChangeSteps.{IsAtTable, at_its_table}
 use Rattle.agreeing_sessions.proofs.Answering.{at_found, past, when_begun}
 use Rattle.agreeing_sessions.proofs.ChangeCalls.{after_entry}
@@ -44,11 +41,11 @@ use Rattle.agreeing_sessions.proofs.OwnChanges.{all_after, change_in_step, locks
 abbrev MayBePrepared : Asked → OpenCursor → Type 0
 MayBePrepared asked c = IfSome (row_at (rows_seen asked c) (bookmark_at c)) (λ values. (record_size values ≤ 1700) × IsTrue (record_fits c.schema.columns values))
 
-may_be : (base : Records) (dropped kept : List PastChange) (asked : Asked) (c : OpenCursor) → IsHistory base dropped kept asked.state → HasNoSums kept → EachRecordHas IsStored base kept asked.state → IsAtTable asked c → MayBePrepared asked c
-may_be base dropped kept asked c h none each at =
+may_be : (asked : Asked) (c : OpenCursor) → SeesStored asked.state asked.session → IsAtTable asked c → MayBePrepared asked c
+may_be asked c stored at =
     subst (λ (schema : Schema). IfSome (row_at (rows_seen asked c) (bookmark_at c)) (λ values. (record_size values ≤ 1700) × IsTrue (record_fits schema.columns values))) (sym at.schema)
     (subst (λ (o : Option Table). IfSome o (λ table. (bookmark : List ℕ) → IfSome (records_of (view asked.state asked.session) c.cursor.table bookmark) (IsStored asked.state.number (schema_of table) bookmark))) at.found
-    (each_seen IsStored base dropped kept asked.state h none each asked.session c.cursor.table) (bookmark_at c))
+    (stored c.cursor.table) (bookmark_at c))
 
 -- the session has the lock that it made
 own_lock : (state : DatabaseState) (session table : ℕ) (bookmark : List ℕ) → has_lock (applied session (entry.Change (Hold (record { 0 = table }) bookmark)) (with_next_number state)) session table bookmark ≡ true
@@ -115,10 +112,10 @@ replace_in_step base dropped kept asked label c h step e may in_one there (Some 
     (subst (λ (state : DatabaseState). IsStorable state asked.session c (Some (record { for = replacing (bookmark_at c); values = record_at asked c }))) (applied_is asked (hold_at c) ∙ single_state asked (hold_at c) in_one)
     (storable_replace asked c t f (row_at (rows_seen asked c) (bookmark_at c)) refl there may))
 
-pub replaces : (base : Records) (dropped kept : List PastChange) (asked : Asked) (cursor : CursorId) → IsHistory base dropped kept asked.state → HasNoSums kept → EachRecordHas IsStored base kept asked.state
+pub replaces : (base : Records) (dropped kept : List PastChange) (asked : Asked) (cursor : CursorId) → IsHistory base dropped kept asked.state → SeesStored asked.state asked.session
     → IsInStep asked.state asked.session asked.local → StaysInStep asked (answer asked (call.PrepareUpdate cursor prepare.Replace))
-replaces base dropped kept asked cursor h none each step = when_begun asked (call.PrepareUpdate cursor prepare.Replace)
+replaces base dropped kept asked cursor h stored step = when_begun asked (call.PrepareUpdate cursor prepare.Replace)
     (λ begun. at_found asked step cursor.0 (prepare_replace asked) (λ c e.
     past asked step (prepared_refusals c ++ transaction_refusals asked ++ current asked c ++ own_refusals asked c ++ conflict_refusals asked (hold_at c) ++ number_refusals asked ++ span_refusals asked (hold_at c)) _ (λ r.
-    replace_in_step base dropped kept asked cursor.0 c h step e (may_be base dropped kept asked c h none each (at_its_table asked cursor.0 c step.agrees e)) r.1.0 r.1.1.1.0 (transaction_of asked.state asked.session) refl)))
+    replace_in_step base dropped kept asked cursor.0 c h step e (may_be asked c stored (at_its_table asked cursor.0 c step.agrees e)) r.1.0 r.1.1.1.0 (transaction_of asked.state asked.session) refl)))
     (λ e. step)

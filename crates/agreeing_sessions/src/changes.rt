@@ -1,19 +1,16 @@
 //! Changes of records.
 
-ghost use Rattle.std.specs.Prelude.{List};
+ghost use Rattle.std.specs.Prelude.{ℕ, ℤ, List};
 ghost use Rattle.jet_base.specs.declared.ids.CursorId.{CursorId};
 ghost use Rattle.jet_base.specs.declared.words.Prepare.TheVariants as prepare;
 ghost use Rattle.database_state.specs.State.{PastChange};
 ghost use Rattle.record_changes.specs.Records.{Records};
 ghost use Rattle.version_history.specs.History.{IsHistory};
-ghost use Rattle.version_keys.specs.Variants.{HasNoSums};
-ghost use Rattle.version_records.specs.EachRecord.{EachRecordHas};
-ghost use Rattle.version_records.specs.StoredRecords.{IsStored};
 ghost use Rattle.session_local.specs.declared.request.Request.TheVariants as call;
 ghost use Rattle.session_local.specs.Calls.{answer};
 ghost use Rattle.session_local.specs.Outcome.{Asked};
 ghost use Rattle.lawful_answers.specs.LawfulSteps.{IsReached};
-ghost use Rattle.agreeing_sessions.specs.InStep.{IsInStep, StaysInStep};
+ghost use Rattle.agreeing_sessions.specs.InStep.{IsInStep, SeesStored, StaysInStep};
 
 use index_derive::{a_primary_index_has_one_entry, entries_rise};
 
@@ -21,6 +18,12 @@ use index_derive::{a_primary_index_has_one_entry, entries_rise};
 pub fn locks_and_deletes_keep_a_session_in_step()
     ensures lock { (base : Records) (dropped kept : List PastChange) (asked : Asked) (cursor : CursorId) → IsHistory base dropped kept asked.state → IsInStep asked.state asked.session asked.local → StaysInStep asked (answer asked (call.GetLock cursor)) }
     ensures delete { (base : Records) (dropped kept : List PastChange) (asked : Asked) (cursor : CursorId) → IsHistory base dropped kept asked.state → IsInStep asked.state asked.session asked.local → StaysInStep asked (answer asked (call.Delete cursor)) }
+{}
+
+/// A sum of an escrow column, which is refused where one of them is to be replaced, leaves them too.
+pub fn sums_keep_a_session_in_step()
+    ensures { (base : Records) (dropped kept : List PastChange) (asked : Asked) (cursor : CursorId) (column : List ℕ) (amount : ℤ) → IsHistory base dropped kept asked.state → IsInStep asked.state asked.session asked.local
+        → StaysInStep asked (answer asked (call.EscrowUpdate cursor column amount)) }
 {}
 
 /// An update puts a record of the sums that the one in its place has. So what is prepared on other cursors may be stored still,
@@ -32,9 +35,9 @@ pub fn an_update_keeps_a_session_in_step()
     entries_rise();
 }
 
-/// A replace that is prepared is of a record of the view, which it locks; so it may be stored as it is, where all records fit
-/// their row and their columns.
+/// A replace that is prepared is of a record of the view, which it locks; so it may be stored as it is, where all records that
+/// the session sees fit their row and their columns.
 pub fn a_replace_is_prepared_in_step()
-    ensures { (base : Records) (dropped kept : List PastChange) (asked : Asked) (cursor : CursorId) → IsHistory base dropped kept asked.state → HasNoSums kept → EachRecordHas IsStored base kept asked.state
+    ensures { (base : Records) (dropped kept : List PastChange) (asked : Asked) (cursor : CursorId) → IsHistory base dropped kept asked.state → SeesStored asked.state asked.session
         → IsInStep asked.state asked.session asked.local → StaysInStep asked (answer asked (call.PrepareUpdate cursor prepare.Replace)) }
 {}

@@ -10,7 +10,7 @@ mod sessions;
 
 pub use changes::{
     a_replace_is_prepared_in_step, an_update_keeps_a_session_in_step,
-    locks_and_deletes_keep_a_session_in_step,
+    locks_and_deletes_keep_a_session_in_step, sums_keep_a_session_in_step,
 };
 pub use cursors::{
     a_cursor_may_move, a_table_may_be_opened_and_closed, what_looks_at_a_record_changes_nothing,

@@ -1,5 +1,5 @@
 -- The engine after an entry, after a clean and after a step.
-use Rattle.std.proofs.Common.{◌≡◌, ℕ, ◌+◌, ◌-◌, ◌||◌, Bool, true, false, not, ◌&&◌, cond, List, [], ◌∷◌, map, Option, Some, None, refl, sym, ap, subst, ◌∙◌}
+use Rattle.std.proofs.Common.{◌≡◌, ℕ, ◌+◌, ◌-◌, ◌||◌, Bool, true, false, not, ◌&&◌, cond, List, [], ◌∷◌, map, Option, Some, None, refl, sym, ap, subst, ◌∙◌, inl}
 use Rattle.std.specs.Prelude.{◌==◌, nat_lt, is_some, IfSome}
 use Rattle.std.specs.List.{list_all}
 use Rattle.column_set.specs.declared.columns.Column.{Column}
@@ -90,11 +90,11 @@ store_holds engine state session (entry.Open table) h e = unchanged_holds h.base
 store_holds engine state session (entry.Shut table) h e = unchanged_holds h.base h.dropped h.kept engine.store state session (entry.Shut table) refl h.holds e
 store_holds engine state session entry.Begin h e = unchanged_holds h.base h.dropped h.kept engine.store state session entry.Begin refl h.holds e
 store_holds engine state session entry.Save h e = unchanged_holds h.base h.dropped h.kept engine.store state session entry.Save refl h.holds e
-store_holds engine state session entry.Leave h e = left_holds h.base h.dropped h.kept engine.store state session h.holds h.no_sums e
-store_holds engine state session entry.UndoAll h e = all_undone_holds h.base h.dropped h.kept engine.store state session h.holds h.no_sums e
+store_holds engine state session entry.Leave h e = left_holds h.base h.dropped h.kept engine.store state session h.holds (inl h.no_sums) e
+store_holds engine state session entry.UndoAll h e = all_undone_holds h.base h.dropped h.kept engine.store state session h.holds (inl h.no_sums) e
 store_holds engine state session entry.Undo h e =
     subst (λ (n : ℕ). Holds h.base h.dropped (kept_after state session entry.Undo h.kept) (with_changes_undone (is_open_at session n) engine.store) (state_after state (entry_by session entry.Undo)))
-    (sym (levels_told engine state h session)) (undone_holds h.base h.dropped h.kept engine.store state session h.holds h.no_sums e)
+    (sym (levels_told engine state h session)) (undone_holds h.base h.dropped h.kept engine.store state session h.holds (inl h.no_sums) e)
 store_holds engine state session entry.Release h e =
     subst (λ (n : ℕ). Holds h.base h.dropped (kept_after state session entry.Release h.kept) (with_level_released session n engine.store) (state_after state (entry_by session entry.Release)))
     (sym (levels_told engine state h session)) (released_holds h.base h.dropped h.kept engine.store state session h.holds e)

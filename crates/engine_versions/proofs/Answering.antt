@@ -10,6 +10,8 @@ use Rattle.database_state.specs.Step.{state_after_all}
 use Rattle.derived_index.proofs.Adding.{KeysRise}
 use Rattle.record_changes.proofs.Tests.{and_left, impossible}
 use Rattle.version_keys.proofs.BookmarkKeys.{HasOneEntry}
+use Rattle.version_records.specs.StoredRecords.{IsStored}
+use Rattle.version_records.proofs.EachRecord.{each_seen}
 use Rattle.session_local.specs.declared.request.Request.{Request}
 use Rattle.session_local.specs.declared.request.Request.TheVariants as call
 use Rattle.session_local.specs.Calls.{answer}
@@ -101,7 +103,8 @@ answer_in_step one rise keeps engine state h session local (call.GetBookmark cur
 answer_in_step one rise keeps engine state h session local (call.GotoBookmark cursor bookmark) step b = goes_to (asked_of engine state session local) cursor bookmark step
 answer_in_step one rise keeps engine state h session local (call.PrepareUpdate cursor prepare.Insert) step b = insert_prepared keeps engine state session local cursor h step
 answer_in_step one rise keeps engine state h session local (call.PrepareUpdate cursor prepare.InsertCopy) step b = copy_prepared engine state session local cursor h step
-answer_in_step one rise keeps engine state h session local (call.PrepareUpdate cursor prepare.Replace) step b = replaces h.base h.dropped h.kept (asked_of engine state session local) cursor h.reached.history h.no_sums h.stored step
+answer_in_step one rise keeps engine state h session local (call.PrepareUpdate cursor prepare.Replace) step b = replaces h.base h.dropped h.kept (asked_of engine state session local) cursor h.reached.history
+    (each_seen IsStored h.base h.dropped h.kept state h.reached.history h.no_sums h.stored session) step
 answer_in_step one rise keeps engine state h session local (call.PrepareUpdate cursor prepare.Cancel) step b = cancels (asked_of engine state session local) cursor step
 answer_in_step one rise keeps engine state h session local (call.SetColumn cursor column sequence value) step b = column_is_set keeps engine state session local cursor column sequence value h step
 answer_in_step one rise keeps engine state h session local (call.RetrieveColumn cursor column sequence copy most) step b = shows_value (asked_of engine state session local) cursor column sequence copy most step

@@ -22,7 +22,7 @@ use Rattle.version_store.specs.HeldChanges.{kind_of, is_rewrite as rewrites}
 use Rattle.versioned_tables.specs.HeldRecords.{HeldRecord}
 use Rattle.versioned_tables.specs.Holding.{AllMatch, Matches}
 use Rattle.equivalent_states.proofs.Essential.{forgotten, summed}
-use Rattle.held_states.specs.UncopiedPast.{AreUncopied, IsUncopied}
+use Rattle.lawful_answers.specs.UncopiedPast.{AreUncopied, IsUncopied}
 
 -- ---- a change, by its kind, its record, and what it leaves
 

@@ -1,5 +1,5 @@
 -- What an engine tells of the states that it holds.
-use Rattle.std.proofs.Common.{◌≡◌, true, false, not, List, [], ◌∷◌, ◌++◌, Option, Some, None, refl, sym, ap, subst, ◌∙◌}
+use Rattle.std.proofs.Common.{◌≡◌, true, false, not, List, [], ◌∷◌, Option, Some, None, refl, sym, ap, subst, ◌∙◌}
 use Rattle.std.specs.Prelude.{filter, fold, map, nat_lt, option_map, unwrap_or, IfSome, is_some, T}
 use Rattle.std.specs.List.{AllByRecursion}
 use Rattle.std.proofs.lemmas.List.Folds.{fold-map}
@@ -25,7 +25,6 @@ use Rattle.engine_versions.specs.HoldsState.{HoldsState}
 use Rattle.engine_versions.proofs.SameTables.{ids_rise_alike, same_tables}
 use Rattle.equivalent_states.proofs.Essential.{essential_from, essential_status, from_essential, kept_of_standing, read_essential}
 use Rattle.equivalent_states.proofs.Unneeded.{needed_kept}
-use Rattle.held_states.specs.UncopiedPast.{AreUncopied, IsUncopied}
 use Rattle.held_states.proofs.HeldPast.{IsOnePast, LeavesAfter, one_past}
 
 -- ---- the records after the changes that were committed
@@ -126,12 +125,8 @@ sessions_same one other base last xs ys past defined ids (a ∷ left) (b ∷ rig
 
 -- ---- the whole
 
-all_kept : (P : PastChange → Type 0) (dropped kept : List PastChange) → AllByRecursion P (dropped ++ kept) → AllByRecursion P kept
-all_kept P [] kept h = h
-all_kept P (x ∷ dropped) kept h = all_kept P dropped kept h.1
-
-pub held_equivalent : (engine : EngineState) (one other : DatabaseState) → HoldsState engine one → HoldsState engine other → AreUncopied one.past → AreUncopied other.past → AreEquivalent one other
-held_equivalent engine one other h g plain_one plain_other =
+pub held_equivalent : (engine : EngineState) (one other : DatabaseState) → HoldsState engine one → HoldsState engine other → AreEquivalent one other
+held_equivalent engine one other h g =
     let keeps_one = h.reached.history.keeps in
     let keeps_other = g.reached.history.keeps in
     let newest_records : records_after_items is_standing h.base h.kept ≡ records_after_items is_standing g.base g.kept =
@@ -140,8 +135,7 @@ held_equivalent engine one other h g plain_one plain_other =
     one_past one.tables h.kept g.kept engine.store.held h.holds.held g.holds.held h.base g.base keeps_one.befores keeps_other.befores h.no_sums g.no_sums
     (all_weaker (IsPlaced one.number one.tables (transaction_of one)) LeavesAfter (λ x p. p.3) h.kept keeps_one.placed)
     (all_weaker (IsPlaced other.number other.tables (transaction_of other)) LeavesAfter (λ x p. p.3) g.kept keeps_other.placed)
-    (all_kept IsUncopied h.dropped h.kept (subst (AllByRecursion IsUncopied) h.reached.history.past plain_one))
-    (all_kept IsUncopied g.dropped g.kept (subst (AllByRecursion IsUncopied) g.reached.history.past plain_other)) newest_records in
+    h.reached.uncopied g.reached.uncopied newest_records in
     let defined : map without_rows one.tables ≡ map without_rows other.tables = sym h.holds.defined ∙ g.holds.defined in
     let tables : one.tables ≡ other.tables =
     tables_same one.tables other.tables defined g.reached.order.ids h.holds.rise.committed g.holds.rise.committed

@@ -1,23 +1,15 @@
 -- No past change names a copied record.
-use Rattle.std.proofs.Common.{◌≡◌, ℕ, ◌-◌, Bool, true, false, ◌&&◌, cond, List, None, refl}
+use Rattle.std.proofs.Common.{ℕ, ◌-◌, Bool, true, false, ◌&&◌, cond, List, None}
 use Rattle.std.specs.Prelude.{map, nat_lt, if◌then◌else◌}
-use Rattle.column_set.specs.declared.changes.Change.{Change}
-use Rattle.column_set.specs.declared.changes.Change.TheVariants.{Put, Drop, Hold, Add}
 use Rattle.index_derive.specs.declared.log.Entry.{Entry}
 use Rattle.index_derive.specs.declared.log.EntryKind.{EntryKind}
 use Rattle.index_derive.specs.declared.log.EntryKind.TheVariants as entry
-use Rattle.database_state.specs.Changes.{without_copied}
 use Rattle.database_state.specs.State.{DatabaseState, PastChange, undone, committed, is_open_change_of, levels}
 use Rattle.database_state.specs.Step.{applied, every_change, is_at_level, state_after, with_changes_at, with_levels, with_transaction}
 use Rattle.version_history.specs.KeptSteps.{with_next_number}
 use Rattle.version_history.proofs.Lists.{all_append, all_map, all_weaker}
-use Rattle.held_states.specs.UncopiedPast.{AreUncopied, IsUncopied}
-
-uncopied_twice : (change : Change) → without_copied change ≡ without_copied (without_copied change)
-uncopied_twice (Put table bookmark copied values) = refl
-uncopied_twice (Drop table bookmark) = refl
-uncopied_twice (Hold table bookmark) = refl
-uncopied_twice (Add table bookmark column amount) = refl
+use Rattle.lawful_answers.specs.UncopiedPast.{AreUncopied, IsUncopied}
+use Rattle.lawful_answers.proofs.UncopiedChanges.{uncopied_twice}
 
 -- changes that become others of the same change
 own_uncopied : (label : ℕ) (test : PastChange → Bool) (change : PastChange → PastChange) → ((x : PastChange) → IsUncopied x → IsUncopied (change x)) → (past : List PastChange) → AreUncopied past

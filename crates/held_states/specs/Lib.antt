@@ -1,3 +1,2 @@
-pub mod UncopiedPast
 pub mod PlainColumns
 pub mod LawfulRuns

@@ -12,12 +12,11 @@ ghost use Rattle.agreeing_sessions.specs.InStep.{IsInStep};
 ghost use Rattle.engine_versions.specs.EngineState.{EngineState};
 ghost use Rattle.engine_versions.specs.HoldsState.{HoldsState, asked_of};
 ghost use Rattle.equivalent_states.specs.PlainIndexes.{read_no_sums};
-ghost use Rattle.held_states.specs.UncopiedPast.{AreUncopied};
 
 /// Two states that one engine holds are equivalent: the newest records, the held changes with the records before them and the
 /// sessions without their snapshots tell the committed tables, each snapshot and all that matters of the past.
 pub fn states_that_one_engine_holds_are_equivalent()
-    ensures { (engine : EngineState) (one other : DatabaseState) → HoldsState engine one → HoldsState engine other → AreUncopied one.past → AreUncopied other.past → AreEquivalent one other }
+    ensures { (engine : EngineState) (one other : DatabaseState) → HoldsState engine one → HoldsState engine other → AreEquivalent one other }
 {}
 
 /// No index of a state that an engine holds reads a sum, so that it answers and takes entries as each equivalent state does.
@@ -27,8 +26,8 @@ pub fn indexes_of_held_states_read_no_sums()
 
 /// So what an engine holds tells every answer and which entries may be logged, whichever of its states is meant.
 pub fn states_that_one_engine_holds_answer_alike()
-    ensures answers { (engine : EngineState) (one other : DatabaseState) → HoldsState engine one → HoldsState engine other → AreUncopied one.past → AreUncopied other.past
+    ensures answers { (engine : EngineState) (one other : DatabaseState) → HoldsState engine one → HoldsState engine other
         → (session : ℕ) (local : LocalState) → IsInStep one session local → (request : Request) → answer (asked_of engine one session local) request ≡ answer (asked_of engine other session local) request }
-    ensures entries { (engine : EngineState) (one other : DatabaseState) → HoldsState engine one → HoldsState engine other → AreUncopied one.past → AreUncopied other.past
+    ensures entries { (engine : EngineState) (one other : DatabaseState) → HoldsState engine one → HoldsState engine other
         → (made : Entry) → is_lawful one made ≡ is_lawful other made }
 {}

@@ -8,3 +8,5 @@ pub mod NewBookmarks
 pub mod UpdateSteps
 pub mod SchemaCallSteps
 pub mod ReachedStates
+pub mod SumSteps
+pub mod UncopiedChanges

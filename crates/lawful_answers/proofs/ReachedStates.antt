@@ -24,6 +24,7 @@ use Rattle.version_records.specs.Bookmarks.{StandsUnder}
 use Rattle.version_records.proofs.EachRecord.{RowsHave}
 use Rattle.version_records.proofs.Standing.{bookmarks_begun, bookmarks_cleaned, bookmarks_kept}
 use Rattle.lawful_answers.specs.LawfulSteps.{AreLawful, IsReached, IsReachedState}
+use Rattle.lawful_answers.proofs.UncopiedChanges.{uncopied_after}
 
 -- ---- entries
 
@@ -38,6 +39,7 @@ reaches one base dropped kept state made reached e =
       unique = keys_kept one base dropped kept state made reached.history e now next reached.unique;
       order = order_kept state made reached.order e;
       bookmarks = bookmarks_kept one base dropped kept state made reached.history e now next reached.unique reached.bookmarks;
+      uncopied = uncopied_after state made.session.0 made.kind kept reached.uncopied;
     }
 
 pub reaches_all : HasOneEntry → (state : DatabaseState) (entries : List Entry) → IsReachedState state → AreLawful state entries → IsReachedState (state_after_all state entries)
@@ -60,6 +62,7 @@ cleaned base dropped item kept state reached unneeded = record {
   unique = keys_cleaned base dropped item kept state reached.history (unseen_now base (item ∷ kept) state reached.sums) reached.unique;
   order = reached.order;
   bookmarks = bookmarks_cleaned base dropped item kept state reached.history (unseen_now base (item ∷ kept) state reached.sums) reached.bookmarks;
+  uncopied = reached.uncopied.1;
 }
 
 -- ---- where it begins
@@ -72,6 +75,7 @@ begins state sessions past order unique marks plain = record {
   unique = keys_begin state unique;
   order = order;
   bookmarks = bookmarks_begun state marks;
+  uncopied = tt;
 }
 
 pub begins_empty : IsReached (records_of empty_state.tables) [] [] empty_state

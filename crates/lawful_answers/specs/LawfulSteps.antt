@@ -13,6 +13,7 @@ use Rattle.version_keys.specs.TableOrder.{HasTablesInOrder}
 use Rattle.version_keys.specs.UniqueKeys.{HasUniqueKeys}
 use Rattle.version_records.specs.Bookmarks.{HasBookmarks}
 use Rattle.session_local.specs.Outcome.{Outcome}
+use Rattle.lawful_answers.specs.UncopiedPast.{AreUncopied}
 
 -- each entry may come after those before it
 abbrev pub AreLawful : DatabaseState → List Entry → Type 0
@@ -28,13 +29,14 @@ abbrev pub begin_of : ℕ → Entry
 begin_of session = record { session = record { 0 = session }; kind = entry.Begin }
 
 -- What holds of every state that lawful entries reach from tables that are in order and unique, whose records have their
--- bookmarks and whose indexes name no escrow column.
+-- bookmarks and whose indexes name no escrow column. No kept change names the record from which a put was copied.
 pub record IsReached (base : Records) (dropped kept : List PastChange) (state : DatabaseState) : Type 0 where
   pub history : IsHistory base dropped kept state
   pub sums : HasEscrowSums base kept state
   pub unique : HasUniqueKeys base kept state
   pub order : HasTablesInOrder state
   pub bookmarks : HasBookmarks base kept state
+  pub uncopied : AreUncopied kept
 
 -- a state that is reached, with whichever history
 pub record IsReachedState (state : DatabaseState) : Type 0 where

@@ -1,1 +1,2 @@
+pub mod UncopiedPast
 pub mod LawfulSteps

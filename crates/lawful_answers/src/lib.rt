@@ -11,7 +11,8 @@ mod sessions;
 pub use changes::{
     a_change_alone_is_lawful, a_locked_record_meets_no_write_conflict,
     a_session_meets_the_same_after_its_begin, the_step_of_a_delete_is_lawful,
-    the_step_of_a_lock_is_lawful, the_step_of_a_replace_is_lawful, the_step_of_an_update_is_lawful,
+    the_step_of_a_lock_is_lawful, the_step_of_a_replace_is_lawful, the_step_of_a_sum_is_lawful,
+    the_step_of_an_update_is_lawful,
 };
 pub use cursors::{the_step_of_a_close_is_lawful, the_step_of_an_open_is_lawful};
 pub use reached::{

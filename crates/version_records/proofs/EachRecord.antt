@@ -226,6 +226,20 @@ abbrev pub PutsHave : (ℕ → Schema → List ℕ → RecordFields → Type 0) 
 PutsHave P state label = (table : Table) (rows : Rows) (bookmark : List ℕ) (copied : Option (List ℕ)) (values : RecordFields) → table_with_id state.tables table.id ≡ Some table
     → ((at : List ℕ) → IfSome (row_at rows at) (P state.number (schema_of table) at)) → is_lawful_put state label table rows bookmark copied values ≡ true → P (state.number + 1) (schema_of table) bookmark values
 
+-- what the put of a change gives, if it is one
+abbrev pub PutHas : (ℕ → Schema → List ℕ → RecordFields → Type 0) → DatabaseState → ℕ → Change → Type 0
+PutHas P state label (Put id bookmark copied values) = (table : Table) (rows : Rows) → table_with_id state.tables table.id ≡ Some table
+    → ((at : List ℕ) → IfSome (row_at rows at) (P state.number (schema_of table) at)) → is_lawful_put state label table rows bookmark copied values ≡ true → P (state.number + 1) (schema_of table) bookmark values
+PutHas P state label (Drop id bookmark) = Unit {0}
+PutHas P state label (Hold id bookmark) = Unit {0}
+PutHas P state label (Add id bookmark column amount) = Unit {0}
+
+pub any_put : (P : ℕ → Schema → List ℕ → RecordFields → Type 0) (state : DatabaseState) (label : ℕ) → PutsHave P state label → (change : Change) → PutHas P state label change
+any_put P state label puts (Put id bookmark copied values) = λ table rows found had lawful. puts table rows bookmark copied values found had lawful
+any_put P state label puts (Drop id bookmark) = tt
+any_put P state label puts (Hold id bookmark) = tt
+any_put P state label puts (Add id bookmark column amount) = tt
+
 -- what a session sees has it
 pub each_viewed : (P : ℕ → Schema → List ℕ → RecordFields → Type 0) (base : Records) (dropped kept : List PastChange) (state : DatabaseState) → IsHistory base dropped kept state → SumsKeep P state.number state.tables kept → EachRecordHas P base kept state → (session id : ℕ)
     → IfSome (table_with_id state.tables id) (λ table. (bookmark : List ℕ) → IfSome (records_of (view state session) id bookmark) (P state.number (schema_of table) bookmark))
@@ -255,7 +269,7 @@ had_before P on base dropped kept state history keeps h id bookmark =
 
 new_has : (P : ℕ → Schema → List ℕ → RecordFields → Type 0) → GoesOn P → (base : Records) (dropped kept : List PastChange) (state : DatabaseState) (label : ℕ) (change : Change) → IsHistory base dropped kept state → SumsKeep P state.number state.tables kept
     → IfSome (table_with_id state.tables (changed_table change)) (λ table. SumKeeps (P (state.number + 1) (schema_of table) (changed_bookmark change)) change)
-    → is_lawful_at state label (table_with_id state.tables (changed_table change)) change ≡ true → PutsHave P state label
+    → is_lawful_at state label (table_with_id state.tables (changed_table change)) change ≡ true → PutHas P state label change
     → (new_change label change (with_next_number state)).after ≡ record_after (without_copied change) (new_change label change (with_next_number state)).before
     → EachRecordHas P base kept state → AtChange P (state.number + 1) state.tables (new_change label change (with_next_number state))
 new_has P on base dropped kept state label (Put id bookmark copied values) history keeps sum lawful puts after h =
@@ -265,7 +279,7 @@ new_has P on base dropped kept state label (Put id bookmark copied values) histo
     let itself : table_with_id state.tables table.id ≡ Some table = ap (table_with_id state.tables) (id_of state.tables id.0 table found) ∙ found in (
       before,
       subst (λ (o : Option RecordFields). IfSome o (P (state.number + 1) (schema_of table) bookmark)) (sym after)
-          (puts table (rows_of (table_with_id (view state label) table.id)) bookmark copied values itself (seen_at P base dropped kept state history keeps h label table itself)
+          (puts table (rows_of (table_with_id (view state label) table.id)) itself (seen_at P base dropped kept state history keeps h label table itself)
           (ap (λ (o : Option Table). is_lawful_at state label o (Put id bookmark copied values)) (sym found) ∙ lawful)),
     ))
     (had_before P on base dropped kept state history keeps h id.0 bookmark)
@@ -292,7 +306,7 @@ new_has P on base dropped kept state label (Add id bookmark column amount) histo
 
 pub each_changed : (P : ℕ → Schema → List ℕ → RecordFields → Type 0) → GoesOn P → (base : Records) (dropped kept : List PastChange) (state : DatabaseState) (label : ℕ) (change : Change) → IsHistory base dropped kept state → SumsKeep P state.number state.tables kept
     → IfSome (table_with_id state.tables (changed_table change)) (λ table. SumKeeps (P (state.number + 1) (schema_of table) (changed_bookmark change)) change)
-    → is_lawful_at state label (table_with_id state.tables (changed_table change)) change ≡ true → PutsHave P state label
+    → is_lawful_at state label (table_with_id state.tables (changed_table change)) change ≡ true → PutHas P state label change
     → (new_change label change (with_next_number state)).after ≡ record_after (without_copied change) (new_change label change (with_next_number state)).before
     → EachRecordHas P base kept state → EachRecordHas P base (kept_after state label (entry.Change change) kept) (applied label (entry.Change change) (with_next_number state))
 each_changed P on base dropped kept state label change history keeps sum lawful puts after h = record {

@@ -4,3 +4,5 @@ pub mod PrimaryKeys
 pub mod Touching
 pub mod Standing
 pub mod Storing
+pub mod EscrowRecords
+pub mod StoredSums

@@ -43,7 +43,7 @@ use Rattle.version_keys.proofs.UniqueKept.{id_of, some_at}
 use Rattle.database_state.proofs.Columns.{column_of_id-columns_with}
 use Rattle.version_records.specs.Bookmarks.{HasBookmarks, StandsUnder, is_bookmark, is_entry_number}
 use Rattle.version_records.specs.EachRecord.{EachRecordHas}
-use Rattle.version_records.proofs.EachRecord.{GoesOn, PutsHave, RowsHave, SumKeeps, SumsKeep, each_begun, each_by_kind, each_changed, each_cleaned_where, each_row, each_viewed}
+use Rattle.version_records.proofs.EachRecord.{GoesOn, PutsHave, RowsHave, SumKeeps, SumsKeep, any_put, each_begun, each_by_kind, each_changed, each_cleaned_where, each_row, each_viewed}
 use Rattle.version_records.proofs.EntryNumbers.{entry_number-own, entry_number-stays}
 use Rattle.version_records.proofs.PrimaryKeys.{each_null, found_passes, of_found, primary_listed}
 use Rattle.version_records.proofs.Touching.{touched_after}
@@ -265,7 +265,7 @@ by_kind one base dropped kept state label (entry.Shut table) h sees sees_after e
 by_kind one base dropped kept state label entry.Begin h sees sees_after e after unique each = each_by_kind StandsUnder goes_on base kept state label entry.Begin refl each
 by_kind one base dropped kept state label entry.Save h sees sees_after e after unique each = each_by_kind StandsUnder goes_on base kept state label entry.Save refl each
 by_kind one base dropped kept state label (entry.Change change) h sees sees_after e after unique each =
-    each_changed StandsUnder goes_on base dropped kept state label change h (stand_sums state.number state kept sees) (stand_new state label change kept sees_after) (and_right _ _ e) (put_stands one base kept state label unique)
+    each_changed StandsUnder goes_on base dropped kept state label change h (stand_sums state.number state kept sees) (stand_new state label change kept sees_after) (and_right _ _ e) (any_put StandsUnder state label (put_stands one base kept state label unique) change)
     (back (IsPlaced (state.number + 1) state.tables (transaction_of state)) kept (new_change label change (with_next_number state) ∷ []) after.keeps.placed).0.3 each
 by_kind one base dropped kept state label entry.Release h sees sees_after e after unique each = each_by_kind StandsUnder goes_on base kept state label entry.Release refl each
 by_kind one base dropped kept state label entry.Undo h sees sees_after e after unique each = each_by_kind StandsUnder goes_on base kept state label entry.Undo refl each

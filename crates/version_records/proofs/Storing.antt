@@ -28,13 +28,13 @@ use Rattle.version_keys.specs.Variants.{HasNoSums}
 use Rattle.version_keys.proofs.SchemaKeys.{at_found, at_table, mapped_row, no_rows, other_column, other_values, with_last, without_table}
 use Rattle.version_records.specs.EachRecord.{EachRecordHas}
 use Rattle.version_records.specs.StoredRecords.{IsStored, leaves_records_short, makes_kept_column}
-use Rattle.version_records.proofs.EachRecord.{GoesOn, PutsHave, each_begun, each_by_kind, each_changed, each_row, no_sums_keep, plain_change_keeps}
+use Rattle.version_records.proofs.EachRecord.{GoesOn, PutsHave, any_put, each_begun, each_by_kind, each_changed, each_row, no_sums_keep, plain_change_keeps}
 use Rattle.version_records.proofs.Standing.{plain_sum}
 
-stored_goes_on : GoesOn IsStored
+pub stored_goes_on : GoesOn IsStored
 stored_goes_on number schema bookmark values h = h
 
-stored_puts : (state : DatabaseState) (label : ℕ) → PutsHave IsStored state label
+pub stored_puts : (state : DatabaseState) (label : ℕ) → PutsHave IsStored state label
 stored_puts state label table rows bookmark copied values found had lawful = parts _ _ _ _ _ _ lawful
   where
     few : (a : ℕ) → nat_le a 1700 ≡ true → a ≤ 1700
@@ -47,7 +47,7 @@ stored_puts state label table rows bookmark copied values found had lawful = par
 
 -- ---- tests of lists
 
-all_stronger : {X : Type 0} (p q : X → Bool) → ((x : X) → p x ≡ true → q x ≡ true) → (xs : List X) → list_all p xs ≡ true → list_all q xs ≡ true
+pub all_stronger : {X : Type 0} (p q : X → Bool) → ((x : X) → p x ≡ true → q x ≡ true) → (xs : List X) → list_all p xs ≡ true → list_all q xs ≡ true
 all_stronger p q f [] h = refl
 all_stronger p q f (x ∷ xs) h = and_both _ _ (f x (and_left _ _ h)) (all_stronger p q f xs (and_right (p x) _ h))
 
@@ -95,7 +95,7 @@ smaller column values le =
 
 -- ---- schema steps
 
-abbrev Stores : Table → Type 0
+abbrev pub Stores : Table → Type 0
 Stores table = (bookmark : List ℕ) → IfSome (row_at table.rows bookmark) (IsStored 0 (schema_of table) bookmark)
 
 stores_with : (column : Column) (table : Table) → (is_kept_column column ≡ true → (bookmark : List ℕ) → row_at table.rows bookmark ≡ None) → Stores table → Stores (with_column column table)
@@ -116,7 +116,7 @@ stores_without column table h bookmark =
     by None s = tt
     by (Some values) s = (smaller column values s.0, fits_without column table values s.1)
 
-step_stores : (state : DatabaseState) (label : ℕ) (made : SchemaStep) → is_none (schema_refusal state label made) ≡ true → makes_kept_column made ≡ false → ((id : ℕ) → IfSome (table_with_id state.tables id) Stores)
+pub step_stores : (state : DatabaseState) (label : ℕ) (made : SchemaStep) → is_none (schema_refusal state label made) ≡ true → makes_kept_column made ≡ false → ((id : ℕ) → IfSome (table_with_id state.tables id) Stores)
     → (id : ℕ) → IfSome (table_with_id (tables_after_step state.tables made) id) Stores
 step_stores state label (step.CreateTable table name) free short h id = with_last Stores (new_table table.0 name) (λ bookmark. tt) state.tables id (h id)
 step_stores state label (step.DeleteTable table) free short h id = without_table Stores table.0 state.tables id (h id)
@@ -144,7 +144,7 @@ stored_by_kind base dropped kept state label entry.Begin h none after_none short
 stored_by_kind base dropped kept state label entry.Save h none after_none short e after each = each_by_kind IsStored stored_goes_on base kept state label entry.Save refl each
 stored_by_kind base dropped kept state label (entry.Change change) h none after_none short e after each =
     each_changed IsStored stored_goes_on base dropped kept state label change h (no_sums_keep IsStored state.number state.tables kept none)
-    (plain_change_keeps IsStored (state.number + 1) state.tables change (plain_sum change (back (λ item. is_sum item.change ≡ false) kept _ after_none).0)) (and_right _ _ e) (stored_puts state label)
+    (plain_change_keeps IsStored (state.number + 1) state.tables change (plain_sum change (back (λ item. is_sum item.change ≡ false) kept _ after_none).0)) (and_right _ _ e) (any_put IsStored state label (stored_puts state label) change)
     (back (IsPlaced (state.number + 1) state.tables (transaction_of state)) kept (new_change label change (with_next_number state) ∷ []) after.keeps.placed).0.3 each
 stored_by_kind base dropped kept state label entry.Release h none after_none short e after each = each_by_kind IsStored stored_goes_on base kept state label entry.Release refl each
 stored_by_kind base dropped kept state label entry.Undo h none after_none short e after each = each_by_kind IsStored stored_goes_on base kept state label entry.Undo refl each

@@ -1,3 +1,4 @@
 pub mod EachRecord
 pub mod Bookmarks
 pub mod StoredRecords
+pub mod EscrowNumbers

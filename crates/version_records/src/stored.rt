@@ -13,6 +13,7 @@ ghost use Rattle.version_history.specs.History.{IsHistory};
 ghost use Rattle.version_history.specs.KeptSteps.{kept_after, base_after};
 ghost use Rattle.version_keys.specs.Variants.{HasNoSums};
 ghost use Rattle.version_records.specs.EachRecord.{EachRecordHas};
+ghost use Rattle.version_records.specs.EscrowNumbers.{HasEscrowNumbers, HasItsType};
 ghost use Rattle.version_records.specs.StoredRecords.{IsStored, leaves_records_short};
 
 /// Where no change is kept, every record fits if those of the tables do.
@@ -21,21 +22,27 @@ pub fn stored_records_begin_with_those_of_tables()
         → EachRecordHas IsStored (records_of state.tables) [] state }
 {}
 
-/// Every lawful entry keeps all records fitting their row and their columns, but for one that makes a version or an auto column,
-/// where no escrow column is changed.
+/// Every lawful entry keeps all records fitting their row and their columns, but for one that makes a version or an auto column:
+/// where no escrow column is changed, and with sums, where each escrow column holds a number, whose four bytes a sum replaces.
 pub fn lawful_entries_keep_stored_records()
-    ensures { (base : Records) (dropped kept : List PastChange) (state : DatabaseState) (made : Entry) → IsHistory base dropped kept state → is_lawful state made ≡ true → HasNoSums kept → HasNoSums (kept_after state made.session.0 made.kind kept)
+    ensures without_sums { (base : Records) (dropped kept : List PastChange) (state : DatabaseState) (made : Entry) → IsHistory base dropped kept state → is_lawful state made ≡ true → HasNoSums kept → HasNoSums (kept_after state made.session.0 made.kind kept)
+        → leaves_records_short made.kind ≡ false → EachRecordHas IsStored base kept state → EachRecordHas IsStored (base_after state made.kind base) (kept_after state made.session.0 made.kind kept) (state_after state made) }
+    ensures with_sums { (base : Records) (dropped kept : List PastChange) (state : DatabaseState) (made : Entry) → IsHistory base dropped kept state → is_lawful state made ≡ true → HasEscrowNumbers base kept state → HasItsType made.kind
         → leaves_records_short made.kind ≡ false → EachRecordHas IsStored base kept state → EachRecordHas IsStored (base_after state made.kind base) (kept_after state made.session.0 made.kind kept) (state_after state made) }
 {}
 
 /// So does a clean of the oldest kept change.
 pub fn a_clean_keeps_stored_records()
-    ensures { (base : Records) (dropped : List PastChange) (item : PastChange) (kept : List PastChange) (state : DatabaseState) → IsHistory base dropped (item ∷ kept) state → HasNoSums (item ∷ kept)
+    ensures without_sums { (base : Records) (dropped : List PastChange) (item : PastChange) (kept : List PastChange) (state : DatabaseState) → IsHistory base dropped (item ∷ kept) state → HasNoSums (item ∷ kept)
+        → EachRecordHas IsStored base (item ∷ kept) state → EachRecordHas IsStored (if is_standing item then after_item base item else base) kept state }
+    ensures with_sums { (base : Records) (dropped : List PastChange) (item : PastChange) (kept : List PastChange) (state : DatabaseState) → IsHistory base dropped (item ∷ kept) state → HasEscrowNumbers base (item ∷ kept) state
         → EachRecordHas IsStored base (item ∷ kept) state → EachRecordHas IsStored (if is_standing item then after_item base item else base) kept state }
 {}
 
 /// Every record that a session sees fits.
 pub fn every_record_seen_is_stored()
-    ensures { (base : Records) (dropped kept : List PastChange) (state : DatabaseState) → IsHistory base dropped kept state → HasNoSums kept → EachRecordHas IsStored base kept state → (session id : ℕ)
+    ensures without_sums { (base : Records) (dropped kept : List PastChange) (state : DatabaseState) → IsHistory base dropped kept state → HasNoSums kept → EachRecordHas IsStored base kept state → (session id : ℕ)
+        → IfSome (table_with_id state.tables id) (λ table. (bookmark : List ℕ) → IfSome (records_of (view state session) id bookmark) (IsStored state.number (schema_of table) bookmark)) }
+    ensures with_sums { (base : Records) (dropped kept : List PastChange) (state : DatabaseState) → IsHistory base dropped kept state → HasEscrowNumbers base kept state → EachRecordHas IsStored base kept state → (session id : ℕ)
         → IfSome (table_with_id state.tables id) (λ table. (bookmark : List ℕ) → IfSome (records_of (view state session) id bookmark) (IsStored state.number (schema_of table) bookmark)) }
 {}

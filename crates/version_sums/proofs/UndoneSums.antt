@@ -56,7 +56,7 @@ within k h = omega arith
 within_all : (k : ℕ) → suc k < 2147483648 → suc k ≤ 4294967296
 within_all k h = omega arith
 
-opposite : (n : ℕ) (amount : ℤ) → FitsSigned w32 amount → n < 2 ^ 32 → plus (plus n amount) (neg_ℤ amount) ≡ n
+pub opposite : (n : ℕ) (amount : ℤ) → FitsSigned w32 amount → n < 2 ^ 32 → plus (plus n amount) (neg_ℤ amount) ≡ n
 opposite n (pos zero) f h = nothing n h
 opposite n (pos (suc k)) f h = there_and_back n (suc k) h (within_all k f.sfits)
 opposite n (negsuc k) f h = back_and_there n (suc k) h (within k f.sfits)

@@ -1,1 +1,2 @@
 pub mod EscrowSums
+pub mod EscrowNumbers

@@ -1,16 +1,19 @@
 //! The record that a session sees, and the stored one that it finds.
 
-ghost use Rattle.std.specs.Prelude.{◌≡◌, ℕ, ℤ, List, [], Option, Some, option_map, is_some, false, FitsSigned};
+ghost use Rattle.std.specs.Prelude.{◌≡◌, ℕ, ℤ, List, [], Some, option_map, is_some, true, false, FitsSigned};
 ghost use Rattle.std.specs.Int.{w32, int_wrapping_sub};
+ghost use Rattle.jet_base.specs.declared.words.ColType.TheVariants.{Long};
+ghost use Rattle.jet_base.specs.ColumnType.{number_of};
 ghost use Rattle.column_set.specs.declared.changes.Change.{Change};
 ghost use Rattle.column_set.specs.RecordValues.{RecordFields, values_of};
-ghost use Rattle.database_state.specs.Changes.{changed_bookmark, changed_table};
+ghost use Rattle.database_state.specs.Changes.{changed_bookmark, changed_table, escrow_bytes};
 ghost use Rattle.database_state.specs.Conflicts.{has_write_conflict};
 ghost use Rattle.database_state.specs.State.{DatabaseState, PastChange, Transaction, transaction_of};
 ghost use Rattle.database_state.specs.View.{newest, view};
 ghost use Rattle.record_changes.specs.Records.{Records, records_of};
 ghost use Rattle.version_history.specs.Readers.{found_record};
 ghost use Rattle.version_history.specs.History.{IsHistory};
+ghost use Rattle.version_sums.specs.EscrowNumbers.{holds_number};
 ghost use Rattle.version_sums.specs.EscrowSums.{with_sums, amounts_to, unseen_sums, escrow_value, without_amount, seen_value};
 
 /// The record that a session finds, which is the one before the oldest put or drop that it does not see or else the newest
@@ -41,6 +44,12 @@ pub fn an_unhindered_change_finds_the_stored_record_newest()
         → has_write_conflict state session change ≡ false
         → found_record session (transaction_of state session) (changed_table change) (changed_bookmark change) (records_of (newest state) (changed_table change) (changed_bookmark change)) kept
         ≡ records_of (newest state) (changed_table change) (changed_bookmark change) }
+{}
+
+/// Where the column holds a number, its bytes are read as those of any Long: so the number here is the one that EscrowUpdate and
+/// RetrieveColumn answer.
+pub fn an_escrow_column_is_read_as_a_long()
+    ensures { (values : RecordFields) (column : ℕ) → holds_number values column ≡ true → number_of Long (escrow_bytes values column) ≡ escrow_value values column }
 {}
 
 /// Of 32-bit numbers an amount is taken away by a wrapping subtraction.

@@ -9,10 +9,12 @@ ghost use Rattle.database_state.specs.Conflicts.{collide};
 ghost use Rattle.database_state.specs.State.{PastChange};
 ghost use Rattle.record_changes.specs.Records.{Records, records_after_items};
 ghost use Rattle.version_history.specs.Readers.{is_standing};
+ghost use Rattle.version_sums.specs.EscrowNumbers.{ColumnsRise, holds_number};
 ghost use Rattle.version_sums.specs.EscrowSums.{sums_by, with_sums, escrow_value, without_amount};
 
 /// The newest record with a sum is the one without it and the sum made last, whatever sums of others came after it. So an undo
-/// takes its amount from the stored number, wrapping at 32 bits, which is as well a sum of the opposite amount.
+/// takes its amount from the stored number, wrapping at 32 bits, which is as well a sum of the opposite amount. Of a record whose
+/// columns rise, and whose column holds a number, the sum and the opposite one leave the very record.
 pub fn an_undone_sum_is_taken_away()
     ensures last { (base : Records) (front : List PastChange) (item : PastChange) (rest : List PastChange) → is_standing item ≡ true → is_sum item.change ≡ true
         → AllByRecursion (λ later. is_standing later ≡ true → collide item.change later.change ≡ false) rest
@@ -20,4 +22,5 @@ pub fn an_undone_sum_is_taken_away()
         ≡ option_map (λ values. with_sums values (sums_by item.change)) (records_after_items is_standing base (front ++ rest) (changed_table item.change) (changed_bookmark item.change)) }
     ensures number { (values : RecordFields) (column : ℕ) (amount : ℤ) → escrow_value values column ≡ without_amount (escrow_value (with_sum values column amount) column) amount }
     ensures opposite { (values : RecordFields) (column : ℕ) (amount : ℤ) → FitsSigned w32 amount → escrow_value (with_sum (with_sum values column amount) column (neg_ℤ amount)) column ≡ escrow_value values column }
+    ensures very_record { (values : RecordFields) (column : ℕ) (amount : ℤ) → FitsSigned w32 amount → ColumnsRise values → holds_number values column ≡ true → with_sum (with_sum values column amount) column (neg_ℤ amount) ≡ values }
 {}

@@ -6,6 +6,7 @@ pub mod Views
 pub mod Ending
 pub mod Changing
 pub mod TakingBack
+pub mod ExactSums
 pub mod Undoing
 pub mod SchemaStepping
 pub mod Unchanged

@@ -1,13 +1,14 @@
 -- Changes that are taken back leave what the others made.
 use Rattle.std.proofs.Common.{◌≡◌, ℕ, Bool, true, false, not, ◌&&◌, cond, List, [], ◌∷◌, map, filter, Option, Some, None, refl, sym, ap, subst, ◌∙◌, arith}
-use Rattle.std.specs.Prelude.{◌==◌, bytes_eq, fold, is_some}
+use Rattle.std.specs.Prelude.{neg_ℤ, ◌==◌, bytes_eq, fold, is_some, option_map, IfSome}
 use Rattle.std.specs.List.{AllByRecursion}
 use Rattle.std.proofs.lemmas.Bool.Decides.{nat_tests}
+use Rattle.jet_base.specs.Ids.{table_id}
 use Rattle.column_set.specs.declared.changes.Change.{Change}
 use Rattle.column_set.specs.declared.changes.Change.TheVariants.{Put, Drop, Hold, Add}
 use Rattle.column_set.specs.RecordValues.{RecordFields}
 use Rattle.database_state.specs.Table.{Table, table_with_id}
-use Rattle.database_state.specs.Changes.{changed_table, changed_bookmark, is_sum, tables_after}
+use Rattle.database_state.specs.Changes.{changed_table, changed_bookmark, is_sum, tables_after, with_sum}
 use Rattle.database_state.specs.State.{PastChange, undone}
 use Rattle.database_state.specs.Conflicts.{collide}
 use Rattle.record_changes.specs.Records.{Records, IsThere, after_item, is_change_of, record_after, records_after, records_after_items, records_of}
@@ -19,8 +20,11 @@ use Rattle.version_history.specs.Readers.{is_standing, is_rewrite as rewrites}
 use Rattle.version_history.proofs.Befores.{GoesApart}
 use Rattle.version_history.proofs.EndEntries.{same_definitions}
 use Rattle.version_history.proofs.FoundRecord.{fold-at}
+use Rattle.version_history.proofs.Keeping.{undone_change as same_change}
+use Rattle.version_history.proofs.Undoing.{IsLastOf, made_last}
 use Rattle.version_history.proofs.Viewing.{same_there}
-use Rattle.version_keys.specs.Variants.{HasNoSums}
+use Rattle.version_keys.specs.Variants.{EachLeaves}
+use Rattle.version_keys.proofs.VariantKeys.{each_variant}
 use Rattle.version_store.specs.HeldChanges.{kind_of}
 use Rattle.versioned_tables.specs.HeldRecords.{HeldRecord, as_undone, inverse, inverse_of, undone_change}
 use Rattle.versioned_tables.specs.VersionedTables.{tables_taken_back}
@@ -137,16 +141,71 @@ untouched gone item goes none (next ∷ items) apart base = by (gone next) (is_s
         ap (λ c. fold after_item base (cond c (next ∷ filter is_standing rest) (filter is_standing rest)) t b) f ∙ with_it
         ∙ ap (λ c. cond c (record_after next.change (base t b)) (base t b)) (apart_from item.change next.change (apart.0 goes f e) none)
 
--- without the sums of escrow columns
-pub taken_records : (gone : PastChange → Bool) (test : HeldRecord → Bool) → SameTest gone test → ((item : PastChange) → gone item ≡ true → is_standing item ≡ true) → (tables : List Table) (kept : List PastChange) (held : List HeldRecord) (base : Records)
-    → AllMatch kept held → HasBefores base kept → HasNoSums kept → EachTwo (GoesApart gone) kept → AllByRecursion (λ item. IsThere tables item.change) kept → records_of tables ≡ records_after_items is_standing base kept
+-- ---- sums
+
+-- the opposite sum gives the very record back
+abbrev pub GoesBack : (RecordFields → Type 0) → Change → Type 0
+GoesBack P (Put table bookmark copied values) = Unit {0}
+GoesBack P (Drop table bookmark) = Unit {0}
+GoesBack P (Hold table bookmark) = Unit {0}
+GoesBack P (Add table bookmark column amount) = (values : RecordFields) → P values → with_sum (with_sum values column.0 amount) column.0 (neg_ℤ amount) ≡ values
+
+-- it does so of each record of the change that has something, which the change leaves
+abbrev pub TakesBack : (ℕ → List ℕ → RecordFields → Type 0) → PastChange → Type 0
+TakesBack P item =
+    ((before : Option RecordFields) → IfSome before (P (changed_table item.change) (changed_bookmark item.change)) → IfSome (record_after item.change before) (P (changed_table item.change) (changed_bookmark item.change)))
+    × GoesBack (P (changed_table item.change) (changed_bookmark item.change)) item.change
+
+sum_inverse : (P : RecordFields → Type 0) (c : Change) (held : Option RecordFields) (records : Records) → is_sum c ≡ true → GoesBack P c → IfSome (records (changed_table c) (changed_bookmark c)) P
+    → records_after (records_after records c) (inverse_of (kind_of c) (changed_table c) (changed_bookmark c) held) ≡ records
+sum_inverse P (Put t b copied values) held records sum goes first = impossible sum
+sum_inverse P (Drop t b) held records sum goes first = impossible sum
+sum_inverse P (Hold t b) held records sum goes first = impossible sum
+sum_inverse P (Add t b column amount) held records sum goes first = λ i table bookmark. at table bookmark i
+  where
+    twice : (o : Option RecordFields) → IfSome o P → option_map (λ values. with_sum values column.0 (neg_ℤ amount)) (option_map (λ values. with_sum values column.0 amount) o) ≡ o
+    twice None p = refl
+    twice (Some values) p = ap (λ (v : RecordFields). Some v) (goes values p)
+
+    at : (table : ℕ) (bookmark : List ℕ) → records_after (records_after records (Add t b column amount)) (Add (table_id t.0) b column (neg_ℤ amount)) table bookmark ≡ records table bookmark
+    at table bookmark = elim (is_change_of table bookmark (Add t b column amount)) as (λ x. is_change_of table bookmark (Add t b column amount) ≡ x
+        → cond x (option_map (λ values. with_sum values column.0 (neg_ℤ amount)) (cond x (option_map (λ values. with_sum values column.0 amount) (records table bookmark)) (records table bookmark)))
+        (cond x (option_map (λ values. with_sum values column.0 amount) (records table bookmark)) (records table bookmark)) ≡ records table bookmark) [
+          | true ↦ λ f. twice (records table bookmark) (at_its_record (Add t b column amount) (λ n k. IfSome (records n k) P) table bookmark f first)
+          | false ↦ λ f. refl
+        ] refl
+
+-- what a change leaves, it leaves undone too
+leaves_undone : (P : ℕ → List ℕ → RecordFields → Type 0) (gone : PastChange → Bool) (t : ℕ) (b : List ℕ) (items : List PastChange) → AllByRecursion (TakesBack P) items → EachLeaves (P t b) t b (map (undone_where gone) items)
+leaves_undone P gone t b [] exact = tt
+leaves_undone P gone t b (item ∷ items) exact = (
+  subst (λ (c : Change). is_change_of t b c ≡ true → (before : Option RecordFields) → IfSome before (P t b) → IfSome (record_after c before) (P t b)) (sym (same_change gone item))
+      (λ mine. at_its_record item.change (λ n k. (before : Option RecordFields) → IfSome before (P n k) → IfSome (record_after item.change before) (P n k)) t b mine exact.0.0),
+  leaves_undone P gone t b items exact.1,
+)
+
+-- what goes is the last of its record among those that stay
+last_of : (gone : PastChange → Bool) (item : PastChange) → gone item ≡ true → (items : List PastChange) → AllByRecursion (GoesApart gone item) items → IsLastOf item (map (undone_where gone) items)
+last_of gone item goes [] apart = tt
+last_of gone item goes (next ∷ items) apart = (
+  elim (gone next) as (λ x. gone next ≡ x → is_standing (cond x (record next { status = undone }) next) ≡ true → collide item.change (cond x (record next { status = undone }) next).change ≡ false) [
+    | true ↦ λ f live. impossible live
+    | false ↦ λ f live. apart.0 goes live f
+  ] refl,
+  last_of gone item goes items apart.1,
+)
+
+-- ---- all of them
+
+pub taken_records : (P : ℕ → List ℕ → RecordFields → Type 0) (gone : PastChange → Bool) (test : HeldRecord → Bool) → SameTest gone test → ((item : PastChange) → gone item ≡ true → is_standing item ≡ true) → (tables : List Table) (kept : List PastChange) (held : List HeldRecord) (base : Records)
+    → AllMatch kept held → HasBefores base kept → ((table : ℕ) (bookmark : List ℕ) → IfSome (base table bookmark) (P table bookmark)) → AllByRecursion (TakesBack P) kept → EachTwo (GoesApart gone) kept → AllByRecursion (λ item. IsThere tables item.change) kept → records_of tables ≡ records_after_items is_standing base kept
     → records_of (tables_taken_back test held tables) ≡ records_after_items is_standing base (map (undone_where gone) kept)
-taken_records gone test same stands tables [] [] base m befores none apart there e = e
-taken_records gone test same stands tables [] (h ∷ held) base m befores none apart there e = absurd m
-taken_records gone test same stands tables (item ∷ items) [] base m befores none apart there e = absurd m
-taken_records gone test same stands tables (item ∷ items) (h ∷ held) base m befores none apart there e =
+taken_records P gone test same stands tables [] [] base m befores first exact apart there e = e
+taken_records P gone test same stands tables [] (h ∷ held) base m befores first exact apart there e = absurd m
+taken_records P gone test same stands tables (item ∷ items) [] base m befores first exact apart there e = absurd m
+taken_records P gone test same stands tables (item ∷ items) (h ∷ held) base m befores first exact apart there e =
     ap (λ b. records_of (cond b (tables_after (tables_taken_back test held tables) (inverse h)) (tables_taken_back test held tables))) (same item h m.0)
-    ∙ by (gone item) (is_standing item) refl refl befores.0 befores.1 e (taken_records gone test same stands tables items held base m.1) (taken_records gone test same stands tables items held (after_item base item) m.1)
+    ∙ by (gone item) (is_standing item) refl refl befores.0 befores.1 e (taken_records P gone test same stands tables items held base m.1) (taken_records P gone test same stands tables items held (after_item base item) m.1)
   where
     later : List Table
     later = tables_taken_back test held tables
@@ -155,7 +214,7 @@ taken_records gone test same stands tables (item ∷ items) (h ∷ held) base m 
     rest = map (undone_where gone) items
 
     Step : Records → Type 0
-    Step start = HasBefores start items → HasNoSums items → EachTwo (GoesApart gone) items → AllByRecursion (λ item. IsThere tables item.change) items → records_of tables ≡ records_after_items is_standing start items
+    Step start = HasBefores start items → ((table : ℕ) (bookmark : List ℕ) → IfSome (start table bookmark) (P table bookmark)) → AllByRecursion (TakesBack P) items → EachTwo (GoesApart gone) items → AllByRecursion (λ item. IsThere tables item.change) items → records_of tables ≡ records_after_items is_standing start items
         → records_of later ≡ records_after_items is_standing start rest
 
     t : ℕ
@@ -164,34 +223,50 @@ taken_records gone test same stands tables (item ∷ items) (h ∷ held) base m 
     b : List ℕ
     b = changed_bookmark item.change
 
-    back : gone item ≡ true → is_standing item ≡ true → item.before ≡ base t b → records_of later ≡ records_after_items is_standing (after_item base item) rest
-        → records_of (tables_after later (inverse h)) ≡ records_after_items is_standing base rest
-    back goes stays found is =
+    first_after : (table : ℕ) (bookmark : List ℕ) → IfSome (after_item base item table bookmark) (P table bookmark)
+    first_after table bookmark = elim (is_change_of table bookmark item.change) as (λ x. is_change_of table bookmark item.change ≡ x → IfSome (cond x (record_after item.change (base table bookmark)) (base table bookmark)) (P table bookmark)) [
+      | true ↦ λ f. at_its_record item.change (λ n k. IfSome (record_after item.change (base n k)) (P n k)) table bookmark f (exact.0.0 (base t b) (first t b))
+      | false ↦ λ f. first table bookmark
+    ] refl
+
+    made : Records
+    made = records_after_items is_standing (after_item base item) rest
+
+    inverse_table : (k : Change) (o : Option RecordFields) → changed_table (inverse_of (kind_of k) (changed_table k) (changed_bookmark k) o) ≡ changed_table k
+    inverse_table (Put t b copied values) None = refl
+    inverse_table (Put t b copied values) (Some old) = refl
+    inverse_table (Drop t b) None = refl
+    inverse_table (Drop t b) (Some old) = refl
+    inverse_table (Hold t b) o = refl
+    inverse_table (Add t b column amount) o = refl
+
+    there_still : is_some (table_with_id later (changed_table (inverse h))) ≡ is_some (table_with_id tables (changed_table (inverse h)))
+    there_still = same_there later tables (taken_defined test held tables) (changed_table (inverse h))
+
+    there_at : is_some (table_with_id tables (changed_table (inverse h))) ≡ true
+    there_at = ap (λ n. is_some (table_with_id tables n)) ((λ i. changed_table (inverse_of (m.0.kind i) (m.0.table i) (m.0.bookmark i) h.before)) ∙ inverse_table item.change h.before) ∙ there.0
+
+    inverted : records_of later ≡ made → records_of (tables_after later (inverse h)) ≡ records_after made (inverse_of (kind_of item.change) t b h.before)
+    inverted is =
         projected later (inverse h) (there_still ∙ there_at)
         ∙ ap (λ (r : Records). records_after r (inverse h)) is
         ∙ (λ i. records_after made (inverse_of (m.0.kind i) (m.0.table i) (m.0.bookmark i) h.before))
-        ∙ kind_inverse item.change h.before (base t b) made none.0 (λ rewrite. m.0.before stays rewrite ∙ found) locked
+
+    back_sum : gone item ≡ true → is_standing item ≡ true → is_sum item.change ≡ true → records_of later ≡ made → records_of (tables_after later (inverse h)) ≡ records_after_items is_standing base rest
+    back_sum goes stays sum is =
+        inverted is
+        ∙ ap (λ (r : Records). records_after r (inverse_of (kind_of item.change) t b h.before))
+        (ap (λ c. fold after_item base (cond c (item ∷ filter is_standing rest) (filter is_standing rest))) (sym stays) ∙ made_last base [] item rest stays (last_of gone item goes items apart.0))
+        ∙ sum_inverse (P t b) item.change h.before (records_after_items is_standing base rest) sum exact.0.1 (each_variant (P t b) is_standing t b rest (leaves_undone P gone t b items exact.1) base (first t b))
+
+    back : gone item ≡ true → is_standing item ≡ true → is_sum item.change ≡ false → item.before ≡ base t b → records_of later ≡ made → records_of (tables_after later (inverse h)) ≡ records_after_items is_standing base rest
+    back goes stays none found is =
+        inverted is
+        ∙ kind_inverse item.change h.before (base t b) made none (λ rewrite. m.0.before stays rewrite ∙ found) locked
         ∙ (λ i table bookmark. at table bookmark i)
       where
-        made : Records
-        made = records_after_items is_standing (after_item base item) rest
-
-        inverse_table : (k : Change) (o : Option RecordFields) → changed_table (inverse_of (kind_of k) (changed_table k) (changed_bookmark k) o) ≡ changed_table k
-        inverse_table (Put t b copied values) None = refl
-        inverse_table (Put t b copied values) (Some old) = refl
-        inverse_table (Drop t b) None = refl
-        inverse_table (Drop t b) (Some old) = refl
-        inverse_table (Hold t b) o = refl
-        inverse_table (Add t b column amount) o = refl
-
-        there_still : is_some (table_with_id later (changed_table (inverse h))) ≡ is_some (table_with_id tables (changed_table (inverse h)))
-        there_still = same_there later tables (taken_defined test held tables) (changed_table (inverse h))
-
-        there_at : is_some (table_with_id tables (changed_table (inverse h))) ≡ true
-        there_at = ap (λ n. is_some (table_with_id tables n)) ((λ i. changed_table (inverse_of (m.0.kind i) (m.0.table i) (m.0.bookmark i) h.before)) ∙ inverse_table item.change h.before) ∙ there.0
-
         locked : rewrites item.change ≡ false → base t b ≡ made t b
-        locked off = sym (untouched gone item goes none.0 items apart.0 (after_item base item) ∙ ap (λ c. cond c (record_after item.change (base t b)) (base t b)) (at_itself item.change) ∙ found_by item.change none.0 off (base t b))
+        locked off = sym (untouched gone item goes none items apart.0 (after_item base item) ∙ ap (λ c. cond c (record_after item.change (base t b)) (base t b)) (at_itself item.change) ∙ found_by item.change none off (base t b))
           where
             found_by : (c : Change) → is_sum c ≡ false → rewrites c ≡ false → (o : Option RecordFields) → record_after c o ≡ o
             found_by (Put t b copied values) none off o = impossible (sym off)
@@ -203,13 +278,17 @@ taken_records gone test same stands tables (item ∷ items) (h ∷ held) base m 
         at table bookmark = one (is_change_of table bookmark item.change) refl
           where
             one : (x : Bool) → is_change_of table bookmark item.change ≡ x → cond x (base t b) (made table bookmark) ≡ records_after_items is_standing base rest table bookmark
-            one true f = at_its_record item.change (λ n k. base t b ≡ records_after_items is_standing base rest n k) table bookmark f (sym (untouched gone item goes none.0 items apart.0 base))
+            one true f = at_its_record item.change (λ n k. base t b ≡ records_after_items is_standing base rest n k) table bookmark f (sym (untouched gone item goes none items apart.0 base))
             one false f = fold-at (filter is_standing rest) table bookmark (after_item base item) base (ap (λ c. cond c (record_after item.change (base table bookmark)) (base table bookmark)) f)
 
     by : (x y : Bool) → gone item ≡ x → is_standing item ≡ y → (is_standing item ≡ true → is_sum item.change ≡ false → item.before ≡ base t b) → HasBefores (cond y (after_item base item) base) items
         → records_of tables ≡ fold after_item base (cond y (item ∷ filter is_standing items) (filter is_standing items)) → Step base → Step (after_item base item)
         → records_of (cond x (tables_after later (inverse h)) later) ≡ fold after_item base (filter is_standing (cond x (record item { status = undone }) item ∷ rest))
-    by false true f g found more is without with_it = with_it more none.1 apart.1 there.1 is ∙ ap (λ c. fold after_item base (cond c (item ∷ filter is_standing rest) (filter is_standing rest))) (sym g)
-    by false false f g found more is without with_it = without more none.1 apart.1 there.1 is ∙ ap (λ c. fold after_item base (cond c (item ∷ filter is_standing rest) (filter is_standing rest))) (sym g)
-    by true true f g found more is without with_it = back f g (found g none.0) (with_it more none.1 apart.1 there.1 is)
+    by false true f g found more is without with_it = with_it more first_after exact.1 apart.1 there.1 is ∙ ap (λ c. fold after_item base (cond c (item ∷ filter is_standing rest) (filter is_standing rest))) (sym g)
+    by false false f g found more is without with_it = without more first exact.1 apart.1 there.1 is ∙ ap (λ c. fold after_item base (cond c (item ∷ filter is_standing rest) (filter is_standing rest))) (sym g)
+    by true true f g found more is without with_it =
+        elim (is_sum item.change) as (λ x. is_sum item.change ≡ x → records_of (tables_after later (inverse h)) ≡ records_after_items is_standing base rest) [
+          | true ↦ λ sum. back_sum f g sum (with_it more first_after exact.1 apart.1 there.1 is)
+          | false ↦ λ none. back f g none (found g none) (with_it more first_after exact.1 apart.1 there.1 is)
+        ] refl
     by true false f g found more is without with_it = impossible (sym g ∙ stands item f)

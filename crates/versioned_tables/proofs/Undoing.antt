@@ -1,5 +1,5 @@
 -- What undone levels and sessions that leave make of versioned tables.
-use Rattle.std.proofs.Common.{◌≡◌, ℕ, ◌+◌, ◌-◌, ◌≤◌, Bool, true, false, ◌&&◌, cond, List, map, Option, Some, None, refl, sym, ap, subst, ◌∙◌, arith}
+use Rattle.std.proofs.Common.{◌≡◌, ℕ, ◌+◌, ◌-◌, ◌≤◌, Bool, true, false, ◌&&◌, cond, List, map, Option, Some, None, refl, sym, ap, subst, ◌∙◌, arith, inl, inr}
 use Rattle.std.specs.Prelude.{◌==◌, nat_lt}
 use Rattle.std.specs.List.{AllByRecursion}
 use Rattle.std.proofs.lemmas.Bool.Decides.{nat_tests}
@@ -10,7 +10,7 @@ use Rattle.database_state.specs.State.{DatabaseState, PastChange, Transaction, S
 use Rattle.database_state.specs.Changes.{changed_table}
 use Rattle.database_state.specs.Step.{every_change, innermost_undone, is_at_level, state_after, with_changes_at, with_levels, with_transaction}
 use Rattle.database_state.specs.Lawful.{is_lawful}
-use Rattle.record_changes.specs.Records.{IsThere, Records}
+use Rattle.record_changes.specs.Records.{IsThere, Records, records_after_items, records_of}
 use Rattle.record_changes.proofs.Tests.{and_left, and_right, impossible, same_number}
 use Rattle.version_history.specs.History.{EachTwo, IsHistory, IsOpenIn, IsPlaced, IsPlacedBy, LevelsRise, without_rows}
 use Rattle.version_history.specs.KeptSteps.{is_own_open, undone_where}
@@ -21,12 +21,13 @@ use Rattle.version_history.proofs.LawfulEntries.{keeps_lawful}
 use Rattle.version_history.proofs.Lists.{all_true, all_weaker}
 use Rattle.version_history.proofs.SeenRecords.{are_there, newest_records}
 use Rattle.version_history.proofs.Viewing.{same_there}
-use Rattle.version_keys.specs.Variants.{HasNoSums}
 use Rattle.versioned_tables.specs.HeldRecords.{HeldRecord, is_open_at, is_open_of}
-use Rattle.versioned_tables.specs.VersionedTables.{VersionedTables, with_changes_undone}
+use Rattle.versioned_tables.specs.VersionedTables.{VersionedTables, tables_taken_back, with_changes_undone}
 use Rattle.versioned_tables.specs.Holding.{Holds, RecordsRise}
+use Rattle.versioned_tables.specs.TakenBack.{CanBeTakenBack}
 use Rattle.versioned_tables.proofs.Ending.{same_open}
 use Rattle.versioned_tables.proofs.RisingSteps.{step_keeps_order}
+use Rattle.versioned_tables.proofs.ExactSums.{Numbers, any, first_numbers, numbers_back, plain_back}
 use Rattle.versioned_tables.proofs.TakingBack.{SameTest, all_undone_match, taken_defined, taken_records, taken_rise}
 
 abbrev by_session : ℕ → EntryKind → Entry
@@ -91,16 +92,27 @@ there_in base dropped kept store state h =
     all_weaker (λ item. IsThere state.tables item.change) (λ item. IsThere store.tables item.change) (λ item there. same_there store.tables state.tables h.defined (changed_table item.change) ∙ there) kept
     (are_there state.number state.tables (transaction_of state) base kept h.history.keeps)
 
+-- the records that are left
+newest_taken : (base : Records) (dropped kept : List PastChange) (store : VersionedTables) (state : DatabaseState) (gone : PastChange → Bool) (test : HeldRecord → Bool) → Holds base dropped kept store state → CanBeTakenBack base kept state
+    → SameTest gone test → ((item : PastChange) → gone item ≡ true → is_standing item ≡ true) → EachTwo (GoesApart gone) kept
+    → records_of (tables_taken_back test store.held store.tables) ≡ records_after_items is_standing base (map (undone_where gone) kept)
+newest_taken base dropped kept store state gone test h (inl none) same stands apart =
+    taken_records (λ table bookmark values. Unit {0}) gone test same stands store.tables kept store.held base h.held h.history.keeps.befores (λ table bookmark. any (base table bookmark))
+    (plain_back kept none) apart (there_in base dropped kept store state h) (h.newest ∙ newest_records base dropped kept state h.history)
+newest_taken base dropped kept store state gone test h (inr numbers) same stands apart =
+    taken_records (Numbers state) gone test same stands store.tables kept store.held base h.held h.history.keeps.befores (first_numbers base kept state numbers)
+    (numbers_back base kept state numbers h.history.keeps.placed) apart (there_in base dropped kept store state h) (h.newest ∙ newest_records base dropped kept state h.history)
+
 -- an entry that leaves the committed tables and undoes the kept changes that pass
-undoing : (base : Records) (dropped kept : List PastChange) (store : VersionedTables) (state after : DatabaseState) (gone : PastChange → Bool) (test : HeldRecord → Bool) → Holds base dropped kept store state → HasNoSums kept
+undoing : (base : Records) (dropped kept : List PastChange) (store : VersionedTables) (state after : DatabaseState) (gone : PastChange → Bool) (test : HeldRecord → Bool) → Holds base dropped kept store state → CanBeTakenBack base kept state
     → SameTest gone test → ((item : PastChange) → gone item ≡ true → is_standing item ≡ true) → EachTwo (GoesApart gone) kept → IsHistory base dropped (map (undone_where gone) kept) after → after.tables ≡ state.tables
     → (made : Entry) → after ≡ state_after state made → Holds base dropped (map (undone_where gone) kept) (with_changes_undone test store) after
-undoing base dropped kept store state after gone test h none same stands apart history tables made is = record {
+undoing base dropped kept store state after gone test h can same stands apart history tables made is = record {
   history = history;
   rise = subst (λ s. RecordsRise s) (sym is) (step_keeps_order state made h.rise);
   defined = taken_defined test store.held store.tables ∙ h.defined ∙ ap (map without_rows) (sym tables);
   newest =
-      taken_records gone test same stands store.tables kept store.held base h.held h.history.keeps.befores none apart (there_in base dropped kept store state h) (h.newest ∙ newest_records base dropped kept state h.history)
+      newest_taken base dropped kept store state gone test h can same stands apart
       ∙ sym (newest_records base dropped (map (undone_where gone) kept) after history);
   in_order = taken_rise test store.held store.tables h.in_order;
   held = all_undone_match gone test same kept store.held h.held;
@@ -120,10 +132,10 @@ undo_tables : (state : DatabaseState) (session : ℕ) → (state_after state (by
 unfolding state_after
 undo_tables state session = innermost_tables session (record state { number = state.number + 1 })
 
-pub undone_holds : (base : Records) (dropped kept : List PastChange) (store : VersionedTables) (state : DatabaseState) (session : ℕ) → Holds base dropped kept store state → HasNoSums kept → is_lawful state (by_session session entry.Undo) ≡ true
+pub undone_holds : (base : Records) (dropped kept : List PastChange) (store : VersionedTables) (state : DatabaseState) (session : ℕ) → Holds base dropped kept store state → CanBeTakenBack base kept state → is_lawful state (by_session session entry.Undo) ≡ true
     → Holds base dropped (map (undone_where (is_own_open session (is_at_level (levels state session)))) kept) (with_changes_undone (is_open_at session (levels state session)) store) (state_after state (by_session session entry.Undo))
-undone_holds base dropped kept store state session h none lawful =
-    undoing base dropped kept store state (state_after state (by_session session entry.Undo)) (is_own_open session (is_at_level (levels state session))) (is_open_at session (levels state session)) h none
+undone_holds base dropped kept store state session h can lawful =
+    undoing base dropped kept store state (state_after state (by_session session entry.Undo)) (is_own_open session (is_at_level (levels state session))) (is_open_at session (levels state session)) h can
     (level_test session (levels state session)) (own_stands session (is_at_level (levels state session))) (level_goes base dropped kept state h.history session)
     (keeps_lawful base dropped kept state (by_session session entry.Undo) h.history lawful) (undo_tables state session) (by_session session entry.Undo) refl
 
@@ -131,10 +143,10 @@ all_undone_tables : (state : DatabaseState) (session : ℕ) → (state_after sta
 unfolding state_after
 all_undone_tables state session = refl
 
-pub all_undone_holds : (base : Records) (dropped kept : List PastChange) (store : VersionedTables) (state : DatabaseState) (session : ℕ) → Holds base dropped kept store state → HasNoSums kept → is_lawful state (by_session session entry.UndoAll) ≡ true
+pub all_undone_holds : (base : Records) (dropped kept : List PastChange) (store : VersionedTables) (state : DatabaseState) (session : ℕ) → Holds base dropped kept store state → CanBeTakenBack base kept state → is_lawful state (by_session session entry.UndoAll) ≡ true
     → Holds base dropped (map (undone_where (is_own_open session every_change)) kept) (with_changes_undone (is_open_of session) store) (state_after state (by_session session entry.UndoAll))
-all_undone_holds base dropped kept store state session h none lawful =
-    undoing base dropped kept store state (state_after state (by_session session entry.UndoAll)) (is_own_open session every_change) (is_open_of session) h none
+all_undone_holds base dropped kept store state session h can lawful =
+    undoing base dropped kept store state (state_after state (by_session session entry.UndoAll)) (is_own_open session every_change) (is_open_of session) h can
     (all_test session) (own_stands session every_change) (all_goes base dropped kept state h.history session)
     (keeps_lawful base dropped kept state (by_session session entry.UndoAll) h.history lawful) (all_undone_tables state session) (by_session session entry.UndoAll) refl
 
@@ -142,9 +154,9 @@ left_tables : (state : DatabaseState) (session : ℕ) → (state_after state (by
 unfolding state_after
 left_tables state session = refl
 
-pub left_holds : (base : Records) (dropped kept : List PastChange) (store : VersionedTables) (state : DatabaseState) (session : ℕ) → Holds base dropped kept store state → HasNoSums kept → is_lawful state (by_session session entry.Leave) ≡ true
+pub left_holds : (base : Records) (dropped kept : List PastChange) (store : VersionedTables) (state : DatabaseState) (session : ℕ) → Holds base dropped kept store state → CanBeTakenBack base kept state → is_lawful state (by_session session entry.Leave) ≡ true
     → Holds base dropped (map (undone_where (is_own_open session every_change)) kept) (with_changes_undone (is_open_of session) store) (state_after state (by_session session entry.Leave))
-left_holds base dropped kept store state session h none lawful =
-    undoing base dropped kept store state (state_after state (by_session session entry.Leave)) (is_own_open session every_change) (is_open_of session) h none
+left_holds base dropped kept store state session h can lawful =
+    undoing base dropped kept store state (state_after state (by_session session entry.Leave)) (is_own_open session every_change) (is_open_of session) h can
     (all_test session) (own_stands session every_change) (all_goes base dropped kept state h.history session)
     (keeps_lawful base dropped kept state (by_session session entry.Leave) h.history lawful) (left_tables state session) (by_session session entry.Leave) refl

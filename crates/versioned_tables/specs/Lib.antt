@@ -2,5 +2,6 @@ pub mod HeldRecords
 pub mod HeldSums
 pub mod VersionedTables
 pub mod Holding
+pub mod TakenBack
 pub mod Samples
 pub mod Variants

@@ -21,11 +21,11 @@ ghost use Rattle.record_changes.specs.Records.{Records, after_item, records_of};
 ghost use Rattle.version_history.specs.KeptSteps.{new_change, committed_own, is_own_open, lowered_own, undone_where, with_next_number};
 ghost use Rattle.version_history.specs.Readers.{is_standing};
 ghost use Rattle.version_keys.specs.TableOrder.{HasTablesInOrder};
-ghost use Rattle.version_keys.specs.Variants.{HasNoSums};
 ghost use Rattle.version_store.specs.declared.calls.By.{By};
 ghost use Rattle.versioned_tables.specs.HeldRecords.{is_open_at, is_open_of};
 ghost use Rattle.versioned_tables.specs.VersionedTables.{VersionedTables, leaves_tables, with_change, with_changes_undone, with_level_released, with_schema_step, with_session_committed, without_oldest};
 ghost use Rattle.versioned_tables.specs.Holding.{AllRise, Holds, RecordsRise};
+ghost use Rattle.versioned_tables.specs.TakenBack.{CanBeTakenBack};
 
 /// Every entry leaves the records of the committed tables and of each snapshot in the order of their bookmarks.
 pub fn entries_leave_records_in_order()
@@ -69,15 +69,16 @@ pub fn a_clean_leaves_the_state()
 {}
 
 /// A level that is undone, all levels, and a session that leaves: the open changes of the level, or of the session, are taken
-/// back, the newest first, where no escrow column was changed. Then the tables hold the state after the entry.
+/// back, the newest first, a sum by the opposite one, whatever sums of others came after it. Then the tables hold the state
+/// after the entry, record by record, where no escrow column was changed or each holds a number in every record.
 pub fn undone_changes_are_taken_back()
-    ensures level { (base : Records) (dropped kept : List PastChange) (store : VersionedTables) (state : DatabaseState) (session : ℕ) → Holds base dropped kept store state → HasNoSums kept
+    ensures level { (base : Records) (dropped kept : List PastChange) (store : VersionedTables) (state : DatabaseState) (session : ℕ) → Holds base dropped kept store state → CanBeTakenBack base kept state
         → is_lawful state (record { session = record { 0 = session }; kind = entry.Undo }) ≡ true
         → Holds base dropped (map (undone_where (is_own_open session (is_at_level (levels state session)))) kept) (with_changes_undone (is_open_at session (levels state session)) store) (state_after state (record { session = record { 0 = session }; kind = entry.Undo })) }
-    ensures levels { (base : Records) (dropped kept : List PastChange) (store : VersionedTables) (state : DatabaseState) (session : ℕ) → Holds base dropped kept store state → HasNoSums kept
+    ensures levels { (base : Records) (dropped kept : List PastChange) (store : VersionedTables) (state : DatabaseState) (session : ℕ) → Holds base dropped kept store state → CanBeTakenBack base kept state
         → is_lawful state (record { session = record { 0 = session }; kind = entry.UndoAll }) ≡ true
         → Holds base dropped (map (undone_where (is_own_open session every_change)) kept) (with_changes_undone (is_open_of session) store) (state_after state (record { session = record { 0 = session }; kind = entry.UndoAll })) }
-    ensures session { (base : Records) (dropped kept : List PastChange) (store : VersionedTables) (state : DatabaseState) (session : ℕ) → Holds base dropped kept store state → HasNoSums kept
+    ensures session { (base : Records) (dropped kept : List PastChange) (store : VersionedTables) (state : DatabaseState) (session : ℕ) → Holds base dropped kept store state → CanBeTakenBack base kept state
         → is_lawful state (record { session = record { 0 = session }; kind = entry.Leave }) ≡ true
         → Holds base dropped (map (undone_where (is_own_open session every_change)) kept) (with_changes_undone (is_open_of session) store) (state_after state (record { session = record { 0 = session }; kind = entry.Leave })) }
 {}

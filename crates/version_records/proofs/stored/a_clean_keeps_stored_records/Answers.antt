@@ -1,6 +1,10 @@
 use Rattle.version_records.specs.StoredRecords.{IsStored}
 use Rattle.version_records.proofs.EachRecord.{each_cleaned}
+use Rattle.version_records.proofs.StoredSums.{stored_cleaned_with_sums}
 use Rattle.version_records.proofs.stored.a_clean_keeps_stored_records.Goals as goal
 
-pub returns : goal.returns
-returns c = each_cleaned IsStored
+pub returns-clause-without_sums : goal.returns-clause-without_sums
+returns-clause-without_sums c = each_cleaned IsStored
+
+pub returns-clause-with_sums : goal.returns-clause-with_sums
+returns-clause-with_sums c = stored_cleaned_with_sums

@@ -1,4 +1,5 @@
 use Rattle.version_sums.proofs.UndoneSums.{number_taken, opposite_sum, undone_sum}
+use Rattle.version_sums.proofs.VeryRecords.{very_record}
 use Rattle.version_sums.proofs.undone.an_undone_sum_is_taken_away.Goals as goal
 
 pub returns-clause-last : goal.returns-clause-last
@@ -9,3 +10,6 @@ returns-clause-number c = number_taken
 
 pub returns-clause-opposite : goal.returns-clause-opposite
 returns-clause-opposite c = opposite_sum
+
+pub returns-clause-very_record : goal.returns-clause-very_record
+returns-clause-very_record c = very_record

@@ -1,0 +1,10 @@
+-- When held changes can be taken back to the very records.
+use Rattle.std.specs.Prelude.{List, ◌⊎◌}
+use Rattle.database_state.specs.State.{DatabaseState, PastChange}
+use Rattle.record_changes.specs.Records.{Records}
+use Rattle.version_keys.specs.Variants.{HasNoSums}
+use Rattle.version_records.specs.EscrowNumbers.{HasEscrowNumbers}
+
+-- No escrow column was changed, or each holds a number in every record: then the opposite sum gives the very record back.
+abbrev pub CanBeTakenBack : Records → List PastChange → DatabaseState → Type 0
+CanBeTakenBack base kept state = HasNoSums kept ⊎ HasEscrowNumbers base kept state
