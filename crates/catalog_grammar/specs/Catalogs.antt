@@ -1,5 +1,5 @@
 -- The tables of a catalog, with the roots of their trees, and the nodes that they have in a tree.
-use Rattle.std.specs.Prelude.{ℕ, zero, Bool, true, ◌&&◌, ◌+◌, List, [], ◌∷◌, ◌++◌, map, nat_le, nat_lt, if◌then◌else◌}
+use Rattle.std.specs.Prelude.{ℕ, Bool, true, ◌&&◌, List, [], ◌∷◌, ◌++◌, map, nat_lt, ◌==◌, if◌then◌else◌}
 use Rattle.std.specs.List.{flat_map, list_all}
 use Rattle.jet_base.specs.Ids.{table_id}
 use Rattle.column_set.specs.declared.columns.Column.{Column}
@@ -70,3 +70,29 @@ has_rising_parts x = rise_above 0 (map (λ column. column.id.0) x.columns) && ri
 -- whether each item can be written, and tables, columns and indexes stand by rising number, from 1
 abbrev pub catalog_fits : ℕ → List CatalogTable → Bool
 catalog_fits greatest tables = list_all item_fits (catalog_items greatest tables) && (rise_above 0 (map (λ x. x.table.id.0) tables) && list_all has_rising_parts tables)
+
+-- ---- the catalog that items tell
+
+abbrev pub table_told : CatalogItem → List TableItem
+table_told (item.Greatest greatest) = []
+table_told (item.Table table) = table ∷ []
+table_told (item.Column table column) = []
+table_told (item.Index table root index) = []
+
+-- the column, if it is one of this table
+abbrev pub column_told : ℕ → CatalogItem → List Column
+column_told id (item.Greatest greatest) = []
+column_told id (item.Table table) = []
+column_told id (item.Column table column) = if table.0 == id then column ∷ [] else []
+column_told id (item.Index table root index) = []
+
+-- the index behind its root, if it is one of this table
+abbrev pub index_told : ℕ → CatalogItem → List (ℕ × IndexRule)
+index_told id (item.Greatest greatest) = []
+index_told id (item.Table table) = []
+index_told id (item.Column table column) = []
+index_told id (item.Index table root index) = if table.0 == id then (root, index) ∷ [] else []
+
+-- the tables, each with the columns and the indexes that are told of it
+abbrev pub tables_told : List CatalogItem → List CatalogTable
+tables_told items = map (λ table. record { table = table; columns = flat_map (column_told table.id.0) items; indexes = flat_map (index_told table.id.0) items }) (flat_map table_told items)

@@ -5,7 +5,7 @@ ghost use Rattle.index_derive.specs.declared.rules.IndexRule.{IndexRule};
 ghost use Rattle.page_image.specs.Page.{HasRisingKeys, node_size};
 ghost use Rattle.log_grammar.specs.EntryBytes.{index_bytes};
 ghost use Rattle.catalog_grammar.specs.CatalogBytes.{Tells, index_data, item_data, item_fits, item_key, item_node};
-ghost use Rattle.catalog_grammar.specs.Catalogs.{CatalogTable, catalog_fits, catalog_nodes};
+ghost use Rattle.catalog_grammar.specs.Catalogs.{CatalogTable, catalog_fits, catalog_items, catalog_nodes, tables_told};
 ghost use Rattle.catalog_grammar.specs.declared.items.CatalogItem.{CatalogItem};
 
 /// A node tells one item at most.
@@ -26,9 +26,10 @@ pub fn keys_rise()
     ensures { (greatest : ℕ) (tables : List CatalogTable) → catalog_fits greatest tables ≡ true → HasRisingKeys (catalog_nodes greatest tables) }
 {}
 
-/// The nodes of a catalog tell its tables: two catalogs with the same nodes are the same.
+/// What the nodes of a catalog tell are its tables, so that two catalogs with the same nodes are the same.
 pub fn catalogs_are_read_back()
-    ensures { (greatest other : ℕ) (tables others : List CatalogTable) → catalog_fits greatest tables ≡ true → catalog_fits other others ≡ true → catalog_nodes greatest tables ≡ catalog_nodes other others → (greatest ≡ other) × (tables ≡ others) }
+    ensures told { (greatest : ℕ) (tables : List CatalogTable) → catalog_fits greatest tables ≡ true → tables_told (catalog_items greatest tables) ≡ tables }
+    ensures same { (greatest other : ℕ) (tables others : List CatalogTable) → catalog_fits greatest tables ≡ true → catalog_fits other others ≡ true → catalog_nodes greatest tables ≡ catalog_nodes other others → (greatest ≡ other) × (tables ≡ others) }
 {}
 
 /// The log spells a new index as the catalog does, with the root 0.
