@@ -80,7 +80,7 @@ same_front (x ∷ front) xs ys h = same_first x x (front ++ xs) (front ++ ys) re
 
 -- ---- items
 
-abbrev Below : CatalogItem → CatalogItem → Type 0
+abbrev pub Below : CatalogItem → CatalogItem → Type 0
 Below x y = IsBelow (item_key x) (item_key y)
 
 record Small (x : CatalogItem) : Type 0 where
@@ -118,7 +118,7 @@ below_id x y k t lt s =
 
 -- ---- each item of a list
 
-abbrev Each : (CatalogItem → Type 0) → List CatalogItem → Type 0
+abbrev pub Each : (CatalogItem → Type 0) → List CatalogItem → Type 0
 Each P [] = Unit {0}
 Each P (x ∷ xs) = P x × Each P xs
 
@@ -144,7 +144,7 @@ each_small (x ∷ xs) h = let a = and_parts (item_fits x) (list_all item_fits xs
 
 -- ---- rising items
 
-abbrev Rise : List CatalogItem → Type 0
+abbrev pub Rise : List CatalogItem → Type 0
 Rise [] = Unit {0}
 Rise (x ∷ xs) = Each (Below x) xs × Rise xs
 
@@ -229,7 +229,7 @@ indexes_rise x h s =
     let a = and_parts (rise_above 0 (map (λ column. column.id.0) x.columns)) (rise_above 0 (map (λ index. index.1.id.0) x.indexes)) h in
     part_rises 3 x.table.id.0 (λ index. item.Index x.table.id index.0 index.1) (λ index. refl) (λ index. refl) 0 x.indexes a.1 s
 
-items_rise : (greatest : ℕ) (tables : List CatalogTable) → catalog_fits greatest tables ≡ true → Rise (catalog_items greatest tables)
+pub items_rise : (greatest : ℕ) (tables : List CatalogTable) → catalog_fits greatest tables ≡ true → Rise (catalog_items greatest tables)
 items_rise greatest tables h =
     let t : List CatalogItem = map (λ x. item.Table x.table) tables in
     let c = flat_map column_items tables in
