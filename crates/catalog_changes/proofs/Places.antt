@@ -59,7 +59,9 @@ abbrev pub index_behind : OtherTables → CatalogTable → List (ℕ × IndexRul
 index_behind others x right = map (index_of x) right ++ flat_map index_items others.after
 
 regrouped : (front a b c d e l m r z : List CatalogItem) (t : CatalogItem) → front ++ (t ∷ (a ++ ((b ++ ((c ++ []) ++ d)) ++ (e ++ (((l ++ (m ++ r)) ++ []) ++ z))))) ≡ (front ++ ((t ∷ a) ++ ((b ++ (c ++ d)) ++ (e ++ l)))) ++ (m ++ (r ++ z))
-regrouped front a b c d e l m r z t = simp (append_assoc, append-nil)
+regrouped front a b c d e l m r z t =
+    let inner : a ++ ((b ++ ((c ++ []) ++ d)) ++ (e ++ (((l ++ (m ++ r)) ++ []) ++ z))) ≡ (a ++ ((b ++ (c ++ d)) ++ (e ++ l))) ++ (m ++ (r ++ z)) = simp (append_assoc, append-nil) in
+    ap (λ (s : List CatalogItem). front ++ (t ∷ s)) inner ∙ sym (append_assoc front (t ∷ (a ++ ((b ++ (c ++ d)) ++ (e ++ l)))) (m ++ (r ++ z)))
 
 indexes_parted : (greatest : ℕ) (others : OtherTables) (x : CatalogTable) (left right indexes : List (ℕ × IndexRule)) → catalog_items greatest (with_indexes others x (left ++ (indexes ++ right))) ≡ index_front greatest others x left ++ (map (index_of x) indexes ++ index_behind others x right)
 indexes_parted greatest others x left right indexes =
