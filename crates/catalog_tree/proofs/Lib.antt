@@ -1,1 +1,1 @@
-pub mod Becoming
+pub mod Exchanging
