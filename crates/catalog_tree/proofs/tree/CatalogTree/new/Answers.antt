@@ -11,12 +11,11 @@ use Rattle.catalog_tree.proofs.tree.CatalogTree.new.Goals as goal
 pub returns-in-Ok-clause-ok : goal.returns-in-Ok-clause-ok
 returns-in-Ok-clause-ok c =
     let tree = c.in_ok-new.field-0 in
-    let added = c.in-Ok.ensures.ok in
-    (
+    let added = c.in-Ok.ensures.ok in (
       added.tree,
       added.nodes
-      ∙ ap (λ (t : NodeText). inserted (nodes_of c.new.new.space tree) (catalog_node t.key t.bytes)) c.write_greatest.ensures
-      ∙ ap (λ (nodes : List Node). inserted nodes (item_node (item.Greatest 0))) c.in_ok-new.ensures.tree.1,
+          ∙ ap (λ (t : NodeText). inserted (nodes_of c.new.new.space tree) (catalog_node t.key t.bytes)) c.write_greatest.ensures
+          ∙ ap (λ (nodes : List Node). inserted nodes (item_node (item.Greatest 0))) c.in_ok-new.ensures.tree.1,
       exchanges_then c.args.space.now c.new.new.space c.add.new.space [] (pages_of c.new.new.space tree) (pages_of c.add.new.space c.add.new.self.tree) c.in_ok-new.ensures.pages added.pages,
     )
 
