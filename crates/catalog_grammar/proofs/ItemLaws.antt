@@ -1,21 +1,19 @@
 -- The laws of nodes.
-use Rattle.std.proofs.Common.{◌≡◌, ℕ, zero, suc, ◌^◌, ◌<◌, Bool, true, false, cond, ltb, eqb, ◌&&◌, List, [], ◌∷◌, ◌++◌, length, Option, Some, None, refl, sym, ap, subst, ◌∙◌}
+use Rattle.std.proofs.Common.{◌≡◌, ℕ, ◌^◌, Bool, true, cond, ltb, eqb, ◌&&◌, List, [], ◌∷◌, ◌++◌, length, Option, Some, None, refl, sym, ap, subst, ◌∙◌}
 use Rattle.std.specs.Int.{w16, w32, to_be_bytes, to_le_bytes}
-use Rattle.std.proofs.lemmas.Bool.{and_parts, and_from, eqb-true, eq-eqb, ltb-true, lt-ltb}
+use Rattle.std.proofs.lemmas.Bool.{and_parts, and_from, eqb-true, eq-eqb}
 use Rattle.std.proofs.lemmas.List.{append-nil, nil_from_length}
-use Rattle.jet_base.specs.Ids.{index_id, table_id}
-use Rattle.column_set.specs.declared.columns.Column.{Column}
+use Rattle.jet_base.specs.Ids.{table_id}
 use Rattle.index_derive.specs.declared.rules.IndexRule.{IndexRule}
 use Rattle.log_grammar.specs.EntryBytes.{column_bytes, column_fits, index_fits}
 use Rattle.log_grammar.specs.EntryReading.{◌>>=◌, changed, number_at, column_at}
 use Rattle.log_grammar.proofs.EntryLaws.{case_of}
-use Rattle.log_grammar.proofs.Laws.{IsBytes, bind_some, passed_some, some_is, Takes, Laws, laws32}
+use Rattle.log_grammar.proofs.Laws.{IsBytes, bind_some, passed_some, some_is, Laws, laws32}
 use Rattle.log_grammar.proofs.SchemaLaws.{column_laws}
 use Rattle.catalog_grammar.specs.CatalogBytes.{Tells, catalog_key, index_data, item_data, item_fits, item_id, item_key, item_kind, item_table, table_data, table_fits}
 use Rattle.catalog_grammar.specs.CatalogReading.{item_at, item_of, key_at, rooted_index_at, table_at, whole}
 use Rattle.catalog_grammar.specs.declared.items.CatalogItem.{CatalogItem}
 use Rattle.catalog_grammar.specs.declared.items.CatalogItem.TheVariants as item
-use Rattle.catalog_grammar.specs.declared.items.TableItem.{TableItem}
 use Rattle.catalog_grammar.proofs.DataLaws.{rooted_fits, rooted_laws, table_laws}
 use Rattle.catalog_grammar.proofs.KeyLaws.{key_fits, key_laws}
 

@@ -1,14 +1,13 @@
 -- How many bytes nodes have.
-use Rattle.std.proofs.Common.{◌≡◌, ℕ, ◌+◌, ◌*◌, ◌^◌, ◌<◌, ◌≤◌, true, ltb, leb, ◌&&◌, List, [], ◌∷◌, ◌++◌, length, refl, arith}
+use Rattle.std.proofs.Common.{◌≡◌, ℕ, ◌*◌, ◌^◌, ◌≤◌, true, ltb, leb, ◌&&◌, List, [], ◌∷◌, ◌++◌, length, refl, arith}
 use Rattle.std.specs.List.{flat_map}
 use Rattle.std.proofs.lemmas.Bool.{and_parts, leb-true}
 use Rattle.std.proofs.lemmas.List.{length-append}
-use Rattle.column_set.specs.declared.columns.Column.{Column}
 use Rattle.index_derive.specs.declared.rules.Condition.{Condition}
 use Rattle.index_derive.specs.declared.rules.IndexRule.{IndexRule}
 use Rattle.index_derive.specs.declared.rules.Segment.{Segment}
 use Rattle.page_image.specs.Page.{node_size}
-use Rattle.log_grammar.specs.EntryBytes.{column_bytes, column_fits, condition_bytes, index_fits, name_bytes, name_fits, segment_bytes}
+use Rattle.log_grammar.specs.EntryBytes.{column_fits, condition_bytes, index_fits, name_bytes, name_fits, segment_bytes}
 use Rattle.log_grammar.proofs.Fits.{column_name, index_parts}
 use Rattle.catalog_grammar.specs.CatalogBytes.{greatest_fits, index_data, item_data, item_fits, item_node, table_data, table_fits}
 use Rattle.catalog_grammar.specs.declared.items.CatalogItem.{CatalogItem}

@@ -1,5 +1,5 @@
 -- The bytes of the catalog's nodes. Numbers stand highest byte first in keys, so that keys rise with them, and lowest byte first in data.
-use Rattle.std.specs.Prelude.{◌≡◌, ℕ, ◌^◌, Bool, ◌&&◌, List, [], ◌∷◌, ◌++◌, length, nat_lt, IsTrue}
+use Rattle.std.specs.Prelude.{◌≡◌, ℕ, ◌^◌, Bool, ◌&&◌, List, ◌∷◌, ◌++◌, length, nat_lt, IsTrue}
 use Rattle.std.specs.Int.{w16, w32, to_be_bytes, to_le_bytes}
 use Rattle.std.specs.List.{flat_map}
 use Rattle.index_derive.specs.declared.rules.IndexRule.{IndexRule}

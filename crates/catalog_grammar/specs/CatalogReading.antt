@@ -1,7 +1,7 @@
 -- Reading the nodes of the catalog from left to right.
-use Rattle.std.specs.Prelude.{ℕ, ◌+◌, ◌^◌, Bool, ◌&&◌, ◌==◌, cond, List, [], ◌∷◌, length, take, drop, nat_lt, Option, Some, None}
+use Rattle.std.specs.Prelude.{ℕ, ◌&&◌, ◌==◌, cond, List, length, take, drop, nat_lt, Option, Some, None}
 use Rattle.std.specs.Int.{Width, w16, w32, byte_len, from_be_bytes}
-use Rattle.jet_base.specs.Ids.{index_id, table_id}
+use Rattle.jet_base.specs.Ids.{table_id}
 use Rattle.index_derive.specs.declared.rules.Condition.{Condition}
 use Rattle.index_derive.specs.declared.rules.IndexFlags.{IndexFlags}
 use Rattle.index_derive.specs.declared.rules.IndexRule.{IndexRule}

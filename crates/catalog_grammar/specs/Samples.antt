@@ -1,12 +1,10 @@
 -- A catalog that the worked examples speak of.
-use Rattle.std.specs.Prelude.{ℕ, zero, suc, true, false, List, [], ◌∷◌, codes}
-use Rattle.jet_base.specs.Ids.{column_id, index_id, table_id}
+use Rattle.std.specs.Prelude.{zero, suc, true, false, [], ◌∷◌, codes}
+use Rattle.jet_base.specs.Ids.{column_id, index_id}
 use Rattle.jet_base.specs.declared.words.ColType.TheVariants.{Long, Text}
 use Rattle.column_set.specs.declared.columns.Column.{Column}
-use Rattle.index_derive.specs.declared.rules.Condition.{Condition}
 use Rattle.index_derive.specs.declared.rules.IndexFlags.{IndexFlags}
 use Rattle.index_derive.specs.declared.rules.IndexRule.{IndexRule}
-use Rattle.index_derive.specs.declared.rules.Segment.{Segment}
 use Rattle.database_state.specs.Table.{Table}
 use Rattle.catalog_grammar.specs.Catalogs.{TableRoots}
 

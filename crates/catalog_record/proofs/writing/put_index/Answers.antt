@@ -1,7 +1,6 @@
 -- The rooms of the parts of an index: 10 bytes for its head, three for each column and each condition, and 65 for its name.
-use Rattle.std.proofs.Common.{◌≡◌, ◌+◌, ◌*◌, length, refl, ap, arith}
-use Rattle.std.specs.Int.{w16, w32, to_le_bytes}
-use Rattle.log_grammar.specs.EntryBytes.{condition_bytes, index_flags, segment_bytes}
+use Rattle.std.proofs.Common.{◌≡◌, length, refl, ap, arith}
+use Rattle.log_grammar.specs.EntryBytes.{condition_bytes, segment_bytes}
 use Rattle.log_grammar.proofs.Fits.{index_parts}
 use Rattle.catalog_record.proofs.Rooms.{head_length, list_length}
 use Rattle.catalog_record.proofs.writing.put_index.Goals as goal
