@@ -1,15 +1,15 @@
 -- Nodes of rising items, with one of them more, less or changed.
-use Rattle.std.proofs.Common.{◌≡◌, ℕ, Bool, true, false, cond, List, [], ◌∷◌, ◌++◌, length, Option, Some, None, refl, sym, ap, subst, ◌∙◌}
+use Rattle.std.proofs.Common.{◌≡◌, ℕ, Bool, true, false, cond, List, [], ◌∷◌, ◌++◌, length, Some, None, refl, sym, ap, ◌∙◌}
 use Rattle.std.specs.Prelude.{find, map, not}
 use Rattle.std.specs.Ordering.{nat_cmp, is_eq, is_lt, ordering_reverse}
 use Rattle.std.specs.declared.cmp.Ordering.{Ordering}
-use Rattle.std.specs.declared.cmp.Ordering.TheVariants.{Less, Equal, Greater}
+use Rattle.std.specs.declared.cmp.Ordering.TheVariants.{Less}
 use Rattle.std.specs.Cmp.Lexicographic.{slice_cmp, nat_list_cmp_total}
 use Rattle.std.proofs.lemmas.Cmp.{tied_itself}
-use Rattle.page_image.specs.Page.{IsBelow, Node}
+use Rattle.page_image.specs.Page.{Node}
 use Rattle.btree_inplace.specs.Changes.{inserted, with_data_at, without_key}
 use Rattle.btree_inplace.specs.Order.{has_key}
-use Rattle.catalog_grammar.specs.CatalogBytes.{catalog_node, item_data, item_key, item_node}
+use Rattle.catalog_grammar.specs.CatalogBytes.{item_data, item_key, item_node}
 use Rattle.catalog_grammar.specs.declared.items.CatalogItem.{CatalogItem}
 use Rattle.catalog_grammar.proofs.Rising.{Below, Each, Rise}
 
