@@ -135,7 +135,7 @@ flags_from bits =
 flags_again : (flags : IndexFlags) → flags_of (index_flags flags) ≡ flags
 flags_again flags = ap flags_from (same_bits (index_bits (flags_of (index_flags flags))) (index_bits flags) refl (index_number (index_flags flags) (index_flags_small flags)))
 
-index_flags_laws : Laws (λ flags. to_le_bytes w16 (index_flags flags)) (λ flags. true) (changed flags_of (tested (λ n. ltb n 1024) (number_at w16)))
+pub index_flags_laws : Laws (λ flags. to_le_bytes w16 (index_flags flags)) (λ flags. true) (changed flags_of (tested (λ n. ltb n 1024) (number_at w16)))
 index_flags_laws = changed_laws {A = ℕ} {B = IndexFlags} (to_le_bytes w16) (λ n. ltb n (2 ^ 16) && ltb n 1024) (tested (λ n. ltb n 1024) (number_at w16)) (λ flags. to_le_bytes w16 (index_flags flags)) (λ flags. true) flags_of index_flags (tested_laws (λ n. ltb n 1024) (to_le_bytes w16) (λ n. ltb n (2 ^ 16)) (number_at w16) laws16) (record {
   back = λ flags h. flags_again flags;
   back_fits = λ flags h. let lt = index_flags_small flags in and_from (ltb (index_flags flags) (2 ^ 16)) (ltb (index_flags flags) 1024) (lt-ltb _ _ (omega (arith, lt))) (lt-ltb _ _ lt);
@@ -255,11 +255,11 @@ conditions_bytes xs = length xs ∷ flat_map condition_bytes xs
 abbrev conditions_fit : List Condition → Bool
 conditions_fit xs = ltb (length xs) 256 && list_all condition_fits xs
 
-segments_laws : Laws segments_bytes segments_fit segments_at
+pub segments_laws : Laws segments_bytes segments_fit segments_at
 unfolding segments_at
 segments_laws = list_laws segment_bytes segment_fits segment_at segment_laws
 
-conditions_laws : Laws conditions_bytes conditions_fit conditions_at
+pub conditions_laws : Laws conditions_bytes conditions_fit conditions_at
 unfolding conditions_at
 conditions_laws = list_laws condition_bytes condition_fits condition_at condition_laws
 

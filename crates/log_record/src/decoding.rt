@@ -8,7 +8,7 @@ ghost use Rattle.log_record.specs.EntrySeen.{Gives};
 
 use crate::decoding_schema::schema_of;
 use crate::fault::EntryFault;
-use crate::reading::{bookmark_of, bytes_of, copied_of, u8_at, u16_at, u32_at};
+use crate::reading::{bookmark_of, bytes_of, copied_of, read_u16, read_u32, u8_at};
 use column_set::{Bookmark, Change, Record};
 use index_derive::{Entry, EntryKind};
 use jet_base::{ColumnId, Octets, Session, TableId};
@@ -19,8 +19,8 @@ use std::alloc::Global;
 fn value_of(bytes: &[u8]) -> Result<((u16, &[u8]), &[u8]), EntryFault>
     ensures { Gives (λ x. ((x.0.0, x.0.1.now), x.1.now)) result (value_at bytes.now) }
 {
-    let (column, rest) = u16_at(bytes)?;
-    let (count, rest) = u32_at(rest)?;
+    let (column, rest) = read_u16(bytes)?;
+    let (count, rest) = read_u32(rest)?;
     let (value, rest) = bytes_of(rest, count as usize)?;
     Ok(((column, value), rest))
 }
@@ -62,7 +62,7 @@ fn values_of(alloc: Global, bytes: &[u8], count: u16) -> Result<(Record, &[u8]),
 fn record_of(alloc: Global, bytes: &[u8]) -> Result<(Record, &[u8]), EntryFault>
     ensures { Gives (λ x. (x.0, x.1.now)) result (record_at bytes.now) }
 {
-    let (count, rest) = u16_at(bytes)?;
+    let (count, rest) = read_u16(bytes)?;
     values_of(alloc, rest, count)
 }
 
@@ -71,7 +71,7 @@ fn record_of(alloc: Global, bytes: &[u8]) -> Result<(Record, &[u8]), EntryFault>
 fn table_of(alloc: Global, bytes: &[u8]) -> Result<((u32, Bookmark), &[u8]), EntryFault>
     ensures { Gives (λ x. (x.0, x.1.now)) result (table_at bytes.now) }
 {
-    let (table, rest) = u32_at(bytes)?;
+    let (table, rest) = read_u32(bytes)?;
     let (bookmark, rest) = bookmark_of(alloc, rest)?;
     Ok(((table, bookmark), rest))
 }
@@ -99,8 +99,8 @@ fn add_of(alloc: Global, bytes: &[u8]) -> Result<(Change, &[u8]), EntryFault>
     ensures { Gives (λ x. (x.0, x.1.now)) result (add_at bytes.now) }
 {
     let ((table, bookmark), rest) = table_of(alloc, bytes)?;
-    let (column, rest) = u16_at(rest)?;
-    let (amount, rest) = u32_at(rest)?;
+    let (column, rest) = read_u16(rest)?;
+    let (amount, rest) = read_u32(rest)?;
     let change = Change::Add {
         table: TableId(table),
         bookmark,
@@ -119,11 +119,11 @@ fn kind_of(alloc: Global, tag: u8, bytes: &[u8]) -> Result<(EntryKind, &[u8]), E
         1 => Ok((EntryKind::Enter, bytes)),
         2 => Ok((EntryKind::Leave, bytes)),
         3 => {
-            let (table, rest) = u32_at(bytes)?;
+            let (table, rest) = read_u32(bytes)?;
             Ok((EntryKind::Open(TableId(table)), rest))
         }
         4 => {
-            let (table, rest) = u32_at(bytes)?;
+            let (table, rest) = read_u32(bytes)?;
             Ok((EntryKind::Shut(TableId(table)), rest))
         }
         5 => Ok((EntryKind::Begin, bytes)),
@@ -164,7 +164,7 @@ pub fn entry_of(alloc: Global, bytes: &[u8]) -> Result<Entry, EntryFault>
     ensures { Gives (λ entry. entry) result (rest_at bytes.now) }
 {
     let (tag, rest) = u8_at(bytes)?;
-    let (session, rest) = u32_at(rest)?;
+    let (session, rest) = read_u32(rest)?;
     if session < 1 || session > 99 {
         return Err(EntryFault::BadEntry);
     }

@@ -6,7 +6,7 @@ ghost use Rattle.log_grammar.specs.EntryReading.{bit, column_at, condition_at, c
 ghost use Rattle.log_record.specs.EntrySeen.{Gives};
 
 use crate::fault::EntryFault;
-use crate::reading::{flagged_of, name_of, u8_at, u16_at, u32_at};
+use crate::reading::{flagged_of, read_name, read_u16, read_u32, u8_at};
 use column_set::Column;
 use index_derive::{Condition, IndexFlags, IndexRule, SchemaStep, Segment};
 use jet_base::{ColType, ColumnId, IndexId, Items, TableId};
@@ -59,7 +59,7 @@ fn bit(flags: u16, weight: u16) -> bool
 
 /// What is told of a column beside its number.
 #[tactic(auto, unfolding(log_grammar::specs::EntryReading::column_at))]
-fn column_of(alloc: Global, id: u16, bytes: &[u8]) -> Result<(Column, &[u8]), EntryFault>
+pub fn read_column(alloc: Global, id: u16, bytes: &[u8]) -> Result<(Column, &[u8]), EntryFault>
     ensures { Gives (λ x. (x.0, x.1.now)) result (column_at id bytes.now) }
 {
     let (kind, rest) = type_in(bytes)?;
@@ -67,7 +67,7 @@ fn column_of(alloc: Global, id: u16, bytes: &[u8]) -> Result<(Column, &[u8]), En
     if flags >= 16 {
         return Err(EntryFault::BadEntry);
     }
-    let (name, rest) = name_of(alloc, rest)?;
+    let (name, rest) = read_name(alloc, rest)?;
     let flags = flags as u16;
     let column = Column {
         id: ColumnId(id),
@@ -147,7 +147,7 @@ fn so_many_conditions(
 
 /// The segments of an index behind their count.
 #[tactic(auto, unfolding(log_grammar::specs::EntryReading::segments_at))]
-fn segments_of(alloc: Global, bytes: &[u8]) -> Result<(Items<Segment>, &[u8]), EntryFault>
+pub fn read_segments(alloc: Global, bytes: &[u8]) -> Result<(Items<Segment>, &[u8]), EntryFault>
     ensures { Gives (λ x. (x.0, x.1.now)) result (segments_at bytes.now) }
 {
     let (count, rest) = u8_at(bytes)?;
@@ -157,7 +157,7 @@ fn segments_of(alloc: Global, bytes: &[u8]) -> Result<(Items<Segment>, &[u8]), E
 
 /// The conditions of an index behind their count.
 #[tactic(auto, unfolding(log_grammar::specs::EntryReading::conditions_at))]
-fn conditions_of(alloc: Global, bytes: &[u8]) -> Result<(Items<Condition>, &[u8]), EntryFault>
+pub fn read_conditions(alloc: Global, bytes: &[u8]) -> Result<(Items<Condition>, &[u8]), EntryFault>
     ensures { Gives (λ x. (x.0, x.1.now)) result (conditions_at bytes.now) }
 {
     let (count, rest) = u8_at(bytes)?;
@@ -166,7 +166,7 @@ fn conditions_of(alloc: Global, bytes: &[u8]) -> Result<(Items<Condition>, &[u8]
 }
 
 /// The flags that a number has as bits.
-fn flags_of(flags: u16) -> IndexFlags
+pub fn index_flags_of(flags: u16) -> IndexFlags
     ensures { result ≡ flags_of flags }
 {
     IndexFlags {
@@ -188,16 +188,16 @@ fn flags_of(flags: u16) -> IndexFlags
 fn index_head_of(bytes: &[u8]) -> Result<((u32, IndexFlags), &[u8]), EntryFault>
     ensures { Gives (λ x. (x.0, x.1.now)) result (index_head_at bytes.now) }
 {
-    let (root, rest) = u32_at(bytes)?;
+    let (root, rest) = read_u32(bytes)?;
     if root != 0 {
         return Err(EntryFault::BadEntry);
     }
-    let (order, rest) = u32_at(rest)?;
-    let (flags, rest) = u16_at(rest)?;
+    let (order, rest) = read_u32(rest)?;
+    let (flags, rest) = read_u16(rest)?;
     if flags >= 1024 {
         return Err(EntryFault::BadEntry);
     }
-    Ok(((order, flags_of(flags)), rest))
+    Ok(((order, index_flags_of(flags)), rest))
 }
 
 /// What is told of an index beside its number.
@@ -206,9 +206,9 @@ fn index_of(alloc: Global, id: u16, bytes: &[u8]) -> Result<(IndexRule, &[u8]), 
     ensures { Gives (λ x. (x.0, x.1.now)) result (index_at id bytes.now) }
 {
     let ((order, flags), rest) = index_head_of(bytes)?;
-    let (segments, rest) = segments_of(alloc, rest)?;
-    let (conditions, rest) = conditions_of(alloc, rest)?;
-    let (name, rest) = name_of(alloc, rest)?;
+    let (segments, rest) = read_segments(alloc, rest)?;
+    let (conditions, rest) = read_conditions(alloc, rest)?;
+    let (name, rest) = read_name(alloc, rest)?;
     let index = IndexRule {
         id: IndexId(id),
         name,
@@ -234,27 +234,27 @@ fn step_of(
     let table = TableId(table);
     match number {
         1 => {
-            let (name, rest) = name_of(alloc, bytes)?;
+            let (name, rest) = read_name(alloc, bytes)?;
             Ok((SchemaStep::CreateTable { table, name }, rest))
         }
         2 => Ok((SchemaStep::DeleteTable { table }, bytes)),
         3 => {
-            let (id, rest) = u16_at(bytes)?;
-            let (column, rest) = column_of(alloc, id, rest)?;
+            let (id, rest) = read_u16(bytes)?;
+            let (column, rest) = read_column(alloc, id, rest)?;
             Ok((SchemaStep::AddColumn { table, column }, rest))
         }
         4 => {
-            let (id, rest) = u16_at(bytes)?;
+            let (id, rest) = read_u16(bytes)?;
             let column = ColumnId(id);
             Ok((SchemaStep::DeleteColumn { table, column }, rest))
         }
         5 => {
-            let (id, rest) = u16_at(bytes)?;
+            let (id, rest) = read_u16(bytes)?;
             let (index, rest) = index_of(alloc, id, rest)?;
             Ok((SchemaStep::CreateIndex { table, index }, rest))
         }
         6 => {
-            let (id, rest) = u16_at(bytes)?;
+            let (id, rest) = read_u16(bytes)?;
             let index = IndexId(id);
             Ok((SchemaStep::DeleteIndex { table, index }, rest))
         }
@@ -268,6 +268,6 @@ pub fn schema_of(alloc: Global, bytes: &[u8]) -> Result<(SchemaStep, &[u8]), Ent
     ensures { Gives (λ x. (x.0, x.1.now)) result (schema_at bytes.now) }
 {
     let (number, rest) = u8_at(bytes)?;
-    let (table, rest) = u32_at(rest)?;
+    let (table, rest) = read_u32(rest)?;
     step_of(alloc, number, table, rest)
 }

@@ -12,7 +12,7 @@ use jet_base::ColType;
 use std::alloc::AllocError;
 
 /// The number of a type in files.
-fn type_number(kind: ColType) -> u8
+pub fn type_number(kind: ColType) -> u8
     ensures { result ≡ type_number kind }
 {
     match kind {
@@ -41,7 +41,7 @@ fn with_bit(flag: bool, others: u16) -> u16
 }
 
 /// The flags of a column as bits.
-fn column_flags(column: &Column) -> u8
+pub fn column_flags(column: &Column) -> u8
     ensures { result ≡ column_flags column.now }
 {
     column.tagged as u8
@@ -59,7 +59,7 @@ fn upper_index_flags(flags: &IndexFlags) -> u16
 }
 
 /// The flags of an index as bits.
-fn index_flags(flags: &IndexFlags) -> u16
+pub fn index_flags(flags: &IndexFlags) -> u16
     ensures { result ≡ index_flags flags.now }
 {
     let upper = with_bit(flags.ignoreanynull, upper_index_flags(flags));

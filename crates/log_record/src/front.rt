@@ -9,7 +9,7 @@ ghost use Rattle.log_record.specs.EntrySeen.{Gives};
 use crate::decoding::entry_of;
 use crate::encoding::LENGTH_BYTES;
 use crate::fault::EntryFault;
-use crate::reading::{bytes_of, u32_at};
+use crate::reading::{bytes_of, read_u32};
 use index_derive::Entry;
 use std::alloc::Global;
 
@@ -18,7 +18,7 @@ use std::alloc::Global;
 fn front_of(alloc: Global, bytes: &[u8]) -> Result<(Entry, usize), EntryFault>
     ensures { Gives (λ x. x) result (front_at bytes.now) }
 {
-    let (count, rest) = u32_at(bytes)?;
+    let (count, rest) = read_u32(bytes)?;
     let (own, _) = bytes_of(rest, count as usize)?;
     let entry = entry_of(alloc, own)?;
     Ok((entry, LENGTH_BYTES + count as usize))

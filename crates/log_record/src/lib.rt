@@ -1,4 +1,7 @@
 //! The bytes of log entries, written and read.
+//!
+//! What is told of a column, of an index and of a name is spelled in the same way elsewhere: for that the calls that
+//! write and read these are public too.
 #![tactic(auto)]
 
 mod decoding;
@@ -12,8 +15,11 @@ mod put;
 mod reading;
 mod spelling;
 
+pub use decoding_schema::{KEY_MOST, index_flags_of, read_column, read_conditions, read_segments};
 pub use encoding::encode;
+pub use encoding_schema::{column_flags, index_flags, type_number};
 pub use fault::EntryFault;
 pub use front::read_front;
 pub use parsing::{Parsed, decode};
-pub use spelling::has_spelling;
+pub use reading::{read_name, read_u16, read_u32};
+pub use spelling::{column_fits, has_spelling, index_fits, name_fits};

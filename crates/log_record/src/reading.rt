@@ -21,7 +21,7 @@ pub fn u8_at(bytes: &[u8]) -> Result<(u8, &[u8]), EntryFault>
 }
 
 /// The number in the first two bytes, and the bytes behind them.
-pub fn u16_at(bytes: &[u8]) -> Result<(u16, &[u8]), EntryFault>
+pub fn read_u16(bytes: &[u8]) -> Result<(u16, &[u8]), EntryFault>
     ensures { Gives (λ x. (x.0, x.1.now)) result (number_at w16 bytes.now) }
 {
     if bytes.len() < 2 {
@@ -32,7 +32,7 @@ pub fn u16_at(bytes: &[u8]) -> Result<(u16, &[u8]), EntryFault>
 }
 
 /// The number in the first four bytes, and the bytes behind them.
-pub fn u32_at(bytes: &[u8]) -> Result<(u32, &[u8]), EntryFault>
+pub fn read_u32(bytes: &[u8]) -> Result<(u32, &[u8]), EntryFault>
     ensures { Gives (λ x. (x.0, x.1.now)) result (number_at w32 bytes.now) }
 {
     if bytes.len() < 4 {
@@ -58,7 +58,7 @@ pub fn bytes_of(bytes: &[u8], count: usize) -> Result<(&[u8], &[u8]), EntryFault
 pub fn bookmark_of(alloc: Global, bytes: &[u8]) -> Result<(Bookmark, &[u8]), EntryFault>
     ensures { Gives (λ x. (x.0, x.1.now)) result (bookmark_at bytes.now) }
 {
-    let (count, rest) = u16_at(bytes)?;
+    let (count, rest) = read_u16(bytes)?;
     if count < 1 || count > 255 {
         return Err(EntryFault::BadEntry);
     }
@@ -68,7 +68,7 @@ pub fn bookmark_of(alloc: Global, bytes: &[u8]) -> Result<(Bookmark, &[u8]), Ent
 
 /// A name behind its length.
 #[tactic(auto, unfolding(log_grammar::specs::EntryReading::name_at))]
-pub fn name_of(alloc: Global, bytes: &[u8]) -> Result<(Name, &[u8]), EntryFault>
+pub fn read_name(alloc: Global, bytes: &[u8]) -> Result<(Name, &[u8]), EntryFault>
     ensures { Gives (λ x. (x.0, x.1.now)) result (name_at bytes.now) }
 {
     let (count, rest) = u8_at(bytes)?;
@@ -97,7 +97,7 @@ pub fn flag_of(bytes: &[u8]) -> Result<(bool, &[u8]), EntryFault>
 pub fn flagged_of(bytes: &[u8]) -> Result<((u16, bool), &[u8]), EntryFault>
     ensures { Gives (λ x. (x.0, x.1.now)) result (flagged_at bytes.now) }
 {
-    let (column, rest) = u16_at(bytes)?;
+    let (column, rest) = read_u16(bytes)?;
     let (flag, rest) = flag_of(rest)?;
     Ok(((column, flag), rest))
 }

@@ -41,7 +41,7 @@ fn copied_fits(copied: &Option<Bookmark>) -> bool
 }
 
 /// Whether a name has 1 to 64 bytes.
-fn name_fits(name: &Name) -> bool
+pub fn name_fits(name: &Name) -> bool
     ensures { result ≡ name_fits name.now }
 {
     let count = name.as_bytes().len();
@@ -129,7 +129,7 @@ fn change_fits(change: &Change) -> bool
 }
 
 /// Whether a column can be written.
-fn column_fits(column: &Column) -> bool
+pub fn column_fits(column: &Column) -> bool
     ensures { result ≡ column_fits column.now }
 {
     let _number = column.id.0;
@@ -169,7 +169,7 @@ fn conditions_fit(conditions: &[Condition])
 }
 
 /// Whether an index can be written.
-fn index_fits(index: &IndexRule) -> bool
+pub fn index_fits(index: &IndexRule) -> bool
     ensures { result ≡ index_fits index.now }
 {
     let _number = index.id.0;

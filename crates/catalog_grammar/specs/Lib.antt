@@ -1,0 +1,4 @@
+pub mod CatalogBytes
+pub mod CatalogReading
+pub mod Catalogs
+pub mod Samples

@@ -1,0 +1,6 @@
+//! The nodes of the catalog, in a B-tree of a space that other trees share.
+#![tactic(auto)]
+
+mod tree;
+
+pub use tree::{CatalogTree, other_catalogs_stay};

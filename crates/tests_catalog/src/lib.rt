@@ -1,0 +1,7 @@
+//! Tests of the nodes of the catalog and of their tree.
+#![tactic(auto)]
+
+#[cfg(test)]
+mod nodes;
+#[cfg(test)]
+mod tree;
