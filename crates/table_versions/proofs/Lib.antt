@@ -28,6 +28,7 @@ pub mod RecordConflicts
 pub mod StoredConflicts
 pub mod KeyWalks
 pub mod AskedOfTheState
+pub mod PrimaryKeys
 pub mod Refilled
 pub mod LastUndone
 pub mod PutBack

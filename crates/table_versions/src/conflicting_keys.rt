@@ -92,6 +92,27 @@ impl TableVersions {
         requires short { rule.now.key_most ≤ 255 }
         ensures { result ≡ conflicts_under reader rule.now schema.now key.now (yields_key rule.now schema.now key.now (record_in self.now.store.tables table.0 bookmark.now)) table.0 bookmark.now self.now.store.held }
     {
+        // Without a change of the record nothing conflicts, and its row is not looked for.
+        match self.versions.newest_change(table, bookmark) {
+            Some(_) => self.conflict_with_changes(reader, table, schema, rule, key, bookmark),
+            None => false,
+        }
+    }
+
+    // The same of a record whose row is looked for.
+    fn conflict_with_changes(
+        &self,
+        reader: Reader,
+        table: TableId,
+        schema: &Schema,
+        rule: &IndexRule,
+        key: &Key,
+        bookmark: &[u8],
+    ) -> bool
+        requires legal { is_legal rule.now schema.now ≡ true }
+        requires short { rule.now.key_most ≤ 255 }
+        ensures { result ≡ conflicts_under reader rule.now schema.now key.now (yields_key rule.now schema.now key.now (record_in self.now.store.tables table.0 bookmark.now)) table.0 bookmark.now self.now.store.held }
+    {
         let newest = has_key(rule, schema, self.newest(table, bookmark), key);
         conflict_in(
             &self.versions,
@@ -138,7 +159,7 @@ impl TableVersions {
 }
 
 // Whether a bookmark is the one that is given.
-fn is_replaced(own: Option<&[u8]>, bookmark: &[u8]) -> bool
+pub(crate) fn is_replaced(own: Option<&[u8]>, bookmark: &[u8]) -> bool
     ensures { result ≡ is_replaced (option_copied own.entry) bookmark.now }
 {
     match own {

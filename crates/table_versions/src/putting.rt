@@ -1,6 +1,6 @@
 //! What a put brings into the trees of its table, and how it is taken back.
 
-ghost use Rattle.std.specs.Prelude.{◌≡◌, ◌≤◌, ◌<◌, ◌↔◌, ◌++◌, ◌∷◌, [], List, length, true, false, not, is_none, is_some, Some, None, option_map, IfOk, IfSome, IsErrOf, IsTrue, OnErr, OnOk};
+ghost use Rattle.std.specs.Prelude.{◌≡◌, ◌≤◌, ◌<◌, ◌↔◌, ◌++◌, ◌∷◌, [], List, length, true, false, not, is_none, is_some, Some, None, option_copied, option_map, IfOk, IfSome, IsErrOf, IsTrue, OnErr, OnOk};
 ghost use Rattle.std.specs.List.{AllByRecursion};
 ghost use Rattle.btree_inplace.specs.Order.{get_in};
 ghost use Rattle.column_set.specs.RecordValues.{record_fits};
@@ -151,6 +151,23 @@ fn make_room(
     }
 }
 
+// The row under the bookmark of a put, which has none where its node is new.
+fn row_before<'a>(
+    trees: &'a TableTrees,
+    table: TableId,
+    bookmark: &[u8],
+    is_new: bool,
+) -> Option<&'a [u8]>
+    requires { is_new ≡ true → row_under (table_nodes trees.now table.0) bookmark.now ≡ None }
+    ensures { option_copied result ≡ row_under (table_nodes trees.now table.0) bookmark.now }
+{
+    if is_new {
+        None
+    } else {
+        row_in_node(trees.get(table, bookmark))
+    }
+}
+
 // ---- a put that fails
 
 // Takes back what a put has brought into the trees when it fails: of the record's keys those that no variant of it has, and
@@ -232,7 +249,7 @@ pub(crate) fn put_in(
             return Err(VersionFault::OutOfMemory);
         }
     }
-    let before = row_in_node(trees.get(table, bookmark));
+    let before = row_before(trees, table, bookmark, is_new);
     match versions.push(by, change, before) {
         Ok(()) => {
             trees.replace(table, bookmark, row.as_slice());
