@@ -58,6 +58,7 @@ pub mod LostRows
 pub mod LostColumns
 pub mod RoomMade
 pub mod HalfPuts
+pub mod NewPuts
 pub mod PutKept
 pub mod PutAsked
 pub mod PutDone
