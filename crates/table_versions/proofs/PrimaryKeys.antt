@@ -71,3 +71,7 @@ taken_in_primary finds reader store table schema known rule found primary own ke
 
         shown : table_with_id (seen_tables reader store) table ≡ Some (seen_table reader store.held t)
         shown = seen_at_id reader store.held store.tables table ∙ ap (option_map (seen_table reader store.held)) e
+
+pub and_true : (b : Bool) → (b && true) ≡ b
+and_true true = refl
+and_true false = refl

@@ -83,14 +83,37 @@ impl TableVersions {
         ensures { result ≡ first_refusal (unique_refusals reader self.now.store table.0 schema.now rule.now (option_copied own.entry) (R.fields «record».now)) }
     {
         a_primary_index_has_one_entry();
-        let seen = self.replaced_row(reader, table, own);
         let key = primary_key(rule, schema, record);
-        if self.is_new_conflict(reader, table, schema, rule, &seen, &key) {
+        if self.is_conflict_of_new(reader, table, schema, rule, own, &key) {
             Some(Jet::WriteConflict)
         } else if self.has_other(reader, table, schema, rule, own, &key) {
             Some(Jet::KeyDuplicate)
         } else {
             None
+        }
+    }
+
+    // Whether a key conflict stands over a key of the primary index, which the record under the bookmark of `own` lacks. The
+    // conflict is looked for first, since most often there is none.
+    fn is_conflict_of_new(
+        &self,
+        reader: Reader,
+        table: TableId,
+        schema: &Schema,
+        rule: &IndexRule,
+        own: Option<&[u8]>,
+        key: &Key,
+    ) -> bool
+        requires named { IsSomeAnd (table_with_id self.now.store.tables table.0) (λ t. schema.now ≡ schema_of t) }
+        requires rule { rule_with_id schema.now rule.now.id.0 ≡ Some rule.now }
+        requires legal { is_legal rule.now schema.now ≡ true }
+        requires short { rule.now.key_most ≤ 255 }
+        ensures { result ≡ (not (yields_key rule.now schema.now key.now (replaced_seen reader self.now.store table.0 (option_copied own.entry))) && has_conflict_over reader self.now.store table.0 rule.now schema.now key.now) }
+    {
+        if self.key_conflict(reader, table, schema, rule, key) {
+            lacks_key(rule, schema, &self.replaced_row(reader, table, own), key)
+        } else {
+            false
         }
     }
 
