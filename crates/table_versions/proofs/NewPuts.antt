@@ -1,5 +1,5 @@
 -- A put whose row stands in a new node.
-use Rattle.std.proofs.Common.{◌≡◌, ℕ, ◌≤◌, Bool, true, false, ◌&&◌, ◌||◌, cond, List, [], Option, Some, None, find, length, map, option_map, refl, sym, ap, subst, ◌∙◌}
+use Rattle.std.proofs.Common.{◌≡◌, ℕ, Bool, true, false, ◌&&◌, ◌||◌, cond, List, [], Option, Some, None, find, length, map, option_map, refl, sym, ap, subst, ◌∙◌}
 use Rattle.std.specs.Prelude.{◌==◌, bytes_eq, is_none, is_some}
 use Rattle.btree_inplace.specs.Changes.{inserted, with_data_at}
 use Rattle.btree_inplace.specs.Order.{extent_in, get_in, has_key}
@@ -9,7 +9,6 @@ use Rattle.record_changes.proofs.Tests.{equal_bytes, impossible, same_bytes, sam
 use Rattle.table_trees.specs.StoredNodes.{put_data}
 use Rattle.table_trees.specs.StoredTables.{StoredIndex, StoredTable, has_table, index_entries, is_index, part_of, table_nodes, with_nodes}
 use Rattle.table_versions.specs.PutRecords.{HasKeys, HasNewRow, IsHalfPut, IsNewPut, IsPut, IsWidened, Keys, MayHaveKeys, is_place, node_at_least}
-use Rattle.table_versions.specs.RecordRows.{row_under}
 use Rattle.table_versions.proofs.KeysPut.{may_have}
 use Rattle.table_versions.proofs.RoomMade.{NodeLaws, data_of, extent_of, found_then, no_less, same_table_numbers}
 

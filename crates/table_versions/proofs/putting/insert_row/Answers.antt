@@ -1,7 +1,5 @@
-use Rattle.std.proofs.Common.{List, length, sym, subst, ap, ◌∙◌}
-use Rattle.page_image.specs.Page.{Node}
-use Rattle.btree_inplace.specs.Changes.{inserted}
-use Rattle.table_trees.specs.StoredTables.{StoredTable, table_nodes, with_nodes}
+use Rattle.std.proofs.Common.{List, sym, subst}
+use Rattle.table_trees.specs.StoredTables.{StoredTable}
 use Rattle.table_versions.specs.PutRecords.{HasNewRow}
 use Rattle.table_versions.proofs.NewPuts.{row_in_new}
 use Rattle.table_versions.proofs.putting.insert_row.Goals as goal

@@ -1,4 +1,4 @@
-use Rattle.std.proofs.Common.{ℕ, List, find, length, option_map}
+use Rattle.std.proofs.Common.{List, find, length, option_map}
 use Rattle.table_trees.specs.StoredTables.{StoredTable, table_nodes}
 use Rattle.table_versions.specs.GoneKeys.{held_from}
 use Rattle.table_versions.specs.PutRecords.{HasVariantKeys, IsPut, record_keys}

@@ -1,9 +1,9 @@
-use Rattle.std.proofs.Common.{List, Option, ℕ, [], refl, sym, ap, subst, ◌∙◌}
+use Rattle.std.proofs.Common.{List, Option, ℕ, sym, ap, subst, ◌∙◌}
 use Rattle.std.specs.Prelude.{IfSome, is_none, is_some, option_and_then, option_map}
 use Rattle.btree_inplace.specs.Order.{get_in}
 use Rattle.table_trees.specs.StoredTables.{StoredTable, table_nodes}
 use Rattle.table_versions.specs.GoneKeys.{held_from, table_numbers}
-use Rattle.table_versions.specs.PutRecords.{HasVariantKeys, IsHalfPut, IsSame, record_keys}
+use Rattle.table_versions.specs.PutRecords.{HasVariantKeys, IsHalfPut, record_keys}
 use Rattle.table_versions.specs.RecordRows.{IsRecordRow, record_of, row_in_node, row_under}
 use Rattle.table_versions.proofs.HalfPuts.{table_stays}
 use Rattle.table_versions.proofs.RoomMade.{same_table_numbers}
