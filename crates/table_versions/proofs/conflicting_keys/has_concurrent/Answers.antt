@@ -1,4 +1,4 @@
-use Rattle.std.proofs.Common.{ℕ, ◌<◌, Option, Some, length, sym, ap, subst, ◌∙◌}
+use Rattle.std.proofs.Common.{ℕ, ◌<◌, Option, Some, length, ap, subst, ◌∙◌}
 use Rattle.std.specs.Prelude.{IfSome}
 use Rattle.table_versions.proofs.RecordConflicts.{falls, older_within, walk_begins, walk_ends, walk_passes}
 use Rattle.table_versions.proofs.conflicting_keys.has_concurrent.Goals as goal
