@@ -1,5 +1,5 @@
 -- The columns of records that are seen rise, and each has a value.
-use Rattle.std.proofs.Common.{◌≡◌, ℕ, suc, ◌&&◌, Bool, true, List, [], ◌∷◌, length, map, Option, Some, None, option_map, refl, sym, ap, subst, ◌∙◌, arith}
+use Rattle.std.proofs.Common.{◌≡◌, ℕ, suc, ◌&&◌, true, List, [], ◌∷◌, length, map, Option, Some, None, option_map, refl, sym, ap, subst, ◌∙◌, arith}
 use Rattle.std.specs.Prelude.{◌^◌, IfSome, IsTrue, ltb, nat_lt}
 use Rattle.std.specs.List.{list_all}
 use Rattle.std.specs.Ordering.{nat_cmp, is_lt}
@@ -19,7 +19,7 @@ use Rattle.table_trees.specs.StoredTables.{StoredTable, table_nodes}
 use Rattle.version_store.specs.declared.calls.Reader.{Reader}
 use Rattle.version_store.specs.HeldChanges.{HeldChange, SeenRow, current, row_before, absent, seen_row}
 use Rattle.versioned_tables.specs.HeldRecords.{seen_record}
-use Rattle.table_versions.specs.RecordRows.{IsRecordRow, held_record, record_of, row_under}
+use Rattle.table_versions.specs.RecordRows.{IsRecordRow, record_of, row_under}
 use Rattle.table_versions.specs.StoredVersions.{StoredVersions}
 use Rattle.table_versions.specs.VersionsKept.{AreKept}
 use Rattle.table_versions.specs.VersionsView.{stored_versions, with_newest}

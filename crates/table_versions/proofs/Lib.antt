@@ -28,6 +28,7 @@ pub mod RecordConflicts
 pub mod StoredConflicts
 pub mod KeyWalks
 pub mod AskedOfTheState
+pub mod PrimaryKeys
 pub mod Refilled
 pub mod LastUndone
 pub mod PutBack
@@ -57,6 +58,7 @@ pub mod LostRows
 pub mod LostColumns
 pub mod RoomMade
 pub mod HalfPuts
+pub mod NewPuts
 pub mod PutKept
 pub mod PutAsked
 pub mod PutDone

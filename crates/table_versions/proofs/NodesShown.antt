@@ -1,7 +1,7 @@
 -- Nodes that are gone over where they lie, up to the first whose record a reader sees.
-use Rattle.std.proofs.Common.{◌≡◌, ◌≤◌, ◌<◌, ℕ, Bool, Bor, true, false, cond, List, Option, Some, None, filter, find, length, map, option_map, refl, sym, ap, ◌∙◌}
+use Rattle.std.proofs.Common.{◌≡◌, ◌≤◌, ◌<◌, ℕ, Bool, Bor, true, false, cond, List, Option, Some, None, filter, length, option_map, refl, sym, ap, ◌∙◌}
 use Rattle.std.specs.Prelude.{IfSome, is_some, option_and_then, option_copied}
-use Rattle.btree_inplace.specs.Order.{get_in, has_key}
+use Rattle.btree_inplace.specs.Order.{get_in}
 use Rattle.column_set.specs.RecordValues.{RecordFields}
 use Rattle.cursor_nav.specs.Places.{Pair, are_sorted, entry_after}
 use Rattle.database_state.specs.Table.{record_in}

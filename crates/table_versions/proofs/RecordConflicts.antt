@@ -235,3 +235,22 @@ falls found next place is below = subst (λ (o : Option ℕ). up_to next < up_to
 
 pub walk_ends : (a : Asked) (held : List HeldChange) (found : Option ℕ) (after : Bool) → Walks a held found after → found ≡ None → conflicts_in a held ≡ false
 walk_ends a held found after walk is = ap (λ (o : Option ℕ). conflicts_in a (drop (up_to o) held)) (sym is) ∙ walk.none
+
+-- a change that is not concurrent is passed over, whatever the rows before it and after it have
+pub walk_passes : (a : Asked) (held : List HeldChange) (found : Option ℕ) (place : ℕ) → found ≡ Some place → ((after : Bool) × Walks a held found after) → slice_get (map (is_concurrent a.reader) held) place ≡ Some false
+    → (next : Option ℕ) → ((h : HeldChange) → slice_get held place ≡ Some h → next ≡ last_place (is_record h.table h.bookmark) (take place held)) → IfSome next (λ older. older < place) → (before : Bool) × Walks a held next before
+walk_passes a held found place is (after, walk) apart next next_is below = at_place held place stands.within passes
+  where
+    stands : Walks a held (Some place) after
+    stands = subst (λ (o : Option ℕ). Walks a held o after) is walk
+
+    passes : (h : HeldChange) → slice_get held place ≡ Some h → (before : Bool) × Walks a held next before
+    passes h at = (
+      yields_before_change a.rule a.schema a.key after h,
+      walk_goes_on a held place (yields_before_change a.rule a.schema a.key after h) after false stands
+          (λ other there. ap (yields_before_change a.rule a.schema a.key after) (ap (λ (o : Option HeldChange). unwrap_or o h) (sym at ∙ there))) apart refl next next_is below,
+    )
+
+pub older_within : (next : Option ℕ) (place count : ℕ) → IfSome next (λ older. older < place) → place < count → IfSome next (λ older. older < count)
+older_within None place count below within = tt
+older_within (Some older) place count below within = omega (arith, below, within)

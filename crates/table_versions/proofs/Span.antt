@@ -2,19 +2,21 @@
 use Rattle.std.proofs.Common.{◌≡◌, ℕ, ◌+◌, ◌*◌, ◌/◌, ◌≤◌, Bool, true, false, ◌&&◌, not, cond, List, [], ◌∷◌, length, Option, Some, None, map, option_map, refl, sym, ap, ◌∙◌, arith}
 use Rattle.std.specs.Prelude.{IfSome, IsTrue, nat_le, nat_lt, sum_by, unwrap_or}
 use Rattle.std.specs.List.{list_all}
+use Rattle.std.proofs.lemmas.Bool.Decides.{nat_tests}
 use Rattle.std.proofs.lemmas.List.Sums.{sum_by-cons}
 use Rattle.column_set.specs.declared.rows.RowValue.TheVariants.{Here}
 use Rattle.column_set.specs.declared.changes.Change.{Change}
 use Rattle.column_set.specs.declared.changes.Change.TheVariants.{Put, Drop, Hold, Add}
 use Rattle.column_set.specs.RecordValues.{RecordFields, record_size}
-use Rattle.column_set.specs.Rows.{RowFields, all_here, are_short, field_fits_row, is_all_here, is_row, is_well_formed, row_bytes, row_size, value_fits_row}
+use Rattle.column_set.specs.Rows.{RowFields, all_here, are_short, field_fits_row, is_all_here, is_row, is_well_formed, largest_row, row_bytes, row_size, value_fits_row}
 use Rattle.column_set.specs.RowReading.{row_in}
 use Rattle.database_state.specs.Table.{record_in}
 use Rattle.database_state.specs.Changes.{changed_bookmark, changed_table}
 use Rattle.database_state.specs.VersionStore.{cost_of as cost_of_change}
 use Rattle.record_changes.proofs.Tests.{and_both, and_left, and_right}
 use Rattle.version_store.specs.declared.calls.By.{By}
-use Rattle.version_store.specs.HeldChanges.{HeldChange, cost, cost_of, from_oldest_kept, has_room as has_room_for_row, is_kept, kind_of, span}
+use Rattle.version_store.specs.declared.calls.ChangeKind.{ChangeKind}
+use Rattle.version_store.specs.HeldChanges.{HeldChange, cost, cost_of, from_oldest_kept, has_room as has_room_for_row, is_kept, is_rewrite, kind_of, rounded_size, span}
 use Rattle.versioned_tables.specs.HeldRecords.{HeldRecord, from_oldest_kept as from_oldest_record, span as span_of_records}
 use Rattle.versioned_tables.specs.VersionedTables.{VersionedTables}
 use Rattle.table_versions.specs.RecordRows.{IsRecordRow, held_record, record_of}
@@ -85,3 +87,22 @@ same_room sizes by made row is held store same before =
 pub small_row : (row : Option (List ℕ)) → IfSome row IsRecordRow → length (unwrap_or row []) ≤ 4096
 small_row None is = omega arith
 small_row (Some row) is = omega (arith, is.small)
+
+-- ---- the longest row
+
+cost_at_most : (what : ChangeKind) (row : Option (List ℕ)) → IfSome row IsRecordRow → (longest : List ℕ) → length longest ≡ largest_row → cost what row ≤ cost what (Some longest)
+cost_at_most what row is longest long = by (is_rewrite what) row is
+  where
+    by : (b : Bool) (row : Option (List ℕ)) → IfSome row IsRecordRow → cond b (64 + rounded_size row) 64 ≤ cond b (64 + rounded_size (Some longest)) 64
+    by true None is = omega arith
+    by true (Some row) is = omega (arith, is.small, long)
+    by false row is = omega arith
+
+within_limit : (limit span cost most : ℕ) → cost ≤ most → not (nat_lt limit (span + most)) ≡ true → not (nat_lt limit (span + cost)) ≡ true
+within_limit limit span cost most less fits = grind (arith, nat_tests)
+
+-- where there is room for the longest row there is room for any
+pub longest_fits : (by : By) (made : Change) (row : Option (List ℕ)) → IfSome row IsRecordRow → (longest : List ℕ) → length longest ≡ largest_row → (held : List HeldChange)
+    → has_room_for_row by made (Some longest) held ≡ true → has_room_for_row by made row held ≡ true
+longest_fits by made row is longest long held fits =
+    within_limit by.limit (span by.oldest held) (cost (kind_of made) row) (cost (kind_of made) (Some longest)) (cost_at_most (kind_of made) row is longest long) fits

@@ -89,6 +89,13 @@ pub record HasRoom (table : ℕ) (bookmark : List ℕ) (size : ℕ) (old new : L
   pub extents : AreWidened old new
   pub room : IsSomeAnd (extent_in (table_nodes new table) bookmark) (λ extent. size ≤ extent)
 
+-- There is a new node under the bookmark, with a row. All else stays.
+pub record HasNewRow (table : ℕ) (bookmark row : List ℕ) (old new : List StoredTable) : Type 0 where
+  pub numbers : table_numbers new ≡ table_numbers old
+  pub indexes : (other : ℕ) → table_indexes new other ≡ table_indexes old other
+  pub rows : (other : ℕ) (own : List ℕ) → get_in (table_nodes new other) own ≡ (if is_place table bookmark other own then Some row else get_in (table_nodes old other) own)
+  pub extents : AreWidened old new
+
 -- ---- a put that is not done, one that is taken back, and one that is done
 
 -- There may be a node without a byte, and some of the keys.
@@ -96,6 +103,16 @@ pub record IsHalfPut (table : ℕ) (bookmark : List ℕ) (keys : Keys) (old new 
   pub numbers : table_numbers new ≡ table_numbers old
   pub indexes : (other : ℕ) → index_numbers new other ≡ index_numbers old other
   pub rows : (other : ℕ) (own : List ℕ) → get_in (table_nodes new other) own ≡ node_at_least (is_place table bookmark other own) (get_in (table_nodes old other) own)
+  pub extents : AreWidened old new
+  pub others : (other index : ℕ) → other ≢ table → index_entries new other index ≡ index_entries old other index
+  pub stay : (index : ℕ) (key own : List ℕ) → has_entry key own (index_entries old table index) ≡ true → has_entry key own (index_entries new table index) ≡ true
+  pub only : (index : ℕ) (key own : List ℕ) → has_entry key own (index_entries new table index) ≡ true → (has_entry key own (index_entries old table index) || (bytes_eq own bookmark && keys index key)) ≡ true
+
+-- There is a new node with the row, and there may be some of the keys.
+pub record IsNewPut (table : ℕ) (bookmark row : List ℕ) (keys : Keys) (old new : List StoredTable) : Type 0 where
+  pub numbers : table_numbers new ≡ table_numbers old
+  pub indexes : (other : ℕ) → index_numbers new other ≡ index_numbers old other
+  pub rows : (other : ℕ) (own : List ℕ) → get_in (table_nodes new other) own ≡ (if is_place table bookmark other own then Some row else get_in (table_nodes old other) own)
   pub extents : AreWidened old new
   pub others : (other index : ℕ) → other ≢ table → index_entries new other index ≡ index_entries old other index
   pub stay : (index : ℕ) (key own : List ℕ) → has_entry key own (index_entries old table index) ≡ true → has_entry key own (index_entries new table index) ≡ true

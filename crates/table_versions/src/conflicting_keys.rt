@@ -1,10 +1,12 @@
 //! Keys of records: conflicts over them with the changes of other sessions, and keys that another record of the view has.
 
-ghost use Rattle.std.specs.Prelude.{◌≡◌, ◌≤◌, ◌<◌, ◌&&◌, ◌||◌, false, length, map, slice_get, true, IsSomeAnd, Some, option_copied, option_map};
+ghost use Rattle.std.specs.Prelude.{◌≡◌, ℕ, Bool, List, ◌≤◌, ◌<◌, ◌&&◌, ◌||◌, false, length, map, slice_get, true, IsSomeAnd, Some, option_copied, option_map};
 ghost use Rattle.column_set.specs.Rows.{here_fields};
 ghost use Rattle.database_state.specs.Conflicts.{yields_key};
 ghost use Rattle.database_state.specs.Puts.{is_replaced};
 ghost use Rattle.database_state.specs.Table.{record_in, rule_with_id, schema_of, table_with_id};
+ghost use Rattle.index_derive.specs.declared.rules.IndexRule.{IndexRule};
+ghost use Rattle.index_derive.specs.declared.rules.Schema.{Schema};
 ghost use Rattle.index_derive.specs.Entries.{is_legal};
 ghost use Rattle.version_store.specs.HeldChanges.{HeldChange};
 ghost use Rattle.versioned_tables.specs.HeldRecords.{has_key_conflict};
@@ -92,6 +94,28 @@ impl TableVersions {
         requires short { rule.now.key_most ≤ 255 }
         ensures { result ≡ conflicts_under reader rule.now schema.now key.now (yields_key rule.now schema.now key.now (record_in self.now.store.tables table.0 bookmark.now)) table.0 bookmark.now self.now.store.held }
     {
+        // Most often no change of the record is concurrent, and its rows are not looked at.
+        if has_concurrent(&self.versions, reader, table, bookmark) {
+            self.conflict_with_changes(reader, table, schema, rule, key, bookmark)
+        } else {
+            false
+        }
+    }
+
+    // The same by the rows of the record.
+    fn conflict_with_changes(
+        &self,
+        reader: Reader,
+        table: TableId,
+        schema: &Schema,
+        rule: &IndexRule,
+        key: &Key,
+        bookmark: &[u8],
+    ) -> bool
+        requires legal { is_legal rule.now schema.now ≡ true }
+        requires short { rule.now.key_most ≤ 255 }
+        ensures { result ≡ conflicts_under reader rule.now schema.now key.now (yields_key rule.now schema.now key.now (record_in self.now.store.tables table.0 bookmark.now)) table.0 bookmark.now self.now.store.held }
+    {
         let newest = has_key(rule, schema, self.newest(table, bookmark), key);
         conflict_in(
             &self.versions,
@@ -138,13 +162,27 @@ impl TableVersions {
 }
 
 // Whether a bookmark is the one that is given.
-fn is_replaced(own: Option<&[u8]>, bookmark: &[u8]) -> bool
+pub(crate) fn is_replaced(own: Option<&[u8]>, bookmark: &[u8]) -> bool
     ensures { result ≡ is_replaced (option_copied own.entry) bookmark.now }
 {
     match own {
         Some(own) => own == bookmark,
         None => false,
     }
+}
+
+// Whether some change of a record is concurrent; none stands against any key where none is.
+fn has_concurrent(versions: &Versions, reader: Reader, table: TableId, bookmark: &[u8]) -> bool
+    ensures { result ≡ false → (rule : IndexRule) (schema : Schema) (key : List ℕ) (newest : Bool) → conflicts_under reader rule schema key newest table.0 bookmark.now (map held_record versions.now) ≡ false }
+{
+    let mut found = versions.newest_change(table, bookmark);
+    while let Some(place) = found {
+        if versions.is_concurrent_at(place, reader) {
+            return true;
+        }
+        found = versions.older_change(place);
+    }
+    false
 }
 
 // Whether there is a row, and it has the key in the index.

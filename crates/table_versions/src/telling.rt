@@ -1,6 +1,7 @@
 //! What the held changes tell of conflicts and of the version store's span.
 
 ghost use Rattle.std.specs.Prelude.{◌≡◌, length};
+ghost use Rattle.column_set.specs.Rows.{largest_row};
 ghost use Rattle.database_state.specs.Changes.{changed_bookmark, changed_table};
 ghost use Rattle.versioned_tables.specs.HeldRecords.{has_conflict};
 ghost use Rattle.table_versions.specs.StoredVersions.{has_room, next_to_forget};
@@ -9,6 +10,9 @@ use crate::store::TableVersions;
 use column_set::{Change, size_of_a_row, values_here_are_the_record};
 use jet_base::TableId;
 use version_store::{By, Reader};
+
+// As many bytes as a row has at most.
+static LONGEST_ROW: [u8; 1_700] = [0; 1_700];
 
 impl TableVersions {
     /// How many changes are held.
@@ -33,6 +37,21 @@ impl TableVersions {
     {
         size_of_a_row();
         values_here_are_the_record();
+        self.trees.nodes_are_in_order();
+        // Where the longest row fits every row does, and none is looked for.
+        if self.versions.fits(by, change, Some(longest_row())) {
+            true
+        } else {
+            self.fits_with_its_row(by, change)
+        }
+    }
+
+    // The same by the row of the newest record.
+    fn fits_with_its_row(&self, by: By, change: &Change) -> bool
+        ensures { result ≡ has_room by change.now self.now.store }
+    {
+        size_of_a_row();
+        values_here_are_the_record();
         let before = self.newest_row(table_of(change), bookmark_of(change));
         self.versions.fits(by, change, before)
     }
@@ -50,6 +69,13 @@ impl TableVersions {
             Some(self.versions.number_at(0))
         }
     }
+}
+
+// A row as long as one can be.
+fn longest_row() -> &'static [u8]
+    ensures { length result.now ≡ largest_row }
+{
+    &LONGEST_ROW
 }
 
 // The table of the record that the change touches.

@@ -20,10 +20,11 @@ ghost use Rattle.versioned_tables.specs.Holding.{Holds, begin_of};
 ghost use Rattle.versioned_tables.specs.VersionedTables.{VersionedTables};
 ghost use Rattle.table_versions.specs.KeyConflicts.{has_conflict_over, is_taken_for, replaced_seen, unique_refusals};
 
+use crate::conflicting_keys::is_replaced;
 use crate::store::TableVersions;
 use column_set::{RowRef, Values};
 use index_derive::derive::{next_entry, yields};
-use index_derive::{IndexRule, Schema, entries_rise};
+use index_derive::{IndexRule, Schema, a_primary_index_has_one_entry, entries_rise, primary_key};
 use jet_base::{Jet, TableId};
 use key_normal::Key;
 use version_store::Reader;
@@ -52,12 +53,91 @@ impl TableVersions {
         ensures { result ≡ first_refusal (unique_refusals reader self.now.store table.0 schema.now rule.now (option_copied own.entry) (R.fields «record».now)) }
     {
         self.rules_are_legal();
-        if self.has_conflict_over_new(reader, table, schema, rule, own, record) {
+        if rule.flags.primary {
+            self.primary_refusal(reader, table, schema, rule, own, record)
+        } else if self.has_conflict_over_new(reader, table, schema, rule, own, record) {
             Some(Jet::WriteConflict)
         } else if self.has_taken_key(reader, table, schema, rule, own, record) {
             Some(Jet::KeyDuplicate)
         } else {
             None
+        }
+    }
+
+    // The same for the primary index, where the record has one key, which is made once.
+    fn primary_refusal<R: Values>(
+        &self,
+        reader: Reader,
+        table: TableId,
+        schema: &Schema,
+        rule: &IndexRule,
+        own: Option<&[u8]>,
+        record: &R,
+    ) -> Option<Jet>
+        requires named { IsSomeAnd (table_with_id self.now.store.tables table.0) (λ t. schema.now ≡ schema_of t) }
+        requires rule { rule_with_id schema.now rule.now.id.0 ≡ Some rule.now }
+        requires legal { is_legal rule.now schema.now ≡ true }
+        requires short { rule.now.key_most ≤ 255 }
+        requires primary { rule.now.flags.primary ≡ true }
+        requires taken { IsOk (entries rule.now schema.now (R.fields «record».now)) }
+        ensures { result ≡ first_refusal (unique_refusals reader self.now.store table.0 schema.now rule.now (option_copied own.entry) (R.fields «record».now)) }
+    {
+        a_primary_index_has_one_entry();
+        let key = primary_key(rule, schema, record);
+        if self.is_conflict_of_new(reader, table, schema, rule, own, &key) {
+            Some(Jet::WriteConflict)
+        } else if self.has_other(reader, table, schema, rule, own, &key) {
+            Some(Jet::KeyDuplicate)
+        } else {
+            None
+        }
+    }
+
+    // Whether a key conflict stands over a key of the primary index, which the record under the bookmark of `own` lacks. The
+    // conflict is looked for first, since most often there is none.
+    fn is_conflict_of_new(
+        &self,
+        reader: Reader,
+        table: TableId,
+        schema: &Schema,
+        rule: &IndexRule,
+        own: Option<&[u8]>,
+        key: &Key,
+    ) -> bool
+        requires named { IsSomeAnd (table_with_id self.now.store.tables table.0) (λ t. schema.now ≡ schema_of t) }
+        requires rule { rule_with_id schema.now rule.now.id.0 ≡ Some rule.now }
+        requires legal { is_legal rule.now schema.now ≡ true }
+        requires short { rule.now.key_most ≤ 255 }
+        ensures { result ≡ (not (yields_key rule.now schema.now key.now (replaced_seen reader self.now.store table.0 (option_copied own.entry))) && has_conflict_over reader self.now.store table.0 rule.now schema.now key.now) }
+    {
+        if self.key_conflict(reader, table, schema, rule, key) {
+            lacks_key(rule, schema, &self.replaced_row(reader, table, own), key)
+        } else {
+            false
+        }
+    }
+
+    // Whether the reader sees a record under a key of the primary index, which is its bookmark, other than the one under the
+    // bookmark of `own`.
+    fn has_other(
+        &self,
+        reader: Reader,
+        table: TableId,
+        schema: &Schema,
+        rule: &IndexRule,
+        own: Option<&[u8]>,
+        key: &Key,
+    ) -> bool
+        requires named { IsSomeAnd (table_with_id self.now.store.tables table.0) (λ t. schema.now ≡ schema_of t) }
+        requires rule { rule_with_id schema.now rule.now.id.0 ≡ Some rule.now }
+        requires primary { rule.now.flags.primary ≡ true }
+        ensures { result ≡ is_taken_for reader self.now.store table.0 rule.now.id.0 (option_copied own.entry) key.now }
+    {
+        a_reader_finds_the_records_that_it_is_shown();
+        let bookmark = key.as_bytes();
+        match self.look_up(table, bookmark, reader) {
+            Some(_) => !is_replaced(own, bookmark),
+            None => false,
         }
     }
 

@@ -1,9 +1,12 @@
 //! The neighbours of a place in an index as a reader sees it.
 
-ghost use Rattle.std.specs.Prelude.{◌≡◌, ◌≤◌, length, IfSome, IsSomeAnd, option_copied, true};
+ghost use Rattle.std.specs.Prelude.{◌≡◌, ◌≤◌, length, IfSome, IsSomeAnd, option_copied, option_map, true};
 ghost use Rattle.cursor_nav.specs.Places.{entry_after, entry_before, found_pair};
 ghost use Rattle.database_state.specs.Table.{record_in, rows_of, rule_with_id, schema_of, table_with_id};
 ghost use Rattle.index_derive.specs.Entries.{is_legal, own_order};
+ghost use Rattle.index_derive.specs.declared.entries.Place.TheVariants.{On};
+ghost use Rattle.table_trees.specs.StoredNodes.{node_after};
+ghost use Rattle.table_trees.specs.StoredTables.{table_nodes};
 ghost use Rattle.version_store.specs.HeldChanges.{seen_row};
 ghost use Rattle.versioned_tables.specs.HeldRecords.{seen_record};
 ghost use Rattle.versioned_tables.specs.VersionedTables.{seen_tables};
@@ -45,10 +48,31 @@ impl TableVersions {
         entries_in_order_are_told_by_those_that_are_there();
         self.trees.nodes_are_in_order();
         self.trees.entries_are_in_order();
-        let rule = secondary_rule(schema, index);
-        if rule.is_none() {
-            return self.walk_records(table, place, reader);
+        if secondary_rule(schema, index).is_none() {
+            self.walk_records(table, place, reader)
+        } else {
+            self.walk_entries(table, schema, index, place, reader)
         }
+    }
+
+    // The same over the stored entries: in a function of its own, since one clears all its places where it begins.
+    fn walk_entries(
+        &self,
+        table: TableId,
+        schema: &Schema,
+        index: IndexId,
+        place: &Place,
+        reader: Reader,
+    ) -> Option<IndexEntry>
+        requires { IsSomeAnd (table_with_id self.now.store.tables table.0) (λ t. schema.now ≡ schema_of t) }
+        ensures { found_pair result ≡ entry_after place.now (seen_entries reader self.now.store table.0 index.0) }
+    {
+        a_reader_is_shown_the_records_that_it_sees();
+        a_reader_walks_the_index_of_what_it_sees();
+        entries_in_order_are_told_by_those_that_are_there();
+        self.trees.nodes_are_in_order();
+        self.trees.entries_are_in_order();
+        let rule = secondary_rule(schema, index);
         let mut found = stored_after(&self.trees, table, rule, place);
         while let Some(entry) = found {
             if self.shows(table, schema, rule, &entry, reader) {
@@ -105,8 +129,7 @@ impl TableVersions {
             if is_shown_in_place(&self.versions, table, bookmark, row, reader) {
                 return Some(own_entry(bookmark));
             }
-            let last = Place::On(Key::from_slice(bookmark), Key::from_slice(bookmark));
-            found = self.trees.node_after(table, &last);
+            found = node_behind(&self.trees, table, bookmark);
         }
         None
     }
@@ -131,6 +154,20 @@ impl TableVersions {
             None => false,
         }
     }
+}
+
+// The node behind the one with a bookmark.
+fn node_behind<'a>(
+    trees: &'a TableTrees,
+    table: TableId,
+    bookmark: &[u8],
+) -> Option<(&'a [u8], &'a [u8])>
+    requires { length bookmark.now ≤ 255 }
+    ensures node { option_map (λ found. (found.0.now, found.1.now)) result ≡ node_after (On bookmark.now bookmark.now) (table_nodes trees.now table.0) }
+    ensures short { IfSome result (λ found. length found.0.now ≤ 255) }
+{
+    let last = Place::On(Key::from_slice(bookmark), Key::from_slice(bookmark));
+    trees.node_after(table, &last)
 }
 
 // Whether the reader sees a record under the bookmark of a node with these bytes: without a look for the node.

@@ -1,20 +1,25 @@
-use Rattle.std.proofs.Common.{ap, ◌∙◌}
-use Rattle.std.specs.Prelude.{option_copied}
-use Rattle.database_state.specs.Changes.{changed_table}
+use Rattle.std.proofs.Common.{List, ℕ, Option, sym, ap, ◌∙◌, arith}
+use Rattle.database_state.specs.Changes.{changed_bookmark, changed_table}
 use Rattle.database_state.specs.Table.{record_in}
+use Rattle.table_trees.specs.StoredTables.{table_nodes}
+use Rattle.table_versions.specs.RecordRows.{row_under}
 use Rattle.table_versions.specs.StoredVersions.{StoredVersions}
-use Rattle.table_versions.proofs.Span.{RowSizes, same_room, small_row}
+use Rattle.table_versions.proofs.Span.{RowSizes, longest_fits, same_room}
+use Rattle.table_versions.proofs.Tables.{newest_at, newest_is_row}
 use Rattle.table_versions.proofs.store.TableVersions.fits.Goals as goal
 
 pub fits-requires : goal.fits-requires
-fits-requires c = small_row (option_copied c.newest_row-before.result) c.newest_row-before.ensures.row
+fits-requires c = omega (arith, c.longest_row.ensures)
 
-pub returns : goal.returns
-returns c =
+pub returns-then-fits : goal.returns-then-fits
+returns-then-fits c =
     let sizes : RowSizes = record { bytes = c.size_of_a_row.ensures.bytes; size = c.values_here_are_the_record.ensures.size } in
-    c.fits.ensures
-    ∙ same_room sizes c.args.by c.args.change.now (option_copied c.newest_row-before.result) c.newest_row-before.ensures.row c.self.inside.versions c.args.self.now.store
+    let table : ℕ = changed_table c.args.change.now in
+    let bookmark : List ℕ = changed_bookmark c.args.change.now in
+    let row : Option (List ℕ) = row_under (table_nodes c.self.inside.trees table) bookmark in
+    let is = newest_is_row c.self.inside.catalog.tables c.self.inside.trees c.self.inside.versions c.self.invariant table bookmark in
+    sym (longest_fits c.args.by c.args.change.now row is c.longest_row.result.now c.longest_row.ensures c.self.inside.versions (sym c.fits.ensures ∙ c.if-fits.true))
+    ∙ same_room sizes c.args.by c.args.change.now row is c.self.inside.versions c.args.self.now.store
     (ap (λ (v : StoredVersions). v.store.held) c.self.view_is)
-    (c.newest_row-before.ensures.values
-    ∙ ap (λ n. record_in c.args.self.now.store.tables n c.bookmark_of.result.now) c.table_of.ensures
-    ∙ ap (record_in c.args.self.now.store.tables (changed_table c.args.change.now)) c.bookmark_of.ensures)
+    (sym (newest_at c.self.inside.trees c.self.inside.catalog.tables c.self.invariant.numbers c.nodes_are_in_order.ensures.sorted table bookmark)
+    ∙ ap (λ (v : StoredVersions). record_in v.store.tables table bookmark) c.self.view_is)

@@ -41,9 +41,8 @@ loop-found-smaller c =
     let trees = c.self.inside.trees in
     let nodes : List Node = table_nodes trees c.args.table.0 in
     let test : Pair → Bool = is_seen c.args.reader c.args.self.now.store c.args.table.0 in
-    let next : Option Pair = parts_of c.node_after-found-in-Some.result in
-    let next_is : next ≡ node_after (On c.in-Some.bookmark.now c.in-Some.bookmark.now) nodes =
-    c.node_after-found-in-Some.ensures.node ∙ (λ i. node_after (On (c.from_slice.ensures i) (c.from_slice-in-Some.ensures i)) nodes) in
+    let next : Option Pair = parts_of c.node_behind-found.result in
+    let next_is : next ≡ node_after (On c.in-Some.bookmark.now c.in-Some.bookmark.now) nodes = c.node_behind-found.ensures.node in
     subst (λ (o : Option Pair). left_from (bookmark_entries nodes) (entry_at next) < left_from (bookmark_entries nodes) (entry_at o)) (sym (ap parts_of c.in-Some.is))
     (fewer_from c.neighbours_are_those_of_bookmarks.ensures.after nodes c.in-Some.bookmark.now c.in-Some.row.now next next_is)
 
@@ -56,11 +55,10 @@ loop-found-preserved c =
     subst (λ (o : Option Pair). StandsAt test c.args.place.now nodes o) (ap parts_of c.in-Some.is) c.loop-found.invariant in
     let told : test (c.in-Some.bookmark.now, c.in-Some.bookmark.now) ≡ is_row_seen (row_in_node c.in-Some.row.now) (seen_row c.args.table.0 c.in-Some.bookmark.now c.args.reader c.self.inside.versions) =
     seen_in_place c.self.inside.catalog trees c.self.inside.versions c.self.invariant c.nodes_are_in_order.ensures.sorted c.args.self.now c.self.view_is c.args.table.0 c.args.reader c.in-Some.bookmark.now c.in-Some.row.now stands.row in
-    let next : Option Pair = parts_of c.node_after-found-in-Some.result in
-    let next_is : next ≡ node_after (On c.in-Some.bookmark.now c.in-Some.bookmark.now) nodes =
-    c.node_after-found-in-Some.ensures.node ∙ (λ i. node_after (On (c.from_slice.ensures i) (c.from_slice-in-Some.ensures i)) nodes) in
+    let next : Option Pair = parts_of c.node_behind-found.result in
+    let next_is : next ≡ node_after (On c.in-Some.bookmark.now c.in-Some.bookmark.now) nodes = c.node_behind-found.ensures.node in
     goes_on c.neighbours_are_those_of_bookmarks.ensures.after test c.args.place.now nodes c.in-Some.bookmark.now c.in-Some.row.now next (c.nodes_are_in_order.ensures.sorted c.args.table.0) stands
-    (told ∙ sym c.is_shown_in_place.ensures ∙ c.if-is_shown_in_place.false) next_is (short_parts c.node_after-found-in-Some.result c.node_after-found-in-Some.ensures.short)
+    (told ∙ sym c.is_shown_in_place.ensures ∙ c.if-is_shown_in_place.false) next_is (short_parts c.node_behind-found.result c.node_behind-found.ensures.short)
 
 pub returns : goal.returns
 returns c =
