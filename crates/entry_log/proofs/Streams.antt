@@ -8,11 +8,18 @@ drop-append zero xs ys le = refl
 drop-append (suc n) [] ys le = absurd (omega arith)
 drop-append (suc n) (x ∷ xs) ys le = drop-append n xs ys (omega arith)
 
-drop-drop : (n m : ℕ) (xs : List ℕ) → drop n (drop m xs) ≡ drop (m + n) xs
-drop-drop n zero xs = refl
-drop-drop zero (suc m) [] = refl
-drop-drop (suc n) (suc m) [] = refl
-drop-drop n (suc m) (x ∷ xs) = drop-drop n m xs
+abbrev nothing : List ℕ
+nothing = []
+
+nothing_dropped : (n : ℕ) → drop n nothing ≡ nothing
+nothing_dropped zero = refl
+nothing_dropped (suc n) = refl
+
+drop-drop : (n m k : ℕ) (xs : List ℕ) → k ≡ m + n → drop n (drop m xs) ≡ drop k xs
+drop-drop n zero k xs e = let same : n ≡ k = omega arith in ap (λ (j : ℕ). drop j xs) same
+drop-drop n (suc m) k [] e = nothing_dropped n ∙ sym (nothing_dropped k)
+drop-drop n (suc m) zero (x ∷ xs) e = absurd (omega arith)
+drop-drop n (suc m) (suc k) (x ∷ xs) e = drop-drop n m k xs (omega arith)
 
 pub first_stream : IsKeptOf [] empty_stream
 first_stream = record { within = omega arith; bytes_are = refl }
@@ -29,17 +36,10 @@ ends_with whole stream kept = omega (arith, ap length kept.bytes_are, length-dro
 pub read_from : (whole : List ℕ) (position : ℕ) (stream : KeptStream) → IsKeptOf whole stream → stream.from ≤ position → bytes_from position stream ≡ drop position whole
 read_from whole position stream kept le =
     ap (λ (xs : List ℕ). drop (position - stream.from) xs) kept.bytes_are
-    ∙ drop-drop (position - stream.from) stream.from whole
-    ∙ ap (λ (n : ℕ). drop n whole) (together stream.from position le)
-  where
-    together : (a b : ℕ) → a ≤ b → a + (b - a) ≡ b
-    together a b h = omega arith
-
-greater : (a b : ℕ) → a + (b - a) ≡ max a b
-greater a b = omega arith
+    ∙ drop-drop (position - stream.from) stream.from position whole (omega arith)
 
 pub trimmed_stream : (whole : List ℕ) (position : ℕ) (stream : KeptStream) → IsKeptOf whole stream → position ≤ stream_end stream → IsKeptOf whole (trimmed_to position stream)
 trimmed_stream whole position stream kept le = record {
   within = omega (arith, kept.within, le, ends_with whole stream kept);
-  bytes_are = ap (λ (xs : List ℕ). drop (position - stream.from) xs) kept.bytes_are ∙ drop-drop (position - stream.from) stream.from whole ∙ ap (λ (n : ℕ). drop n whole) (greater stream.from position);
+  bytes_are = ap (λ (xs : List ℕ). drop (position - stream.from) xs) kept.bytes_are ∙ drop-drop (position - stream.from) stream.from (max stream.from position) whole (omega arith);
 }
