@@ -10,8 +10,8 @@ ghost use Rattle.log_record.specs.EntrySizes.{size_of_change, size_of_fields, si
 
 use crate::append::{append, append_byte};
 use crate::encoding_schema::put_schema;
-use crate::put::{put_bookmark, put_copied, put_number, put_table, put_value};
 use crate::measuring::entry_size;
+use crate::put::{put_bookmark, put_copied, put_number, put_table, put_value};
 use column_set::{Change, Field, Record};
 use index_derive::{Entry, EntryKind};
 use jet_base::{Octets, OutOfMemory};
