@@ -1,6 +1,5 @@
 -- How many bytes entries and their fields have, and how they grow value by value.
-use Rattle.std.proofs.Common.{◌≡◌, ℕ, ◌+◌, ◌-◌, ◌*◌, ◌^◌, ◌<◌, ◌≤◌, Bool, true, ltb, leb, ◌&&◌, List, [], ◌∷◌, ◌++◌, length, take, get_or, Option, Some, None, refl, sym, ap, ◌∙◌, arith}
-use Rattle.std.specs.Prelude.{sum_by}
+use Rattle.std.proofs.Common.{◌≡◌, ℕ, ◌+◌, ◌-◌, ◌^◌, ◌<◌, ◌≤◌, true, ltb, leb, ◌&&◌, List, [], ◌∷◌, ◌++◌, length, take, get_or, Option, Some, None, refl, sym, ap, ◌∙◌, arith}
 use Rattle.std.specs.List.{flat_map}
 use Rattle.std.proofs.lemmas.Bool.{and_parts, ltb-true}
 use Rattle.std.proofs.lemmas.List.{length-append, take_more}
@@ -14,7 +13,7 @@ use Rattle.index_derive.specs.declared.log.EntryKind.TheVariants as kind
 use Rattle.index_derive.specs.declared.rules.IndexRule.{IndexRule}
 use Rattle.index_derive.specs.declared.schema_calls.SchemaStep.{SchemaStep}
 use Rattle.index_derive.specs.declared.schema_calls.SchemaStep.TheVariants as schema
-use Rattle.log_grammar.specs.EntryBytes.{bookmark_bytes, change_bytes, condition_bytes, copied_bytes, entry_bytes, entry_rest, has_spelling, index_bytes, kind_bytes, kind_fits, name_bytes, record_bytes, schema_bytes, segment_bytes}
+use Rattle.log_grammar.specs.EntryBytes.{change_bytes, condition_bytes, copied_bytes, entry_bytes, entry_rest, has_spelling, index_bytes, kind_bytes, kind_fits, name_bytes, record_bytes, schema_bytes, segment_bytes}
 use Rattle.log_record.specs.EntrySizes.{size_of_change, size_of_copied, size_of_fields, size_of_index, size_of_kind, size_of_schema, size_of_values}
 use Rattle.log_record.proofs.Sizes.{length-conditions, length-record, length-segments}
 

@@ -1,10 +1,9 @@
 //! Writing entries.
 
-ghost use Rattle.std.specs.Prelude.{◌≡◌, ◌<◌, ◌≤◌, ◌^◌, ◌+◌, ◌∷◌, [], ◌++◌, ℕ, length, map, sum_by, vec_len, IfOk, IsTrue};
+ghost use Rattle.std.specs.Prelude.{◌≡◌, ◌<◌, ◌≤◌, ◌^◌, ◌+◌, ◌++◌, length, map, sum_by, vec_len, IfOk, IsTrue};
 ghost use Rattle.std.specs.Vec.{vec_capacity};
 ghost use Rattle.std.specs.Int.{w16, w32, cast_unsigned, to_le_bytes};
 ghost use Rattle.std.specs.List.{flat_map};
-ghost use Rattle.column_set.specs.Rows.{record_values_in_order};
 ghost use Rattle.log_grammar.specs.EntryBytes.{are_short, change_bytes, change_fits, change_tag, entry_bytes, entry_rest, entry_tag, has_spelling, kind_bytes, kind_fits, record_bytes, record_fits, value_bytes};
 ghost use Rattle.log_record.specs.EntrySizes.{size_of_change, size_of_fields, size_of_kind, size_of_values};
 

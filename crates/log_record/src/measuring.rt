@@ -1,6 +1,6 @@
 //! How many bytes an entry has.
 
-ghost use Rattle.std.specs.Prelude.{◌≡◌, ◌+◌, ◌<◌, ◌≤◌, ◌^◌, length, IsTrue};
+ghost use Rattle.std.specs.Prelude.{◌≡◌, ◌+◌, ◌<◌, ◌^◌, length, IsTrue};
 ghost use Rattle.log_grammar.specs.EntryBytes.{change_fits, entry_bytes, has_spelling, index_fits, kind_fits, schema_fits};
 ghost use Rattle.log_record.specs.EntrySizes.{size_of_bookmark, size_of_change, size_of_copied, size_of_index, size_of_kind, size_of_name, size_of_schema};
 

@@ -1,4 +1,4 @@
-use Rattle.std.proofs.Common.{◌≡◌, ◌+◌, ◌≤◌, arith}
+use Rattle.std.proofs.Common.{arith}
 use Rattle.log_record.proofs.Lengths.{length-entry}
 use Rattle.log_record.proofs.encoding.append_entry.Goals as goal
 

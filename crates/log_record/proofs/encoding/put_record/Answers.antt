@@ -1,4 +1,4 @@
-use Rattle.std.proofs.Common.{◌≡◌, ◌+◌, ◌≤◌, ◌++◌, ap, length, arith, rules, true}
+use Rattle.std.proofs.Common.{◌≡◌, ◌+◌, ◌++◌, ap, length, arith, rules, true}
 use Rattle.std.specs.Int.{w16, to_le_bytes}
 use Rattle.column_set.specs.Rows.{record_values_in_order}
 use Rattle.log_grammar.proofs.Values.{count_of, field_written, record_done, sum_fits, each_field_short}

@@ -1,5 +1,4 @@
-use Rattle.std.proofs.Common.{◌≡◌, ◌+◌, ◌≤◌, arith, ap}
-use Rattle.log_record.specs.EntrySizes.{size_of_values}
+use Rattle.std.proofs.Common.{◌+◌, arith}
 use Rattle.log_record.proofs.Lengths.{values_more, values_within}
 use Rattle.log_record.proofs.encoding.put_values.Goals as goal
 

@@ -1,4 +1,4 @@
-use Rattle.std.proofs.Common.{◌≡◌, ◌+◌, ◌<◌, arith, sym, ◌∙◌}
+use Rattle.std.proofs.Common.{arith}
 use Rattle.log_record.proofs.Lengths.{length-entry, spelled_kind}
 use Rattle.log_record.proofs.measuring.entry_size.Goals as goal
 
