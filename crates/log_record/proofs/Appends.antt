@@ -1,11 +1,5 @@
 -- What is written one after the other.
 use Rattle.std.proofs.Common.{◌≡◌, ℕ, List, ◌++◌, ap, ◌∙◌, append_assoc}
-use Rattle.std.specs.Prelude.{Result, Ok, Err, OnOk}
-
--- another fact of what succeeded
-pub on_ok : {Y E P Q : Type 0} (r : Result Y E) → OnOk r P → (P → Q) → OnOk r Q
-on_ok (Ok y) h f = f h
-on_ok (Err e) h f = tt
 
 pub four_appended : (old a b c d n1 n2 n3 n4 : List ℕ) → n1 ≡ old ++ a → n2 ≡ n1 ++ b → n3 ≡ n2 ++ c → n4 ≡ n3 ++ d → n4 ≡ old ++ (a ++ (b ++ (c ++ d)))
 four_appended old a b c d n1 n2 n3 n4 p q r s =

@@ -75,11 +75,11 @@ record_size seen fields size total is sized summed = omega (arith, ap size_of_fi
 
 -- ---- schema changes
 
-length-segments : (segments : List Segment) → length (flat_map segment_bytes segments) ≡ 3 * length segments
+pub length-segments : (segments : List Segment) → length (flat_map segment_bytes segments) ≡ 3 * length segments
 length-segments [] = refl
 length-segments (segment ∷ segments) = omega (arith, length-segments segments)
 
-length-conditions : (conditions : List Condition) → length (flat_map condition_bytes conditions) ≡ 3 * length conditions
+pub length-conditions : (conditions : List Condition) → length (flat_map condition_bytes conditions) ≡ 3 * length conditions
 length-conditions [] = refl
 length-conditions (condition ∷ conditions) = omega (arith, length-conditions conditions)
 

@@ -1,15 +1,17 @@
 //! Writing schema changes.
 
-ghost use Rattle.std.specs.Prelude.{◌≡◌, ◌<◌, ◌^◌, ◌+◌, ◌*◌, ◌∷◌, [], ◌++◌, length, OnOk, IsTrue};
+ghost use Rattle.std.specs.Prelude.{◌≡◌, ◌<◌, ◌≤◌, ◌^◌, ◌+◌, ◌*◌, ◌∷◌, [], ◌++◌, length, vec_len, IsTrue};
+ghost use Rattle.std.specs.Vec.{vec_capacity};
 ghost use Rattle.std.specs.Int.{w16, w32, to_le_bytes};
 ghost use Rattle.std.specs.List.{flat_map};
 ghost use Rattle.log_grammar.specs.EntryBytes.{bool_byte, column_bytes, column_flags, condition_bytes, index_bytes, index_flags, number_of_bits, schema_bytes, schema_fits, schema_kind, segment_bytes, type_number};
+ghost use Rattle.log_record.specs.EntrySizes.{size_of_column, size_of_index, size_of_schema};
 
-use crate::put::{put_flagged, put_name, put_table};
+use crate::append::{append, append_byte};
+use crate::put::{put_flagged, put_name, put_number, put_table};
 use column_set::Column;
 use index_derive::{Condition, IndexFlags, IndexRule, SchemaStep, Segment};
 use jet_base::ColType;
-use std::alloc::AllocError;
 
 /// The number of a type in files.
 pub fn type_number(kind: ColType) -> u8
@@ -68,99 +70,116 @@ pub fn index_flags(flags: &IndexFlags) -> u16
 }
 
 /// Writes what is told of a column beside its number.
-fn put_column(bytes: &mut Vec<u8>, column: &Column) -> Result<(), AllocError>
-    requires { length column.now.name < 256 }
-    ensures { OnOk result (bytes.new.items ≡ bytes.old.items ++ column_bytes column.now) }
+fn put_column(bytes: &mut Vec<u8>, column: &Column)
+    requires short { length column.now.name < 256 }
+    requires room { vec_len bytes.old + size_of_column column.now ≤ vec_capacity bytes.old }
+    ensures items { bytes.new.items ≡ bytes.old.items ++ column_bytes column.now }
+    ensures len { vec_len bytes.new ≡ vec_len bytes.old + size_of_column column.now }
+    ensures room { vec_capacity bytes.old ≤ vec_capacity bytes.new }
 {
-    bytes.push(type_number(column.kind))?;
-    bytes.push(column_flags(column))?;
-    put_name(bytes, &column.name)
+    append_byte(bytes, type_number(column.kind));
+    append_byte(bytes, column_flags(column));
+    put_name(bytes, &column.name);
 }
 
 /// Writes the segments of an index, their count before them.
-fn put_segments(bytes: &mut Vec<u8>, segments: &[Segment]) -> Result<(), AllocError>
-    requires { length segments.now < 256 }
-    ensures { OnOk result (bytes.new.items ≡ bytes.old.items ++ (length segments.now ∷ flat_map segment_bytes segments.now)) }
+fn put_segments(bytes: &mut Vec<u8>, segments: &[Segment])
+    requires few { length segments.now < 256 }
+    requires room { vec_len bytes.old + (1 + 3 * length segments.now) ≤ vec_capacity bytes.old }
+    ensures items { bytes.new.items ≡ bytes.old.items ++ (length segments.now ∷ flat_map segment_bytes segments.now) }
+    ensures len { vec_len bytes.new ≡ vec_len bytes.old + (1 + 3 * length segments.now) }
+    ensures room { vec_capacity bytes.old ≤ vec_capacity bytes.new }
 {
-    bytes.push(segments.len() as u8)?;
+    append_byte(bytes, segments.len() as u8);
     for segment in segments {
-        put_flagged(bytes, segment.column.0, segment.descending)?;
+        put_flagged(bytes, segment.column.0, segment.descending);
     }
-    Ok(())
 }
 
 /// Writes the conditions of an index, their count before them.
-fn put_conditions(bytes: &mut Vec<u8>, conditions: &[Condition]) -> Result<(), AllocError>
-    requires { length conditions.now < 256 }
-    ensures { OnOk result (bytes.new.items ≡ bytes.old.items ++ (length conditions.now ∷ flat_map condition_bytes conditions.now)) }
+fn put_conditions(bytes: &mut Vec<u8>, conditions: &[Condition])
+    requires few { length conditions.now < 256 }
+    requires room { vec_len bytes.old + (1 + 3 * length conditions.now) ≤ vec_capacity bytes.old }
+    ensures items { bytes.new.items ≡ bytes.old.items ++ (length conditions.now ∷ flat_map condition_bytes conditions.now) }
+    ensures len { vec_len bytes.new ≡ vec_len bytes.old + (1 + 3 * length conditions.now) }
+    ensures room { vec_capacity bytes.old ≤ vec_capacity bytes.new }
 {
-    bytes.push(conditions.len() as u8)?;
+    append_byte(bytes, conditions.len() as u8);
     for condition in conditions {
-        put_flagged(bytes, condition.column.0, condition.must_be_null)?;
+        put_flagged(bytes, condition.column.0, condition.must_be_null);
     }
-    Ok(())
 }
 
 /// Writes the root of a new index, which has none yet, its order of making and its flags.
-fn put_index_head(bytes: &mut Vec<u8>, order: u32, flags: &IndexFlags) -> Result<(), AllocError>
-    ensures { OnOk result (bytes.new.items ≡ bytes.old.items ++ (to_le_bytes w32 0 ++ (to_le_bytes w32 order ++ to_le_bytes w16 (index_flags flags.now)))) }
+fn put_index_head(bytes: &mut Vec<u8>, order: u32, flags: &IndexFlags)
+    requires { vec_len bytes.old + 10 ≤ vec_capacity bytes.old }
+    ensures items { bytes.new.items ≡ bytes.old.items ++ (to_le_bytes w32 0 ++ (to_le_bytes w32 order ++ to_le_bytes w16 (index_flags flags.now))) }
+    ensures len { vec_len bytes.new ≡ vec_len bytes.old + 10 }
+    ensures room { vec_capacity bytes.old ≤ vec_capacity bytes.new }
 {
     let flags = index_flags(flags);
-    bytes.extend_from_slice(&[0, 0, 0, 0])?;
-    bytes.extend_from_slice(&order.to_le_bytes())?;
-    bytes.extend_from_slice(&flags.to_le_bytes())
+    append(bytes, &[0, 0, 0, 0]);
+    append(bytes, &order.to_le_bytes());
+    put_number(bytes, flags);
 }
 
 /// Writes what is told of an index beside its number.
 #[tactic(auto, unfolding(log_grammar::specs::EntryBytes::index_bytes))]
-fn put_index(bytes: &mut Vec<u8>, index: &IndexRule) -> Result<(), AllocError>
+fn put_index(bytes: &mut Vec<u8>, index: &IndexRule)
     requires segments { length index.now.segments < 256 }
     requires conditions { length index.now.conditions < 256 }
     requires name { length index.now.name < 256 }
-    ensures { OnOk result (bytes.new.items ≡ bytes.old.items ++ index_bytes index.now) }
+    requires room { vec_len bytes.old + size_of_index index.now ≤ vec_capacity bytes.old }
+    ensures items { bytes.new.items ≡ bytes.old.items ++ index_bytes index.now }
+    ensures len { vec_len bytes.new ≡ vec_len bytes.old + size_of_index index.now }
+    ensures room { vec_capacity bytes.old ≤ vec_capacity bytes.new }
 {
-    put_index_head(bytes, index.order, &index.flags)?;
-    put_segments(bytes, index.segments.as_slice())?;
-    put_conditions(bytes, index.conditions.as_slice())?;
-    put_name(bytes, &index.name)
+    put_index_head(bytes, index.order, &index.flags);
+    put_segments(bytes, index.segments.as_slice());
+    put_conditions(bytes, index.conditions.as_slice());
+    put_name(bytes, &index.name);
 }
 
 /// Writes a schema change: its kind, its table and what its kind has.
-pub fn put_schema(bytes: &mut Vec<u8>, step: &SchemaStep) -> Result<(), AllocError>
-    requires { IsTrue (schema_fits step.now) }
-    ensures { OnOk result (bytes.new.items ≡ bytes.old.items ++ (schema_kind step.now ∷ schema_bytes step.now)) }
+#[tactic(auto)]
+pub fn put_schema(bytes: &mut Vec<u8>, step: &SchemaStep)
+    requires fits { IsTrue (schema_fits step.now) }
+    requires room { vec_len bytes.old + (1 + size_of_schema step.now) ≤ vec_capacity bytes.old }
+    ensures items { bytes.new.items ≡ bytes.old.items ++ (schema_kind step.now ∷ schema_bytes step.now) }
+    ensures len { vec_len bytes.new ≡ vec_len bytes.old + (1 + size_of_schema step.now) }
+    ensures room { vec_capacity bytes.old ≤ vec_capacity bytes.new }
 {
     match step {
         SchemaStep::CreateTable { table, name } => {
-            bytes.push(1)?;
-            put_table(bytes, table.0)?;
-            put_name(bytes, name)
+            append_byte(bytes, 1);
+            put_table(bytes, table.0);
+            put_name(bytes, name);
         }
         SchemaStep::DeleteTable { table } => {
-            bytes.push(2)?;
-            put_table(bytes, table.0)
+            append_byte(bytes, 2);
+            put_table(bytes, table.0);
         }
         SchemaStep::AddColumn { table, column } => {
-            bytes.push(3)?;
-            put_table(bytes, table.0)?;
-            bytes.extend_from_slice(&column.id.0.to_le_bytes())?;
-            put_column(bytes, column)
+            append_byte(bytes, 3);
+            put_table(bytes, table.0);
+            put_number(bytes, column.id.0);
+            put_column(bytes, column);
         }
         SchemaStep::DeleteColumn { table, column } => {
-            bytes.push(4)?;
-            put_table(bytes, table.0)?;
-            bytes.extend_from_slice(&column.0.to_le_bytes())
+            append_byte(bytes, 4);
+            put_table(bytes, table.0);
+            put_number(bytes, column.0);
         }
         SchemaStep::CreateIndex { table, index } => {
-            bytes.push(5)?;
-            put_table(bytes, table.0)?;
-            bytes.extend_from_slice(&index.id.0.to_le_bytes())?;
-            put_index(bytes, index)
+            append_byte(bytes, 5);
+            put_table(bytes, table.0);
+            put_number(bytes, index.id.0);
+            put_index(bytes, index);
         }
         SchemaStep::DeleteIndex { table, index } => {
-            bytes.push(6)?;
-            put_table(bytes, table.0)?;
-            bytes.extend_from_slice(&index.0.to_le_bytes())
+            append_byte(bytes, 6);
+            put_table(bytes, table.0);
+            put_number(bytes, index.0);
         }
     }
 }

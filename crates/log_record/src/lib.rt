@@ -4,22 +4,25 @@
 //! write and read these are public too.
 #![tactic(auto)]
 
+mod append;
 mod decoding;
 mod decoding_schema;
 mod encoding;
 mod encoding_schema;
 mod fault;
 mod front;
+mod measuring;
 mod parsing;
 mod put;
 mod reading;
 mod spelling;
 
 pub use decoding_schema::{KEY_MOST, index_flags_of, read_column, read_conditions, read_segments};
-pub use encoding::encode;
+pub use encoding::{append_entry, encode};
 pub use encoding_schema::{column_flags, index_flags, type_number};
 pub use fault::EntryFault;
 pub use front::read_front;
+pub use measuring::entry_size;
 pub use parsing::{Parsed, decode};
 pub use reading::{read_name, read_u16, read_u32};
 pub use spelling::{column_fits, has_spelling, index_fits, name_fits};

@@ -245,7 +245,7 @@ fn size_of_values(values: &[Octets]) -> usize
 }
 
 /// How many bytes the values of the fields have. Past the largest number it is that number.
-fn size_of_fields(fields: &[Field]) -> usize
+pub fn size_of_fields(fields: &[Field]) -> usize
     ensures { result ≡ min (size_of_fields fields.now) (2 ^ 64 - 1) }
 {
     let mut size: usize = 0;
@@ -256,7 +256,7 @@ fn size_of_fields(fields: &[Field]) -> usize
 }
 
 /// How many bytes stand for the bookmark of a copied record.
-fn size_of_copied(copied: &Option<Bookmark>) -> usize
+pub fn size_of_copied(copied: &Option<Bookmark>) -> usize
     requires { IsTrue (copied_fits copied.now) }
     ensures { result ≡ length (copied_bytes copied.now) }
 {

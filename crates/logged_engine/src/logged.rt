@@ -1,0 +1,219 @@
+//! The engine with the bytes of its log entries.
+
+ghost use Rattle.std.specs.Prelude.{◌≡◌, ◌≤◌, ◌<◌, ◌+◌, ◌-◌, ◌^◌, ◌++◌, [], ℕ, true, false, Some, drop, length, min, take, IfOk, IsTrue, OnErr, OnOk};
+ghost use Rattle.index_derive.specs.Steps.{entries_of_step};
+ghost use Rattle.database_state.specs.State.{DatabaseState};
+ghost use Rattle.session_local.specs.LocalCalls.{is_answered_locally};
+ghost use Rattle.session_local.specs.Run.{takes_no_memory};
+ghost use Rattle.engine_versions.specs.BuiltCalls.{is_built_request};
+ghost use Rattle.engine_versions.specs.EngineState.{HasRoomForEnds, cleaned, empty_engine};
+ghost use Rattle.engine_versions.specs.EngineSteps.{engine_after_step};
+ghost use Rattle.engine_versions.specs.HoldsState.{HoldsState};
+ghost use Rattle.engine_parts.specs.Deciding.{Decides, IsBeside, IsDecision};
+ghost use Rattle.engine_steps.specs.Cleans.{CanGo, without_oldest_held};
+ghost use Rattle.engine_steps.specs.Steps.{MayTake};
+ghost use Rattle.log_grammar.specs.EntryStreams.{stream_bytes};
+ghost use Rattle.entry_log.specs.LogState.{appended, bytes_from, empty_stream, stream_end, trimmed_to};
+ghost use Rattle.logged_engine.specs.Ends.{end_bytes, made_by};
+ghost use Rattle.logged_engine.specs.LoggedState.{MayBeCleaned, MayLackMemory, is_loggable, logged_step_may_lack_memory};
+
+use crate::laws::what_is_begun_keeps_the_bytes_of_its_end;
+use crate::writing::{ends_after, step_size, write};
+use engine_core::Engine;
+use engine_versions::ends_always_find_room;
+use entry_log::EntryLog;
+use index_derive::Step;
+use jet_base::OutOfMemory;
+use session_local::{Decision, Local, Request};
+use std::alloc::Global;
+use std::marker::Model;
+
+/// The engine with the bytes of the log entries that it has made since its log began, at position 0.
+#[derive(Drop)]
+pub struct LoggedEngine {
+    engine: Engine,
+    log: EntryLog,
+    /// The room that is kept for the entries that end what is begun, in bytes.
+    ends: usize,
+}
+
+impl Model for LoggedEngine {
+    ghost use Rattle.logged_engine.specs.LoggedState.{LoggedState};
+
+    ghost Value = { LoggedState };
+
+    ghost use Rattle.logged_engine.specs.LoggedState.{HasRoom};
+
+    ghost view = { λ a. record { engine = a.engine; stream = a.log.stream } };
+
+    ghost invariant = { λ a. HasRoom a.engine a.log a.ends };
+}
+
+impl LoggedEngine {
+    /// An engine without sessions, with a log that begins. It takes no memory.
+    pub fn new(alloc: Global, engine: Engine) -> LoggedEngine
+        requires { engine.sessions ≡ [] }
+        ensures engine { result.engine ≡ engine }
+        ensures stream { result.stream ≡ empty_stream }
+    {
+        LoggedEngine {
+            engine,
+            log: EntryLog::new(alloc),
+            ends: 0,
+        }
+    }
+
+    /// The engine.
+    pub fn engine(&self) -> &Engine
+        ensures { result.now ≡ self.now.engine }
+    {
+        &self.engine
+    }
+
+    /// The number of log entries so far, those before the log began among them.
+    pub fn number(&self) -> u64
+        ensures { result ≡ self.now.engine.number }
+    {
+        self.engine.number()
+    }
+
+    /// Puts another limit of the version store's span, in bytes.
+    pub fn set_limit(&mut self, limit: u64)
+        ensures engine { self.new.engine ≡ record self.old.engine { limit = limit } }
+        ensures stream { self.new.stream ≡ self.old.stream }
+    {
+        self.engine.set_limit(limit);
+    }
+
+    /// Decides a call that looks at the shared state, as `engine_core::decide` does.
+    pub fn decide(&self, local: &mut Local, request: &Request) -> Result<Decision, OutOfMemory>
+        requires beside { IsBeside self.now.engine local.old }
+        requires built { is_built_request request.now ≡ true }
+        requires shared { is_answered_locally local.old.state request.now ≡ false }
+        ensures answer { IfOk result (λ decision. Decides self.now.engine local.old request.now local.new decision) }
+        ensures decided { IfOk result (λ decision. IsDecision self.now.engine local.old request.now local.new decision) }
+        ensures kept { OnErr result (local.new ≡ local.old) }
+        ensures memory { OnErr result (takes_no_memory request.now ≡ false) }
+        ensures session { local.new.session ≡ local.old.session }
+    {
+        engine_core::decide(&self.engine, local, request)
+    }
+
+    /// Gives up held changes from the oldest on that no reader needs, at most so many, and tells how many, as
+    /// `engine_core::clean` does. No byte of the log changes.
+    pub fn clean(&mut self, most: u32) -> u32
+        ensures gone { self.new.engine ≡ without_oldest_held result self.old.engine }
+        ensures few { result ≤ most }
+        ensures unneeded { CanGo result self.old.engine }
+        ensures all { result < most → self.new.engine ≡ cleaned self.old.engine }
+        ensures holds { (state : DatabaseState) → HoldsState self.old.engine state → HoldsState self.new.engine state }
+        ensures stream { self.new.stream ≡ self.old.stream }
+    {
+        engine_core::clean(&mut self.engine, most)
+    }
+
+    /// The position of the first byte of the log that is kept.
+    pub fn trimmed(&self) -> u64
+        ensures { result ≡ self.now.stream.from }
+    {
+        self.log.trimmed()
+    }
+
+    /// The position behind the last entry.
+    pub fn stream_end(&self) -> u64
+        ensures { result ≡ stream_end self.now.stream }
+    {
+        self.log.stream_end()
+    }
+
+    /// Copies the bytes of the log from a position on, as many as the slice has room for and the log has. It tells how many;
+    /// the rest of the slice stays.
+    pub fn pending(&self, from: u64, into: &mut [u8]) -> usize
+        requires kept { self.now.stream.from ≤ from }
+        requires before { from ≤ stream_end self.now.stream }
+        ensures count { result ≡ min (length into.old) (stream_end self.now.stream - from) }
+        ensures bytes { into.new ≡ take result (bytes_from from self.now.stream) ++ drop result into.old }
+    {
+        self.log.pending(from, into)
+    }
+
+    /// The bytes of the log before a position are not kept any more.
+    pub fn trim(&mut self, to: u64)
+        requires { to ≤ stream_end self.old.stream }
+        ensures engine { self.new.engine ≡ self.old.engine }
+        ensures stream { self.new.stream ≡ trimmed_to to self.old.stream }
+    {
+        self.log.trim(to);
+    }
+
+    /// Makes a step that was decided in this state, or that is lawful in a replay, as `engine_core::apply` does, and writes its
+    /// entries behind the log, each once. After want of memory no byte of the log has changed, and the engine is as it was, but
+    /// that a clean may stand. What ends something takes no memory: the room for its entry is kept from its begin on.
+    pub fn apply(&mut self, step: &Step) -> Result<(), OutOfMemory>
+        requires lawful { MayTake self.old.engine step.now }
+        requires room { HasRoomForEnds self.old.engine }
+        requires loggable { IsTrue (is_loggable (made_by step.now)) }
+        ensures engine { OnOk result (self.new.engine ≡ engine_after_step self.old.engine step.now) }
+        ensures stream { OnOk result (self.new.stream ≡ appended (stream_bytes (entries_of_step (Some step.now))) self.old.stream) }
+        ensures cleaned { OnErr result (MayBeCleaned self.old.engine self.new.engine) }
+        ensures kept { OnErr result (self.new.stream ≡ self.old.stream) }
+        ensures memory { OnErr result (logged_step_may_lack_memory step.now ≡ true) }
+    {
+        what_is_begun_keeps_the_bytes_of_its_end();
+        ends_always_find_room();
+        let ends = ends_after(self.ends, step);
+        match make(&mut self.engine, &mut self.log, step, ends) {
+            Ok(()) => {
+                let kept = kept_for(&self.engine, ends);
+                self.ends = kept;
+                Ok(())
+            }
+            Err(fault) => Err(fault),
+        }
+    }
+}
+
+/// Makes a step and writes its entries, with room for the ends behind it.
+fn make(
+    engine: &mut Engine,
+    log: &mut EntryLog,
+    step: &Step,
+    ends: usize,
+) -> Result<(), OutOfMemory>
+    requires lawful { MayTake engine.old step.now }
+    requires room { HasRoomForEnds engine.old }
+    requires loggable { IsTrue (is_loggable (made_by step.now)) }
+    requires few { ends < 2 ^ 41 }
+    requires short { stream_end log.old.stream < 2 ^ 63 }
+    ensures engine { OnOk result (engine.new ≡ engine_after_step engine.old step.now) }
+    ensures stream { OnOk result (log.new.stream ≡ appended (stream_bytes (entries_of_step (Some step.now))) log.old.stream) }
+    ensures ends { OnOk result (ends ≤ log.new.room) }
+    ensures cleaned { OnErr result (MayBeCleaned engine.old engine.new) }
+    ensures kept { OnErr result (log.new.stream ≡ log.old.stream) }
+    ensures grows { OnErr result (log.old.room ≤ log.new.room) }
+    ensures memory { OnErr result (MayLackMemory step.now (length (stream_bytes (entries_of_step (Some step.now))) + ends) log.old.room) }
+{
+    match log.reserve(step_size(step) + ends) {
+        Ok(()) => match engine_core::apply(engine, step) {
+            Ok(()) => {
+                write(log, step);
+                Ok(())
+            }
+            Err(fault) => Err(fault),
+        },
+        Err(fault) => Err(fault),
+    }
+}
+
+/// The room to keep where so much is enough: none once no session is live.
+fn kept_for(engine: &Engine, ends: usize) -> usize
+    requires { end_bytes engine.now.sessions ≤ ends }
+    ensures enough { end_bytes engine.now.sessions ≤ result }
+    ensures few { result ≤ ends }
+{
+    if engine.sessions().is_empty() {
+        0
+    } else {
+        ends
+    }
+}
