@@ -1,0 +1,7 @@
+//! Tests of volumes over files, for which files in memory stand in.
+#![tactic(auto)]
+
+#[cfg(test)]
+mod file_volumes;
+#[cfg(test)]
+mod memory_files;
