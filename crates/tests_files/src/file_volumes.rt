@@ -1,6 +1,7 @@
-//! Volumes over real files, for which a system in memory stands in.
+//! Volumes over the files of a system, for which one in memory stands in.
 
 use crate::memory_files::{Disk, MemorySystem};
+use crate::uses::{FILES, has_own_path, is_used};
 use jet_io::Failed;
 use jet_volume::{File, FileVolume, Volume};
 use std::alloc::Global;
@@ -8,14 +9,6 @@ use std::cell::RefCell;
 use std::process::Abort;
 use std::rc::Rc;
 use std::test::*;
-
-// The four files, and where those of the volume `folder/volume` lie.
-const FILES: [(File, &str); 4] = [
-    (File::Database, "folder/volume.edb"),
-    (File::CheckpointA, "folder/volume0.chk"),
-    (File::CheckpointB, "folder/volume1.chk"),
-    (File::Log, "folder/volume.log"),
-];
 
 // How many calls of the system `use_file` makes on a new file: three to open it, and then two for each read and
 // write. The read goes on once, and finds the end of the file.
@@ -41,26 +34,6 @@ fn shared(rt: &impl Abort, alloc: Global, disk: Disk) -> Rc<RefCell<Disk>> {
         Ok(disk) => disk,
         Err(_) => panic!(rt; "memory"),
     }
-}
-
-// Writes behind a gap, syncs, and answers the size and how many bytes are read from the second on.
-fn use_file<V: Volume>(
-    volume: &mut V,
-    file: File,
-    bytes: &mut [u8; 8],
-) -> Result<(u64, usize), Failed> {
-    volume.write_at(file, 2, b"piece")?;
-    volume.sync(file)?;
-    let size = volume.size(file)?;
-    let count = volume.read(file, 1, bytes)?;
-    Ok((size, count))
-}
-
-// Whether `use_file` gives what it has to.
-fn is_used<V: Volume>(volume: &mut V, file: File) -> bool {
-    let mut bytes = [9; 8];
-    use_file(volume, file, &mut bytes) == Ok((7, 6))
-        && bytes.as_slice() == b"\0piece\x09\x09".as_slice()
 }
 
 // Whether the disk has these bytes at a path, so that a crash leaves them.
@@ -110,15 +83,6 @@ fn four_files(rt: &impl Abort, alloc: Global) -> Rc<RefCell<Disk>> {
     shared(rt, alloc, disk)
 }
 
-// Whether a file is read as its own path.
-fn has_own_path<V: Volume>(volume: &mut V, file: File, path: &str) -> bool {
-    let mut bytes = [0; 32];
-    match volume.read(file, 0, &mut bytes) {
-        Ok(count) => bytes.get(..count) == Some(path.as_bytes()),
-        Err(_) => false,
-    }
-}
-
 #[test]
 fn an_existing_file_keeps_its_bytes(rt: HostRuntime) {
     let disk = four_files(&rt, rt.alloc());
@@ -131,32 +95,6 @@ fn an_existing_file_keeps_its_bytes(rt: HostRuntime) {
         assert!(&rt; is_kept(&disk, path, path.as_bytes()), "{path}");
     }
     assert!(&rt; count(&disk) == 5);
-}
-
-// Which of the four files were synced since they were written.
-fn synced(disk: &RefCell<Disk>) -> [bool; 4] {
-    match disk.try_borrow() {
-        Ok(disk) => FILES.map(|(_, path)| disk.at(path).is_some_and(|file| file.is_synced)),
-        Err(_) => [false; 4],
-    }
-}
-
-// Writes the four files, and syncs one of them.
-fn sync_one<V: Volume>(volume: &mut V, file: File) -> Result<(), Failed> {
-    for (other, _) in FILES {
-        volume.write_at(other, 0, b"x")?;
-    }
-    volume.sync(file)
-}
-
-#[test]
-fn a_sync_is_of_its_file_alone(rt: HostRuntime) {
-    for (file, _) in FILES {
-        let disk = four_files(&rt, rt.alloc());
-        let mut volume = volume(&rt, rt.alloc(), &disk, "folder/volume");
-        assert!(&rt; sync_one(&mut volume, file) == Ok(()));
-        assert!(&rt; synced(&disk) == FILES.map(|(other, _)| other == file));
-    }
 }
 
 // Whether a call of the system that fails is a fault, and the file is used as ever behind it.

@@ -4,4 +4,8 @@
 #[cfg(test)]
 mod file_volumes;
 #[cfg(test)]
+mod folder_volumes;
+#[cfg(test)]
 mod memory_files;
+#[cfg(test)]
+mod uses;
