@@ -33,6 +33,15 @@ written_torn at piece bytes = record {
   no_longer = omega (arith, length-written at piece bytes);
 }
 
+-- and so is a write of its front
+pub front_torn : (at n : ℕ) (front bytes : List ℕ) → length front ≤ n → Torn at n bytes (written at front bytes)
+front_torn at n front bytes few = record {
+  before = (written_torn at front bytes).before;
+  after = same_lists _ _ (search (rules, places)) (λ k d h. grind (arith, places));
+  no_shorter = (written_torn at front bytes).no_shorter;
+  no_longer = omega (arith, few, length-written at front bytes);
+}
+
 -- what was not written at all, too
 pub unwritten_torn : (at n : ℕ) (bytes : List ℕ) → Torn at n bytes bytes
 unwritten_torn at n bytes = record { before = take_min at bytes; after = refl; no_shorter = omega arith; no_longer = omega arith }

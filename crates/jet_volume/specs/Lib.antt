@@ -11,3 +11,4 @@ pub mod Handles
 pub mod Opened
 pub mod System
 pub mod Disk
+pub mod MemoryFolder

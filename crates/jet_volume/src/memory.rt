@@ -226,7 +226,7 @@ impl Volume for MemVolume {
 }
 
 /// Copies to the front of `into` what stands from an offset on.
-fn copy_from(bytes: &[u8], at: u64, into: &mut [u8]) -> usize
+pub fn copy_from(bytes: &[u8], at: u64, into: &mut [u8]) -> usize
     ensures count { result ≡ min (length into.old) (length bytes.now - at) }
     ensures bytes { take result into.new ≡ take result (drop at bytes.now) }
 {

@@ -72,7 +72,7 @@ fn make_ready(bytes: &mut Vec<u8>, at: usize, len: usize) -> Result<Change, Allo
 }
 
 /// Writes a piece where there is room for it.
-fn overwrite(bytes: &mut Vec<u8>, at: usize, piece: &[u8])
+pub fn overwrite(bytes: &mut Vec<u8>, at: usize, piece: &[u8])
     requires short { at + length piece.now ≤ 2 ^ 40 }
     requires room { at + length piece.now ≤ vec_capacity bytes.old }
     ensures { bytes.new.items ≡ written at piece.now bytes.old.items }
