@@ -1,10 +1,11 @@
 -- What stands on the four files of a volume: a checkpoint, or none, and the stream of log bytes behind it.
-use Rattle.std.specs.Prelude.{◌⊎◌, ℕ, List, [], ◌++◌, Option, Some, None}
+use Rattle.std.specs.Prelude.{◌≡◌, ◌≤◌, ◌⊎◌, ℕ, List, [], ◌++◌, Option, Some, None, length, slice_index_or}
 use Rattle.jet_volume.specs.declared.files.LogStart.{LogStart}
 use Rattle.jet_volume.specs.Image.{Image}
 use Rattle.page_image.specs.Page.{PageContents}
 use Rattle.log_ring.specs.Appends.{Gives}
 use Rattle.checkpoint.specs.Contents.{Contents}
+use Rattle.checkpoint.specs.declared.image.Standing.{Standing}
 use Rattle.checkpoint.specs.Opening.{IsNew, HasCheckpoint}
 
 -- What a checkpoint holds, whichever slots its pages lie in: its own number, the number of log entries, where the log
@@ -65,3 +66,9 @@ StandsBeforeOrAfter checkpoint stream bytes image = Stands checkpoint stream ima
 -- the old checkpoint stands there with its stream, or the new one with none
 abbrev pub StandsOldOrNew : Option Checkpoint → List ℕ → Checkpoint → Image → Type 0
 StandsOldOrNew checkpoint stream new image = Stands checkpoint stream image ⊎ Stands (Some new) [] image
+
+-- the pages and slots of a standing checkpoint are those of an image in shape
+pub record IsShaped (standing : Standing) : Type 0 where
+  pub slots : length standing.slots.items ≡ length standing.pages.items
+  pub few : length standing.pages.items ≤ 16777216
+  pub numbers : (p : ℕ) (page : PageContents) → slice_index_or standing.pages.items p None ≡ Some page → page.number ≡ p

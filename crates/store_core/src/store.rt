@@ -9,7 +9,7 @@ ghost use Rattle.log_ring.specs.Writes.{LogIs, LooksOnly};
 ghost use Rattle.log_ring.specs.Ring.{ring_end, ring_standing};
 ghost use Rattle.checkpoint.specs.Shape.{IsInShape};
 ghost use Rattle.checkpoint.specs.Found.{Finds, IsAnswer, Explains, IsFromOutside};
-ghost use Rattle.store_core.specs.Stands.{Checkpoint, ShowsIn, Stands, StandsBeforeOrAfter, StandsOldOrNew};
+ghost use Rattle.store_core.specs.Stands.{Checkpoint, IsShaped, ShowsIn, Stands, StandsBeforeOrAfter, StandsOldOrNew};
 
 use crate::fault::{OpenFault, StoreFault};
 use checkpoint::{CheckFault, Found, Image, Standing, read, what_stands_is_read, write};
@@ -30,6 +30,7 @@ pub struct Store<V> {
     down: Option<u64>,
     ghost follows: { ring_standing ring ≡ standing.start.generation },
     ghost position: { standing.start.position ≤ (ring_end ring).position },
+    ghost shaped: { IsShaped standing },
 }
 
 /// The count of faults that a volume shows when a call of a store has met one: the store is down since then.
@@ -95,6 +96,7 @@ impl<V: Volume> Store<V> {
         requires generation { standing.start.generation < 2 ^ 62 }
         requires offset { standing.start.offset < 1048576 }
         requires position { standing.start.position < 2 ^ 62 }
+        requires shaped { IsShaped standing }
         ensures scans { IfOk result (λ r. V.tells_contents → Scans (V.seen volume).log standing.start r.0.items (store_end r.1)) }
         ensures opened { IfOk result (λ r. V.tells_contents → (checkpoint : Option Checkpoint) → IsCopyOf checkpoint standing
             → CrashLeaves V.moment V.left_at volume (ShowsIn standing.slots.items checkpoint)
@@ -219,7 +221,7 @@ impl<V: Volume> Store<V> {
     /// Writes an image as the next checkpoint, behind which the log goes on at its end. At `Ok` every crash leaves it,
     /// and no byte of the log behind it. A crash at any moment of the call leaves the old checkpoint with its stream,
     /// or the new one with none. It takes no memory; on success the image has the pages and slots of the checkpoint
-    /// that stood before, and after a refusal it is in shape, with its pages.
+    /// that stood before, and after a refusal its own pages. It is in shape either way.
     pub fn checkpoint(&mut self, image: &mut Image) -> Result<(), StoreFault>
         requires shape { IsInShape image.old }
         requires number { (store_standing self.old).number < 2 ^ 63 }
@@ -242,7 +244,7 @@ impl<V: Volume> Store<V> {
         ensures end { store_end self.new ≡ store_end self.old }
         ensures unchanged { OnErr result (store_standing self.new ≡ store_standing self.old) }
         ensures same_pages { OnErr result (image.new.pages.items ≡ image.old.pages.items) }
-        ensures same_shape { OnErr result (IsInShape image.new) }
+        ensures shape { IsInShape image.new }
         ensures untouched { (count : ℕ) → result ≡ Err (StoreFault.Down count) → image.new ≡ image.old }
         ensures room { IsNotNoRoom result }
         ensures faults { CountsStoreFault V.faults result self.old self.new }
