@@ -2,88 +2,118 @@
 
 use esentutl::esentutl;
 use jet_io::{MemSink, MemSource};
-use std::alloc::{AllocError, Global};
-use std::test::Fail;
+use std::alloc::Global;
+use std::process::Abort;
+use std::test::*;
 
 const SCRIPT: &[u8] = b"1 BeginSession\n1 CreateTable T\n1 AddColumn T id Long\n";
 
 /// The words `- run ordered`.
-fn run_words(alloc: Global) -> Result<Vec<String>, AllocError> {
+fn run_words(rt: &impl Abort, alloc: Global) -> Vec<String> {
     let mut words = Vec::new(alloc);
     for word in ["-", "run", "ordered"] {
-        words.push(String::from_str(alloc, word)?)?;
+        let word = String::from_str(alloc, word).expect(rt, "memory");
+        words.push(word).expect(rt, "memory");
     }
-    Ok(words)
+    words
 }
 
 /// A source of these bytes that fails in the listed calls.
-fn source(alloc: Global, script: &[u8], failing: &[u64]) -> Result<MemSource, AllocError> {
-    Ok(MemSource::new(
-        Vec::from_slice(alloc, script)?,
-        Vec::from_slice(alloc, failing)?,
-    ))
+fn source(rt: &impl Abort, alloc: Global, script: &[u8], failing: &[u64]) -> MemSource {
+    let script = Vec::from_slice(alloc, script).expect(rt, "memory");
+    let failing = Vec::from_slice(alloc, failing).expect(rt, "memory");
+    MemSource::new(script, failing)
 }
 
-/// Whether a run of the script ends so, over a source and a sink that fail in the listed calls.
+/// A sink with so much room that fails in the listed calls.
+fn sink(rt: &impl Abort, alloc: Global, room: usize, failing: &[u64]) -> MemSink {
+    let failing = Vec::from_slice(alloc, failing).expect(rt, "memory");
+    MemSink::new(alloc, room, failing).expect(rt, "memory")
+}
+
+/// Whether a run from a source to a sink ends so.
 fn ends_as(
+    rt: &impl Abort,
     alloc: Global,
-    script: &[u8],
-    source_fails: &[u64],
-    sink_fails: &[u64],
+    mut from: MemSource,
+    mut out: MemSink,
     status: u8,
     output: &[u8],
-) -> Result<bool, Fail> {
-    let words = run_words(alloc)?;
-    let mut from = source(alloc, script, source_fails)?;
-    let mut out = MemSink::new(alloc, 1_000, Vec::from_slice(alloc, sink_fails)?)?;
+) -> bool {
+    let words = run_words(rt, alloc);
     let ended = esentutl(alloc, &words, &mut from, &mut out);
-    Ok(ended == status && out.taken() == output)
+    ended == status && out.taken() == output
 }
 
 #[test]
-fn a_script_that_is_too_long(rt: HostRuntime) -> Result<(), Fail> {
-    let alloc = rt.alloc();
-    let script = vec![in alloc; b'#'; 16_777_217]?;
-    assert!(rt; ends_as(alloc, &script, &[], &[], 2, b"esentutl: script too long\n")?);
-    assert!(rt; ends_as(alloc, &script[1..], &[], &[], 0, b"")?);
-    Ok(())
+fn a_script_that_is_too_long(rt: HostRuntime) {
+    let script = vec![in rt.alloc(); b'#'; 16_777_217].expect(&rt, "memory");
+    let from = source(&rt, rt.alloc(), &script, &[]);
+    let out = sink(&rt, rt.alloc(), 1_000, &[]);
+    assert!(&rt;
+        ends_as(
+            &rt,
+            rt.alloc(),
+            from,
+            out,
+            2,
+            b"esentutl: script too long\n"
+        )
+    );
+    let from = source(&rt, rt.alloc(), &script[1..], &[]);
+    let out = sink(&rt, rt.alloc(), 1_000, &[]);
+    assert!(&rt; ends_as(&rt, rt.alloc(), from, out, 0, b""));
+}
+
+/// Whether a run with these words ends as one with wrong words.
+fn are_refused(rt: &impl Abort, alloc: Global, words: &[String]) -> bool {
+    let mut from = source(rt, alloc, SCRIPT, &[]);
+    let mut out = sink(rt, alloc, 1_000, &[]);
+    let ended = esentutl(alloc, words, &mut from, &mut out);
+    ended == 1 && out.taken() == b"esentutl: words\n".as_slice()
 }
 
 #[test]
-fn words_of_other_forms(rt: HostRuntime) -> Result<(), Fail> {
-    let alloc = rt.alloc();
-    let mut words = run_words(alloc)?;
-    words.push(String::from_str(alloc, "more")?)?;
+fn words_of_other_forms(rt: HostRuntime) {
+    let mut words = run_words(&rt, rt.alloc());
+    let more = String::from_str(rt.alloc(), "more").expect(&rt, "memory");
+    words.push(more).expect(&rt, "memory");
     for count in [0, 1, 2, 4] {
-        let mut from = source(alloc, SCRIPT, &[])?;
-        let mut out = MemSink::new(alloc, 1_000, Vec::new(alloc))?;
-        assert!(rt; count <= words.len());
-        assert_eq!(rt; esentutl(alloc, &words[..count], &mut from, &mut out), 1);
-        assert_eq!(rt; out.taken(), b"esentutl: words\n".as_slice());
+        assert!(&rt; count <= words.len());
+        assert!(&rt;
+            are_refused(&rt, rt.alloc(), &words[..count]),
+            "{count} words"
+        );
     }
-    Ok(())
 }
 
 #[test]
-fn a_source_that_fails(rt: HostRuntime) -> Result<(), Fail> {
-    let alloc = rt.alloc();
+fn a_source_that_fails(rt: HostRuntime) {
     for call in [1, 2] {
-        assert!(rt; ends_as(alloc, SCRIPT, &[call], &[], 5, b"esentutl: source\n")?);
+        let from = source(&rt, rt.alloc(), SCRIPT, &[call]);
+        let out = sink(&rt, rt.alloc(), 1_000, &[]);
+        assert!(&rt; ends_as(&rt, rt.alloc(), from, out, 5, b"esentutl: source\n"));
     }
-    Ok(())
 }
 
-// A sink that fails at its third line has taken two, and one without room none.
 #[test]
-fn sinks_that_fail(rt: HostRuntime) -> Result<(), Fail> {
-    let alloc = rt.alloc();
+fn a_sink_that_fails_at_its_third_line_has_taken_two(rt: HostRuntime) {
     let two = b"0 1 BeginSession JET_errSuccess\n1 1 CreateTable JET_errSuccess\n";
-    assert!(rt; ends_as(alloc, SCRIPT, &[], &[3], 6, two)?);
-    assert!(rt; ends_as(alloc, b"1 EscrowUpdate 1 a 1\n", &[], &[1], 9, b"")?);
-    let words = run_words(alloc)?;
-    let mut from = source(alloc, SCRIPT, &[])?;
-    let mut full = MemSink::new(alloc, 0, Vec::new(alloc))?;
-    assert_eq!(rt; esentutl(alloc, &words, &mut from, &mut full), 6);
-    assert!(rt; full.taken().is_empty());
-    Ok(())
+    let from = source(&rt, rt.alloc(), SCRIPT, &[]);
+    let out = sink(&rt, rt.alloc(), 1_000, &[3]);
+    assert!(&rt; ends_as(&rt, rt.alloc(), from, out, 6, two));
+}
+
+#[test]
+fn a_sink_that_fails_leaves_the_status_of_a_line(rt: HostRuntime) {
+    let from = source(&rt, rt.alloc(), b"1 EscrowUpdate 1 a 1\n", &[]);
+    let out = sink(&rt, rt.alloc(), 1_000, &[1]);
+    assert!(&rt; ends_as(&rt, rt.alloc(), from, out, 9, b""));
+}
+
+#[test]
+fn a_sink_without_room(rt: HostRuntime) {
+    let from = source(&rt, rt.alloc(), SCRIPT, &[]);
+    let out = sink(&rt, rt.alloc(), 0, &[]);
+    assert!(&rt; ends_as(&rt, rt.alloc(), from, out, 6, b""));
 }

@@ -2,11 +2,12 @@
 
 use esentutl::{WordsFault, end_process, run_process};
 use jet_io::{MemSink, MemSource};
+use std::alloc::Global;
 use std::env::{Env, FillError};
 use std::io;
 use std::io::Cursor;
-use std::process::ExitCode;
-use std::test::Fail;
+use std::process::{Abort, ExitCode};
+use std::test::*;
 
 /// The words of a process, its name the first.
 #[derive(Clone, Copy)]
@@ -55,66 +56,81 @@ impl io::Write for Broken {
 
 const RUN: &[&[u8]] = &[b"esentutl", b"-", b"run", b"ordered"];
 
-#[test]
-fn each_status_is_what_the_process_ends_with(rt: HostRuntime) -> Result<(), Fail> {
-    let alloc = rt.alloc();
-    let comment = vec![in alloc; b'#'; 16_777_217]?;
-    let table: [(&[&[u8]], &[u8], u8, &[u8]); 7] = [
-        (
-            RUN,
-            b"1 BeginSession\n",
-            0,
-            b"0 1 BeginSession JET_errSuccess\n",
-        ),
-        (RUN, b"", 0, b""),
-        (&[b"esentutl"], b"1 BeginSession\n", 1, b"esentutl: words\n"),
-        (
-            &[b"esentutl", b"-", b"run", b"ordered", b"\xff"],
-            b"1 BeginSession\n",
-            1,
-            b"esentutl: words\n",
-        ),
-        (&[b"esentutl", b"\xc3("], b"", 1, b"esentutl: words\n"),
-        (RUN, &comment, 2, b"esentutl: script too long\n"),
-        (
-            RUN,
-            b"1 BeginSession\n1 Fly\n",
-            9,
-            b"esentutl: not built line 2\n",
-        ),
-    ];
-    for (words, script, status, output) in table {
-        let mut out = Cursor::new(Vec::new(alloc));
-        let ended = run_process(&(Words(words), alloc), script, &mut out);
-        assert_eq!(rt; ended, ExitCode::from(status));
-        assert_eq!(rt; out.get_ref().as_slice(), output);
-    }
-    Ok(())
+/// Words and a script, and the status and the output of the process.
+static ENDS: &[(&[&[u8]], &[u8], u8, &[u8])] = &[
+    (
+        RUN,
+        b"1 BeginSession\n",
+        0,
+        b"0 1 BeginSession JET_errSuccess\n",
+    ),
+    (RUN, b"", 0, b""),
+    (&[b"esentutl"], b"1 BeginSession\n", 1, b"esentutl: words\n"),
+    (
+        &[b"esentutl", b"-", b"run", b"ordered", b"\xff"],
+        b"1 BeginSession\n",
+        1,
+        b"esentutl: words\n",
+    ),
+    (&[b"esentutl", b"\xc3("], b"", 1, b"esentutl: words\n"),
+    (
+        RUN,
+        b"1 BeginSession\n1 Fly\n",
+        9,
+        b"esentutl: not built line 2\n",
+    ),
+];
+
+/// Whether a process ends so.
+fn ends_as(alloc: Global, words: &[&[u8]], script: &[u8], status: u8, output: &[u8]) -> bool {
+    let mut out = Cursor::new(Vec::new(alloc));
+    let ended = run_process(&(Words(words), alloc), script, &mut out);
+    ended == ExitCode::from(status) && out.get_ref().as_slice() == output
 }
 
 #[test]
-fn streams_that_fail(rt: HostRuntime) -> Result<(), Fail> {
-    let alloc = rt.alloc();
-    let mut out = Cursor::new(Vec::new(alloc));
-    let ended = run_process(&(Words(RUN), alloc), Broken, &mut out);
-    assert_eq!(rt; ended, ExitCode::from(5));
-    assert_eq!(rt; out.get_ref().as_slice(), b"esentutl: source\n".as_slice());
+fn each_status_is_what_the_process_ends_with(rt: HostRuntime) {
+    for (words, script, status, output) in ENDS {
+        assert!(&rt;
+            ends_as(rt.alloc(), words, script, *status, output),
+            "status {status}"
+        );
+    }
+}
+
+#[test]
+fn a_process_ends_with_the_status_of_a_long_script(rt: HostRuntime) {
+    let comment = vec![in rt.alloc(); b'#'; 16_777_217].expect(&rt, "memory");
+    assert!(&rt; ends_as(rt.alloc(), RUN, &comment, 2, b"esentutl: script too long\n"));
+}
+
+#[test]
+fn a_process_ends_with_the_status_of_a_broken_source(rt: HostRuntime) {
+    let mut out = Cursor::new(Vec::new(rt.alloc()));
+    let ended = run_process(&(Words(RUN), rt.alloc()), Broken, &mut out);
+    assert!(&rt; ended == ExitCode::from(5));
+    assert!(&rt; out.get_ref().as_slice() == b"esentutl: source\n".as_slice());
+}
+
+#[test]
+fn a_process_ends_with_the_status_of_a_broken_sink(rt: HostRuntime) {
     let script = b"1 BeginSession\n".as_slice();
-    assert_eq!(rt;
-        run_process(&(Words(RUN), alloc), script, Broken),
-        ExitCode::from(6)
-    );
-    Ok(())
+    let ended = run_process(&(Words(RUN), rt.alloc()), script, Broken);
+    assert!(&rt; ended == ExitCode::from(6));
+}
+
+/// A source of these bytes.
+fn source(rt: &impl Abort, alloc: Global, script: &[u8]) -> MemSource {
+    let script = Vec::from_slice(alloc, script).expect(rt, "memory");
+    MemSource::new(script, Vec::new(alloc))
 }
 
 // Nothing is read or written.
 #[test]
-fn no_memory_for_the_words(rt: HostRuntime) -> Result<(), Fail> {
-    let alloc = rt.alloc();
-    let mut from = MemSource::new(Vec::from_slice(alloc, b"1 Fly")?, Vec::new(alloc));
-    let mut out = MemSink::new(alloc, 100, Vec::new(alloc))?;
-    let ended = end_process(alloc, Err(WordsFault::Memory), &mut from, &mut out);
-    assert_eq!(rt; ended, ExitCode::from(7));
-    assert!(rt; out.taken().is_empty());
-    Ok(())
+fn no_memory_for_the_words(rt: HostRuntime) {
+    let mut from = source(&rt, rt.alloc(), b"1 Fly");
+    let mut out = MemSink::new(rt.alloc(), 100, Vec::new(rt.alloc())).expect(&rt, "memory");
+    let ended = end_process(rt.alloc(), Err(WordsFault::Memory), &mut from, &mut out);
+    assert!(&rt; ended == ExitCode::from(7));
+    assert!(&rt; out.taken().is_empty());
 }
