@@ -1,64 +1,25 @@
 -- The values of a record that a session reads.
-use Rattle.std.proofs.Common.{◌≡◌, ℕ, ◌≤◌, Bool, true, false, not, ◌&&◌, ◌||◌, List, [], ◌∷◌, length, map, Some, slice_get, get_or, inl, inr, refl, sym, ap, ◌∙◌, arith}
-use Rattle.std.specs.Prelude.{◌==◌, ◌<◌, nat_le, bytes_eq}
+use Rattle.std.proofs.Common.{◌≡◌, ℕ, ◌≤◌, true, ◌||◌, List, [], length, map, Some, slice_get, get_or, inl, inr, sym, ap, ◌∙◌, arith}
+use Rattle.std.specs.Prelude.{◌<◌, nat_le, bytes_eq}
 use Rattle.std.specs.List.{list_all}
 use Rattle.std.proofs.lemmas.Bool.Decides.{nat_tests}
 use Rattle.std.proofs.lemmas.Option.{slice_get-get_or}
 use Rattle.std.proofs.lemmas.List.{length-take}
 use Rattle.jet_base.specs.declared.words.ColType.{ColType}
-use Rattle.jet_base.specs.declared.words.ColType.TheVariants as kind
-use Rattle.jet_base.specs.TypeKinds.{is_long_type}
 use Rattle.column_set.specs.declared.columns.Column.{Column}
 use Rattle.column_set.specs.RecordValues.{RecordFields, column_named, record_fits, record_size, value_fits, values_of}
 use Rattle.column_set.specs.Rows.{are_short}
 use Rattle.column_set.specs.Reading.{IsFront}
-use Rattle.record_changes.proofs.Tests.{and_both, and_left, and_right}
+use Rattle.record_changes.proofs.Tests.{and_left, and_right}
 use Rattle.session_local.specs.SessionSide.{are_distinct}
 use Rattle.session_local.specs.WellFormed.{number_of_column}
 use Rattle.built_calls.specs.BuiltTables.{is_built_column}
+use Rattle.built_calls.proofs.BuiltColumns.{not_long, values_short}
 use Rattle.engine_parts.specs.Retrieving.{AreReadable}
-use Rattle.engine_parts.proofs.Found.{all_at, all_found, by_number, same_number, values_of-counted, values_of-fit}
+use Rattle.engine_parts.proofs.Found.{all_at, all_found, by_number, values_of-counted, values_of-fit}
 
 le_from_true : (m n : ℕ) → nat_le m n ≡ true → m ≤ n
 le_from_true m n h = grind (arith, nat_tests)
-
--- ---- values of types that are not long
-
-width_short : (width n : ℕ) → nat_le width 255 ≡ true → (n == width) ≡ true → nat_le n 255 ≡ true
-width_short width n small same = ap (λ (n : ℕ). nat_le n 255) (same_number n width same) ∙ small
-
-neither : (a b : Bool) → ((a && false) || (b && false)) ≡ false
-neither true true = refl
-neither true false = refl
-neither false true = refl
-neither false false = refl
-
-bit_short : (value : List ℕ) → (bytes_eq value (0 ∷ []) || bytes_eq value (1 ∷ [])) ≡ true → nat_le (length value) 255 ≡ true
-bit_short [] h = cc
-bit_short (x ∷ []) h = refl
-bit_short (x ∷ y ∷ value) h = let no = neither (x == 0) (x == 1) in cc
-
-value_short : (type : ColType) (value : List ℕ) → not (is_long_type type) ≡ true → value_fits type value ≡ true → nat_le (length value) 255 ≡ true
-value_short kind.Bit value built h = bit_short value h
-value_short kind.UnsignedByte value built h = width_short 1 (length value) refl h
-value_short kind.Short value built h = width_short 2 (length value) refl h
-value_short kind.UnsignedShort value built h = width_short 2 (length value) refl h
-value_short kind.Long value built h = width_short 4 (length value) refl h
-value_short kind.UnsignedLong value built h = width_short 4 (length value) refl h
-value_short kind.LongLong value built h = width_short 8 (length value) refl h
-value_short kind.Currency value built h = width_short 8 (length value) refl h
-value_short kind.Guid value built h = width_short 16 (length value) refl h
-value_short kind.Binary value built h = h
-value_short kind.Text value built h = h
-value_short kind.LongBinary value built h = cc
-value_short kind.LongText value built h = cc
-
-values_short : (type : ColType) (values : List (List ℕ)) → not (is_long_type type) ≡ true → list_all (value_fits type) values ≡ true → are_short values ≡ true
-values_short type [] built h = refl
-values_short type (value ∷ values) built h =
-    and_both (nat_le (length value) 255) (are_short values)
-    (value_short type value built (and_left (value_fits type value) (list_all (value_fits type) values) h))
-    (values_short type values built (and_right (value_fits type value) (list_all (value_fits type) values) h))
 
 -- ---- the values of a column are readable
 
@@ -71,7 +32,7 @@ readable columns fields name column distinct fits small built named =
     let own = all_found is_built_column (λ o. bytes_eq o.name name) columns column built named in
     record {
       fit = fit;
-      short = values_short column.kind (values_of fields column.id.0) (and_left (not (is_long_type column.kind)) _ own) fit;
+      short = values_short column.kind (values_of fields column.id.0) (not_long column own) fit;
       few = omega (arith, small, few);
     }
 

@@ -1,11 +1,8 @@
 -- A record that fits columns that are built stands in its row.
 use Rattle.std.proofs.Common.{◌≡◌, ℕ, ◌≤◌, Bool, true, false, ◌&&◌, ◌||◌, cond, List, [], ◌∷◌, length, Option, Some, None, refl, sym, ap, subst, ◌∙◌, arith}
-use Rattle.std.specs.Prelude.{◌==◌, ◌^◌, not, find, nat_le, nat_lt, bytes_eq}
+use Rattle.std.specs.Prelude.{◌==◌, ◌^◌, find, nat_le, nat_lt}
 use Rattle.std.specs.List.{list_all}
 use Rattle.std.proofs.lemmas.Bool.Decides.{nat_tests}
-use Rattle.jet_base.specs.declared.words.ColType.{ColType}
-use Rattle.jet_base.specs.declared.words.ColType.TheVariants as kind
-use Rattle.jet_base.specs.TypeKinds.{is_long_type}
 use Rattle.column_set.specs.declared.columns.Column.{Column}
 use Rattle.column_set.specs.RecordValues.{RecordFields, column_of_id, value_fits, values_fit}
 use Rattle.column_set.specs.Rows.{are_short, is_all_here}
@@ -14,45 +11,8 @@ use Rattle.record_changes.proofs.Tests.{and_left, and_right, and_both, impossibl
 use Rattle.session_local.specs.WellFormed.{stands_in}
 use Rattle.version_records.proofs.PrimaryKeys.{found_passes}
 use Rattle.built_calls.specs.BuiltTables.{is_built_column}
+use Rattle.built_calls.proofs.BuiltColumns.{not_long, values_short}
 use Rattle.engine_versions.specs.ColumnNumbers.{are_in_range, is_given_number}
-
--- ---- values of types that are not long
-
-width_short : (width n : ℕ) → nat_le width 255 ≡ true → (n == width) ≡ true → nat_le n 255 ≡ true
-width_short width n small same = ap (λ (n : ℕ). nat_le n 255) (same_number n width same) ∙ small
-
-neither : (a b : Bool) → ((a && false) || (b && false)) ≡ false
-neither true true = refl
-neither true false = refl
-neither false true = refl
-neither false false = refl
-
-bit_short : (value : List ℕ) → (bytes_eq value (0 ∷ []) || bytes_eq value (1 ∷ [])) ≡ true → nat_le (length value) 255 ≡ true
-bit_short [] h = impossible h
-bit_short (x ∷ []) h = refl
-bit_short (x ∷ y ∷ value) h = impossible (sym (neither (x == 0) (x == 1)) ∙ h)
-
-value_short : (type : ColType) (value : List ℕ) → not (is_long_type type) ≡ true → value_fits type value ≡ true → nat_le (length value) 255 ≡ true
-value_short kind.Bit value built h = bit_short value h
-value_short kind.UnsignedByte value built h = width_short 1 (length value) refl h
-value_short kind.Short value built h = width_short 2 (length value) refl h
-value_short kind.UnsignedShort value built h = width_short 2 (length value) refl h
-value_short kind.Long value built h = width_short 4 (length value) refl h
-value_short kind.UnsignedLong value built h = width_short 4 (length value) refl h
-value_short kind.LongLong value built h = width_short 8 (length value) refl h
-value_short kind.Currency value built h = width_short 8 (length value) refl h
-value_short kind.Guid value built h = width_short 16 (length value) refl h
-value_short kind.Binary value built h = h
-value_short kind.Text value built h = h
-value_short kind.LongBinary value built h = impossible built
-value_short kind.LongText value built h = impossible built
-
-values_short : (type : ColType) (values : List (List ℕ)) → not (is_long_type type) ≡ true → list_all (value_fits type) values ≡ true → are_short values ≡ true
-values_short type [] built h = refl
-values_short type (value ∷ values) built h =
-    and_both (nat_le (length value) 255) (are_short values)
-    (value_short type value built (and_left (value_fits type value) (list_all (value_fits type) values) h))
-    (values_short type values built (and_right (value_fits type value) (list_all (value_fits type) values) h))
 
 -- ---- numbers that were given
 
@@ -105,7 +65,7 @@ field_found greatest columns field (Some column) are is fits =
     let given = found_all at (is_given_number greatest) columns column are.given is in
     let same = same_number column.id.0 field.0 (found_passes at columns column is) in (
       values_short column.kind field.1
-          (and_left (not (is_long_type column.kind)) (not (column.escrow || (column.version || column.auto))) built)
+          (not_long column built)
           (and_right (column.multi || nat_le (length field.1) 1) (list_all (value_fits column.kind) field.1) fits),
       ap (λ (n : ℕ). nat_lt n (2 ^ 16)) (sym same) ∙ given_low greatest column are.range given,
     )

@@ -3,7 +3,6 @@ use Rattle.std.proofs.Common.{◌≡◌, ℕ, ◌+◌, ◌<◌, Bool, true, fals
 use Rattle.std.specs.Prelude.{◌==◌, find, is_none, is_some, nat_le, nat_lt, unwrap_or, IfSome, IsSomeAnd}
 use Rattle.std.specs.List.{AllByRecursion, list_any}
 use Rattle.std.proofs.lemmas.Bool.Decides.{nat_tests}
-use Rattle.jet_base.specs.TypeKinds.{is_long_type}
 use Rattle.jet_base.specs.declared.ids.ColumnId.{ColumnId}
 use Rattle.jet_base.specs.declared.ids.TableId.{TableId}
 use Rattle.jet_base.specs.declared.replies.Jet.TheVariants as jet
@@ -18,12 +17,13 @@ use Rattle.database_state.specs.Table.{Table, primary_first, table_with_id}
 use Rattle.database_state.specs.State.{DatabaseState, levels}
 use Rattle.database_state.specs.SchemaChanges.{greatest_order, is_in_use, makes_table, new_table, next_index_id, rule_columns, schema_refusal, step_refusals, step_table}
 use Rattle.database_state.specs.Lawful.{is_name}
-use Rattle.record_changes.proofs.Tests.{and_left, and_right, and_second, impossible, not_true, same_number}
+use Rattle.record_changes.proofs.Tests.{and_left, and_second, impossible, same_number}
 use Rattle.version_keys.proofs.FreeKeys.{in_any_order}
 use Rattle.version_keys.proofs.IndexNumbers.{all_primary_first, none_of}
 use Rattle.version_keys.proofs.SchemaKeys.{IsNewIndex, at_found, new_index, unrefused}
 use Rattle.version_records.proofs.PrimaryKeys.{found_passes, of_found}
-use Rattle.built_calls.specs.BuiltTables.{is_built_column, makes_built}
+use Rattle.built_calls.specs.BuiltTables.{makes_built}
+use Rattle.built_calls.proofs.BuiltColumns.{not_kept}
 use Rattle.engine_parts.specs.Parts.{tables_of}
 use Rattle.engine_versions.specs.EngineState.{EngineState}
 use Rattle.engine_versions.proofs.Telling.{tables_settled}
@@ -77,15 +77,6 @@ table_there state session made free other =
 
 above : (a b : ℕ) → (a == (b + 1)) ≡ true → b < a
 above a b e = grind (arith, nat_tests)
-
--- a column that is built is not one that the engine keeps up
-not_kept : (column : Column) → is_built_column column ≡ true → is_kept_column column ≡ false
-not_kept column built = same column.escrow column.version column.auto (not_true (column.escrow || (column.version || column.auto)) (and_right (not (is_long_type column.kind)) (not (column.escrow || (column.version || column.auto))) built))
-  where
-    same : (a b d : Bool) → (a || (b || d)) ≡ false → (a || b || d) ≡ false
-    same true b d e = e
-    same false true d e = e
-    same false false d e = e
 
 any_takes : (o : Option Table) (column : Column) → is_kept_column column ≡ false → IfSome o (TakesColumn column)
 any_takes None column plain = tt

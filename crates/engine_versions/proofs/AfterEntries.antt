@@ -11,7 +11,6 @@ use Rattle.index_derive.specs.declared.log.EntryKind.TheVariants as entry
 use Rattle.index_derive.specs.declared.schema_calls.SchemaStep.TheVariants as step
 use Rattle.index_derive.specs.Entries.{is_escrow_column}
 use Rattle.database_state.specs.Table.{Table, row_at, rows_of, schema_of, table_with_id}
-use Rattle.database_state.specs.SchemaChanges.{is_long_type}
 use Rattle.database_state.specs.State.{DatabaseState, LiveSession, PastChange, levels, undone}
 use Rattle.database_state.specs.Step.{applied, innermost_undone, is_at_level, state_after, state_after_all, with_changes_at, with_levels, with_transaction}
 use Rattle.database_state.specs.View.{view}
@@ -34,6 +33,7 @@ use Rattle.versioned_tables.proofs.Undoing.{all_undone_holds, left_holds, undone
 use Rattle.lawful_answers.specs.LawfulSteps.{AreLawful, IsReached}
 use Rattle.lawful_answers.proofs.ReachedStates.{reaches}
 use Rattle.built_calls.specs.BuiltTables.{AllMakeBuilt, is_built_column, is_built_rule, is_built_table, makes_built}
+use Rattle.built_calls.proofs.BuiltColumns.{not_numbered, not_sum}
 use Rattle.engine_versions.proofs.SumFree.{is_sum_entry, no_sums_after}
 use Rattle.engine_versions.specs.EngineState.{EngineState}
 use Rattle.engine_versions.specs.EngineSteps.{engine_after, engine_after_all, greatest_after, maker, store_after}
@@ -56,14 +56,9 @@ kind_lawful state made e = and_right (has_number state.number made.kind) _ e
 plain_column : (columns : List Column) (id : ℕ) → list_all is_built_column columns ≡ true → elim (column_of_id columns id) [ Some column ↦ column.escrow | None ↦ false ] ≡ false
 plain_column [] id h = refl
 plain_column (c ∷ columns) id h = elim (c.id.0 == id) as (λ b. elim (cond b (Some c) (column_of_id columns id)) [ Some column ↦ column.escrow | None ↦ false ] ≡ false) [
-  | true ↦ by (is_long_type c.kind) c.escrow c.version c.auto (and_left (is_built_column c) (list_all is_built_column columns) h)
+  | true ↦ not_sum c (and_left (is_built_column c) (list_all is_built_column columns) h)
   | false ↦ plain_column columns id (and_right (is_built_column c) (list_all is_built_column columns) h)
 ]
-  where
-    by : (l e v a : Bool) → (not l && not (e || (v || a))) ≡ true → e ≡ false
-    by true e v a f = impossible f
-    by false true v a f = impossible f
-    by false false v a f = refl
 
 pub no_sum_comes : (engine : EngineState) (state : DatabaseState) → HoldsState engine state → (session : ℕ) (kind : EntryKind) → is_lawful_kind state session kind ≡ true → is_sum_entry kind ≡ false
 no_sum_comes engine state h session (entry.Change (Put table bookmark copied values)) e = refl
@@ -149,14 +144,7 @@ greatest_stays state session (entry.Schema made) = refl
 
 -- an entry that makes only what is built leaves no record short
 short_of : (kind : EntryKind) → makes_built kind ≡ true → leaves_records_short kind ≡ false
-short_of (entry.Schema (step.AddColumn table column)) e = by (is_long_type column.kind) column.escrow column.version column.auto e
-  where
-    by : (l e v a : Bool) → (not l && not (e || (v || a))) ≡ true → (v || a) ≡ false
-    by true e v a f = impossible f
-    by false true v a f = impossible f
-    by false false true a f = impossible f
-    by false false false true f = impossible f
-    by false false false false f = refl
+short_of (entry.Schema (step.AddColumn table column)) e = not_numbered column e
 short_of (entry.Schema (step.CreateTable table name)) e = refl
 short_of (entry.Schema (step.DeleteTable table)) e = refl
 short_of (entry.Schema (step.DeleteColumn table column)) e = refl

@@ -1,5 +1,5 @@
 -- Updates that a session prepares by itself, or copies, keep it in step.
-use Rattle.std.proofs.Common.{◌≡◌, ℕ, ◌≤◌, Bool, true, false, not, ◌&&◌, ◌||◌, cond, List, [], ◌∷◌, ◌++◌, map, fold, Option, Some, None, refl, sym, ap, subst, ◌∙◌, arith}
+use Rattle.std.proofs.Common.{◌≡◌, ℕ, ◌≤◌, Bool, true, false, not, ◌||◌, cond, List, [], ◌∷◌, ◌++◌, map, fold, Option, Some, None, refl, sym, ap, subst, ◌∙◌, arith}
 use Rattle.std.specs.Prelude.{◌==◌, bytes_eq, find, is_none, nat_le, unwrap_or, IfSome}
 use Rattle.std.specs.List.{list_all}
 use Rattle.std.proofs.lemmas.Bool.Decides.{nat_tests}
@@ -7,7 +7,6 @@ use Rattle.jet_base.specs.declared.ids.CursorId.{CursorId}
 use Rattle.jet_base.specs.declared.replies.Jet.{Jet}
 use Rattle.jet_base.specs.declared.words.Given.{Given}
 use Rattle.jet_base.specs.declared.words.Prepare.TheVariants as prepare
-use Rattle.jet_base.specs.TypeKinds.{is_long_type}
 use Rattle.column_set.specs.declared.columns.Column.{Column}
 use Rattle.column_set.specs.RecordValues.{RecordFields, column_named, has_value, is_kept_column, record_fits, record_size, with_values}
 use Rattle.record_edit.specs.SetColumn.{fields_after, set_refusals, size_refusals}
@@ -37,6 +36,7 @@ use Rattle.agreeing_sessions.specs.InStep.{IsInStep, StaysInStep}
 use Rattle.agreeing_sessions.proofs.Answering.{at_found, past, when_begun}
 use Rattle.agreeing_sessions.proofs.OpenCursors.{prepared_in_step}
 use Rattle.built_calls.specs.BuiltTables.{is_built_column, is_built_rule, is_built_table}
+use Rattle.built_calls.proofs.BuiltColumns.{not_kept, not_sum}
 use Rattle.engine_versions.specs.EngineState.{EngineState}
 use Rattle.engine_versions.specs.HoldsState.{HoldsState, asked_of}
 use Rattle.engine_versions.proofs.ColumnNumbers.{all_mono}
@@ -56,22 +56,10 @@ columns_built engine state session local h c at =
     (subst (λ (o : Option Table). IfSome o (λ t. is_built_table t ≡ true)) at.found (all_found is_built_table state.tables h.built c.cursor.table))
 
 plain_kept : (values : RecordFields) (c : Column) → is_built_column c ≡ true → (not (is_kept_column c) || has_value values c.id.0) ≡ true
-plain_kept values c h = by (is_long_type c.kind) c.escrow c.version c.auto (has_value values c.id.0) h
-  where
-    by : (l e v a w : Bool) → (not l && not (e || (v || a))) ≡ true → (not (e || v || a) || w) ≡ true
-    by true e v a w f = impossible f
-    by false true v a w f = impossible f
-    by false false true a w f = impossible f
-    by false false false true w f = impossible f
-    by false false false false w f = refl
+plain_kept values c h = ap (λ kept. not kept || has_value values c.id.0) (not_kept c h)
 
 plain_sums : (seen : Option RecordFields) (values : RecordFields) (columns : List Column) → AreBuilt columns → keeps_escrow columns seen values ≡ true
-plain_sums seen values columns built = all_mono is_built_column (λ c. not c.escrow || bytes_eq (escrow_bytes values c.id.0) (escrow_bytes (unwrap_or seen []) c.id.0)) (λ c h. by (is_long_type c.kind) c.escrow c.version c.auto _ h) columns built
-  where
-    by : (l e v a w : Bool) → (not l && not (e || (v || a))) ≡ true → (not e || w) ≡ true
-    by true e v a w f = impossible f
-    by false true v a w f = impossible f
-    by false false v a w f = refl
+plain_sums seen values columns built = all_mono is_built_column (λ c. not c.escrow || bytes_eq (escrow_bytes values c.id.0) (escrow_bytes (unwrap_or seen []) c.id.0)) (λ c h. ap (λ sum. not sum || bytes_eq (escrow_bytes values c.id.0) (escrow_bytes (unwrap_or seen []) c.id.0)) (not_sum c h)) columns built
 
 le_of : (a b : ℕ) → nat_le a b ≡ true → a ≤ b
 le_of a b h = grind (arith, nat_tests)

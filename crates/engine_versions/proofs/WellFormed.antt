@@ -1,22 +1,22 @@
 -- Schemas of tables and sessions in step are well formed.
-use Rattle.std.proofs.Common.{◌≡◌, ℕ, ◌≤◌, Bool, true, false, not, ◌&&◌, ◌||◌, cond, List, [], ◌∷◌, ◌++◌, map, filter, length, Option, Some, None, refl, ap, ◌∙◌, arith}
+use Rattle.std.proofs.Common.{◌≡◌, ℕ, ◌≤◌, Bool, true, not, ◌&&◌, ◌||◌, cond, List, [], ◌∷◌, ◌++◌, map, filter, length, Option, Some, None, refl, ap, ◌∙◌, arith}
 use Rattle.std.specs.Prelude.{nat_le, IfSome}
 use Rattle.std.specs.List.{AllByRecursion, list_all}
 use Rattle.std.proofs.lemmas.Bool.Decides.{nat_tests}
-use Rattle.jet_base.specs.TypeKinds.{is_long_type}
 use Rattle.column_set.specs.declared.columns.Column.{Column}
 use Rattle.column_set.specs.RecordValues.{has_value, is_kept_column, record_size}
 use Rattle.index_derive.specs.declared.rules.IndexRule.{IndexRule}
 use Rattle.database_state.specs.Table.{Table, primary_first, schema_of, table_with_id}
 use Rattle.database_state.specs.SchemaChanges.{is_type_long}
 use Rattle.database_state.specs.State.{DatabaseState}
-use Rattle.record_changes.proofs.Tests.{and_left, and_right, and_both, impossible}
+use Rattle.record_changes.proofs.Tests.{and_left, and_right, and_both}
 use Rattle.session_local.specs.Agreement.{HasSchemaOf, IsStorable}
 use Rattle.session_local.specs.Local.{LocalState, OpenCursor, PreparedUpdate}
 use Rattle.session_local.specs.SessionSide.{are_distinct}
 use Rattle.session_local.specs.WellFormed.{has_short_keys, is_long_if_sum, is_sum, is_well_formed_cursor, is_well_formed_schema, is_well_formed_update, number_of_column, stands_in}
 use Rattle.agreeing_sessions.specs.InStep.{IsInStep}
 use Rattle.built_calls.specs.BuiltTables.{is_built_column, is_built_rule, is_built_table}
+use Rattle.built_calls.proofs.BuiltColumns.{not_sum}
 use Rattle.engine_versions.specs.ColumnNumbers.{are_in_range, has_own_numbers, is_given_number}
 use Rattle.engine_versions.specs.EngineState.{EngineState}
 use Rattle.engine_versions.specs.HoldsState.{HoldsState}
@@ -25,18 +25,10 @@ use Rattle.engine_versions.proofs.Tables.{all_filtered, all_found}
 
 -- ---- schemas
 
-no_sum : (c : Column) → is_built_column c ≡ true → c.escrow ≡ false
-no_sum c h = by (is_long_type c.kind) c.escrow c.version c.auto h
-  where
-    by : (l e v a : Bool) → (not l && not (e || (v || a))) ≡ true → e ≡ false
-    by true e v a f = impossible f
-    by false true v a f = impossible f
-    by false false v a f = refl
-
 pub no_sums : (columns : List Column) → list_all is_built_column columns ≡ true → filter is_sum columns ≡ []
 no_sums [] h = refl
 no_sums (c ∷ columns) h =
-    ap (λ b. cond b (c ∷ filter is_sum columns) (filter is_sum columns)) (no_sum c (and_left (is_built_column c) (list_all is_built_column columns) h)) ∙ no_sums columns (and_right (is_built_column c) (list_all is_built_column columns) h)
+    ap (λ b. cond b (c ∷ filter is_sum columns) (filter is_sum columns)) (not_sum c (and_left (is_built_column c) (list_all is_built_column columns) h)) ∙ no_sums columns (and_right (is_built_column c) (list_all is_built_column columns) h)
 
 all_joined : (p : IndexRule → Bool) (xs ys : List IndexRule) → list_all p xs ≡ true → list_all p ys ≡ true → list_all p (xs ++ ys) ≡ true
 all_joined p [] ys h g = g
@@ -51,7 +43,7 @@ schema_formed t built own =
     let few = nat_le (length (filter is_sum t.columns)) 127 in
     and_both (are_distinct (map number_of_column t.columns) && sums && few) (list_all has_short_keys (primary_first t.indexes))
     (and_both (are_distinct (map number_of_column t.columns) && sums) few
-    (and_both (are_distinct (map number_of_column t.columns)) sums distinct (all_mono is_built_column is_long_if_sum (λ c h. ap (λ b. not b || is_type_long c.kind) (no_sum c h)) t.columns columns))
+    (and_both (are_distinct (map number_of_column t.columns)) sums distinct (all_mono is_built_column is_long_if_sum (λ c h. ap (λ b. not b || is_type_long c.kind) (not_sum c h)) t.columns columns))
     (ap (λ (l : List Column). nat_le (length l) 127) (no_sums t.columns columns)))
     (all_joined has_short_keys (filter (λ r. r.flags.primary) t.indexes) (filter (λ r. not r.flags.primary) t.indexes) (all_filtered is_built_rule (λ r. r.flags.primary) t.indexes rules) (all_filtered is_built_rule (λ r. not r.flags.primary) t.indexes rules))
 

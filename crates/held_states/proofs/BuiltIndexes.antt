@@ -5,16 +5,17 @@ use Rattle.std.specs.List.{list_all, list_any}
 use Rattle.column_set.specs.declared.columns.Column.{Column}
 use Rattle.index_derive.specs.declared.rules.IndexRule.{IndexRule}
 use Rattle.database_state.specs.Table.{Table}
-use Rattle.database_state.specs.SchemaChanges.{is_long_type, rule_columns}
-use Rattle.record_changes.proofs.Tests.{and_both, and_left, and_right, not_true, or_first}
+use Rattle.database_state.specs.SchemaChanges.{rule_columns}
+use Rattle.record_changes.proofs.Tests.{and_both, and_left, and_right}
 use Rattle.equivalent_states.specs.PlainIndexes.{is_sum_number, read_no_sums, reads_no_sum}
 use Rattle.built_calls.specs.BuiltTables.{are_built, is_built_column, is_built_rule, is_built_table}
+use Rattle.built_calls.proofs.BuiltColumns.{not_sum}
 
 no_sum : (columns : List Column) → list_all is_built_column columns ≡ true → (id : ℕ) → is_sum_number columns id ≡ false
 no_sum [] h id = refl
 no_sum (c ∷ columns) h id =
     ap (λ b. (b && (c.id.0 == id)) || is_sum_number columns id)
-    (or_first c.escrow (c.version || c.auto) (not_true (c.escrow || (c.version || c.auto)) (and_right (not (is_long_type c.kind)) (not (c.escrow || (c.version || c.auto))) (and_left (is_built_column c) (list_all is_built_column columns) h))))
+    (not_sum c (and_left (is_built_column c) (list_all is_built_column columns) h))
     ∙ no_sum columns (and_right (is_built_column c) (list_all is_built_column columns) h) id
 
 none_read : (columns : List Column) → ((id : ℕ) → is_sum_number columns id ≡ false) → (ids : List ℕ) → list_any (is_sum_number columns) ids ≡ false

@@ -1,10 +1,10 @@
 //! What a schema step does to the catalog.
 
-ghost use Rattle.std.specs.Prelude.{◌≡◌, ◌==◌, ◌<◌, ◌≤◌, [], ◌∷◌, ◌++◌, not, filter, length, take, IfOk, IsTrue, OnOk, OnErr};
+ghost use Rattle.std.specs.Prelude.{◌≡◌, ◌==◌, ◌<◌, ◌≤◌, [], ◌∷◌, ◌++◌, not, filter, length, IfOk, IsTrue, OnOk, OnErr};
 ghost use Rattle.std.specs.List.{insert};
 ghost use Rattle.database_state.specs.Table.{with_table};
 ghost use Rattle.database_state.specs.SchemaChanges.{new_table, columns_with, with_column, without_column, with_index, without_index};
-ghost use Rattle.jet_catalog.specs.Catalog.{IsNumbered, catalog_after, has_new_id};
+ghost use Rattle.jet_catalog.specs.Catalog.{catalog_after, has_new_id};
 
 use crate::catalog::Catalog;
 use crate::table::{TableDef, schema_indexes};
@@ -108,15 +108,6 @@ impl Catalog {
             SchemaStep::CreateIndex { table, index } => self.add_index(*table, index),
             SchemaStep::DeleteIndex { table, index } => self.delete_index(*table, *index),
         }
-    }
-
-    /// Goes back to the first tables, this many, and to the greatest number that was given then. It takes no memory.
-    pub fn go_back(&mut self, count: usize, greatest: u32)
-        requires { IsNumbered (record { greatest_table = greatest; tables = take count self.old.tables }) }
-        ensures { self.new ≡ record { greatest_table = greatest; tables = take count self.old.tables } }
-    {
-        self.tables.truncate(count);
-        self.greatest = greatest;
     }
 
     fn create_table(&mut self, id: TableId, name: &Name) -> Result<(), OutOfMemory>

@@ -1,15 +1,12 @@
 -- What decides PrepareUpdate `replace` and `insertcopy`.
-use Rattle.std.proofs.Common.{◌≡◌, ℕ, ◌≤◌, Bool, true, false, cond, not, ◌&&◌, ◌||◌, List, [], ◌∷◌, ◌++◌, length, map, fold, Option, Some, None, unwrap_or, refl, sym, ap, subst, ◌∙◌}
-use Rattle.std.specs.Prelude.{◌==◌, bytes_eq, find, nat_le, is_none, is_some, IfSome, IsTrue}
+use Rattle.std.proofs.Common.{◌≡◌, ℕ, ◌≤◌, Bool, true, false, cond, not, ◌||◌, List, [], ◌∷◌, ◌++◌, length, map, fold, Option, Some, None, unwrap_or, refl, sym, ap, subst, ◌∙◌}
+use Rattle.std.specs.Prelude.{◌==◌, find, nat_le, is_none, is_some, IfSome, IsTrue}
 use Rattle.std.specs.List.{list_all}
 use Rattle.jet_base.specs.declared.ids.CursorId.{CursorId}
 use Rattle.jet_base.specs.declared.replies.Jet.{Jet}
 use Rattle.jet_base.specs.declared.replies.Jet.TheVariants as jet
-use Rattle.jet_base.specs.declared.words.ColType.{ColType}
-use Rattle.jet_base.specs.declared.words.ColType.TheVariants as kind
 use Rattle.jet_base.specs.declared.words.Prepare.{Prepare}
 use Rattle.jet_base.specs.declared.words.Prepare.TheVariants as prepare
-use Rattle.jet_base.specs.TypeKinds.{is_long_type}
 use Rattle.column_set.specs.declared.columns.Column.{Column}
 use Rattle.column_set.specs.Record.{is_record}
 use Rattle.column_set.specs.RecordValues.{RecordFields, column_of_id, record_fits, record_size, value_fits, values_fit, with_values}
@@ -17,7 +14,7 @@ use Rattle.column_set.specs.Rows.{are_short}
 use Rattle.index_derive.specs.declared.log.Step.{Step}
 use Rattle.database_state.specs.Refusals.{Refusals, first_refusal}
 use Rattle.database_state.specs.State.{DatabaseState}
-use Rattle.record_changes.proofs.Tests.{and_both, and_left, and_right, impossible, same_number}
+use Rattle.record_changes.proofs.Tests.{and_both, and_left, and_right, impossible}
 use Rattle.session_local.specs.declared.decision.Decision.{Decision}
 use Rattle.session_local.specs.declared.prepared.Prepared.{Prepared}
 use Rattle.session_local.specs.declared.reply.Value.TheVariants as value
@@ -36,6 +33,7 @@ use Rattle.session_local.specs.SessionSide.{SessionSide, are_distinct}
 use Rattle.session_local.specs.WellFormed.{IsWellFormed, is_well_formed_cursor, is_well_formed_schema, is_well_formed_update, number_of_column, stands_in}
 use Rattle.agreeing_sessions.specs.InStep.{IsInStep}
 use Rattle.built_calls.specs.BuiltTables.{is_built_column}
+use Rattle.built_calls.proofs.BuiltColumns.{not_long, values_short}
 use Rattle.engine_versions.specs.EngineState.{EngineState}
 use Rattle.engine_versions.specs.HoldsState.{HoldsState}
 use Rattle.engine_versions.proofs.WellFormed.{no_sums}
@@ -67,42 +65,6 @@ found_passes {X} p test (y ∷ ys) x all found = by (test y) found (found_passes
     by true e rest = ap (λ (o : Option X). p (unwrap_or o y)) (sym e) ∙ and_left (p y) (list_all p ys) all
     by false e rest = rest e
 
-width_short : (width n : ℕ) → nat_le width 255 ≡ true → (n == width) ≡ true → nat_le n 255 ≡ true
-width_short width n small same = ap (λ (n : ℕ). nat_le n 255) (same_number n width same) ∙ small
-
-neither : (a b : Bool) → ((a && false) || (b && false)) ≡ false
-neither true true = refl
-neither true false = refl
-neither false true = refl
-neither false false = refl
-
-bit_short : (value : List ℕ) → (bytes_eq value (0 ∷ []) || bytes_eq value (1 ∷ [])) ≡ true → nat_le (length value) 255 ≡ true
-bit_short [] h = cc
-bit_short (x ∷ []) h = refl
-bit_short (x ∷ y ∷ value) h = let no = neither (x == 0) (x == 1) in cc
-
-value_short : (type : ColType) (value : List ℕ) → not (is_long_type type) ≡ true → value_fits type value ≡ true → nat_le (length value) 255 ≡ true
-value_short kind.Bit value built h = bit_short value h
-value_short kind.UnsignedByte value built h = width_short 1 (length value) refl h
-value_short kind.Short value built h = width_short 2 (length value) refl h
-value_short kind.UnsignedShort value built h = width_short 2 (length value) refl h
-value_short kind.Long value built h = width_short 4 (length value) refl h
-value_short kind.UnsignedLong value built h = width_short 4 (length value) refl h
-value_short kind.LongLong value built h = width_short 8 (length value) refl h
-value_short kind.Currency value built h = width_short 8 (length value) refl h
-value_short kind.Guid value built h = width_short 16 (length value) refl h
-value_short kind.Binary value built h = h
-value_short kind.Text value built h = h
-value_short kind.LongBinary value built h = cc
-value_short kind.LongText value built h = cc
-
-values_short : (type : ColType) (values : List (List ℕ)) → not (is_long_type type) ≡ true → list_all (value_fits type) values ≡ true → are_short values ≡ true
-values_short type [] built h = refl
-values_short type (value ∷ values) built h =
-    and_both (nat_le (length value) 255) (are_short values)
-    (value_short type value built (and_left (value_fits type value) (list_all (value_fits type) values) h))
-    (values_short type values built (and_right (value_fits type value) (list_all (value_fits type) values) h))
-
 -- the values of a column that is built are short
 field_short : (columns : List Column) (number : ℕ) (values : List (List ℕ)) → list_all is_built_column columns ≡ true → stands_in columns (number, values) ≡ true → are_short values ≡ true
 field_short columns number values built stands = by (column_of_id columns number) refl stands
@@ -111,7 +73,7 @@ field_short columns number values built stands = by (column_of_id columns number
     by None e h = impossible h
     by (Some column) e h =
         values_short column.kind values
-        (and_left (not (is_long_type column.kind)) _ (found_passes is_built_column (λ (c : Column). c.id.0 == number) columns column built e))
+        (not_long column (found_passes is_built_column (λ (c : Column). c.id.0 == number) columns column built e))
         (and_right (column.multi || nat_le (length values) 1) (list_all (value_fits column.kind) values) h)
 
 field_named : (columns : List Column) (number : ℕ) (values : List (List ℕ)) → stands_in columns (number, values) ≡ true → is_some (column_of_id columns number) ≡ true

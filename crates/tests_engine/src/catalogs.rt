@@ -298,12 +298,3 @@ fn an_index_has_conditions(rt: HostRuntime) {
     let call = delete_column(&rt, rt.alloc(), "b");
     assert!(&rt; answer(&rt, &mut catalog, call, true) == Jet::ColumnInUse);
 }
-
-#[test]
-fn a_new_table_is_taken_back(rt: HostRuntime) {
-    let mut catalog = Catalog::new(rt.alloc());
-    make(&rt, &mut catalog, create_table(&rt, rt.alloc(), "T"));
-    assert!(&rt; catalog.len() == 1);
-    catalog.go_back(0, 0);
-    assert!(&rt; catalog.len() == 0 && catalog.greatest() == 0);
-}

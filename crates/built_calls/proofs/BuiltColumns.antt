@@ -1,0 +1,71 @@
+-- Columns that are built: their values are short, and they are no sums and not kept up by the engine.
+use Rattle.std.proofs.Common.{◌≡◌, ℕ, Bool, true, false, not, ◌&&◌, ◌||◌, List, [], ◌∷◌, length, refl, arith}
+use Rattle.std.specs.Prelude.{◌==◌, nat_le, bytes_eq}
+use Rattle.std.specs.List.{list_all}
+use Rattle.std.proofs.lemmas.Bool.{and_from, and_parts}
+use Rattle.std.proofs.lemmas.Bool.Decides.{nat_tests}
+use Rattle.jet_base.specs.declared.words.ColType.{ColType}
+use Rattle.jet_base.specs.declared.words.ColType.TheVariants as kind
+use Rattle.jet_base.specs.TypeKinds.{is_long_type}
+use Rattle.column_set.specs.declared.columns.Column.{Column}
+use Rattle.column_set.specs.RecordValues.{is_kept_column, value_fits}
+use Rattle.column_set.specs.Rows.{are_short}
+use Rattle.built_calls.specs.BuiltTables.{is_built_column}
+
+-- ---- its type and flags
+
+pub not_long : (c : Column) → is_built_column c ≡ true → not (is_long_type c.kind) ≡ true
+not_long c h = (and_parts (not (is_long_type c.kind)) (not (c.escrow || (c.version || c.auto))) h).0
+
+without_flags : (long escrow version auto : Bool) → (not long && not (escrow || (version || auto))) ≡ true → (escrow ≡ false) × ((version || auto) ≡ false) × ((escrow || version || auto) ≡ false)
+without_flags true escrow version auto h = absurd cc
+without_flags false true version auto h = absurd cc
+without_flags false false true auto h = absurd cc
+without_flags false false false true h = absurd cc
+without_flags false false false false h = (refl, refl, refl)
+
+pub not_sum : (c : Column) → is_built_column c ≡ true → c.escrow ≡ false
+not_sum c h = (without_flags (is_long_type c.kind) c.escrow c.version c.auto h).0
+
+pub not_numbered : (c : Column) → is_built_column c ≡ true → (c.version || c.auto) ≡ false
+not_numbered c h = (without_flags (is_long_type c.kind) c.escrow c.version c.auto h).1
+
+pub not_kept : (c : Column) → is_built_column c ≡ true → is_kept_column c ≡ false
+not_kept c h = (without_flags (is_long_type c.kind) c.escrow c.version c.auto h).2
+
+-- ---- values of types that are not long
+
+width_short : (width n : ℕ) → nat_le width 255 ≡ true → (n == width) ≡ true → nat_le n 255 ≡ true
+width_short width n small same = grind (arith, nat_tests)
+
+neither : (a b : Bool) → ((a && false) || (b && false)) ≡ false
+neither true true = refl
+neither true false = refl
+neither false true = refl
+neither false false = refl
+
+bit_short : (value : List ℕ) → (bytes_eq value (0 ∷ []) || bytes_eq value (1 ∷ [])) ≡ true → nat_le (length value) 255 ≡ true
+bit_short [] h = cc
+bit_short (x ∷ []) h = refl
+bit_short (x ∷ y ∷ value) h = let no = neither (x == 0) (x == 1) in cc
+
+value_short : (type : ColType) (value : List ℕ) → not (is_long_type type) ≡ true → value_fits type value ≡ true → nat_le (length value) 255 ≡ true
+value_short kind.Bit value plain h = bit_short value h
+value_short kind.UnsignedByte value plain h = width_short 1 (length value) refl h
+value_short kind.Short value plain h = width_short 2 (length value) refl h
+value_short kind.UnsignedShort value plain h = width_short 2 (length value) refl h
+value_short kind.Long value plain h = width_short 4 (length value) refl h
+value_short kind.UnsignedLong value plain h = width_short 4 (length value) refl h
+value_short kind.LongLong value plain h = width_short 8 (length value) refl h
+value_short kind.Currency value plain h = width_short 8 (length value) refl h
+value_short kind.Guid value plain h = width_short 16 (length value) refl h
+value_short kind.Binary value plain h = h
+value_short kind.Text value plain h = h
+value_short kind.LongBinary value plain h = cc
+value_short kind.LongText value plain h = cc
+
+pub values_short : (type : ColType) (values : List (List ℕ)) → not (is_long_type type) ≡ true → list_all (value_fits type) values ≡ true → are_short values ≡ true
+values_short type [] plain h = refl
+values_short type (value ∷ values) plain h =
+    let both = and_parts (value_fits type value) (list_all (value_fits type) values) h in
+    and_from (nat_le (length value) 255) (are_short values) (value_short type value plain both.0) (values_short type values plain both.1)
