@@ -1,8 +1,7 @@
 -- Room is kept for all that is to end.
-use Rattle.std.proofs.Common.{◌≡◌, ℕ, ◌+◌, ◌-◌, ◌*◌, ◌^◌, ◌<◌, ◌≤◌, ◌⊎◌, inl, inr, Bool, true, false, not, List, [], ◌∷◌, ◌++◌, length, Some, refl, sym, ap, subst, ◌∙◌, arith}
+use Rattle.std.proofs.Common.{◌≡◌, ℕ, ◌+◌, ◌-◌, ◌*◌, ◌^◌, ◌<◌, ◌≤◌, inl, inr, Bool, true, false, not, [], ◌∷◌, length, Some, refl, sym, ap, subst, ◌∙◌, arith}
 use Rattle.record_changes.proofs.Tests.{impossible}
 use Rattle.jet_base.specs.declared.ids.Session.{Session}
-use Rattle.index_derive.specs.declared.log.Entry.{Entry}
 use Rattle.index_derive.specs.declared.log.EntryKind.{EntryKind}
 use Rattle.index_derive.specs.declared.log.EntryKind.TheVariants as entry
 use Rattle.index_derive.specs.declared.log.Step.{Step}
@@ -10,7 +9,7 @@ use Rattle.index_derive.specs.declared.log.Step.TheVariants.{One, Alone}
 use Rattle.index_derive.specs.Steps.{entries_of_step, step_length}
 use Rattle.engine_versions.specs.EngineState.{EngineState}
 use Rattle.engine_versions.specs.EngineSteps.{cleaned_for, cleans_first, engine_after_step}
-use Rattle.engine_steps.specs.Steps.{may_lack_memory, step_may_lack_memory}
+use Rattle.engine_steps.specs.Steps.{may_lack_memory}
 use Rattle.entry_log.specs.LogState.{LogState, appended, stream_end}
 use Rattle.log_grammar.specs.EntryBytes.{entry_bytes}
 use Rattle.log_grammar.specs.EntryStreams.{stream_bytes}

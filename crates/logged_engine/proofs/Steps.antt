@@ -1,5 +1,5 @@
 -- What a step leaves to end.
-use Rattle.std.proofs.Common.{◌≡◌, ℕ, ◌+◌, ◌≤◌, Bool, true, false, Some, refl, sym, ap, subst, arith}
+use Rattle.std.proofs.Common.{◌≡◌, ℕ, ◌+◌, ◌≤◌, Bool, true, false, Some, refl, subst, arith}
 use Rattle.index_derive.specs.declared.log.Entry.{Entry}
 use Rattle.index_derive.specs.declared.log.EntryKind.TheVariants as entry
 use Rattle.index_derive.specs.declared.log.Step.{Step}
@@ -13,7 +13,6 @@ use Rattle.engine_versions.specs.BuiltTables.{AllMakeBuilt, makes_built}
 use Rattle.engine_versions.specs.EngineState.{EngineState, cleaned}
 use Rattle.engine_versions.specs.EngineSteps.{cleaned_for, cleans_first, engine_after, engine_after_step}
 use Rattle.engine_versions.specs.HoldsState.{HoldsState}
-use Rattle.engine_steps.specs.Steps.{MayTake}
 use Rattle.logged_engine.specs.Ends.{begun_bytes, end_bytes, ended_bytes, made_by}
 use Rattle.logged_engine.proofs.Ends.{entry_keeps}
 

@@ -1,12 +1,12 @@
 //! The engine with the bytes of its log entries.
 
-ghost use Rattle.std.specs.Prelude.{◌≡◌, ◌≤◌, ◌<◌, ◌+◌, ◌-◌, ◌^◌, ◌++◌, [], ℕ, true, false, Some, drop, length, min, take, IfOk, IsTrue, OnErr, OnOk};
+ghost use Rattle.std.specs.Prelude.{◌≡◌, ◌≤◌, ◌<◌, ◌+◌, ◌-◌, ◌^◌, ◌++◌, [], true, false, Some, drop, length, min, take, IfOk, IsTrue, OnErr, OnOk};
 ghost use Rattle.index_derive.specs.Steps.{entries_of_step};
 ghost use Rattle.database_state.specs.State.{DatabaseState};
 ghost use Rattle.session_local.specs.LocalCalls.{is_answered_locally};
 ghost use Rattle.session_local.specs.Run.{takes_no_memory};
 ghost use Rattle.engine_versions.specs.BuiltCalls.{is_built_request};
-ghost use Rattle.engine_versions.specs.EngineState.{HasRoomForEnds, cleaned, empty_engine};
+ghost use Rattle.engine_versions.specs.EngineState.{HasRoomForEnds, cleaned};
 ghost use Rattle.engine_versions.specs.EngineSteps.{engine_after_step};
 ghost use Rattle.engine_versions.specs.HoldsState.{HoldsState};
 ghost use Rattle.engine_parts.specs.Deciding.{Decides, IsBeside, IsDecision};

@@ -1,4 +1,4 @@
-use Rattle.std.proofs.Common.{◌≡◌, ◌+◌, length, Some, ap, ◌∙◌, arith}
+use Rattle.std.proofs.Common.{length, Some, ap, ◌∙◌, arith}
 use Rattle.index_derive.specs.declared.log.Step.{Step}
 use Rattle.index_derive.specs.Steps.{entries_of_step}
 use Rattle.log_grammar.specs.EntryStreams.{stream_bytes}

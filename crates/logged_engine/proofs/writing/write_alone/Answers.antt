@@ -1,4 +1,4 @@
-use Rattle.std.proofs.Common.{◌≡◌, ◌+◌, ◌<◌, ◌≤◌, length, true, sym, ap, subst, ◌∙◌, arith}
+use Rattle.std.proofs.Common.{◌≡◌, length, true, sym, ap, subst, ◌∙◌, arith}
 use Rattle.index_derive.specs.declared.log.Entry.{Entry}
 use Rattle.log_grammar.specs.EntryBytes.{entry_bytes, has_spelling}
 use Rattle.logged_engine.proofs.StepBytes.{begin_size, begin_spelled, commit_size, commit_spelled, end_appended, loggable_parts}

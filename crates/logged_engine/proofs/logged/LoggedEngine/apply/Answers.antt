@@ -1,4 +1,4 @@
-use Rattle.std.proofs.Common.{◌≡◌, sym, subst}
+use Rattle.std.proofs.Common.{sym, subst}
 use Rattle.engine_versions.specs.EngineState.{EngineState}
 use Rattle.engine_steps.specs.Steps.{MayTake}
 use Rattle.logged_engine.specs.LoggedState.{HasRoom, LoggedState}
