@@ -12,7 +12,7 @@ use Rattle.index_derive.specs.Steps.{entries_of_step}
 use Rattle.database_state.specs.State.{DatabaseState}
 use Rattle.database_state.specs.Lawful.{has_number, is_lawful, is_lawful_kind, log_limit}
 use Rattle.lawful_answers.specs.LawfulSteps.{AreLawful}
-use Rattle.engine_versions.specs.BuiltTables.{AllMakeBuilt}
+use Rattle.built_calls.specs.BuiltTables.{AllMakeBuilt}
 use Rattle.engine_versions.specs.EngineState.{EngineState, HasRoomForEnds, ends_in}
 use Rattle.engine_versions.specs.EngineSteps.{cleaned_for, engine_after_step}
 use Rattle.engine_versions.specs.HoldsState.{HoldsState}

@@ -9,7 +9,7 @@ use Rattle.database_state.specs.State.{DatabaseState}
 use Rattle.database_state.specs.Step.{state_after}
 use Rattle.database_state.specs.Lawful.{is_lawful}
 use Rattle.lawful_answers.specs.LawfulSteps.{AreLawful}
-use Rattle.engine_versions.specs.BuiltTables.{AllMakeBuilt, makes_built}
+use Rattle.built_calls.specs.BuiltTables.{AllMakeBuilt, makes_built}
 use Rattle.engine_versions.specs.EngineState.{EngineState, cleaned}
 use Rattle.engine_versions.specs.EngineSteps.{cleaned_for, cleans_first, engine_after, engine_after_step}
 use Rattle.engine_versions.specs.HoldsState.{HoldsState}

@@ -5,7 +5,7 @@ ghost use Rattle.index_derive.specs.Steps.{entries_of_step};
 ghost use Rattle.database_state.specs.State.{DatabaseState};
 ghost use Rattle.session_local.specs.LocalCalls.{is_answered_locally};
 ghost use Rattle.session_local.specs.Run.{takes_no_memory};
-ghost use Rattle.engine_versions.specs.BuiltCalls.{is_built_request};
+ghost use Rattle.built_calls.specs.BuiltCalls.{is_built_request};
 ghost use Rattle.engine_versions.specs.EngineState.{HasRoomForEnds, cleaned};
 ghost use Rattle.engine_versions.specs.EngineSteps.{engine_after_step};
 ghost use Rattle.engine_versions.specs.HoldsState.{HoldsState};

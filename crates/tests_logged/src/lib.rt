@@ -1,0 +1,5 @@
+//! Tests of the engine with the bytes of its log entries.
+#![tactic(auto)]
+
+#[cfg(test)]
+mod first_entries;
