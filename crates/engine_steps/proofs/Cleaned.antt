@@ -65,5 +65,4 @@ given_up keeps count engine state u h =
       sessions = h.sessions;
       labels = h.labels;
       built = h.built;
-      columns = h.columns;
     }

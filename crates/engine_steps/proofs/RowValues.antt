@@ -10,9 +10,9 @@ use Rattle.database_state.specs.Table.{GreatestColumns}
 use Rattle.record_changes.proofs.Tests.{and_left, and_right, and_both, impossible, same_number}
 use Rattle.session_local.specs.WellFormed.{stands_in}
 use Rattle.version_records.proofs.PrimaryKeys.{found_passes}
+use Rattle.lawful_answers.specs.ColumnNumbers.{are_in_range, is_given_number}
 use Rattle.built_calls.specs.BuiltTables.{is_built_column}
 use Rattle.built_calls.proofs.BuiltColumns.{not_long, values_short}
-use Rattle.engine_versions.specs.ColumnNumbers.{are_in_range, is_given_number}
 
 -- ---- numbers that were given
 

@@ -30,12 +30,12 @@ use Rattle.version_records.specs.Bookmarks.{is_bookmark}
 use Rattle.version_records.proofs.EntryNumbers.{entry_number-own}
 use Rattle.version_records.proofs.PrimaryKeys.{found_passes, of_found}
 use Rattle.version_records.proofs.Standing.{bookmarks_seen}
+use Rattle.lawful_answers.specs.ColumnNumbers.{are_in_range, has_own_numbers, is_given_number}
+use Rattle.lawful_answers.proofs.TableTests.{all_found}
 use Rattle.built_calls.specs.BuiltTables.{is_built_column, is_built_rule, is_built_table}
-use Rattle.engine_versions.specs.ColumnNumbers.{are_in_range, has_own_numbers, is_given_number}
 use Rattle.engine_versions.specs.EngineState.{EngineState}
 use Rattle.engine_versions.specs.HoldsState.{HoldsState}
 use Rattle.engine_versions.proofs.AfterEntries.{no_sum_comes}
-use Rattle.engine_versions.proofs.Tables.{all_found}
 use Rattle.table_versions.specs.PutRecords.{IsStorable}
 use Rattle.engine_steps.specs.Changing.{CanChange, IsFormed}
 use Rattle.engine_steps.specs.Steps.{MayCome, entry_by}
@@ -62,7 +62,7 @@ legal_primary engine state h id table found rule e =
 columns_of : (engine : EngineState) (state : DatabaseState) → HoldsState engine state → (id : ℕ) (table : Table) → table_with_id state.tables id ≡ Some table → AreColumns table.greatest table.columns
 columns_of engine state h id table found =
     let built : is_built_table table ≡ true = subst (λ (o : Option Table). IfSome o (λ t. is_built_table t ≡ true)) found (all_found is_built_table state.tables h.built id) in
-    let own : has_own_numbers table ≡ true = subst (λ (o : Option Table). IfSome o (λ t. has_own_numbers t ≡ true)) found (all_found has_own_numbers state.tables h.columns id) in
+    let own : has_own_numbers table ≡ true = subst (λ (o : Option Table). IfSome o (λ t. has_own_numbers t ≡ true)) found (all_found has_own_numbers state.tables h.reached.columns id) in
     let given = list_all (is_given_number table.greatest) table.columns in
     let both : (are_in_range table.greatest && given) ≡ true = and_left (are_in_range table.greatest && given) _ own in
     record {

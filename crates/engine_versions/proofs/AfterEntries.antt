@@ -32,6 +32,7 @@ use Rattle.versioned_tables.proofs.Unchanged.{unchanged_holds}
 use Rattle.versioned_tables.proofs.Undoing.{all_undone_holds, left_holds, undone_holds}
 use Rattle.lawful_answers.specs.LawfulSteps.{AreLawful, IsReached}
 use Rattle.lawful_answers.proofs.ReachedStates.{reaches}
+use Rattle.lawful_answers.proofs.TableTests.{all_found}
 use Rattle.built_calls.specs.BuiltTables.{AllMakeBuilt, is_built_column, is_built_rule, is_built_table, makes_built}
 use Rattle.built_calls.proofs.BuiltColumns.{not_numbered, not_sum}
 use Rattle.engine_versions.proofs.SumFree.{is_sum_entry, no_sums_after}
@@ -39,7 +40,7 @@ use Rattle.engine_versions.specs.EngineState.{EngineState}
 use Rattle.engine_versions.specs.EngineSteps.{engine_after, engine_after_all, greatest_after, maker, store_after}
 use Rattle.engine_versions.specs.HoldsState.{HoldsState}
 use Rattle.engine_versions.proofs.Sessions.{levels_alike}
-use Rattle.engine_versions.proofs.Tables.{all_found, built_stay, numbers_stay}
+use Rattle.engine_versions.proofs.Tables.{built_stay}
 
 abbrev pub entry_by : ℕ → EntryKind → Entry
 entry_by session kind = record { session = record { 0 = session }; kind = kind }
@@ -178,7 +179,6 @@ entry_holds one alike engine state made h e built =
       sessions = alike state made ∙ (λ i. sessions_after (h.number i + 1) session made.kind (h.sessions i));
       labels = labels_rise state made h.labels e;
       built = built_stay state session made.kind reached.order.ids built h.built;
-      columns = numbers_stay state session made.kind reached.order.ids lawful h.columns;
     }
 
 pub entries_hold : HasOneEntry → ChangesSessionsAlike → (engine : EngineState) (state : DatabaseState) (entries : List Entry) → HoldsState engine state → AreLawful state entries → AllMakeBuilt entries → HoldsState (engine_after_all engine entries) (state_after_all state entries)

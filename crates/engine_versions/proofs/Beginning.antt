@@ -23,12 +23,12 @@ use Rattle.version_records.proofs.EachRecord.{each_begun}
 use Rattle.version_cleanup.specs.LiveSessions.{live_state}
 use Rattle.versioned_tables.proofs.Alone.{alone_holds}
 use Rattle.versioned_tables.proofs.TablesInOrder.{in_order_rise}
+use Rattle.lawful_answers.specs.ColumnNumbers.{have_own_numbers}
 use Rattle.lawful_answers.proofs.ReachedStates.{begins}
+use Rattle.lawful_answers.proofs.TableTests.{all_found}
 use Rattle.built_calls.specs.BuiltTables.{are_built, is_built_column, is_built_rule, is_built_table}
-use Rattle.engine_versions.specs.ColumnNumbers.{have_own_numbers}
 use Rattle.engine_versions.specs.EngineState.{HasRoomForEnds, empty_engine, engine_of}
 use Rattle.engine_versions.specs.HoldsState.{HoldsState}
-use Rattle.engine_versions.proofs.Tables.{all_found}
 
 -- the indexes of built tables name no escrow column
 plain_column : (columns : List Column) (id : ℕ) → list_all is_built_column columns ≡ true → list_any (λ c. c.id.0 == id) columns ≡ true → elim (column_of_id columns id) [ Some column ↦ not column.escrow | None ↦ false ] ≡ true
@@ -65,7 +65,7 @@ tables_hold limit state sessions past order unique marks stored built columns = 
   base = records_of state.tables;
   dropped = [];
   kept = [];
-  reached = begins state sessions past order unique marks (built_plain state built unique);
+  reached = begins state sessions past order unique marks (built_plain state built unique) columns;
   holds = alone_holds state sessions past (in_order_rise state order);
   no_sums = tt;
   stored = each_begun IsStored state stored;
@@ -74,7 +74,6 @@ tables_hold limit state sessions past order unique marks stored built columns = 
   sessions = ap (map live_state) sessions;
   labels = subst (EachTwo LabelsRise) (sym sessions) tt;
   built = built;
-  columns = columns;
 }
 
 pub empty_holds : (limit : ℕ) → HoldsState (empty_engine limit) empty_state

@@ -75,7 +75,6 @@ clean_holds keeps engine state h =
       sessions = h.sessions;
       labels = h.labels;
       built = h.built;
-      columns = h.columns;
     }
 
 -- ---- a whole step

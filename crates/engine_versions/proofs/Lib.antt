@@ -1,6 +1,5 @@
 pub mod Sessions
 pub mod InUse
-pub mod ColumnNumbers
 pub mod Tables
 pub mod SumFree
 pub mod AfterEntries

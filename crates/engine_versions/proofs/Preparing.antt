@@ -32,6 +32,8 @@ use Rattle.session_local.specs.Outcome.{Asked, Outcome, at_cursor, on_cursor, ro
 use Rattle.session_local.specs.RecordCalls.{bookmark_at, current, on_column, on_prepared, prepare_copy, prepare_insert, prepared_refusals, record_at, set_column, set_column_in, with_sums_at_zero}
 use Rattle.session_local.specs.WellFormed.{IsWellFormed, is_well_formed_cursor, is_well_formed_record, is_well_formed_schema, stands_in}
 use Rattle.lawful_answers.proofs.ChangeSteps.{IsAtTable, at_its_table}
+use Rattle.lawful_answers.proofs.ColumnNumbers.{all_mono}
+use Rattle.lawful_answers.proofs.TableTests.{all_found}
 use Rattle.agreeing_sessions.specs.InStep.{IsInStep, StaysInStep}
 use Rattle.agreeing_sessions.proofs.Answering.{at_found, past, when_begun}
 use Rattle.agreeing_sessions.proofs.OpenCursors.{prepared_in_step}
@@ -39,9 +41,7 @@ use Rattle.built_calls.specs.BuiltTables.{is_built_column, is_built_rule, is_bui
 use Rattle.built_calls.proofs.BuiltColumns.{not_kept, not_sum}
 use Rattle.engine_versions.specs.EngineState.{EngineState}
 use Rattle.engine_versions.specs.HoldsState.{HoldsState, asked_of}
-use Rattle.engine_versions.proofs.ColumnNumbers.{all_mono}
 use Rattle.engine_versions.proofs.Replies.{begun_each}
-use Rattle.engine_versions.proofs.Tables.{all_found}
 use Rattle.engine_versions.proofs.WellFormed.{no_sums, session_formed}
 
 -- ---- columns that are built

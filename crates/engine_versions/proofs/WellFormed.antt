@@ -14,14 +14,14 @@ use Rattle.session_local.specs.Agreement.{HasSchemaOf, IsStorable}
 use Rattle.session_local.specs.Local.{LocalState, OpenCursor, PreparedUpdate}
 use Rattle.session_local.specs.SessionSide.{are_distinct}
 use Rattle.session_local.specs.WellFormed.{has_short_keys, is_long_if_sum, is_sum, is_well_formed_cursor, is_well_formed_schema, is_well_formed_update, number_of_column, stands_in}
+use Rattle.lawful_answers.specs.ColumnNumbers.{are_in_range, has_own_numbers, is_given_number}
+use Rattle.lawful_answers.proofs.ColumnNumbers.{all_mono}
+use Rattle.lawful_answers.proofs.TableTests.{all_filtered, all_found}
 use Rattle.agreeing_sessions.specs.InStep.{IsInStep}
 use Rattle.built_calls.specs.BuiltTables.{is_built_column, is_built_rule, is_built_table}
 use Rattle.built_calls.proofs.BuiltColumns.{not_sum}
-use Rattle.engine_versions.specs.ColumnNumbers.{are_in_range, has_own_numbers, is_given_number}
 use Rattle.engine_versions.specs.EngineState.{EngineState}
 use Rattle.engine_versions.specs.HoldsState.{HoldsState}
-use Rattle.engine_versions.proofs.ColumnNumbers.{all_mono}
-use Rattle.engine_versions.proofs.Tables.{all_filtered, all_found}
 
 -- ---- schemas
 
@@ -48,7 +48,7 @@ schema_formed t built own =
     (all_joined has_short_keys (filter (λ r. r.flags.primary) t.indexes) (filter (λ r. not r.flags.primary) t.indexes) (all_filtered is_built_rule (λ r. r.flags.primary) t.indexes rules) (all_filtered is_built_rule (λ r. not r.flags.primary) t.indexes rules))
 
 pub table_formed : (engine : EngineState) (state : DatabaseState) → HoldsState engine state → (table : ℕ) → IfSome (table_with_id state.tables table) (λ t. is_well_formed_schema (schema_of t) ≡ true)
-table_formed engine state h table = by (table_with_id state.tables table) (all_found is_built_table state.tables h.built table) (all_found has_own_numbers state.tables h.columns table)
+table_formed engine state h table = by (table_with_id state.tables table) (all_found is_built_table state.tables h.built table) (all_found has_own_numbers state.tables h.reached.columns table)
   where
     by : (o : Option Table) → IfSome o (λ t. is_built_table t ≡ true) → IfSome o (λ t. has_own_numbers t ≡ true) → IfSome o (λ t. is_well_formed_schema (schema_of t) ≡ true)
     by None built own = tt

@@ -13,12 +13,11 @@ use Rattle.session_local.specs.Local.{LocalState}
 use Rattle.session_local.specs.Outcome.{Asked}
 use Rattle.agreeing_sessions.specs.InStep.{IsInStep}
 use Rattle.built_calls.specs.BuiltTables.{are_built}
-use Rattle.engine_versions.specs.ColumnNumbers.{have_own_numbers}
 use Rattle.engine_versions.specs.EngineState.{EngineState}
 
 -- The engine holds a state that lawful entries reach: its tables and held changes hold it, its sessions are those of the state
 -- without their snapshots, and its number is that of the state. No escrow column was changed, each record fits its row and its
--- columns, each column has a number of its own, and all is built.
+-- columns, and all is built.
 pub record HoldsState (engine : EngineState) (state : DatabaseState) : Type 0 where
   pub base : Records
   pub dropped : List PastChange
@@ -32,7 +31,6 @@ pub record HoldsState (engine : EngineState) (state : DatabaseState) : Type 0 wh
   pub sessions : map live_state state.sessions ≡ engine.sessions
   pub labels : EachTwo LabelsRise state.sessions
   pub built : are_built state.tables ≡ true
-  pub columns : have_own_numbers state.tables ≡ true
 
 -- a call as it is asked of a state that the engine holds
 abbrev pub asked_of : EngineState → DatabaseState → ℕ → LocalState → Asked

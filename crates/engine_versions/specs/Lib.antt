@@ -1,4 +1,3 @@
 pub mod EngineState
 pub mod EngineSteps
-pub mod ColumnNumbers
 pub mod HoldsState

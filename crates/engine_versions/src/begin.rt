@@ -7,10 +7,10 @@ ghost use Rattle.version_keys.specs.TableOrder.{HasTablesInOrder};
 ghost use Rattle.version_keys.specs.UniqueKeys.{IsUniqueTable};
 ghost use Rattle.version_records.specs.Bookmarks.{StandsUnder};
 ghost use Rattle.version_records.specs.StoredRecords.{IsStored};
+ghost use Rattle.lawful_answers.specs.ColumnNumbers.{have_own_numbers};
 ghost use Rattle.session_local.specs.Local.{no_session};
 ghost use Rattle.agreeing_sessions.specs.InStep.{IsInStep};
 ghost use Rattle.built_calls.specs.BuiltTables.{are_built};
-ghost use Rattle.engine_versions.specs.ColumnNumbers.{have_own_numbers};
 ghost use Rattle.engine_versions.specs.EngineState.{HasRoomForEnds, empty_engine, engine_of};
 ghost use Rattle.engine_versions.specs.HoldsState.{HoldsAllInStep, HoldsState};
 

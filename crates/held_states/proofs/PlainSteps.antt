@@ -27,9 +27,10 @@ use Rattle.version_keys.specs.TableOrder.{IdsRise}
 use Rattle.version_keys.proofs.IndexNumbers.{found_in_filter}
 use Rattle.version_keys.proofs.OrderedTables.{order_kept}
 use Rattle.version_keys.proofs.SchemaKeys.{at_found, at_table, unused_by, with_last, without_table}
-use Rattle.engine_versions.specs.ColumnNumbers.{are_in_range, has_own_numbers, have_own_numbers, is_given_number}
-use Rattle.engine_versions.proofs.ColumnNumbers.{all_mono}
-use Rattle.engine_versions.proofs.Tables.{all_filtered, all_found, all_listed, definitions_stay, is_schema_entry, numbers_stay, tested_alike}
+use Rattle.lawful_answers.specs.ColumnNumbers.{are_in_range, has_own_numbers, have_own_numbers, is_given_number}
+use Rattle.lawful_answers.proofs.ColumnNumbers.{all_mono}
+use Rattle.lawful_answers.proofs.OwnNumbers.{numbers_kept}
+use Rattle.lawful_answers.proofs.TableTests.{all_filtered, all_found, all_listed, definitions_stay, is_schema_entry, tested_alike}
 use Rattle.equivalent_states.specs.PlainIndexes.{is_sum_number, read_no_sums, reads_no_sum}
 use Rattle.held_states.specs.PlainColumns.{HasPlainIndexes, has_plain_indexes, is_plain_column, names_plain_columns}
 
@@ -156,7 +157,7 @@ stays_plain state made h e =
     let kind = kind_of_lawful state made e in
     record {
       order = order;
-      numbers = ap (λ (s : DatabaseState). have_own_numbers s.tables) (next_is state made) ∙ numbers_stay state made.session.0 made.kind rise kind h.numbers;
+      numbers = numbers_kept state made order e h.numbers;
       plain = ap (λ (s : DatabaseState). list_all has_plain_indexes s.tables) (next_is state made) ∙ plain_by_kind state made.session.0 made.kind rise kind h.plain;
     }
 

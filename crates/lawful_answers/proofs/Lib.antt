@@ -7,6 +7,9 @@ pub mod Locks
 pub mod NewBookmarks
 pub mod UpdateSteps
 pub mod SchemaCallSteps
+pub mod TableTests
+pub mod ColumnNumbers
+pub mod OwnNumbers
 pub mod ReachedStates
 pub mod SumSteps
 pub mod UncopiedChanges

@@ -23,7 +23,9 @@ use Rattle.version_keys.proofs.UniqueLaws.{keys_begin, keys_cleaned, keys_kept}
 use Rattle.version_records.specs.Bookmarks.{StandsUnder}
 use Rattle.version_records.proofs.EachRecord.{RowsHave}
 use Rattle.version_records.proofs.Standing.{bookmarks_begun, bookmarks_cleaned, bookmarks_kept}
+use Rattle.lawful_answers.specs.ColumnNumbers.{have_own_numbers}
 use Rattle.lawful_answers.specs.LawfulSteps.{AreLawful, IsReached, IsReachedState}
+use Rattle.lawful_answers.proofs.OwnNumbers.{numbers_kept}
 use Rattle.lawful_answers.proofs.UncopiedChanges.{uncopied_after}
 
 -- ---- entries
@@ -33,12 +35,14 @@ pub reaches : HasOneEntry → (base : Records) (dropped kept : List PastChange) 
 reaches one base dropped kept state made reached e =
     let now = unseen_now base kept state reached.sums in
     let next = unseen_next base dropped kept state made reached.history e reached.sums in
+    let order = order_kept state made reached.order e in
     record {
       history = keeps_lawful base dropped kept state made reached.history e;
       sums = sums_kept base dropped kept state made reached.history e reached.sums;
       unique = keys_kept one base dropped kept state made reached.history e now next reached.unique;
-      order = order_kept state made reached.order e;
+      order = order;
       bookmarks = bookmarks_kept one base dropped kept state made reached.history e now next reached.unique reached.bookmarks;
+      columns = numbers_kept state made order e reached.columns;
       uncopied = uncopied_after state made.session.0 made.kind kept reached.uncopied;
     }
 
@@ -62,21 +66,23 @@ cleaned base dropped item kept state reached unneeded = record {
   unique = keys_cleaned base dropped item kept state reached.history (unseen_now base (item ∷ kept) state reached.sums) reached.unique;
   order = reached.order;
   bookmarks = bookmarks_cleaned base dropped item kept state reached.history (unseen_now base (item ∷ kept) state reached.sums) reached.bookmarks;
+  columns = reached.columns;
   uncopied = reached.uncopied.1;
 }
 
 -- ---- where it begins
 
 pub begins : (state : DatabaseState) → state.sessions ≡ [] → state.past ≡ [] → HasTablesInOrder state → ((id : ℕ) → IfSome (table_with_id state.tables id) IsUniqueTable) → RowsHave StandsUnder state.number state.tables
-    → ((id : ℕ) → IfSome (table_with_id state.tables id) (λ table. AllByRecursion (IsPlainIndex table) table.indexes)) → IsReached (records_of state.tables) [] [] state
-begins state sessions past order unique marks plain = record {
+    → ((id : ℕ) → IfSome (table_with_id state.tables id) (λ table. AllByRecursion (IsPlainIndex table) table.indexes)) → have_own_numbers state.tables ≡ true → IsReached (records_of state.tables) [] [] state
+begins state sessions past order unique marks plain columns = record {
   history = history_alone state sessions past;
   sums = sums_begin state plain;
   unique = keys_begin state unique;
   order = order;
   bookmarks = bookmarks_begun state marks;
+  columns = columns;
   uncopied = tt;
 }
 
 pub begins_empty : IsReached (records_of empty_state.tables) [] [] empty_state
-begins_empty = begins empty_state refl refl (record { ids = tt; given = tt; rows = tt }) (λ id. tt) (λ id. tt) (λ id. tt)
+begins_empty = begins empty_state refl refl (record { ids = tt; given = tt; rows = tt }) (λ id. tt) (λ id. tt) (λ id. tt) refl

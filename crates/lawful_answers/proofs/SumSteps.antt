@@ -1,7 +1,7 @@
 -- The step of a sum of an escrow column.
-use Rattle.std.proofs.Common.{◌≡◌, ℕ, Bool, true, false, not, ◌||◌, cond, List, [], ◌∷◌, ◌++◌, Option, Some, None, refl, sym, ap, subst, ◌∙◌, bytes_eq}
+use Rattle.std.proofs.Common.{◌≡◌, ℕ, Bool, true, false, not, ◌&&◌, ◌||◌, cond, List, [], ◌∷◌, ◌++◌, Option, Some, None, refl, sym, ap, subst, ◌∙◌, bytes_eq}
 use Rattle.std.specs.Prelude.{ℤ, ◌==◌, is_none, is_some, map, IfSome}
-use Rattle.std.specs.List.{list_any}
+use Rattle.std.specs.List.{list_all, list_any}
 use Rattle.jet_base.specs.declared.ids.CursorId.{CursorId}
 use Rattle.jet_base.specs.declared.replies.Jet.TheVariants as jet
 use Rattle.column_set.specs.declared.changes.Change.{Change}
@@ -25,9 +25,11 @@ use Rattle.session_local.specs.Outcome.{Asked, number_refusals, rows_seen, span_
 use Rattle.session_local.specs.RecordCalls.{bookmark_at, conflict_refusals, current, escrow_update, on_column, own_refusals, sum_in, transaction_refusals}
 use Rattle.session_local.specs.SessionSide.{are_distinct}
 use Rattle.session_local.specs.WellFormed.{number_of_column}
+use Rattle.lawful_answers.specs.ColumnNumbers.{are_in_range, has_own_numbers, have_own_numbers, is_given_number}
 use Rattle.lawful_answers.specs.LawfulSteps.{HasLawfulStep, IsReached}
 use Rattle.lawful_answers.proofs.ChangeSteps.{IsAtTable, IsLawfulAtTable, at_its_table, changes_lawful}
 use Rattle.lawful_answers.proofs.Refusals.{at_found, past, when_begun}
+use Rattle.lawful_answers.proofs.TableTests.{all_found}
 
 -- ---- a column by its name and by its number
 
@@ -69,6 +71,11 @@ named_numbered (x ∷ columns) name c apart e = elim (bytes_eq x.name name) as (
     never : false ≡ true → ⊥
     never e = cc
 
+numbers_apart : (tables : List Table) (id : ℕ) (table : Table) → have_own_numbers tables ≡ true → table_with_id tables id ≡ Some table → are_distinct (map number_of_column table.columns) ≡ true
+numbers_apart tables id table own found =
+    and_right (are_in_range table.greatest && list_all (is_given_number table.greatest) table.columns) (are_distinct (map number_of_column table.columns))
+    (subst (λ (o : Option Table). IfSome o (λ t. has_own_numbers t ≡ true)) found (all_found has_own_numbers tables own id))
+
 -- ---- the step
 
 there : {X : Type 0} (o : Option X) → is_none o ≡ false → is_some o ≡ true
@@ -88,8 +95,8 @@ sum_lawful asked c at name column amount apart named escrow seen =
     (named_numbered at.table.columns name column apart (subst (λ (columns : List Column). column_named columns name ≡ Some column) (ap (λ s. s.columns) at.schema) named)) ∙ escrow)
 
 pub sums : HasOneEntry → KeysRise → (base : Records) (dropped kept : List PastChange) (asked : Asked) (cursor : CursorId) (name : List ℕ) (amount : ℤ) → IsReached base dropped kept asked.state → Agrees asked.state asked.session asked.local
-    → ((id : ℕ) → IfSome (table_with_id asked.state.tables id) (λ table. are_distinct (map number_of_column table.columns) ≡ true)) → HasLawfulStep asked.state (answer asked (call.EscrowUpdate cursor name amount))
-sums one rise base dropped kept asked cursor name amount reached agrees apart = when_begun asked (call.EscrowUpdate cursor name amount)
+    → HasLawfulStep asked.state (answer asked (call.EscrowUpdate cursor name amount))
+sums one rise base dropped kept asked cursor name amount reached agrees = when_begun asked (call.EscrowUpdate cursor name amount)
     (λ begun. at_found asked cursor.0 (λ c. escrow_update asked c name amount) (λ c e.
     past asked (transaction_refusals asked ++ current asked c) _ (λ r.
     elim (column_named c.schema.columns name) as (λ o. column_named c.schema.columns name ≡ o → HasLawfulStep asked.state (on_column asked o (sum_in asked c amount))) [
@@ -99,7 +106,7 @@ sums one rise base dropped kept asked cursor name amount reached agrees apart = 
           let at = at_its_table asked cursor.0 c agrees e in
           past asked ((not column.escrow, jet.InvalidColumnType) ∷ own_refusals asked c ++ conflict_refusals asked sum ++ number_refusals asked ++ span_refusals asked sum) _ (λ s.
           changes_lawful one rise base dropped kept asked sum reached (sym agrees.begun ∙ begun) s.1.1.1.0 s.1.1.0
-          (λ inside. sum_lawful asked c at name column amount (subst (λ (o : Option Table). IfSome o (λ table. are_distinct (map number_of_column table.columns) ≡ true)) at.found (apart c.cursor.table)) f (is_on column.escrow s.0)
+          (λ inside. sum_lawful asked c at name column amount (numbers_apart asked.state.tables c.cursor.table at.table reached.columns at.found) f (is_on column.escrow s.0)
           (there (row_at (rows_seen asked c) (bookmark_at c)) r.1.1.0))
           (λ outside. impossible (sym r.0 ∙ outside)))
     ] refl)))

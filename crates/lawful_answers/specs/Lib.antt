@@ -1,2 +1,3 @@
 pub mod UncopiedPast
+pub mod ColumnNumbers
 pub mod LawfulSteps

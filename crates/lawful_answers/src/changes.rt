@@ -1,6 +1,6 @@
 //! Changes of records. In a transaction a change is one entry. Outside one it is a begin, the change and a commit.
 
-ghost use Rattle.std.specs.Prelude.{◌≡◌, ◌==◌, ℕ, ℤ, true, false, List, map, IfSome, Some, nat_lt};
+ghost use Rattle.std.specs.Prelude.{◌≡◌, ◌==◌, ℕ, ℤ, true, false, List, Some, nat_lt};
 ghost use Rattle.jet_base.specs.declared.ids.CursorId.{CursorId};
 ghost use Rattle.jet_base.specs.declared.words.Prepare.TheVariants as prepare;
 ghost use Rattle.column_set.specs.declared.changes.Change.{Change};
@@ -10,7 +10,6 @@ ghost use Rattle.index_derive.specs.declared.log.EntryKind.TheVariants as entry;
 ghost use Rattle.index_derive.specs.declared.log.Step.TheVariants.{Alone};
 ghost use Rattle.index_derive.specs.Steps.{entries_of_step};
 ghost use Rattle.database_state.specs.Changes.{changed_table, changed_bookmark};
-ghost use Rattle.database_state.specs.Table.{table_with_id};
 ghost use Rattle.database_state.specs.State.{DatabaseState, PastChange, levels};
 ghost use Rattle.database_state.specs.View.{view};
 ghost use Rattle.database_state.specs.Conflicts.{has_write_conflict, has_key_conflict};
@@ -22,8 +21,6 @@ ghost use Rattle.session_local.specs.declared.request.Request.TheVariants as cal
 ghost use Rattle.session_local.specs.Agreement.{Agrees, has_lock};
 ghost use Rattle.session_local.specs.Calls.{answer};
 ghost use Rattle.session_local.specs.Outcome.{Asked};
-ghost use Rattle.session_local.specs.SessionSide.{are_distinct};
-ghost use Rattle.session_local.specs.WellFormed.{number_of_column};
 ghost use Rattle.lawful_answers.specs.LawfulSteps.{AreLawful, HasLawfulStep, IsReached, begin_of};
 
 use index_derive::{a_primary_index_has_one_entry, entries_rise};
@@ -67,10 +64,9 @@ pub fn the_step_of_a_lock_is_lawful()
     entries_rise();
 }
 
-/// The step of a sum of an escrow column, where no two columns of a table have one number.
+/// The step of a sum of an escrow column.
 pub fn the_step_of_a_sum_is_lawful()
     ensures { (base : Records) (dropped kept : List PastChange) (asked : Asked) (cursor : CursorId) (column : List ℕ) (amount : ℤ) → IsReached base dropped kept asked.state → Agrees asked.state asked.session asked.local
-        → ((id : ℕ) → IfSome (table_with_id asked.state.tables id) (λ table. are_distinct (map number_of_column table.columns) ≡ true))
         → HasLawfulStep asked.state (answer asked (call.EscrowUpdate cursor column amount)) }
 {
     a_primary_index_has_one_entry();

@@ -15,6 +15,7 @@ ghost use Rattle.version_keys.specs.KeySums.{IsPlainIndex};
 ghost use Rattle.version_keys.specs.TableOrder.{HasTablesInOrder};
 ghost use Rattle.version_keys.specs.UniqueKeys.{IsUniqueTable};
 ghost use Rattle.version_records.specs.Bookmarks.{StandsUnder};
+ghost use Rattle.lawful_answers.specs.ColumnNumbers.{have_own_numbers};
 ghost use Rattle.lawful_answers.specs.LawfulSteps.{AreLawful, IsReached, IsReachedState};
 
 use index_derive::a_primary_index_has_one_entry;
@@ -36,11 +37,12 @@ pub fn a_clean_reaches_the_same_state()
 {}
 
 /// The empty state is one of these, and so is each state without sessions and past changes whose tables are in order and
-/// unique, whose records have their bookmarks, and whose indexes name columns that are there and no escrow column.
+/// unique, whose records have their bookmarks, whose indexes name columns that are there and no escrow column, and whose columns
+/// have numbers of their own.
 pub fn states_without_sessions_are_reached()
     ensures empty { IsReached (records_of empty_state.tables) [] [] empty_state }
     ensures tables { (state : DatabaseState) → state.sessions ≡ [] → state.past ≡ [] → HasTablesInOrder state → ((id : ℕ) → IfSome (table_with_id state.tables id) IsUniqueTable)
         → ((id : ℕ) → IfSome (table_with_id state.tables id) (λ table. (bookmark : List ℕ) → IfSome (row_at table.rows bookmark) (StandsUnder state.number (schema_of table) bookmark)))
         → ((id : ℕ) → IfSome (table_with_id state.tables id) (λ table. AllByRecursion (IsPlainIndex table) table.indexes))
-        → IsReached (records_of state.tables) [] [] state }
+        → have_own_numbers state.tables ≡ true → IsReached (records_of state.tables) [] [] state }
 {}

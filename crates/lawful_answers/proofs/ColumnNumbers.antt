@@ -10,7 +10,7 @@ use Rattle.database_state.proofs.Columns.{are_behind, list_all-columns_with}
 use Rattle.session_local.specs.SessionSide.{are_distinct}
 use Rattle.session_local.specs.WellFormed.{number_of_column}
 use Rattle.record_changes.proofs.Tests.{and_left, and_right, and_both}
-use Rattle.engine_versions.specs.ColumnNumbers.{is_given_number, are_in_range, has_own_numbers}
+use Rattle.lawful_answers.specs.ColumnNumbers.{is_given_number, are_in_range, has_own_numbers}
 
 pub all_mono : {X : Type 0} (p q : X → Bool) → ((x : X) → p x ≡ true → q x ≡ true) → (xs : List X) → list_all p xs ≡ true → list_all q xs ≡ true
 all_mono p q more [] h = refl
