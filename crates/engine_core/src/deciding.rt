@@ -9,9 +9,10 @@ ghost use Rattle.engine_parts.specs.Deciding.{Decides, IsBeside, IsDecision};
 
 use engine_parts::Engine;
 use jet_base::{CursorId, OutOfMemory, Prepare};
-use record_decisions::{
-    begin_session, begin_transaction, change_schema, commit_transaction, create_index, delete,
-    end_session, get_lock, prepare_copy, prepare_replace, rollback, update,
+use record_decisions::{delete, get_lock, prepare_copy, prepare_replace, update};
+use session_decisions::{
+    begin_session, begin_transaction, change_schema, commit_transaction, create_index, end_session,
+    rollback,
 };
 use session_local::{Decision, Local, Request};
 

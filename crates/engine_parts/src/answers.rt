@@ -8,7 +8,7 @@ use jet_base::{Jet, Session};
 use session_local::{Decision, Reply, Value};
 
 /// A reply after which all is as it was.
-pub(crate) fn said(jet: Jet, value: Value) -> Decision
+pub fn said(jet: Jet, value: Value) -> Decision
     ensures { result ≡ record { step = None; reply = record { jet = jet; value = value }; table = None; copied = None; buffers = None; flush = false } }
 {
     Decision {
@@ -22,14 +22,14 @@ pub(crate) fn said(jet: Jet, value: Value) -> Decision
 }
 
 /// A refusal.
-pub(crate) fn refused(jet: Jet) -> Decision
+pub fn refused(jet: Jet) -> Decision
     ensures { result ≡ record { step = None; reply = record { jet = jet; value = Nothing }; table = None; copied = None; buffers = None; flush = false } }
 {
     said(jet, Value::Nothing)
 }
 
 /// Success with a step.
-pub(crate) fn done(step: Step, flush: bool) -> Decision
+pub fn done(step: Step, flush: bool) -> Decision
     ensures { result ≡ record { step = Some step; reply = record { jet = Jet.Success; value = Nothing }; table = None; copied = None; buffers = None; flush = flush } }
 {
     Decision {
@@ -46,7 +46,7 @@ pub(crate) fn done(step: Step, flush: bool) -> Decision
 }
 
 /// A step of one entry.
-pub(crate) fn one(session: Session, kind: EntryKind) -> Step
+pub fn one(session: Session, kind: EntryKind) -> Step
     ensures { result ≡ Step.One (record { session = session; kind = kind }) }
 {
     Step::One(Entry { session, kind })

@@ -1,6 +1,7 @@
 //! The engine and its parts.
 
-ghost use Rattle.std.specs.Prelude.{◌≡◌, ◌≤◌};
+ghost use Rattle.std.specs.Prelude.{◌≡◌, ◌≤◌, ◌==◌, nat_le};
+ghost use Rattle.database_state.specs.Lawful.{log_limit};
 ghost use Rattle.version_cleanup.specs.Cleaning.{reader_in};
 ghost use Rattle.version_cleanup.specs.LiveSessions.{levels_in};
 ghost use Rattle.engine_versions.specs.EngineState.{empty_engine};
@@ -107,5 +108,19 @@ impl Engine {
         ensures { result ≡ reader_in session.0 self.now.sessions }
     {
         self.sessions.reader(session)
+    }
+
+    /// Whether the log takes no entry more that begins or changes something.
+    pub fn is_full(&self) -> bool
+        ensures { result ≡ nat_le log_limit self.now.number }
+    {
+        self.number >= LOG_LIMIT
+    }
+
+    /// Whether the session is outside a transaction.
+    pub fn is_outside(&self, session: Session) -> bool
+        ensures { result ≡ (levels_in session.0 self.now.sessions == 0) }
+    {
+        self.levels(session) == 0
     }
 }

@@ -9,5 +9,6 @@ mod laws;
 mod record_calls;
 mod view;
 
+pub use answers::{done, one, refused, said};
 pub use engine::{Engine, LOG_LIMIT};
 pub use laws::a_session_reads_its_view;

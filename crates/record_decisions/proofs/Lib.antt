@@ -1,17 +1,9 @@
-pub mod Refusing
-pub mod Told
 pub mod Seen
-pub mod Chains
 pub mod LocksAndDeletes
-pub mod SessionCalls
-pub mod SchemaCalls
 pub mod RuleByRule
 pub mod IndexRefusals
 pub mod UpdateTold
 pub mod PutSteps
 pub mod Updates
-pub mod RecordWalks
-pub mod BroughtRecords
-pub mod CreatingIndexes
 pub mod CopiedValues
 pub mod PreparedCopies

@@ -40,9 +40,9 @@ use Rattle.engine_versions.proofs.WellFormed.{no_sums}
 use Rattle.engine_parts.specs.Deciding.{Decides, IsBeside, IsDecision, IsLawfulStep}
 use Rattle.record_decisions.specs.Changing.{SeesRecords, TellsConflicts, TellsRoom, change_in, current_in, is_outside_in, own_in, record_for, step_by}
 use Rattle.record_decisions.specs.Preparing.{HasFormedRecords, IsCopied, copy_in, copy_of, replace_in, replace_of, values_seen}
-use Rattle.record_decisions.proofs.Chains.{unless-refused, unless-passed}
+use Rattle.decision_lemmas.proofs.Chains.{unless-refused, unless-passed}
 use Rattle.record_decisions.proofs.LocksAndDeletes.{at_if, change-told, changed_by, current-told, outside-told, step_of_change-told}
-use Rattle.record_decisions.proofs.Refusing.{asked_by, answer-begun, answer-is, answer-refused, refused_with}
+use Rattle.decision_lemmas.proofs.Refusing.{asked_by, answer-begun, answer-is, answer-refused, refused_with}
 
 -- ---- a record that is copied
 

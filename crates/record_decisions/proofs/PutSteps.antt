@@ -20,7 +20,7 @@ use Rattle.versioned_tables.specs.VersionedTables.{VersionedTables}
 use Rattle.engine_versions.specs.EngineState.{EngineState}
 use Rattle.record_decisions.specs.Changing.{room_in, span_with}
 use Rattle.record_decisions.specs.Updating.{HasLegalRules, IsMade, IsMadeOf, IsSchemaOf, keys_in, put_by, record_in, span_in, update_in, values_in}
-use Rattle.record_decisions.proofs.Chains.{passed-one, refused-front, refused-rest, stopped-one}
+use Rattle.decision_lemmas.proofs.Chains.{passed-one, refused-front, refused-rest, stopped-one}
 use Rattle.record_decisions.proofs.RuleByRule.{both-none}
 
 -- ---- what is prepared on the cursor

@@ -10,10 +10,9 @@ ghost use Rattle.index_derive.specs.declared.log.EntryKind.TheVariants as entry;
 ghost use Rattle.engine_parts.specs.Deciding.{Decides, IsDecision};
 ghost use Rattle.record_decisions.specs.Changing.{change_in, current_in, delete_in, lock_in, own_in, span_with, step_by};
 
-use crate::answers::{done, is_full, is_outside, refused};
 use crate::laws::{changes_are_refused_alike, sessions_see_their_records};
 use column_set::{Bookmark, Change};
-use engine_parts::Engine;
+use engine_parts::{Engine, done, refused};
 use index_derive::{Entry, EntryKind, Place, Step};
 use jet_base::{CursorId, Jet, OutOfMemory, Session};
 use lawful_answers::{the_step_of_a_delete_is_lawful, the_step_of_a_lock_is_lawful};
@@ -58,7 +57,7 @@ pub fn delete(engine: &Engine, local: &Local, cursor: CursorId) -> Result<Decisi
     match delete_refusal(engine, local, found, &change) {
         Some(refusal) => Ok(refused(refusal)),
         None => {
-            let outside = is_outside(engine, session);
+            let outside = engine.is_outside(session);
             Ok(done(change_step(session, change, outside), outside))
         }
     }
@@ -74,7 +73,7 @@ fn lock_refusal(
     requires { change.now ≡ hold_at found.now }
     ensures { result ≡ first_refusal (lock_in engine.now session.0 found.now) }
 {
-    if is_outside(engine, session) {
+    if engine.is_outside(session) {
         return Some(Jet::NotInTransaction);
     }
     match current_refusal(engine, session, found) {
@@ -151,7 +150,7 @@ pub(crate) fn change_refusal(engine: &Engine, session: Session, change: &Change)
 {
     if engine.tables().conflict(engine.reader(session), change) {
         Some(Jet::WriteConflict)
-    } else if is_full(engine) {
+    } else if engine.is_full() {
         Some(Jet::LogSequenceEnd)
     } else if lacks_room(engine, session, change) {
         Some(Jet::VersionStoreOutOfMemory)

@@ -1,24 +1,14 @@
-//! What an engine with versions answers to the calls that change something.
+//! What an engine with versions answers to the calls that change records: locks, deletes, prepared copies and updates.
 #![tactic(auto)]
 
-mod answers;
 mod changing;
-mod creating_indexes;
-mod index_records;
 mod laws;
 mod preparing;
 mod putting;
 mod refusing_puts;
-mod schema_calls;
-mod session_calls;
 mod update_laws;
 mod updating;
 
 pub use changing::{delete, get_lock};
-pub use creating_indexes::create_index;
 pub use preparing::{prepare_copy, prepare_replace};
-pub use schema_calls::change_schema;
-pub use session_calls::{
-    begin_session, begin_transaction, commit_transaction, end_session, rollback,
-};
 pub use updating::update;

@@ -14,13 +14,12 @@ ghost use Rattle.engine_parts.specs.Deciding.{Decides, IsBeside, IsDecision};
 ghost use Rattle.record_decisions.specs.Changing.{record_for};
 ghost use Rattle.record_decisions.specs.Preparing.{IsCopied, IsPreparedAs, copy_in, copy_of, replace_in, replace_of, update_from, values_seen, values_with};
 
-use crate::answers::{is_outside, refused};
 use crate::changing::{
     bookmark_at, change_refusal, change_step, current_refusal, has_own_replace, hold_at,
 };
 use crate::laws::{changes_are_refused_alike, records_are_formed};
 use column_set::{Bookmark, Change, Column, Record, RowRef, Values};
-use engine_parts::{Engine, a_session_reads_its_view};
+use engine_parts::{Engine, a_session_reads_its_view, refused};
 use index_derive::Step;
 use jet_base::{ColumnId, CursorId, Jet, Octets, OutOfMemory, Session};
 use lawful_answers::the_step_of_a_replace_is_lawful;
@@ -96,7 +95,7 @@ fn replace_refusal(
     let session = local.session();
     if is_prepared(found) {
         Some(Jet::AlreadyPrepared)
-    } else if is_outside(engine, session) {
+    } else if engine.is_outside(session) {
         Some(Jet::NotInTransaction)
     } else {
         match current_refusal(engine, session, found) {

@@ -7,7 +7,6 @@ ghost use Rattle.session_local.specs.Preparing.{for_of, update_of};
 ghost use Rattle.record_decisions.specs.Changing.{record_for};
 ghost use Rattle.record_decisions.specs.Updating.{HasLegalRules, bookmark_by, copied_by, new_bookmark, number_of_change, put_by};
 
-use crate::answers::is_outside;
 use column_set::{Bookmark, Change, Record};
 use engine_parts::Engine;
 use index_derive::{Schema, primary_key};
@@ -90,7 +89,7 @@ fn number_of_change(engine: &Engine, session: Session) -> u64
     requires { nat_le log_limit engine.now.number ≡ false }
     ensures { result ≡ number_of_change engine.now session.0 }
 {
-    if is_outside(engine, session) {
+    if engine.is_outside(session) {
         engine.number() + 2
     } else {
         engine.number() + 1

@@ -13,7 +13,6 @@ ghost use Rattle.session_local.specs.Showing.{names_within};
 ghost use Rattle.engine_parts.specs.Deciding.{Decides, IsBeside, IsDecision};
 ghost use Rattle.record_decisions.specs.Updating.{HasLegalRules, IsMade, IsMadeOf, IsSchemaOf, put_by, span_in, update_in};
 
-use crate::answers::{is_full, is_outside, refused};
 use crate::changing::{change_step, lacks_room};
 use crate::laws::{changes_are_refused_alike, sessions_see_their_records};
 use crate::putting::put_by;
@@ -22,7 +21,7 @@ use crate::update_laws::{
     bookmarks_are_short, schemas_are_those_of_tables, unique_keys_are_refused_alike,
 };
 use column_set::Change;
-use engine_parts::Engine;
+use engine_parts::{Engine, refused};
 use index_derive::Step;
 use jet_base::{CursorId, Jet, OutOfMemory, Session};
 use lawful_answers::the_step_of_an_update_is_lawful;
@@ -44,7 +43,7 @@ pub fn update(engine: &Engine, local: &mut Local, cursor: CursorId) -> Result<De
     match made_put(engine, local, cursor) {
         Ok(Ok(put)) => {
             let session = local.session();
-            let outside = is_outside(engine, session);
+            let outside = engine.is_outside(session);
             let value = show_bookmark(local, &put);
             Ok(shown_with(change_step(session, put, outside), value, outside))
         }
@@ -90,7 +89,7 @@ fn put_or_refusal(
     match record_refusal(engine, session, found, prepared) {
         Ok(Some(refusal)) => Ok(Err(refusal)),
         Ok(None) => {
-            if is_full(engine) {
+            if engine.is_full() {
                 Ok(Err(Jet::LogSequenceEnd))
             } else {
                 put_with_room(engine, session, found, prepared)

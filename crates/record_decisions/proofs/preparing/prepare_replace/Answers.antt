@@ -11,7 +11,7 @@ use Rattle.record_decisions.specs.Changing.{step_by}
 use Rattle.record_decisions.specs.Preparing.{replace_in, replace_of}
 use Rattle.record_decisions.proofs.LocksAndDeletes.{changed_by, made-as}
 use Rattle.record_decisions.proofs.PreparedCopies.{copied-at, lock_step, prepare-decided, prepare-done, prepare-refused, prepared_with, replace-prepares, replace-step}
-use Rattle.record_decisions.proofs.Refusing.{asked_by, lawful-step}
+use Rattle.decision_lemmas.proofs.Refusing.{asked_by, lawful-step}
 use Rattle.record_decisions.proofs.preparing.prepare_replace.Goals as goal
 
 pub replace_at-requires : goal.replace_at-requires

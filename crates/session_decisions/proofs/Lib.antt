@@ -1,0 +1,6 @@
+pub mod SeenTables
+pub mod SessionCalls
+pub mod SchemaCalls
+pub mod RecordWalks
+pub mod BroughtRecords
+pub mod CreatingIndexes

@@ -1,0 +1,2 @@
+pub mod SchemaRequests
+pub mod CreatingIndexes
