@@ -23,5 +23,6 @@ all_in_step asked outcome h lawful own step locals each session =
         agrees = others_keep_all asked.state session (locals session) (entries_of_step outcome.step) h lawful
             (all_weaker (λ made. made.session.0 ≡ asked.session) (λ made. (session == made.session.0) ≡ false) (λ made same. ap (λ k. session == k) same ∙ e) (entries_of_step outcome.step) own) (each session).agrees;
         labels = (each session).labels;
+        updates = (each session).updates;
       }
     ] refl

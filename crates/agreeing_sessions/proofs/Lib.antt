@@ -13,3 +13,4 @@ pub mod OwnChanges
 pub mod ChangeCalls
 pub mod Replacing
 pub mod AllSessions
+pub mod RisingColumns

@@ -14,6 +14,7 @@ use Rattle.version_records.proofs.PrimaryKeys.{found_passes, of_found}
 use Rattle.session_local.specs.Agreement.{Agrees, HasSchemaOf, IsStorable, MayReplace, cursor_table, has_lock, replaced_in}
 use Rattle.session_local.specs.Local.{LocalState, OpenCursor, PreparedFor, PreparedUpdate, cursor_labelled, inserting, replacing, with_cursor}
 use Rattle.session_local.specs.SessionSide.{are_distinct, label_of}
+use Rattle.lawful_answers.specs.EntryTypes.{HasRisingColumns}
 use Rattle.agreeing_sessions.specs.InStep.{IsInStep}
 use Rattle.agreeing_sessions.proofs.Counting.{counted, turned}
 
@@ -60,8 +61,8 @@ mapped_same f new (x ∷ cursors) h =
     ] refl
 
 pub with_cursor_in_step : (state : DatabaseState) (session : ℕ) (local : LocalState) (l : ℕ) (c new : OpenCursor) → IsInStep state session local → cursor_labelled local l ≡ Some c → new.label ≡ c.label → new.cursor.table ≡ c.cursor.table
-    → HasSchemaOf new (table_with_id state.tables new.cursor.table) → IsStorable state session new new.prepared → IsInStep state session (with_cursor local new)
-with_cursor_in_step state session local l c new step e same_label same_table schema storable = record {
+    → HasSchemaOf new (table_with_id state.tables new.cursor.table) → IsStorable state session new new.prepared → HasRisingColumns new.prepared → IsInStep state session (with_cursor local new)
+with_cursor_in_step state session local l c new step e same_label same_table schema storable rise = record {
   agrees = record {
     begun = step.agrees.begun;
     tables = λ id. ap (count_by (λ n. n == id)) (mapped_same cursor_table new local.cursors (all_weaker (λ x. (x.label == l) ≡ true → x ≡ c) (λ x. (x.label == new.label) ≡ true → x.cursor.table ≡ new.cursor.table)
@@ -70,6 +71,7 @@ with_cursor_in_step state session local l c new step e same_label same_table sch
     prepared = mapped_all (λ x. IsStorable state session x x.prepared) new local.cursors step.agrees.prepared storable;
   };
   labels = ap are_distinct (mapped_same label_of new local.cursors (all_true_label local.cursors)) ∙ step.labels;
+  updates = mapped_all (λ x. HasRisingColumns x.prepared) new local.cursors step.updates rise;
 }
   where
     of_new : new.label ≡ l
@@ -103,6 +105,7 @@ moved_in_step state session local l c moved step e same index =
     with_cursor_in_step state session local l c (record c { cursor = moved }) step e refl same
     (subst (λ (k : ℕ). HasSchemaOf (record c { cursor = moved }) (table_with_id state.tables k)) (sym same) (by (table_with_id state.tables c.cursor.table) (of_found (λ x. HasSchemaOf x (table_with_id state.tables x.cursor.table)) (λ c. c.label == l) local.cursors c e step.agrees.schemas)))
     (storable_moved state session c moved same c.prepared (of_found (λ x. IsStorable state session x x.prepared) (λ c. c.label == l) local.cursors c e step.agrees.prepared))
+    (of_found (λ x. HasRisingColumns x.prepared) (λ c. c.label == l) local.cursors c e step.updates)
   where
     by : (o : Option Table) → HasSchemaOf c o → HasSchemaOf (record c { cursor = moved }) o
     by None h = h
@@ -117,11 +120,11 @@ own_index state session local l c agrees e = by (table_with_id state.tables c.cu
     by (Some t) h = h.1
 
 -- what is prepared on it becomes another
-pub prepared_in_step : (state : DatabaseState) (session : ℕ) (local : LocalState) (l : ℕ) (c : OpenCursor) (prepared : Option PreparedUpdate) → IsInStep state session local → cursor_labelled local l ≡ Some c → IsStorable state session (record c { prepared = prepared }) prepared
+pub prepared_in_step : (state : DatabaseState) (session : ℕ) (local : LocalState) (l : ℕ) (c : OpenCursor) (prepared : Option PreparedUpdate) → IsInStep state session local → cursor_labelled local l ≡ Some c → IsStorable state session (record c { prepared = prepared }) prepared → HasRisingColumns prepared
     → IsInStep state session (with_cursor local (record c { prepared = prepared }))
-prepared_in_step state session local l c prepared step e storable =
+prepared_in_step state session local l c prepared step e storable rise =
     with_cursor_in_step state session local l c (record c { prepared = prepared }) step e refl refl
-    (by (table_with_id state.tables c.cursor.table) (of_found (λ x. HasSchemaOf x (table_with_id state.tables x.cursor.table)) (λ c. c.label == l) local.cursors c e step.agrees.schemas)) storable
+    (by (table_with_id state.tables c.cursor.table) (of_found (λ x. HasSchemaOf x (table_with_id state.tables x.cursor.table)) (λ c. c.label == l) local.cursors c e step.agrees.schemas)) storable rise
   where
     by : (o : Option Table) → HasSchemaOf c o → HasSchemaOf (record c { prepared = prepared }) o
     by None h = h
@@ -129,7 +132,7 @@ prepared_in_step state session local l c prepared step e storable =
 
 -- or ends
 pub unprepared_in_step : (state : DatabaseState) (session : ℕ) (local : LocalState) (l : ℕ) (c : OpenCursor) → IsInStep state session local → cursor_labelled local l ≡ Some c → IsInStep state session (with_cursor local (record c { prepared = None }))
-unprepared_in_step state session local l c step e = prepared_in_step state session local l c None step e tt
+unprepared_in_step state session local l c step e = prepared_in_step state session local l c None step e tt tt
 
 -- ---- one comes
 

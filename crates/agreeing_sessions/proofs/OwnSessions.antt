@@ -35,6 +35,7 @@ use Rattle.session_local.specs.SchemaCalls.{schema_changed}
 use Rattle.session_local.specs.SessionCalls.{begin_session}
 use Rattle.session_local.specs.SessionSide.{are_distinct, label_of}
 use Rattle.lawful_answers.proofs.SessionSteps.{cursor_there, same_members}
+use Rattle.lawful_answers.specs.EntryTypes.{HasRisingColumns}
 use Rattle.agreeing_sessions.specs.InStep.{IsInStep, StaysInStep}
 use Rattle.agreeing_sessions.proofs.Answering.{at_found, past, unrefused_in_step, when_begun}
 use Rattle.agreeing_sessions.proofs.Counting.{cancelled, counted, counted-last, counted-with_one, counted-without_one, counts}
@@ -59,6 +60,7 @@ not_begun state session e = record {
     prepared = tt;
   };
   labels = refl;
+  updates = tt;
 }
 
 begins : (asked : Asked) → IsInStep asked.state asked.session asked.local → StaysInStep asked (begin_session asked)
@@ -74,6 +76,7 @@ begins asked step = past asked step ((asked.local.begun, jet.SessionInUse) ∷ (
         prepared = tt;
       };
       labels = refl;
+      updates = tt;
     })
 
 pub session_begins : (asked : Asked) → IsInStep asked.state asked.session asked.local → StaysInStep asked (answer asked call.BeginSession)
@@ -93,6 +96,7 @@ ends asked =
         prepared = tt;
       };
       labels = refl;
+      updates = tt;
     }
 
 pub session_ends : (asked : Asked) → IsInStep asked.state asked.session asked.local → StaysInStep asked (answer asked call.EndSession)
@@ -113,6 +117,7 @@ entry_keeps asked kind plain no_schema step storable =
         prepared = storable;
       };
       labels = step.labels;
+      updates = step.updates;
     }
 
 -- every prepared update is dropped
@@ -142,6 +147,7 @@ entry_drops asked kind plain no_schema step =
         prepared = all_unprepared (applied asked.session kind (with_next_number asked.state)) asked.session asked.local.cursors;
       };
       labels = ap are_distinct (unprepared_same label_of (λ c. refl) asked.local.cursors) ∙ step.labels;
+      updates = all_map (λ c. HasRisingColumns c.prepared) unprepared asked.local.cursors (all_true (λ c. HasRisingColumns (unprepared c).prepared) (λ c. tt) asked.local.cursors);
     }
 
 -- ---- transactions
@@ -247,6 +253,7 @@ defines base dropped kept asked made h step free = record {
         (unlocked_outside base dropped kept asked.state asked.session h (all_outside base dropped kept asked.state asked.session made h free asked.session)) asked.local.cursors step.agrees.prepared;
   };
   labels = step.labels;
+  updates = step.updates;
 }
 
 pub schema_in_step : (base : Records) (dropped kept : List PastChange) (asked : Asked) (made : SchemaStep) → IsHistory base dropped kept asked.state → IsInStep asked.state asked.session asked.local → StaysInStep asked (schema_changed asked made)
@@ -275,6 +282,7 @@ table_opens asked label table step begun fresh found = record {
         asked.local.cursors step.agrees.prepared) (tt, tt);
   };
   labels = labels_with asked.local new step.labels fresh;
+  updates = all_append (λ c. HasRisingColumns c.prepared) asked.local.cursors (new ∷ []) step.updates (tt, tt);
 }
   where
     new : OpenCursor
@@ -336,6 +344,7 @@ table_closes asked label c step e = record {
         (same_locks asked.state (state_after asked.state (entry_of asked (entry.Shut (record { 0 = c.cursor.table })))) asked.session refl) asked.local.cursors step.agrees.prepared);
   };
   labels = distinct_filtered (λ c. not (c.label == label)) asked.local.cursors step.labels;
+  updates = filtered_all (λ c. HasRisingColumns c.prepared) (λ c. not (c.label == label)) asked.local.cursors step.updates;
 }
   where
     own : live_session (applied asked.session (entry.Shut (record { 0 = c.cursor.table })) (with_next_number asked.state)) asked.session

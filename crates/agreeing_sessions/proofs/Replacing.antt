@@ -23,13 +23,17 @@ use Rattle.record_changes.specs.Records.{Records, is_change_of, records_of}
 use Rattle.record_changes.proofs.Tests.{and_both, equal_bytes, impossible, self_equal}
 use Rattle.version_history.specs.History.{IsHistory}
 use Rattle.version_history.specs.KeptSteps.{new_change, with_next_number}
+use Rattle.version_sums.specs.EscrowNumbers.{ColumnsRise}
+use Rattle.version_records.specs.EscrowNumbers.{HoldsNumbers}
 use Rattle.version_records.specs.StoredRecords.{IsStored}
+use Rattle.version_records.proofs.EscrowRecords.{numbers_seen}
 use Rattle.session_local.specs.declared.request.Request.TheVariants as call
 use Rattle.session_local.specs.Agreement.{IsStorable, has_lock, is_lock_on}
 use Rattle.session_local.specs.Calls.{answer}
 use Rattle.session_local.specs.Local.{OpenCursor, cursor_labelled, replacing}
 use Rattle.session_local.specs.Outcome.{Asked, entry_of, is_outside, number_refusals, rows_seen, span_refusals, step_of_change}
 use Rattle.session_local.specs.RecordCalls.{bookmark_at, conflict_refusals, current, hold_at, own_refusals, prepare_replace, prepared_refusals, record_at, transaction_refusals, with_prepared}
+use Rattle.lawful_answers.specs.LawfulSteps.{IsReached}
 use Rattle.agreeing_sessions.specs.InStep.{IsInStep, SeesStored, StaysInStep}
 use Rattle.lawful_answers.proofs.ChangeSteps.{IsAtTable, at_its_table}
 use Rattle.agreeing_sessions.proofs.Answering.{at_found, past, when_begun}
@@ -46,6 +50,17 @@ may_be asked c stored at =
     subst (λ (schema : Schema). IfSome (row_at (rows_seen asked c) (bookmark_at c)) (λ values. (record_size values ≤ 1700) × IsTrue (record_fits schema.columns values))) (sym at.schema)
     (subst (λ (o : Option Table). IfSome o (λ table. (bookmark : List ℕ) → IfSome (records_of (view asked.state asked.session) c.cursor.table bookmark) (IsStored asked.state.number (schema_of table) bookmark))) at.found
     (stored c.cursor.table) (bookmark_at c))
+
+-- and its columns rise
+pub seen_rises : (base : Records) (dropped kept : List PastChange) (asked : Asked) (c : OpenCursor) → IsReached base dropped kept asked.state → IsAtTable asked c → ColumnsRise (record_at asked c)
+seen_rises base dropped kept asked c reached at =
+    by (row_at (rows_seen asked c) (bookmark_at c))
+    (subst (λ (o : Option Table). IfSome o (λ table. (bookmark : List ℕ) → IfSome (records_of (view asked.state asked.session) c.cursor.table bookmark) (HoldsNumbers asked.state.number (schema_of table) bookmark))) at.found
+    (numbers_seen base dropped kept asked.state reached.history reached.numbers asked.session c.cursor.table) (bookmark_at c))
+  where
+    by : (o : Option RecordFields) → IfSome o (HoldsNumbers asked.state.number (schema_of at.table) (bookmark_at c)) → ColumnsRise (unwrap_or o [])
+    by None h = tt
+    by (Some values) h = h.0
 
 -- the session has the lock that it made
 own_lock : (state : DatabaseState) (session table : ℕ) (bookmark : List ℕ) → has_lock (applied session (entry.Change (Hold (record { 0 = table }) bookmark)) (with_next_number state)) session table bookmark ≡ true
@@ -100,22 +115,23 @@ applied_is : (asked : Asked) (change : Change) → applied asked.session (entry.
 unfolding state_after
 applied_is asked change = refl
 
-replace_in_step : (base : Records) (dropped kept : List PastChange) (asked : Asked) (label : ℕ) (c : OpenCursor) → IsHistory base dropped kept asked.state → IsInStep asked.state asked.session asked.local → cursor_labelled asked.local label ≡ Some c → MayBePrepared asked c
+replace_in_step : (base : Records) (dropped kept : List PastChange) (asked : Asked) (label : ℕ) (c : OpenCursor) → IsHistory base dropped kept asked.state → IsInStep asked.state asked.session asked.local → cursor_labelled asked.local label ≡ Some c → MayBePrepared asked c → ColumnsRise (record_at asked c)
     → is_outside asked ≡ false → is_none (row_at (rows_seen asked c) (bookmark_at c)) ≡ false → (t : Option Transaction) → transaction_of asked.state asked.session ≡ t
     → IsInStep (state_after_all asked.state (entries_of_step (step_of_change asked (hold_at c)))) asked.session
     (with_prepared asked c (Some (record { for = replacing (bookmark_at c); values = record_at asked c })))
-replace_in_step base dropped kept asked label c h step e may in_one there None f = impossible (sym (sym (ap (λ u. levels_of u == 0) f) ∙ in_one))
-replace_in_step base dropped kept asked label c h step e may in_one there (Some t) f =
+replace_in_step base dropped kept asked label c h step e may rise in_one there None f = impossible (sym (sym (ap (λ u. levels_of u == 0) f) ∙ in_one))
+replace_in_step base dropped kept asked label c h step e may rise in_one there (Some t) f =
     prepared_in_step (state_after_all asked.state (entries_of_step (step_of_change asked (hold_at c)))) asked.session asked.local label c (Some (record { for = replacing (bookmark_at c); values = record_at asked c }))
     (change_in_step base dropped kept asked (hold_at c) h step (λ u g in_it. after_entry asked (hold_at c)
     (all_after asked.state asked.session (hold_at c) u g asked.local.cursors (locks_allowed asked.state asked.session (record { 0 = c.cursor.table }) (bookmark_at c) asked.local.cursors) step.agrees.prepared))) e
     (subst (λ (state : DatabaseState). IsStorable state asked.session c (Some (record { for = replacing (bookmark_at c); values = record_at asked c }))) (applied_is asked (hold_at c) ∙ single_state asked (hold_at c) in_one)
-    (storable_replace asked c t f (row_at (rows_seen asked c) (bookmark_at c)) refl there may))
+    (storable_replace asked c t f (row_at (rows_seen asked c) (bookmark_at c)) refl there may)) rise
 
-pub replaces : (base : Records) (dropped kept : List PastChange) (asked : Asked) (cursor : CursorId) → IsHistory base dropped kept asked.state → SeesStored asked.state asked.session
+pub replaces : (base : Records) (dropped kept : List PastChange) (asked : Asked) (cursor : CursorId) → IsReached base dropped kept asked.state → SeesStored asked.state asked.session
     → IsInStep asked.state asked.session asked.local → StaysInStep asked (answer asked (call.PrepareUpdate cursor prepare.Replace))
-replaces base dropped kept asked cursor h stored step = when_begun asked (call.PrepareUpdate cursor prepare.Replace)
+replaces base dropped kept asked cursor reached stored step = when_begun asked (call.PrepareUpdate cursor prepare.Replace)
     (λ begun. at_found asked step cursor.0 (prepare_replace asked) (λ c e.
     past asked step (prepared_refusals c ++ transaction_refusals asked ++ current asked c ++ own_refusals asked c ++ conflict_refusals asked (hold_at c) ++ number_refusals asked ++ span_refusals asked (hold_at c)) _ (λ r.
-    replace_in_step base dropped kept asked cursor.0 c h step e (may_be asked c stored (at_its_table asked cursor.0 c step.agrees e)) r.1.0 r.1.1.1.0 (transaction_of asked.state asked.session) refl)))
+    let at = at_its_table asked cursor.0 c step.agrees e in
+    replace_in_step base dropped kept asked cursor.0 c reached.history step e (may_be asked c stored at) (seen_rises base dropped kept asked c reached at) r.1.0 r.1.1.1.0 (transaction_of asked.state asked.session) refl)))
     (λ e. step)

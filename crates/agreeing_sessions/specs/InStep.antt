@@ -11,11 +11,14 @@ use Rattle.session_local.specs.Agreement.{Agrees}
 use Rattle.session_local.specs.Local.{LocalState}
 use Rattle.session_local.specs.Outcome.{Asked, Outcome}
 use Rattle.session_local.specs.SessionSide.{are_distinct, label_of}
+use Rattle.lawful_answers.specs.EntryTypes.{HasRisingUpdates}
 
--- A session is in step with the database where its own state agrees with it and no two of its cursors have one label.
+-- A session is in step with the database where its own state agrees with it, no two of its cursors have one label, and the columns
+-- of each record that it has prepared rise.
 pub record IsInStep (state : DatabaseState) (session : ℕ) (local : LocalState) : Type 0 where
   pub agrees : Agrees state session local
   pub labels : are_distinct (map label_of local.cursors) ≡ true
+  pub updates : HasRisingUpdates local
 
 -- the records that a session sees fit their row and their columns
 abbrev pub SeesStored : DatabaseState → ℕ → Type 0

@@ -20,7 +20,8 @@ pub fn locks_and_deletes_keep_a_session_in_step()
     ensures delete { (base : Records) (dropped kept : List PastChange) (asked : Asked) (cursor : CursorId) → IsHistory base dropped kept asked.state → IsInStep asked.state asked.session asked.local → StaysInStep asked (answer asked (call.Delete cursor)) }
 {}
 
-/// A sum of an escrow column, which is refused where one of them is to be replaced, leaves them too.
+/// A sum of an escrow column leaves the records that the session has prepared to replace, with their sums: of such a record it is
+/// refused. A new record that is prepared has its own sums, which begin at 0.
 pub fn sums_keep_a_session_in_step()
     ensures { (base : Records) (dropped kept : List PastChange) (asked : Asked) (cursor : CursorId) (column : List ℕ) (amount : ℤ) → IsHistory base dropped kept asked.state → IsInStep asked.state asked.session asked.local
         → StaysInStep asked (answer asked (call.EscrowUpdate cursor column amount)) }
@@ -36,8 +37,8 @@ pub fn an_update_keeps_a_session_in_step()
 }
 
 /// A replace that is prepared is of a record of the view, which it locks; so it may be stored as it is, where all records that
-/// the session sees fit their row and their columns.
+/// the session sees fit their row and their columns. Its columns rise, as those of every record that is seen.
 pub fn a_replace_is_prepared_in_step()
-    ensures { (base : Records) (dropped kept : List PastChange) (asked : Asked) (cursor : CursorId) → IsHistory base dropped kept asked.state → SeesStored asked.state asked.session
+    ensures { (base : Records) (dropped kept : List PastChange) (asked : Asked) (cursor : CursorId) → IsReached base dropped kept asked.state → SeesStored asked.state asked.session
         → IsInStep asked.state asked.session asked.local → StaysInStep asked (answer asked (call.PrepareUpdate cursor prepare.Replace)) }
 {}

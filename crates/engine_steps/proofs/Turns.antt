@@ -15,6 +15,7 @@ use Rattle.record_changes.proofs.Tests.{and_right, same_number}
 use Rattle.session_local.specs.Local.{LocalState}
 use Rattle.version_history.specs.History.{EachTwo, LabelsRise}
 use Rattle.version_history.proofs.LawfulEntries.{outside}
+use Rattle.version_records.specs.EscrowNumbers.{HasItsType}
 use Rattle.version_cleanup.specs.declared.live.Transaction.{Transaction}
 use Rattle.version_cleanup.specs.LiveSessions.{LiveState, began, ended, live_state, with_session, without_snapshot}
 use Rattle.built_calls.specs.BuiltTables.{makes_built}
@@ -81,20 +82,21 @@ begin_back engine session kind may =
 
 -- the laws that lawful entries make the next state, and leave room for all ends
 abbrev pub EntryHolds : Type 0
-EntryHolds = (engine : EngineState) (state : DatabaseState) (made : Entry) → HoldsState engine state → is_lawful state made ≡ true → makes_built made.kind ≡ true → HoldsState (engine_after engine made) (state_after state made)
+EntryHolds = (engine : EngineState) (state : DatabaseState) (made : Entry) → HoldsState engine state → is_lawful state made ≡ true → makes_built made.kind ≡ true → HasItsType made.kind → HoldsState (engine_after engine made) (state_after state made)
 
 abbrev pub EntryHasRoom : Type 0
 EntryHasRoom = (engine : EngineState) (state : DatabaseState) (made : Entry) → HoldsState engine state → is_lawful state made ≡ true → HasRoomForEnds engine → HasRoomForEnds (engine_after engine made)
 
 pub first_comes : (engine : EngineState) (session : ℕ) (kind : EntryKind) → MayTake engine (Alone (entry_by session kind)) → MayCome engine (entry_by session entry.Begin)
-first_comes engine session kind may = record { state = may.state; holds = may.holds; lawful = may.lawful.0; built = may.built.0 }
+first_comes engine session kind may = record { state = may.state; holds = may.holds; lawful = may.lawful.0; built = may.built.0; typed = may.typed.0 }
 
 pub next_comes : EntryHolds → (engine : EngineState) (session : ℕ) (kind : EntryKind) → MayTake engine (Alone (entry_by session kind)) → MayCome (effect_on engine session entry.Begin) (entry_by session kind)
 next_comes hold engine session kind may = record {
   state = state_after may.state (entry_by session entry.Begin);
-  holds = hold engine may.state (entry_by session entry.Begin) may.holds may.lawful.0 may.built.0;
+  holds = hold engine may.state (entry_by session entry.Begin) may.holds may.lawful.0 may.built.0 may.typed.0;
   lawful = may.lawful.1.0;
   built = may.built.1.0;
+  typed = may.typed.1.0;
 }
 
 pub room_begun : EntryHasRoom → (engine : EngineState) (session : ℕ) (kind : EntryKind) → MayTake engine (Alone (entry_by session kind)) → HasRoomForEnds engine → HasRoomForEnds (effect_on engine session entry.Begin)
@@ -125,4 +127,4 @@ cleaned_room engine step is = by (step_cleans step)
     by false = is
 
 pub cleaned_lawful : StepCleanHolds → (engine : EngineState) (step : Step) → MayTake engine step → MayTake (cleaned_for (step_cleans step) engine) step
-cleaned_lawful holds engine step may = record { state = may.state; holds = holds engine may.state step may.holds; lawful = may.lawful; built = may.built }
+cleaned_lawful holds engine step may = record { state = may.state; holds = holds engine may.state step may.holds; lawful = may.lawful; built = may.built; typed = may.typed }

@@ -9,6 +9,8 @@ use Rattle.index_derive.specs.declared.log.Step.TheVariants.{One, Alone}
 use Rattle.index_derive.specs.Steps.{entries_of_step}
 use Rattle.database_state.specs.State.{DatabaseState}
 use Rattle.database_state.specs.Lawful.{is_lawful}
+use Rattle.version_records.specs.EscrowNumbers.{HasItsType}
+use Rattle.lawful_answers.specs.EntryTypes.{AreOfTheirTypes}
 use Rattle.lawful_answers.specs.LawfulSteps.{AreLawful}
 use Rattle.version_cleanup.specs.LiveSessions.{ended, with_session}
 use Rattle.versioned_tables.specs.HeldRecords.{HeldRecord}
@@ -20,19 +22,22 @@ use Rattle.engine_versions.specs.HoldsState.{HoldsState}
 abbrev pub entry_by : ℕ → EntryKind → Entry
 entry_by session kind = record { session = session_id session; kind = kind }
 
--- The entry is lawful in a state that the engine holds, and makes only what is built.
+-- The entry is lawful in a state that the engine holds, makes only what is built, and is as its type has it.
 pub record MayCome (engine : EngineState) (made : Entry) : Type 0 where
   pub state : DatabaseState
   pub holds : HoldsState engine state
   pub lawful : is_lawful state made ≡ true
   pub built : makes_built made.kind ≡ true
+  pub typed : HasItsType made.kind
 
--- The entries of the step are lawful, each in its turn, from a state on that the engine holds, and make only what is built.
+-- The entries of the step are lawful, each in its turn, from a state on that the engine holds, make only what is built, and are as
+-- their types have them.
 pub record MayTake (engine : EngineState) (step : Step) : Type 0 where
   pub state : DatabaseState
   pub holds : HoldsState engine state
   pub lawful : AreLawful state (entries_of_step (Some step))
   pub built : AllMakeBuilt (entries_of_step (Some step))
+  pub typed : AreOfTheirTypes (entries_of_step (Some step))
 
 -- the engine as it was before the last entry, by which the session's transaction began
 abbrev pub begin_taken_back : ℕ → EngineState → EngineState

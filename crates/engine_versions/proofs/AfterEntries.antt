@@ -1,5 +1,5 @@
 -- The engine after an entry, after a clean and after a step.
-use Rattle.std.proofs.Common.{◌≡◌, ℕ, ◌+◌, ◌-◌, ◌||◌, Bool, true, false, not, ◌&&◌, cond, List, [], ◌∷◌, map, Option, Some, None, refl, sym, ap, subst, ◌∙◌, inl}
+use Rattle.std.proofs.Common.{◌≡◌, ℕ, ◌+◌, ◌-◌, Bool, true, false, cond, List, [], ◌∷◌, map, Option, Some, None, refl, sym, ap, subst, ◌∙◌, inl}
 use Rattle.std.specs.Prelude.{◌==◌, nat_lt, is_some, IfSome}
 use Rattle.std.specs.List.{list_all}
 use Rattle.column_set.specs.declared.columns.Column.{Column}
@@ -20,6 +20,7 @@ use Rattle.version_history.specs.KeptSteps.{base_after, dropped_after, kept_afte
 use Rattle.version_history.proofs.Labels.{labels_rise}
 use Rattle.version_keys.specs.Variants.{HasNoSums}
 use Rattle.version_keys.proofs.BookmarkKeys.{HasOneEntry}
+use Rattle.version_records.specs.EscrowNumbers.{HasItsType}
 use Rattle.version_records.specs.StoredRecords.{leaves_records_short}
 use Rattle.version_records.proofs.Storing.{stored_kept}
 use Rattle.version_cleanup.specs.LiveSessions.{levels_in, live_state, sessions_after}
@@ -30,6 +31,7 @@ use Rattle.versioned_tables.proofs.Changing.{changed_holds, committed_holds, rel
 use Rattle.versioned_tables.proofs.SchemaStepping.{stepped_holds}
 use Rattle.versioned_tables.proofs.Unchanged.{unchanged_holds}
 use Rattle.versioned_tables.proofs.Undoing.{all_undone_holds, left_holds, undone_holds}
+use Rattle.lawful_answers.specs.EntryTypes.{AreOfTheirTypes}
 use Rattle.lawful_answers.specs.LawfulSteps.{AreLawful, IsReached}
 use Rattle.lawful_answers.proofs.ReachedStates.{reaches}
 use Rattle.lawful_answers.proofs.TableTests.{all_found}
@@ -158,13 +160,14 @@ abbrev pub ChangesSessionsAlike : Type 0
 ChangesSessionsAlike =
     (state : DatabaseState) (made : Entry) → map live_state (state_after state made).sessions ≡ sessions_after (state.number + 1) made.session.0 made.kind (map live_state state.sessions)
 
-pub entry_holds : HasOneEntry → ChangesSessionsAlike → (engine : EngineState) (state : DatabaseState) (made : Entry) → HoldsState engine state → is_lawful state made ≡ true → makes_built made.kind ≡ true → HoldsState (engine_after engine made) (state_after state made)
+pub entry_holds : HasOneEntry → ChangesSessionsAlike → (engine : EngineState) (state : DatabaseState) (made : Entry) → HoldsState engine state → is_lawful state made ≡ true → makes_built made.kind ≡ true → HasItsType made.kind
+    → HoldsState (engine_after engine made) (state_after state made)
 unfolding state_after
-entry_holds one alike engine state made h e built =
+entry_holds one alike engine state made h e built type =
     let session = made.session.0 in
     let lawful : is_lawful_kind state session made.kind ≡ true = kind_lawful state made e in
     let plain : is_sum_entry made.kind ≡ false = no_sum_comes engine state h session made.kind lawful in
-    let reached : IsReached (base_after state made.kind h.base) (dropped_after made.kind h.dropped h.kept) (kept_after state session made.kind h.kept) (state_after state made) = reaches one h.base h.dropped h.kept state made h.reached e in
+    let reached : IsReached (base_after state made.kind h.base) (dropped_after made.kind h.dropped h.kept) (kept_after state session made.kind h.kept) (state_after state made) = reaches one h.base h.dropped h.kept state made h.reached e type in
     let none : HasNoSums (kept_after state session made.kind h.kept) = no_sums_after state session made.kind h.kept plain h.no_sums in
     record {
       base = base_after state made.kind h.base;
@@ -181,7 +184,7 @@ entry_holds one alike engine state made h e built =
       built = built_stay state session made.kind reached.order.ids built h.built;
     }
 
-pub entries_hold : HasOneEntry → ChangesSessionsAlike → (engine : EngineState) (state : DatabaseState) (entries : List Entry) → HoldsState engine state → AreLawful state entries → AllMakeBuilt entries → HoldsState (engine_after_all engine entries) (state_after_all state entries)
-entries_hold one alike engine state [] h lawful built = h
-entries_hold one alike engine state (made ∷ entries) h lawful built =
-    entries_hold one alike (engine_after engine made) (state_after state made) entries (entry_holds one alike engine state made h lawful.0 built.0) lawful.1 built.1
+pub entries_hold : HasOneEntry → ChangesSessionsAlike → (engine : EngineState) (state : DatabaseState) (entries : List Entry) → HoldsState engine state → AreLawful state entries → AllMakeBuilt entries → AreOfTheirTypes entries → HoldsState (engine_after_all engine entries) (state_after_all state entries)
+entries_hold one alike engine state [] h lawful built types = h
+entries_hold one alike engine state (made ∷ entries) h lawful built types =
+    entries_hold one alike (engine_after engine made) (state_after state made) entries (entry_holds one alike engine state made h lawful.0 built.0 types.0) lawful.1 built.1 types.1

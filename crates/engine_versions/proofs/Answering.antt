@@ -17,8 +17,10 @@ use Rattle.session_local.specs.declared.request.Request.TheVariants as call
 use Rattle.session_local.specs.Calls.{answer}
 use Rattle.session_local.specs.Local.{LocalState}
 use Rattle.session_local.specs.Outcome.{Asked, Outcome}
+use Rattle.lawful_answers.specs.EntryTypes.{AreOfTheirTypes}
 use Rattle.lawful_answers.specs.LawfulSteps.{AreLawful, HasLawfulStep}
 use Rattle.lawful_answers.proofs.ChangeSteps as lawful_changes
+use Rattle.lawful_answers.proofs.Replies.{takes_no_step, without_step}
 use Rattle.lawful_answers.proofs.SchemaCallSteps as lawful_schema
 use Rattle.lawful_answers.proofs.SessionSteps as lawful_sessions
 use Rattle.lawful_answers.proofs.UpdateSteps as lawful_updates
@@ -36,7 +38,6 @@ use Rattle.engine_versions.specs.EngineState.{EngineState, HasRoomForEnds}
 use Rattle.engine_versions.specs.EngineSteps.{engine_after_answer, engine_after_step}
 use Rattle.engine_versions.specs.HoldsState.{HoldsAllInStep, HoldsState, asked_of, with_local}
 use Rattle.engine_versions.proofs.Preparing.{KeepWellFormed, column_is_set, copy_prepared, insert_prepared}
-use Rattle.engine_versions.proofs.Replies.{takes_no_step, without_step}
 
 -- ---- lawful steps
 
@@ -103,7 +104,7 @@ answer_in_step one rise keeps engine state h session local (call.GetBookmark cur
 answer_in_step one rise keeps engine state h session local (call.GotoBookmark cursor bookmark) step b = goes_to (asked_of engine state session local) cursor bookmark step
 answer_in_step one rise keeps engine state h session local (call.PrepareUpdate cursor prepare.Insert) step b = insert_prepared keeps engine state session local cursor h step
 answer_in_step one rise keeps engine state h session local (call.PrepareUpdate cursor prepare.InsertCopy) step b = copy_prepared engine state session local cursor h step
-answer_in_step one rise keeps engine state h session local (call.PrepareUpdate cursor prepare.Replace) step b = replaces h.base h.dropped h.kept (asked_of engine state session local) cursor h.reached.history
+answer_in_step one rise keeps engine state h session local (call.PrepareUpdate cursor prepare.Replace) step b = replaces h.base h.dropped h.kept (asked_of engine state session local) cursor h.reached
     (each_seen IsStored h.base h.dropped h.kept state h.reached.history h.no_sums h.stored session) step
 answer_in_step one rise keeps engine state h session local (call.PrepareUpdate cursor prepare.Cancel) step b = cancels (asked_of engine state session local) cursor step
 answer_in_step one rise keeps engine state h session local (call.SetColumn cursor column sequence value) step b = column_is_set keeps engine state session local cursor column sequence value h step
@@ -118,25 +119,29 @@ answer_in_step one rise keeps engine state h session local (call.EscrowUpdate cu
 -- the law that an engine holds the next state after a step
 abbrev pub StepHolds : Type 0
 StepHolds =
-    (engine : EngineState) (state : DatabaseState) (step : Step) → HoldsState engine state → AreLawful state (entries_of_step (Some step)) → AllMakeBuilt (entries_of_step (Some step)) → HoldsState (engine_after_step engine step) (state_after_all state (entries_of_step (Some step)))
+    (engine : EngineState) (state : DatabaseState) (step : Step) → HoldsState engine state → AreLawful state (entries_of_step (Some step)) → AllMakeBuilt (entries_of_step (Some step)) → AreOfTheirTypes (entries_of_step (Some step))
+    → HoldsState (engine_after_step engine step) (state_after_all state (entries_of_step (Some step)))
 
-pub held_after : StepHolds → (engine : EngineState) (state : DatabaseState) (o : Option Step) → HoldsState engine state → AreLawful state (entries_of_step o) → AllMakeBuilt (entries_of_step o) → HoldsState (engine_after_answer engine o) (state_after_all state (entries_of_step o))
-held_after holds engine state None h lawful built = h
-held_after holds engine state (Some step) h lawful built = holds engine state step h lawful built
+pub held_after : StepHolds → (engine : EngineState) (state : DatabaseState) (o : Option Step) → HoldsState engine state → AreLawful state (entries_of_step o) → AllMakeBuilt (entries_of_step o) → AreOfTheirTypes (entries_of_step o)
+    → HoldsState (engine_after_answer engine o) (state_after_all state (entries_of_step o))
+held_after holds engine state None h lawful built types = h
+held_after holds engine state (Some step) h lawful built types = holds engine state step h lawful built types
 
-pub all_held_after : StepHolds → (engine : EngineState) (locals : ℕ → LocalState) (session : ℕ) (outcome : Outcome) (h : HoldsAllInStep engine locals) → HasLawfulStep h.state outcome → AllMakeBuilt (entries_of_step outcome.step)
+pub all_held_after : StepHolds → (engine : EngineState) (locals : ℕ → LocalState) (session : ℕ) (outcome : Outcome) (h : HoldsAllInStep engine locals) → HasLawfulStep h.state outcome → AllMakeBuilt (entries_of_step outcome.step) → AreOfTheirTypes (entries_of_step outcome.step)
     → AllByRecursion (λ made. made.session.0 ≡ session) (entries_of_step outcome.step) → StaysInStep (asked_of engine h.state session (locals session)) outcome → HoldsAllInStep (engine_after_answer engine outcome.step) (with_local session outcome.local locals)
-all_held_after holds engine locals session outcome h lawful built own step = record {
+all_held_after holds engine locals session outcome h lawful built types own step = record {
   state = state_after_all h.state (entries_of_step outcome.step);
-  holds = held_after holds engine h.state outcome.step h.holds lawful built;
+  holds = held_after holds engine h.state outcome.step h.holds lawful built types;
   in_step = all_in_step (asked_of engine h.state session (locals session)) outcome (record { base = h.holds.base; dropped = h.holds.dropped; kept = h.holds.kept; is_history = h.holds.reached.history }) lawful own step locals h.in_step;
 }
 
 -- the law that a step leaves room
 abbrev pub StepHasRoom : Type 0
 StepHasRoom =
-    (engine : EngineState) (state : DatabaseState) (step : Step) → HoldsState engine state → AreLawful state (entries_of_step (Some step)) → AllMakeBuilt (entries_of_step (Some step)) → HasRoomForEnds engine → HasRoomForEnds (engine_after_step engine step)
+    (engine : EngineState) (state : DatabaseState) (step : Step) → HoldsState engine state → AreLawful state (entries_of_step (Some step)) → AllMakeBuilt (entries_of_step (Some step)) → AreOfTheirTypes (entries_of_step (Some step))
+    → HasRoomForEnds engine → HasRoomForEnds (engine_after_step engine step)
 
-pub room_after : StepHasRoom → (engine : EngineState) (state : DatabaseState) (o : Option Step) → HoldsState engine state → AreLawful state (entries_of_step o) → AllMakeBuilt (entries_of_step o) → HasRoomForEnds engine → HasRoomForEnds (engine_after_answer engine o)
-room_after leaves engine state None h lawful built room = room
-room_after leaves engine state (Some step) h lawful built room = leaves engine state step h lawful built room
+pub room_after : StepHasRoom → (engine : EngineState) (state : DatabaseState) (o : Option Step) → HoldsState engine state → AreLawful state (entries_of_step o) → AllMakeBuilt (entries_of_step o) → AreOfTheirTypes (entries_of_step o)
+    → HasRoomForEnds engine → HasRoomForEnds (engine_after_answer engine o)
+room_after leaves engine state None h lawful built types room = room
+room_after leaves engine state (Some step) h lawful built types room = leaves engine state step h lawful built types room

@@ -18,15 +18,18 @@ use Rattle.version_keys.specs.KeySums.{IsPlainIndex, is_plain_column}
 use Rattle.version_keys.specs.TableOrder.{HasTablesInOrder}
 use Rattle.version_keys.specs.UniqueKeys.{HasOwnKey, IsSoundIndex, IsUniqueTable}
 use Rattle.version_records.specs.Bookmarks.{StandsUnder}
+use Rattle.version_records.specs.EscrowNumbers.{HasSingleSums, HoldsNumbers}
 use Rattle.version_records.specs.StoredRecords.{IsStored}
 use Rattle.version_records.proofs.EachRecord.{each_begun}
 use Rattle.version_cleanup.specs.LiveSessions.{live_state}
 use Rattle.versioned_tables.proofs.Alone.{alone_holds}
 use Rattle.versioned_tables.proofs.TablesInOrder.{in_order_rise}
 use Rattle.lawful_answers.specs.ColumnNumbers.{have_own_numbers}
+use Rattle.lawful_answers.proofs.ColumnNumbers.{all_mono}
 use Rattle.lawful_answers.proofs.ReachedStates.{begins}
 use Rattle.lawful_answers.proofs.TableTests.{all_found}
 use Rattle.built_calls.specs.BuiltTables.{are_built, is_built_column, is_built_rule, is_built_table}
+use Rattle.built_calls.proofs.BuiltColumns.{not_sum}
 use Rattle.engine_versions.specs.EngineState.{HasRoomForEnds, empty_engine, engine_of}
 use Rattle.engine_versions.specs.HoldsState.{HoldsState}
 
@@ -57,15 +60,26 @@ built_plain state built unique id = by (table_with_id state.tables id) (all_foun
         Sound : IndexRule → Type 0
         Sound rule = IsSoundIndex table rule × (is_unique rule ≡ true → (has_double_key rule (schema_of table) table.rows ≡ false) × (rule.flags.primary ≡ true → (bookmark : List ℕ) → HasOwnKey rule (schema_of table) bookmark (row_at table.rows bookmark)))
 
+-- and have no escrow column
+built_single : (state : DatabaseState) → are_built state.tables ≡ true → (id : ℕ) → IfSome (table_with_id state.tables id) HasSingleSums
+built_single state built id = by (table_with_id state.tables id) (all_found is_built_table state.tables built id)
+  where
+    by : (o : Option Table) → IfSome o (λ table. is_built_table table ≡ true) → IfSome o HasSingleSums
+    by None h = tt
+    by (Some table) h =
+        all_mono is_built_column (λ c. not c.escrow || not c.multi) (λ c b. ap (λ sum. not sum || not c.multi) (not_sum c b)) table.columns
+        (and_left (list_all is_built_column table.columns) (list_all is_built_rule table.indexes) h)
+
 pub tables_hold : (limit : ℕ) (state : DatabaseState) → state.sessions ≡ [] → state.past ≡ [] → HasTablesInOrder state → ((id : ℕ) → IfSome (table_with_id state.tables id) IsUniqueTable)
     → ((id : ℕ) → IfSome (table_with_id state.tables id) (λ table. (bookmark : List ℕ) → IfSome (row_at table.rows bookmark) (StandsUnder state.number (schema_of table) bookmark)))
     → ((id : ℕ) → IfSome (table_with_id state.tables id) (λ table. (bookmark : List ℕ) → IfSome (row_at table.rows bookmark) (IsStored state.number (schema_of table) bookmark)))
+    → ((id : ℕ) → IfSome (table_with_id state.tables id) (λ table. (bookmark : List ℕ) → IfSome (row_at table.rows bookmark) (HoldsNumbers state.number (schema_of table) bookmark)))
     → are_built state.tables ≡ true → have_own_numbers state.tables ≡ true → HoldsState (engine_of limit state) state
-tables_hold limit state sessions past order unique marks stored built columns = record {
+tables_hold limit state sessions past order unique marks stored numbers built columns = record {
   base = records_of state.tables;
   dropped = [];
   kept = [];
-  reached = begins state sessions past order unique marks (built_plain state built unique) columns;
+  reached = begins state sessions past order unique marks numbers (built_plain state built unique) (built_single state built) columns;
   holds = alone_holds state sessions past (in_order_rise state order);
   no_sums = tt;
   stored = each_begun IsStored state stored;
@@ -77,7 +91,7 @@ tables_hold limit state sessions past order unique marks stored built columns = 
 }
 
 pub empty_holds : (limit : ℕ) → HoldsState (empty_engine limit) empty_state
-empty_holds limit = tables_hold limit empty_state refl refl (record { ids = tt; given = tt; rows = tt }) (λ id. tt) (λ id. tt) (λ id. tt) refl refl
+empty_holds limit = tables_hold limit empty_state refl refl (record { ids = tt; given = tt; rows = tt }) (λ id. tt) (λ id. tt) (λ id. tt) (λ id. tt) refl refl
 
 pub tables_have_room : (limit : ℕ) (state : DatabaseState) → state.number ≤ 2 ^ 35 + 1 → HasRoomForEnds (engine_of limit state)
 tables_have_room limit state h = record { begun = least state.number; room = same state.number (2 ^ 35 + 1) h }

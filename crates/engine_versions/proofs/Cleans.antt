@@ -19,6 +19,7 @@ use Rattle.versioned_tables.specs.HeldRecords.{HeldRecord, from_oldest_kept}
 use Rattle.versioned_tables.specs.VersionedTables.{VersionedTables}
 use Rattle.versioned_tables.specs.Holding.{Holds, Matches}
 use Rattle.versioned_tables.proofs.Changing.{cleaned as held_cleaned}
+use Rattle.lawful_answers.specs.EntryTypes.{AreOfTheirTypes}
 use Rattle.lawful_answers.specs.LawfulSteps.{AreLawful, IsReached}
 use Rattle.lawful_answers.proofs.ReachedStates.{cleaned as reached_cleaned}
 use Rattle.built_calls.specs.BuiltTables.{AllMakeBuilt}
@@ -80,7 +81,7 @@ clean_holds keeps engine state h =
 -- ---- a whole step
 
 abbrev pub EntriesHold : Type 0
-EntriesHold = (engine : EngineState) (state : DatabaseState) (entries : List Entry) → HoldsState engine state → AreLawful state entries → AllMakeBuilt entries → HoldsState (engine_after_all engine entries) (state_after_all state entries)
+EntriesHold = (engine : EngineState) (state : DatabaseState) (entries : List Entry) → HoldsState engine state → AreLawful state entries → AllMakeBuilt entries → AreOfTheirTypes entries → HoldsState (engine_after_all engine entries) (state_after_all state entries)
 
 abbrev pub CleanHolds : Type 0
 CleanHolds = (engine : EngineState) (state : DatabaseState) → HoldsState engine state → HoldsState (cleaned engine) state
@@ -89,7 +90,7 @@ pub clean_for_holds : CleanHolds → (b : Bool) (engine : EngineState) (state : 
 clean_for_holds cleans true engine state h = cleans engine state h
 clean_for_holds cleans false engine state h = h
 
-pub step_holds : EntriesHold → CleanHolds → (engine : EngineState) (state : DatabaseState) (step : Step) → HoldsState engine state → AreLawful state (entries_of_step (Some step)) → AllMakeBuilt (entries_of_step (Some step))
+pub step_holds : EntriesHold → CleanHolds → (engine : EngineState) (state : DatabaseState) (step : Step) → HoldsState engine state → AreLawful state (entries_of_step (Some step)) → AllMakeBuilt (entries_of_step (Some step)) → AreOfTheirTypes (entries_of_step (Some step))
     → HoldsState (engine_after_step engine step) (state_after_all state (entries_of_step (Some step)))
-step_holds hold cleans engine state step h lawful built =
-    hold (cleaned_for (step_cleans step) engine) state (entries_of_step (Some step)) (clean_for_holds cleans (step_cleans step) engine state h) lawful built
+step_holds hold cleans engine state step h lawful built types =
+    hold (cleaned_for (step_cleans step) engine) state (entries_of_step (Some step)) (clean_for_holds cleans (step_cleans step) engine state h) lawful built types

@@ -8,8 +8,8 @@ use Rattle.jet_base.specs.declared.replies.Jet.{Jet}
 use Rattle.jet_base.specs.declared.words.Given.{Given}
 use Rattle.jet_base.specs.declared.words.Prepare.TheVariants as prepare
 use Rattle.column_set.specs.declared.columns.Column.{Column}
-use Rattle.column_set.specs.RecordValues.{RecordFields, column_named, has_value, is_kept_column, record_fits, record_size, with_values}
-use Rattle.record_edit.specs.SetColumn.{fields_after, set_refusals, size_refusals}
+use Rattle.column_set.specs.RecordValues.{RecordFields, column_named, has_value, is_kept_column, record_fits, record_size, values_of, with_values}
+use Rattle.record_edit.specs.SetColumn.{fields_after, set_refusals, size_refusals, stored_value, values_after}
 use Rattle.index_derive.specs.declared.rules.Schema.{Schema}
 use Rattle.database_state.specs.Table.{Table, row_at, schema_of}
 use Rattle.database_state.specs.Lawful.{keeps_escrow}
@@ -19,6 +19,7 @@ use Rattle.database_state.specs.State.{DatabaseState}
 use Rattle.database_state.specs.View.{view}
 use Rattle.record_changes.specs.Records.{records_of}
 use Rattle.record_changes.proofs.Tests.{and_left, and_right, and_both, impossible, self_equal}
+use Rattle.version_sums.specs.EscrowNumbers.{ColumnsRise}
 use Rattle.version_records.specs.StoredRecords.{IsStored}
 use Rattle.version_records.proofs.EachRecord.{each_seen}
 use Rattle.version_records.proofs.PrimaryKeys.{of_found}
@@ -33,15 +34,18 @@ use Rattle.session_local.specs.RecordCalls.{bookmark_at, current, on_column, on_
 use Rattle.session_local.specs.WellFormed.{IsWellFormed, is_well_formed_cursor, is_well_formed_record, is_well_formed_schema, stands_in}
 use Rattle.lawful_answers.proofs.ChangeSteps.{IsAtTable, at_its_table}
 use Rattle.lawful_answers.proofs.ColumnNumbers.{all_mono}
+use Rattle.lawful_answers.specs.EntryTypes.{HasRisingColumns}
+use Rattle.lawful_answers.proofs.Replies.{begun_each}
 use Rattle.lawful_answers.proofs.TableTests.{all_found}
 use Rattle.agreeing_sessions.specs.InStep.{IsInStep, StaysInStep}
 use Rattle.agreeing_sessions.proofs.Answering.{at_found, past, when_begun}
 use Rattle.agreeing_sessions.proofs.OpenCursors.{prepared_in_step}
+use Rattle.agreeing_sessions.proofs.Replacing.{seen_rises}
+use Rattle.agreeing_sessions.proofs.RisingColumns.{values_rise, zeros_rise}
 use Rattle.built_calls.specs.BuiltTables.{is_built_column, is_built_rule, is_built_table}
 use Rattle.built_calls.proofs.BuiltColumns.{not_kept, not_sum}
 use Rattle.engine_versions.specs.EngineState.{EngineState}
 use Rattle.engine_versions.specs.HoldsState.{HoldsState, asked_of}
-use Rattle.engine_versions.proofs.Replies.{begun_each}
 use Rattle.engine_versions.proofs.WellFormed.{no_sums, session_formed}
 
 -- ---- columns that are built
@@ -113,11 +117,11 @@ locally local request e f = by local.begun
     by true = e
     by false = ap not f
 
-with_update : (engine : EngineState) (state : DatabaseState) (session : ℕ) (local : LocalState) → HoldsState engine state → IsInStep state session local → (label : ℕ) (c : OpenCursor) → cursor_labelled local label ≡ Some c → (p : PreparedUpdate) → MayReplace state session c p.for
+with_update : (engine : EngineState) (state : DatabaseState) (session : ℕ) (local : LocalState) → HoldsState engine state → IsInStep state session local → (label : ℕ) (c : OpenCursor) → cursor_labelled local label ≡ Some c → (p : PreparedUpdate) → MayReplace state session c p.for → ColumnsRise p.values
     → IsWellFormed (with_cursor local (record c { prepared = Some p })) → IsInStep state session (with_cursor local (record c { prepared = Some p }))
-with_update engine state session local h step label c e p may formed =
+with_update engine state session local h step label c e p may rise formed =
     prepared_in_step state session local label c (Some p) step e
-    (storable_formed state session (record c { prepared = Some p }) p (columns_built engine state session local h c (at_its_table (asked_of engine state session local) label c step.agrees e)) (record_formed local label c p e formed) may)
+    (storable_formed state session (record c { prepared = Some p }) p (columns_built engine state session local h c (at_its_table (asked_of engine state session local) label c step.agrees e)) (record_formed local label c p e formed) may) rise
 
 unless_formed : (asked : Asked) → IsInStep asked.state asked.session asked.local → (refusal : Option Jet) (next : Unit {0} → Outcome) → IfFormed asked (next tt) → IfFormed asked (unless_refused asked refusal next)
 unless_formed asked step None next f = f
@@ -134,26 +138,27 @@ pub insert_prepared : KeepWellFormed → (engine : EngineState) (state : Databas
 insert_prepared keeps engine state session local cursor h step =
     let asked = asked_of engine state session local in
     begun_each (IfFormed asked) asked (call.PrepareUpdate cursor prepare.Insert)
-    (λ begun. cursor_formed asked step cursor.0 (prepare_insert asked) (λ c e. unless_formed asked step (first_refusal (prepared_refusals c)) _ (λ formed. with_update engine state session local h step cursor.0 c e _ tt formed)))
+    (λ begun. cursor_formed asked step cursor.0 (prepare_insert asked) (λ c e. unless_formed asked step (first_refusal (prepared_refusals c)) _ (λ formed. with_update engine state session local h step cursor.0 c e _ tt (zeros_rise c.schema.columns [] tt) formed)))
     (λ begun. λ formed. step)
     (keeps asked (call.PrepareUpdate cursor prepare.Insert) (locally local (call.PrepareUpdate cursor prepare.Insert) refl refl) (session_formed engine state h session local step))
 
 -- ---- columns that are set
 
 column_set : (engine : EngineState) (state : DatabaseState) (session : ℕ) (local : LocalState) → HoldsState engine state → IsInStep state session local → (label : ℕ) (c : OpenCursor) → cursor_labelled local label ≡ Some c → (sequence : ℕ) (value : Given) (p : PreparedUpdate)
-    → MayReplace state session c p.for → (o : Option Column) → IfFormed (asked_of engine state session local) (on_column (asked_of engine state session local) o (set_column_in (asked_of engine state session local) c p sequence value))
-column_set engine state session local h step label c e sequence value p may None = λ formed. step
-column_set engine state session local h step label c e sequence value p may (Some column) =
+    → MayReplace state session c p.for → ColumnsRise p.values → (o : Option Column) → IfFormed (asked_of engine state session local) (on_column (asked_of engine state session local) o (set_column_in (asked_of engine state session local) c p sequence value))
+column_set engine state session local h step label c e sequence value p may rise None = λ formed. step
+column_set engine state session local h step label c e sequence value p may rise (Some column) =
     let asked = asked_of engine state session local in
     unless_formed asked step (first_refusal (set_refusals column sequence value p.values)) _
     (unless_formed asked step (first_refusal (size_refusals column sequence value p.values)) _
-    (λ formed. with_update engine state session local h step label c e (record p { values = fields_after column sequence value p.values }) may formed))
+    (λ formed. with_update engine state session local h step label c e (record p { values = fields_after column sequence value p.values }) may
+    (values_rise p.values column.id.0 (values_after column.multi sequence (stored_value column value) (values_of p.values column.id.0)) rise) formed))
 
 pub column_is_set : KeepWellFormed → (engine : EngineState) (state : DatabaseState) (session : ℕ) (local : LocalState) (cursor : CursorId) (name : List ℕ) (sequence : ℕ) (value : Given) → HoldsState engine state → IsInStep state session local
     → StaysInStep (asked_of engine state session local) (answer (asked_of engine state session local) (call.SetColumn cursor name sequence value))
 column_is_set keeps engine state session local cursor name sequence value h step =
     begun_each (IfFormed asked) asked request
-    (λ begun. cursor_formed asked step cursor.0 (λ c. set_column asked c name sequence value) (λ c e. by c e c.prepared (of_found (λ c. IsStorable state session c c.prepared) (λ c. c.label == cursor.0) local.cursors c e step.agrees.prepared)))
+    (λ begun. cursor_formed asked step cursor.0 (λ c. set_column asked c name sequence value) (λ c e. by c e c.prepared (of_found (λ c. IsStorable state session c c.prepared) (λ c. c.label == cursor.0) local.cursors c e step.agrees.prepared) (of_found (λ c. HasRisingColumns c.prepared) (λ c. c.label == cursor.0) local.cursors c e step.updates)))
     (λ begun. λ formed. step)
     (keeps asked request (locally local request refl refl) (session_formed engine state h session local step))
   where
@@ -163,9 +168,9 @@ column_is_set keeps engine state session local cursor name sequence value h step
     request : Request
     request = call.SetColumn cursor name sequence value
 
-    by : (c : OpenCursor) → cursor_labelled local cursor.0 ≡ Some c → (o : Option PreparedUpdate) → IsStorable state session c o → IfFormed asked (on_prepared asked o (λ p. on_column asked (column_named c.schema.columns name) (set_column_in asked c p sequence value)))
-    by c e None storable = λ formed. step
-    by c e (Some p) storable = column_set engine state session local h step cursor.0 c e sequence value p storable.3 (column_named c.schema.columns name)
+    by : (c : OpenCursor) → cursor_labelled local cursor.0 ≡ Some c → (o : Option PreparedUpdate) → IsStorable state session c o → HasRisingColumns o → IfFormed asked (on_prepared asked o (λ p. on_column asked (column_named c.schema.columns name) (set_column_in asked c p sequence value)))
+    by c e None storable rise = λ formed. step
+    by c e (Some p) storable rise = column_set engine state session local h step cursor.0 c e sequence value p storable.3 rise (column_named c.schema.columns name)
 
 -- ---- a copy
 
@@ -195,7 +200,8 @@ pub copy_prepared : (engine : EngineState) (state : DatabaseState) (session : �
 copy_prepared engine state session local cursor h step =
     when_begun asked (call.PrepareUpdate cursor prepare.InsertCopy)
     (λ begun. at_found asked step cursor.0 (prepare_copy asked) (λ c e. past asked step (prepared_refusals c ++ current asked c) _ (λ r.
-    prepared_in_step state session local cursor.0 c (Some (copied c)) step e (at_copy c (at_its_table asked cursor.0 c step.agrees e) r.1.1.0))))
+    let at = at_its_table asked cursor.0 c step.agrees e in
+    prepared_in_step state session local cursor.0 c (Some (copied c)) step e (at_copy c at r.1.1.0) (zeros_rise c.schema.columns (record_at asked c) (seen_rises h.base h.dropped h.kept asked c h.reached at)))))
     (λ begun. step)
   where
     asked : Asked

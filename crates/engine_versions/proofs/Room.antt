@@ -17,6 +17,8 @@ use Rattle.version_history.proofs.Lists.{each_map, all_true}
 use Rattle.version_cleanup.specs.declared.live.Transaction.{Transaction}
 use Rattle.version_cleanup.specs.LiveSessions.{LiveState, at_levels, began, ended, entered, insert_session, left, levels_in, levels_of, live_state, lowered, new_session, opened, saved, session_in, sessions_after, shut, with_session}
 use Rattle.lawful_answers.specs.LawfulSteps.{AreLawful}
+use Rattle.version_records.specs.EscrowNumbers.{HasItsType}
+use Rattle.lawful_answers.specs.EntryTypes.{AreOfTheirTypes}
 use Rattle.built_calls.specs.BuiltTables.{AllMakeBuilt, makes_built}
 use Rattle.engine_versions.specs.EngineState.{EngineState, HasRoomForEnds, ends_in, ends_of}
 use Rattle.engine_versions.specs.EngineSteps.{cleaned_for, engine_after, engine_after_all, engine_after_step, step_cleans}
@@ -360,21 +362,21 @@ entry_has_room engine state made h e room =
     record { begun = after.0; room = after.1 }
 
 abbrev pub EntryHolds : Type 0
-EntryHolds = (engine : EngineState) (state : DatabaseState) (made : Entry) → HoldsState engine state → is_lawful state made ≡ true → makes_built made.kind ≡ true → HoldsState (engine_after engine made) (state_after state made)
+EntryHolds = (engine : EngineState) (state : DatabaseState) (made : Entry) → HoldsState engine state → is_lawful state made ≡ true → makes_built made.kind ≡ true → HasItsType made.kind → HoldsState (engine_after engine made) (state_after state made)
 
-pub entries_have_room : EntryHolds → (engine : EngineState) (state : DatabaseState) (entries : List Entry) → HoldsState engine state → AreLawful state entries → AllMakeBuilt entries → HasRoomForEnds engine → HasRoomForEnds (engine_after_all engine entries)
-entries_have_room holds engine state [] h lawful built room = room
-entries_have_room holds engine state (made ∷ entries) h lawful built room =
-    entries_have_room holds (engine_after engine made) (state_after state made) entries (holds engine state made h lawful.0 built.0) lawful.1 built.1 (entry_has_room engine state made h lawful.0 room)
+pub entries_have_room : EntryHolds → (engine : EngineState) (state : DatabaseState) (entries : List Entry) → HoldsState engine state → AreLawful state entries → AllMakeBuilt entries → AreOfTheirTypes entries → HasRoomForEnds engine → HasRoomForEnds (engine_after_all engine entries)
+entries_have_room holds engine state [] h lawful built types room = room
+entries_have_room holds engine state (made ∷ entries) h lawful built types room =
+    entries_have_room holds (engine_after engine made) (state_after state made) entries (holds engine state made h lawful.0 built.0 types.0) lawful.1 built.1 types.1 (entry_has_room engine state made h lawful.0 room)
 
 clean_has_room : (b : Bool) (engine : EngineState) → HasRoomForEnds engine → HasRoomForEnds (cleaned_for b engine)
 clean_has_room true engine room = record { begun = room.begun; room = room.room }
 clean_has_room false engine room = room
 
-pub step_has_room : EntryHolds → CleanHolds → (engine : EngineState) (state : DatabaseState) (step : Step) → HoldsState engine state → AreLawful state (entries_of_step (Some step)) → AllMakeBuilt (entries_of_step (Some step)) → HasRoomForEnds engine
+pub step_has_room : EntryHolds → CleanHolds → (engine : EngineState) (state : DatabaseState) (step : Step) → HoldsState engine state → AreLawful state (entries_of_step (Some step)) → AllMakeBuilt (entries_of_step (Some step)) → AreOfTheirTypes (entries_of_step (Some step)) → HasRoomForEnds engine
     → HasRoomForEnds (engine_after_step engine step)
-step_has_room holds cleans engine state step h lawful built room =
-    entries_have_room holds (cleaned_for (step_cleans step) engine) state (entries_of_step (Some step)) (clean_for_holds cleans (step_cleans step) engine state h) lawful built (clean_has_room (step_cleans step) engine room)
+step_has_room holds cleans engine state step h lawful built types room =
+    entries_have_room holds (cleaned_for (step_cleans step) engine) state (entries_of_step (Some step)) (clean_for_holds cleans (step_cleans step) engine state h) lawful built types (clean_has_room (step_cleans step) engine room)
 
 pub number_at_most : (engine : EngineState) → HasRoomForEnds engine → engine.number ≤ 2 ^ 35 + 1
 number_at_most engine room = by engine.number (ends_in engine.sessions) (2 ^ 35 + 1) room.room

@@ -8,6 +8,7 @@ ghost use Rattle.database_state.specs.Step.{state_after_all};
 ghost use Rattle.session_local.specs.declared.request.Request.{Request};
 ghost use Rattle.session_local.specs.Calls.{answer};
 ghost use Rattle.session_local.specs.Local.{LocalState};
+ghost use Rattle.lawful_answers.specs.EntryTypes.{AreOfTheirTypes};
 ghost use Rattle.lawful_answers.specs.LawfulSteps.{HasLawfulStep};
 ghost use Rattle.agreeing_sessions.specs.InStep.{IsInStep, StaysInStep};
 ghost use Rattle.built_calls.specs.BuiltCalls.{is_built_request};
@@ -32,11 +33,13 @@ pub fn an_answer_is_lawful_and_stays_in_step()
     local_calls_keep_well_formed();
 }
 
-/// The entries of an answer make only what is built, and are of the session that was answered.
+/// The entries of an answer make only what is built, are of the session that was answered, and are as their types have them.
 pub fn an_answer_makes_what_is_built()
     ensures built { (engine : EngineState) (state : DatabaseState) (session : ℕ) (local : LocalState) (request : Request) → is_built_request request ≡ true → AllMakeBuilt (entries_of_step (answer (asked_of engine state session local) request).step) }
     ensures own { (engine : EngineState) (state : DatabaseState) (session : ℕ) (local : LocalState) (request : Request) → is_built_request request ≡ true
         → AllByRecursion (λ made. made.session.0 ≡ session) (entries_of_step (answer (asked_of engine state session local) request).step) }
+    ensures typed { (engine : EngineState) (state : DatabaseState) (session : ℕ) (local : LocalState) (request : Request) → IsInStep state session local → is_built_request request ≡ true
+        → AreOfTheirTypes (entries_of_step (answer (asked_of engine state session local) request).step) }
 {}
 
 /// So the engine holds the state after an answer, and the session is in step with it, as are all others that were.

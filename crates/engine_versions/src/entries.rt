@@ -7,6 +7,8 @@ ghost use Rattle.index_derive.specs.Steps.{entries_of_step};
 ghost use Rattle.database_state.specs.State.{DatabaseState};
 ghost use Rattle.database_state.specs.Step.{state_after, state_after_all};
 ghost use Rattle.database_state.specs.Lawful.{is_lawful};
+ghost use Rattle.version_records.specs.EscrowNumbers.{HasItsType};
+ghost use Rattle.lawful_answers.specs.EntryTypes.{AreOfTheirTypes};
 ghost use Rattle.lawful_answers.specs.LawfulSteps.{AreLawful};
 ghost use Rattle.built_calls.specs.BuiltTables.{AllMakeBuilt, makes_built};
 ghost use Rattle.engine_versions.specs.EngineState.{EngineState, HasRoomForEnds, cleaned};
@@ -16,11 +18,13 @@ ghost use Rattle.engine_versions.specs.HoldsState.{HoldsState};
 use index_derive::a_primary_index_has_one_entry;
 use version_cleanup::{entries_change_the_sessions_alike, needed_changes_are_kept};
 
-/// An engine that holds a state holds the next one after a lawful entry that makes only what is built. So it does after
-/// entries that are lawful each in its turn.
+/// An engine that holds a state holds the next one after a lawful entry that makes only what is built and is as its type has it.
+/// So it does after entries that are lawful each in its turn.
 pub fn a_lawful_entry_makes_the_next_state()
-    ensures one { (engine : EngineState) (state : DatabaseState) (made : Entry) → HoldsState engine state → is_lawful state made ≡ true → makes_built made.kind ≡ true → HoldsState (engine_after engine made) (state_after state made) }
-    ensures many { (engine : EngineState) (state : DatabaseState) (entries : List Entry) → HoldsState engine state → AreLawful state entries → AllMakeBuilt entries → HoldsState (engine_after_all engine entries) (state_after_all state entries) }
+    ensures one { (engine : EngineState) (state : DatabaseState) (made : Entry) → HoldsState engine state → is_lawful state made ≡ true → makes_built made.kind ≡ true → HasItsType made.kind
+        → HoldsState (engine_after engine made) (state_after state made) }
+    ensures many { (engine : EngineState) (state : DatabaseState) (entries : List Entry) → HoldsState engine state → AreLawful state entries → AllMakeBuilt entries → AreOfTheirTypes entries
+        → HoldsState (engine_after_all engine entries) (state_after_all state entries) }
 {
     a_primary_index_has_one_entry();
     entries_change_the_sessions_alike();
@@ -35,7 +39,7 @@ pub fn a_clean_leaves_the_state()
 
 /// So an engine holds the next state after a whole step.
 pub fn a_lawful_step_makes_the_next_state()
-    ensures { (engine : EngineState) (state : DatabaseState) (step : Step) → HoldsState engine state → AreLawful state (entries_of_step (Some step)) → AllMakeBuilt (entries_of_step (Some step))
+    ensures { (engine : EngineState) (state : DatabaseState) (step : Step) → HoldsState engine state → AreLawful state (entries_of_step (Some step)) → AllMakeBuilt (entries_of_step (Some step)) → AreOfTheirTypes (entries_of_step (Some step))
         → HoldsState (engine_after_step engine step) (state_after_all state (entries_of_step (Some step))) }
 {
     a_lawful_entry_makes_the_next_state();
@@ -45,8 +49,10 @@ pub fn a_lawful_step_makes_the_next_state()
 /// No more is to end than was begun, and so the number of the log has room for all ends: it stays below 2^36.
 pub fn ends_always_find_room()
     ensures one { (engine : EngineState) (state : DatabaseState) (made : Entry) → HoldsState engine state → is_lawful state made ≡ true → HasRoomForEnds engine → HasRoomForEnds (engine_after engine made) }
-    ensures many { (engine : EngineState) (state : DatabaseState) (entries : List Entry) → HoldsState engine state → AreLawful state entries → AllMakeBuilt entries → HasRoomForEnds engine → HasRoomForEnds (engine_after_all engine entries) }
-    ensures step { (engine : EngineState) (state : DatabaseState) (step : Step) → HoldsState engine state → AreLawful state (entries_of_step (Some step)) → AllMakeBuilt (entries_of_step (Some step)) → HasRoomForEnds engine → HasRoomForEnds (engine_after_step engine step) }
+    ensures many { (engine : EngineState) (state : DatabaseState) (entries : List Entry) → HoldsState engine state → AreLawful state entries → AllMakeBuilt entries → AreOfTheirTypes entries
+        → HasRoomForEnds engine → HasRoomForEnds (engine_after_all engine entries) }
+    ensures step { (engine : EngineState) (state : DatabaseState) (step : Step) → HoldsState engine state → AreLawful state (entries_of_step (Some step)) → AllMakeBuilt (entries_of_step (Some step)) → AreOfTheirTypes (entries_of_step (Some step))
+        → HasRoomForEnds engine → HasRoomForEnds (engine_after_step engine step) }
     ensures most { (engine : EngineState) → HasRoomForEnds engine → engine.number ≤ 2 ^ 35 + 1 }
 {
     a_lawful_entry_makes_the_next_state();

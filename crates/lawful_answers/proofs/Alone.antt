@@ -4,6 +4,7 @@ use Rattle.std.specs.Prelude.{◌==◌, filter, map, nat_lt}
 use Rattle.std.specs.List.{AllByRecursion, list_any}
 use Rattle.std.proofs.lemmas.Bool.Decides.{nat_tests}
 use Rattle.column_set.specs.declared.changes.Change.{Change}
+use Rattle.index_derive.specs.declared.log.Entry.{Entry}
 use Rattle.index_derive.specs.declared.log.EntryKind.TheVariants as entry
 use Rattle.index_derive.specs.declared.log.Step.TheVariants.{Alone}
 use Rattle.index_derive.specs.declared.rules.IndexRule.{IndexRule}
@@ -23,14 +24,16 @@ use Rattle.version_history.specs.History.{IsHistory, IsPlaced, IsPlacedBy}
 use Rattle.version_history.specs.KeptSteps.{kept_after, with_next_number}
 use Rattle.version_history.proofs.Concurrent.{concurrent_kept}
 use Rattle.version_history.proofs.Entries.{history_begun}
-use Rattle.version_history.proofs.LawfulEntries.{outside}
+use Rattle.version_history.proofs.LawfulEntries.{keeps_lawful, outside}
 use Rattle.version_history.proofs.Lists.{all_weaker, none_passes}
 use Rattle.version_history.proofs.SeenRecords.{of_kept}
 use Rattle.version_history.proofs.Transactions.{transaction-begun}
 use Rattle.version_history.proofs.Viewing.{none_open}
 use Rattle.version_keys.proofs.BookmarkKeys.{HasOneEntry}
-use Rattle.version_keys.proofs.EscrowSums.{unseen_now}
+use Rattle.version_keys.proofs.EscrowSums.{sums_kept, unseen_next, unseen_now}
 use Rattle.version_keys.proofs.LawfulCommits.{commit_lawful}
+use Rattle.version_keys.proofs.OrderedTables.{order_kept}
+use Rattle.version_keys.proofs.UniqueLaws.{keys_kept}
 use Rattle.lawful_answers.specs.LawfulSteps.{AreLawful, IsReached, begin_of}
 use Rattle.lawful_answers.proofs.ReachedStates.{reaches}
 
@@ -116,15 +119,18 @@ pub alone_lawful : HasOneEntry → KeysRise → (base : Records) (dropped kept :
     → AreLawful state (entries_of_step (Some (Alone (record { session = record { 0 = session }; kind = entry.Change change }))))
 alone_lawful one rise base dropped kept state session change r few live out e =
     let begins = begin_lawful state session few live out in
-    let begun = reaches one base dropped kept state (begin_of session) r begins in
-    let made = reaches one base dropped kept (state_after state (begin_of session)) (record { session = record { 0 = session }; kind = entry.Change change }) begun e in
+    let begun = reaches one base dropped kept state (begin_of session) r begins tt in
+    let as_seen : DatabaseState = state_after state (begin_of session) in
+    let made : Entry = record { session = record { 0 = session }; kind = entry.Change change } in
+    let sums = sums_kept base dropped kept as_seen made begun.history e begun.sums in
+    let unique = keys_kept one base dropped kept as_seen made begun.history e (unseen_now base kept as_seen begun.sums) (unseen_next base dropped kept as_seen made begun.history e begun.sums) begun.unique in
     let changed : DatabaseState = state_after (state_after state (begin_of session)) (record { session = record { 0 = session }; kind = entry.Change change }) in
     let kept_changes : List PastChange = kept_after (state_after state (begin_of session)) session (entry.Change change) kept in (
       begins,
       (
         e,
         (
-          commit_lawful rise base dropped kept_changes changed session made.history (unseen_now base kept_changes changed made.sums) made.unique made.order
+          commit_lawful rise base dropped kept_changes changed session (keeps_lawful base dropped kept as_seen made begun.history e) (unseen_now base kept_changes changed sums) unique (order_kept as_seen made begun.order e)
               (same_levels (state_after state (begin_of session)) session change ∙ one_level state session live),
           tt,
         ),

@@ -13,3 +13,5 @@ pub mod OwnNumbers
 pub mod ReachedStates
 pub mod SumSteps
 pub mod UncopiedChanges
+pub mod Replies
+pub mod TypedAnswers

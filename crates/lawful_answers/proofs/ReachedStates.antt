@@ -21,18 +21,21 @@ use Rattle.version_keys.proofs.EscrowSums.{sums_begin, sums_cleaned, sums_kept, 
 use Rattle.version_keys.proofs.OrderedTables.{order_kept}
 use Rattle.version_keys.proofs.UniqueLaws.{keys_begin, keys_cleaned, keys_kept}
 use Rattle.version_records.specs.Bookmarks.{StandsUnder}
+use Rattle.version_records.specs.EscrowNumbers.{HasItsType, HasSingleSums, HoldsNumbers}
 use Rattle.version_records.proofs.EachRecord.{RowsHave}
+use Rattle.version_records.proofs.EscrowRecords.{numbers_begin, numbers_cleaned, numbers_kept as escrow_kept}
 use Rattle.version_records.proofs.Standing.{bookmarks_begun, bookmarks_cleaned, bookmarks_kept}
 use Rattle.lawful_answers.specs.ColumnNumbers.{have_own_numbers}
+use Rattle.lawful_answers.specs.EntryTypes.{AreOfTheirTypes}
 use Rattle.lawful_answers.specs.LawfulSteps.{AreLawful, IsReached, IsReachedState}
 use Rattle.lawful_answers.proofs.OwnNumbers.{numbers_kept}
 use Rattle.lawful_answers.proofs.UncopiedChanges.{uncopied_after}
 
 -- ---- entries
 
-pub reaches : HasOneEntry → (base : Records) (dropped kept : List PastChange) (state : DatabaseState) (made : Entry) → IsReached base dropped kept state → is_lawful state made ≡ true
+pub reaches : HasOneEntry → (base : Records) (dropped kept : List PastChange) (state : DatabaseState) (made : Entry) → IsReached base dropped kept state → is_lawful state made ≡ true → HasItsType made.kind
     → IsReached (base_after state made.kind base) (dropped_after made.kind dropped kept) (kept_after state made.session.0 made.kind kept) (state_after state made)
-reaches one base dropped kept state made reached e =
+reaches one base dropped kept state made reached e type =
     let now = unseen_now base kept state reached.sums in
     let next = unseen_next base dropped kept state made reached.history e reached.sums in
     let order = order_kept state made reached.order e in
@@ -42,19 +45,20 @@ reaches one base dropped kept state made reached e =
       unique = keys_kept one base dropped kept state made reached.history e now next reached.unique;
       order = order;
       bookmarks = bookmarks_kept one base dropped kept state made reached.history e now next reached.unique reached.bookmarks;
+      numbers = escrow_kept base dropped kept state made reached.history e type reached.numbers;
       columns = numbers_kept state made order e reached.columns;
       uncopied = uncopied_after state made.session.0 made.kind kept reached.uncopied;
     }
 
-pub reaches_all : HasOneEntry → (state : DatabaseState) (entries : List Entry) → IsReachedState state → AreLawful state entries → IsReachedState (state_after_all state entries)
-reaches_all one state [] reached lawful = reached
-reaches_all one state (made ∷ entries) reached lawful =
+pub reaches_all : HasOneEntry → (state : DatabaseState) (entries : List Entry) → IsReachedState state → AreLawful state entries → AreOfTheirTypes entries → IsReachedState (state_after_all state entries)
+reaches_all one state [] reached lawful types = reached
+reaches_all one state (made ∷ entries) reached lawful types =
     reaches_all one (state_after state made) entries (record {
       base = base_after state made.kind reached.base;
       dropped = dropped_after made.kind reached.dropped reached.kept;
       kept = kept_after state made.session.0 made.kind reached.kept;
-      is_reached = reaches one reached.base reached.dropped reached.kept state made reached.is_reached lawful.0;
-    }) lawful.1
+      is_reached = reaches one reached.base reached.dropped reached.kept state made reached.is_reached lawful.0 types.0;
+    }) lawful.1 types.1
 
 -- ---- a clean
 
@@ -66,23 +70,25 @@ cleaned base dropped item kept state reached unneeded = record {
   unique = keys_cleaned base dropped item kept state reached.history (unseen_now base (item ∷ kept) state reached.sums) reached.unique;
   order = reached.order;
   bookmarks = bookmarks_cleaned base dropped item kept state reached.history (unseen_now base (item ∷ kept) state reached.sums) reached.bookmarks;
+  numbers = numbers_cleaned base dropped item kept state reached.history reached.numbers;
   columns = reached.columns;
   uncopied = reached.uncopied.1;
 }
 
 -- ---- where it begins
 
-pub begins : (state : DatabaseState) → state.sessions ≡ [] → state.past ≡ [] → HasTablesInOrder state → ((id : ℕ) → IfSome (table_with_id state.tables id) IsUniqueTable) → RowsHave StandsUnder state.number state.tables
-    → ((id : ℕ) → IfSome (table_with_id state.tables id) (λ table. AllByRecursion (IsPlainIndex table) table.indexes)) → have_own_numbers state.tables ≡ true → IsReached (records_of state.tables) [] [] state
-begins state sessions past order unique marks plain columns = record {
+pub begins : (state : DatabaseState) → state.sessions ≡ [] → state.past ≡ [] → HasTablesInOrder state → ((id : ℕ) → IfSome (table_with_id state.tables id) IsUniqueTable) → RowsHave StandsUnder state.number state.tables → RowsHave HoldsNumbers state.number state.tables
+    → ((id : ℕ) → IfSome (table_with_id state.tables id) (λ table. AllByRecursion (IsPlainIndex table) table.indexes)) → ((id : ℕ) → IfSome (table_with_id state.tables id) HasSingleSums) → have_own_numbers state.tables ≡ true → IsReached (records_of state.tables) [] [] state
+begins state sessions past order unique marks numbers plain single columns = record {
   history = history_alone state sessions past;
   sums = sums_begin state plain;
   unique = keys_begin state unique;
   order = order;
   bookmarks = bookmarks_begun state marks;
+  numbers = numbers_begin state single numbers;
   columns = columns;
   uncopied = tt;
 }
 
 pub begins_empty : IsReached (records_of empty_state.tables) [] [] empty_state
-begins_empty = begins empty_state refl refl (record { ids = tt; given = tt; rows = tt }) (λ id. tt) (λ id. tt) (λ id. tt) refl
+begins_empty = begins empty_state refl refl (record { ids = tt; given = tt; rows = tt }) (λ id. tt) (λ id. tt) (λ id. tt) (λ id. tt) (λ id. tt) refl

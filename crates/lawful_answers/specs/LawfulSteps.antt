@@ -12,6 +12,7 @@ use Rattle.version_keys.specs.KeySums.{HasEscrowSums}
 use Rattle.version_keys.specs.TableOrder.{HasTablesInOrder}
 use Rattle.version_keys.specs.UniqueKeys.{HasUniqueKeys}
 use Rattle.version_records.specs.Bookmarks.{HasBookmarks}
+use Rattle.version_records.specs.EscrowNumbers.{HasEscrowNumbers}
 use Rattle.session_local.specs.Outcome.{Outcome}
 use Rattle.lawful_answers.specs.ColumnNumbers.{have_own_numbers}
 use Rattle.lawful_answers.specs.UncopiedPast.{AreUncopied}
@@ -29,15 +30,16 @@ HasLawfulStep state outcome = AreLawful state (entries_of_step outcome.step)
 abbrev pub begin_of : ℕ → Entry
 begin_of session = record { session = record { 0 = session }; kind = entry.Begin }
 
--- What holds of every state that lawful entries reach from tables that are in order and unique, whose records have their
--- bookmarks, whose columns have numbers of their own and whose indexes name no escrow column. No kept change names the record
--- from which a put was copied.
+-- What holds of every state that lawful entries, each as its type has it, reach from tables that are in order and unique, whose
+-- records have their bookmarks and hold numbers in their escrow columns, whose columns have numbers of their own and whose
+-- indexes name no escrow column. No kept change names the record from which a put was copied.
 pub record IsReached (base : Records) (dropped kept : List PastChange) (state : DatabaseState) : Type 0 where
   pub history : IsHistory base dropped kept state
   pub sums : HasEscrowSums base kept state
   pub unique : HasUniqueKeys base kept state
   pub order : HasTablesInOrder state
   pub bookmarks : HasBookmarks base kept state
+  pub numbers : HasEscrowNumbers base kept state
   pub columns : have_own_numbers state.tables ≡ true
   pub uncopied : AreUncopied kept
 

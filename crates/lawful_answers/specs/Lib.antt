@@ -1,3 +1,4 @@
 pub mod UncopiedPast
 pub mod ColumnNumbers
 pub mod LawfulSteps
+pub mod EntryTypes

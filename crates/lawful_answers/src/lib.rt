@@ -7,6 +7,7 @@ mod cursors;
 mod reached;
 mod schema;
 mod sessions;
+mod typed;
 
 pub use changes::{
     a_change_alone_is_lawful, a_locked_record_meets_no_write_conflict,
@@ -25,3 +26,4 @@ pub use schema::{
 pub use sessions::{
     steps_of_sessions_are_lawful, steps_of_transactions_are_lawful, the_step_of_a_commit_is_lawful,
 };
+pub use typed::entries_of_answers_are_of_their_types;

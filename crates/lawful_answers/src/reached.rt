@@ -15,17 +15,19 @@ ghost use Rattle.version_keys.specs.KeySums.{IsPlainIndex};
 ghost use Rattle.version_keys.specs.TableOrder.{HasTablesInOrder};
 ghost use Rattle.version_keys.specs.UniqueKeys.{IsUniqueTable};
 ghost use Rattle.version_records.specs.Bookmarks.{StandsUnder};
+ghost use Rattle.version_records.specs.EscrowNumbers.{HasItsType, HasSingleSums, HoldsNumbers};
 ghost use Rattle.lawful_answers.specs.ColumnNumbers.{have_own_numbers};
+ghost use Rattle.lawful_answers.specs.EntryTypes.{AreOfTheirTypes};
 ghost use Rattle.lawful_answers.specs.LawfulSteps.{AreLawful, IsReached, IsReachedState};
 
 use index_derive::a_primary_index_has_one_entry;
 
-/// Every lawful entry reaches a state of the same kind, with the history that it leaves, sums of escrow columns among the entries.
-/// So do entries that are lawful each in its turn.
+/// Every lawful entry that is as its type has it reaches a state of the same kind, with the history that it leaves, sums of escrow
+/// columns among the entries. So do entries that are lawful each in its turn.
 pub fn lawful_entries_reach_the_next_state()
-    ensures one { (base : Records) (dropped kept : List PastChange) (state : DatabaseState) (made : Entry) → IsReached base dropped kept state → is_lawful state made ≡ true
+    ensures one { (base : Records) (dropped kept : List PastChange) (state : DatabaseState) (made : Entry) → IsReached base dropped kept state → is_lawful state made ≡ true → HasItsType made.kind
         → IsReached (base_after state made.kind base) (dropped_after made.kind dropped kept) (kept_after state made.session.0 made.kind kept) (state_after state made) }
-    ensures many { (state : DatabaseState) (entries : List Entry) → IsReachedState state → AreLawful state entries → IsReachedState (state_after_all state entries) }
+    ensures many { (state : DatabaseState) (entries : List Entry) → IsReachedState state → AreLawful state entries → AreOfTheirTypes entries → IsReachedState (state_after_all state entries) }
 {
     a_primary_index_has_one_entry();
 }
@@ -37,12 +39,13 @@ pub fn a_clean_reaches_the_same_state()
 {}
 
 /// The empty state is one of these, and so is each state without sessions and past changes whose tables are in order and
-/// unique, whose records have their bookmarks, whose indexes name columns that are there and no escrow column, and whose columns
-/// have numbers of their own.
+/// unique, whose records have their bookmarks and hold numbers in their escrow columns, whose indexes name columns that are there
+/// and no escrow column, and whose columns have numbers of their own, no escrow column being multi-valued.
 pub fn states_without_sessions_are_reached()
     ensures empty { IsReached (records_of empty_state.tables) [] [] empty_state }
     ensures tables { (state : DatabaseState) → state.sessions ≡ [] → state.past ≡ [] → HasTablesInOrder state → ((id : ℕ) → IfSome (table_with_id state.tables id) IsUniqueTable)
         → ((id : ℕ) → IfSome (table_with_id state.tables id) (λ table. (bookmark : List ℕ) → IfSome (row_at table.rows bookmark) (StandsUnder state.number (schema_of table) bookmark)))
-        → ((id : ℕ) → IfSome (table_with_id state.tables id) (λ table. AllByRecursion (IsPlainIndex table) table.indexes))
+        → ((id : ℕ) → IfSome (table_with_id state.tables id) (λ table. (bookmark : List ℕ) → IfSome (row_at table.rows bookmark) (HoldsNumbers state.number (schema_of table) bookmark)))
+        → ((id : ℕ) → IfSome (table_with_id state.tables id) (λ table. AllByRecursion (IsPlainIndex table) table.indexes)) → ((id : ℕ) → IfSome (table_with_id state.tables id) HasSingleSums)
         → have_own_numbers state.tables ≡ true → IsReached (records_of state.tables) [] [] state }
 {}

@@ -12,6 +12,7 @@ use Rattle.index_derive.specs.Steps.{entries_of_step}
 use Rattle.database_state.specs.State.{DatabaseState}
 use Rattle.database_state.specs.Lawful.{has_number, is_lawful, is_lawful_kind, log_limit}
 use Rattle.lawful_answers.specs.LawfulSteps.{AreLawful}
+use Rattle.lawful_answers.specs.EntryTypes.{AreOfTheirTypes}
 use Rattle.built_calls.specs.BuiltTables.{AllMakeBuilt}
 use Rattle.engine_versions.specs.EngineState.{EngineState, HasRoomForEnds, ends_in}
 use Rattle.engine_versions.specs.EngineSteps.{cleaned_for, engine_after_step}
@@ -91,14 +92,14 @@ step_fresh engine state (One made) h lawful none = fresh_room engine state made 
 step_fresh engine state (Alone made) h lawful none = fresh_room engine state (record { session = made.session; kind = entry.Begin }) h lawful.0 none
 
 abbrev pub StepHasRoom : Type 0
-StepHasRoom = (engine : EngineState) (state : DatabaseState) (step : Step) → HoldsState engine state → AreLawful state (entries_of_step (Some step)) → AllMakeBuilt (entries_of_step (Some step)) → HasRoomForEnds engine → HasRoomForEnds (engine_after_step engine step)
+StepHasRoom = (engine : EngineState) (state : DatabaseState) (step : Step) → HoldsState engine state → AreLawful state (entries_of_step (Some step)) → AllMakeBuilt (entries_of_step (Some step)) → AreOfTheirTypes (entries_of_step (Some step)) → HasRoomForEnds engine → HasRoomForEnds (engine_after_step engine step)
 
 pub room_now : (opening : ℕ) (engine : EngineState) (step : Step) → IsBounded opening engine → MayTake engine step → HasRoomForEnds engine
 room_now opening engine step (inl room) may = room
 room_now opening engine step (inr fresh) may = step_fresh engine may.state step may.holds may.lawful fresh.1
 
 pub bounded_after : StepHasRoom → (opening : ℕ) (engine : EngineState) (step : Step) → IsBounded opening engine → MayTake engine step → IsBounded opening (engine_after_step engine step)
-bounded_after goes_on opening engine step bounded may = inl (goes_on engine may.state step may.holds may.lawful may.built (room_now opening engine step bounded may))
+bounded_after goes_on opening engine step bounded may = inl (goes_on engine may.state step may.holds may.lawful may.built may.typed (room_now opening engine step bounded may))
 
 pub bounded_cleaned : (opening : ℕ) (cleans : Bool) (engine : EngineState) → IsBounded opening engine → IsBounded opening (cleaned_for cleans engine)
 bounded_cleaned opening true engine (inl room) = inl (record { begun = room.begun; room = room.room })

@@ -8,6 +8,8 @@ use Rattle.index_derive.specs.Steps.{entries_of_step}
 use Rattle.database_state.specs.State.{DatabaseState}
 use Rattle.database_state.specs.Step.{state_after}
 use Rattle.database_state.specs.Lawful.{is_lawful}
+use Rattle.version_records.specs.EscrowNumbers.{HasItsType}
+use Rattle.lawful_answers.specs.EntryTypes.{AreOfTheirTypes}
 use Rattle.lawful_answers.specs.LawfulSteps.{AreLawful}
 use Rattle.built_calls.specs.BuiltTables.{AllMakeBuilt, makes_built}
 use Rattle.engine_versions.specs.EngineState.{EngineState, cleaned}
@@ -17,7 +19,7 @@ use Rattle.logged_engine.specs.Ends.{begun_bytes, end_bytes, ended_bytes, made_b
 use Rattle.logged_engine.proofs.Ends.{entry_keeps}
 
 abbrev pub EntryHolds : Type 0
-EntryHolds = (engine : EngineState) (state : DatabaseState) (made : Entry) → HoldsState engine state → is_lawful state made ≡ true → makes_built made.kind ≡ true → HoldsState (engine_after engine made) (state_after state made)
+EntryHolds = (engine : EngineState) (state : DatabaseState) (made : Entry) → HoldsState engine state → is_lawful state made ≡ true → makes_built made.kind ≡ true → HasItsType made.kind → HoldsState (engine_after engine made) (state_after state made)
 
 abbrev pub CleanHolds : Type 0
 CleanHolds = (engine : EngineState) (state : DatabaseState) → HoldsState engine state → HoldsState (cleaned engine) state
@@ -33,21 +35,21 @@ same_sessions false engine = refl
 together : (d b e0 e1 e2 e3 : ℕ) → 0 + e1 ≤ e0 + 9 → d + e2 ≤ e1 + b → 9 + e3 ≤ e2 + 0 → d + e3 ≤ e0 + b
 together d b e0 e1 e2 e3 p q r = omega (arith, p, q, r)
 
-pub step_keeps : EntryHolds → CleanHolds → (engine : EngineState) (state : DatabaseState) (step : Step) → HoldsState engine state → AreLawful state (entries_of_step (Some step)) → AllMakeBuilt (entries_of_step (Some step))
+pub step_keeps : EntryHolds → CleanHolds → (engine : EngineState) (state : DatabaseState) (step : Step) → HoldsState engine state → AreLawful state (entries_of_step (Some step)) → AllMakeBuilt (entries_of_step (Some step)) → AreOfTheirTypes (entries_of_step (Some step))
     → ended_bytes (made_by step).kind + end_bytes (engine_after_step engine step).sessions ≤ end_bytes engine.sessions + begun_bytes (made_by step).kind
-step_keeps holds cleans engine state (One made) h lawful built =
+step_keeps holds cleans engine state (One made) h lawful built typed =
     let first = cleaned_for (cleans_first made.kind) engine in
     let held : HoldsState first state = clean_for_holds cleans (cleans_first made.kind) engine state h in
     subst (λ (n : ℕ). ended_bytes made.kind + end_bytes (engine_after first made).sessions ≤ n + begun_bytes made.kind) (same_sessions (cleans_first made.kind) engine) (entry_keeps first state made held lawful.0)
-step_keeps holds cleans engine state (Alone made) h lawful built =
+step_keeps holds cleans engine state (Alone made) h lawful built typed =
     let first = cleaned_for (cleans_first made.kind) engine in
     let begin : Entry = record { session = made.session; kind = entry.Begin } in
     let commit : Entry = record { session = made.session; kind = entry.Commit } in
     let second = engine_after first begin in
     let third = engine_after second made in
     let held : HoldsState first state = clean_for_holds cleans (cleans_first made.kind) engine state h in
-    let held_second : HoldsState second (state_after state begin) = holds first state begin held lawful.0 built.0 in
-    let held_third : HoldsState third (state_after (state_after state begin) made) = holds second (state_after state begin) made held_second lawful.1.0 built.1.0 in
+    let held_second : HoldsState second (state_after state begin) = holds first state begin held lawful.0 built.0 typed.0 in
+    let held_third : HoldsState third (state_after (state_after state begin) made) = holds second (state_after state begin) made held_second lawful.1.0 built.1.0 typed.1.0 in
     subst (λ (n : ℕ). ended_bytes made.kind + end_bytes (engine_after third commit).sessions ≤ n + begun_bytes made.kind) (same_sessions (cleans_first made.kind) engine)
     (together (ended_bytes made.kind) (begun_bytes made.kind) (end_bytes first.sessions) (end_bytes second.sessions) (end_bytes third.sessions) (end_bytes (engine_after third commit).sessions)
     (entry_keeps first state begin held lawful.0) (entry_keeps second (state_after state begin) made held_second lawful.1.0) (entry_keeps third (state_after (state_after state begin) made) commit held_third lawful.1.1.0))

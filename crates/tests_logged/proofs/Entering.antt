@@ -18,4 +18,4 @@ unfolding is_lawful
 first_is_lawful = refl
 
 pub may_enter : (limit : ℕ) → HoldsState (empty_engine limit) empty_state → MayTake (empty_engine limit) (One first)
-may_enter limit holds = record { state = empty_state; holds = holds; lawful = (first_is_lawful, tt); built = (refl, tt) }
+may_enter limit holds = record { state = empty_state; holds = holds; lawful = (first_is_lawful, tt); built = (refl, tt); typed = (tt, tt) }

@@ -16,7 +16,9 @@ use Rattle.record_changes.specs.Records.{Records}
 use Rattle.version_sums.specs.EscrowNumbers.{ColumnsRise, IsOfItsType, holds_number}
 use Rattle.version_records.specs.EachRecord.{EachRecordHas}
 
--- no escrow column of the table is multi-valued
+-- No escrow column of the table is multi-valued. An escrow column has a value in every record that fits, since the engine keeps it,
+-- and so it has one value, its number. That it is a Long is not needed: a put has the four bytes of the record in whose place it
+-- comes, or zeros, and a sum writes four.
 abbrev pub HasSingleSums : Table → Type 0
 HasSingleSums table = list_all (λ c. not c.escrow || not c.multi) table.columns ≡ true
 
@@ -37,7 +39,8 @@ pub record HasEscrowNumbers (base : Records) (kept : List PastChange) (state : D
   pub sums : AllByRecursion (λ item. IfSome (table_with_id state.tables (changed_table item.change)) (λ table. AddsToEscrow (schema_of table) item.change)) kept
   pub records : EachRecordHas HoldsNumbers base kept state
 
--- an entry whose change, if it makes one, is as its type has it
+-- An entry whose change, if it makes one, is as its type has it. Whether an entry is lawful does not ask this: so what is lawful is
+-- wider than the types, by data that no program makes.
 abbrev pub HasItsType : EntryKind → Type 0
 HasItsType (entry.Change change) = IsOfItsType change
 HasItsType _ = Unit {0}

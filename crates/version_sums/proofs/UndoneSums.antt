@@ -1,12 +1,13 @@
 -- A sum that is undone is taken away again, whatever sums of others came after it.
 use Rattle.std.proofs.Common.{◌≡◌, ℕ, ◌+◌, ◌-◌, ◌^◌, ◌%◌, ◌<◌, ◌≤◌, true, cond, zero, suc, List, [], ◌∷◌, ◌++◌, Option, Some, None, refl, ap, ◌∙◌, arith}
 use Rattle.std.specs.Prelude.{ℤ, pos, negsuc, neg_ℤ, map, option_map, FitsSigned}
-use Rattle.std.specs.Int.{w32, cast_signed, from_le_bytes}
+use Rattle.std.specs.Int.{w32, cast_signed, cast_unsigned, from_le_bytes, int_wrapping_neg, to_le_bytes}
 use Rattle.column_set.specs.declared.changes.Change.{Change}
 use Rattle.column_set.specs.declared.changes.Change.TheVariants.{Put, Drop, Hold, Add}
-use Rattle.column_set.specs.RecordValues.{RecordFields}
+use Rattle.column_set.specs.RecordValues.{RecordFields, put_by_number}
 use Rattle.database_state.specs.Changes.{changed_table, changed_bookmark, escrow_bytes, is_sum, with_sum}
 use Rattle.database_state.specs.State.{PastChange}
+use Rattle.std.proofs.lemmas.Int.{of_z-to_z}
 use Rattle.record_changes.specs.Records.{Records, record_after, records_after_items}
 use Rattle.record_changes.proofs.Tests.{and_both, equal_bytes, impossible, self_equal}
 use Rattle.version_history.specs.Readers.{is_standing}
@@ -70,3 +71,30 @@ opposite_sum values column amount f =
     (one_sum (with_sum values column amount) column column (neg_ℤ amount) ∙ ap (λ b. cond b (plus (number_in (with_sum values column amount) column) (neg_ℤ amount)) (number_in (with_sum values column amount) column)) (self_equal column)
     ∙ ap (λ n. plus n (neg_ℤ amount)) (one_sum values column column amount ∙ ap (λ b. cond b (plus (number_in values column) amount) (number_in values column)) (self_equal column))
     ∙ opposite (number_in values column) amount f (small (from_le_bytes w32 (escrow_bytes values column))))
+
+-- ---- the opposite amount at 32 bits
+
+rest_of_none : (s : ℕ) → (s + 4294967296 % 4294967296) % 4294967296 ≡ (s + 0) % 4294967296
+rest_of_none s = omega arith
+
+rest_of : (s u : ℕ) → 1 ≤ u → u ≤ 4294967296 → (s + (4294967296 - u) % 4294967296) % 4294967296 ≡ (s + (4294967296 - u)) % 4294967296
+rest_of s u l h = omega arith
+
+rest_of_rest : (s u : ℕ) → u ≤ 4294967296 → (s + (4294967296 - (4294967296 - u)) % 4294967296) % 4294967296 ≡ (s + u) % 4294967296
+rest_of_rest s u h = omega arith
+
+least : (k : ℕ) → 1 ≤ suc k
+least k = omega arith
+
+wrapped : (s : ℕ) (amount : ℤ) → FitsSigned w32 amount → (s + (2 ^ 32 - cast_unsigned w32 amount) % 2 ^ 32) % 2 ^ 32 ≡ plus s (neg_ℤ amount)
+wrapped s (pos zero) f = rest_of_none s
+wrapped s (pos (suc k)) f = rest_of s (suc k) (least k) (within_all k f.sfits)
+wrapped s (negsuc k) f = rest_of_rest s (suc k) (within k f.sfits)
+
+pub wrapped_sum : (values : RecordFields) (column : ℕ) (amount : ℤ) → FitsSigned w32 amount → with_sum values column (int_wrapping_neg w32 amount) ≡ with_sum values column (neg_ℤ amount)
+wrapped_sum values column amount f =
+    ap (λ (n : ℕ). put_by_number column (to_le_bytes w32 ((stored + n) % 2 ^ 32) ∷ []) values) (of_z-to_z w32 ((2 ^ 32 - cast_unsigned w32 amount) % 2 ^ 32) (small (2 ^ 32 - cast_unsigned w32 amount)))
+    ∙ ap (λ (n : ℕ). put_by_number column (to_le_bytes w32 n ∷ []) values) (wrapped stored amount f)
+  where
+    stored : ℕ
+    stored = from_le_bytes w32 (escrow_bytes values column)

@@ -35,20 +35,18 @@ rewrite_collides p change mine rewrite =
     itself : is_change_of (changed_table change) (changed_bookmark change) change ≡ true
     itself = and_both _ _ (self_equal (changed_table change)) (equal_bytes (changed_bookmark change) (changed_bookmark change) refl)
 
-pub unhindered_found : (base : Records) (dropped kept : List PastChange) (state : DatabaseState) → IsHistory base dropped kept state → (session : ℕ) (t : Transaction) (change : Change) → transaction_of state session ≡ Some t
-    → has_write_conflict state session change ≡ false
-    → found_record session (transaction_of state session) (changed_table change) (changed_bookmark change) (records_of (newest state) (changed_table change) (changed_bookmark change)) kept
-    ≡ records_of (newest state) (changed_table change) (changed_bookmark change)
-unhindered_found base dropped kept state h session t change e free =
-    ap (before_or (records_of (newest state) (changed_table change) (changed_bookmark change))) (none_found hidden kept
-    (all_both (IsPlaced state.number state.tables (transaction_of state)) (λ p. is_standing p ≡ true → collide p.change change ≡ true → is_concurrent session (Some t) p ≡ false) (λ p. hidden p ≡ false)
+-- no put or drop of the record stands that the session does not see
+pub unhindered_shown : (base : Records) (dropped kept : List PastChange) (state : DatabaseState) → IsHistory base dropped kept state → (session : ℕ) (t : Transaction) (change : Change) → transaction_of state session ≡ Some t
+    → has_write_conflict state session change ≡ false → AllByRecursion (λ item. hides session (transaction_of state session) (changed_table change) (changed_bookmark change) item ≡ false) kept
+unhindered_shown base dropped kept state h session t change e free =
+    all_both (IsPlaced state.number state.tables (transaction_of state)) (λ p. is_standing p ≡ true → collide p.change change ≡ true → is_concurrent session (Some t) p ≡ false) (λ p. hidden p ≡ false)
     (λ p placed apart. refuted (hidden p) (λ hit.
     let touched : (is_change_of (changed_table change) (changed_bookmark change) p.change && is_rewrite p.change) ≡ true = and_left _ _ hit in
     let unseen : is_unseen session (transaction_of state session) p ≡ true = and_right (is_change_of (changed_table change) (changed_bookmark change) p.change && is_rewrite p.change) _ hit in
     let collides : collide p.change change ≡ true = rewrite_collides p.change change (and_left _ _ touched) (and_right (is_change_of (changed_table change) (changed_bookmark change) p.change) _ touched) in
     both (is_standing p) (sees session (transaction_of state session) p)
     (seen_unless state.number (transaction_of state) session t p e placed.2 (λ live. apart live collides) ∙ ap (λ u. sees session u p) (sym e)) unseen))
-    kept h.keeps.placed (free_of base dropped kept session change t state h e free)))
+    kept h.keeps.placed (free_of base dropped kept session change t state h e free)
   where
     hidden : PastChange → Bool
     hidden = hides session (transaction_of state session) (changed_table change) (changed_bookmark change)
@@ -59,3 +57,11 @@ unhindered_found base dropped kept state h session t change e free =
         never : false ≡ true → ⊥
         never e = cc
     both false b e h = impossible h
+
+pub unhindered_found : (base : Records) (dropped kept : List PastChange) (state : DatabaseState) → IsHistory base dropped kept state → (session : ℕ) (t : Transaction) (change : Change) → transaction_of state session ≡ Some t
+    → has_write_conflict state session change ≡ false
+    → found_record session (transaction_of state session) (changed_table change) (changed_bookmark change) (records_of (newest state) (changed_table change) (changed_bookmark change)) kept
+    ≡ records_of (newest state) (changed_table change) (changed_bookmark change)
+unhindered_found base dropped kept state h session t change e free =
+    ap (before_or (records_of (newest state) (changed_table change) (changed_bookmark change)))
+    (none_found (hides session (transaction_of state session) (changed_table change) (changed_bookmark change)) kept (unhindered_shown base dropped kept state h session t change e free))

@@ -2,6 +2,7 @@
 
 ghost use Rattle.std.specs.Prelude.{◌≡◌, ℕ, ℤ, List, [], Some, option_map, is_some, true, false, FitsSigned};
 ghost use Rattle.std.specs.Int.{w32, int_wrapping_sub};
+ghost use Rattle.std.specs.List.{AllByRecursion};
 ghost use Rattle.jet_base.specs.declared.words.ColType.TheVariants.{Long};
 ghost use Rattle.jet_base.specs.ColumnType.{number_of};
 ghost use Rattle.column_set.specs.declared.changes.Change.{Change};
@@ -11,7 +12,7 @@ ghost use Rattle.database_state.specs.Conflicts.{has_write_conflict};
 ghost use Rattle.database_state.specs.State.{DatabaseState, PastChange, Transaction, transaction_of};
 ghost use Rattle.database_state.specs.View.{newest, view};
 ghost use Rattle.record_changes.specs.Records.{Records, records_of};
-ghost use Rattle.version_history.specs.Readers.{found_record};
+ghost use Rattle.version_history.specs.Readers.{found_record, hides};
 ghost use Rattle.version_history.specs.History.{IsHistory};
 ghost use Rattle.version_sums.specs.EscrowNumbers.{holds_number};
 ghost use Rattle.version_sums.specs.EscrowSums.{with_sums, amounts_to, unseen_sums, escrow_value, without_amount, seen_value};
@@ -38,9 +39,11 @@ pub fn a_session_sees_its_record_without_unseen_sums()
 {}
 
 /// A change that meets no write conflict finds the newest record, also where it is a sum: no put or drop of the record stands that
-/// its session does not see.
+/// its session does not see. So of what stands it does not see only sums of others.
 pub fn an_unhindered_change_finds_the_stored_record_newest()
-    ensures { (base : Records) (dropped kept : List PastChange) (state : DatabaseState) → IsHistory base dropped kept state → (session : ℕ) (t : Transaction) (change : Change) → transaction_of state session ≡ Some t
+    ensures shown { (base : Records) (dropped kept : List PastChange) (state : DatabaseState) → IsHistory base dropped kept state → (session : ℕ) (t : Transaction) (change : Change) → transaction_of state session ≡ Some t
+        → has_write_conflict state session change ≡ false → AllByRecursion (λ item. hides session (transaction_of state session) (changed_table change) (changed_bookmark change) item ≡ false) kept }
+    ensures newest { (base : Records) (dropped kept : List PastChange) (state : DatabaseState) → IsHistory base dropped kept state → (session : ℕ) (t : Transaction) (change : Change) → transaction_of state session ≡ Some t
         → has_write_conflict state session change ≡ false
         → found_record session (transaction_of state session) (changed_table change) (changed_bookmark change) (records_of (newest state) (changed_table change) (changed_bookmark change)) kept
         ≡ records_of (newest state) (changed_table change) (changed_bookmark change) }

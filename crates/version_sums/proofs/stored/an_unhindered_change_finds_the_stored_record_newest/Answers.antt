@@ -1,5 +1,8 @@
-use Rattle.version_sums.proofs.UnhinderedSums.{unhindered_found}
+use Rattle.version_sums.proofs.UnhinderedSums.{unhindered_found, unhindered_shown}
 use Rattle.version_sums.proofs.stored.an_unhindered_change_finds_the_stored_record_newest.Goals as goal
 
-pub returns : goal.returns
-returns c = unhindered_found
+pub returns-clause-shown : goal.returns-clause-shown
+returns-clause-shown c = unhindered_shown
+
+pub returns-clause-newest : goal.returns-clause-newest
+returns-clause-newest c = unhindered_found

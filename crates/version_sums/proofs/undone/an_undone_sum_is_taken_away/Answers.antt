@@ -1,4 +1,4 @@
-use Rattle.version_sums.proofs.UndoneSums.{number_taken, opposite_sum, undone_sum}
+use Rattle.version_sums.proofs.UndoneSums.{number_taken, opposite_sum, undone_sum, wrapped_sum}
 use Rattle.version_sums.proofs.VeryRecords.{very_record}
 use Rattle.version_sums.proofs.undone.an_undone_sum_is_taken_away.Goals as goal
 
@@ -13,3 +13,6 @@ returns-clause-opposite c = opposite_sum
 
 pub returns-clause-very_record : goal.returns-clause-very_record
 returns-clause-very_record c = very_record
+
+pub returns-clause-wrapped : goal.returns-clause-wrapped
+returns-clause-wrapped c = wrapped_sum
