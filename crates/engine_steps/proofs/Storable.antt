@@ -35,7 +35,7 @@ use Rattle.lawful_answers.proofs.TableTests.{all_found}
 use Rattle.built_calls.specs.BuiltTables.{is_built_column, is_built_rule, is_built_table}
 use Rattle.engine_versions.specs.EngineState.{EngineState}
 use Rattle.engine_versions.specs.HoldsState.{HoldsState}
-use Rattle.engine_versions.proofs.AfterEntries.{no_sum_comes}
+use Rattle.engine_versions.proofs.BuiltSums.{no_sum_comes, no_sums_held}
 use Rattle.table_versions.specs.PutRecords.{IsStorable}
 use Rattle.engine_steps.specs.Changing.{CanChange, IsFormed}
 use Rattle.engine_steps.specs.Steps.{MayCome, entry_by}
@@ -115,7 +115,7 @@ seen_eight engine state h session id table found bookmark none there = by (recor
     stands : (bookmark : List ℕ) → IfSome (record_in (view state session) id bookmark) (λ values. is_bookmark state.number (schema_of table) (primary_rule (schema_of table)) bookmark values ≡ true)
     stands =
         subst (λ (o : Option Table). IfSome o (λ t. (bookmark : List ℕ) → IfSome (records_of (view state session) id bookmark) (λ values. is_bookmark state.number (schema_of t) (primary_rule (schema_of t)) bookmark values ≡ true))) found
-        (bookmarks_seen h.base h.dropped h.kept state h.reached.history (all_see_none h.kept state h.no_sums) h.reached.bookmarks session id)
+        (bookmarks_seen h.base h.dropped h.kept state h.reached.history (all_see_none h.kept state (no_sums_held engine state h)) h.reached.bookmarks session id)
 
     by : (o : Option RecordFields) → is_some o ≡ true → IfSome o (λ values. is_bookmark state.number (schema_of table) (primary_rule (schema_of table)) bookmark values ≡ true) → length bookmark ≡ 8
     by None e s = impossible e
@@ -271,7 +271,7 @@ change_can laws engine state h session (Drop table bookmark) lawful is =
 change_can laws engine state h session (Hold table bookmark) lawful is =
     let may = allowed state session table.0 (Hold table bookmark) (and_right _ _ lawful) in
     some_found (table_with_id engine.store.tables table.0) (table_with_id state.tables table.0) (laws.schema engine state h table.0) (ap is_some may.found)
-change_can laws engine state h session (Add table bookmark column amount) lawful is = absurd (never (no_sum_comes engine state h session (entry.Change (Add table bookmark column amount)) lawful))
+change_can laws engine state h session (Add table bookmark column amount) lawful is = absurd (never (no_sum_comes engine state h session (Add table bookmark column amount) lawful))
   where
     never : true ≡ false → ⊥
     never e = impossible (sym e)

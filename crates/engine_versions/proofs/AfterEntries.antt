@@ -1,28 +1,19 @@
 -- The engine after an entry, after a clean and after a step.
-use Rattle.std.proofs.Common.{◌≡◌, ℕ, ◌+◌, ◌-◌, Bool, true, false, cond, List, [], ◌∷◌, map, Option, Some, None, refl, sym, ap, subst, ◌∙◌, inl}
-use Rattle.std.specs.Prelude.{◌==◌, nat_lt, is_some, IfSome}
-use Rattle.std.specs.List.{list_all}
-use Rattle.column_set.specs.declared.columns.Column.{Column}
-use Rattle.column_set.specs.declared.changes.Change.TheVariants.{Put, Drop, Hold, Add}
-use Rattle.column_set.specs.RecordValues.{column_of_id}
+use Rattle.std.proofs.Common.{◌≡◌, ℕ, ◌+◌, ◌-◌, Bool, true, false, cond, List, [], ◌∷◌, map, None, refl, sym, ap, subst, ◌∙◌, inr}
+use Rattle.std.specs.Prelude.{nat_lt}
 use Rattle.index_derive.specs.declared.log.Entry.{Entry}
 use Rattle.index_derive.specs.declared.log.EntryKind.{EntryKind}
 use Rattle.index_derive.specs.declared.log.EntryKind.TheVariants as entry
 use Rattle.index_derive.specs.declared.schema_calls.SchemaStep.TheVariants as step
-use Rattle.index_derive.specs.Entries.{is_escrow_column}
-use Rattle.database_state.specs.Table.{Table, row_at, rows_of, schema_of, table_with_id}
 use Rattle.database_state.specs.State.{DatabaseState, LiveSession, PastChange, levels, undone}
 use Rattle.database_state.specs.Step.{applied, innermost_undone, is_at_level, state_after, state_after_all, with_changes_at, with_levels, with_transaction}
-use Rattle.database_state.specs.View.{view}
-use Rattle.database_state.specs.Lawful.{has_number, is_lawful, is_lawful_at, is_lawful_kind}
-use Rattle.record_changes.proofs.Tests.{and_left, and_right, impossible}
+use Rattle.database_state.specs.Lawful.{is_lawful}
 use Rattle.version_history.specs.KeptSteps.{base_after, dropped_after, kept_after, with_next_number}
 use Rattle.version_history.proofs.Labels.{labels_rise}
-use Rattle.version_keys.specs.Variants.{HasNoSums}
 use Rattle.version_keys.proofs.BookmarkKeys.{HasOneEntry}
 use Rattle.version_records.specs.EscrowNumbers.{HasItsType}
 use Rattle.version_records.specs.StoredRecords.{leaves_records_short}
-use Rattle.version_records.proofs.Storing.{stored_kept}
+use Rattle.version_records.proofs.StoredSums.{stored_kept_with_sums}
 use Rattle.version_cleanup.specs.LiveSessions.{levels_in, live_state, sessions_after}
 use Rattle.versioned_tables.specs.HeldRecords.{is_open_at}
 use Rattle.versioned_tables.specs.VersionedTables.{with_changes_undone, with_level_released, with_session_committed}
@@ -34,10 +25,8 @@ use Rattle.versioned_tables.proofs.Undoing.{all_undone_holds, left_holds, undone
 use Rattle.lawful_answers.specs.EntryTypes.{AreOfTheirTypes}
 use Rattle.lawful_answers.specs.LawfulSteps.{AreLawful, IsReached}
 use Rattle.lawful_answers.proofs.ReachedStates.{reaches}
-use Rattle.lawful_answers.proofs.TableTests.{all_found}
-use Rattle.built_calls.specs.BuiltTables.{AllMakeBuilt, is_built_column, is_built_rule, is_built_table, makes_built}
-use Rattle.built_calls.proofs.BuiltColumns.{not_numbered, not_sum}
-use Rattle.engine_versions.proofs.SumFree.{is_sum_entry, no_sums_after}
+use Rattle.built_calls.specs.BuiltTables.{AllMakeBuilt, makes_built}
+use Rattle.built_calls.proofs.BuiltColumns.{not_numbered}
 use Rattle.engine_versions.specs.EngineState.{EngineState}
 use Rattle.engine_versions.specs.EngineSteps.{engine_after, engine_after_all, greatest_after, maker, store_after}
 use Rattle.engine_versions.specs.HoldsState.{HoldsState}
@@ -50,35 +39,6 @@ entry_by session kind = record { session = record { 0 = session }; kind = kind }
 pub levels_told : (engine : EngineState) (state : DatabaseState) → HoldsState engine state → (session : ℕ) → levels_in session engine.sessions ≡ levels state session
 levels_told engine state h session = ap (levels_in session) (sym h.sessions) ∙ levels_alike session state
 
--- ---- no sum comes
-
-kind_lawful : (state : DatabaseState) (made : Entry) → is_lawful state made ≡ true → is_lawful_kind state made.session.0 made.kind ≡ true
-unfolding is_lawful
-kind_lawful state made e = and_right (has_number state.number made.kind) _ e
-
-plain_column : (columns : List Column) (id : ℕ) → list_all is_built_column columns ≡ true → elim (column_of_id columns id) [ Some column ↦ column.escrow | None ↦ false ] ≡ false
-plain_column [] id h = refl
-plain_column (c ∷ columns) id h = elim (c.id.0 == id) as (λ b. elim (cond b (Some c) (column_of_id columns id)) [ Some column ↦ column.escrow | None ↦ false ] ≡ false) [
-  | true ↦ not_sum c (and_left (is_built_column c) (list_all is_built_column columns) h)
-  | false ↦ plain_column columns id (and_right (is_built_column c) (list_all is_built_column columns) h)
-]
-
-pub no_sum_comes : (engine : EngineState) (state : DatabaseState) → HoldsState engine state → (session : ℕ) (kind : EntryKind) → is_lawful_kind state session kind ≡ true → is_sum_entry kind ≡ false
-no_sum_comes engine state h session (entry.Change (Put table bookmark copied values)) e = refl
-no_sum_comes engine state h session (entry.Change (Drop table bookmark)) e = refl
-no_sum_comes engine state h session (entry.Change (Hold table bookmark)) e = refl
-no_sum_comes engine state h session (entry.Change (Add table bookmark column amount)) e = absurd (at (table_with_id state.tables table.0) refl (and_right _ _ e))
-  where
-    at : (found : Option Table) → table_with_id state.tables table.0 ≡ found → is_lawful_at state session found (Add table bookmark column amount) ≡ true → ⊥
-    at None found f = impossible f
-    at (Some t) found f =
-        impossible
-        (sym (plain_column t.columns column.0
-        (and_left (list_all is_built_column t.columns) (list_all is_built_rule t.indexes)
-        (subst (λ (o : Option Table). IfSome o (λ t. is_built_table t ≡ true)) found (all_found is_built_table state.tables h.built table.0))))
-        ∙ and_right (is_some (row_at (rows_of (table_with_id (view state session) t.id)) bookmark)) (is_escrow_column (schema_of t) column.0) f)
-no_sum_comes engine state h session _ e = refl
-
 -- ---- the tables and the held changes
 
 store_holds : (engine : EngineState) (state : DatabaseState) (session : ℕ) (kind : EntryKind) → (h : HoldsState engine state) → is_lawful state (entry_by session kind) ≡ true
@@ -88,11 +48,11 @@ store_holds engine state session (entry.Open table) h e = unchanged_holds h.base
 store_holds engine state session (entry.Shut table) h e = unchanged_holds h.base h.dropped h.kept engine.store state session (entry.Shut table) refl h.holds e
 store_holds engine state session entry.Begin h e = unchanged_holds h.base h.dropped h.kept engine.store state session entry.Begin refl h.holds e
 store_holds engine state session entry.Save h e = unchanged_holds h.base h.dropped h.kept engine.store state session entry.Save refl h.holds e
-store_holds engine state session entry.Leave h e = left_holds h.base h.dropped h.kept engine.store state session h.holds (inl h.no_sums) e
-store_holds engine state session entry.UndoAll h e = all_undone_holds h.base h.dropped h.kept engine.store state session h.holds (inl h.no_sums) e
+store_holds engine state session entry.Leave h e = left_holds h.base h.dropped h.kept engine.store state session h.holds (inr h.reached.numbers) e
+store_holds engine state session entry.UndoAll h e = all_undone_holds h.base h.dropped h.kept engine.store state session h.holds (inr h.reached.numbers) e
 store_holds engine state session entry.Undo h e =
     subst (λ (n : ℕ). Holds h.base h.dropped (kept_after state session entry.Undo h.kept) (with_changes_undone (is_open_at session n) engine.store) (state_after state (entry_by session entry.Undo)))
-    (sym (levels_told engine state h session)) (undone_holds h.base h.dropped h.kept engine.store state session h.holds (inl h.no_sums) e)
+    (sym (levels_told engine state h session)) (undone_holds h.base h.dropped h.kept engine.store state session h.holds (inr h.reached.numbers) e)
 store_holds engine state session entry.Release h e =
     subst (λ (n : ℕ). Holds h.base h.dropped (kept_after state session entry.Release h.kept) (with_level_released session n engine.store) (state_after state (entry_by session entry.Release)))
     (sym (levels_told engine state h session)) (released_holds h.base h.dropped h.kept engine.store state session h.holds e)
@@ -165,18 +125,14 @@ pub entry_holds : HasOneEntry → ChangesSessionsAlike → (engine : EngineState
 unfolding state_after
 entry_holds one alike engine state made h e built type =
     let session = made.session.0 in
-    let lawful : is_lawful_kind state session made.kind ≡ true = kind_lawful state made e in
-    let plain : is_sum_entry made.kind ≡ false = no_sum_comes engine state h session made.kind lawful in
     let reached : IsReached (base_after state made.kind h.base) (dropped_after made.kind h.dropped h.kept) (kept_after state session made.kind h.kept) (state_after state made) = reaches one h.base h.dropped h.kept state made h.reached e type in
-    let none : HasNoSums (kept_after state session made.kind h.kept) = no_sums_after state session made.kind h.kept plain h.no_sums in
     record {
       base = base_after state made.kind h.base;
       dropped = dropped_after made.kind h.dropped h.kept;
       kept = kept_after state session made.kind h.kept;
       reached = reached;
       holds = store_holds engine state session made.kind h e;
-      no_sums = none;
-      stored = stored_kept h.base h.dropped h.kept state made h.reached.history e h.no_sums none (short_of made.kind built) h.stored;
+      stored = stored_kept_with_sums h.base h.dropped h.kept state made h.reached.history e h.reached.numbers type (short_of made.kind built) h.stored;
       number = number_after state session made.kind ∙ ap (λ (n : ℕ). n + 1) h.number;
       greatest = greatest_stays state session made.kind ∙ ap (λ (n : ℕ). greatest_after n made.kind) h.greatest;
       sessions = alike state made ∙ (λ i. sessions_after (h.number i + 1) session made.kind (h.sessions i));

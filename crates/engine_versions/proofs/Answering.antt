@@ -10,8 +10,7 @@ use Rattle.database_state.specs.Step.{state_after_all}
 use Rattle.derived_index.proofs.Adding.{KeysRise}
 use Rattle.record_changes.proofs.Tests.{and_left, impossible}
 use Rattle.version_keys.proofs.BookmarkKeys.{HasOneEntry}
-use Rattle.version_records.specs.StoredRecords.{IsStored}
-use Rattle.version_records.proofs.EachRecord.{each_seen}
+use Rattle.version_records.proofs.StoredSums.{stored_seen_with_sums}
 use Rattle.session_local.specs.declared.request.Request.{Request}
 use Rattle.session_local.specs.declared.request.Request.TheVariants as call
 use Rattle.session_local.specs.Calls.{answer}
@@ -23,6 +22,7 @@ use Rattle.lawful_answers.proofs.ChangeSteps as lawful_changes
 use Rattle.lawful_answers.proofs.Replies.{takes_no_step, without_step}
 use Rattle.lawful_answers.proofs.SchemaCallSteps as lawful_schema
 use Rattle.lawful_answers.proofs.SessionSteps as lawful_sessions
+use Rattle.lawful_answers.proofs.SumSteps as lawful_sums
 use Rattle.lawful_answers.proofs.UpdateSteps as lawful_updates
 use Rattle.agreeing_sessions.specs.InStep.{IsInStep, StaysInStep}
 use Rattle.agreeing_sessions.proofs.AllSessions.{all_in_step}
@@ -71,7 +71,7 @@ answer_lawful one rise engine state h session local request step built = elim (t
     stepping (call.Update cursor) b e = lawful_updates.updates one rise h.base h.dropped h.kept (asked_of engine state session local) cursor h.reached step.agrees
     stepping (call.Delete cursor) b e = lawful_changes.deletes one rise h.base h.dropped h.kept (asked_of engine state session local) cursor h.reached step.agrees
     stepping (call.GetLock cursor) b e = lawful_changes.locks one rise h.base h.dropped h.kept (asked_of engine state session local) cursor h.reached step.agrees
-    stepping (call.EscrowUpdate cursor column amount) b e = impossible b
+    stepping (call.EscrowUpdate cursor column amount) b e = lawful_sums.sums one rise h.base h.dropped h.kept (asked_of engine state session local) cursor column amount h.reached step.agrees
     stepping _ b e = impossible (sym e)
 
 -- ---- the session's own state
@@ -105,14 +105,14 @@ answer_in_step one rise keeps engine state h session local (call.GotoBookmark cu
 answer_in_step one rise keeps engine state h session local (call.PrepareUpdate cursor prepare.Insert) step b = insert_prepared keeps engine state session local cursor h step
 answer_in_step one rise keeps engine state h session local (call.PrepareUpdate cursor prepare.InsertCopy) step b = copy_prepared engine state session local cursor h step
 answer_in_step one rise keeps engine state h session local (call.PrepareUpdate cursor prepare.Replace) step b = replaces h.base h.dropped h.kept (asked_of engine state session local) cursor h.reached
-    (each_seen IsStored h.base h.dropped h.kept state h.reached.history h.no_sums h.stored session) step
+    (stored_seen_with_sums h.base h.dropped h.kept state h.reached.history h.reached.numbers h.stored session) step
 answer_in_step one rise keeps engine state h session local (call.PrepareUpdate cursor prepare.Cancel) step b = cancels (asked_of engine state session local) cursor step
 answer_in_step one rise keeps engine state h session local (call.SetColumn cursor column sequence value) step b = column_is_set keeps engine state session local cursor column sequence value h step
 answer_in_step one rise keeps engine state h session local (call.RetrieveColumn cursor column sequence copy most) step b = shows_value (asked_of engine state session local) cursor column sequence copy most step
 answer_in_step one rise keeps engine state h session local (call.Update cursor) step b = own_changes.updates one rise h.base h.dropped h.kept (asked_of engine state session local) cursor h.reached step
 answer_in_step one rise keeps engine state h session local (call.Delete cursor) step b = own_changes.deletes h.base h.dropped h.kept (asked_of engine state session local) cursor h.reached.history step
 answer_in_step one rise keeps engine state h session local (call.GetLock cursor) step b = own_changes.locks h.base h.dropped h.kept (asked_of engine state session local) cursor h.reached.history step
-answer_in_step one rise keeps engine state h session local (call.EscrowUpdate cursor column amount) step b = impossible b
+answer_in_step one rise keeps engine state h session local (call.EscrowUpdate cursor column amount) step b = own_changes.sums h.base h.dropped h.kept (asked_of engine state session local) cursor column amount h.reached.history step
 
 -- ---- what the engine holds then
 

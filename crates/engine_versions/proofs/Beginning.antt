@@ -81,7 +81,6 @@ tables_hold limit state sessions past order unique marks stored numbers built co
   kept = [];
   reached = begins state sessions past order unique marks numbers (built_plain state built unique) (built_single state built) columns;
   holds = alone_holds state sessions past (in_order_rise state order);
-  no_sums = tt;
   stored = each_begun IsStored state stored;
   number = refl;
   greatest = refl;

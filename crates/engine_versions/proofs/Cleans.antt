@@ -9,10 +9,9 @@ use Rattle.database_state.specs.Step.{state_after_all}
 use Rattle.database_state.specs.VersionStore.{is_needed, is_needed_status}
 use Rattle.record_changes.specs.Records.{Records, after_item}
 use Rattle.version_history.specs.Readers.{is_standing}
-use Rattle.version_keys.specs.Variants.{HasNoSums}
 use Rattle.version_records.specs.EachRecord.{EachRecordHas}
 use Rattle.version_records.specs.StoredRecords.{IsStored}
-use Rattle.version_records.proofs.EachRecord.{each_cleaned}
+use Rattle.version_records.proofs.StoredSums.{stored_cleaned_with_sums}
 use Rattle.version_store.specs.HeldChanges.{is_kept_status}
 use Rattle.version_cleanup.specs.LiveSessions.{live_state, oldest_begin}
 use Rattle.versioned_tables.specs.HeldRecords.{HeldRecord, from_oldest_kept}
@@ -34,24 +33,22 @@ record HasStore (store : VersionedTables) (state : DatabaseState) : Type 0 where
   kept : List PastChange
   reached : IsReached base dropped kept state
   holds : Holds base dropped kept store state
-  no_sums : HasNoSums kept
   stored : EachRecordHas IsStored base kept state
 
 store_cleaned : (state : DatabaseState) (tables : List Table) (oldest : Option ℕ) → ((item : PastChange) (r : HeldRecord) → Matches item r → is_kept_status oldest r.status ≡ is_needed state.sessions item)
-    → (held : List HeldRecord) (base : Records) (dropped kept : List PastChange) → IsReached base dropped kept state → Holds base dropped kept (record { tables = tables; held = held }) state → HasNoSums kept → EachRecordHas IsStored base kept state
+    → (held : List HeldRecord) (base : Records) (dropped kept : List PastChange) → IsReached base dropped kept state → Holds base dropped kept (record { tables = tables; held = held }) state → EachRecordHas IsStored base kept state
     → HasStore (record { tables = tables; held = from_oldest_kept oldest held }) state
-store_cleaned state tables oldest same [] base dropped kept reached holds none stored = record { base = base; dropped = dropped; kept = kept; reached = reached; holds = holds; no_sums = none; stored = stored }
-store_cleaned state tables oldest same (r ∷ held) base dropped [] reached holds none stored = absurd holds.held
-store_cleaned state tables oldest same (r ∷ held) base dropped (item ∷ kept) reached holds none stored =
+store_cleaned state tables oldest same [] base dropped kept reached holds stored = record { base = base; dropped = dropped; kept = kept; reached = reached; holds = holds; stored = stored }
+store_cleaned state tables oldest same (r ∷ held) base dropped [] reached holds stored = absurd holds.held
+store_cleaned state tables oldest same (r ∷ held) base dropped (item ∷ kept) reached holds stored =
     elim (is_kept_status oldest r.status) as (λ b. is_kept_status oldest r.status ≡ b → HasStore (record { tables = tables; held = cond b (r ∷ held) (from_oldest_kept oldest held) }) state) [
-      | true ↦ λ e. record { base = base; dropped = dropped; kept = item ∷ kept; reached = reached; holds = holds; no_sums = none; stored = stored }
+      | true ↦ λ e. record { base = base; dropped = dropped; kept = item ∷ kept; reached = reached; holds = holds; stored = stored }
       | false ↦ λ e.
           let unneeded : is_needed state.sessions item ≡ false = sym (same item r holds.held.0) ∙ e in
           store_cleaned state tables oldest same held (cond (is_standing item) (after_item base item) base) (dropped ++ item ∷ []) kept
           (reached_cleaned base dropped item kept state reached unneeded)
           (held_cleaned base dropped item kept (record { tables = tables; held = r ∷ held }) state holds unneeded)
-          none.1
-          (each_cleaned IsStored base dropped item kept state reached.history none stored)
+          (stored_cleaned_with_sums base dropped item kept state reached.history reached.numbers stored)
     ] refl
 
 -- the law that a change is kept where the state needs it
@@ -62,14 +59,13 @@ pub clean_holds : KeepsNeeded → (engine : EngineState) (state : DatabaseState)
 clean_holds keeps engine state h =
     let left = store_cleaned state engine.store.tables (oldest_begin engine.sessions)
     (λ item r m. (λ i. is_kept_status (oldest_begin (sym h.sessions i)) (m.status i)) ∙ keeps state.sessions item.status)
-    engine.store.held h.base h.dropped h.kept h.reached h.holds h.no_sums h.stored in
+    engine.store.held h.base h.dropped h.kept h.reached h.holds h.stored in
     record {
       base = left.base;
       dropped = left.dropped;
       kept = left.kept;
       reached = left.reached;
       holds = left.holds;
-      no_sums = left.no_sums;
       stored = left.stored;
       number = h.number;
       greatest = h.greatest;

@@ -21,7 +21,7 @@ use Rattle.record_changes.specs.Records.{records_of}
 use Rattle.record_changes.proofs.Tests.{and_left, and_right, and_both, impossible, self_equal}
 use Rattle.version_sums.specs.EscrowNumbers.{ColumnsRise}
 use Rattle.version_records.specs.StoredRecords.{IsStored}
-use Rattle.version_records.proofs.EachRecord.{each_seen}
+use Rattle.version_records.proofs.StoredSums.{stored_seen_with_sums}
 use Rattle.version_records.proofs.PrimaryKeys.{of_found}
 use Rattle.session_local.specs.declared.request.Request.{Request}
 use Rattle.session_local.specs.declared.request.Request.TheVariants as call
@@ -193,7 +193,7 @@ copy_storable engine state session local h c at (Some values) e there prepared i
     stored =
         subst (λ (o : Option RecordFields). IfSome o (IsStored state.number (schema_of at.table) (bookmark_at c))) e
         (subst (λ (o : Option Table). IfSome o (λ table. (bookmark : List ℕ) → IfSome (records_of (view state session) c.cursor.table bookmark) (IsStored state.number (schema_of table) bookmark))) at.found
-        (each_seen IsStored h.base h.dropped h.kept state h.reached.history h.no_sums h.stored session c.cursor.table) (bookmark_at c))
+        (stored_seen_with_sums h.base h.dropped h.kept state h.reached.history h.reached.numbers h.stored session c.cursor.table) (bookmark_at c))
 
 pub copy_prepared : (engine : EngineState) (state : DatabaseState) (session : ℕ) (local : LocalState) (cursor : CursorId) → HoldsState engine state → IsInStep state session local
     → StaysInStep (asked_of engine state session local) (answer (asked_of engine state session local) (call.PrepareUpdate cursor prepare.InsertCopy))

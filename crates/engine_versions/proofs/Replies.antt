@@ -1,11 +1,12 @@
 -- What the steps of calls make: what is built, and entries of their session.
-use Rattle.std.proofs.Common.{◌≡◌, ℕ, Bool, true, false, cond, List, [], ◌∷◌, ◌++◌, length, Option, Some, None, refl, sym}
-use Rattle.std.specs.Prelude.{◌==◌, is_some, nat_le, nat_lt}
+use Rattle.std.proofs.Common.{◌≡◌, ℕ, Bool, true, false, cond, List, [], ◌∷◌, ◌++◌, length, Option, Some, None, refl, sym, not}
+use Rattle.std.specs.Prelude.{◌==◌, is_some, nat_le, nat_lt, ℤ}
 use Rattle.std.specs.List.{AllByRecursion}
 use Rattle.jet_base.specs.declared.replies.Jet.TheVariants as jet
 use Rattle.jet_base.specs.declared.words.Prepare.TheVariants as prepare
 use Rattle.column_set.specs.declared.changes.Change.{Change}
-use Rattle.column_set.specs.RecordValues.{is_missing_a_value}
+use Rattle.column_set.specs.declared.changes.Change.TheVariants.{Add}
+use Rattle.column_set.specs.RecordValues.{column_named, is_missing_a_value}
 use Rattle.index_derive.specs.declared.log.Entry.{Entry}
 use Rattle.index_derive.specs.declared.log.EntryKind.TheVariants as entry
 use Rattle.index_derive.specs.declared.log.Step.TheVariants.{Alone}
@@ -26,10 +27,10 @@ use Rattle.session_local.specs.Calls.{answer, prepare_update}
 use Rattle.session_local.specs.CursorCalls.{opened, close_table}
 use Rattle.session_local.specs.Local.{OpenCursor, PreparedUpdate, cursor_labelled}
 use Rattle.session_local.specs.Outcome.{Asked, Outcome, is_outside, number_refusals, one, rows_seen, span_refusals, step_of_change}
-use Rattle.session_local.specs.RecordCalls.{bookmark_for, conflict_refusals, current, delete, drop_at, get_lock, hold_at, is_primary_changed, own_refusals, prepare_replace, prepared_refusals, put_of, replaced_by, transaction_refusals, update, update_with}
+use Rattle.session_local.specs.RecordCalls.{bookmark_at, bookmark_for, conflict_refusals, current, delete, drop_at, escrow_update, get_lock, hold_at, is_primary_changed, own_refusals, prepare_replace, prepared_refusals, put_of, replaced_by, transaction_refusals, update, update_with, sum_in}
 use Rattle.session_local.specs.SchemaCalls.{schema_changed}
 use Rattle.lawful_answers.specs.EntryTypes.{HasItsAmount}
-use Rattle.lawful_answers.proofs.Replies.{Quiet, passed_each, unless_each, cursor_each, begun_each, prepared_each, either, takes_no_step, without_step}
+use Rattle.lawful_answers.proofs.Replies.{Quiet, passed_each, unless_each, cursor_each, begun_each, column_each, prepared_each, either, takes_no_step, without_step}
 use Rattle.built_calls.specs.BuiltCalls.{is_built_request}
 use Rattle.built_calls.specs.BuiltTables.{AllMakeBuilt, is_built_kind, is_built_limit, makes_built}
 
@@ -73,6 +74,13 @@ update_built : (asked : Asked) (c : OpenCursor) → TakesBuilt asked.session (up
 update_built asked c = prepared_each (TakesBuilt asked.session) (quiet_built asked.session) asked c.prepared (update_with asked c) (λ p.
     unless_each (TakesBuilt asked.session) (quiet_built asked.session) asked (update_refusals asked c p (put_of asked c p (bookmark_for asked c.schema p.for p.values))) _ (change_built asked (put_of asked c p (bookmark_for asked c.schema p.for p.values))))
 
+sum_built : (asked : Asked) (c : OpenCursor) (name : List ℕ) (amount : ℤ) → TakesBuilt asked.session (escrow_update asked c name amount)
+sum_built asked c name amount =
+    unless_each (TakesBuilt asked.session) (quiet_built asked.session) asked (transaction_refusals asked ++ current asked c) _
+    (column_each (TakesBuilt asked.session) (quiet_built asked.session) asked (column_named c.schema.columns name) (sum_in asked c amount) (λ column.
+    let sum : Change = Add (record { 0 = c.cursor.table }) (bookmark_at c) column.id amount in
+    unless_each (TakesBuilt asked.session) (quiet_built asked.session) asked ((not column.escrow, jet.InvalidColumnType) ∷ own_refusals asked c ++ conflict_refusals asked sum ++ number_refusals asked ++ span_refusals asked sum) _ (change_built asked sum)))
+
 opened_built : (asked : Asked) (label : ℕ) (o : Option Table) → TakesBuilt asked.session (opened asked label o)
 opened_built asked label None = tt
 opened_built asked label (Some t) = unless_each (TakesBuilt asked.session) (quiet_built asked.session) asked (number_refusals asked) _ ((refl, refl), tt)
@@ -109,7 +117,7 @@ step_built asked (call.PrepareUpdate cursor prepare.Replace) e f = begun_each (T
 step_built asked (call.Update cursor) e f = begun_each (TakesBuilt asked.session) asked _ (λ b. cursor_each (TakesBuilt asked.session) (quiet_built asked.session) asked cursor.0 (update asked) (λ c g. update_built asked c)) (λ b. tt)
 step_built asked (call.Delete cursor) e f = begun_each (TakesBuilt asked.session) asked _ (λ b. cursor_each (TakesBuilt asked.session) (quiet_built asked.session) asked cursor.0 (delete asked) (λ c g. unless_each (TakesBuilt asked.session) (quiet_built asked.session) asked (current asked c ++ own_refusals asked c ++ conflict_refusals asked (drop_at c) ++ number_refusals asked ++ span_refusals asked (drop_at c)) _ (change_built asked (drop_at c)))) (λ b. tt)
 step_built asked (call.GetLock cursor) e f = begun_each (TakesBuilt asked.session) asked _ (λ b. cursor_each (TakesBuilt asked.session) (quiet_built asked.session) asked cursor.0 (get_lock asked) (λ c g. unless_each (TakesBuilt asked.session) (quiet_built asked.session) asked (transaction_refusals asked ++ current asked c ++ conflict_refusals asked (hold_at c) ++ number_refusals asked ++ span_refusals asked (hold_at c)) _ (change_built asked (hold_at c)))) (λ b. tt)
-step_built asked (call.EscrowUpdate cursor column amount) e f = impossible e
+step_built asked (call.EscrowUpdate cursor column amount) e f = begun_each (TakesBuilt asked.session) asked _ (λ b. cursor_each (TakesBuilt asked.session) (quiet_built asked.session) asked cursor.0 (λ c. escrow_update asked c column amount) (λ c g. sum_built asked c column amount)) (λ b. tt)
 step_built asked _ e f = impossible (sym f)
 
 answer_takes : (asked : Asked) (request : Request) → is_built_request request ≡ true → AreOwnBuilt asked.session (entries_of_step (answer asked request).step)

@@ -1,24 +1,34 @@
 -- What the engine tells of records and conflicts.
-use Rattle.std.proofs.Common.{◌≡◌, ℕ, Bool, true, false, not, ◌&&◌, ◌||◌, cond, List, [], ◌∷◌, map, Option, Some, None, refl, sym, ap, ◌∙◌}
-use Rattle.std.specs.Prelude.{◌==◌, filter, find, fold, is_none, is_some, option_and_then}
+use Rattle.std.proofs.Common.{◌≡◌, ℕ, Bool, true, false, not, ◌&&◌, ◌||◌, cond, List, [], ◌∷◌, map, Option, Some, None, refl, sym, ap, subst, ◌∙◌}
+use Rattle.std.specs.Prelude.{◌==◌, filter, find, fold, is_none, is_some, option_and_then, IfSome}
 use Rattle.std.specs.List.{AllByRecursion, list_any}
-use Rattle.database_state.specs.Table.{Table, table_with_id}
+use Rattle.database_state.specs.Table.{Table, record_in, schema_of, table_with_id}
 use Rattle.database_state.specs.State.{DatabaseState, LiveSession, PastChange, Status, Transaction, uncommitted, committed, undone, levels, transaction_of}
 use Rattle.database_state.specs.View.{view, view_in}
+use Rattle.database_state.specs.Conflicts.{has_key_conflict as has_key_conflict_in}
 use Rattle.record_changes.specs.Records.{Records, after_item, records_after_items, records_of}
 use Rattle.record_changes.proofs.Tests.{impossible, same_number}
 use Rattle.version_history.specs.History.{IsOpenIn, IsPlaced, IsPlacedBy, without_rows}
 use Rattle.version_history.specs.Readers.{is_standing, was_committed, was_committed_status}
 use Rattle.version_history.proofs.LawfulEntries.{outside}
 use Rattle.version_history.proofs.SeenRecords.{newest_records}
+use Rattle.version_history.proofs.Lists.{all_both}
+use Rattle.version_keys.specs.KeySums.{HasKeyBefores, SeesNoSum}
+use Rattle.version_keys.proofs.EscrowSums.{key_befores_at, unseen_now}
+use Rattle.version_keys.proofs.UniqueKept.{id_of}
 use Rattle.version_cleanup.specs.Cleaning.{reader_in}
 use Rattle.version_cleanup.specs.LiveSessions.{has_other_transaction}
+use Rattle.versioned_tables.specs.HeldRecords.{has_key_conflict}
 use Rattle.versioned_tables.specs.VersionedTables.{seen_tables}
+use Rattle.versioned_tables.specs.ViewedRecords.{viewed_record}
 use Rattle.versioned_tables.specs.Holding.{begin_of}
 use Rattle.versioned_tables.proofs.Rising.{same_table}
+use Rattle.versioned_tables.proofs.TellingKeys.{VariantsTellKeyConflicts, key_conflict_is_told}
+use Rattle.versioned_tables.proofs.ViewedRecords.{very_viewed}
 use Rattle.versioned_tables.proofs.Views.{FindsItsRecord, is_shown, seen_defined, view_defined}
 use Rattle.engine_versions.specs.EngineState.{EngineState}
 use Rattle.engine_versions.specs.HoldsState.{HoldsState}
+use Rattle.engine_versions.proofs.BuiltSums.{no_sums_held}
 use Rattle.engine_versions.proofs.SameTables.{ids_rise_alike, same_tables}
 use Rattle.engine_versions.proofs.Sessions.{begin_alike, other_alike}
 use Rattle.version_cleanup.specs.LiveSessions.{LiveState}
@@ -28,9 +38,15 @@ begin_told engine state h session = ap (λ (sessions : List LiveState). (reader_
 
 -- ---- the view
 
+-- a record of it, also where others changed its escrow columns
+pub record_viewed : (engine : EngineState) (state : DatabaseState) → HoldsState engine state → (session table : ℕ) (bookmark : List ℕ)
+    → viewed_record table bookmark (reader_in session engine.sessions) (record_in engine.store.tables table bookmark) engine.store.held ≡ record_in (view state session) table bookmark
+record_viewed engine state h session table bookmark =
+    very_viewed h.base h.dropped h.kept engine.store state h.holds h.reached.numbers (reader_in session engine.sessions) (begin_told engine state h session) table bookmark
+
 pub table_seen : FindsItsRecord → (engine : EngineState) (state : DatabaseState) → HoldsState engine state → (session table : ℕ) → table_with_id (seen_tables (reader_in session engine.sessions) engine.store) table ≡ table_with_id (view state session) table
 table_seen finds engine state h session table =
-    is_shown finds h.base h.dropped h.kept engine.store state h.holds h.no_sums (reader_in session engine.sessions) (begin_told engine state h session) table
+    is_shown finds h.base h.dropped h.kept engine.store state h.holds (no_sums_held engine state h) (reader_in session engine.sessions) (begin_told engine state h session) table
 
 pub view_seen : FindsItsRecord → (engine : EngineState) (state : DatabaseState) → HoldsState engine state → (session : ℕ) → seen_tables (reader_in session engine.sessions) engine.store ≡ view state session
 view_seen finds engine state h session =
@@ -111,3 +127,23 @@ tables_settled engine state h none =
     ∙ all_settled state.number state.tables (transaction_of state) none h.kept h.reached.history.keeps.placed h.base ∙ sym h.reached.history.keeps.committed in
     same_tables engine.store.tables state.tables h.holds.defined h.reached.order.ids
     (λ id. same_table engine.store.tables state.tables id h.holds.defined h.holds.in_order h.holds.rise.committed (λ bookmark. ap (λ (r : Records). r id bookmark) settled))
+
+-- ---- key conflicts
+
+-- of the indexes of each table, which read no sum
+pub keys_told : VariantsTellKeyConflicts → (engine : EngineState) (state : DatabaseState) → HoldsState engine state → (session table : ℕ)
+    → IfSome (table_with_id state.tables table) (λ t. AllByRecursion (λ rule. (key : List ℕ)
+    → has_key_conflict (reader_in session engine.sessions) (records_of engine.store.tables) table rule (schema_of t) key engine.store.held ≡ has_key_conflict_in state session table (schema_of t) rule key) t.indexes)
+keys_told tells engine state h session table =
+    by (table_with_id state.tables table) refl (unseen_now h.base h.kept state h.reached.sums table) (key_befores_at h.base h.kept state h.reached.sums table)
+  where
+    by : (o : Option Table) → table_with_id state.tables table ≡ o → IfSome o (λ t. AllByRecursion (λ rule. SeesNoSum rule t.id h.kept) t.indexes)
+        → IfSome o (λ t. AllByRecursion (λ rule. HasKeyBefores rule (schema_of t) t.id h.base h.kept) t.indexes)
+        → IfSome o (λ t. AllByRecursion (λ rule. (key : List ℕ)
+        → has_key_conflict (reader_in session engine.sessions) (records_of engine.store.tables) table rule (schema_of t) key engine.store.held ≡ has_key_conflict_in state session table (schema_of t) rule key) t.indexes)
+    by None e unseen befores = tt
+    by (Some t) e unseen befores =
+        all_both (λ rule. SeesNoSum rule t.id h.kept) (λ rule. HasKeyBefores rule (schema_of t) t.id h.base h.kept)
+        (λ rule. (key : List ℕ) → has_key_conflict (reader_in session engine.sessions) (records_of engine.store.tables) table rule (schema_of t) key engine.store.held ≡ has_key_conflict_in state session table (schema_of t) rule key)
+        (λ rule sees had key. key_conflict_is_told tells h.base h.dropped h.kept engine.store state h.holds (reader_in session engine.sessions) (begin_told engine state h session) table (schema_of t) rule
+        (subst (λ (k : ℕ). SeesNoSum rule k h.kept) (id_of state.tables table t e) sees) (subst (λ (k : ℕ). HasKeyBefores rule (schema_of t) k h.base h.kept) (id_of state.tables table t e) had) key) t.indexes unseen befores

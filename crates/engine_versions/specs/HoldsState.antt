@@ -3,7 +3,6 @@ use Rattle.std.specs.Prelude.{◌≡◌, ℕ, ◌==◌, true, List, map, if◌th
 use Rattle.database_state.specs.State.{DatabaseState, PastChange}
 use Rattle.record_changes.specs.Records.{Records}
 use Rattle.version_history.specs.History.{EachTwo, LabelsRise}
-use Rattle.version_keys.specs.Variants.{HasNoSums}
 use Rattle.version_records.specs.EachRecord.{EachRecordHas}
 use Rattle.version_records.specs.StoredRecords.{IsStored}
 use Rattle.version_cleanup.specs.LiveSessions.{live_state}
@@ -16,15 +15,13 @@ use Rattle.built_calls.specs.BuiltTables.{are_built}
 use Rattle.engine_versions.specs.EngineState.{EngineState}
 
 -- The engine holds a state that lawful entries reach: its tables and held changes hold it, its sessions are those of the state
--- without their snapshots, and its number is that of the state. No escrow column was changed, each record fits its row and its
--- columns, and all is built.
+-- without their snapshots, and its number is that of the state. Each record fits its row and its columns, and all is built.
 pub record HoldsState (engine : EngineState) (state : DatabaseState) : Type 0 where
   pub base : Records
   pub dropped : List PastChange
   pub kept : List PastChange
   pub reached : IsReached base dropped kept state
   pub holds : Holds base dropped kept engine.store state
-  pub no_sums : HasNoSums kept
   pub stored : EachRecordHas IsStored base kept state
   pub number : state.number ≡ engine.number
   pub greatest : state.greatest_table ≡ engine.greatest_table

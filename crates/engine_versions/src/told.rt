@@ -1,10 +1,8 @@
 //! What the engine tells of a state that it holds.
 
-ghost use Rattle.std.specs.Prelude.{◌≡◌, ◌==◌, ◌≤◌, ℕ, Bool, true, false, ◌||◌, List, length, map, Option, option_map};
+ghost use Rattle.std.specs.Prelude.{◌≡◌, ◌==◌, ◌≤◌, ℕ, Bool, true, false, ◌||◌, List, length, map, Option, IfSome, option_map};
 ghost use Rattle.std.specs.List.{AllByRecursion};
 ghost use Rattle.column_set.specs.declared.changes.Change.{Change};
-ghost use Rattle.index_derive.specs.declared.rules.IndexRule.{IndexRule};
-ghost use Rattle.index_derive.specs.declared.rules.Schema.{Schema};
 ghost use Rattle.database_state.specs.Table.{Table, record_in, schema_of, table_named, table_with_id};
 ghost use Rattle.database_state.specs.State.{DatabaseState, levels, transaction_of};
 ghost use Rattle.database_state.specs.View.{newest, view};
@@ -20,6 +18,7 @@ ghost use Rattle.version_history.specs.History.{EachTwo};
 ghost use Rattle.versioned_tables.specs.HeldRecords.{has_conflict, has_key_conflict, is_open_of, span};
 ghost use Rattle.versioned_tables.specs.Holding.{begin_of};
 ghost use Rattle.versioned_tables.specs.VersionedTables.{seen_tables};
+ghost use Rattle.versioned_tables.specs.ViewedRecords.{viewed_record};
 ghost use Rattle.engine_versions.specs.EngineState.{EngineState, has_table_open};
 ghost use Rattle.engine_versions.specs.HoldsState.{HoldsState};
 
@@ -49,7 +48,13 @@ pub fn tables_are_told()
     ensures schema { (engine : EngineState) (state : DatabaseState) → HoldsState engine state → (table : ℕ) → option_map schema_of (table_with_id engine.store.tables table) ≡ option_map schema_of (table_with_id state.tables table) }
 {}
 
-/// A session is shown its view, which outside a transaction is the committed tables.
+/// The record that a session sees is the one that it is shown without the sums of others that it does not see.
+pub fn a_session_views_its_very_record()
+    ensures { (engine : EngineState) (state : DatabaseState) → HoldsState engine state → (session table : ℕ) (bookmark : List ℕ)
+        → viewed_record table bookmark (reader_in session engine.sessions) (record_in engine.store.tables table bookmark) engine.store.held ≡ record_in (view state session) table bookmark }
+{}
+
+/// As long as no escrow column is built, a session is shown its view, which outside a transaction is the committed tables.
 pub fn a_session_sees_its_view()
     ensures table { (engine : EngineState) (state : DatabaseState) → HoldsState engine state → (session table : ℕ) → table_with_id (seen_tables (reader_in session engine.sessions) engine.store) table ≡ table_with_id (view state session) table }
     ensures tables { (engine : EngineState) (state : DatabaseState) → HoldsState engine state → (session : ℕ) → seen_tables (reader_in session engine.sessions) engine.store ≡ view state session }
@@ -58,12 +63,13 @@ pub fn a_session_sees_its_view()
     a_session_finds_its_very_record();
 }
 
-/// The held changes tell write conflicts, key conflicts and the version store's span.
+/// The held changes tell write conflicts, key conflicts in each index of each table, and the version store's span.
 pub fn conflicts_are_told()
     ensures write { (engine : EngineState) (state : DatabaseState) → HoldsState engine state → (session : ℕ) (change : Change)
         → has_conflict (reader_in session engine.sessions) change engine.store.held ≡ has_write_conflict state session change }
-    ensures key { (engine : EngineState) (state : DatabaseState) → HoldsState engine state → (session table : ℕ) (schema : Schema) (rule : IndexRule) (key : List ℕ)
-        → has_key_conflict (reader_in session engine.sessions) (records_of engine.store.tables) table rule schema key engine.store.held ≡ has_key_conflict_in state session table schema rule key }
+    ensures key { (engine : EngineState) (state : DatabaseState) → HoldsState engine state → (session table : ℕ)
+        → IfSome (table_with_id state.tables table) (λ t. AllByRecursion (λ rule. (key : List ℕ)
+        → has_key_conflict (reader_in session engine.sessions) (records_of engine.store.tables) table rule (schema_of t) key engine.store.held ≡ has_key_conflict_in state session table (schema_of t) rule key) t.indexes) }
     ensures span { (engine : EngineState) (state : DatabaseState) → HoldsState engine state → span (oldest_begin engine.sessions) engine.store.held ≡ version_span state }
 {
     variants_tell_key_conflicts();

@@ -22,6 +22,7 @@ use Rattle.versioned_tables.specs.Holding.{AllRise, SnapshotRises}
 use Rattle.versioned_tables.proofs.Rising.{same_table}
 use Rattle.engine_versions.specs.EngineState.{EngineState}
 use Rattle.engine_versions.specs.HoldsState.{HoldsState}
+use Rattle.engine_versions.proofs.BuiltSums.{no_sums_held}
 use Rattle.engine_versions.proofs.SameTables.{ids_rise_alike, same_tables}
 use Rattle.equivalent_states.proofs.Essential.{essential_from, essential_status, from_essential, kept_of_standing, read_essential}
 use Rattle.equivalent_states.proofs.Unneeded.{needed_kept}
@@ -132,7 +133,7 @@ held_equivalent engine one other h g =
     let newest_records : records_after_items is_standing h.base h.kept ≡ records_after_items is_standing g.base g.kept =
     sym (newest_of_kept h.base h.dropped h.kept one h.reached.history) ∙ sym h.holds.newest ∙ g.holds.newest ∙ newest_of_kept g.base g.dropped g.kept other g.reached.history in
     let past : IsOnePast one.tables h.base g.base h.kept g.kept =
-    one_past one.tables h.kept g.kept engine.store.held h.holds.held g.holds.held h.base g.base keeps_one.befores keeps_other.befores h.no_sums g.no_sums
+    one_past one.tables h.kept g.kept engine.store.held h.holds.held g.holds.held h.base g.base keeps_one.befores keeps_other.befores (no_sums_held engine one h) (no_sums_held engine other g)
     (all_weaker (IsPlaced one.number one.tables (transaction_of one)) LeavesAfter (λ x p. p.3) h.kept keeps_one.placed)
     (all_weaker (IsPlaced other.number other.tables (transaction_of other)) LeavesAfter (λ x p. p.3) g.kept keeps_other.placed)
     h.reached.uncopied g.reached.uncopied newest_records in

@@ -5,13 +5,16 @@ ghost use Rattle.column_set.specs.Record.{is_record};
 ghost use Rattle.column_set.specs.Rows.{here_fields};
 ghost use Rattle.database_state.specs.Table.{record_in};
 ghost use Rattle.version_store.specs.declared.calls.Reader.{Reader};
+ghost use Rattle.version_sums.specs.EscrowSums.{amounts_to, seen_value};
 ghost use Rattle.versioned_tables.specs.HeldRecords.{seen_record};
+ghost use Rattle.versioned_tables.specs.HeldSums.{unseen_sums};
 ghost use Rattle.table_versions.specs.RecordRows.{IsRecordRow, record_of, row_in_node};
 
 use crate::store::TableVersions;
 use column_set::RowRef;
-use jet_base::TableId;
+use jet_base::{ColumnId, TableId};
 use version_store::{Reader, Variant};
+use versioned_tables::an_unseen_sum_is_that_of_the_unseen_amounts;
 
 impl TableVersions {
     /// The record that the reader sees under a bookmark, read in place: the one before the oldest put or drop that it does not
@@ -27,6 +30,26 @@ impl TableVersions {
         ensures { option_map here_fields result ≡ record_in self.now.store.tables table.0 bookmark.now }
     {
         in_place(self.newest_row(table, bookmark))
+    }
+
+    /// The number that a reader sees in an escrow column of a record, where the record that it is shown has this one: without the
+    /// amounts that it does not see, those that stand before the oldest put or drop of the record that it does not see. It wraps
+    /// at 32 bits, and takes no memory.
+    ///
+    /// It goes over the held changes of the record, and costs as many steps as there are of them.
+    pub fn seen_sum(
+        &self,
+        table: TableId,
+        bookmark: &[u8],
+        column: ColumnId,
+        reader: Reader,
+        stored: i32,
+    ) -> i32
+        ensures { result ≡ seen_value stored (amounts_to column.0 (unseen_sums table.0 bookmark.now reader self.now.store.held)) }
+    {
+        an_unseen_sum_is_that_of_the_unseen_amounts();
+        let unseen = self.versions.unseen_sum(table, bookmark, column, reader);
+        stored.wrapping_sub(unseen.cast_signed())
     }
 
     /// The columns of a record that a reader sees rise, and each has a value.

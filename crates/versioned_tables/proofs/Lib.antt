@@ -22,3 +22,5 @@ pub mod Lists
 pub mod Order
 pub mod Neighbours
 pub mod HeldSums
+pub mod ViewedRecords
+pub mod UnseenSums

@@ -4,4 +4,5 @@ pub mod VersionedTables
 pub mod Holding
 pub mod TakenBack
 pub mod Samples
+pub mod ViewedRecords
 pub mod Variants

@@ -9,6 +9,7 @@ mod readers;
 mod steps;
 mod sums;
 mod variants;
+mod viewed;
 mod walks;
 
 pub use conflicts::{
@@ -36,5 +37,9 @@ pub use sums::{
 pub use variants::{
     a_change_adds_the_keys_that_it_leaves, a_clean_takes_the_keys_that_no_variant_has,
     an_undo_takes_the_keys_that_no_variant_has,
+};
+pub use viewed::{
+    a_reader_views_its_very_record, a_viewed_record_is_the_shown_one_without_unseen_sums,
+    an_unseen_sum_is_that_of_the_unseen_amounts,
 };
 pub use walks::a_reader_walks_the_index_of_what_it_sees;
