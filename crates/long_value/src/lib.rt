@@ -7,4 +7,4 @@ mod laws;
 mod values;
 
 pub use laws::{identifiers_differ, values_after_a_change};
-pub use values::{LongId, LongValues, other_long_values_stay};
+pub use values::{LongId, LongValues, other_long_values_stay, values_are_shown};
