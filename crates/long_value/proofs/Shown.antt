@@ -1,6 +1,6 @@
 -- The values that the nodes of a map show are those of the map.
 use Rattle.std.proofs.Common.{◌≡◌, ℕ, zero, suc, ◌+◌, ◌*◌, ◌<◌, ◌≤◌, Bool, true, false, ◌&&◌, T, List, [], ◌∷◌, ◌++◌, length, find, take, drop, Option, Some, None, option_map, refl, sym, ap, subst, ◌∙◌, arith}
-use Rattle.std.specs.Prelude.{All, unwrap_or, if◌then◌else◌}
+use Rattle.std.specs.Prelude.{All, unwrap_or}
 use Rattle.std.proofs.lemmas.List.Elements.{All-head, All-tail}
 use Rattle.std.proofs.lemmas.List.{take_all}
 use Rattle.std.proofs.Math.Seq.{drop-append_seam, take-add, take-append_seam}
@@ -8,12 +8,12 @@ use Rattle.std.specs.Ordering.{eq_by_cmp, is_eq, is_lt}
 use Rattle.std.specs.Cmp.Lexicographic.{nat_list_cmp_total}
 use Rattle.std.specs.declared.cmp.Ordering.TheVariants.{Equal}
 use Rattle.std.specs.FinMap.Entries.{below_all, find-put, is_sorted, is_sorted-put, same_entries}
-use Rattle.byteorder.specs.Endian.{big_bytes, big_number, little_bytes, little_number}
+use Rattle.byteorder.specs.Endian.{big_bytes, big_number, little_number}
 use Rattle.byteorder.specs.Numbers.{little_number-reads_back}
 use Rattle.page_image.specs.Page.{Node}
 use Rattle.btree_inplace.specs.Changes.{inserted}
-use Rattle.btree_inplace.specs.Order.{get_in, has_key}
-use Rattle.long_value.specs.Values.{AreLong, IsLong, LongValue, Values, chunk_count, chunk_key, chunk_node, chunk_of, head_data, head_node, nodes_of_values, order, put_value, value_of, with_chunks, with_value}
+use Rattle.btree_inplace.specs.Order.{get_in}
+use Rattle.long_value.specs.Values.{AreLong, IsLong, LongValue, Values, chunk_count, chunk_key, chunk_node, chunk_of, head_data, head_node, nodes_of_values, order, put_value, value_of, with_chunks}
 use Rattle.long_value.specs.Shown.{bytes_in, id_of, is_head, shown_values, value_at, values_of_heads}
 use Rattle.long_value.proofs.Held.{chunk_there, count_read, few_chunks}
 use Rattle.long_value.proofs.Keys.{by_test, differ, itself, number_back, same_key}

@@ -12,7 +12,7 @@ use Rattle.index_tree.specs.declared.index.IndexTree.{IndexTree}
 use Rattle.table_trees.specs.Pages.{AreOwn, Rearranges, copies}
 use Rattle.table_trees.specs.StoredTables.{changed_where, is_index, part_of, put_entries, put_indexes, without_where}
 use Rattle.table_trees.specs.TableParts.{IsIndex, IsTable, TableBecomes, index_pages, record_pages, stored_index, stored_table, table_pages}
-use Rattle.table_trees.specs.LongTrees.{IsLongTree, long_pages, long_values_in}
+use Rattle.table_trees.specs.LongTrees.{IsLongTree, long_pages}
 use Rattle.table_trees.specs.NodeTrees.{node_pages}
 use Rattle.table_trees.specs.declared.table.TableIndex.{TableIndex}
 use Rattle.table_trees.specs.declared.table.Table.{Table}

@@ -1,9 +1,9 @@
 -- What a table's tree of long values has, and becomes.
-use Rattle.std.proofs.Common.{◌≡◌, ℕ, suc, ◌<◌, List, Option, Some, None, option_map, refl, sym, ap, subst, true≢false}
+use Rattle.std.proofs.Common.{◌≡◌, ℕ, suc, ◌<◌, List, Option, Some, None, option_map, refl, sym, ap, true≢false}
 use Rattle.std.specs.Prelude.{IsSome, IsSomeAnd, unwrap_or}
 use Rattle.page_space.specs.Frames.{Frames}
 use Rattle.btree_inplace.specs.Trees.{Exchanges}
-use Rattle.long_value.specs.Stores.{HasNoValue, HasValues, HoldsValue, id_bytes, own_pages}
+use Rattle.long_value.specs.Stores.{HasValues, HoldsValue, id_bytes, own_pages}
 use Rattle.long_value.specs.Values.{LongValue, Values, put_value, released, value_of, with_reference, without_reference}
 use Rattle.long_value.specs.declared.values.LongId.{LongId}
 use Rattle.table_trees.specs.LongTrees.{IsLongTree, LongBecomes, long_pages, long_values_in}

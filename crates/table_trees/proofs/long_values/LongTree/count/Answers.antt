@@ -1,4 +1,4 @@
-use Rattle.std.proofs.Common.{◌≡◌, length, take}
+use Rattle.std.proofs.Common.{◌≡◌}
 use Rattle.table_trees.proofs.LongChanges.{held, told}
 use Rattle.table_trees.proofs.long_values.LongTree.count.Goals as goal
 
