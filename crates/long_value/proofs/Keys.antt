@@ -88,7 +88,7 @@ other_value id other a b long long' n = differ (chunk_key id a) (chunk_key other
         ∙ ap (take (length other)) e
         ∙ take-append_seam other (big_bytes 4 b)
 
-number_back : (a : ℕ) → a < 4294967296 → big_number 4 (big_bytes 4 a ++ []) ≡ a
+pub number_back : (a : ℕ) → a < 4294967296 → big_number 4 (big_bytes 4 a ++ []) ≡ a
 number_back a lt = big_number-reads_back 4 a [] lt
 
 pub other_chunk : (id : List ℕ) (a b : ℕ) → a < 4294967296 → b < 4294967296 → a ≢ b → is_eq (order (chunk_key id a) (chunk_key id b)) ≡ false

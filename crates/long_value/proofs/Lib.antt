@@ -7,3 +7,4 @@ pub mod Held
 pub mod Reading
 pub mod Putting
 pub mod AfterChanges
+pub mod Shown

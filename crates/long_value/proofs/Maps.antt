@@ -12,11 +12,11 @@ use Rattle.long_value.proofs.ChunkNodes.{found_of_another, values_swapped}
 
 -- ---- tests
 
-T_first : (a b : Bool) → T (a && b) → T a
+pub T_first : (a b : Bool) → T (a && b) → T a
 T_first true b t = tt
 T_first false b t = t
 
-T_second : (a b : Bool) → T (a && b) → T b
+pub T_second : (a b : Bool) → T (a && b) → T b
 T_second true b t = t
 T_second false b t = absurd t
 
@@ -61,7 +61,7 @@ value_later id row values other = rw other refl
 
 -- ---- maps without a value
 
-nothing_gone : (id : List ℕ) (values : Values) → T (below_all order id values) → without_value id values ≡ values
+pub nothing_gone : (id : List ℕ) (values : Values) → T (below_all order id values) → without_value id values ≡ values
 nothing_gone id [] below = refl
 nothing_gone id (row ∷ values) below =
     kept id row values (lower_unequal id row.0 (T_first (is_lt (order id row.0)) (below_all order id values) below))

@@ -10,16 +10,16 @@ use Rattle.long_value.proofs.Keys.{between, by_test, itself, lower, lower_differ
 
 -- ---- one step
 
-ins_lt : (m : Node) (nodes : List Node) (n : Node) → is_lt (order m.key n.key) ≡ true → inserted (m ∷ nodes) n ≡ m ∷ inserted nodes n
+pub ins_lt : (m : Node) (nodes : List Node) (n : Node) → is_lt (order m.key n.key) ≡ true → inserted (m ∷ nodes) n ≡ m ∷ inserted nodes n
 ins_lt m nodes n t = rw t refl
 
-ins_ge : (m : Node) (nodes : List Node) (n : Node) → is_lt (order m.key n.key) ≡ false → inserted (m ∷ nodes) n ≡ n ∷ m ∷ nodes
+pub ins_ge : (m : Node) (nodes : List Node) (n : Node) → is_lt (order m.key n.key) ≡ false → inserted (m ∷ nodes) n ≡ n ∷ m ∷ nodes
 ins_ge m nodes n t = rw t refl
 
-find_yes : {X : Type 0} (p : X → Bool) (x : X) (xs : List X) → p x ≡ true → find p (x ∷ xs) ≡ Some x
+pub find_yes : {X : Type 0} (p : X → Bool) (x : X) (xs : List X) → p x ≡ true → find p (x ∷ xs) ≡ Some x
 find_yes p x xs t = rw t refl
 
-find_no : {X : Type 0} (p : X → Bool) (x : X) (xs : List X) → p x ≡ false → find p (x ∷ xs) ≡ find p xs
+pub find_no : {X : Type 0} (p : X → Bool) (x : X) (xs : List X) → p x ≡ false → find p (x ∷ xs) ≡ find p xs
 find_no p x xs t = rw t refl
 
 filter_yes : {X : Type 0} (p : X → Bool) (x : X) (xs : List X) → p x ≡ true → filter p (x ∷ xs) ≡ x ∷ filter p xs
@@ -28,7 +28,7 @@ filter_yes p x xs t = rw t refl
 filter_no : {X : Type 0} (p : X → Bool) (x : X) (xs : List X) → p x ≡ false → filter p (x ∷ xs) ≡ filter p xs
 filter_no p x xs t = rw t refl
 
-not_found : {X : Type 0} (p : X → Bool) (x : X) (xs : List X) → find p (x ∷ xs) ≡ None → (p x ≡ false) × (find p xs ≡ None)
+pub not_found : {X : Type 0} (p : X → Bool) (x : X) (xs : List X) → find p (x ∷ xs) ≡ None → (p x ≡ false) × (find p xs ≡ None)
 not_found p x xs e =
     by_test (p x)
     (λ t. let some : Some x ≡ None = sym (find_yes p x xs t) ∙ e in absurd cc)

@@ -1,5 +1,6 @@
 -- Long values as a map with counts, and the nodes that the map has in its tree.
-use Rattle.std.specs.Prelude.{◌≡◌, ℕ, zero, suc, ◌+◌, ◌*◌, ◌/◌, ◌≤◌, ◌<◌, ◌==◌, ◌-◌, true, not, Option, None, List, [], ◌∷◌, ◌++◌, length, take, drop, find, if◌then◌else◌, All}
+use Rattle.std.specs.Prelude.{◌≡◌, ℕ, zero, suc, ◌+◌, ◌*◌, ◌/◌, ◌≤◌, ◌<◌, ◌==◌, ◌-◌, true, not, Option, None, List, [], ◌∷◌, ◌++◌, length, take, drop, find, if◌then◌else◌, unwrap_or, All}
+use Rattle.std.specs.Option.{option_map}
 use Rattle.std.specs.Ordering.{nat_cmp, eq_by_cmp}
 use Rattle.std.specs.Cmp.Lexicographic.{slice_cmp}
 use Rattle.std.specs.FinMap.Entries as entries
@@ -34,6 +35,14 @@ without_value id values = entries.where_key order (λ k. not (eq_by_cmp order id
 abbrev pub released : List ℕ → LongValue → Values → Values
 released id value values =
     if value.count == 1 then without_value id values else put_value id (record value { count = value.count - 1 }) values
+
+-- the map with one reference more to a value that is there
+abbrev pub with_reference : List ℕ → Values → Values
+with_reference id values = unwrap_or (option_map (λ (value : LongValue). put_value id (record value { count = suc value.count }) values) (value_of id values)) values
+
+-- the map with one reference less to a value that is there
+abbrev pub without_reference : List ℕ → Values → Values
+without_reference id values = unwrap_or (option_map (λ (value : LongValue). released id value values) (value_of id values)) values
 
 -- A value has 256 to 1,048,576 bytes and 1 to 4,294,967,295 references.
 pub record IsLong (row : List ℕ × LongValue) : Type 0 where

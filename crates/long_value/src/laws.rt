@@ -1,7 +1,7 @@
 //! What a map of long values is after a change.
 
-ghost use Rattle.std.specs.Prelude.{◌≡◌, ◌≢◌, ◌<◌, ◌^◌, ℕ, List, Some, None};
-ghost use Rattle.long_value.specs.Values.{LongValue, Values, put_value, value_of, without_value};
+ghost use Rattle.std.specs.Prelude.{◌≡◌, ◌≢◌, ◌<◌, ◌==◌, ◌-◌, ◌^◌, ℕ, suc, List, Some, None, if◌then◌else◌};
+ghost use Rattle.long_value.specs.Values.{LongValue, Values, put_value, value_of, with_reference, without_reference, without_value};
 ghost use Rattle.long_value.specs.Stores.{id_bytes};
 ghost use Rattle.long_value.specs.declared.values.LongId.{LongId};
 
@@ -11,6 +11,14 @@ pub fn values_after_a_change()
     ensures beside { (values : Values) (id other : List ℕ) (value : LongValue) → other ≢ id → value_of other (put_value id value values) ≡ value_of other values }
     ensures gone { (values : Values) (id : List ℕ) → value_of id (without_value id values) ≡ None }
     ensures left { (values : Values) (id other : List ℕ) → other ≢ id → value_of other (without_value id values) ≡ value_of other values }
+{}
+
+/// A reference more or less changes the count of one value, which is gone with its last reference, and no other value.
+pub fn references_after_a_change()
+    ensures more { (values : Values) (id : List ℕ) (value : LongValue) → value_of id values ≡ Some value → value_of id (with_reference id values) ≡ Some (record value { count = suc value.count }) }
+    ensures more_beside { (values : Values) (id other : List ℕ) → other ≢ id → value_of other (with_reference id values) ≡ value_of other values }
+    ensures less { (values : Values) (id : List ℕ) (value : LongValue) → value_of id values ≡ Some value → value_of id (without_reference id values) ≡ (if value.count == 1 then None else Some (record value { count = value.count - 1 })) }
+    ensures less_beside { (values : Values) (id other : List ℕ) → other ≢ id → value_of other (without_reference id values) ≡ value_of other values }
 {}
 
 /// Two identifiers are not the same twelve bytes.

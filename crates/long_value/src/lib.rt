@@ -6,5 +6,5 @@ mod chunks;
 mod laws;
 mod values;
 
-pub use laws::{identifiers_differ, values_after_a_change};
-pub use values::{LongId, LongValues, other_long_values_stay};
+pub use laws::{identifiers_differ, references_after_a_change, values_after_a_change};
+pub use values::{LongId, LongValues, other_long_values_stay, values_are_shown};

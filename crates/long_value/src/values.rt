@@ -5,6 +5,7 @@ ghost use Rattle.page_space.specs.Frames.{Frames};
 ghost use Rattle.btree_inplace.specs.Trees.{AreApart, Exchanges};
 ghost use Rattle.long_value.specs.Values.{LongValue, Values, chunk_of, head_data, put_value, released, value_of, without_value};
 ghost use Rattle.long_value.specs.Stores.{HasNoValue, HasValues, HoldsValue, IsLongStore, id_bytes, own_pages, read_upto};
+ghost use Rattle.long_value.specs.Shown.{values_in};
 ghost use Rattle.long_value.specs.declared.values.LongValues.{LongValues};
 
 use crate::chunks::{
@@ -40,6 +41,14 @@ impl LongValues {
             Ok(tree) => Ok(LongValues { tree }),
             Err(fault) => Err(fault),
         }
+    }
+
+    /// Gives all pages of the values to the space. It takes no memory.
+    pub fn give_back(self, space: &mut Space)
+        requires { IsLongStore space.old self }
+        ensures { Exchanges space.old space.new (own_pages space.old self) [] }
+    {
+        self.tree.give_back(space);
     }
 
     /// Whether a value is there.
@@ -191,3 +200,8 @@ pub fn other_long_values_stay()
 {
     other_tree_stays();
 }
+
+/// The values of a store are those that its tree shows.
+pub fn values_are_shown()
+    ensures { (frames : Frames) (store : LongValues) (values : Values) → HasValues frames store values → values_in frames store ≡ values }
+{}

@@ -11,7 +11,8 @@ use Rattle.index_tree.specs.IndexTrees.{IsIndexTree, entries_of, own_pages}
 use Rattle.index_tree.specs.declared.index.IndexTree.{IndexTree}
 use Rattle.table_trees.specs.Pages.{AreOwn, Rearranges, copies}
 use Rattle.table_trees.specs.StoredTables.{changed_where, is_index, part_of, put_entries, put_indexes, without_where}
-use Rattle.table_trees.specs.TableParts.{IsIndex, IsTable, TableBecomes, index_pages, stored_index, stored_table, table_pages}
+use Rattle.table_trees.specs.TableParts.{IsIndex, IsTable, TableBecomes, index_pages, record_pages, stored_index, stored_table, table_pages}
+use Rattle.table_trees.specs.LongTrees.{IsLongTree, long_pages}
 use Rattle.table_trees.specs.NodeTrees.{node_pages}
 use Rattle.table_trees.specs.declared.table.TableIndex.{TableIndex}
 use Rattle.table_trees.specs.declared.table.Table.{Table}
@@ -19,7 +20,7 @@ use Rattle.table_trees.proofs.Pages.{beside, copies-append, nothing_own, rearran
 use Rattle.table_trees.proofs.Lookups.{none_passes}
 use Rattle.table_trees.proofs.Members.{AreBounded, OneChanges, all_right, all_stay, last_removed, one_added, one_removed, one_set}
 use Rattle.table_trees.proofs.Places.{IsPlaced, count-added, count-changed, count-without, found_part, step_changed, step_removed, step_same}
-use Rattle.table_trees.proofs.TableChanges.{HasIndexes, IndexesStep, TreesStay, indexes_change}
+use Rattle.table_trees.proofs.TableChanges.{HasIndexes, IndexesStep, TreesStay, indexes_change, table_copies}
 
 -- what the trees' laws say of an index
 abbrev pub IndexPagesAreOwn : Type 0
@@ -30,7 +31,7 @@ abbrev pub is_numbered : ℕ → TableIndex → Bool
 is_numbered n x = x.index.0 == n
 
 pub bounded : (frames : Frames) (table : Table) → IsTable frames table → AreBounded index_pages frames table.indexes.items
-bounded frames table is p = omega (arith, is.pages p, copies-append p (node_pages frames table.nodes) (flat_map (index_pages frames) table.indexes.items))
+bounded frames table is p = omega (arith, is.pages p, copies-append p (record_pages frames table) (flat_map (index_pages frames) table.indexes.items))
 
 pub found_index : (frames : Frames) (table : Table) (n k : ℕ) (found : TableIndex) → IsTable frames table → IsPlaced (is_numbered n) table.indexes.items k found → IsIndexTree frames found.tree
 found_index frames table n k found is place = subst (λ (x : TableIndex). IsIndexTree frames x.tree) (sym place.is) (is.indexes k found place.within)
@@ -106,15 +107,28 @@ index_comes stays own old table new made is good absent tree none pages has =
 abbrev pub AreLeft : Frames → Frames → List ℕ → List TableIndex → Type 0
 AreLeft first now pages left = All (IsIndex now) left × AreBounded index_pages now left × Rearranges first now pages (flat_map (index_pages now) left)
 
-pub nodes_go : TreesStay → (old new : Frames) (table : Table) → IsTable old table → Rearranges old new (node_pages old table.nodes) [] → AreLeft old new (table_pages old table) table.indexes.items
-nodes_go stays old new table is r =
+pub long_left : TreesStay → (old mid : Frames) (table : Table) → IsTable old table → Rearranges old mid (node_pages old table.nodes) [] → IsLongTree mid table.long_values × (long_pages mid table.long_values ≡ long_pages old table.long_values)
+long_left stays old mid table is r =
+    let long = stays.long_values old mid (node_pages old table.nodes) [] table.long_values r is.long_values (λ p. omega (arith, is.pages p, table_copies old table p)) in
+    (long.0, long.2)
+
+pub records_gone : TreesStay → (old mid new : Frames) (table : Table) → IsTable old table → Rearranges old mid (node_pages old table.nodes) [] → Rearranges mid new (long_pages mid table.long_values) [] → Rearranges old new (record_pages old table) []
+records_gone stays old mid new table is r s =
+    let left = long_left stays old mid table is r in
+    let same : (p : ℕ) → copies p (long_pages mid table.long_values) ≡ copies p (long_pages old table.long_values) = λ p. ap (copies p) left.1 in
+    rearranged_twice old mid new (record_pages old table) (long_pages mid table.long_values) []
+    (beside old mid (node_pages old table.nodes) [] (record_pages old table) (long_pages mid table.long_values) (λ p. copies p (long_pages old table.long_values)) r (λ p. copies-append p (node_pages old table.nodes) (long_pages old table.long_values)) (λ p. omega (arith, same p)))
+    s
+
+pub records_go : TreesStay → (old new : Frames) (table : Table) → IsTable old table → Rearranges old new (record_pages old table) [] → AreLeft old new (table_pages old table) table.indexes.items
+records_go stays old new table is r =
     let items = table.indexes.items in
-    let total : (p : ℕ) → copies p (table_pages old table) ≡ copies p (node_pages old table.nodes) + copies p (flat_map (index_pages old) items) = λ p. copies-append p (node_pages old table.nodes) (flat_map (index_pages old) items) in
-    let left = all_stay IsIndex index_pages stored_index stays.indexes old new (node_pages old table.nodes) [] items r is.indexes (λ p. omega (arith, is.pages p, total p)) in
+    let total : (p : ℕ) → copies p (table_pages old table) ≡ copies p (record_pages old table) + copies p (flat_map (index_pages old) items) = λ p. copies-append p (record_pages old table) (flat_map (index_pages old) items) in
+    let left = all_stay IsIndex index_pages stored_index stays.indexes old new (record_pages old table) [] items r is.indexes (λ p. omega (arith, is.pages p, total p)) in
     let same : (p : ℕ) → copies p (flat_map (index_pages new) items) ≡ copies p (flat_map (index_pages old) items) = λ p. ap (copies p) left.2 in (
       left.0,
       (λ p. omega (arith, same p, total p, is.pages p, r.balance p)),
-      beside old new (node_pages old table.nodes) [] (table_pages old table) (flat_map (index_pages new) items) (λ p. copies p (flat_map (index_pages old) items)) r total (λ p. omega (arith, same p)),
+      beside old new (record_pages old table) [] (table_pages old table) (flat_map (index_pages new) items) (λ p. copies p (flat_map (index_pages old) items)) r total (λ p. omega (arith, same p)),
     )
 
 pub last_is : (frames : Frames) (items left : List TableIndex) (last : TableIndex) → items ≡ left ++ last ∷ [] → All (IsIndex frames) items → IsIndexTree frames last.tree

@@ -6,6 +6,7 @@ pub mod BookmarkOrder
 pub mod Finding
 pub mod NodeChanges
 pub mod TableChanges
+pub mod LongChanges
 pub mod Places
 pub mod IndexChanges
 pub mod StoreChanges

@@ -1,25 +1,28 @@
 -- All tables, of which one changes.
 use Rattle.std.proofs.Common.{◌≡◌, ℕ, ◌≤◌, ◌==◌, Bool, false, None, List, [], ◌∷◌, ◌++◌, get_or, set, refl, sym, ap, subst, ◌∙◌, arith}
 use Rattle.std.specs.Prelude.{count_by, remove}
-use Rattle.std.specs.List.{position_from}
+use Rattle.std.specs.List.{flat_map, position_from}
 use Rattle.std.proofs.lemmas.Bool.{eqb-true}
 use Rattle.page_image.specs.Page.{Node}
 use Rattle.page_space.specs.Frames.{Frames}
 use Rattle.cursor_nav.specs.Places.{Pair}
 use Rattle.index_tree.specs.IndexTrees.{IsIndexTree, entries_of}
 use Rattle.index_tree.specs.declared.index.IndexTree.{IndexTree}
-use Rattle.table_trees.specs.Pages.{OthersStay, Rearranges}
-use Rattle.table_trees.specs.StoredTables.{StoredIndex, StoredTable, changed_where, has_table, index_entries, is_index, is_table, new_table, part_of, put_indexes, put_nodes, table_indexes, table_nodes, with_indexes, with_nodes, without_table}
+use Rattle.long_value.specs.Values.{Values}
+use Rattle.table_trees.specs.Pages.{OthersStay, Rearranges, copies}
+use Rattle.table_trees.specs.StoredTables.{StoredIndex, StoredTable, changed_where, has_table, index_entries, is_index, is_table, new_table, part_of, put_indexes, put_long_values, put_nodes, table_indexes, table_long_values, table_nodes, with_indexes, with_long_values, with_nodes, without_table}
+use Rattle.table_trees.specs.LongTrees.{IsLongTree, LongBecomes, long_values_in}
 use Rattle.table_trees.specs.NodeTrees.{IsNodeTree, NodesBecome, nodes_in}
 use Rattle.table_trees.specs.TableParts.{IsTable, TableBecomes, stored_index, stored_table, table_pages}
 use Rattle.table_trees.specs.TreesView.{AreTables, stored_tables}
+use Rattle.table_trees.specs.declared.long_values.LongTree.{LongTree}
 use Rattle.table_trees.specs.declared.nodes.NodeTree.{NodeTree}
 use Rattle.table_trees.specs.declared.table.Table.{Table}
 use Rattle.table_trees.proofs.Pages.{by_test}
 use Rattle.table_trees.proofs.Lookups.{count-append, count-no, count-yes, none_passes}
-use Rattle.table_trees.proofs.Members.{AreBounded, OneChanges, Steps, one_added, one_removed, one_set}
+use Rattle.table_trees.proofs.Members.{AreBounded, OneChanges, Steps, all_stay, one_added, one_removed, one_set}
 use Rattle.table_trees.proofs.Places.{IsPlaced, count-added, count-without, found_no_part, found_part, none_shown, part_has, step_changed, step_removed, step_same}
-use Rattle.table_trees.proofs.TableChanges.{TreesStay, nodes_change}
+use Rattle.table_trees.proofs.TableChanges.{TreesStay, long_change, nodes_change}
 
 -- what the law of the tables says
 abbrev pub TablesStay : Type 0
@@ -40,6 +43,10 @@ found_table frames tables n k found are place = subst (IsTable frames) (sym plac
 pub found_nodes : (frames : Frames) (tables : List Table) (n k : ℕ) (found : Table) (s : List StoredTable) → AreTables frames tables → IsPlaced (is_named n) tables k found → stored_tables frames tables ≡ s
     → table_nodes s n ≡ nodes_in frames found.nodes
 found_nodes frames tables n k found s are place e = ap (λ (l : List StoredTable). table_nodes l n) (sym e) ∙ found_part (stored_table frames) (is_table n) (λ x. x.nodes) tables k found place (are.once n)
+
+pub found_long : (frames : Frames) (tables : List Table) (n k : ℕ) (found : Table) (s : List StoredTable) → AreTables frames tables → IsPlaced (is_named n) tables k found → stored_tables frames tables ≡ s
+    → table_long_values s n ≡ long_values_in frames found.long_values
+found_long frames tables n k found s are place e = ap (λ (l : List StoredTable). table_long_values l n) (sym e) ∙ found_part (stored_table frames) (is_table n) (λ x. x.long_values) tables k found place (are.once n)
 
 pub found_indexes : (frames : Frames) (tables : List Table) (n k : ℕ) (found : Table) (s : List StoredTable) → AreTables frames tables → IsPlaced (is_named n) tables k found → stored_tables frames tables ≡ s
     → table_indexes s n ≡ (stored_table frames found).indexes
@@ -122,6 +129,35 @@ pub nodes_same : TablesStay → TreesStay → (old : Frames) (tables : List Tabl
 nodes_same stays trees old tables new n k found nodes s are place e b =
     shown_same stays old tables new n k found (with_node_tree found nodes) s (nodes_of_one trees old tables new n k found nodes (nodes_in old found.nodes) are place b) e
 
+-- ---- its long values change
+
+abbrev pub with_long_tree : Table → LongTree → Table
+with_long_tree table long = record table { long_values = long }
+
+pub long_of_one : TreesStay → (old : Frames) (tables : List Table) (new : Frames) (n k : ℕ) (found : Table) (long : LongTree) (values : Values) → AreTables old tables → IsPlaced (is_named n) tables k found → LongBecomes old found.long_values new long values
+    → Changes old tables new n k found (with_long_tree found long) (put_long_values values (stored_table old found))
+long_of_one stays old tables new n k found long values are place b =
+    record { are = are; place = place; becomes = long_change stays old new found long values (found_table old tables n k found are place) b; number = refl }
+
+pub long_shown : TablesStay → TreesStay → (old : Frames) (tables : List Table) (new : Frames) (n k : ℕ) (found : Table) (long : LongTree) (change : Values → Values) (s : List StoredTable) → AreTables old tables → IsPlaced (is_named n) tables k found
+    → stored_tables old tables ≡ s → LongBecomes old found.long_values new long (change (long_values_in old found.long_values))
+    → stored_tables new (set tables k (with_long_tree found long)) ≡ with_long_values n (change (table_long_values s n)) s
+long_shown stays trees old tables new n k found long change s are place e b =
+    shown stays old tables new n k found (with_long_tree found long) (put_long_values (change (long_values_in old found.long_values)) (stored_table old found)) (put_long_values (change (long_values_in old found.long_values)))
+    (long_of_one trees old tables new n k found long (change (long_values_in old found.long_values)) are place b) refl
+    ∙ ap (λ (l : Values). with_long_values n (change l) (stored_tables old tables)) (sym (found_long old tables n k found s are place e))
+    ∙ ap (with_long_values n (change (table_long_values s n))) e
+
+pub long_kept : TablesStay → TreesStay → (old : Frames) (tables : List Table) (new : Frames) (n k : ℕ) (found : Table) (long : LongTree) (values : Values) → AreTables old tables → IsPlaced (is_named n) tables k found → LongBecomes old found.long_values new long values
+    → AreTables new (set tables k (with_long_tree found long))
+long_kept stays trees old tables new n k found long values are place b =
+    kept stays old tables new n k found (with_long_tree found long) (put_long_values values (stored_table old found)) (long_of_one trees old tables new n k found long values are place b)
+
+pub long_same : TablesStay → TreesStay → (old : Frames) (tables : List Table) (new : Frames) (n k : ℕ) (found : Table) (long : LongTree) (s : List StoredTable) → AreTables old tables → IsPlaced (is_named n) tables k found → stored_tables old tables ≡ s
+    → LongBecomes old found.long_values new long (long_values_in old found.long_values) → stored_tables new (set tables k (with_long_tree found long)) ≡ s
+long_same stays trees old tables new n k found long s are place e b =
+    shown_same stays old tables new n k found (with_long_tree found long) s (long_of_one trees old tables new n k found long (long_values_in old found.long_values) are place b) e
+
 -- ---- its indexes change
 
 pub indexes_shown : TablesStay → (old : Frames) (tables : List Table) (new : Frames) (n k : ℕ) (found changed : Table) (change : List StoredIndex → List StoredIndex) (s : List StoredTable) → AreTables old tables → IsPlaced (is_named n) tables k found
@@ -154,10 +190,25 @@ table_comes stays old tables new number made are absent is shows pages =
       step.values_are,
     )
 
+-- pages were taken and given back, and no table has them
+pub nothing_comes : TablesStay → (old : Frames) (tables : List Table) (new : Frames) → AreTables old tables → Rearranges old new [] [] → AreTables new tables × (stored_tables new tables ≡ stored_tables old tables)
+nothing_comes stays old tables new are r =
+    let all = all_stay IsTable table_pages stored_table stays old new [] [] tables r are.each (λ p. omega (arith, bounded old tables are p)) in (
+      record {
+        each = all.0;
+        forest = λ p. let same : copies p (flat_map (table_pages new) tables) ≡ copies p (flat_map (table_pages old) tables) = ap (copies p) all.2 in omega (arith, same, are.forest p, r.balance p);
+        once = λ m. let same : count_by (is_table m) (stored_tables new tables) ≡ count_by (is_table m) (stored_tables old tables) = ap (count_by (is_table m)) all.1 in omega (arith, same, are.once m);
+      },
+      all.1,
+    )
+
 -- ---- a table that was not found
 
 pub no_nodes : (frames : Frames) (tables given : List Table) (n : ℕ) (s : List StoredTable) → given ≡ tables → None ≡ position_from (is_named n) 0 given → stored_tables frames tables ≡ s → table_nodes s n ≡ []
 no_nodes frames tables given n s same none e = ap (λ (l : List StoredTable). table_nodes l n) (sym e) ∙ found_no_part (stored_table frames) (is_table n) (λ x. x.nodes) tables given same none
+
+pub no_long : (frames : Frames) (tables given : List Table) (n : ℕ) (s : List StoredTable) → given ≡ tables → None ≡ position_from (is_named n) 0 given → stored_tables frames tables ≡ s → table_long_values s n ≡ []
+no_long frames tables given n s same none e = ap (λ (l : List StoredTable). table_long_values l n) (sym e) ∙ found_no_part (stored_table frames) (is_table n) (λ x. x.long_values) tables given same none
 
 pub no_indexes : (frames : Frames) (tables given : List Table) (n : ℕ) (s : List StoredTable) → given ≡ tables → None ≡ position_from (is_named n) 0 given → stored_tables frames tables ≡ s → table_indexes s n ≡ []
 no_indexes frames tables given n s same none e = ap (λ (l : List StoredTable). table_indexes l n) (sym e) ∙ found_no_part (stored_table frames) (is_table n) (λ x. x.indexes) tables given same none
@@ -165,13 +216,19 @@ no_indexes frames tables given n s same none e = ap (λ (l : List StoredTable). 
 pub no_table : (frames : Frames) (tables given : List Table) (n : ℕ) (s : List StoredTable) → given ≡ tables → None ≡ position_from (is_named n) 0 given → stored_tables frames tables ≡ s → has_table s n ≡ false
 no_table frames tables given n s same none e = ap (λ (l : List StoredTable). has_table l n) (sym e) ∙ none_shown (stored_table frames) (is_table n) tables given same none
 
--- ---- a property of the nodes of each table, and of the entries of each index
+-- ---- a property of the nodes and the long values of each table, and of the entries of each index
 
 pub each_nodes : (P : List Node → Type 0) (frames : Frames) (tables : List Table) (s : List StoredTable) (n : ℕ) → AreTables frames tables → stored_tables frames tables ≡ s → P []
     → ((nodes : NodeTree) → IsNodeTree frames nodes → P (nodes_in frames nodes)) → P (table_nodes s n)
 each_nodes P frames tables s n are e none each =
     subst (λ (l : List StoredTable). P (table_nodes l n)) e
     (part_has P (stored_table frames) (is_table n) (λ x. x.nodes) tables none (λ k d lt. each (get_or tables k d).nodes (are.each k d lt).nodes))
+
+pub each_long : (P : Values → Type 0) (frames : Frames) (tables : List Table) (s : List StoredTable) (n : ℕ) → AreTables frames tables → stored_tables frames tables ≡ s → P []
+    → ((long : LongTree) → IsLongTree frames long → P (long_values_in frames long)) → P (table_long_values s n)
+each_long P frames tables s n are e none each =
+    subst (λ (l : List StoredTable). P (table_long_values l n)) e
+    (part_has P (stored_table frames) (is_table n) (λ x. x.long_values) tables none (λ k d lt. each (get_or tables k d).long_values (are.each k d lt).long_values))
 
 pub each_entries : (P : List Pair → Type 0) (frames : Frames) (tables : List Table) (s : List StoredTable) (n i : ℕ) → AreTables frames tables → stored_tables frames tables ≡ s → P []
     → ((index : IndexTree) → IsIndexTree frames index → P (entries_of frames index)) → P (index_entries s n i)

@@ -1,19 +1,21 @@
--- The tables that a store has, each with its nodes and the entries of its indexes.
-use Rattle.std.specs.Prelude.{ℕ, ◌==◌, Bool, List, [], ◌∷◌, ◌++◌, if◌then◌else◌, filter, find, map, not, unwrap_or}
+-- The tables that a store has, each with its nodes, its long values and the entries of its indexes.
+use Rattle.std.specs.Prelude.{ℕ, ◌==◌, Bool, Option, List, [], ◌∷◌, ◌++◌, if◌then◌else◌, filter, find, map, not, unwrap_or}
 use Rattle.std.specs.List.{list_any}
 use Rattle.std.specs.Option.{option_map}
 use Rattle.page_image.specs.Page.{Node}
 use Rattle.cursor_nav.specs.Places.{Pair}
+use Rattle.long_value.specs.Values.{LongValue, Values, value_of}
 
 -- An index has a number and entries, which rise.
 abbrev pub StoredIndex : Type 0
 StoredIndex = ℕ × List Pair
 
--- A table has a number, nodes, which rise by their bookmarks, and indexes in the order of their making. A node's key is its bookmark, and its data the row.
+-- A table has a number, nodes, which rise by their bookmarks, indexes in the order of their making, and long values, which rise by their identifiers. A node's key is its bookmark, and its data the row.
 pub record StoredTable : Type 0 where
   pub number : ℕ
   pub nodes : List Node
   pub indexes : List StoredIndex
+  pub long_values : Values
 
 -- ---- one of a list
 
@@ -37,9 +39,9 @@ is_table table x = x.number == table
 abbrev pub has_table : List StoredTable → ℕ → Bool
 has_table tables table = list_any (is_table table) tables
 
--- a table without a node and without an index
+-- a table without a node, an index and a long value
 abbrev pub new_table : ℕ → StoredTable
-new_table table = record { number = table; nodes = []; indexes = [] }
+new_table table = record { number = table; nodes = []; indexes = []; long_values = [] }
 
 -- the tables without one of them
 abbrev pub without_table : ℕ → List StoredTable → List StoredTable
@@ -57,6 +59,23 @@ put_nodes nodes x = record x { nodes = nodes }
 -- the tables, one of them with other nodes
 abbrev pub with_nodes : ℕ → List Node → List StoredTable → List StoredTable
 with_nodes table nodes tables = changed_where (is_table table) (put_nodes nodes) tables
+
+-- ---- the long values of a table
+
+-- the long values of a table, none where there is no such table
+abbrev pub table_long_values : List StoredTable → ℕ → Values
+table_long_values tables table = part_of (is_table table) (λ x. x.long_values) tables
+
+-- a long value of a table, by the bytes of its identifier
+abbrev pub long_value_of : List StoredTable → ℕ → List ℕ → Option LongValue
+long_value_of tables table id = value_of id (table_long_values tables table)
+
+abbrev pub put_long_values : Values → StoredTable → StoredTable
+put_long_values values x = record x { long_values = values }
+
+-- the tables, one of them with other long values
+abbrev pub with_long_values : ℕ → Values → List StoredTable → List StoredTable
+with_long_values table values tables = changed_where (is_table table) (put_long_values values) tables
 
 -- ---- the indexes of a table
 

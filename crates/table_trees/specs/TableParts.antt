@@ -1,10 +1,11 @@
--- The trees of one table: that of its nodes, and those of its indexes.
+-- The trees of one table: that of its nodes, that of its long values, and those of its indexes.
 use Rattle.std.specs.Prelude.{◌≡◌, ℕ, ◌≤◌, List, ◌++◌, All, count_by, map}
 use Rattle.std.specs.List.{flat_map}
 use Rattle.page_space.specs.Frames.{Frames}
 use Rattle.index_tree.specs.IndexTrees.{IsIndexTree, entries_of, own_pages}
 use Rattle.table_trees.specs.Pages.{AreOwn, Rearranges}
 use Rattle.table_trees.specs.StoredTables.{StoredIndex, StoredTable, is_index}
+use Rattle.table_trees.specs.LongTrees.{IsLongTree, long_pages, long_values_in}
 use Rattle.table_trees.specs.NodeTrees.{IsNodeTree, node_pages, nodes_in}
 use Rattle.table_trees.specs.declared.table.TableIndex.{TableIndex}
 use Rattle.table_trees.specs.declared.table.Table.{Table}
@@ -21,15 +22,20 @@ IsIndex frames x = IsIndexTree frames x.tree
 
 -- what a table has
 abbrev pub stored_table : Frames → Table → StoredTable
-stored_table frames table = record { number = table.table.0; nodes = nodes_in frames table.nodes; indexes = map (stored_index frames) table.indexes.items }
+stored_table frames table = record { number = table.table.0; nodes = nodes_in frames table.nodes; indexes = map (stored_index frames) table.indexes.items; long_values = long_values_in frames table.long_values }
+
+-- the pages of its nodes and of its long values
+abbrev pub record_pages : Frames → Table → List ℕ
+record_pages frames table = node_pages frames table.nodes ++ long_pages frames table.long_values
 
 -- the pages of all its trees
 abbrev pub table_pages : Frames → Table → List ℕ
-table_pages frames table = node_pages frames table.nodes ++ flat_map (index_pages frames) table.indexes.items
+table_pages frames table = record_pages frames table ++ flat_map (index_pages frames) table.indexes.items
 
 -- Each tree is in order, no two of them have a page in common, and no two indexes have one number.
 pub record IsTable (frames : Frames) (table : Table) : Type 0 where
   pub nodes : IsNodeTree frames table.nodes
+  pub long_values : IsLongTree frames table.long_values
   pub indexes : All (IsIndex frames) table.indexes.items
   pub pages : AreOwn frames (table_pages frames table)
   pub once : (index : ℕ) → count_by (is_index index) (map (stored_index frames) table.indexes.items) ≤ 1

@@ -1,4 +1,4 @@
-//! What the nodes and the entries of all tables are after a change of one, by look-ups.
+//! What the nodes, the long values and the entries of all tables are after a change of one, by look-ups.
 
 ghost use Rattle.std.specs.Prelude.{◌≡◌, ◌≢◌, ◌==◌, ◌||◌, ◌&&◌, not, ℕ, true, Option, Some, None, List, [], ◌∷◌, ◌++◌, find, if◌then◌else◌, bytes_eq};
 ghost use Rattle.std.specs.Option.{option_map};
@@ -8,22 +8,36 @@ ghost use Rattle.btree_inplace.specs.Order.{has_key};
 ghost use Rattle.index_derive.specs.declared.entries.Place.{Place};
 ghost use Rattle.cursor_nav.specs.Places.{Pair, entry_after, entry_before};
 ghost use Rattle.table_trees.specs.StoredNodes.{bookmark_entries, node_after, node_before, put_data, put_extent};
-ghost use Rattle.table_trees.specs.StoredTables.{StoredIndex, StoredTable, has_index, has_table, index_entries, new_table, table_indexes, table_nodes, with_entries, with_indexes, with_new_index, with_nodes, without_index, without_table};
+ghost use Rattle.long_value.specs.Values.{Values};
+ghost use Rattle.table_trees.specs.StoredTables.{StoredIndex, StoredTable, has_index, has_table, index_entries, new_table, table_indexes, table_long_values, table_nodes, with_entries, with_indexes, with_long_values, with_new_index, with_nodes, without_index, without_table};
 
-/// A table that is there has the nodes that it was given. All others keep theirs, and each table its indexes.
+/// A table that is there has the nodes that it was given. All others keep theirs, and each table its indexes and its
+/// long values.
 pub fn nodes_after_a_change()
     ensures named { (tables : List StoredTable) (table : ℕ) (nodes : List Node) → has_table tables table ≡ true → table_nodes (with_nodes table nodes tables) table ≡ nodes }
     ensures others { (tables : List StoredTable) (table other : ℕ) (nodes : List Node) → other ≢ table → table_nodes (with_nodes table nodes tables) other ≡ table_nodes tables other }
     ensures indexes { (tables : List StoredTable) (table other : ℕ) (nodes : List Node) → table_indexes (with_nodes table nodes tables) other ≡ table_indexes tables other }
+    ensures long_values { (tables : List StoredTable) (table other : ℕ) (nodes : List Node) → table_long_values (with_nodes table nodes tables) other ≡ table_long_values tables other }
     ensures there { (tables : List StoredTable) (table other : ℕ) (nodes : List Node) → has_table (with_nodes table nodes tables) other ≡ has_table tables other }
 {}
 
-/// A table that is there has the indexes that it was given. All others keep theirs, and each table its nodes. So it is
-/// where one index comes, goes or has other entries.
+/// A table that is there has the long values that it was given. All others keep theirs, and each table its nodes and its
+/// indexes.
+pub fn long_values_after_a_change()
+    ensures named { (tables : List StoredTable) (table : ℕ) (values : Values) → has_table tables table ≡ true → table_long_values (with_long_values table values tables) table ≡ values }
+    ensures others { (tables : List StoredTable) (table other : ℕ) (values : Values) → other ≢ table → table_long_values (with_long_values table values tables) other ≡ table_long_values tables other }
+    ensures nodes { (tables : List StoredTable) (table other : ℕ) (values : Values) → table_nodes (with_long_values table values tables) other ≡ table_nodes tables other }
+    ensures indexes { (tables : List StoredTable) (table other : ℕ) (values : Values) → table_indexes (with_long_values table values tables) other ≡ table_indexes tables other }
+    ensures there { (tables : List StoredTable) (table other : ℕ) (values : Values) → has_table (with_long_values table values tables) other ≡ has_table tables other }
+{}
+
+/// A table that is there has the indexes that it was given. All others keep theirs, and each table its nodes and its
+/// long values. So it is where one index comes, goes or has other entries.
 pub fn indexes_after_a_change()
     ensures named { (tables : List StoredTable) (table : ℕ) (indexes : List StoredIndex) → has_table tables table ≡ true → table_indexes (with_indexes table indexes tables) table ≡ indexes }
     ensures others { (tables : List StoredTable) (table other : ℕ) (indexes : List StoredIndex) → other ≢ table → table_indexes (with_indexes table indexes tables) other ≡ table_indexes tables other }
     ensures nodes { (tables : List StoredTable) (table other : ℕ) (indexes : List StoredIndex) → table_nodes (with_indexes table indexes tables) other ≡ table_nodes tables other }
+    ensures long_values { (tables : List StoredTable) (table other : ℕ) (indexes : List StoredIndex) → table_long_values (with_indexes table indexes tables) other ≡ table_long_values tables other }
     ensures there { (tables : List StoredTable) (table other : ℕ) (indexes : List StoredIndex) → has_table (with_indexes table indexes tables) other ≡ has_table tables other }
 {}
 
@@ -47,9 +61,10 @@ pub fn indexes_without_one()
     ensures there { (tables : List StoredTable) (table index other : ℕ) → has_index (without_index table index tables) table other ≡ (has_index tables table other && not (other == index)) }
 {}
 
-/// A table that was added is there, without nodes and indexes, and each table has what it had.
+/// A table that was added is there, without nodes, long values and indexes, and each table has what it had.
 pub fn tables_beside_a_new_one()
     ensures nodes { (tables : List StoredTable) (table other : ℕ) → table_nodes (tables ++ new_table table ∷ []) other ≡ table_nodes tables other }
+    ensures long_values { (tables : List StoredTable) (table other : ℕ) → table_long_values (tables ++ new_table table ∷ []) other ≡ table_long_values tables other }
     ensures indexes { (tables : List StoredTable) (table other : ℕ) → table_indexes (tables ++ new_table table ∷ []) other ≡ table_indexes tables other }
     ensures there { (tables : List StoredTable) (table other : ℕ) → has_table (tables ++ new_table table ∷ []) other ≡ (has_table tables other || (table == other)) }
 {}
@@ -57,8 +72,10 @@ pub fn tables_beside_a_new_one()
 /// A table that was removed is not there and has nothing, and all others keep what they have.
 pub fn tables_without_one()
     ensures no_nodes { (tables : List StoredTable) (table : ℕ) → table_nodes (without_table table tables) table ≡ [] }
+    ensures no_long_values { (tables : List StoredTable) (table : ℕ) → table_long_values (without_table table tables) table ≡ [] }
     ensures no_indexes { (tables : List StoredTable) (table : ℕ) → table_indexes (without_table table tables) table ≡ [] }
     ensures nodes { (tables : List StoredTable) (table other : ℕ) → other ≢ table → table_nodes (without_table table tables) other ≡ table_nodes tables other }
+    ensures long_values { (tables : List StoredTable) (table other : ℕ) → other ≢ table → table_long_values (without_table table tables) other ≡ table_long_values tables other }
     ensures indexes { (tables : List StoredTable) (table other : ℕ) → other ≢ table → table_indexes (without_table table tables) other ≡ table_indexes tables other }
     ensures there { (tables : List StoredTable) (table other : ℕ) → has_table (without_table table tables) other ≡ (has_table tables other && not (other == table)) }
 {}

@@ -1,14 +1,15 @@
-//! All tables of an engine: the nodes of each and the entries of its indexes, in B-trees of one space.
+//! All tables of an engine: the nodes, the long values and the index entries of each, in B-trees of one space.
 #![tactic(auto)]
 
 mod laws;
+mod long_values;
 mod nodes;
 mod table;
 mod trees;
 
 pub use laws::{
     entries_after_a_change, indexes_after_a_change, indexes_beside_a_new_one, indexes_without_one,
-    neighbours_are_those_of_bookmarks, nodes_after_a_change, nodes_by_bookmark,
-    tables_beside_a_new_one, tables_without_one,
+    long_values_after_a_change, neighbours_are_those_of_bookmarks, nodes_after_a_change,
+    nodes_by_bookmark, tables_beside_a_new_one, tables_without_one,
 };
 pub use trees::TableTrees;

@@ -1,4 +1,4 @@
-//! The trees of one table: that of its nodes, and those of its indexes.
+//! The trees of one table: that of its nodes, that of its long values, and those of its indexes.
 
 ghost use Rattle.std.specs.Prelude.{◌≡◌, ◌==◌, ◌≤◌, false, true, [], ◌∷◌, ◌++◌, length, IfOk, OnErr, OnOk};
 ghost use Rattle.std.specs.List.{list_any, position_from};
@@ -9,16 +9,19 @@ ghost use Rattle.index_tree.specs.Entries.{IsApartFromAll};
 ghost use Rattle.page_space.specs.Frames.{Frames};
 ghost use Rattle.table_trees.specs.Pages.{AreOwn, OthersStay, Rearranges};
 ghost use Rattle.table_trees.specs.StoredTables.{changed_where, is_index, new_table, part_of, put_entries, put_indexes, without_where};
+ghost use Rattle.table_trees.specs.LongTrees.{IsLongTree, long_pages, long_values_in};
 ghost use Rattle.table_trees.specs.NodeTrees.{IsNodeTree, node_pages, nodes_in};
 ghost use Rattle.table_trees.specs.declared.nodes.NodeTree.{NodeTree};
 ghost use Rattle.table_trees.specs.declared.table.TableIndex.{TableIndex};
 ghost use Rattle.table_trees.specs.TableParts.{IsIndex, IsTable, TableBecomes, index_pages, stored_index, stored_table, table_pages};
 
+use crate::long_values::LongTree;
 use crate::nodes::{NodeTree, tree_pages_are_own};
 use btree_inplace::other_tree_stays;
 use index_derive::{IndexEntry, Place};
 use index_tree::{IndexTree, other_index_entries_stay};
 use jet_base::{IndexId, OutOfMemory, TableId};
+use long_value::{other_long_values_stay, values_are_shown};
 use page_space::Space;
 use std::alloc::Global;
 
@@ -29,28 +32,34 @@ pub struct TableIndex {
     tree: IndexTree,
 }
 
-/// A table, its nodes, and its indexes in the order of their making.
+/// A table, its nodes, its long values, and its indexes in the order of their making.
 #[derive(Drop)]
 pub struct Table {
     pub table: TableId,
     pub nodes: NodeTree,
+    pub long_values: LongTree,
     indexes: Vec<TableIndex>,
 }
 
 impl Table {
-    /// A table without a node and without an index.
+    /// A table without a node, a long value and an index. After a refusal all its pages are free again.
     pub fn new(alloc: Global, space: &mut Space, table: TableId) -> Result<Table, OutOfMemory>
         ensures made { IfOk result (λ made. IsTable space.new made × (stored_table space.new made ≡ new_table table.0) × Rearranges space.old space.new [] (table_pages space.new made)) }
-        ensures err { OnErr result (space.new ≡ space.old) }
+        ensures err { OnErr result (Rearranges space.old space.new [] []) }
     {
         trees_stay();
-        match NodeTree::new(space) {
-            Ok(nodes) => Ok(Table {
+        let nodes = NodeTree::new(space)?;
+        match LongTree::new(space) {
+            Ok(long_values) => Ok(Table {
                 table,
                 nodes,
+                long_values,
                 indexes: Vec::new(alloc),
             }),
-            Err(fault) => Err(fault),
+            Err(fault) => {
+                nodes.give_back(space);
+                Err(fault)
+            }
         }
     }
 
@@ -187,6 +196,7 @@ impl Table {
     {
         trees_stay();
         self.nodes.give_back(space);
+        self.long_values.give_back(space);
         let mut indexes = self.indexes;
         while let Some(last) = indexes.pop() {
             last.tree.give_back(space);
@@ -204,6 +214,7 @@ fn index_place(indexes: &[TableIndex], index: IndexId) -> Option<usize>
 /// A change of pages leaves each tree that has none of them.
 fn trees_stay()
     ensures nodes { OthersStay IsNodeTree node_pages nodes_in }
+    ensures long_values { OthersStay IsLongTree long_pages long_values_in }
     ensures indexes { OthersStay IsIndex index_pages stored_index }
     ensures own { (frames : Frames) (index : TableIndex) → IsIndex frames index → AreOwn frames (index_pages frames index) }
     ensures own_nodes { (frames : Frames) (nodes : NodeTree) → IsNodeTree frames nodes → AreOwn frames (node_pages frames nodes) }
@@ -211,11 +222,14 @@ fn trees_stay()
     tree_pages_are_own();
     other_tree_stays();
     other_index_entries_stay();
+    other_long_values_stay();
+    values_are_shown();
 }
 
 /// A change of pages leaves each table that has none of them, and each tree of a table.
 pub fn tables_stay()
     ensures nodes { OthersStay IsNodeTree node_pages nodes_in }
+    ensures long_values { OthersStay IsLongTree long_pages long_values_in }
     ensures indexes { OthersStay IsIndex index_pages stored_index }
     ensures tables { OthersStay IsTable table_pages stored_table }
 {

@@ -1,6 +1,6 @@
 //! All tables, in trees of one space.
 
-ghost use Rattle.std.specs.Prelude.{◌≡◌, ◌<◌, ◌≤◌, ◌^◌, ◌==◌, ℕ, None, true, false, [], ◌∷◌, ◌++◌, length, All, IfSome, IsSome, IsSomeAnd, OnErr, OnOk};
+ghost use Rattle.std.specs.Prelude.{◌≡◌, ◌<◌, ◌≤◌, ◌^◌, ◌==◌, ℕ, None, true, false, [], ◌∷◌, ◌++◌, length, take, nat_lt, if◌then◌else◌, is_some, All, IfSome, IsSome, IsSomeAnd, OnErr, OnOk};
 ghost use Rattle.std.specs.List.{position_from};
 ghost use Rattle.std.specs.Option.{option_copied, option_map};
 ghost use Rattle.btree_inplace.specs.Changes.{inserted, with_data_at, with_extent_at, without_key};
@@ -9,25 +9,31 @@ ghost use Rattle.index_derive.specs.Entries.{insert_entry};
 ghost use Rattle.cursor_nav.specs.Places.{are_sorted, entry_after, entry_before, found_pair};
 ghost use Rattle.derived_index.specs.KeptEntries.{has_entry, has_key, without_entry};
 ghost use Rattle.index_tree.specs.Entries.{AreApart, IsApartFromAll, IsShort};
+ghost use Rattle.long_value.specs.Stores.{id_bytes, read_upto};
+ghost use Rattle.long_value.specs.Values.{AreLong, put_value, with_reference, without_reference};
 ghost use Rattle.table_trees.specs.StoredNodes.{IsShortNode, bookmark_entries, node_after, node_before};
-ghost use Rattle.table_trees.specs.StoredTables.{has_index, has_table, index_entries, new_table, table_nodes, with_entries, with_new_index, with_nodes, without_index, without_table};
+ghost use Rattle.table_trees.specs.StoredTables.{has_index, has_table, index_entries, long_value_of, new_table, table_long_values, table_nodes, with_entries, with_long_values, with_new_index, with_nodes, without_index, without_table};
 
 use crate::table::{Table, tables_stay};
 use btree_inplace::nodes_fit_their_space;
 use index_derive::{IndexEntry, Place};
 use index_tree::entries_fit_their_space;
 use jet_base::{IndexId, OutOfMemory, TableId};
+use long_value::LongId;
 use page_space::Space;
 use std::alloc::Global;
 use std::marker::Model;
 
-/// All tables: the nodes of each, and the entries of its indexes.
+/// All tables: the nodes of each, its long values, and the entries of its indexes.
 ///
 /// A node is a row under a bookmark of 1 to 255 bytes. The row may be empty: so a node stands for a record that the
 /// newest state does not have. So many bytes are kept for a row as its extent says, 1,700 at most.
 ///
+/// A long value is kept apart from the rows, with a count of the references to it. Each table has a tree for its long
+/// values from its making on, one page where it has none.
+///
 /// Contracts see the tables in the order in which they were made, each with its number, its nodes, which rise by their
-/// bookmarks, and its indexes with their entries, which rise. A call goes over the tables to the one that is named,
+/// bookmarks, its indexes with their entries, which rise, and its long values, which rise by their identifiers. A call goes over the tables to the one that is named,
 /// over that table's indexes to the one that is named, and down one path of its tree. Look-ups and moves take no memory,
 /// and neither does a call that says so. Where another finds none it is refused, and everything is as it was.
 #[derive(Drop)]
@@ -67,7 +73,7 @@ impl TableTrees {
         table_place(self.tables.as_slice(), table).is_some()
     }
 
-    /// Adds a table without a node and without an index, behind the others.
+    /// Adds a table without a node, an index and a long value, behind the others.
     pub fn add_table(&mut self, table: TableId) -> Result<(), OutOfMemory>
         requires { has_table self.old table.0 ≡ false }
         ensures ok { OnOk result (self.new ≡ self.old ++ new_table table.0 ∷ []) }
@@ -81,7 +87,7 @@ impl TableTrees {
         Ok(())
     }
 
-    /// Takes out a table with its nodes and its indexes. The other tables keep their order. It takes no memory, and the
+    /// Takes out a table with its nodes, its indexes and its long values. The other tables keep their order. It takes no memory, and the
     /// pages of the table are free for other trees.
     pub fn remove_table(&mut self, table: TableId)
         requires { has_table self.old table.0 ≡ true }
@@ -345,10 +351,123 @@ impl TableTrees {
         }
     }
 
+    /// Whether a table has a long value.
+    pub fn has_long(&self, table: TableId, id: LongId) -> bool
+        ensures { result ≡ is_some (long_value_of self.now table.0 (id_bytes id)) }
+    {
+        match table_place(self.tables.as_slice(), table) {
+            Some(i) => self.tables[i].long_values.has(&self.space, id),
+            None => false,
+        }
+    }
+
+    /// How many references a long value of a table has.
+    pub fn long_count(&self, table: TableId, id: LongId) -> u32
+        requires { IsSome (long_value_of self.now table.0 (id_bytes id)) }
+        ensures { IsSomeAnd (long_value_of self.now table.0 (id_bytes id)) (λ value. result ≡ value.count) }
+    {
+        match table_place(self.tables.as_slice(), table) {
+            Some(i) => self.tables[i].long_values.count(&self.space, id),
+            None => 0,
+        }
+    }
+
+    /// How many bytes a long value of a table has.
+    pub fn long_length(&self, table: TableId, id: LongId) -> u32
+        requires { IsSome (long_value_of self.now table.0 (id_bytes id)) }
+        ensures { IsSomeAnd (long_value_of self.now table.0 (id_bytes id)) (λ value. result ≡ length value.bytes) }
+    {
+        match table_place(self.tables.as_slice(), table) {
+            Some(i) => self.tables[i].long_values.length(&self.space, id),
+            None => 0,
+        }
+    }
+
+    /// The first bytes of a long value of a table, at most 1,024, as they lie in their page.
+    pub fn first_part(&self, table: TableId, id: LongId) -> &[u8]
+        requires { IsSome (long_value_of self.now table.0 (id_bytes id)) }
+        ensures { IsSomeAnd (long_value_of self.now table.0 (id_bytes id)) (λ value. result.now ≡ take 1024 value.bytes) }
+    {
+        match table_place(self.tables.as_slice(), table) {
+            Some(i) => self.tables[i].long_values.first_part(&self.space, id),
+            None => &[],
+        }
+    }
+
+    /// Reads the first bytes of a long value of a table, as many as there is room for, and says how many. What is behind
+    /// them in the slice stays.
+    pub fn read_long(&self, table: TableId, id: LongId, into: &mut [u8]) -> usize
+        requires { IsSome (long_value_of self.now table.0 (id_bytes id)) }
+        ensures bytes { IsSomeAnd (long_value_of self.now table.0 (id_bytes id)) (λ value. into.new ≡ read_upto result value.bytes into.old) }
+        ensures count { IsSomeAnd (long_value_of self.now table.0 (id_bytes id)) (λ value. result ≡ (if nat_lt (length into.old) (length value.bytes) then length into.old else length value.bytes)) }
+    {
+        match table_place(self.tables.as_slice(), table) {
+            Some(i) => self.tables[i].long_values.read(&self.space, id, into),
+            None => 0,
+        }
+    }
+
+    /// Puts a long value of 256 to 1,048,576 bytes that a table does not have, with one reference to it.
+    pub fn put_long(&mut self, table: TableId, id: LongId, bytes: &[u8]) -> Result<(), OutOfMemory>
+        requires there { has_table self.old table.0 ≡ true }
+        requires absent { long_value_of self.old table.0 (id_bytes id) ≡ None }
+        requires long { 256 ≤ length bytes.now }
+        requires short { length bytes.now ≤ 1048576 }
+        ensures ok { OnOk result (self.new ≡ with_long_values table.0 (put_value (id_bytes id) (record { count = 1; bytes = bytes.now }) (table_long_values self.old table.0)) self.old) }
+        ensures err { OnErr result (self.new ≡ self.old) }
+    {
+        tables_stay();
+        match table_place(self.tables.as_slice(), table) {
+            Some(i) => {
+                let named = &mut self.tables[i];
+                named.long_values.put(&mut self.space, id, bytes)
+            }
+            None => Ok(()),
+        }
+    }
+
+    /// One reference more to a long value of a table, which has fewer than 4,294,967,295. It takes no memory.
+    pub fn share_long(&mut self, table: TableId, id: LongId)
+        requires { IsSomeAnd (long_value_of self.old table.0 (id_bytes id)) (λ value. value.count < 4294967295) }
+        ensures { self.new ≡ with_long_values table.0 (with_reference (id_bytes id) (table_long_values self.old table.0)) self.old }
+    {
+        tables_stay();
+        match table_place(self.tables.as_slice(), table) {
+            Some(i) => {
+                let named = &mut self.tables[i];
+                named.long_values.share(&mut self.space, id);
+            }
+            None => {}
+        }
+    }
+
+    /// One reference less to a long value of a table, which is gone with its last one. It takes no memory.
+    pub fn release_long(&mut self, table: TableId, id: LongId)
+        requires { IsSome (long_value_of self.old table.0 (id_bytes id)) }
+        ensures { self.new ≡ with_long_values table.0 (without_reference (id_bytes id) (table_long_values self.old table.0)) self.old }
+    {
+        tables_stay();
+        match table_place(self.tables.as_slice(), table) {
+            Some(i) => {
+                let named = &mut self.tables[i];
+                named.long_values.release(&mut self.space, id);
+            }
+            None => {}
+        }
+    }
+
     /// The nodes of each table rise by their bookmarks, none of which stands twice, and are short.
     pub fn nodes_are_in_order(&self)
         ensures sorted { (table : ℕ) → are_sorted (bookmark_entries (table_nodes self.now table)) ≡ true }
         ensures short { (table : ℕ) → All IsShortNode (table_nodes self.now table) }
+    {
+        let _ = &self.tables;
+    }
+
+    /// The long values of each table rise by their identifiers, none of which stands twice. Each has 256 to 1,048,576
+    /// bytes and at least one reference.
+    pub fn long_values_are_whole(&self)
+        ensures { (table : ℕ) → AreLong (table_long_values self.now table) }
     {
         let _ = &self.tables;
     }

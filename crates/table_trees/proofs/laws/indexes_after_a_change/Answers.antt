@@ -13,5 +13,8 @@ returns-clause-others c tables table other indexes n =
 pub returns-clause-nodes : goal.returns-clause-nodes
 returns-clause-nodes c tables table other indexes = part-changed (is_table table) (is_table other) (put_indexes indexes) (λ x. x.nodes) tables (λ x. refl) (λ x t u. refl)
 
+pub returns-clause-long_values : goal.returns-clause-long_values
+returns-clause-long_values c tables table other indexes = part-changed (is_table table) (is_table other) (put_indexes indexes) (λ x. x.long_values) tables (λ x. refl) (λ x t u. refl)
+
 pub returns-clause-there : goal.returns-clause-there
 returns-clause-there c tables table other indexes = any-changed (is_table table) (is_table other) (put_indexes indexes) tables (λ x. refl)

@@ -13,5 +13,8 @@ returns-clause-others c tables table other nodes n =
 pub returns-clause-indexes : goal.returns-clause-indexes
 returns-clause-indexes c tables table other nodes = part-changed (is_table table) (is_table other) (put_nodes nodes) (λ x. x.indexes) tables (λ x. refl) (λ x t u. refl)
 
+pub returns-clause-long_values : goal.returns-clause-long_values
+returns-clause-long_values c tables table other nodes = part-changed (is_table table) (is_table other) (put_nodes nodes) (λ x. x.long_values) tables (λ x. refl) (λ x t u. refl)
+
 pub returns-clause-there : goal.returns-clause-there
 returns-clause-there c tables table other nodes = any-changed (is_table table) (is_table other) (put_nodes nodes) tables (λ x. refl)

@@ -9,5 +9,8 @@ returns-clause-nodes c tables table other = part-pushed (is_table other) (λ x. 
 pub returns-clause-indexes : goal.returns-clause-indexes
 returns-clause-indexes c tables table other = part-pushed (is_table other) (λ x. x.indexes) (new_table table) tables refl
 
+pub returns-clause-long_values : goal.returns-clause-long_values
+returns-clause-long_values c tables table other = part-pushed (is_table other) (λ x. x.long_values) (new_table table) tables refl
+
 pub returns-clause-there : goal.returns-clause-there
 returns-clause-there c tables table other = any-pushed (is_table other) (new_table table) tables

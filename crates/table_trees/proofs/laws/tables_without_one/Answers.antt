@@ -15,5 +15,11 @@ returns-clause-nodes c tables table other n = other-without (is_table table) (is
 pub returns-clause-indexes : goal.returns-clause-indexes
 returns-clause-indexes c tables table other n = other-without (is_table table) (is_table other) (λ x. x.indexes) tables (λ x t. not_other x.number table other n t)
 
+pub returns-clause-no_long_values : goal.returns-clause-no_long_values
+returns-clause-no_long_values c tables table = own-without (is_table table) (λ x. x.long_values) tables
+
+pub returns-clause-long_values : goal.returns-clause-long_values
+returns-clause-long_values c tables table other n = other-without (is_table table) (is_table other) (λ x. x.long_values) tables (λ x t. not_other x.number table other n t)
+
 pub returns-clause-there : goal.returns-clause-there
 returns-clause-there c tables table other = any-without (is_table table) (is_table other) (other == table) tables (λ x t. named_as x.number table other t)

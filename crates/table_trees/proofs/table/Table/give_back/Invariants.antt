@@ -6,7 +6,7 @@ use Rattle.table_trees.specs.TableParts.{IsIndex, index_pages, table_pages}
 use Rattle.table_trees.proofs.Members.{AreBounded}
 use Rattle.table_trees.proofs.table.Table.give_back.Given as goal
 
--- The pages of the nodes and of the indexes that are gone went back, and the others are in order.
+-- The pages of the nodes, of the long values and of the indexes that are gone went back, and the others are in order.
 abbrev pub invariant-loop-last : goal.invariant-loop-last
 invariant-loop-last l =
     All (IsIndex l.space) l.indexes.items × AreBounded index_pages l.space l.indexes.items

@@ -17,10 +17,10 @@ give_back-requires c =
 
 pub returns-in-Some : goal.returns-in-Some
 returns-in-Some c =
-    let is : Table = record { table = c.args.self.now.table; nodes = c.args.self.now.nodes; indexes = c.remove-removed.new.self } in
-    index_goes (record { nodes = c.trees_stay.ensures.nodes; indexes = c.trees_stay.ensures.indexes }) c.trees_stay.ensures.own c.args.space.now c.args.self.now c.give_back.new.space c.args.index.0 c.in-Some.i c.remove-removed.result is c.requires.table
+    let is : Table = record { table = c.args.self.now.table; nodes = c.args.self.now.nodes; long_values = c.args.self.now.long_values; indexes = c.remove-removed.new.self } in
+    index_goes (record { nodes = c.trees_stay.ensures.nodes; long_values = c.trees_stay.ensures.long_values; indexes = c.trees_stay.ensures.indexes }) c.trees_stay.ensures.own c.args.space.now c.args.self.now c.give_back.new.space c.args.index.0 c.in-Some.i c.remove-removed.result is c.requires.table
     (place_of (is_numbered c.args.index.0) c.args.self.now.indexes.items c.as_slice.result.now c.in-Some.i c.remove-removed.result c.as_slice.ensures.value c.in-Some.ensures c.remove-removed.ensures.value)
-    c.give_back.ensures (record { table = refl; nodes = refl; items_are = c.remove-removed.ensures.items })
+    c.give_back.ensures (record { table = refl; nodes = refl; long_values = refl; items_are = c.remove-removed.ensures.items })
 
 pub returns-in-None : goal.returns-in-None
 returns-in-None c =

@@ -22,20 +22,20 @@ widen-requires-clause-fits c = subst (λ (l : List Node). IsSomeAnd (get_in l c.
 pub invariant_of-self : goal.invariant_of-self
 invariant_of-self c =
     either_way c.widen.result
-    (λ b. nodes_kept c.tables_stay.ensures.tables (record { nodes = c.tables_stay.ensures.nodes; indexes = c.tables_stay.ensures.indexes }) c.self.inside.space c.self.inside.tables.items c.widen.new.space c.args.table.0 c.in-Some.i c.index_mut-named.result.now c.widen.new.self (let l = nodes_in c.self.inside.space c.index_mut-named.result.now.nodes in with_extent_at l c.args.bookmark.now c.args.extent) c.self.invariant (place_of (is_named c.args.table.0) c.self.inside.tables.items c.as_slice.result.now c.in-Some.i c.index_mut-named.result.now c.as_slice.ensures.value c.in-Some.ensures c.index_mut-named.ensures.value) b)
-    (λ b. nodes_kept c.tables_stay.ensures.tables (record { nodes = c.tables_stay.ensures.nodes; indexes = c.tables_stay.ensures.indexes }) c.self.inside.space c.self.inside.tables.items c.widen.new.space c.args.table.0 c.in-Some.i c.index_mut-named.result.now c.widen.new.self (nodes_in c.self.inside.space c.index_mut-named.result.now.nodes) c.self.invariant (place_of (is_named c.args.table.0) c.self.inside.tables.items c.as_slice.result.now c.in-Some.i c.index_mut-named.result.now c.as_slice.ensures.value c.in-Some.ensures c.index_mut-named.ensures.value) b)
+    (λ b. nodes_kept c.tables_stay.ensures.tables (record { nodes = c.tables_stay.ensures.nodes; long_values = c.tables_stay.ensures.long_values; indexes = c.tables_stay.ensures.indexes }) c.self.inside.space c.self.inside.tables.items c.widen.new.space c.args.table.0 c.in-Some.i c.index_mut-named.result.now c.widen.new.self (let l = nodes_in c.self.inside.space c.index_mut-named.result.now.nodes in with_extent_at l c.args.bookmark.now c.args.extent) c.self.invariant (place_of (is_named c.args.table.0) c.self.inside.tables.items c.as_slice.result.now c.in-Some.i c.index_mut-named.result.now c.as_slice.ensures.value c.in-Some.ensures c.index_mut-named.ensures.value) b)
+    (λ b. nodes_kept c.tables_stay.ensures.tables (record { nodes = c.tables_stay.ensures.nodes; long_values = c.tables_stay.ensures.long_values; indexes = c.tables_stay.ensures.indexes }) c.self.inside.space c.self.inside.tables.items c.widen.new.space c.args.table.0 c.in-Some.i c.index_mut-named.result.now c.widen.new.self (nodes_in c.self.inside.space c.index_mut-named.result.now.nodes) c.self.invariant (place_of (is_named c.args.table.0) c.self.inside.tables.items c.as_slice.result.now c.in-Some.i c.index_mut-named.result.now c.as_slice.ensures.value c.in-Some.ensures c.index_mut-named.ensures.value) b)
     c.widen.ensures.ok c.widen.ensures.err
 
 pub returns-in-Some-clause-ok : goal.returns-in-Some-clause-ok
 returns-in-Some-clause-ok c =
     on_ok c.widen.result
-    (λ b. nodes_shown c.tables_stay.ensures.tables (record { nodes = c.tables_stay.ensures.nodes; indexes = c.tables_stay.ensures.indexes }) c.self.inside.space c.self.inside.tables.items c.widen.new.space c.args.table.0 c.in-Some.i c.index_mut-named.result.now c.widen.new.self (λ (l : List Node). with_extent_at l c.args.bookmark.now c.args.extent) c.args.self.now c.self.invariant (place_of (is_named c.args.table.0) c.self.inside.tables.items c.as_slice.result.now c.in-Some.i c.index_mut-named.result.now c.as_slice.ensures.value c.in-Some.ensures c.index_mut-named.ensures.value) c.self.view_is b)
+    (λ b. nodes_shown c.tables_stay.ensures.tables (record { nodes = c.tables_stay.ensures.nodes; long_values = c.tables_stay.ensures.long_values; indexes = c.tables_stay.ensures.indexes }) c.self.inside.space c.self.inside.tables.items c.widen.new.space c.args.table.0 c.in-Some.i c.index_mut-named.result.now c.widen.new.self (λ (l : List Node). with_extent_at l c.args.bookmark.now c.args.extent) c.args.self.now c.self.invariant (place_of (is_named c.args.table.0) c.self.inside.tables.items c.as_slice.result.now c.in-Some.i c.index_mut-named.result.now c.as_slice.ensures.value c.in-Some.ensures c.index_mut-named.ensures.value) c.self.view_is b)
     c.widen.ensures.ok
 
 pub returns-in-Some-clause-err : goal.returns-in-Some-clause-err
 returns-in-Some-clause-err c =
     on_err c.widen.result
-    (λ b. nodes_same c.tables_stay.ensures.tables (record { nodes = c.tables_stay.ensures.nodes; indexes = c.tables_stay.ensures.indexes }) c.self.inside.space c.self.inside.tables.items c.widen.new.space c.args.table.0 c.in-Some.i c.index_mut-named.result.now c.widen.new.self c.args.self.now c.self.invariant (place_of (is_named c.args.table.0) c.self.inside.tables.items c.as_slice.result.now c.in-Some.i c.index_mut-named.result.now c.as_slice.ensures.value c.in-Some.ensures c.index_mut-named.ensures.value) c.self.view_is b)
+    (λ b. nodes_same c.tables_stay.ensures.tables (record { nodes = c.tables_stay.ensures.nodes; long_values = c.tables_stay.ensures.long_values; indexes = c.tables_stay.ensures.indexes }) c.self.inside.space c.self.inside.tables.items c.widen.new.space c.args.table.0 c.in-Some.i c.index_mut-named.result.now c.widen.new.self c.args.self.now c.self.invariant (place_of (is_named c.args.table.0) c.self.inside.tables.items c.as_slice.result.now c.in-Some.i c.index_mut-named.result.now c.as_slice.ensures.value c.in-Some.ensures c.index_mut-named.ensures.value) c.self.view_is b)
     c.widen.ensures.err
 
 pub returns-in-None-clause-ok : goal.returns-in-None-clause-ok
