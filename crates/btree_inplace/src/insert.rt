@@ -54,6 +54,7 @@ impl Tree {
         ensures ok { OnOk result (nodes_of space.new self.new ≡ inserted (nodes_of space.old self.old) (record { key = key.now; extent = extent; «data» = «data».now })) }
         ensures err { OnErr result (nodes_of space.new self.new ≡ nodes_of space.old self.old) }
         ensures pages { Exchanges space.old space.new (pages_of space.old self.old) (pages_of space.new self.new) }
+        ensures root { self.new.root ≡ self.old.root }
     {
         let page = self.leaf_with_room(space, key, NODE_HEAD_BYTES + key.len() + extent)?;
         let leaf = space.page_mut(page);
@@ -76,6 +77,7 @@ impl Tree {
         ensures ok { OnOk result (nodes_of space.new self.new ≡ with_extent_at (nodes_of space.old self.old) key.now extent) }
         ensures err { OnErr result (nodes_of space.new self.new ≡ nodes_of space.old self.old) }
         ensures pages { Exchanges space.old space.new (pages_of space.old self.old) (pages_of space.new self.new) }
+        ensures root { self.new.root ≡ self.old.root }
     {
         let more = self.missing(space, key, extent);
         let page = self.leaf_with_room(space, key, more)?;
@@ -118,6 +120,7 @@ impl Tree {
         requires short { length key.now ≤ 755 }
         ensures ok { IfOk result (λ leaf. Reaches key.now need space.old self.old space.new self.new leaf) }
         ensures err { OnErr result (AlteredTree (λ nodes. nodes) space.old self.old space.new self.new) }
+        ensures root { self.new.root ≡ self.old.root }
     {
         self.raise(space, need)?;
         let mut page = self.root;
@@ -127,11 +130,13 @@ impl Tree {
         Ok(page)
     }
 
-    /// Puts an inner page above a root without room.
+    /// Makes a root without room an inner page, and moves its nodes to a page of their own, its one
+    /// child: so the root page stays where it is.
     fn raise(&mut self, space: &mut Space, need: usize) -> Result<(), OutOfMemory>
         requires tree { IsTree space.old self.old }
         requires small { need ≤ 2032 }
         ensures same { AlteredTree (λ nodes. nodes) space.old self.old space.new self.new }
+        ensures root { self.new.root ≡ self.old.root }
         ensures room { OnOk result (page_size (page_in space.new self.new.root).nodes + room_at self.new.depth need ≤ 4096) }
     {
         if space.page(self.root).used() + room_at(self.depth, need) <= PAGE_BYTES {
@@ -141,9 +146,12 @@ impl Tree {
         if self.depth == u32::MAX {
             return Err(OutOfMemory);
         }
-        let root = space.take()?;
-        *space.page_mut(root) = root_above(root, self.root);
-        self.root = root;
+        let number = space.take()?;
+        let root = space.page_mut(self.root);
+        let mut below = Page::empty(number, root.kind());
+        root.move_tail(0, &mut below);
+        *root = root_above(self.root, number);
+        *space.page_mut(number) = below;
         self.depth += 1;
         Ok(())
     }

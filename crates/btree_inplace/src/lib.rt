@@ -43,6 +43,14 @@ impl Tree {
         Ok(Tree { root, depth: 0 })
     }
 
+    /// The number of the root page. It stays the same while the tree stands, however many nodes it has:
+    /// so whoever keeps the number finds the tree again.
+    pub fn root(&self) -> u32
+        ensures { result ≡ self.now.root }
+    {
+        self.root
+    }
+
     /// The data of the node with a key, if there is one: a part of its page.
     pub fn get<'a>(&self, space: &'a Space, key: &[u8]) -> Option<&'a [u8]>
         requires { IsTree space.now self.now }

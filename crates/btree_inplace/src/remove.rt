@@ -26,6 +26,7 @@ impl Tree {
         ensures tree { IsTree space.new self.new }
         ensures nodes { nodes_of space.new self.new ≡ without_key (nodes_of space.old self.old) key.now }
         ensures pages { Exchanges space.old space.new (pages_of space.old self.old) (pages_of space.new self.new) }
+        ensures root { self.new.root ≡ self.old.root }
     {
         if remove_below(space, self.root, self.depth, key) {
             *space.page_mut(self.root) = Page::empty(self.root, LEAF);

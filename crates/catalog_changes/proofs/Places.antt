@@ -19,13 +19,13 @@ use Rattle.catalog_grammar.proofs.Rising.{Rise, items_rise}
 use Rattle.catalog_changes.specs.CatalogParts.{OtherTables, bare_table, with_columns, with_indexes, with_item, with_tables}
 use Rattle.catalog_changes.proofs.Items.{Splits, absent, added, changed, removed, splits, there}
 
-abbrev table_node : CatalogTable → CatalogItem
+abbrev pub table_node : CatalogTable → CatalogItem
 table_node x = item.Table x.table
 
-abbrev column_of : CatalogTable → Column → CatalogItem
+abbrev pub column_of : CatalogTable → Column → CatalogItem
 column_of x column = item.Column x.table.id column
 
-abbrev index_of : CatalogTable → ℕ × IndexRule → CatalogItem
+abbrev pub index_of : CatalogTable → ℕ × IndexRule → CatalogItem
 index_of x index = item.Index x.table.id index.0 index.1
 
 -- ---- a table's own node
@@ -47,7 +47,7 @@ column_front greatest others x left = table_front greatest others ++ ((table_nod
 abbrev pub column_behind : OtherTables → CatalogTable → List Column → List CatalogItem
 column_behind others x right = map (column_of x) right ++ (flat_map column_items others.after ++ (flat_map index_items others.before ++ (index_items x ++ flat_map index_items others.after)))
 
-columns_parted : (greatest : ℕ) (others : OtherTables) (x : CatalogTable) (left right columns : List Column) → catalog_items greatest (with_columns others x (left ++ (columns ++ right))) ≡ column_front greatest others x left ++ (map (column_of x) columns ++ column_behind others x right)
+pub columns_parted : (greatest : ℕ) (others : OtherTables) (x : CatalogTable) (left right columns : List Column) → catalog_items greatest (with_columns others x (left ++ (columns ++ right))) ≡ column_front greatest others x left ++ (map (column_of x) columns ++ column_behind others x right)
 columns_parted greatest others x left right columns = simp (map-append, flat_map-append, append_assoc)
 
 -- ---- the node of an index
@@ -63,7 +63,7 @@ regrouped front a b c d e l m r z t =
     let inner : a ++ ((b ++ ((c ++ []) ++ d)) ++ (e ++ (((l ++ (m ++ r)) ++ []) ++ z))) ≡ (a ++ ((b ++ (c ++ d)) ++ (e ++ l))) ++ (m ++ (r ++ z)) = simp (append_assoc, append-nil) in
     ap (λ (s : List CatalogItem). front ++ (t ∷ s)) inner ∙ sym (append_assoc front (t ∷ (a ++ ((b ++ (c ++ d)) ++ (e ++ l)))) (m ++ (r ++ z)))
 
-indexes_parted : (greatest : ℕ) (others : OtherTables) (x : CatalogTable) (left right indexes : List (ℕ × IndexRule)) → catalog_items greatest (with_indexes others x (left ++ (indexes ++ right))) ≡ index_front greatest others x left ++ (map (index_of x) indexes ++ index_behind others x right)
+pub indexes_parted : (greatest : ℕ) (others : OtherTables) (x : CatalogTable) (left right indexes : List (ℕ × IndexRule)) → catalog_items greatest (with_indexes others x (left ++ (indexes ++ right))) ≡ index_front greatest others x left ++ (map (index_of x) indexes ++ index_behind others x right)
 indexes_parted greatest others x left right indexes =
     let f = index_of x in
     tables_parted greatest others (record x { indexes = left ++ (indexes ++ right) } ∷ [])
@@ -124,7 +124,7 @@ greatest_replaced greatest now tables h =
 abbrev behind_table : OtherTables → CatalogTable → TableId → List CatalogItem
 behind_table others x id = table_behind others (map (λ column. item.Column id column) x.columns ++ []) (map (λ index. item.Index id index.0 index.1) x.indexes ++ [])
 
-table_length : (a b : TableItem) → a.name ≡ b.name → length (table_data a) ≡ length (table_data b)
+pub table_length : (a b : TableItem) → a.name ≡ b.name → length (table_data a) ≡ length (table_data b)
 unfolding table_data
 table_length a b e = omega (arith, ap length e)
 

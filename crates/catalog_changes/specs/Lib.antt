@@ -1,1 +1,2 @@
 pub mod CatalogParts
+pub mod CatalogSteps

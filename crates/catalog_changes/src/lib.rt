@@ -12,6 +12,14 @@ ghost use Rattle.catalog_grammar.specs.declared.items.CatalogItem.TheVariants as
 ghost use Rattle.catalog_grammar.specs.declared.items.TableItem.{TableItem};
 ghost use Rattle.catalog_changes.specs.CatalogParts.{OtherTables, bare_table, with_columns, with_indexes, with_item, with_tables};
 
+mod steps;
+
+pub use steps::{
+    add_column_adds_a_node, create_index_adds_a_node, create_table_adds_a_node,
+    delete_column_removes_a_node, delete_index_removes_a_node, delete_table_removes_its_nodes,
+    nodes_go_one_by_one, other_roots_do_not_count,
+};
+
 /// A new table, which has neither columns nor indexes, is one node more, and a table without them that goes is one node
 /// less.
 pub fn tables_are_nodes()

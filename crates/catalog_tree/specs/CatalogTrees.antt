@@ -16,8 +16,13 @@ own_pages frames catalog = pages_of frames catalog.tree
 abbrev pub IsCatalogTree : Frames → CatalogTree → Type 0
 IsCatalogTree frames catalog = IsTree frames catalog.tree
 
--- A catalog's tree has become another with these nodes, and the pages of other trees are as they were.
+-- the root page of the tree
+abbrev pub root_of : CatalogTree → ℕ
+root_of catalog = catalog.tree.root
+
+-- A catalog's tree has become another with these nodes and the same root page, and the pages of other trees are as they were.
 pub record CatalogBecomes (old : Frames) (was : CatalogTree) (new : Frames) (is : CatalogTree) (list : List Node) : Type 0 where
   pub tree : IsCatalogTree new is
   pub nodes : nodes_in new is ≡ list
   pub pages : Exchanges old new (own_pages old was) (own_pages new is)
+  pub root : root_of is ≡ root_of was

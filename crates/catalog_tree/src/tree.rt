@@ -8,7 +8,7 @@ ghost use Rattle.btree_inplace.specs.Order.{after_in, extent_in, first_in, get_i
 ghost use Rattle.btree_inplace.specs.Trees.{AreApart, Exchanges};
 ghost use Rattle.catalog_grammar.specs.CatalogBytes.{catalog_node};
 ghost use Rattle.catalog_grammar.specs.Catalogs.{catalog_nodes};
-ghost use Rattle.catalog_tree.specs.CatalogTrees.{CatalogBecomes, IsCatalogTree, nodes_in, own_pages};
+ghost use Rattle.catalog_tree.specs.CatalogTrees.{CatalogBecomes, IsCatalogTree, nodes_in, own_pages, root_of};
 ghost use Rattle.catalog_tree.specs.declared.tree.CatalogTree.{CatalogTree};
 
 use btree_inplace::{Tree, other_tree_stays};
@@ -41,6 +41,13 @@ impl CatalogTree {
                 Err(fault)
             }
         }
+    }
+
+    /// The number of the root page of the catalog, which stays the same while the catalog stands.
+    pub fn root(&self) -> u32
+        ensures { result ≡ root_of self.now }
+    {
+        self.tree.root()
     }
 
     /// Puts a node in its place, under a key that is not there. After a refusal the nodes are the same.

@@ -14,6 +14,10 @@ entries_of frames index = map entry_of_node (nodes_of frames index.tree)
 abbrev pub own_pages : Frames → IndexTree → List ℕ
 own_pages frames index = pages_of frames index.tree
 
+-- the root page of its tree
+abbrev pub root_of : IndexTree → ℕ
+root_of index = index.tree.root
+
 -- The tree has a node for each entry and no other. No entry's key begins the key of another: so the nodes have the order of the entries.
 pub record IsIndexTree (frames : Frames) (index : IndexTree) : Type 0 where
   pub tree : IsTree frames index.tree

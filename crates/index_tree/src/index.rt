@@ -9,7 +9,7 @@ ghost use Rattle.index_derive.specs.Entries.{insert_entry};
 ghost use Rattle.cursor_nav.specs.Places.{entry_after, entry_before, found_pair, pair_lt};
 ghost use Rattle.derived_index.specs.KeptEntries.{has_entry, has_key, without_entry};
 ghost use Rattle.index_tree.specs.Entries.{CutsAt, IsApartFromAll};
-ghost use Rattle.index_tree.specs.IndexTrees.{IsIndexTree, entries_of, own_pages};
+ghost use Rattle.index_tree.specs.IndexTrees.{IsIndexTree, entries_of, own_pages, root_of};
 ghost use Rattle.index_tree.specs.declared.index.IndexTree.{IndexTree};
 
 use crate::parts::{NodeKey, entry_of, gap_bookmark, joined, parts};
@@ -41,6 +41,13 @@ impl IndexTree {
         }
     }
 
+    /// The number of the root page of the index, which stays the same while the index stands.
+    pub fn root(&self) -> u32
+        ensures { result ≡ root_of self.now }
+    {
+        self.tree.root()
+    }
+
     /// Puts an entry that is not there in its place. After a refusal the entries are the same.
     pub fn insert(
         &mut self,
@@ -57,6 +64,7 @@ impl IndexTree {
         ensures ok { OnOk result (entries_of space.new self.new ≡ insert_entry (key.now, bookmark.now) (entries_of space.old self.old)) }
         ensures err { OnErr result (entries_of space.new self.new ≡ entries_of space.old self.old) }
         ensures pages { Exchanges space.old space.new (own_pages space.old self.old) (own_pages space.new self.new) }
+        ensures root { root_of self.new ≡ root_of self.old }
     {
         let mut size = [0; 2];
         LittleEndian::write_u16(&mut size, key.len() as u16);
@@ -72,6 +80,7 @@ impl IndexTree {
         ensures index { IsIndexTree space.new self.new }
         ensures entries { entries_of space.new self.new ≡ without_entry key.now bookmark.now (entries_of space.old self.old) }
         ensures pages { Exchanges space.old space.new (own_pages space.old self.old) (own_pages space.new self.new) }
+        ensures root { root_of self.new ≡ root_of self.old }
     {
         let node_key = joined(key, bookmark);
         self.tree.remove(space, node_key.as_slice());

@@ -63,14 +63,15 @@ exchanges_written old new before after same others = record {
 -- ---- trees
 
 pub becomes_same : (frames : Frames) (tree : Tree) → IsTree frames tree → Becomes frames tree frames tree (nodes_of frames tree)
-becomes_same frames tree is = record { tree = is; has = refl; pages = exchanges_none frames (pages_of frames tree) }
+becomes_same frames tree is = record { tree = is; has = refl; pages = exchanges_none frames (pages_of frames tree); root = refl }
 
 pub becomes_then : (a b c : Frames) (first second third : Tree) (nodes nodes' : List Node) → Becomes a first b second nodes → Becomes b second c third nodes' → Becomes a first c third nodes'
 becomes_then a b c first second third nodes nodes' s t = record {
   tree = t.tree;
   has = t.has;
   pages = exchanges_then a b c (pages_of a first) (pages_of b second) (pages_of c third) s.pages t.pages;
+  root = t.root ∙ s.root;
 }
 
 pub becomes_as : (old : Frames) (was : Tree) (new : Frames) (is : Tree) (nodes nodes' : List Node) → nodes ≡ nodes' → Becomes old was new is nodes → Becomes old was new is nodes'
-becomes_as old was new is nodes nodes' e b = record { tree = b.tree; has = b.has ∙ e; pages = b.pages }
+becomes_as old was new is nodes nodes' e b = record { tree = b.tree; has = b.has ∙ e; pages = b.pages; root = b.root }

@@ -45,16 +45,16 @@ chunks_back a b c d s t u v id bytes k few lacks x y z =
     (ap (without_chunks id k) (y.has ∙ x.has) ∙ chunks_out id bytes k (nodes_of a s) few lacks)
     (becomes_then a b d s t v (with_chunks id bytes k (nodes_of a s)) (without_chunks id k (nodes_of c u)) x (becomes_then b c d t u v (nodes_of b t) (without_chunks id k (nodes_of c u)) y z))
 
-chunk_less : (a b c : Frames) (s t u : Tree) (id key : List ℕ) (k : ℕ) (nodes : List Node) → Becomes a s b t (without_chunks id k nodes) → key ≡ chunk_key id (suc k) → IsTree c u → nodes_of c u ≡ without_key (nodes_of b t) key → Exchanges b c (pages_of b t) (pages_of c u) → Becomes a s c u (without_chunks id (suc k) nodes)
-chunk_less a b c s t u id key k nodes x e tree has pages =
+chunk_less : (a b c : Frames) (s t u : Tree) (id key : List ℕ) (k : ℕ) (nodes : List Node) → Becomes a s b t (without_chunks id k nodes) → key ≡ chunk_key id (suc k) → IsTree c u → nodes_of c u ≡ without_key (nodes_of b t) key → Exchanges b c (pages_of b t) (pages_of c u) → u.root ≡ t.root → Becomes a s c u (without_chunks id (suc k) nodes)
+chunk_less a b c s t u id key k nodes x e tree has pages root =
     becomes_then a b c s t u (without_chunks id k nodes) (without_chunks id (suc k) nodes) x
-    (record { tree = tree; has = has ∙ ap (without_key (nodes_of b t)) e ∙ ap (λ l. without_key l (chunk_key id (suc k))) x.has; pages = pages })
+    (record { tree = tree; has = has ∙ ap (without_key (nodes_of b t)) e ∙ ap (λ l. without_key l (chunk_key id (suc k))) x.has; pages = pages; root = root })
 
-pub next_less : (a b c : Frames) (s t u : Tree) (id key : List ℕ) (k : ℕ) (nodes : List Node) → Becomes a s b t (without_chunks id k nodes) → key ≡ chunk_key id (suc k) → IsTree c u → nodes_of c u ≡ without_key (nodes_of b t) key → Exchanges b c (pages_of b t) (pages_of c u) → Becomes a s c u (without_chunks id (k + 1) nodes)
-next_less a b c s t u id key k nodes x e tree has pages = subst (λ n. Becomes a s c u (without_chunks id n nodes)) (plus_one k) (chunk_less a b c s t u id key k nodes x e tree has pages)
+pub next_less : (a b c : Frames) (s t u : Tree) (id key : List ℕ) (k : ℕ) (nodes : List Node) → Becomes a s b t (without_chunks id k nodes) → key ≡ chunk_key id (suc k) → IsTree c u → nodes_of c u ≡ without_key (nodes_of b t) key → Exchanges b c (pages_of b t) (pages_of c u) → u.root ≡ t.root → Becomes a s c u (without_chunks id (k + 1) nodes)
+next_less a b c s t u id key k nodes x e tree has pages root = subst (λ n. Becomes a s c u (without_chunks id n nodes)) (plus_one k) (chunk_less a b c s t u id key k nodes x e tree has pages root)
 
-pub head_put : (a b c : Frames) (s t u : Tree) (id key d : List ℕ) (value : LongValue) → Becomes a s b t (with_chunks id value.bytes (chunk_count (length value.bytes)) (nodes_of a s)) → key ≡ chunk_key id 0 → d ≡ head_data value → IsTree c u → nodes_of c u ≡ inserted (nodes_of b t) (record { key = key; extent = 8; «data» = d }) → Exchanges b c (pages_of b t) (pages_of c u) → Becomes a s c u (with_value id value (nodes_of a s))
-head_put a b c s t u id key d value x k e tree has pages =
+pub head_put : (a b c : Frames) (s t u : Tree) (id key d : List ℕ) (value : LongValue) → Becomes a s b t (with_chunks id value.bytes (chunk_count (length value.bytes)) (nodes_of a s)) → key ≡ chunk_key id 0 → d ≡ head_data value → IsTree c u → nodes_of c u ≡ inserted (nodes_of b t) (record { key = key; extent = 8; «data» = d }) → Exchanges b c (pages_of b t) (pages_of c u) → u.root ≡ t.root → Becomes a s c u (with_value id value (nodes_of a s))
+head_put a b c s t u id key d value x k e tree has pages root =
     becomes_then a b c s t u (with_chunks id value.bytes (chunk_count (length value.bytes)) (nodes_of a s)) (with_value id value (nodes_of a s)) x
     (record {
       tree = tree;
@@ -63,13 +63,14 @@ head_put a b c s t u id key d value x k e tree has pages =
           ∙ ap (λ (y : List ℕ). inserted (nodes_of b t) (record { key = chunk_key id 0; extent = 8; «data» = y })) e
           ∙ ap (λ l. inserted l (record { key = chunk_key id 0; extent = 8; «data» = head_data value })) x.has;
       pages = pages;
+      root = root;
     })
 
 -- the head behind the chunks
-pub head_out : (a b c : Frames) (s t u : Tree) (id key : List ℕ) (n : ℕ) → Becomes a s b t (without_chunks id n (nodes_of a s)) → key ≡ chunk_key id 0 → IsTree c u → nodes_of c u ≡ without_key (nodes_of b t) key → Exchanges b c (pages_of b t) (pages_of c u) → Becomes a s c u (without_key (without_chunks id n (nodes_of a s)) (chunk_key id 0))
-head_out a b c s t u id key n x e tree has pages =
+pub head_out : (a b c : Frames) (s t u : Tree) (id key : List ℕ) (n : ℕ) → Becomes a s b t (without_chunks id n (nodes_of a s)) → key ≡ chunk_key id 0 → IsTree c u → nodes_of c u ≡ without_key (nodes_of b t) key → Exchanges b c (pages_of b t) (pages_of c u) → u.root ≡ t.root → Becomes a s c u (without_key (without_chunks id n (nodes_of a s)) (chunk_key id 0))
+head_out a b c s t u id key n x e tree has pages root =
     becomes_then a b c s t u (without_chunks id n (nodes_of a s)) (without_key (without_chunks id n (nodes_of a s)) (chunk_key id 0)) x
-    (record { tree = tree; has = has ∙ ap (without_key (nodes_of b t)) e ∙ ap (λ l. without_key l (chunk_key id 0)) x.has; pages = pages })
+    (record { tree = tree; has = has ∙ ap (without_key (nodes_of b t)) e ∙ ap (λ l. without_key l (chunk_key id 0)) x.has; pages = pages; root = root })
 
 pub head_still : (id key : List ℕ) (n : ℕ) (nodes now : List Node) (head : Node) → n ≤ 1024 → key ≡ chunk_key id 0 → now ≡ without_chunks id n nodes → find (has_key (chunk_key id 0)) nodes ≡ Some head → IsSome (find (has_key key) now)
 head_still id key n nodes now head few k e there =

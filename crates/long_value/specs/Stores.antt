@@ -16,6 +16,10 @@ id_bytes id = big_bytes 8 id.entry ++ big_bytes 4 id.place
 abbrev pub own_pages : Frames → LongValues → List ℕ
 own_pages frames store = pages_of frames store.tree
 
+-- the root page of its tree
+abbrev pub root_of : LongValues → ℕ
+root_of store = store.tree.root
+
 -- The store's tree has the nodes of these values and no other.
 pub record HasValues (frames : Frames) (store : LongValues) (values : Values) : Type 0 where
   pub tree : IsTree frames store.tree
@@ -31,11 +35,12 @@ HoldsValue frames store id value = (values : Values) × HasValues frames store v
 abbrev pub HasNoValue : Frames → LongValues → LongId → Type 0
 HasNoValue frames store id = (values : Values) × HasValues frames store values × (value_of (id_bytes id) values ≡ None)
 
--- A tree has changed, so that it has these nodes; other trees' pages are as they were.
+-- A tree has changed, so that it has these nodes and the same root page; other trees' pages are as they were.
 pub record Becomes (old : Frames) (was : Tree) (new : Frames) (is : Tree) (nodes : List Node) : Type 0 where
   pub tree : IsTree new is
   pub has : nodes_of new is ≡ nodes
   pub pages : Exchanges old new (pages_of old was) (pages_of new is)
+  pub root : is.root ≡ was.root
 
 -- the first bytes of a value with what stood behind them
 abbrev pub read_upto : ℕ → List ℕ → List ℕ → List ℕ

@@ -4,7 +4,7 @@ ghost use Rattle.std.specs.Prelude.{◌≡◌, ◌≤◌, ◌<◌, ◌*◌, ℕ,
 ghost use Rattle.page_space.specs.Frames.{Frames};
 ghost use Rattle.btree_inplace.specs.Trees.{AreApart, Exchanges};
 ghost use Rattle.long_value.specs.Values.{LongValue, Values, chunk_of, head_data, put_value, released, value_of, without_value};
-ghost use Rattle.long_value.specs.Stores.{HasNoValue, HasValues, HoldsValue, IsLongStore, id_bytes, own_pages, read_upto};
+ghost use Rattle.long_value.specs.Stores.{HasNoValue, HasValues, HoldsValue, IsLongStore, id_bytes, own_pages, read_upto, root_of};
 ghost use Rattle.long_value.specs.Shown.{values_in};
 ghost use Rattle.long_value.specs.declared.values.LongValues.{LongValues};
 
@@ -51,6 +51,13 @@ impl LongValues {
         self.tree.give_back(space);
     }
 
+    /// The number of the root page of the values, which stays the same while they stand.
+    pub fn root(&self) -> u32
+        ensures { result ≡ root_of self.now }
+    {
+        self.tree.root()
+    }
+
     /// Whether a value is there.
     pub fn has(&self, space: &Space, id: LongId) -> bool
         requires { IsLongStore space.now self.now }
@@ -71,6 +78,7 @@ impl LongValues {
         ensures ok { OnOk result ((values : Values) → HasValues space.old self.old values → HasValues space.new self.new (put_value (id_bytes id) (record { count = 1; bytes = bytes.now }) values)) }
         ensures err { OnErr result ((values : Values) → HasValues space.old self.old values → HasValues space.new self.new values) }
         ensures pages { Exchanges space.old space.new (own_pages space.old self.old) (own_pages space.new self.new) }
+        ensures root { root_of self.new ≡ root_of self.old }
     {
         put_value(&mut self.tree, space, id, bytes)
     }
@@ -81,6 +89,7 @@ impl LongValues {
         ensures store { IsLongStore space.new self.new }
         ensures values { (values : Values) (value : LongValue) → HasValues space.old self.old values → value_of (id_bytes id) values ≡ Some value → HasValues space.new self.new (put_value (id_bytes id) (record value { count = suc value.count }) values) }
         ensures pages { Exchanges space.old space.new (own_pages space.old self.old) (own_pages space.new self.new) }
+        ensures root { root_of self.new ≡ root_of self.old }
     {
         let count = self.count(space, id);
         self.set_count(space, id, count + 1);
@@ -92,6 +101,7 @@ impl LongValues {
         ensures store { IsLongStore space.new self.new }
         ensures values { (values : Values) (value : LongValue) → HasValues space.old self.old values → value_of (id_bytes id) values ≡ Some value → HasValues space.new self.new (released (id_bytes id) value values) }
         ensures pages { Exchanges space.old space.new (own_pages space.old self.old) (own_pages space.new self.new) }
+        ensures root { root_of self.new ≡ root_of self.old }
     {
         let count = self.count(space, id);
         if count == 1 {
@@ -176,6 +186,7 @@ impl LongValues {
         requires some { 1 ≤ count }
         ensures values { (values : Values) (value : LongValue) → HasValues space.old self.old values → value_of (id_bytes id) values ≡ Some value → HasValues space.new self.new (put_value (id_bytes id) (record value { count = count }) values) }
         ensures pages { Exchanges space.old space.new (own_pages space.old self.old) (own_pages space.new self.new) }
+        ensures root { root_of self.new ≡ root_of self.old }
     {
         let head = head_bytes(count, self.length(space, id));
         self.tree
@@ -187,6 +198,7 @@ impl LongValues {
         requires { (value : LongValue) × HoldsValue space.old self.old id value }
         ensures values { (values : Values) (value : LongValue) → HasValues space.old self.old values → value_of (id_bytes id) values ≡ Some value → HasValues space.new self.new (without_value (id_bytes id) values) }
         ensures pages { Exchanges space.old space.new (own_pages space.old self.old) (own_pages space.new self.new) }
+        ensures root { root_of self.new ≡ root_of self.old }
     {
         let count = chunk_count(self.length(space, id) as usize);
         take_chunks(&mut self.tree, space, id, count);

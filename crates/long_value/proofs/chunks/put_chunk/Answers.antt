@@ -26,4 +26,5 @@ returns-clause-ok c =
           e ∙ ap (λ (k : List ℕ). inserted nodes (record { key = k; extent = length d; «data» = d })) key
           ∙ ap (λ (x : List ℕ). inserted nodes (record { key = chunk_key (id_bytes c.args.id) (suc c.args.k); extent = length x; «data» = x })) c.chunk_of-chunk.ensures.chunk;
       pages = c.insert.ensures.pages;
+      root = c.insert.ensures.root;
     }) c.insert.ensures.ok

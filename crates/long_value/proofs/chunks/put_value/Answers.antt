@@ -41,7 +41,7 @@ returns-in-Ok-clause-ok c =
     let head : c.as_slice-2.result.now ≡ head_data value = c.as_slice-2.ensures ∙ c.head_bytes-head.ensures in
     let put : Becomes c.args.space.now c.args.tree.now c.put_chunks.new.space c.put_chunks.new.tree (with_chunks id bytes (chunk_count (length bytes)) nodes) = c.in_ok-put_chunks.ensures.ok in
     head_put c.args.space.now c.put_chunks.new.space c.insert.new.space c.args.tree.now c.put_chunks.new.tree c.insert.new.self id c.as_slice.result.now c.as_slice-2.result.now value
-    put key head c.in-Ok.ensures.tree c.in-Ok.ensures.ok c.in-Ok.ensures.pages
+    put key head c.in-Ok.ensures.tree c.in-Ok.ensures.ok c.in-Ok.ensures.pages c.in-Ok.ensures.root
 
 pub returns-in-Err-clause-err : goal.returns-in-Err-clause-err
 returns-in-Err-clause-err c =
@@ -51,7 +51,7 @@ returns-in-Err-clause-err c =
     let lacks : LacksValue id nodes = c.requires.absent in
     let put : Becomes c.args.space.now c.args.tree.now c.put_chunks.new.space c.put_chunks.new.tree (with_chunks id bytes (chunk_count (length bytes)) nodes) = c.in_ok-put_chunks.ensures.ok in
     let count : c.chunk_count.result ≡ chunk_count (length bytes) = c.chunk_count.ensures.count in
-    let same : Becomes c.put_chunks.new.space c.put_chunks.new.tree c.insert.new.space c.insert.new.self (nodes_of c.put_chunks.new.space c.put_chunks.new.tree) = record { tree = c.in-Err.ensures.tree; has = c.in-Err.ensures.err; pages = c.in-Err.ensures.pages } in
+    let same : Becomes c.put_chunks.new.space c.put_chunks.new.tree c.insert.new.space c.insert.new.self (nodes_of c.put_chunks.new.space c.put_chunks.new.tree) = record { tree = c.in-Err.ensures.tree; has = c.in-Err.ensures.err; pages = c.in-Err.ensures.pages; root = c.in-Err.ensures.root } in
     let out : Becomes c.insert.new.space c.insert.new.self c.take_chunks.new.space c.take_chunks.new.tree (without_chunks id c.chunk_count.result (nodes_of c.insert.new.space c.insert.new.self)) = c.take_chunks.ensures in
     chunks_back c.args.space.now c.put_chunks.new.space c.insert.new.space c.take_chunks.new.space c.args.tree.now c.put_chunks.new.tree c.insert.new.self c.take_chunks.new.tree id bytes (chunk_count (length bytes))
     (few_chunks (length bytes) c.requires.short) lacks put same

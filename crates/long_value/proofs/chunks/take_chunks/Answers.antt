@@ -25,4 +25,4 @@ loop-k-preserved c =
     let k = c.loop-k.k in
     let key : c.as_slice.result.now ≡ chunk_key id (suc k) = c.as_slice.ensures ∙ c.chunk_key-key.ensures ∙ next_key id k in
     next_less c.args.space.now c.loop-k.space c.remove.new.space c.args.tree.now c.loop-k.tree c.remove.new.self id c.as_slice.result.now k (nodes_of c.args.space.now c.args.tree.now)
-    c.loop-k.invariant key c.remove.ensures.tree c.remove.ensures.nodes c.remove.ensures.pages
+    c.loop-k.invariant key c.remove.ensures.tree c.remove.ensures.nodes c.remove.ensures.pages c.remove.ensures.root

@@ -40,7 +40,7 @@ returns-clause-values c values value has e =
     let key : c.as_slice.result.now ≡ chunk_key id 0 = c.as_slice.ensures ∙ c.chunk_key.ensures in
     let nodes = nodes_of c.args.space.now c.args.self.now.tree in
     let out : Becomes c.args.space.now c.args.self.now.tree c.take_chunks.new.space c.take_chunks.new.tree (without_chunks id c.chunk_count-count.result nodes) = c.take_chunks.ensures in
-    let all = head_out c.args.space.now c.take_chunks.new.space c.remove.new.space c.args.self.now.tree c.take_chunks.new.tree c.remove.new.self id c.as_slice.result.now c.chunk_count-count.result out key c.remove.ensures.tree c.remove.ensures.nodes c.remove.ensures.pages in
+    let all = head_out c.args.space.now c.take_chunks.new.space c.remove.new.space c.args.self.now.tree c.take_chunks.new.tree c.remove.new.self id c.as_slice.result.now c.chunk_count-count.result out key c.remove.ensures.tree c.remove.ensures.nodes c.remove.ensures.pages c.remove.ensures.root in
     taken_now c.args.space.now c.remove.new.space c.args.self.now c.remove.new.self c.args.id values value has e
     (subst (λ n. Becomes c.args.space.now c.args.self.now.tree c.remove.new.space c.remove.new.self (without_key (without_chunks id n nodes) (chunk_key id 0))) count all)
 
@@ -50,5 +50,5 @@ returns-clause-pages c =
     let key : c.as_slice.result.now ≡ chunk_key id 0 = c.as_slice.ensures ∙ c.chunk_key.ensures in
     let nodes = nodes_of c.args.space.now c.args.self.now.tree in
     let out : Becomes c.args.space.now c.args.self.now.tree c.take_chunks.new.space c.take_chunks.new.tree (without_chunks id c.chunk_count-count.result nodes) = c.take_chunks.ensures in
-    let all = head_out c.args.space.now c.take_chunks.new.space c.remove.new.space c.args.self.now.tree c.take_chunks.new.tree c.remove.new.self id c.as_slice.result.now c.chunk_count-count.result out key c.remove.ensures.tree c.remove.ensures.nodes c.remove.ensures.pages in
+    let all = head_out c.args.space.now c.take_chunks.new.space c.remove.new.space c.args.self.now.tree c.take_chunks.new.tree c.remove.new.self id c.as_slice.result.now c.chunk_count-count.result out key c.remove.ensures.tree c.remove.ensures.nodes c.remove.ensures.pages c.remove.ensures.root in
     all.pages
