@@ -3,4 +3,3 @@ pub mod FileLemmas
 pub mod OpenFiles
 pub mod Calls
 pub mod Outcomes
-pub mod MemoryFolders

@@ -11,4 +11,3 @@ pub mod Handles
 pub mod Opened
 pub mod System
 pub mod Disk
-pub mod MemoryFolder

@@ -2,7 +2,8 @@
 
 use crate::uses::{FILES, has_own_path, is_used, sync_one};
 use jet_io::Failed;
-use jet_volume::{File, FolderVolume, MemFile, MemFolder, Volume};
+use jet_volume::{File, FolderVolume, Volume};
+use mem_folder::{MemFile, MemFolder};
 use std::alloc::Global;
 use std::process::Abort;
 use std::test::*;

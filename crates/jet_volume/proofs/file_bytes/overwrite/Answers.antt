@@ -1,6 +1,6 @@
 use Rattle.std.proofs.Common.{◌+◌, ℕ, List, ◌++◌, length, take, drop, ◌∙◌, ap, arith}
 use Rattle.jet_volume.proofs.Bytes.{lent_whole, overwrites}
-use Rattle.jet_volume.proofs.noting.overwrite.Goals as goal
+use Rattle.jet_volume.proofs.file_bytes.overwrite.Goals as goal
 
 pub returns : goal.returns
 returns c =
