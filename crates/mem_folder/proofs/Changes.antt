@@ -4,7 +4,7 @@ use Rattle.std.specs.Prelude.{if◌then◌else◌, Option, Some, None, IsTrue}
 use Rattle.std.proofs.lemmas.Option.{none-some, same_Some}
 use Rattle.std.proofs.lemmas.Slice.Eq.{bytes_eq-Decides}
 use Rattle.std.specs.declared.io.ErrorKind.TheVariants.{NotFound}
-use Rattle.jet_volume.specs.Folder.{SameFiles, SameOtherFiles}
+use Rattle.folder_volume.specs.Folder.{SameFiles, SameOtherFiles}
 use Rattle.mem_folder.specs.declared.folder.MemFolder.{MemFolder}
 use Rattle.mem_folder.specs.Files.{FileState, is_at, found, bytes_of, is_saved, is_named, changed, with_change, missing}
 use Rattle.mem_folder.specs.Folder.{state_of, file_at, mem_bytes_at, mem_is_synced, mem_is_listed}

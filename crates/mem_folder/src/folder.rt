@@ -4,15 +4,16 @@ ghost use Rattle.std.specs.Prelude.{◌≡◌, ◌<◌, ◌+◌, ◌-◌, ◌^�
 ghost use Rattle.std.specs.IoError.{error_kind};
 ghost use Rattle.jet_io.specs.Schedule.{IsOneCallLater};
 ghost use Rattle.jet_volume.specs.Crash.{written, Torn};
-ghost use Rattle.jet_volume.specs.Folder.{SameFiles, SameOtherFiles};
+ghost use Rattle.folder_volume.specs.Folder.{SameFiles, SameOtherFiles};
 ghost use Rattle.mem_folder.specs.Files.{after_write, after_sync, with_opened, FailsFor, FailsForOrMemory};
 ghost use Rattle.mem_folder.specs.Folder.{state_of, schedule_of, file_at, with_files, with_file, with_changed, with_listed, scheduled, refused, mem_bytes_at, mem_is_synced, mem_is_listed, path_of_handle};
 
 use crate::files;
 use crate::files::MemFile;
+use folder_volume::Folder;
 use jet_base::OutOfMemory;
 use jet_io::Schedule;
-use jet_volume::{Folder, a_front_came_in_part, copy_from};
+use jet_volume::{a_front_came_in_part, copy_from};
 use std::alloc::Global;
 use std::io;
 use std::io::ErrorKind;
