@@ -1,6 +1,4 @@
 pub mod Bytes
 pub mod FileLemmas
-pub mod OpenFiles
 pub mod Calls
 pub mod Outcomes
-pub mod MemoryFolders

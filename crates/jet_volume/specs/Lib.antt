@@ -5,10 +5,3 @@ pub mod Record
 pub mod RecordLaws
 pub mod Covers
 pub mod Memory
-pub mod Names
-pub mod Folder
-pub mod Handles
-pub mod Opened
-pub mod System
-pub mod Disk
-pub mod MemoryFolder

@@ -1,8 +1,8 @@
-//! How what a crash may leave composes over time. These hold for every volume.
+//! How what a crash may leave composes over time, for every volume, and what of a write comes in part.
 
-ghost use Rattle.std.specs.Prelude.{◌≤◌, ◌<◌, ◌⊎◌, ℕ};
+ghost use Rattle.std.specs.Prelude.{◌≤◌, ◌<◌, ◌⊎◌, ℕ, List, length};
 ghost use Rattle.jet_volume.specs.Image.{Image};
-ghost use Rattle.jet_volume.specs.Crash.{LeftBetween, LeftSince, Elapses, CrashLeaves, LeavesOnly};
+ghost use Rattle.jet_volume.specs.Crash.{written, Torn, LeftBetween, LeftSince, Elapses, CrashLeaves, LeavesOnly};
 
 use crate::volume::Volume;
 
@@ -18,4 +18,9 @@ pub fn moments_compose<V: Volume>()
         → LeftBetween V.moment V.left_at new t u image → LeftBetween V.moment V.left_at old t u image }
     ensures kept { (old new : V) (t u : ℕ) (image : Image) → Elapses V.moment V.left_at old new → u ≤ V.moment old
         → LeftBetween V.moment V.left_at old t u image → LeftBetween V.moment V.left_at new t u image }
+{}
+
+/// A write of a front of a piece is one of the piece that came in part. It does nothing: its clause is the law.
+pub fn a_front_came_in_part()
+    ensures { (at n : ℕ) (front bytes : List ℕ) → length front ≤ n → Torn at n bytes (written at front bytes) }
 {}

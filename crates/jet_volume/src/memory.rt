@@ -6,6 +6,7 @@ ghost use Rattle.jet_io.specs.Schedule.{fails_next};
 ghost use Rattle.jet_volume.specs.Image.{Image, no_bytes, file_bytes, with_file};
 ghost use Rattle.jet_volume.specs.Crash.{written, TornFile, IsSettled, CrashLeaves, CrashFollows, Elapses};
 
+use crate::file_bytes::copy_from;
 use crate::contents::Contents;
 use crate::crash::crashed;
 use crate::files::File;
@@ -223,17 +224,6 @@ impl Volume for MemVolume {
     fn faults(&self) -> u64 {
         self.faults.shown()
     }
-}
-
-/// Copies to the front of `into` what stands from an offset on.
-pub fn copy_from(bytes: &[u8], at: u64, into: &mut [u8]) -> usize
-    ensures count { result ≡ min (length into.old) (length bytes.now - at) }
-    ensures bytes { take result into.new ≡ take result (drop at bytes.now) }
-{
-    let start = (at as usize).min(bytes.len());
-    let count = into.len().min(bytes.len() - start);
-    into[..count].copy_from_slice(&bytes[start..start + count]);
-    count
 }
 
 /// A refused growth is a fault, which is counted apart as well.

@@ -1,10 +1,11 @@
 //! A write or a sync of a volume in memory is noted before it is done.
 
-ghost use Rattle.std.specs.Prelude.{◌≡◌, ◌⊎◌, ◌∷◌, ◌≤◌, ◌<◌, ◌+◌, ◌-◌, ◌^◌, ◌++◌, reverse, length, take, drop, replicate, vec_capacity, IfOk, OnOk, OnErr};
+ghost use Rattle.std.specs.Prelude.{◌≡◌, ◌⊎◌, ◌∷◌, ◌≤◌, ◌<◌, ◌+◌, ◌-◌, ◌^◌, reverse, length, take, drop, vec_capacity, IfOk, OnOk, OnErr};
 ghost use Rattle.jet_volume.specs.Crash.{written};
 ghost use Rattle.jet_volume.specs.Covers.{Covers};
 ghost use Rattle.jet_volume.specs.declared.record.Call.{Call};
 
+use crate::file_bytes::overwrite;
 use crate::files::File;
 use crate::record::{Call, Change};
 use jet_io::FaultCount;
@@ -69,34 +70,4 @@ fn make_ready(bytes: &mut Vec<u8>, at: usize, len: usize) -> Result<Change, Allo
         covered,
         size,
     })
-}
-
-/// Writes a piece where there is room for it.
-pub fn overwrite(bytes: &mut Vec<u8>, at: usize, piece: &[u8])
-    requires short { at + length piece.now ≤ 2 ^ 40 }
-    requires room { at + length piece.now ≤ vec_capacity bytes.old }
-    ensures { bytes.new.items ≡ written at piece.now bytes.old.items }
-{
-    let end = at + piece.len();
-    grow(bytes, end);
-    put(bytes, at, piece);
-}
-
-/// Writes a piece over bytes that are there.
-fn put(bytes: &mut [u8], at: usize, piece: &[u8])
-    requires { at + length piece.now ≤ length bytes.old }
-    ensures { bytes.new ≡ take at bytes.old ++ piece.now ++ drop (at + length piece.now) bytes.old }
-{
-    bytes[at..at + piece.len()].copy_from_slice(piece);
-}
-
-/// Adds zeros up to an end.
-fn grow(bytes: &mut Vec<u8>, end: usize)
-    requires { end ≤ vec_capacity bytes.old }
-    ensures { bytes.new.items ≡ bytes.old.items ++ replicate (end - length bytes.old.items) 0 }
-{
-    if bytes.len() < end {
-        // The room is there, so this takes no memory.
-        let _reserved = bytes.resize(end, 0);
-    }
 }

@@ -1,8 +1,9 @@
 //! Volumes in memory and over real files: each call of a run fails or is the last, and what a crash leaves then.
 
+use folder_volume::FileVolume;
 use jet_base::OutOfMemory;
 use jet_io::Failed;
-use jet_volume::{File, FileVolume, MemVolume, Volume};
+use jet_volume::{File, MemVolume, Volume};
 use std::alloc::Global;
 use std::fs;
 use std::process::Abort;

@@ -2,8 +2,9 @@
 
 use crate::memory_files::{Disk, MemorySystem};
 use crate::uses::{FILES, has_own_path, is_used};
+use folder_volume::FileVolume;
 use jet_io::Failed;
-use jet_volume::{File, FileVolume, Volume};
+use jet_volume::{File, Volume};
 use std::alloc::Global;
 use std::cell::RefCell;
 use std::process::Abort;

@@ -1,8 +1,10 @@
 //! Volumes over a folder in memory.
 
 use crate::uses::{FILES, has_own_path, is_used, sync_one};
+use folder_volume::FolderVolume;
 use jet_io::Failed;
-use jet_volume::{File, FolderVolume, MemFile, MemFolder, Volume};
+use jet_volume::{File, Volume};
+use mem_folder::{MemFile, MemFolder};
 use std::alloc::Global;
 use std::process::Abort;
 use std::test::*;

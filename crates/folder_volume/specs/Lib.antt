@@ -1,0 +1,6 @@
+pub mod Names
+pub mod Folder
+pub mod Handles
+pub mod Opened
+pub mod System
+pub mod Disk
