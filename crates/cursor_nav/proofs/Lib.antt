@@ -1,3 +1,4 @@
+pub mod Arriving
 pub mod Counting
 pub mod Cutting
 pub mod InOrder

@@ -45,6 +45,11 @@ place_bookmark _ = []
 abbrev pub place_pair : Place → Pair
 place_pair place = (place_key place, place_bookmark place)
 
+-- on the entry, or else this place
+abbrev pub on_or : Option Pair → Place → Place
+on_or None place = place
+on_or (Some entry) place = On entry.0 entry.1
+
 -- ---- neighbours of a place
 
 -- A gap stands just above all entries with its key, or just below them.

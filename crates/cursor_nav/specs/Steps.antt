@@ -1,24 +1,32 @@
 -- What the steps of a cursor's calls do.
-use Rattle.std.specs.Prelude.{ℕ, Bool, true, false, not, List, [], ◌∷◌, reverse, find, filter, Option, Some, None, if◌then◌else◌, bytes_eq}
+use Rattle.std.specs.Prelude.{ℕ, Bool, true, false, not, ◌&&◌, List, [], ◌∷◌, reverse, find, filter, Option, Some, None, if◌then◌else◌, bytes_eq}
 use Rattle.std.specs.List.{last_or}
 use Rattle.jet_base.specs.declared.replies.Jet.TheVariants as jet
 use Rattle.index_derive.specs.declared.entries.Place.{Place}
 use Rattle.index_derive.specs.declared.entries.Place.TheVariants.{On}
 use Rattle.index_derive.specs.declared.entries.IndexEntry.{IndexEntry}
-use Rattle.cursor_nav.specs.Places.{Pair, KeyRange, pair_lt, pair_of, is_beyond, is_short_of, reaches_limit}
-use Rattle.cursor_nav.specs.Navigation.{CursorState, Navigated, found_or, limited}
+use Rattle.cursor_nav.specs.Places.{Pair, KeyRange, pair_lt, pair_of, is_beyond, is_short_of, is_within, place_at_limit, place_key, reaches_limit}
+use Rattle.cursor_nav.specs.Navigation.{CursorState, Navigated}
 
 -- on the entry that was found, or else at this place
 abbrev pub standing : CursorState → Option Pair → Place → CursorState
 standing cursor (Some entry) place = record cursor { place = On entry.0 entry.1 }
 standing cursor None place = record cursor { place = place }
 
--- a move that came upon this entry, where a range with an upper, or else with a lower limit concerns it
-abbrev pub moved_in : CursorState → Option Pair → Bool → Place → Option KeyRange → Navigated
-moved_in cursor found upper place None = found_or cursor jet.Success found jet.NoCurrentRecord place
-moved_in cursor found upper place (Some range) =
-    if (if upper then range.upper else not range.upper) then limited cursor range found
-    else found_or cursor jet.Success found jet.NoCurrentRecord place
+-- a move that came to an entry, or else stands at this place
+abbrev pub arrived : CursorState → Bool → Place → Navigated
+arrived cursor found place =
+    if found then record { jet = jet.Success; cursor = cursor }
+    else record { jet = jet.NoCurrentRecord; cursor = record cursor { place = place } }
+
+-- a move that came to the cursor's place, where a range with an upper, or else with a lower limit concerns it
+abbrev pub arrived_within : CursorState → Bool → Bool → Option KeyRange → Navigated
+arrived_within cursor found upper None = arrived cursor found cursor.place
+arrived_within cursor found upper (Some range) =
+    if (if upper then range.upper else not range.upper) then
+    (if found && is_within range (place_key cursor.place) then record { jet = jet.Success; cursor = cursor }
+    else record { jet = jet.NoCurrentRecord; cursor = record cursor { place = place_at_limit range; range = None } })
+    else arrived cursor found cursor.place
 
 -- whether the place is an entry, and some entry lies from there to the limit
 abbrev pub reaches_from : Place → KeyRange → List Pair → Bool

@@ -1,14 +1,14 @@
 //! Moves.
 
-ghost use Rattle.std.specs.Prelude.{◌≡◌};
+ghost use Rattle.std.specs.Prelude.{◌≡◌, IsTrue};
 ghost use Rattle.jet_base.specs.declared.words.Way.TheVariants as way;
-ghost use Rattle.cursor_nav.specs.Places.{found_pair};
-ghost use Rattle.cursor_nav.specs.Navigation.{moved, found_or, answer_of};
-ghost use Rattle.cursor_nav.specs.Steps.{moved_in};
+ghost use Rattle.cursor_nav.specs.Places.{is_on};
+ghost use Rattle.cursor_nav.specs.Navigation.{moved, answer_of};
+ghost use Rattle.cursor_nav.specs.Steps.{arrived, arrived_within};
 
 use crate::cursor::{Cursor, Moved};
 use crate::view::View;
-use index_derive::{IndexEntry, Place};
+use index_derive::Place;
 use jet_base::{Jet, Way};
 
 impl Cursor {
@@ -39,8 +39,9 @@ impl Cursor {
         ensures cursor { self.new ≡ (moved self.old (W.entries view.now self.old.table self.old.index) way.First).cursor }
     {
         self.range = None;
-        let first = view.after(self.table, self.index, &Place::Before);
-        self.arrive(first, Place::Before)
+        self.place = Place::Before;
+        let found = view.advance(self.table, self.index, &mut self.place);
+        self.arrive(found, Place::Before)
     }
 
     /// To the last entry. It ends the range.
@@ -50,8 +51,9 @@ impl Cursor {
         ensures cursor { self.new ≡ (moved self.old (W.entries view.now self.old.table self.old.index) way.Last).cursor }
     {
         self.range = None;
-        let last = view.before(self.table, self.index, &Place::After);
-        self.arrive(last, Place::After)
+        self.place = Place::After;
+        let found = view.retreat(self.table, self.index, &mut self.place);
+        self.arrive(found, Place::After)
     }
 
     /// To the next entry, within an upper limit.
@@ -60,8 +62,8 @@ impl Cursor {
         ensures answer { result ≡ answer_of (moved self.old (W.entries view.now self.old.table self.old.index) way.Next).jet 0 }
         ensures cursor { self.new ≡ (moved self.old (W.entries view.now self.old.table self.old.index) way.Next).cursor }
     {
-        let next = view.after(self.table, self.index, &self.place);
-        self.move_within(next, true, Place::After)
+        let found = view.advance(self.table, self.index, &mut self.place);
+        self.arrive_within(found, true)
     }
 
     /// To the previous entry, within a lower limit.
@@ -70,45 +72,40 @@ impl Cursor {
         ensures answer { result ≡ answer_of (moved self.old (W.entries view.now self.old.table self.old.index) way.Previous).jet 0 }
         ensures cursor { self.new ≡ (moved self.old (W.entries view.now self.old.table self.old.index) way.Previous).cursor }
     {
-        let previous = view.before(self.table, self.index, &self.place);
-        self.move_within(previous, false, Place::Before)
+        let found = view.retreat(self.table, self.index, &mut self.place);
+        self.arrive_within(found, false)
     }
 
-    /// Stands on the entry that was found, or else at this place.
-    fn arrive(&mut self, found: Option<IndexEntry>, otherwise: Place) -> Result<Moved, Jet>
-        ensures answer { result ≡ answer_of (found_or self.old Jet.Success (found_pair found) Jet.NoCurrentRecord otherwise).jet 0 }
-        ensures cursor { self.new ≡ (found_or self.old Jet.Success (found_pair found) Jet.NoCurrentRecord otherwise).cursor }
+    /// What a move answers that came to an entry, or else stands at this place.
+    fn arrive(&mut self, found: bool, otherwise: Place) -> Result<Moved, Jet>
+        ensures answer { result ≡ answer_of (arrived self.old found otherwise).jet 0 }
+        ensures cursor { self.new ≡ (arrived self.old found otherwise).cursor }
     {
-        if self.stand(found, otherwise) {
+        if found {
             Ok(Moved::success())
         } else {
+            self.place = otherwise;
             Err(Jet::NoCurrentRecord)
         }
     }
 
-    /// The same for a move that a range with an upper, or else with a lower limit concerns.
-    fn move_within(
-        &mut self,
-        found: Option<IndexEntry>,
-        upper: bool,
-        otherwise: Place,
-    ) -> Result<Moved, Jet>
-        ensures answer { result ≡ answer_of (moved_in self.old (found_pair found) upper otherwise self.old.range).jet 0 }
-        ensures cursor { self.new ≡ (moved_in self.old (found_pair found) upper otherwise self.old.range).cursor }
+    /// The same for a move that came to the place, and that a range with an upper, or else with a lower limit concerns.
+    fn arrive_within(&mut self, found: bool, upper: bool) -> Result<Moved, Jet>
+        requires { IsTrue found → IsTrue (is_on self.old.place) }
+        ensures answer { result ≡ answer_of (arrived_within self.old found upper self.old.range).jet 0 }
+        ensures cursor { self.new ≡ (arrived_within self.old found upper self.old.range).cursor }
     {
         match &self.range {
-            Some(limit) if limit.upper == upper => match found {
-                Some(entry) if limit.is_within(&entry.key) => {
-                    self.place = Place::On(entry.key, entry.bookmark);
-                    Ok(Moved::success())
+            Some(limit) if limit.upper == upper => {
+                if found && limit.has(&self.place) {
+                    return Ok(Moved::success());
                 }
-                _ => {
-                    self.place = limit.place();
-                    self.range = None;
-                    Err(Jet::NoCurrentRecord)
-                }
-            },
-            _ => self.arrive(found, otherwise),
+                self.place = limit.place();
+                self.range = None;
+                Err(Jet::NoCurrentRecord)
+            }
+            _ if found => Ok(Moved::success()),
+            _ => Err(Jet::NoCurrentRecord),
         }
     }
 }

@@ -1,7 +1,7 @@
 //! The key and the range that a cursor may have.
 
-ghost use Rattle.std.specs.Prelude.{◌≡◌};
-ghost use Rattle.cursor_nav.specs.Places.{is_within, place_at_limit};
+ghost use Rattle.std.specs.Prelude.{◌≡◌, IsTrue};
+ghost use Rattle.cursor_nav.specs.Places.{is_on, is_within, place_at_limit, place_key};
 ghost use Rattle.cursor_nav.specs.CursorView.{key_range};
 
 use index_derive::Place;
@@ -40,6 +40,17 @@ impl Limit {
             order.is_le()
         } else {
             order.is_lt()
+        }
+    }
+
+    /// Whether the entry at a place lies within.
+    pub fn has(&self, place: &Place) -> bool
+        requires { IsTrue (is_on place.now) }
+        ensures { result ≡ is_within (key_range self.now) (place_key place.now) }
+    {
+        match place {
+            Place::On(key, _) => self.is_within(key),
+            _ => unreachable!(),
         }
     }
 

@@ -1,7 +1,8 @@
 //! What a cursor sees of the tables.
 
-ghost use Rattle.std.specs.Prelude.{◌≡◌, ℕ, Bool, true, List};
-ghost use Rattle.cursor_nav.specs.Places.{Pair, are_sorted, entry_after, entry_before, least_entry_of, found_pair};
+ghost use Rattle.std.specs.Prelude.{◌≡◌, ℕ, Bool, true, List, is_some};
+ghost use Rattle.index_derive.specs.declared.entries.Place.TheVariants.{Before, After};
+ghost use Rattle.cursor_nav.specs.Places.{Pair, are_sorted, entry_after, entry_before, least_entry_of, found_pair, on_or};
 
 use index_derive::{IndexEntry, Place};
 use jet_base::{IndexId, TableId};
@@ -25,6 +26,23 @@ pub trait View {
     fn before(&self, table: TableId, index: IndexId, place: &Place) -> Option<IndexEntry>
         ensures { found_pair result ≡ entry_before place.now (entries self.now table.0 index.0) };
 
+    /// Makes the place that of the least entry beyond it, else After; and whether there is such an entry. The entry is
+    /// written where the place lies.
+    fn advance(&self, table: TableId, index: IndexId, place: &mut Place) -> bool
+        ensures found { result ≡ is_some (entry_after place.old (entries self.now table.0 index.0)) }
+        ensures place { place.new ≡ on_or (entry_after place.old (entries self.now table.0 index.0)) After }
+    {
+        stand(self.after(table, index, place), place, Place::After)
+    }
+
+    /// Makes the place that of the greatest entry before it, else Before; and whether there is such an entry.
+    fn retreat(&self, table: TableId, index: IndexId, place: &mut Place) -> bool
+        ensures found { result ≡ is_some (entry_before place.old (entries self.now table.0 index.0)) }
+        ensures place { place.new ≡ on_or (entry_before place.old (entries self.now table.0 index.0)) Before }
+    {
+        stand(self.before(table, index, place), place, Place::Before)
+    }
+
     /// The least entry with the bookmark.
     fn least(&self, table: TableId, index: IndexId, bookmark: &[u8]) -> Option<IndexEntry>
         ensures { found_pair result ≡ least_entry_of bookmark.now (entries self.now table.0 index.0) };
@@ -35,4 +53,21 @@ pub trait View {
 
     // entries are in order, and none stands twice
     ghost sorted: { (view : Self) (table index : ℕ) → are_sorted (entries view table index) ≡ true };
+}
+
+/// Makes the place that of the entry that was found, or else the other; and whether one was found.
+fn stand(found: Option<IndexEntry>, place: &mut Place, otherwise: Place) -> bool
+    ensures found { result ≡ is_some (found_pair found) }
+    ensures place { place.new ≡ on_or (found_pair found) otherwise }
+{
+    match found {
+        Some(entry) => {
+            *place = Place::On(entry.key, entry.bookmark);
+            true
+        }
+        None => {
+            *place = otherwise;
+            false
+        }
+    }
 }

@@ -53,6 +53,30 @@ impl<'a> View for EngineView<'a> {
         }
     }
 
+    fn advance(&self, table: TableId, index: IndexId, place: &mut Place) -> bool {
+        match self.tables.by_id(table) {
+            Some(found) => self
+                .tables
+                .advance(table, found.schema(), index, place, self.reader),
+            None => {
+                *place = Place::After;
+                false
+            }
+        }
+    }
+
+    fn retreat(&self, table: TableId, index: IndexId, place: &mut Place) -> bool {
+        match self.tables.by_id(table) {
+            Some(found) => self
+                .tables
+                .retreat(table, found.schema(), index, place, self.reader),
+            None => {
+                *place = Place::Before;
+                false
+            }
+        }
+    }
+
     fn least(&self, table: TableId, index: IndexId, bookmark: &[u8]) -> Option<IndexEntry> {
         match self.tables.by_id(table) {
             Some(found) => self

@@ -51,6 +51,7 @@ pub mod KeysPut
 pub mod NewEntries
 pub mod NodeWalks
 pub mod NodesShown
+pub mod NodesBefore
 pub mod FilledIndexes
 pub mod IndexTrees
 pub mod RewrittenNodes

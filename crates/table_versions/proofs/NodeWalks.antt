@@ -49,15 +49,15 @@ next_node place nodes bookmark bytes e = by (find (is_node_past place) nodes) re
     by None f e = no e
     by (Some n) f e = record { node = n; next = f; key = ap (λ (o : Option Pair). (pair_or o).0) e; row = ap (λ (o : Option Pair). (pair_or o).1) e }
 
-entry_in : (n : Node) (nodes : List Node) → IsIn n nodes → IsIn (n.key, n.key) (bookmark_entries nodes)
+pub entry_in : (n : Node) (nodes : List Node) → IsIn n nodes → IsIn (n.key, n.key) (bookmark_entries nodes)
 entry_in n [] i = absurd i
 entry_in n (x ∷ nodes) (inl same) = inl (ap (λ (m : Node). (m.key, m.key)) same)
 entry_in n (x ∷ nodes) (inr later) = inr (entry_in n nodes later)
 
-below : (x n : Node) (nodes : List Node) → list_all (pair_lt (x.key, x.key)) (bookmark_entries nodes) ≡ true → IsIn n nodes → pair_lt (x.key, x.key) (n.key, n.key) ≡ true
+pub below : (x n : Node) (nodes : List Node) → list_all (pair_lt (x.key, x.key)) (bookmark_entries nodes) ≡ true → IsIn n nodes → pair_lt (x.key, x.key) (n.key, n.key) ≡ true
 below x n nodes low i = all_in (pair_lt (x.key, x.key)) (n.key, n.key) (bookmark_entries nodes) low (entry_in n nodes i)
 
-has_own_key : (n : Node) (key : List ℕ) → n.key ≡ key → has_key key n ≡ true
+pub has_own_key : (n : Node) (key : List ℕ) → n.key ≡ key → has_key key n ≡ true
 has_own_key n key same = sym (texts_ties n.key key) ∙ equal_bytes n.key key same
 
 -- the node that is found is the one under its bookmark

@@ -2,6 +2,7 @@
 //! each reader sees of them.
 #![tactic(auto)]
 
+mod advancing;
 mod changing;
 mod conflicting_keys;
 mod ending;

@@ -5,7 +5,7 @@ ghost use Rattle.cursor_nav.specs.Places.{entry_after, entry_before, found_pair}
 ghost use Rattle.database_state.specs.Table.{record_in, rows_of, rule_with_id, schema_of, table_with_id};
 ghost use Rattle.index_derive.specs.Entries.{is_legal, own_order};
 ghost use Rattle.index_derive.specs.declared.entries.Place.TheVariants.{On};
-ghost use Rattle.table_trees.specs.StoredNodes.{node_after};
+ghost use Rattle.table_trees.specs.StoredNodes.{node_after, node_before};
 ghost use Rattle.table_trees.specs.StoredTables.{table_nodes};
 ghost use Rattle.version_store.specs.HeldChanges.{seen_row};
 ghost use Rattle.versioned_tables.specs.HeldRecords.{seen_record};
@@ -56,7 +56,7 @@ impl TableVersions {
     }
 
     // The same over the stored entries: in a function of its own, since one clears all its places where it begins.
-    fn walk_entries(
+    pub(crate) fn walk_entries(
         &self,
         table: TableId,
         schema: &Schema,
@@ -101,6 +101,30 @@ impl TableVersions {
         entries_in_order_are_told_by_those_that_are_there();
         self.trees.nodes_are_in_order();
         self.trees.entries_are_in_order();
+        if secondary_rule(schema, index).is_none() {
+            self.walk_records_back(table, place, reader)
+        } else {
+            self.walk_entries_back(table, schema, index, place, reader)
+        }
+    }
+
+    // The same over the stored entries.
+    pub(crate) fn walk_entries_back(
+        &self,
+        table: TableId,
+        schema: &Schema,
+        index: IndexId,
+        place: &Place,
+        reader: Reader,
+    ) -> Option<IndexEntry>
+        requires { IsSomeAnd (table_with_id self.now.store.tables table.0) (λ t. schema.now ≡ schema_of t) }
+        ensures { found_pair result ≡ entry_before place.now (seen_entries reader self.now.store table.0 index.0) }
+    {
+        a_reader_is_shown_the_records_that_it_sees();
+        a_reader_walks_the_index_of_what_it_sees();
+        entries_in_order_are_told_by_those_that_are_there();
+        self.trees.nodes_are_in_order();
+        self.trees.entries_are_in_order();
         let rule = secondary_rule(schema, index);
         let mut found = stored_before(&self.trees, table, rule, place);
         while let Some(entry) = found {
@@ -120,6 +144,27 @@ impl TableVersions {
     pub fn walk_records(&self, table: TableId, place: &Place, reader: Reader) -> Option<IndexEntry>
         ensures { found_pair result ≡ entry_after place.now (own_order (rows_of (table_with_id (seen_tables reader self.now.store) table.0))) }
     {
+        match self.next_seen(table, place, reader) {
+            Some(bookmark) => Some(own_entry(bookmark)),
+            None => None,
+        }
+    }
+
+    // The greatest such record before a place.
+    fn walk_records_back(&self, table: TableId, place: &Place, reader: Reader) -> Option<IndexEntry>
+        ensures { found_pair result ≡ entry_before place.now (own_order (rows_of (table_with_id (seen_tables reader self.now.store) table.0))) }
+    {
+        match self.previous_seen(table, place, reader) {
+            Some(bookmark) => Some(own_entry(bookmark)),
+            None => None,
+        }
+    }
+
+    // The bookmark of the least record beyond a place that the reader sees, where it lies in its node.
+    pub(crate) fn next_seen(&self, table: TableId, place: &Place, reader: Reader) -> Option<&[u8]>
+        ensures bookmark { option_map (λ bookmark. (bookmark.now, bookmark.now)) result ≡ entry_after place.now (own_order (rows_of (table_with_id (seen_tables reader self.now.store) table.0))) }
+        ensures short { IfSome result (λ bookmark. length bookmark.now ≤ 255) }
+    {
         a_reader_is_shown_the_records_that_it_sees();
         entries_in_order_are_told_by_those_that_are_there();
         neighbours_are_those_of_bookmarks();
@@ -127,9 +172,33 @@ impl TableVersions {
         let mut found = self.trees.node_after(table, place);
         while let Some((bookmark, row)) = found {
             if is_shown_in_place(&self.versions, table, bookmark, row, reader) {
-                return Some(own_entry(bookmark));
+                return Some(bookmark);
             }
             found = node_behind(&self.trees, table, bookmark);
+        }
+        None
+    }
+
+    // That of the greatest before a place.
+    pub(crate) fn previous_seen(
+        &self,
+        table: TableId,
+        place: &Place,
+        reader: Reader,
+    ) -> Option<&[u8]>
+        ensures bookmark { option_map (λ bookmark. (bookmark.now, bookmark.now)) result ≡ entry_before place.now (own_order (rows_of (table_with_id (seen_tables reader self.now.store) table.0))) }
+        ensures short { IfSome result (λ bookmark. length bookmark.now ≤ 255) }
+    {
+        a_reader_is_shown_the_records_that_it_sees();
+        entries_in_order_are_told_by_those_that_are_there();
+        neighbours_are_those_of_bookmarks();
+        self.trees.nodes_are_in_order();
+        let mut found = self.trees.node_before(table, place);
+        while let Some((bookmark, row)) = found {
+            if is_shown_in_place(&self.versions, table, bookmark, row, reader) {
+                return Some(bookmark);
+            }
+            found = node_in_front(&self.trees, table, bookmark);
         }
         None
     }
@@ -168,6 +237,20 @@ fn node_behind<'a>(
 {
     let last = Place::On(Key::from_slice(bookmark), Key::from_slice(bookmark));
     trees.node_after(table, &last)
+}
+
+// The node in front of the one with a bookmark.
+fn node_in_front<'a>(
+    trees: &'a TableTrees,
+    table: TableId,
+    bookmark: &[u8],
+) -> Option<(&'a [u8], &'a [u8])>
+    requires { length bookmark.now ≤ 255 }
+    ensures node { option_map (λ found. (found.0.now, found.1.now)) result ≡ node_before (On bookmark.now bookmark.now) (table_nodes trees.now table.0) }
+    ensures short { IfSome result (λ found. length found.0.now ≤ 255) }
+{
+    let last = Place::On(Key::from_slice(bookmark), Key::from_slice(bookmark));
+    trees.node_before(table, &last)
 }
 
 // Whether the reader sees a record under the bookmark of a node with these bytes: without a look for the node.

@@ -3,7 +3,7 @@ use Rattle.std.specs.Prelude.{option_copied}
 use Rattle.cursor_nav.specs.Places.{entry_before, found_pair}
 use Rattle.table_versions.specs.Walks.{is_shown, stored_entries}
 use Rattle.versioned_tables.proofs.Neighbours.{left_to, shown_to}
-use Rattle.table_versions.proofs.store.TableVersions.walk_back.Given as goal
+use Rattle.table_versions.proofs.store.TableVersions.walk_entries_back.Given as goal
 
 -- the entry that was found, or else the next one that is shown, is the one that is looked for
 abbrev pub invariant-loop-found : goal.invariant-loop-found

@@ -1,0 +1,166 @@
+//! A place that goes to its neighbour in an index as a reader sees it, where the place lies.
+
+ghost use Rattle.std.specs.Prelude.{◌≡◌, ◌≤◌, length, IsSomeAnd, is_some};
+ghost use Rattle.cursor_nav.specs.Places.{entry_after, entry_before, on_or};
+ghost use Rattle.database_state.specs.Table.{rows_of, schema_of, table_with_id};
+ghost use Rattle.index_derive.specs.Entries.{own_order};
+ghost use Rattle.index_derive.specs.declared.entries.Place.TheVariants.{After, Before, On};
+ghost use Rattle.versioned_tables.specs.VersionedTables.{seen_tables};
+ghost use Rattle.table_versions.specs.StoredVersions.{seen_entries};
+
+use crate::store::TableVersions;
+use crate::walking::secondary_rule;
+use derived_index::entries_in_order_are_told_by_those_that_are_there;
+use index_derive::{Place, Schema};
+use jet_base::{IndexId, TableId};
+use key_normal::Key;
+use version_store::Reader;
+use versioned_tables::{
+    a_reader_is_shown_the_records_that_it_sees, a_reader_walks_the_index_of_what_it_sees,
+};
+
+impl TableVersions {
+    /// Makes the place that of the least entry beyond it, as the reader sees the table, else After; and whether there is such
+    /// an entry. Else as `walk`.
+    pub fn advance(
+        &self,
+        table: TableId,
+        schema: &Schema,
+        index: IndexId,
+        place: &mut Place,
+        reader: Reader,
+    ) -> bool
+        requires { IsSomeAnd (table_with_id self.now.store.tables table.0) (λ t. schema.now ≡ schema_of t) }
+        ensures found { result ≡ is_some (entry_after place.old (seen_entries reader self.now.store table.0 index.0)) }
+        ensures place { place.new ≡ on_or (entry_after place.old (seen_entries reader self.now.store table.0 index.0)) After }
+    {
+        a_reader_is_shown_the_records_that_it_sees();
+        a_reader_walks_the_index_of_what_it_sees();
+        entries_in_order_are_told_by_those_that_are_there();
+        self.trees.nodes_are_in_order();
+        self.trees.entries_are_in_order();
+        if secondary_rule(schema, index).is_none() {
+            self.advance_in_records(table, place, reader)
+        } else {
+            self.advance_in_entries(table, schema, index, place, reader)
+        }
+    }
+
+    // Makes the place that of the least record beyond it that the reader sees, else After.
+    fn advance_in_records(&self, table: TableId, place: &mut Place, reader: Reader) -> bool
+        ensures found { result ≡ is_some (entry_after place.old (own_order (rows_of (table_with_id (seen_tables reader self.now.store) table.0)))) }
+        ensures place { place.new ≡ on_or (entry_after place.old (own_order (rows_of (table_with_id (seen_tables reader self.now.store) table.0)))) After }
+    {
+        match self.next_seen(table, place, reader) {
+            Some(bookmark) => {
+                stand_on(place, bookmark);
+                true
+            }
+            None => {
+                *place = Place::After;
+                false
+            }
+        }
+    }
+
+    // The same over the stored entries.
+    fn advance_in_entries(
+        &self,
+        table: TableId,
+        schema: &Schema,
+        index: IndexId,
+        place: &mut Place,
+        reader: Reader,
+    ) -> bool
+        requires { IsSomeAnd (table_with_id self.now.store.tables table.0) (λ t. schema.now ≡ schema_of t) }
+        ensures found { result ≡ is_some (entry_after place.old (seen_entries reader self.now.store table.0 index.0)) }
+        ensures place { place.new ≡ on_or (entry_after place.old (seen_entries reader self.now.store table.0 index.0)) After }
+    {
+        match self.walk_entries(table, schema, index, place, reader) {
+            Some(entry) => {
+                *place = Place::On(entry.key, entry.bookmark);
+                true
+            }
+            None => {
+                *place = Place::After;
+                false
+            }
+        }
+    }
+
+    /// Makes the place that of the greatest entry before it, as the reader sees the table, else Before; and whether there is
+    /// such an entry. Else as `walk`.
+    pub fn retreat(
+        &self,
+        table: TableId,
+        schema: &Schema,
+        index: IndexId,
+        place: &mut Place,
+        reader: Reader,
+    ) -> bool
+        requires { IsSomeAnd (table_with_id self.now.store.tables table.0) (λ t. schema.now ≡ schema_of t) }
+        ensures found { result ≡ is_some (entry_before place.old (seen_entries reader self.now.store table.0 index.0)) }
+        ensures place { place.new ≡ on_or (entry_before place.old (seen_entries reader self.now.store table.0 index.0)) Before }
+    {
+        a_reader_is_shown_the_records_that_it_sees();
+        a_reader_walks_the_index_of_what_it_sees();
+        entries_in_order_are_told_by_those_that_are_there();
+        self.trees.nodes_are_in_order();
+        self.trees.entries_are_in_order();
+        if secondary_rule(schema, index).is_none() {
+            self.retreat_in_records(table, place, reader)
+        } else {
+            self.retreat_in_entries(table, schema, index, place, reader)
+        }
+    }
+
+    // Makes the place that of the greatest record before it that the reader sees, else Before.
+    fn retreat_in_records(&self, table: TableId, place: &mut Place, reader: Reader) -> bool
+        ensures found { result ≡ is_some (entry_before place.old (own_order (rows_of (table_with_id (seen_tables reader self.now.store) table.0)))) }
+        ensures place { place.new ≡ on_or (entry_before place.old (own_order (rows_of (table_with_id (seen_tables reader self.now.store) table.0)))) Before }
+    {
+        match self.previous_seen(table, place, reader) {
+            Some(bookmark) => {
+                stand_on(place, bookmark);
+                true
+            }
+            None => {
+                *place = Place::Before;
+                false
+            }
+        }
+    }
+
+    // The same over the stored entries.
+    fn retreat_in_entries(
+        &self,
+        table: TableId,
+        schema: &Schema,
+        index: IndexId,
+        place: &mut Place,
+        reader: Reader,
+    ) -> bool
+        requires { IsSomeAnd (table_with_id self.now.store.tables table.0) (λ t. schema.now ≡ schema_of t) }
+        ensures found { result ≡ is_some (entry_before place.old (seen_entries reader self.now.store table.0 index.0)) }
+        ensures place { place.new ≡ on_or (entry_before place.old (seen_entries reader self.now.store table.0 index.0)) Before }
+    {
+        match self.walk_entries_back(table, schema, index, place, reader) {
+            Some(entry) => {
+                *place = Place::On(entry.key, entry.bookmark);
+                true
+            }
+            None => {
+                *place = Place::Before;
+                false
+            }
+        }
+    }
+}
+
+// Makes the place that of the record with a bookmark, which is its own key.
+fn stand_on(place: &mut Place, bookmark: &[u8])
+    requires { length bookmark.now ≤ 255 }
+    ensures { place.new ≡ On bookmark.now bookmark.now }
+{
+    *place = Place::On(Key::from_slice(bookmark), Key::from_slice(bookmark));
+}
