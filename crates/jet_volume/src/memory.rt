@@ -6,9 +6,9 @@ ghost use Rattle.jet_io.specs.Schedule.{fails_next};
 ghost use Rattle.jet_volume.specs.Image.{Image, no_bytes, file_bytes, with_file};
 ghost use Rattle.jet_volume.specs.Crash.{written, TornFile, IsSettled, CrashLeaves, CrashFollows, Elapses};
 
-use crate::file_bytes::copy_from;
 use crate::contents::Contents;
 use crate::crash::crashed;
+use crate::file_bytes::copy_from;
 use crate::files::File;
 use crate::noting::{note, note_missed, write_noted};
 use crate::record::{Call, Change};

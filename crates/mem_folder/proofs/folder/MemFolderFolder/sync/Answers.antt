@@ -13,8 +13,8 @@ returns-clause-synced c =
     let same = ap (λ s. s.files) c.begin_call.ensures.same in
     both_ok _ _ _ _ c.sync.result
     (λ is told.
-      let there = is_there (found (state_of old).files path) (sym (ap₂ (λ fs p. missing (found fs p)) same c.as_str.ensures.value) ∙ told) in
-      ap is_saved (has_changed after_sync (λ f. refl) path old new (since_begun after_sync _ path _ _ _ c.as_str.ensures.value same is) (λ f listed. listed) there.0 there.1))
+    let there = is_there (found (state_of old).files path) (sym (ap₂ (λ fs p. missing (found fs p)) same c.as_str.ensures.value) ∙ told) in
+    ap is_saved (has_changed after_sync (λ f. refl) path old new (since_begun after_sync _ path _ _ _ c.as_str.ensures.value same is) (λ f listed. listed) there.0 there.1))
     c.sync.ensures.ok c.sync.ensures.told
 
 pub returns-clause-files : goal.returns-clause-files
