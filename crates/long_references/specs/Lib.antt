@@ -1,0 +1,3 @@
+pub mod RowReferences
+pub mod ReferenceCounts
+pub mod Samples
