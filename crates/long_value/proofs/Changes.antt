@@ -1,12 +1,10 @@
 -- Trees that change one after the other.
-use Rattle.std.proofs.Common.{◌≡◌, ◌≢◌, ℕ, zero, suc, ◌<◌, ◌⊎◌, ◌==◌, inl, inr, Some, None, List, [], ◌∷◌, ◌++◌, length, get_or, refl, sym, ap, subst, ◌∙◌, true≢false, arith}
+use Rattle.std.proofs.Common.{◌≡◌, ℕ, suc, ◌⊎◌, ◌==◌, inl, inr, List, [], ◌∷◌, refl, sym, subst, ◌∙◌, true≢false, arith}
 use Rattle.std.specs.Prelude.{Contains}
-use Rattle.std.proofs.lemmas.Bool.{cases_lt}
 use Rattle.std.proofs.lemmas.Bool.Decides.{Decides-eqb}
 use Rattle.std.proofs.lemmas.Map.Made.{Contains-tail}
-use Rattle.std.proofs.lemmas.List.{get_or-set_other, get_or_append_left, get_or_past, length_push}
 use Rattle.page_image.specs.Page.{Node}
-use Rattle.page_space.specs.Frames.{Frames, Takes, empty_page, page_at}
+use Rattle.page_space.specs.Frames.{Frames, page_at}
 use Rattle.btree_inplace.specs.Trees.{Exchanges, IsTree, nodes_of, pages_of}
 use Rattle.btree_inplace.specs.declared.Tree.{Tree}
 use Rattle.long_value.specs.Stores.{Becomes}
