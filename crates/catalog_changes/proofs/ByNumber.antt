@@ -2,12 +2,13 @@
 use Rattle.std.proofs.Common.{◌≡◌, ℕ, ◌<◌, ◌≤◌, Bool, true, false, cond, ltb, ◌&&◌, ◌||◌, inl, inr, Some, List, [], ◌∷◌, ◌++◌, refl, sym, ap, subst, ◌∙◌, arith}
 use Rattle.std.specs.Prelude.{◌==◌, filter, find, map, not, nat_lt}
 use Rattle.std.specs.List.{list_all, list_any}
-use Rattle.std.proofs.lemmas.Bool.{and_parts, and_from, cases_Bool, cases_eq, eq-eqb, eqb-true, ltb-true, ltb-false, lt-ltb, le-ltb, ne_eqb}
+use Rattle.std.proofs.lemmas.Bool.{and_parts, and_from, cases_Bool, cases_eq, cases_lt, eq-eqb, ltb-true, lt-ltb, le-ltb, ne_eqb}
+use Rattle.std.proofs.lemmas.List.Folds.{list_any-append}
 use Rattle.column_set.specs.declared.columns.Column.{Column}
 use Rattle.index_derive.specs.declared.rules.IndexRule.{IndexRule}
 use Rattle.database_state.specs.SchemaChanges.{columns_with}
 use Rattle.catalog_grammar.specs.Catalogs.{by_number, rise_above, with_number}
-use Rattle.catalog_changes.proofs.Numbered.{Around, Sole, all_kept, around_as, around_next, found_first, none_above, nothing_found, rise_lower}
+use Rattle.catalog_changes.proofs.Numbered.{Around, all_kept, around_as, around_next, found_first, none_above, nothing_found, rise_lower}
 
 abbrev pub number_of : IndexRule → ℕ
 number_of rule = rule.id.0
@@ -48,7 +49,7 @@ put_around x (y ∷ ys) = elim (cases_Bool (ltb (number_of x) (number_of y))) [
 ]
 
 -- what rises with an index rises without it, above a number that the index is above too
-put_rise : (x : IndexRule) (low : ℕ) (rules : List IndexRule) → rules_rise low (with_number x rules) ≡ true → (rules_rise low rules ≡ true) × (low < number_of x)
+pub put_rise : (x : IndexRule) (low : ℕ) (rules : List IndexRule) → rules_rise low (with_number x rules) ≡ true → (rules_rise low rules ≡ true) × (low < number_of x)
 put_rise x low [] rise = (refl, ltb-true _ _ (and_parts (ltb low (number_of x)) true rise).0)
 put_rise x low (y ∷ ys) rise = elim (cases_Bool (ltb (number_of x) (number_of y))) [
   | inl so ↦
@@ -112,7 +113,7 @@ any_by_number p [] = refl
 any_by_number p (x ∷ rules) = any_put p x (by_number rules) ∙ ap (λ (b : Bool). p x || b) (any_by_number p rules)
 
 -- where the numbers rise with an index, no other has its number
-none_beside : (x : IndexRule) (low : ℕ) (rules : List IndexRule) → rules_rise low (with_number x rules) ≡ true → list_any (λ r. number_of r == number_of x) rules ≡ false
+pub none_beside : (x : IndexRule) (low : ℕ) (rules : List IndexRule) → rules_rise low (with_number x rules) ≡ true → list_any (λ r. number_of r == number_of x) rules ≡ false
 none_beside x low [] rise = refl
 none_beside x low (y ∷ ys) rise = elim (cases_Bool (ltb (number_of x) (number_of y))) [
   | inl so ↦
@@ -125,6 +126,46 @@ none_beside x low (y ∷ ys) rise = elim (cases_Bool (ltb (number_of x) (number_
       let above : number_of y < number_of x = (put_rise x (number_of y) ys a.1).1 in
       ap (λ (b : Bool). b || list_any (λ r. number_of r == number_of x) ys) (ne_eqb (number_of y) (number_of x) (λ e. absurd (omega arith))) ∙ none_beside x (number_of y) ys a.1
 ]
+
+-- an index that no other has the number of goes in
+put_rises : (x : IndexRule) (low : ℕ) (rules : List IndexRule) → rules_rise low rules ≡ true → list_any (λ r. number_of r == number_of x) rules ≡ false → low < number_of x → rules_rise low (with_number x rules) ≡ true
+put_rises x low [] rise none above = and_from (ltb low (number_of x)) true (lt-ltb low (number_of x) above) refl
+put_rises x low (y ∷ ys) rise none above =
+    let test : IndexRule → Bool = λ r. number_of r == number_of x in
+    let a = and_parts (ltb low (number_of y)) (rules_rise (number_of y) ys) rise in
+    elim (cases_lt (number_of x) (number_of y)) [
+      | inl lt ↦ ap (λ (b : Bool). rules_rise low (put_test x y ys b)) (lt-ltb (number_of x) (number_of y) lt)
+          ∙ and_from (ltb low (number_of x)) (ltb (number_of x) (number_of y) && rules_rise (number_of y) ys) (lt-ltb low (number_of x) above) (and_from (ltb (number_of x) (number_of y)) (rules_rise (number_of y) ys) (lt-ltb (number_of x) (number_of y) lt) a.1)
+      | inr ge ↦ elim (cases_eq (number_of y) (number_of x)) [
+        | inl same ↦ absurd (clash (sym none ∙ ap (λ (b : Bool). b || list_any test ys) (eq-eqb (number_of y) (number_of x) same)))
+        | inr ne ↦
+            let rest : list_any test ys ≡ false = ap (λ (b : Bool). b || list_any test ys) (sym (ne_eqb (number_of y) (number_of x) ne)) ∙ none in
+            ap (λ (b : Bool). rules_rise low (put_test x y ys b)) (le-ltb (number_of x) (number_of y) ge)
+            ∙ and_from (ltb low (number_of y)) (rules_rise (number_of y) (with_number x ys)) a.0 (put_rises x (number_of y) ys a.1 rest (omega arith))
+      ]
+    ]
+  where
+    clash : false ≡ true → ⊥
+    clash e = cc
+
+pub numbers_push : (rules : List IndexRule) (m : IndexRule) (low : ℕ) → rules_rise low (by_number rules) ≡ true → list_any (λ r. number_of r == number_of m) rules ≡ false → low < number_of m → rules_rise low (by_number (rules ++ m ∷ [])) ≡ true
+numbers_push [] m low rise none above = and_from (ltb low (number_of m)) true (lt-ltb low (number_of m) above) refl
+numbers_push (x ∷ rules) m low rise none above =
+    let test : IndexRule → Bool = λ r. number_of r == number_of m in
+    let own : IndexRule → Bool = λ r. number_of r == number_of x in
+    let p = put_rise x low (by_number rules) rise in
+    elim (cases_eq (number_of x) (number_of m)) [
+      | inl same ↦ absurd (clash (sym none ∙ ap (λ (b : Bool). b || list_any test rules) (eq-eqb (number_of x) (number_of m) same)))
+      | inr ne ↦
+          let rest : list_any test rules ≡ false = ap (λ (b : Bool). b || list_any test rules) (sym (ne_eqb (number_of x) (number_of m) ne)) ∙ none in
+          let mine : list_any own rules ≡ false = sym (any_by_number own rules) ∙ none_beside x low (by_number rules) rise in
+          let other : list_any own (m ∷ []) ≡ false = ap (λ (b : Bool). b || false) (ne_eqb (number_of m) (number_of x) (λ e. ne (sym e))) in
+          let beside : list_any own (by_number (rules ++ m ∷ [])) ≡ false = any_by_number own (rules ++ m ∷ []) ∙ list_any-append own rules (m ∷ []) ∙ ap (λ (b : Bool). b || list_any own (m ∷ [])) mine ∙ other in
+          put_rises x low (by_number (rules ++ m ∷ [])) (numbers_push rules m low p.0 rest above) beside p.1
+    ]
+  where
+    clash : false ≡ true → ⊥
+    clash e = cc
 
 -- the index of a number, and the others in their order of making
 pub record Made (id : ℕ) (rules : List IndexRule) (m : IndexRule) : Type 0 where

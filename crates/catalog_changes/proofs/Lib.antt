@@ -5,4 +5,5 @@ pub mod Nodes
 pub mod Numbered
 pub mod OneTable
 pub mod Places
+pub mod StepFits
 pub mod StepNodes

@@ -1,9 +1,8 @@
 -- The nodes of a catalog after each schema step.
-use Rattle.std.proofs.Common.{◌≡◌, ℕ, ◌<◌, Bool, true, false, cond, ◌&&◌, ltb, inl, inr, Option, Some, None, List, [], ◌∷◌, ◌++◌, length, refl, sym, ap, subst, ◌∙◌, arith}
+use Rattle.std.proofs.Common.{◌≡◌, ℕ, Bool, true, false, cond, ltb, Option, Some, List, [], ◌∷◌, ◌++◌, refl, sym, ap, subst, ◌∙◌, arith}
 use Rattle.std.specs.Prelude.{◌==◌, All, IsSome, filter, find, map, not}
-use Rattle.std.specs.List.{list_any}
 use Rattle.std.specs.Option.{option_map}
-use Rattle.std.proofs.lemmas.Bool.{and_parts, cases_Bool}
+use Rattle.std.proofs.lemmas.Bool.{and_parts}
 use Rattle.std.proofs.lemmas.List.{append-nil, map-append}
 use Rattle.std.proofs.lemmas.List.Elements.{All-tail}
 use Rattle.jet_base.specs.declared.ids.ColumnId.{ColumnId}
@@ -25,7 +24,7 @@ use Rattle.catalog_grammar.specs.declared.items.CatalogItem.TheVariants as item
 use Rattle.catalog_changes.specs.CatalogParts.{OtherTables, with_columns, with_tables}
 use Rattle.catalog_changes.specs.CatalogSteps.{HasNodesThrough, HasSameRoots, Roots, has_index, has_nodes, item_of_column, item_of_index, item_of_table, items_of_columns, items_of_indexes, nodes_of_catalog, rooted, rooted_tables, without_indexes, without_items, without_parts}
 use Rattle.catalog_changes.proofs.ByNumber.{columns_around, made, number_of, numbers_around, put_around, rules_rise}
-use Rattle.catalog_changes.proofs.Fitting.{columns_number, fits_has, indexes_number, parts_at, table_number}
+use Rattle.catalog_changes.proofs.Fitting.{columns_number, fits_has, indexes_number, parts_at, table_less, table_number}
 use Rattle.catalog_changes.proofs.Numbered.{Around, any_found, around_as, sole}
 use Rattle.catalog_changes.proofs.OneTable.{Added, In, Out, all_columns_out, all_indexes_out, column_added, column_out, columns_out, index_in, index_out, indexes_out, rooted_rules, table_added, with_rules}
 use Rattle.catalog_changes.proofs.Places.{removed_from, table_parted, there_in}
@@ -63,7 +62,7 @@ here roots catalog id t found fits =
 abbrev pub roots_in : Roots → Table → ℕ → ℕ
 roots_in roots t = (roots t.id).indexes
 
-rule_numbers : (to : ℕ → ℕ) (rules : List IndexRule) → map indexes_number (rooted_rules to rules) ≡ map number_of rules
+pub rule_numbers : (to : ℕ → ℕ) (rules : List IndexRule) → map indexes_number (rooted_rules to rules) ≡ map number_of rules
 rule_numbers to [] = refl
 rule_numbers to (rule ∷ rules) = ap (λ (l : List ℕ). rule.id.0 ∷ l) (rule_numbers to rules)
 
@@ -112,15 +111,21 @@ pub record Removed (before : List Node) (key : List ℕ) (after : List Node) : T
   pub there : IsSome (get_in before key)
   pub nodes : without_key before key ≡ after
 
-removed_as : (greatest : ℕ) (tables fewer tables' fewer' : List CatalogTable) (x : CatalogItem) (key : List ℕ) → tables ≡ tables' → fewer ≡ fewer' → item_key x ≡ key → Out greatest x tables' fewer' → Removed (catalog_nodes greatest tables) key (catalog_nodes greatest fewer)
-removed_as greatest tables fewer tables' fewer' x key first last same out =
+-- the same of a catalog's tables, whose nodes can be written once it is gone
+pub record Gone (greatest : ℕ) (tables : List CatalogTable) (key : List ℕ) (fewer : List CatalogTable) : Type 0 where
+  pub there : IsSome (get_in (catalog_nodes greatest tables) key)
+  pub nodes : without_key (catalog_nodes greatest tables) key ≡ catalog_nodes greatest fewer
+  pub fits : catalog_fits greatest fewer ≡ true
+
+gone_as : (greatest : ℕ) (tables fewer tables' fewer' : List CatalogTable) (x : CatalogItem) (key : List ℕ) → tables ≡ tables' → fewer ≡ fewer' → item_key x ≡ key → Out greatest x tables' fewer' → Gone greatest tables key fewer
+gone_as greatest tables fewer tables' fewer' x key first last same out =
     let nodes = catalog_nodes greatest tables' in
-    subst (λ (k : List ℕ). Removed (catalog_nodes greatest tables) k (catalog_nodes greatest fewer)) same
-    (subst (λ (l : List CatalogTable). Removed (catalog_nodes greatest l) (item_key x) (catalog_nodes greatest fewer)) (sym first)
-    (subst (λ (l : List CatalogTable). Removed nodes (item_key x) (catalog_nodes greatest l)) (sym last) (record { there = some_data nodes (item_key x) (item_node x) out.there; nodes = out.nodes })))
+    subst (λ (k : List ℕ). Gone greatest tables k fewer) same
+    (subst (λ (l : List CatalogTable). Gone greatest l (item_key x) fewer) (sym first)
+    (subst (λ (l : List CatalogTable). Gone greatest tables' (item_key x) l) (sym last) (record { there = some_data nodes (item_key x) (item_node x) out.there; nodes = out.nodes; fits = out.fits })))
 
 pub column_deleted : (roots : Roots) (catalog : CatalogState) (table : TableId) (column : ColumnId) (t : Table) → table_with_id catalog.tables table.0 ≡ Some t → has_column t column.0 ≡ true → has_nodes roots catalog ≡ true
-    → Removed (nodes_of_catalog roots catalog) (catalog_key 2 table.0 column.0) (nodes_of_catalog roots (catalog_after catalog (step.DeleteColumn table column)))
+    → Gone catalog.greatest_table (rooted_tables roots catalog.tables) (catalog_key 2 table.0 column.0) (rooted_tables roots (with_table table.0 (without_column column.0) catalog.tables))
 column_deleted roots catalog table column t found has fits =
     let h = here roots catalog table.0 t found fits in
     let c = any_found (λ (x : Column). x.id.0 == column.0) t.columns has in
@@ -128,7 +133,7 @@ column_deleted roots catalog table column t found has fits =
     let x = rooted roots t in
     let first : rooted_tables roots catalog.tables ≡ with_columns h.others x (s.left ++ c.0 ∷ s.right) = h.before ∙ ap (with_columns h.others x) s.whole in
     let last : rooted_tables roots (with_table table.0 (without_column column.0) catalog.tables) ≡ with_columns h.others x (s.left ++ s.right) = h.changed (without_column column.0) ∙ ap (with_columns h.others x) s.gone in
-    removed_as catalog.greatest_table (rooted_tables roots catalog.tables) (rooted_tables roots (with_table table.0 (without_column column.0) catalog.tables)) (with_columns h.others x (s.left ++ c.0 ∷ s.right)) (with_columns h.others x (s.left ++ s.right)) (item_of_column t c.0) (catalog_key 2 table.0 column.0) first last
+    gone_as catalog.greatest_table (rooted_tables roots catalog.tables) (rooted_tables roots (with_table table.0 (without_column column.0) catalog.tables)) (with_columns h.others x (s.left ++ c.0 ∷ s.right)) (with_columns h.others x (s.left ++ s.right)) (item_of_column t c.0) (catalog_key 2 table.0 column.0) first last
     (ap (λ n. catalog_key 2 n c.0.id.0) h.is ∙ ap (λ n. catalog_key 2 table.0 n) s.is)
     (column_out catalog.greatest_table h.others x s.left s.right c.0 (ap (catalog_fits catalog.greatest_table) (sym first) ∙ fits))
 
@@ -150,7 +155,7 @@ index_made roots catalog table rule t found through =
     (subst (λ (l : List CatalogTable). In greatest (item_of_index roots t rule) (with_tables h.others (x ∷ [])) l) (sym last) i)
 
 pub index_deleted : (roots : Roots) (catalog : CatalogState) (table : TableId) (index : IndexId) (t : Table) → table_with_id catalog.tables table.0 ≡ Some t → has_index t index.0 ≡ true → has_nodes roots catalog ≡ true
-    → Removed (nodes_of_catalog roots catalog) (catalog_key 3 table.0 index.0) (nodes_of_catalog roots (catalog_after catalog (step.DeleteIndex table index)))
+    → Gone catalog.greatest_table (rooted_tables roots catalog.tables) (catalog_key 3 table.0 index.0) (rooted_tables roots (with_table table.0 (without_index index.0) catalog.tables))
 index_deleted roots catalog table index t found has fits =
     let h = here roots catalog table.0 t found fits in
     let greatest = catalog.greatest_table in
@@ -163,7 +168,7 @@ index_deleted roots catalog table index t found has fits =
     let around : Around r.0 (by_number t.indexes) (by_number fewer) =
     around_as (by_number (m.before ++ r.0 ∷ m.after)) (by_number (m.before ++ m.after)) (ap by_number m.whole) (ap by_number m.gone)
     (numbers_around m.before r.0 m.after 0 (subst (λ (l : List IndexRule). rules_rise 0 (by_number l) ≡ true) m.whole rise)) in
-    removed_as greatest (rooted_tables roots catalog.tables) (rooted_tables roots (with_table table.0 (without_index index.0) catalog.tables)) (with_rules h.others x to t.indexes) (with_rules h.others x to fewer) (item_of_index roots t r.0) (catalog_key 3 table.0 index.0) h.before (h.changed (without_index index.0))
+    gone_as greatest (rooted_tables roots catalog.tables) (rooted_tables roots (with_table table.0 (without_index index.0) catalog.tables)) (with_rules h.others x to t.indexes) (with_rules h.others x to fewer) (item_of_index roots t r.0) (catalog_key 3 table.0 index.0) h.before (h.changed (without_index index.0))
     (ap (λ n. catalog_key 3 n r.0.id.0) h.is ∙ ap (λ n. catalog_key 3 table.0 n) m.is)
     (index_out greatest h.others x to r.0 t.indexes fewer around h.fits)
 
@@ -226,6 +231,14 @@ table_goes roots catalog table t found fits =
       there = some_data (without_parts roots catalog t) key (item_node (item_of_table roots t)) (ap (find (has_key key)) nodes ∙ there_in _ _ _ p);
       nodes = ap (λ (l : List Node). without_key l key) nodes ∙ removed_from _ _ _ p ∙ ap (catalog_nodes greatest) (sym h.gone);
     }
+
+-- the tables that are left can be written
+pub tables_left : (roots : Roots) (catalog : CatalogState) (table : TableId) (t : Table) → table_with_id catalog.tables table.0 ≡ Some t → has_nodes roots catalog ≡ true → has_nodes roots (catalog_after catalog (step.DeleteTable table)) ≡ true
+tables_left roots catalog table t found fits =
+    let h = here roots catalog table.0 t found fits in
+    let x = without_rules (rooted roots t) in
+    let out = all_columns_out catalog.greatest_table h.others x t.columns (no_indexes roots catalog table.0 t h).fits in
+    ap (catalog_fits catalog.greatest_table) h.gone ∙ table_less catalog.greatest_table h.others x.table out.fits
 
 -- ---- the roots that count
 

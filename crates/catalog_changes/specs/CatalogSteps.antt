@@ -1,5 +1,5 @@
 -- The nodes of a catalog before a schema step and after it, given the root pages of its trees.
-use Rattle.std.specs.Prelude.{◌≡◌, ℕ, ◌==◌, Bool, true, List, [], ◌∷◌, ◌++◌, map, All}
+use Rattle.std.specs.Prelude.{◌≡◌, ℕ, ◌==◌, Bool, true, List, [], ◌∷◌, map, All}
 use Rattle.std.specs.List.{list_any}
 use Rattle.jet_base.specs.Ids.{table_id}
 use Rattle.column_set.specs.declared.columns.Column.{Column}

@@ -1,2 +1,3 @@
 pub mod CatalogParts
 pub mod CatalogSteps
+pub mod StepSamples

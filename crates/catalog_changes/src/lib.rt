@@ -12,6 +12,7 @@ ghost use Rattle.catalog_grammar.specs.declared.items.CatalogItem.TheVariants as
 ghost use Rattle.catalog_grammar.specs.declared.items.TableItem.{TableItem};
 ghost use Rattle.catalog_changes.specs.CatalogParts.{OtherTables, bare_table, with_columns, with_indexes, with_item, with_tables};
 
+pub mod examples;
 mod steps;
 
 pub use steps::{

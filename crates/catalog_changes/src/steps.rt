@@ -1,7 +1,7 @@
 //! The nodes of a catalog after each schema step: which node comes, which goes and which has other data, in the order in
 //! which a tree of them takes the changes. What may want memory comes first.
 
-ghost use Rattle.std.specs.Prelude.{◌≡◌, ◌<◌, ◌==◌, ℕ, true, false, Some, None, List, [], ◌∷◌, ◌++◌, length, map, All, IsSome};
+ghost use Rattle.std.specs.Prelude.{◌≡◌, ◌<◌, ◌==◌, ℕ, true, false, Some, None, List, [], ◌∷◌, ◌++◌, length, map, All, IsSome, IsTrue};
 ghost use Rattle.jet_base.specs.declared.ids.ColumnId.{ColumnId};
 ghost use Rattle.jet_base.specs.declared.ids.IndexId.{IndexId};
 ghost use Rattle.jet_base.specs.declared.ids.TableId.{TableId};
@@ -10,7 +10,7 @@ ghost use Rattle.index_derive.specs.declared.rules.IndexRule.{IndexRule};
 ghost use Rattle.index_derive.specs.declared.schema_calls.SchemaStep.TheVariants as step;
 ghost use Rattle.database_state.specs.SchemaChanges.{has_column, new_table, with_column};
 ghost use Rattle.database_state.specs.Table.{Table, table_with_id};
-ghost use Rattle.jet_catalog.specs.Catalog.{CatalogState, catalog_after};
+ghost use Rattle.jet_catalog.specs.Catalog.{CatalogState, IsNumbered, catalog_after, has_new_id};
 ghost use Rattle.page_image.specs.Page.{Node};
 ghost use Rattle.btree_inplace.specs.Changes.{inserted, with_data_at, without_key};
 ghost use Rattle.btree_inplace.specs.Order.{extent_in, get_in};
@@ -27,6 +27,8 @@ pub fn create_table_adds_a_node()
         → extent_in (inserted (nodes_of_catalog roots catalog) (item_node (item_of_table roots (new_table table.0 name)))) (item_key (item.Greatest table.0)) ≡ Some (length (item_data (item.Greatest table.0))) }
     ensures after { (roots : Roots) (catalog : CatalogState) (table : TableId) (name : List ℕ) → HasNodesThrough roots catalog (step.CreateTable table name)
         → with_data_at (inserted (nodes_of_catalog roots catalog) (item_node (item_of_table roots (new_table table.0 name)))) (item_key (item.Greatest table.0)) (item_data (item.Greatest table.0)) ≡ nodes_of_catalog roots (catalog_after catalog (step.CreateTable table name)) }
+    ensures fits { (roots : Roots) (catalog : CatalogState) (table : TableId) (name : List ℕ) → has_nodes roots catalog ≡ true → IsNumbered catalog → IsTrue (has_new_id catalog (step.CreateTable table name)) → item_fits (item_of_table roots (new_table table.0 name)) ≡ true
+        → has_nodes roots (catalog_after catalog (step.CreateTable table name)) ≡ true }
 {}
 
 /// A new column is one node more, and then its table's node has other data, with the greatest columns.
@@ -37,6 +39,8 @@ pub fn add_column_adds_a_node()
         → extent_in (inserted (nodes_of_catalog roots catalog) (item_node (item_of_column t column))) (item_key (item_of_table roots (with_column column t))) ≡ Some (length (item_data (item_of_table roots (with_column column t)))) }
     ensures after { (roots : Roots) (catalog : CatalogState) (table : TableId) (column : Column) (t : Table) → table_with_id catalog.tables table.0 ≡ Some t → HasNodesThrough roots catalog (step.AddColumn table column)
         → with_data_at (inserted (nodes_of_catalog roots catalog) (item_node (item_of_column t column))) (item_key (item_of_table roots (with_column column t))) (item_data (item_of_table roots (with_column column t))) ≡ nodes_of_catalog roots (catalog_after catalog (step.AddColumn table column)) }
+    ensures fits { (roots : Roots) (catalog : CatalogState) (table : TableId) (column : Column) (t : Table) → table_with_id catalog.tables table.0 ≡ Some t → has_nodes roots catalog ≡ true → item_fits (item_of_column t column) ≡ true → has_column t column.id.0 ≡ false → 0 < column.id.0
+        → has_nodes roots (catalog_after catalog (step.AddColumn table column)) ≡ true }
 {}
 
 /// A column that is deleted is one node less, which has its number in its key.
@@ -45,6 +49,8 @@ pub fn delete_column_removes_a_node()
         → IsSome (get_in (nodes_of_catalog roots catalog) (catalog_key 2 table.0 column.0)) }
     ensures after { (roots : Roots) (catalog : CatalogState) (table : TableId) (column : ColumnId) (t : Table) → table_with_id catalog.tables table.0 ≡ Some t → has_column t column.0 ≡ true → has_nodes roots catalog ≡ true
         → without_key (nodes_of_catalog roots catalog) (catalog_key 2 table.0 column.0) ≡ nodes_of_catalog roots (catalog_after catalog (step.DeleteColumn table column)) }
+    ensures fits { (roots : Roots) (catalog : CatalogState) (table : TableId) (column : ColumnId) (t : Table) → table_with_id catalog.tables table.0 ≡ Some t → has_column t column.0 ≡ true → has_nodes roots catalog ≡ true
+        → has_nodes roots (catalog_after catalog (step.DeleteColumn table column)) ≡ true }
 {}
 
 /// A new index is one node more.
@@ -53,6 +59,8 @@ pub fn create_index_adds_a_node()
         → get_in (nodes_of_catalog roots catalog) (item_key (item_of_index roots t rule)) ≡ None }
     ensures after { (roots : Roots) (catalog : CatalogState) (table : TableId) (rule : IndexRule) (t : Table) → table_with_id catalog.tables table.0 ≡ Some t → HasNodesThrough roots catalog (step.CreateIndex table rule)
         → inserted (nodes_of_catalog roots catalog) (item_node (item_of_index roots t rule)) ≡ nodes_of_catalog roots (catalog_after catalog (step.CreateIndex table rule)) }
+    ensures fits { (roots : Roots) (catalog : CatalogState) (table : TableId) (rule : IndexRule) (t : Table) → table_with_id catalog.tables table.0 ≡ Some t → has_nodes roots catalog ≡ true → item_fits (item_of_index roots t rule) ≡ true → has_index t rule.id.0 ≡ false → 0 < rule.id.0
+        → has_nodes roots (catalog_after catalog (step.CreateIndex table rule)) ≡ true }
 {}
 
 /// An index that is deleted is one node less, which has its number in its key.
@@ -61,6 +69,8 @@ pub fn delete_index_removes_a_node()
         → IsSome (get_in (nodes_of_catalog roots catalog) (catalog_key 3 table.0 index.0)) }
     ensures after { (roots : Roots) (catalog : CatalogState) (table : TableId) (index : IndexId) (t : Table) → table_with_id catalog.tables table.0 ≡ Some t → has_index t index.0 ≡ true → has_nodes roots catalog ≡ true
         → without_key (nodes_of_catalog roots catalog) (catalog_key 3 table.0 index.0) ≡ nodes_of_catalog roots (catalog_after catalog (step.DeleteIndex table index)) }
+    ensures fits { (roots : Roots) (catalog : CatalogState) (table : TableId) (index : IndexId) (t : Table) → table_with_id catalog.tables table.0 ≡ Some t → has_index t index.0 ≡ true → has_nodes roots catalog ≡ true
+        → has_nodes roots (catalog_after catalog (step.DeleteIndex table index)) ≡ true }
 {}
 
 /// Of a table that is deleted the nodes of its indexes go, in their order of making, then those of its columns, and then
@@ -74,6 +84,8 @@ pub fn delete_table_removes_its_nodes()
         → IsSome (get_in (without_parts roots catalog t) (item_key (item_of_table roots t))) }
     ensures after { (roots : Roots) (catalog : CatalogState) (table : TableId) (t : Table) → table_with_id catalog.tables table.0 ≡ Some t → has_nodes roots catalog ≡ true
         → without_key (without_parts roots catalog t) (item_key (item_of_table roots t)) ≡ nodes_of_catalog roots (catalog_after catalog (step.DeleteTable table)) }
+    ensures fits { (roots : Roots) (catalog : CatalogState) (table : TableId) (t : Table) → table_with_id catalog.tables table.0 ≡ Some t → has_nodes roots catalog ≡ true
+        → has_nodes roots (catalog_after catalog (step.DeleteTable table)) ≡ true }
 {}
 
 /// Nodes go one after the other: a loop over the items of a table takes out one more each time.

@@ -10,7 +10,8 @@ use crate::buffer::{KEY_BYTES, NodeData};
 use index_derive::{Condition, Segment};
 use jet_base::Name;
 
-/// The key of a kind, a table, and a column or an index.
+/// The key of a kind, a table, and a column or an index: 0 in the place of what it has not. The kinds are 0 for the greatest
+/// number, 1 for tables, 2 for columns and 3 for indexes.
 pub fn key_of(kind: u8, table: u32, id: u16) -> [u8; KEY_BYTES]
     ensures { result ≡ catalog_key kind table id }
 {

@@ -9,4 +9,5 @@ mod writing;
 
 pub use buffer::{LARGEST_DATA, NodeBuffer};
 pub use fault::CatalogFault;
+pub use fields::key_of;
 pub use reading::decode;

@@ -1,1 +1,2 @@
 pub mod CatalogTrees
+pub mod CatalogsKept

@@ -185,6 +185,7 @@ fn pages_taken(space: &Space) -> usize {
 fn a_tree_is_its_list(rt: HostRuntime) {
     let mut space = Space::new(rt.alloc());
     let mut tree = Tree::new(&mut space).expect(&rt, "memory");
+    let root = tree.root();
     let mut list = [None; 1_000];
     let mut random = 1u32;
     for turn in 0..10_000u32 {
@@ -203,6 +204,7 @@ fn a_tree_is_its_list(rt: HostRuntime) {
         assert!(&rt; take(&mut space, &mut tree, &key) == list[number].is_some());
     }
     assert!(&rt; pages_taken(&space) == 1);
+    assert!(&rt; space.is_taken(root) && tree.root() == root);
     assert!(&rt; tree.first(&space).is_none());
 }
 

@@ -1,3 +1,4 @@
+use Rattle.catalog_changes.proofs.StepFits.{column_fits_in}
 use Rattle.catalog_changes.proofs.StepNodes.{column_made}
 use Rattle.catalog_changes.proofs.steps.add_column_adds_a_node.Goals as goal
 
@@ -9,3 +10,6 @@ returns-clause-same_length c = λ roots catalog table column t found through. (c
 
 pub returns-clause-after : goal.returns-clause-after
 returns-clause-after c = λ roots catalog table column t found through. (column_made roots catalog table column t found through).nodes
+
+pub returns-clause-fits : goal.returns-clause-fits
+returns-clause-fits c = column_fits_in

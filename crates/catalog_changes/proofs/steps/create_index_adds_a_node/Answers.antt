@@ -1,3 +1,4 @@
+use Rattle.catalog_changes.proofs.StepFits.{index_fits_in}
 use Rattle.catalog_changes.proofs.StepNodes.{index_made}
 use Rattle.catalog_changes.proofs.steps.create_index_adds_a_node.Goals as goal
 
@@ -6,3 +7,6 @@ returns-clause-absent c = λ roots catalog table rule t found through. (index_ma
 
 pub returns-clause-after : goal.returns-clause-after
 returns-clause-after c = λ roots catalog table rule t found through. (index_made roots catalog table rule t found through).nodes
+
+pub returns-clause-fits : goal.returns-clause-fits
+returns-clause-fits c = index_fits_in

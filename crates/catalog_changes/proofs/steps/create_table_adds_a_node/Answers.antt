@@ -1,3 +1,4 @@
+use Rattle.catalog_changes.proofs.StepFits.{table_fits_in}
 use Rattle.catalog_changes.proofs.StepNodes.{table_made}
 use Rattle.catalog_changes.proofs.steps.create_table_adds_a_node.Goals as goal
 
@@ -9,3 +10,6 @@ returns-clause-same_length c = λ roots catalog table name through. (table_made 
 
 pub returns-clause-after : goal.returns-clause-after
 returns-clause-after c = λ roots catalog table name through. (table_made roots catalog table name through).nodes
+
+pub returns-clause-fits : goal.returns-clause-fits
+returns-clause-fits c = table_fits_in

@@ -6,3 +6,6 @@ returns-clause-there c = λ roots catalog table column t found has fits. (column
 
 pub returns-clause-after : goal.returns-clause-after
 returns-clause-after c = λ roots catalog table column t found has fits. (column_deleted roots catalog table column t found has fits).nodes
+
+pub returns-clause-fits : goal.returns-clause-fits
+returns-clause-fits c = λ roots catalog table column t found has fits. (column_deleted roots catalog table column t found has fits).fits

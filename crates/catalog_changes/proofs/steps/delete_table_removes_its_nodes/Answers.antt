@@ -1,5 +1,5 @@
 use Rattle.jet_base.specs.Ids.{table_id}
-use Rattle.catalog_changes.proofs.StepNodes.{columns_go, indexes_go, table_goes}
+use Rattle.catalog_changes.proofs.StepNodes.{columns_go, indexes_go, table_goes, tables_left}
 use Rattle.catalog_changes.proofs.steps.delete_table_removes_its_nodes.Goals as goal
 
 pub returns-clause-indexes : goal.returns-clause-indexes
@@ -13,3 +13,6 @@ returns-clause-table c = λ roots catalog t found fits. (table_goes roots catalo
 
 pub returns-clause-after : goal.returns-clause-after
 returns-clause-after c = λ roots catalog table t found fits. (table_goes roots catalog table t found fits).nodes
+
+pub returns-clause-fits : goal.returns-clause-fits
+returns-clause-fits c = tables_left
