@@ -4,7 +4,7 @@ use Rattle.std.specs.Prelude.{is_some}
 use Rattle.jet_base.specs.declared.replies.Jet.TheVariants as jet
 use Rattle.index_derive.specs.declared.entries.Place.TheVariants.{Before}
 use Rattle.cursor_nav.specs.Places.{Pair, KeyRange, entry_before, is_within, on_or, place_at_limit, place_key}
-use Rattle.cursor_nav.specs.Navigation.{CursorState, Navigated, found_or, limited, moved_previous}
+use Rattle.cursor_nav.specs.Navigation.{CursorState, found_or, limited, moved_previous}
 use Rattle.cursor_nav.specs.Steps.{arrived, arrived_within}
 
 pub arrived_previous : (cursor : CursorState) (entries : List Pair) (range : Option KeyRange)

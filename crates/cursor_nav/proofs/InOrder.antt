@@ -1,6 +1,6 @@
 -- Lists in order, each element once: what lies beyond and before an element, and how many do.
-use Rattle.std.proofs.Common.{◌≡◌, ℕ, ◌+◌, zero, suc, Bool, true, false, not, ◌&&◌, ◌||◌, cond, ◌⊎◌, inl, inr, List, [], ◌∷◌, length, filter, find, Option, Some, None, refl, sym, ap, subst, ◌∙◌, true≢false}
-use Rattle.std.specs.List.{last_or, list_any, list_all}
+use Rattle.std.proofs.Common.{◌≡◌, ℕ, suc, Bool, true, false, not, ◌&&◌, ◌||◌, cond, ◌⊎◌, inl, inr, List, [], ◌∷◌, length, filter, find, Option, Some, None, refl, sym, ap, subst, ◌∙◌, true≢false}
+use Rattle.std.specs.List.{last_or, list_any}
 
 pub record IsStrict {X : Type 0} (lt : X → X → Bool) : Type 0 where
   pub trans : (x y z : X) → lt x y ≡ true → lt y z ≡ true → lt x z ≡ true

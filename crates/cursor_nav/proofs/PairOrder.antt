@@ -1,18 +1,17 @@
 -- The order of entries, and what limits make of it.
-use Rattle.std.proofs.Common.{◌≡◌, ℕ, suc, Bool, true, false, not, ◌&&◌, ◌||◌, cond, if◌then◌else◌, List, [], ◌∷◌, length, filter, find, Option, Some, None, refl, sym, ap, subst, ◌∙◌, true≢false, bytes_eq}
+use Rattle.std.proofs.Common.{◌≡◌, ℕ, suc, Bool, true, false, not, ◌&&◌, ◌||◌, if◌then◌else◌, List, [], ◌∷◌, length, filter, find, Option, Some, None, refl, sym, ap, subst, ◌∙◌, true≢false, bytes_eq}
 use Rattle.std.specs.declared.cmp.Ordering.{Ordering}
 use Rattle.std.specs.declared.cmp.Ordering.TheVariants.{Less, Equal, Greater}
-use Rattle.std.specs.Ordering.{nat_cmp, is_lt, is_le, is_gt, is_eq, eq_by_cmp, ordering_then, ordering_reverse, on, then_cmp}
+use Rattle.std.specs.Ordering.{nat_cmp, is_lt, is_le, is_eq, ordering_then, ordering_reverse, on, then_cmp}
 use Rattle.std.specs.Cmp.{IsTotalOrder, then_total, on_total, tied_itself}
 use Rattle.std.specs.Cmp.Lexicographic.{slice_cmp, nat_list_cmp_total, texts_ties}
 use Rattle.std.specs.List.{list_any, list_all, last_or}
-use Rattle.std.proofs.lemmas.List.Sums.{AllPass-from_list_all}
 use Rattle.column_set.specs.RecordValues.{bytes_lt, bytes_le}
 use Rattle.index_derive.specs.declared.entries.Place.{Place}
 use Rattle.index_derive.specs.declared.entries.Place.TheVariants.{Before, After, On, Gap}
-use Rattle.cursor_nav.specs.Places.{Pair, KeyRange, pair_lt, are_sorted, is_on, place_pair, is_beyond, is_short_of, entry_after, entry_before, is_within, is_within_upper, reaches_limit, entries_from}
+use Rattle.cursor_nav.specs.Places.{Pair, KeyRange, pair_lt, are_sorted, is_on, place_pair, entry_after, entry_before, is_within, is_within_upper, entries_from}
 use Rattle.cursor_nav.specs.Steps.{only_equal, reaches_from, nearest_entry}
-use Rattle.cursor_nav.proofs.InOrder.{IsStrict, Always, InOrder, IsIn, by_test, after_found, before_list, holds, rest_len, only_passing, first_not_below, all_not_above, any_not_below, any_not_above, find_in, count_up, count_step, count_stop, find_narrower}
+use Rattle.cursor_nav.proofs.InOrder.{IsStrict, Always, InOrder, IsIn, by_test, after_found, before_list, holds, rest_len, only_passing, first_not_below, all_not_above, any_not_below, any_not_above, count_up, count_step, count_stop, find_narrower}
 
 -- ---- a total order is strict
 

@@ -1,5 +1,5 @@
 -- A cursor of the code as the definitions see it.
-use Rattle.std.specs.Prelude.{Option, option_map}
+use Rattle.std.specs.Prelude.{option_map}
 use Rattle.cursor_nav.specs.declared.cursor.Cursor.TheInside.{Inside}
 use Rattle.cursor_nav.specs.declared.parts.KeyInMaking.{KeyInMaking}
 use Rattle.cursor_nav.specs.declared.parts.Limit.{Limit}

@@ -3,15 +3,10 @@ use Rattle.std.specs.Prelude.{ℕ, Bool, true, false, not, ◌&&◌, List, [], �
 use Rattle.std.specs.List.{last_or}
 use Rattle.jet_base.specs.declared.replies.Jet.TheVariants as jet
 use Rattle.index_derive.specs.declared.entries.Place.{Place}
-use Rattle.index_derive.specs.declared.entries.Place.TheVariants.{On}
+use Rattle.index_derive.specs.declared.entries.Place.TheVariants.{On, Gap}
 use Rattle.index_derive.specs.declared.entries.IndexEntry.{IndexEntry}
 use Rattle.cursor_nav.specs.Places.{Pair, KeyRange, pair_lt, pair_of, is_beyond, is_short_of, is_within, place_at_limit, place_key, reaches_limit}
 use Rattle.cursor_nav.specs.Navigation.{CursorState, Navigated}
-
--- on the entry that was found, or else at this place
-abbrev pub standing : CursorState → Option Pair → Place → CursorState
-standing cursor (Some entry) place = record cursor { place = On entry.0 entry.1 }
-standing cursor None place = record cursor { place = place }
 
 -- a move that came to an entry, or else stands at this place
 abbrev pub arrived : CursorState → Bool → Place → Navigated
@@ -41,6 +36,23 @@ nearest_entry upper from entries = if upper then find (λ entry. not (pair_lt en
 abbrev pub only_equal : List ℕ → Option Pair → Option Pair
 only_equal key None = None
 only_equal key (Some entry) = if bytes_eq entry.0 key then Some entry else None
+
+-- whether a place is an entry with the key
+abbrev pub stands_at : List ℕ → Place → Bool
+stands_at key (On found bookmark) = bytes_eq found key
+stands_at key _ = false
+
+-- a seek that came to an entry, or else stands just above or just below the key's entries
+abbrev pub landed : CursorState → Bool → List ℕ → Bool → Navigated
+landed cursor found key above =
+    if found then record { jet = jet.Success; cursor = cursor }
+    else record { jet = jet.RecordNotFound; cursor = record cursor { place = Gap key above } }
+
+-- the same, with a warning where the entry's key is another
+abbrev pub landed_near : CursorState → Bool → List ℕ → Bool → Navigated
+landed_near cursor found key above =
+    if found && not (stands_at key cursor.place) then record { jet = jet.SeekNotEqual; cursor = cursor }
+    else landed cursor found key above
 
 -- whether it lies below the first of the others, where there is one
 abbrev pub is_below_first : Pair → List Pair → Bool

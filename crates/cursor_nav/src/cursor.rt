@@ -1,14 +1,12 @@
 //! A cursor.
 
-ghost use Rattle.std.specs.Prelude.{◌≡◌, IsTrue, is_some, Option, Some, None};
+ghost use Rattle.std.specs.Prelude.{◌≡◌, IsTrue, Option, Some, None};
 ghost use Rattle.index_derive.specs.declared.entries.Place.TheVariants.{On};
-ghost use Rattle.cursor_nav.specs.Places.{found_pair};
 ghost use Rattle.cursor_nav.specs.Navigation.{CursorState, new_cursor, index_set, without_range, current_answer, gone_to, answer_of};
-ghost use Rattle.cursor_nav.specs.Steps.{standing};
 
 use crate::parts::{KeyInMaking, Limit};
 use crate::view::View;
-use index_derive::{IndexEntry, Place};
+use index_derive::Place;
 use jet_base::{IndexId, Jet, TableId};
 use std::marker::Model;
 
@@ -100,8 +98,10 @@ impl Cursor {
         self.index = index;
         self.key = None;
         self.range = None;
-        let first = view.after(self.table, index, &Place::Before);
-        self.stand(first, Place::Before);
+        self.place = Place::Before;
+        if !view.advance(self.table, index, &mut self.place) {
+            self.place = Place::Before;
+        }
         Ok(Moved::success())
     }
 
@@ -161,23 +161,6 @@ impl Cursor {
                 Ok(Moved::success())
             }
             None => Err(Jet::NoCurrentRecord),
-        }
-    }
-
-    /// Stands on the entry that was found, or else at this place; and whether one was found.
-    pub(crate) fn stand(&mut self, found: Option<IndexEntry>, otherwise: Place) -> bool
-        ensures found { result ≡ is_some found }
-        ensures cursor { self.new ≡ standing self.old (found_pair found) otherwise }
-    {
-        match found {
-            Some(entry) => {
-                self.place = Place::On(entry.key, entry.bookmark);
-                true
-            }
-            None => {
-                self.place = otherwise;
-                false
-            }
         }
     }
 }

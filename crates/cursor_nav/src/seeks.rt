@@ -1,14 +1,16 @@
 //! Seeks.
 
-ghost use Rattle.std.specs.Prelude.{◌≡◌, find, bytes_eq};
-ghost use Rattle.cursor_nav.specs.Places.{found_pair, entry_after, entry_before};
-ghost use Rattle.cursor_nav.specs.Navigation.{sought, sought_by, found_or, if_equal, answer_of};
-ghost use Rattle.cursor_nav.specs.Steps.{only_equal};
+ghost use Rattle.std.specs.Prelude.{◌≡◌, is_some};
+ghost use Rattle.index_derive.specs.declared.entries.Place.TheVariants.{After, Before, Gap};
+ghost use Rattle.cursor_nav.specs.declared.seek_by.SeekBy.TheVariants as by;
+ghost use Rattle.cursor_nav.specs.Places.{entry_after, entry_before, on_or};
+ghost use Rattle.cursor_nav.specs.Navigation.{sought, sought_by, answer_of};
+ghost use Rattle.cursor_nav.specs.Steps.{landed, landed_near, stands_at};
 
 use crate::cursor::{Cursor, Moved};
 use crate::seek_by::SeekBy;
 use crate::view::View;
-use index_derive::{IndexEntry, Place};
+use index_derive::Place;
 use jet_base::Jet;
 use key_normal::Key;
 
@@ -35,100 +37,89 @@ impl Cursor {
         ensures answer { result ≡ answer_of (sought_by self.old (W.entries view.now self.old.table self.old.index) key.now by).jet 0 }
         ensures cursor { self.new ≡ (sought_by self.old (W.entries view.now self.old.table self.old.index) key.now by).cursor }
     {
-        let below = Place::Gap(key.copy(), false);
-        let above = Place::Gap(key.copy(), true);
         match by {
-            SeekBy::Eq => {
-                let first = self.first_equal(view, key);
-                self.land(first, below)
-            }
+            SeekBy::Eq => self.seek_equal(view, key),
             SeekBy::Ge => {
-                let first = self.first_beyond(view, &below);
-                self.land_near(first, key, below)
+                let found = self.seek_up(view, key, false);
+                self.land_near(found, key, false)
             }
             SeekBy::Gt => {
-                let first = self.first_beyond(view, &above);
-                self.land(first, above)
+                let found = self.seek_up(view, key, true);
+                self.land(found, key, true)
             }
             SeekBy::Le => {
-                let last = self.last_before(view, &above);
-                self.land_near(last, key, above)
+                let found = self.seek_down(view, key, true);
+                self.land_near(found, key, true)
             }
             SeekBy::Lt => {
-                let last = self.last_before(view, &below);
-                self.land(last, below)
+                let found = self.seek_down(view, key, false);
+                self.land(found, key, false)
             }
         }
     }
 
-    /// The first entry with the key.
-    fn first_equal<W: View>(&self, view: &W, key: &Key) -> Option<IndexEntry>
-        ensures { found_pair result ≡ find (λ entry. bytes_eq entry.0 key.now) (W.entries view.now self.now.table self.now.index) }
+    /// Seeks the first entry with the key.
+    fn seek_equal<W: View>(&mut self, view: &W, key: &Key) -> Result<Moved, Jet>
+        ensures answer { result ≡ answer_of (sought_by self.old (W.entries view.now self.old.table self.old.index) key.now by.Eq).jet 0 }
+        ensures cursor { self.new ≡ (sought_by self.old (W.entries view.now self.old.table self.old.index) key.now by.Eq).cursor }
     {
-        let first = self.first_beyond(view, &Place::Gap(key.copy(), false));
-        only_with_key(first, key)
+        self.seek_up(view, key, false);
+        let equal = self.has_key(key);
+        self.land(equal, key, false)
     }
 
-    /// The first entry beyond the place.
-    fn first_beyond<W: View>(&self, view: &W, place: &Place) -> Option<IndexEntry>
-        ensures { found_pair result ≡ entry_after place.now (W.entries view.now self.now.table self.now.index) }
+    /// To the first entry beyond the gap above or below the key's entries.
+    fn seek_up<W: View>(&mut self, view: &W, key: &Key, above: bool) -> bool
+        ensures found { result ≡ is_some (entry_after (Gap key.now above) (W.entries view.now self.old.table self.old.index)) }
+        ensures cursor { self.new ≡ record self.old { place = on_or (entry_after (Gap key.now above) (W.entries view.now self.old.table self.old.index)) After } }
     {
-        view.after(self.table, self.index, place)
+        self.place = Place::Gap(key.copy(), above);
+        view.advance(self.table, self.index, &mut self.place)
     }
 
-    /// The last entry before the place.
-    fn last_before<W: View>(&self, view: &W, place: &Place) -> Option<IndexEntry>
-        ensures { found_pair result ≡ entry_before place.now (W.entries view.now self.now.table self.now.index) }
+    /// To the last entry before the gap.
+    fn seek_down<W: View>(&mut self, view: &W, key: &Key, above: bool) -> bool
+        ensures found { result ≡ is_some (entry_before (Gap key.now above) (W.entries view.now self.old.table self.old.index)) }
+        ensures cursor { self.new ≡ record self.old { place = on_or (entry_before (Gap key.now above) (W.entries view.now self.old.table self.old.index)) Before } }
     {
-        view.before(self.table, self.index, place)
+        self.place = Place::Gap(key.copy(), above);
+        view.retreat(self.table, self.index, &mut self.place)
     }
 
-    /// Stands on the entry that was found, or else at this place.
-    fn land(&mut self, found: Option<IndexEntry>, otherwise: Place) -> Result<Moved, Jet>
-        ensures answer { result ≡ answer_of (found_or self.old Jet.Success (found_pair found) Jet.RecordNotFound otherwise).jet 0 }
-        ensures cursor { self.new ≡ (found_or self.old Jet.Success (found_pair found) Jet.RecordNotFound otherwise).cursor }
+    /// Whether the place is an entry with the key.
+    fn has_key(&self, key: &Key) -> bool
+        ensures { result ≡ stands_at key.now self.now.place }
     {
-        if self.stand(found, otherwise) {
+        match &self.place {
+            Place::On(found, _) => *found == *key,
+            _ => false,
+        }
+    }
+
+    /// What a seek answers that came to an entry, or else stands in the gap.
+    fn land(&mut self, found: bool, key: &Key, above: bool) -> Result<Moved, Jet>
+        ensures answer { result ≡ answer_of (landed self.old found key.now above).jet 0 }
+        ensures cursor { self.new ≡ (landed self.old found key.now above).cursor }
+    {
+        if found {
             Ok(Moved::success())
         } else {
+            self.place = Place::Gap(key.copy(), above);
             Err(Jet::RecordNotFound)
         }
     }
 
     /// The same, with a warning where the entry's key is another.
-    fn land_near(
-        &mut self,
-        found: Option<IndexEntry>,
-        key: &Key,
-        otherwise: Place,
-    ) -> Result<Moved, Jet>
-        ensures answer { result ≡ answer_of (found_or self.old (if_equal key.now (found_pair found)) (found_pair found) Jet.RecordNotFound otherwise).jet 0 }
-        ensures cursor { self.new ≡ (found_or self.old (if_equal key.now (found_pair found)) (found_pair found) Jet.RecordNotFound otherwise).cursor }
+    fn land_near(&mut self, found: bool, key: &Key, above: bool) -> Result<Moved, Jet>
+        ensures answer { result ≡ answer_of (landed_near self.old found key.now above).jet 0 }
+        ensures cursor { self.new ≡ (landed_near self.old found key.now above).cursor }
     {
-        match found {
-            Some(entry) => {
-                let jet = if entry.key == *key {
-                    Jet::Success
-                } else {
-                    Jet::SeekNotEqual
-                };
-                self.place = Place::On(entry.key, entry.bookmark);
-                Ok(Moved { jet, number: 0 })
-            }
-            None => {
-                self.place = otherwise;
-                Err(Jet::RecordNotFound)
-            }
+        if found && !self.has_key(key) {
+            return Ok(Moved {
+                jet: Jet::SeekNotEqual,
+                number: 0,
+            });
         }
-    }
-}
-
-/// The entry where it has the key.
-fn only_with_key(found: Option<IndexEntry>, key: &Key) -> Option<IndexEntry>
-    ensures { found_pair result ≡ only_equal key.now (found_pair found) }
-{
-    match found {
-        Some(entry) => { if entry.key == *key { Some(entry) } else { None } }
-        None => None,
+        self.land(found, key, above)
     }
 }

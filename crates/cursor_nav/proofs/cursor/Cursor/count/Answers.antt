@@ -1,9 +1,6 @@
-use Rattle.std.proofs.Common.{◌≡◌, ◌≤◌, not, ◌&&◌, length, min, Ok, refl, ap, ◌∙◌, sym}
-use Rattle.std.specs.Prelude.{unwrap_or}
-use Rattle.jet_base.specs.declared.replies.Jet.TheVariants as jet
-use Rattle.cursor_nav.specs.declared.cursor.Moved.{Moved}
+use Rattle.std.proofs.Common.{◌≡◌, ◌≤◌, not, ◌&&◌, length, min, refl, ap, ◌∙◌}
 use Rattle.cursor_nav.specs.Places.{Pair, pair_lt, place_pair, is_within_upper, entries_from}
-use Rattle.cursor_nav.specs.Navigation.{count_from, at_most, current_answer, answer_of}
+use Rattle.cursor_nav.specs.Navigation.{count_from, at_most}
 use Rattle.cursor_nav.proofs.Counting.{length_filter, at_most_is, current_is}
 use Rattle.cursor_nav.proofs.cursor.Cursor.count.Goals as goal
 

@@ -1,4 +1,4 @@
-use Rattle.std.proofs.Common.{◌≡◌, ℕ, suc, ◌+◌, true, false, not, length, Some, ap, ◌∙◌, sym, subst, arith}
+use Rattle.std.proofs.Common.{◌≡◌, true, false, not, length, Some, ap, ◌∙◌, sym, subst, arith}
 use Rattle.index_derive.specs.declared.entries.Place.TheVariants.{On}
 use Rattle.cursor_nav.specs.Places.{Pair, pair_lt, place_pair, found_pair, is_beyond, is_within_upper, entry_after, entries_from}
 use Rattle.cursor_nav.specs.Navigation.{CursorState}

@@ -1,5 +1,5 @@
-use Rattle.std.proofs.Common.{◌≡◌, ◌+◌, length, Option, Some, None}
-use Rattle.cursor_nav.specs.Places.{Pair, place_pair, found_pair, entries_from}
+use Rattle.std.proofs.Common.{◌≡◌, ◌+◌, length}
+use Rattle.cursor_nav.specs.Places.{place_pair, found_pair, entries_from}
 use Rattle.cursor_nav.proofs.InOrder.{IsFound}
 use Rattle.cursor_nav.proofs.PairOrder.{count_at}
 use Rattle.cursor_nav.proofs.cursor.Cursor.count_to.Given as goal

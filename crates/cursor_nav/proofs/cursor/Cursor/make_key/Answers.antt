@@ -1,4 +1,4 @@
-use Rattle.std.proofs.Common.{◌≡◌, ◌≤◌, ap, ◌∙◌}
+use Rattle.std.proofs.Common.{ap, ◌∙◌}
 use Rattle.cursor_nav.specs.MakingKeys.{key_made, key_made_in, has_short_keys}
 use Rattle.cursor_nav.specs.Navigation.{answer_of}
 use Rattle.cursor_nav.proofs.Cutting.{short_keys}

@@ -1,5 +1,4 @@
 use Rattle.std.proofs.Common.{◌≡◌, false, ap, ◌∙◌, subst}
-use Rattle.jet_base.specs.declared.words.Way.TheVariants as way
 use Rattle.cursor_nav.specs.Navigation.{CursorState, Navigated, moved, moved_previous, answer_of}
 use Rattle.cursor_nav.specs.Steps.{arrived_within}
 use Rattle.cursor_nav.specs.CursorView.{cursor_state}

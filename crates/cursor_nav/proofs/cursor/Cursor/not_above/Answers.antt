@@ -1,6 +1,6 @@
-use Rattle.std.proofs.Common.{◌≡◌, true, not, find, filter, None, ap, ◌∙◌, sym, subst}
+use Rattle.std.proofs.Common.{◌≡◌, true, not, filter, None, ap, ◌∙◌, sym, subst}
 use Rattle.std.specs.List.{last_or}
-use Rattle.cursor_nav.specs.Places.{Pair, pair_lt, is_on, place_pair, found_pair}
+use Rattle.cursor_nav.specs.Places.{pair_lt, is_on, place_pair, found_pair}
 use Rattle.cursor_nav.specs.Navigation.{CursorState}
 use Rattle.cursor_nav.proofs.PairOrder.{not_above_by_neighbour, entry_short_of}
 use Rattle.cursor_nav.proofs.cursor.Cursor.not_above.Goals as goal
