@@ -22,7 +22,7 @@ use Rattle.equivalent_states.proofs.Lawful.{lawful_alike}
 use Rattle.equivalent_states.proofs.LawfulSteps.{after_alike}
 use Rattle.equivalent_states.proofs.Reading.{by_past}
 use Rattle.held_states.specs.PlainColumns.{HasPlainIndexes}
-use Rattle.held_states.proofs.BuiltIndexes.{built_read_no_sums}
+use Rattle.held_states.proofs.HeldIndexes.{held_read_no_sums}
 use Rattle.held_states.proofs.HeldStates.{held_equivalent}
 use Rattle.held_states.proofs.PlainSteps.{plain_read_no_sums, stays_plain}
 
@@ -59,8 +59,8 @@ held_answers engine one other h g session local in_step request =
     by_past
     (λ one other. read_no_sums one.tables ≡ true → (limit session : ℕ) (local : LocalState) → Agrees one session local → (request : Request)
     → answer (record { limit = limit; state = one; session = session; local = local }) request ≡ answer (record { limit = limit; state = other; session = session; local = local }) request) answers_alike one other
-    (held_equivalent engine one other h g) (built_read_no_sums one.tables h.built) engine.limit session local in_step.agrees request
+    (held_equivalent engine one other h g) (held_read_no_sums engine one h) engine.limit session local in_step.agrees request
 
 pub held_entries : (engine : EngineState) (one other : DatabaseState) → HoldsState engine one → HoldsState engine other → (made : Entry) → is_lawful one made ≡ is_lawful other made
 held_entries engine one other h g made =
-    by_past (λ one other. read_no_sums one.tables ≡ true → (made : Entry) → is_lawful one made ≡ is_lawful other made) lawful_alike one other (held_equivalent engine one other h g) (built_read_no_sums one.tables h.built) made
+    by_past (λ one other. read_no_sums one.tables ≡ true → (made : Entry) → is_lawful one made ≡ is_lawful other made) lawful_alike one other (held_equivalent engine one other h g) (held_read_no_sums engine one h) made

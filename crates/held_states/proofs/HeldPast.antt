@@ -1,26 +1,32 @@
 -- What held changes tell of the kept ones, from the newest records back.
-use Rattle.std.proofs.Common.{◌≡◌, ℕ, Bool, true, false, not, ◌&&◌, cond, List, [], ◌∷◌, Option, Some, None, refl, sym, ap, ◌∙◌, bytes_eq}
-use Rattle.std.specs.Prelude.{◌==◌, map}
+use Rattle.std.proofs.Common.{◌≡◌, ℕ, Bool, true, false, not, ◌&&◌, cond, List, [], ◌∷◌, Option, Some, None, refl, sym, ap, subst, ◌∙◌, bytes_eq}
+use Rattle.std.specs.Prelude.{◌==◌, is_some, map, neg_ℤ, option_map, unwrap_or, IfSome}
 use Rattle.std.specs.List.{AllByRecursion}
 use Rattle.column_set.specs.declared.changes.Change.{Change}
 use Rattle.column_set.specs.declared.changes.Change.TheVariants.{Put, Drop, Hold, Add}
+use Rattle.column_set.specs.declared.columns.Column.{Column}
 use Rattle.column_set.specs.RecordValues.{RecordFields}
-use Rattle.database_state.specs.Table.{Table, table_with_id}
-use Rattle.database_state.specs.Changes.{changed_table, changed_bookmark, is_sum, without_copied}
+use Rattle.database_state.specs.Table.{Table, schema_of, table_with_id}
+use Rattle.database_state.specs.Changes.{changed_table, changed_bookmark, is_sum, with_sum, without_copied}
 use Rattle.database_state.specs.State.{PastChange, Status, is_undone}
 use Rattle.database_state.specs.VersionStore.{cost_of}
-use Rattle.database_state.specs.Equivalence.{columns_of, essential_change, without_record}
+use Rattle.database_state.specs.Equivalence.{columns_of, essential_change, without_record, without_sums}
 use Rattle.record_changes.specs.Records.{Records, after_item, is_change_of, record_after, records_after_items}
 use Rattle.record_changes.proofs.Folds.{folded-cons}
-use Rattle.record_changes.proofs.Tests.{and_left, and_right, equal_bytes, same_bytes, same_number, self_equal}
+use Rattle.record_changes.proofs.Tests.{and_left, and_right, equal_bytes, impossible, same_bytes, same_number, self_equal}
 use Rattle.version_history.specs.History.{HasBefores}
 use Rattle.version_history.specs.Readers.{is_rewrite, is_standing}
-use Rattle.version_keys.specs.Variants.{HasNoSums}
+use Rattle.version_history.proofs.Keeping.{some_map}
+use Rattle.version_keys.proofs.UniqueKept.{id_of}
+use Rattle.version_records.specs.EscrowNumbers.{AddsToEscrow}
+use Rattle.version_records.specs.SumBefores.{AreSameButForSums, HasSumBefores}
+use Rattle.version_records.proofs.ClearedSums.{IsOfEscrow, sum_same}
 use Rattle.version_store.specs.declared.calls.ChangeKind.{ChangeKind}
 use Rattle.version_store.specs.declared.calls.ChangeKind.TheVariants as kind
 use Rattle.version_store.specs.HeldChanges.{kind_of, is_rewrite as rewrites}
 use Rattle.versioned_tables.specs.HeldRecords.{HeldRecord}
 use Rattle.versioned_tables.specs.Holding.{AllMatch, Matches}
+use Rattle.versioned_tables.proofs.TakingBack.{GoesBack, TakesBack}
 use Rattle.equivalent_states.proofs.Essential.{forgotten, summed}
 use Rattle.lawful_answers.specs.UncopiedPast.{AreUncopied, IsUncopied}
 
@@ -114,6 +120,13 @@ undone_essence tables x y one p q undone =
     bare : without_record x.change ≡ without_record y.change
     bare = bare_told x.change p ∙ (λ i. change_by (one.kind i) (one.table i) (one.bookmark i) None) ∙ sym (bare_told y.change q)
 
+-- one that stands and is a sum keeps its records but for their sums
+summed_essence : (tables : List Table) (x : PastChange) → is_undone x.status ≡ false → is_sum x.change ≡ true → essential_change tables x ≡ record { item = summed (columns_of (table_with_id tables (changed_table x.change))) x; cost = cost_of x.change x.before }
+summed_essence tables x stands sum =
+    let columns = columns_of (table_with_id tables (changed_table x.change)) in
+    ap (λ a. record { item = cond a (forgotten x) (cond (is_sum x.change) (summed columns x) x); cost = cost_of x.change x.before }) stands
+    ∙ ap (λ b. record { item = cond b (summed columns x) x; cost = cost_of x.change x.before }) sum
+
 -- one that stands and is no sum keeps all
 standing_essence : (tables : List Table) (x : PastChange) → is_undone x.status ≡ false → is_sum x.change ≡ false → essential_change tables x ≡ record { item = x; cost = cost_of x.change x.before }
 standing_essence tables x stands plain =
@@ -179,58 +192,214 @@ change_same x y one p q base other after =
     made : record_after x.change (base (changed_table x.change) (changed_bookmark x.change)) ≡ record_after y.change (other (changed_table y.change) (changed_bookmark y.change))
     made = sym (own x base) ∙ (λ i. after i (one.table i) (one.bookmark i)) ∙ own y other
 
+-- ---- a sum that stands, by the records that hold numbers
+
+-- a sum tells the record that it found
+sum_told : (P Q : RecordFields → Type 0) (c : Change) → is_sum c ≡ true → GoesBack P c → GoesBack Q c → (r s : Option RecordFields) → IfSome r P → IfSome s Q → record_after c r ≡ record_after c s → r ≡ s
+sum_told P Q (Put table bookmark copied values) sum back back_too r s p q e = impossible sum
+sum_told P Q (Drop table bookmark) sum back back_too r s p q e = impossible sum
+sum_told P Q (Hold table bookmark) sum back back_too r s p q e = impossible sum
+sum_told P Q (Add table bookmark column amount) sum back back_too None None p q e = refl
+sum_told P Q (Add table bookmark column amount) sum back back_too None (Some w) p q e = absurd (nothing e)
+  where
+    nothing : None ≡ Some (with_sum w column.0 amount) → ⊥
+    nothing e = cc
+sum_told P Q (Add table bookmark column amount) sum back back_too (Some v) None p q e = absurd (nothing (sym e))
+  where
+    nothing : None ≡ Some (with_sum v column.0 amount) → ⊥
+    nothing e = cc
+sum_told P Q (Add table bookmark column amount) sum back back_too (Some v) (Some w) p q e =
+    ap Some (sym (back v p) ∙ ap (λ (o : Option RecordFields). with_sum (unwrap_or o []) column.0 (neg_ℤ amount)) e ∙ back_too w q)
+
+-- so it tells all records before it
+sum_before_same : (P Q : ℕ → List ℕ → RecordFields → Type 0) (x y : PastChange) → x.change ≡ y.change → is_sum x.change ≡ true → TakesBack P x → TakesBack Q y → (base other : Records)
+    → ((table : ℕ) (bookmark : List ℕ) → IfSome (base table bookmark) (P table bookmark)) → ((table : ℕ) (bookmark : List ℕ) → IfSome (other table bookmark) (Q table bookmark)) → after_item base x ≡ after_item other y → base ≡ other
+sum_before_same P Q x y same sum takes takes_too base other first first_too after = λ i table bookmark. by table bookmark (is_change_of table bookmark x.change) refl i
+  where
+    at : (table : ℕ) (bookmark : List ℕ) → cond (is_change_of table bookmark x.change) (record_after x.change (base table bookmark)) (base table bookmark) ≡ cond (is_change_of table bookmark x.change) (record_after x.change (other table bookmark)) (other table bookmark)
+    at table bookmark = (λ i. after i table bookmark) ∙ sym (ap (λ (c : Change). cond (is_change_of table bookmark c) (record_after c (other table bookmark)) (other table bookmark)) same)
+
+    own : base (changed_table x.change) (changed_bookmark x.change) ≡ other (changed_table x.change) (changed_bookmark x.change)
+    own = sum_told (P (changed_table x.change) (changed_bookmark x.change)) (Q (changed_table x.change) (changed_bookmark x.change)) x.change sum takes.1
+        (subst (λ (c : Change). GoesBack (Q (changed_table c) (changed_bookmark c)) c) (sym same) takes_too.1)
+        (base (changed_table x.change) (changed_bookmark x.change)) (other (changed_table x.change) (changed_bookmark x.change)) (first (changed_table x.change) (changed_bookmark x.change)) (first_too (changed_table x.change) (changed_bookmark x.change))
+        (sym (ap (λ b. cond b (record_after x.change (base (changed_table x.change) (changed_bookmark x.change))) (base (changed_table x.change) (changed_bookmark x.change))) (own_record x.change))
+        ∙ at (changed_table x.change) (changed_bookmark x.change)
+        ∙ ap (λ b. cond b (record_after x.change (other (changed_table x.change) (changed_bookmark x.change))) (other (changed_table x.change) (changed_bookmark x.change))) (own_record x.change))
+
+    by : (table : ℕ) (bookmark : List ℕ) (b : Bool) → is_change_of table bookmark x.change ≡ b → base table bookmark ≡ other table bookmark
+    by table bookmark true e =
+        let t : changed_table x.change ≡ table = same_number (changed_table x.change) table (and_left (changed_table x.change == table) (bytes_eq (changed_bookmark x.change) bookmark) e) in
+        let k : changed_bookmark x.change ≡ bookmark = same_bytes (changed_bookmark x.change) bookmark (and_right (changed_table x.change == table) (bytes_eq (changed_bookmark x.change) bookmark) e) in
+        (λ i. base (sym t i) (sym k i)) ∙ own ∙ (λ i. other (t i) (k i))
+    by table bookmark false e =
+        sym (ap (λ b. cond b (record_after x.change (base table bookmark)) (base table bookmark)) e)
+        ∙ at table bookmark
+        ∙ ap (λ b. cond b (record_after x.change (other table bookmark)) (other table bookmark)) e
+
 -- ---- all of them
 
 abbrev pub LeavesAfter : PastChange → Type 0
 LeavesAfter item = item.after ≡ record_after item.change item.before
+
+-- what is known of kept changes and their starting point: the records before and after them, and that a sum can be taken back
+pub record IsKnownPast (tables : List Table) (P : ℕ → List ℕ → RecordFields → Type 0) (base : Records) (items : List PastChange) : Type 0 where
+  pub befores : HasBefores base items
+  pub afters : AllByRecursion LeavesAfter items
+  pub uncopied : AreUncopied items
+  pub there : AllByRecursion (λ item. is_some (table_with_id tables (changed_table item.change)) ≡ true) items
+  pub escrow : AllByRecursion (λ item. IfSome (table_with_id tables (changed_table item.change)) (λ t. AddsToEscrow (schema_of t) item.change)) items
+  pub sums : (id : ℕ) → IfSome (table_with_id tables id) (λ t. HasSumBefores t.columns t.id base items)
+  pub first : (table : ℕ) (bookmark : List ℕ) → IfSome (base table bookmark) (P table bookmark)
+  pub back : AllByRecursion (TakesBack P) items
+
+rest_known : (tables : List Table) (P : ℕ → List ℕ → RecordFields → Type 0) (base : Records) (x : PastChange) (xs : List PastChange) → IsKnownPast tables P base (x ∷ xs) → IsKnownPast tables P (cond (is_standing x) (after_item base x) base) xs
+rest_known tables P base x xs known = record {
+  befores = known.befores.1;
+  afters = known.afters.1;
+  uncopied = known.uncopied.1;
+  there = known.there.1;
+  escrow = known.escrow.1;
+  sums = λ id. some_map (λ t. HasSumBefores t.columns t.id base (x ∷ xs)) (λ t. HasSumBefores t.columns t.id (cond (is_standing x) (after_item base x) base) xs) (λ t had. had.1) (table_with_id tables id) (known.sums id);
+  first = λ table bookmark. elim (is_standing x) as (λ b. IfSome (cond b (after_item base x) base table bookmark) (P table bookmark)) [ true ↦ left table bookmark | false ↦ known.first table bookmark ];
+  back = known.back.1;
+}
+  where
+    left : (table : ℕ) (bookmark : List ℕ) → IfSome (after_item base x table bookmark) (P table bookmark)
+    left table bookmark = elim (is_change_of table bookmark x.change) as (λ b. is_change_of table bookmark x.change ≡ b → IfSome (cond b (record_after x.change (base table bookmark)) (base table bookmark)) (P table bookmark)) [
+      | true ↦ λ e.
+          subst (λ (t : ℕ). IfSome (record_after x.change (base t bookmark)) (P t bookmark)) (same_number (changed_table x.change) table (and_left (changed_table x.change == table) (bytes_eq (changed_bookmark x.change) bookmark) e))
+          (subst (λ (k : List ℕ). IfSome (record_after x.change (base (changed_table x.change) k)) (P (changed_table x.change) k)) (same_bytes (changed_bookmark x.change) bookmark (and_right (changed_table x.change == table) (bytes_eq (changed_bookmark x.change) bookmark) e))
+          (known.back.0.0 (base (changed_table x.change) (changed_bookmark x.change)) (known.first (changed_table x.change) (changed_bookmark x.change))))
+      | false ↦ λ e. known.first table bookmark
+    ] refl
+
+-- the record before a sum that stands, but for its sums
+sum_before : (tables : List Table) (P : ℕ → List ℕ → RecordFields → Type 0) (base : Records) (x : PastChange) (xs : List PastChange) → IsKnownPast tables P base (x ∷ xs) → is_standing x ≡ true → is_sum x.change ≡ true
+    → AreSameButForSums (columns_of (table_with_id tables (changed_table x.change))) x.before (base (changed_table x.change) (changed_bookmark x.change))
+sum_before tables P base x xs known stands sum = by (table_with_id tables (changed_table x.change)) refl known.there.0 (known.sums (changed_table x.change))
+  where
+    by : (o : Option Table) → table_with_id tables (changed_table x.change) ≡ o → is_some o ≡ true → IfSome o (λ t. HasSumBefores t.columns t.id base (x ∷ xs)) → AreSameButForSums (columns_of o) x.before (base (changed_table x.change) (changed_bookmark x.change))
+    by None f there had = impossible there
+    by (Some t) f there had = had.0 stands sum (sym (id_of tables (changed_table x.change) t f))
+
+-- a sum is of an escrow column
+sum_of_escrow : (tables : List Table) (P : ℕ → List ℕ → RecordFields → Type 0) (base : Records) (x : PastChange) (xs : List PastChange) → IsKnownPast tables P base (x ∷ xs) → IsOfEscrow (columns_of (table_with_id tables (changed_table x.change))) x.change
+sum_of_escrow tables P base x xs known = by (table_with_id tables (changed_table x.change)) known.there.0 known.escrow.0
+  where
+    at : (t : Table) (c : Change) → AddsToEscrow (schema_of t) c → IsOfEscrow t.columns c
+    at t (Put table bookmark copied values) adds = tt
+    at t (Drop table bookmark) adds = tt
+    at t (Hold table bookmark) adds = tt
+    at t (Add table bookmark column amount) adds = adds.0
+
+    by : (o : Option Table) → is_some o ≡ true → IfSome o (λ t. AddsToEscrow (schema_of t) x.change) → IsOfEscrow (columns_of o) x.change
+    by None there adds = impossible there
+    by (Some t) there adds = at t x.change adds
 
 -- what the kept changes and their starting point come to
 pub record IsOnePast (tables : List Table) (base other : Records) (xs ys : List PastChange) : Type 0 where
   pub base_same : base ≡ other
   pub essence : map (essential_change tables) xs ≡ map (essential_change tables) ys
 
-pub one_past : (tables : List Table) (xs ys : List PastChange) (held : List HeldRecord) → AllMatch xs held → AllMatch ys held → (base other : Records) → HasBefores base xs → HasBefores other ys → HasNoSums xs → HasNoSums ys
-    → AllByRecursion LeavesAfter xs → AllByRecursion LeavesAfter ys → AreUncopied xs → AreUncopied ys → records_after_items is_standing base xs ≡ records_after_items is_standing other ys → IsOnePast tables base other xs ys
-one_past tables [] [] [] m n base other bx by sx sy ax ay ux uy e = record { base_same = e; essence = refl }
-one_past tables [] [] (h ∷ held) m n base other bx by sx sy ax ay ux uy e = absurd m
-one_past tables [] (y ∷ ys) [] m n base other bx by sx sy ax ay ux uy e = absurd n
-one_past tables [] (y ∷ ys) (h ∷ held) m n base other bx by sx sy ax ay ux uy e = absurd m
-one_past tables (x ∷ xs) [] [] m n base other bx by sx sy ax ay ux uy e = absurd m
-one_past tables (x ∷ xs) [] (h ∷ held) m n base other bx by sx sy ax ay ux uy e = absurd n
-one_past tables (x ∷ xs) (y ∷ ys) [] m n base other bx by sx sy ax ay ux uy e = absurd m
-one_past tables (x ∷ xs) (y ∷ ys) (h ∷ held) m n base other bx by sx sy ax ay ux uy e =
-    both (is_undone x.status) refl
-    (one_past tables xs ys held m.1 n.1 (cond (is_standing x) (after_item base x) base) (cond (is_standing y) (after_item other y) other) bx.1 by.1 sx.1 sy.1 ax.1 ay.1 ux.1 uy.1
-    (sym (folded-cons is_standing base x xs) ∙ e ∙ folded-cons is_standing other y ys))
+-- one change more, in front
+one_more : (tables others : List Table) → ((id : ℕ) → columns_of (table_with_id tables id) ≡ columns_of (table_with_id others id)) → (P Q : ℕ → List ℕ → RecordFields → Type 0) (x y : PastChange) (xs ys : List PastChange) (h : HeldRecord) → Matches x h → Matches y h
+    → (base other : Records) → IsKnownPast tables P base (x ∷ xs) → IsKnownPast others Q other (y ∷ ys)
+    → IsOnePast tables (cond (is_standing x) (after_item base x) base) (cond (is_standing y) (after_item other y) other) xs ys → IsOnePast tables base other (x ∷ xs) (y ∷ ys)
+one_more tables others alike P Q x y xs ys h m n base other known known_too rest = by (is_undone x.status) refl
   where
     one : AreOne x y
-    one = are_one x y h m.0 n.0
+    one = are_one x y h m n
 
-    both : (b : Bool) → is_undone x.status ≡ b → IsOnePast tables (cond (is_standing x) (after_item base x) base) (cond (is_standing y) (after_item other y) other) xs ys → IsOnePast tables base other (x ∷ xs) (y ∷ ys)
-    both true undone rest =
+    forgot : is_undone x.status ≡ true → IsOnePast tables base other (x ∷ xs) (y ∷ ys)
+    forgot undone =
         let left : is_standing x ≡ false = ap not undone in
         let right : is_standing y ≡ false = ap (λ (s : Status). not (is_undone s)) (sym one.status) ∙ left in
         record {
           base_same = sym (ap (λ b. cond b (after_item base x) base) left) ∙ rest.base_same ∙ ap (λ b. cond b (after_item other y) other) right;
-          essence = λ i. undone_essence tables x y one ux.0 uy.0 undone i ∷ rest.essence i;
+          essence = λ i. undone_essence tables x y one known.uncopied.0 known_too.uncopied.0 undone i ∷ rest.essence i;
         }
-    both false stands rest =
-        let left : is_standing x ≡ true = ap not stands in
-        let right : is_standing y ≡ true = ap (λ (s : Status). not (is_undone s)) (sym one.status) ∙ left in
-        let after : after_item base x ≡ after_item other y = sym (ap (λ b. cond b (after_item base x) base) left) ∙ rest.base_same ∙ ap (λ b. cond b (after_item other y) other) right in
-        let before_x : x.before ≡ base (changed_table x.change) (changed_bookmark x.change) = bx.0 left sx.0 in
-        let before_y : y.before ≡ other (changed_table y.change) (changed_bookmark y.change) = by.0 right sy.0 in
-        let same : base ≡ other = before_same x y one left sx.0 sy.0 base other before_x before_y after in
-        let change : x.change ≡ y.change = change_same x y one ux.0 uy.0 base other after in
+
+    stood : is_undone x.status ≡ false → is_standing y ≡ true
+    stood stands = ap (λ (s : Status). not (is_undone s)) (sym one.status) ∙ ap not stands
+
+    left_same : is_undone x.status ≡ false → after_item base x ≡ after_item other y
+    left_same stands = sym (ap (λ b. cond b (after_item base x) base) (ap not stands)) ∙ rest.base_same ∙ ap (λ b. cond b (after_item other y) other) (stood stands)
+
+    -- no sum
+    whole : is_undone x.status ≡ false → is_sum x.change ≡ false → IsOnePast tables base other (x ∷ xs) (y ∷ ys)
+    whole stands plain =
+        let after = left_same stands in
+        let change : x.change ≡ y.change = change_same x y one known.uncopied.0 known_too.uncopied.0 base other after in
+        let plain_too : is_sum y.change ≡ false = ap is_sum (sym change) ∙ plain in
+        let before_x : x.before ≡ base (changed_table x.change) (changed_bookmark x.change) = known.befores.0 (ap not stands) plain in
+        let before_y : y.before ≡ other (changed_table y.change) (changed_bookmark y.change) = known_too.befores.0 (stood stands) plain_too in
+        let same : base ≡ other = before_same x y one (ap not stands) plain plain_too base other before_x before_y after in
         let before : x.before ≡ y.before = before_x ∙ (λ i. same i (one.table i) (one.bookmark i)) ∙ sym before_y in
-        let made : x.after ≡ y.after = ax.0 ∙ (λ i. record_after (change i) (before i)) ∙ sym ay.0 in
+        let made : x.after ≡ y.after = known.afters.0 ∙ (λ i. record_after (change i) (before i)) ∙ sym known_too.afters.0 in
         record {
           base_same = same;
           essence = λ i.
-              (standing_essence tables x stands sx.0
+              (standing_essence tables x stands plain
               ∙ (λ j. record {
                 item = record { number = one.number j; session = one.session j; level = one.level j; change = change j; before = before j; after = made j; status = one.status j };
                 cost = one.cost j;
               })
-              ∙ sym (standing_essence tables y (sym (ap is_undone one.status) ∙ stands) sy.0)) i ∷ rest.essence i;
+              ∙ sym (standing_essence tables y (sym (ap is_undone one.status) ∙ stands) plain_too)) i ∷ rest.essence i;
         }
+
+    -- a sum
+    added : is_undone x.status ≡ false → is_sum x.change ≡ true → IsOnePast tables base other (x ∷ xs) (y ∷ ys)
+    added stands sum =
+        let after = left_same stands in
+        let change : x.change ≡ y.change = change_same x y one known.uncopied.0 known_too.uncopied.0 base other after in
+        let sum_too : is_sum y.change ≡ true = ap is_sum (sym change) ∙ sum in
+        let same : base ≡ other = sum_before_same P Q x y change sum known.back.0 known_too.back.0 base other known.first known_too.first after in
+        let here : List Column = columns_of (table_with_id tables (changed_table x.change)) in
+        let here_too : List Column = columns_of (table_with_id tables (changed_table y.change)) in
+        let before_y : AreSameButForSums here_too y.before (other (changed_table y.change) (changed_bookmark y.change)) =
+        subst (λ (columns : List Column). AreSameButForSums columns y.before (other (changed_table y.change) (changed_bookmark y.change))) (sym (alike (changed_table y.change))) (sum_before others Q other y ys known_too (stood stands) sum_too) in
+        let before : option_map (without_sums here) x.before ≡ option_map (without_sums here_too) y.before =
+        sum_before tables P base x xs known (ap not stands) sum
+        ∙ (λ i. option_map (without_sums (columns_of (table_with_id tables (one.table i)))) (same i (one.table i) (one.bookmark i)))
+        ∙ sym before_y in
+        let escrow : IsOfEscrow here x.change = sum_of_escrow tables P base x xs known in
+        let escrow_too : IsOfEscrow here_too y.change = subst (λ (c : Change). IsOfEscrow (columns_of (table_with_id tables (changed_table c))) c) change escrow in
+        let made : option_map (without_sums here) x.after ≡ option_map (without_sums here_too) y.after =
+        ap (option_map (without_sums here)) known.afters.0
+        ∙ sum_same here x.change escrow sum x.before
+        ∙ before
+        ∙ sym (sum_same here_too y.change escrow_too sum_too y.before)
+        ∙ sym (ap (option_map (without_sums here_too)) known_too.afters.0) in
+        record {
+          base_same = same;
+          essence = λ i.
+              (summed_essence tables x stands sum
+              ∙ (λ j. record {
+                item = record { number = one.number j; session = one.session j; level = one.level j; change = change j; before = before j; after = made j; status = one.status j };
+                cost = one.cost j;
+              })
+              ∙ sym (summed_essence tables y (sym (ap is_undone one.status) ∙ stands) sum_too)) i ∷ rest.essence i;
+        }
+
+    of_kind : (b : Bool) → is_sum x.change ≡ b → is_undone x.status ≡ false → IsOnePast tables base other (x ∷ xs) (y ∷ ys)
+    of_kind true sum stands = added stands sum
+    of_kind false plain stands = whole stands plain
+
+    by : (b : Bool) → is_undone x.status ≡ b → IsOnePast tables base other (x ∷ xs) (y ∷ ys)
+    by true undone = forgot undone
+    by false stands = of_kind (is_sum x.change) refl stands
+
+pub one_past : (tables others : List Table) → ((id : ℕ) → columns_of (table_with_id tables id) ≡ columns_of (table_with_id others id)) → (P Q : ℕ → List ℕ → RecordFields → Type 0) (xs ys : List PastChange) (held : List HeldRecord) → AllMatch xs held → AllMatch ys held
+    → (base other : Records) → IsKnownPast tables P base xs → IsKnownPast others Q other ys → records_after_items is_standing base xs ≡ records_after_items is_standing other ys → IsOnePast tables base other xs ys
+one_past tables others alike P Q [] [] [] m n base other known known_too e = record { base_same = e; essence = refl }
+one_past tables others alike P Q [] [] (h ∷ held) m n base other known known_too e = absurd m
+one_past tables others alike P Q [] (y ∷ ys) [] m n base other known known_too e = absurd n
+one_past tables others alike P Q [] (y ∷ ys) (h ∷ held) m n base other known known_too e = absurd m
+one_past tables others alike P Q (x ∷ xs) [] [] m n base other known known_too e = absurd m
+one_past tables others alike P Q (x ∷ xs) [] (h ∷ held) m n base other known known_too e = absurd n
+one_past tables others alike P Q (x ∷ xs) (y ∷ ys) [] m n base other known known_too e = absurd m
+one_past tables others alike P Q (x ∷ xs) (y ∷ ys) (h ∷ held) m n base other known known_too e =
+    one_more tables others alike P Q x y xs ys h m.0 n.0 base other known known_too
+    (one_past tables others alike P Q xs ys held m.1 n.1 (cond (is_standing x) (after_item base x) base) (cond (is_standing y) (after_item other y) other) (rest_known tables P base x xs known) (rest_known others Q other y ys known_too)
+    (sym (folded-cons is_standing base x xs) ∙ e ∙ folded-cons is_standing other y ys))

@@ -1,5 +1,5 @@
 -- What an engine tells of the states that it holds.
-use Rattle.std.proofs.Common.{◌≡◌, true, false, not, List, [], ◌∷◌, Option, Some, None, refl, sym, ap, subst, ◌∙◌}
+use Rattle.std.proofs.Common.{◌≡◌, ℕ, true, false, not, List, [], ◌∷◌, Option, Some, None, refl, sym, ap, subst, ◌∙◌}
 use Rattle.std.specs.Prelude.{filter, fold, map, nat_lt, option_map, unwrap_or, IfSome, is_some, T}
 use Rattle.std.specs.List.{AllByRecursion}
 use Rattle.std.proofs.lemmas.List.Folds.{fold-map}
@@ -19,14 +19,14 @@ use Rattle.version_history.proofs.SeenRecords.{newest_records as newest_of_kept}
 use Rattle.version_keys.specs.TableOrder.{IdsRise}
 use Rattle.version_cleanup.specs.LiveSessions.{live_state, without_snapshot}
 use Rattle.versioned_tables.specs.Holding.{AllRise, SnapshotRises}
+use Rattle.versioned_tables.proofs.ExactSums.{Numbers, first_numbers, numbers_back}
 use Rattle.versioned_tables.proofs.Rising.{same_table}
 use Rattle.engine_versions.specs.EngineState.{EngineState}
 use Rattle.engine_versions.specs.HoldsState.{HoldsState}
-use Rattle.engine_versions.proofs.BuiltSums.{no_sums_held}
-use Rattle.engine_versions.proofs.SameTables.{ids_rise_alike, same_tables}
+use Rattle.engine_versions.proofs.SameTables.{ids_rise_alike, numbered_alike, same_tables}
 use Rattle.equivalent_states.proofs.Essential.{essential_from, essential_status, from_essential, kept_of_standing, read_essential}
 use Rattle.equivalent_states.proofs.Unneeded.{needed_kept}
-use Rattle.held_states.proofs.HeldPast.{IsOnePast, LeavesAfter, one_past}
+use Rattle.held_states.proofs.HeldPast.{IsKnownPast, IsOnePast, LeavesAfter, one_past}
 
 -- ---- the records after the changes that were committed
 
@@ -124,6 +124,30 @@ sessions_same one other base last xs ys past defined ids (a ∷ left) (b ∷ rig
     let rest : left ≡ right = sessions_same one other base last xs ys past defined ids left right (ap rest_of e) p.1 q.1 in
     λ i. record { label = (live i).label; open_tables = (live i).open_tables; transaction = same i } ∷ rest i
 
+-- ---- the past
+
+columns_alike : (one other : List Table) → map without_rows one ≡ map without_rows other → (id : ℕ) → columns_of (table_with_id one id) ≡ columns_of (table_with_id other id)
+columns_alike one other defined id = sym (bare (table_with_id one id)) ∙ ap columns_of (numbered_alike one other defined id) ∙ bare (table_with_id other id)
+  where
+    bare : (o : Option Table) → columns_of (option_map without_rows o) ≡ columns_of o
+    bare None = refl
+    bare (Some t) = refl
+
+-- what an engine knows of the past of a state that it holds
+known_past : (engine : EngineState) (state : DatabaseState) (h : HoldsState engine state) → IsKnownPast state.tables (Numbers state) h.base h.kept
+known_past engine state h =
+    let placed = h.reached.history.keeps.placed in
+    record {
+      befores = h.reached.history.keeps.befores;
+      afters = all_weaker (IsPlaced state.number state.tables (transaction_of state)) LeavesAfter (λ x p. p.3) h.kept placed;
+      uncopied = h.reached.uncopied;
+      there = all_weaker (IsPlaced state.number state.tables (transaction_of state)) (λ x. is_some (table_with_id state.tables (changed_table x.change)) ≡ true) (λ x p. p.1) h.kept placed;
+      escrow = h.reached.numbers.sums;
+      sums = h.reached.befores;
+      first = first_numbers h.base h.kept state h.reached.numbers;
+      back = numbers_back h.base h.kept state h.reached.numbers placed;
+    }
+
 -- ---- the whole
 
 pub held_equivalent : (engine : EngineState) (one other : DatabaseState) → HoldsState engine one → HoldsState engine other → AreEquivalent one other
@@ -132,12 +156,9 @@ held_equivalent engine one other h g =
     let keeps_other = g.reached.history.keeps in
     let newest_records : records_after_items is_standing h.base h.kept ≡ records_after_items is_standing g.base g.kept =
     sym (newest_of_kept h.base h.dropped h.kept one h.reached.history) ∙ sym h.holds.newest ∙ g.holds.newest ∙ newest_of_kept g.base g.dropped g.kept other g.reached.history in
-    let past : IsOnePast one.tables h.base g.base h.kept g.kept =
-    one_past one.tables h.kept g.kept engine.store.held h.holds.held g.holds.held h.base g.base keeps_one.befores keeps_other.befores (no_sums_held engine one h) (no_sums_held engine other g)
-    (all_weaker (IsPlaced one.number one.tables (transaction_of one)) LeavesAfter (λ x p. p.3) h.kept keeps_one.placed)
-    (all_weaker (IsPlaced other.number other.tables (transaction_of other)) LeavesAfter (λ x p. p.3) g.kept keeps_other.placed)
-    h.reached.uncopied g.reached.uncopied newest_records in
     let defined : map without_rows one.tables ≡ map without_rows other.tables = sym h.holds.defined ∙ g.holds.defined in
+    let past : IsOnePast one.tables h.base g.base h.kept g.kept =
+    one_past one.tables other.tables (columns_alike one.tables other.tables defined) (Numbers one) (Numbers other) h.kept g.kept engine.store.held h.holds.held g.holds.held h.base g.base (known_past engine one h) (known_past engine other g) newest_records in
     let tables : one.tables ≡ other.tables =
     tables_same one.tables other.tables defined g.reached.order.ids h.holds.rise.committed g.holds.rise.committed
     (keeps_one.committed ∙ committed_same one.tables h.base g.base h.kept g.kept past None ∙ sym keeps_other.committed) in

@@ -1,5 +1,5 @@
 pub mod UncopiedSteps
-pub mod BuiltIndexes
+pub mod HeldIndexes
 pub mod HeldPast
 pub mod HeldStates
 pub mod PlainSteps

@@ -24,6 +24,7 @@ use Rattle.version_records.specs.Bookmarks.{StandsUnder}
 use Rattle.version_records.specs.EscrowNumbers.{HasItsType, HasSingleSums, HoldsNumbers}
 use Rattle.version_records.proofs.EachRecord.{RowsHave}
 use Rattle.version_records.proofs.EscrowRecords.{numbers_begin, numbers_cleaned, numbers_kept as escrow_kept}
+use Rattle.version_records.proofs.SumBefores.{sum_befores_begin, sum_befores_cleaned, sum_befores_kept}
 use Rattle.version_records.proofs.Standing.{bookmarks_begun, bookmarks_cleaned, bookmarks_kept}
 use Rattle.lawful_answers.specs.ColumnNumbers.{have_own_numbers}
 use Rattle.lawful_answers.specs.EntryTypes.{AreOfTheirTypes}
@@ -46,6 +47,7 @@ reaches one base dropped kept state made reached e type =
       order = order;
       bookmarks = bookmarks_kept one base dropped kept state made reached.history e now next reached.unique reached.bookmarks;
       numbers = escrow_kept base dropped kept state made reached.history e type reached.numbers;
+      befores = sum_befores_kept base dropped kept state made reached.history reached.numbers.sums reached.befores;
       columns = numbers_kept state made order e reached.columns;
       uncopied = uncopied_after state made.session.0 made.kind kept reached.uncopied;
     }
@@ -71,6 +73,7 @@ cleaned base dropped item kept state reached unneeded = record {
   order = reached.order;
   bookmarks = bookmarks_cleaned base dropped item kept state reached.history (unseen_now base (item ∷ kept) state reached.sums) reached.bookmarks;
   numbers = numbers_cleaned base dropped item kept state reached.history reached.numbers;
+  befores = sum_befores_cleaned base item kept state reached.befores;
   columns = reached.columns;
   uncopied = reached.uncopied.1;
 }
@@ -86,6 +89,7 @@ begins state sessions past order unique marks numbers plain single columns = rec
   order = order;
   bookmarks = bookmarks_begun state marks;
   numbers = numbers_begin state single numbers;
+  befores = sum_befores_begin state;
   columns = columns;
   uncopied = tt;
 }

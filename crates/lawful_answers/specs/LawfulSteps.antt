@@ -13,6 +13,7 @@ use Rattle.version_keys.specs.TableOrder.{HasTablesInOrder}
 use Rattle.version_keys.specs.UniqueKeys.{HasUniqueKeys}
 use Rattle.version_records.specs.Bookmarks.{HasBookmarks}
 use Rattle.version_records.specs.EscrowNumbers.{HasEscrowNumbers}
+use Rattle.version_records.specs.SumBefores.{HaveSumBefores}
 use Rattle.session_local.specs.Outcome.{Outcome}
 use Rattle.lawful_answers.specs.ColumnNumbers.{have_own_numbers}
 use Rattle.lawful_answers.specs.UncopiedPast.{AreUncopied}
@@ -32,7 +33,8 @@ begin_of session = record { session = record { 0 = session }; kind = entry.Begin
 
 -- What holds of every state that lawful entries, each as its type has it, reach from tables that are in order and unique, whose
 -- records have their bookmarks and hold numbers in their escrow columns, whose columns have numbers of their own and whose
--- indexes name no escrow column. No kept change names the record from which a put was copied.
+-- indexes name no escrow column. No kept change names the record from which a put was copied, and the record before a kept sum
+-- is told but for its sums.
 pub record IsReached (base : Records) (dropped kept : List PastChange) (state : DatabaseState) : Type 0 where
   pub history : IsHistory base dropped kept state
   pub sums : HasEscrowSums base kept state
@@ -40,6 +42,7 @@ pub record IsReached (base : Records) (dropped kept : List PastChange) (state : 
   pub order : HasTablesInOrder state
   pub bookmarks : HasBookmarks base kept state
   pub numbers : HasEscrowNumbers base kept state
+  pub befores : HaveSumBefores base kept state
   pub columns : have_own_numbers state.tables ≡ true
   pub uncopied : AreUncopied kept
 

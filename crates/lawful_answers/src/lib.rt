@@ -26,4 +26,4 @@ pub use schema::{
 pub use sessions::{
     steps_of_sessions_are_lawful, steps_of_transactions_are_lawful, the_step_of_a_commit_is_lawful,
 };
-pub use typed::entries_of_answers_are_of_their_types;
+pub use typed::{entries_of_answers_are_of_their_types, lawful_answers_reach_the_next_state};

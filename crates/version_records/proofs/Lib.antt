@@ -6,3 +6,5 @@ pub mod Standing
 pub mod Storing
 pub mod EscrowRecords
 pub mod StoredSums
+pub mod ClearedSums
+pub mod SumBefores

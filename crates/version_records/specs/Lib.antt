@@ -2,3 +2,4 @@ pub mod EachRecord
 pub mod Bookmarks
 pub mod StoredRecords
 pub mod EscrowNumbers
+pub mod SumBefores

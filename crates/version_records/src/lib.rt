@@ -6,6 +6,7 @@
 mod bookmarks;
 mod numbers;
 mod stored;
+mod sums;
 
 pub use bookmarks::{
     a_clean_keeps_bookmarks, bookmarks_begin_with_those_of_tables,
@@ -20,3 +21,4 @@ pub use stored::{
     a_clean_keeps_stored_records, every_record_seen_is_stored, lawful_entries_keep_stored_records,
     stored_records_begin_with_those_of_tables,
 };
+pub use sums::entries_keep_the_records_before_sums;

@@ -5,6 +5,8 @@ use Rattle.record_changes.specs.Records.{Records}
 use Rattle.version_keys.specs.Variants.{HasNoSums}
 use Rattle.version_records.specs.EscrowNumbers.{HasEscrowNumbers}
 
--- No escrow column was changed, or each holds a number in every record: then the opposite sum gives the very record back.
+-- No escrow column was changed, or each holds a number in every record: then the opposite sum gives the very record back. Every
+-- state that lawful entries reach is of the second kind. The first asks nothing of the records: it is wider than the types, by data
+-- that no program makes.
 abbrev pub CanBeTakenBack : Records → List PastChange → DatabaseState → Type 0
 CanBeTakenBack base kept state = HasNoSums kept ⊎ HasEscrowNumbers base kept state
