@@ -22,7 +22,8 @@ const NUMBER_BYTES: usize = 4;
 /// row keeps its length, and its other bytes stay. It takes no memory.
 pub fn add_to_number(row: &mut [u8], column: ColumnId, addend: u32)
     requires { IsRowBytes row.old }
-    ensures { (fields : RowFields) (number : List ℕ) → IsTrue (is_row fields) → row.old ≡ row_bytes fields → row_values_of fields column.0 ≡ Here number ∷ [] → length number ≡ 4
+    ensures length { length row.new ≡ length row.old }
+    ensures sum { (fields : RowFields) (number : List ℕ) → IsTrue (is_row fields) → row.old ≡ row_bytes fields → row_values_of fields column.0 ≡ Here number ∷ [] → length number ≡ 4
         → row.new ≡ row_bytes (put_by_number column.0 (Here (to_le_bytes w32 ((from_le_bytes w32 number + addend) % 2 ^ 32)) ∷ []) fields) }
 {
     match bytes_behind(&row[COUNT_BYTES..], column.0) {

@@ -11,8 +11,8 @@ same x y e = cc
 never : {X : Type 0} (x : X) → None ≡ Some x → ⊥
 never x e = cc
 
-pub returns-then-end-ge-NUMBER_BYTES : goal.returns-then-end-ge-NUMBER_BYTES
-returns-then-end-ge-NUMBER_BYTES c = λ fields number formed spelled found long.
+pub returns-then-end-ge-NUMBER_BYTES-clause-sum : goal.returns-then-end-ge-NUMBER_BYTES-clause-sum
+returns-then-end-ge-NUMBER_BYTES-clause-sum c = λ fields number formed spelled found long.
     let new = to_le_bytes w32 ((from_le_bytes w32 number + c.args.addend) % 2 ^ 32) in
     let place = in_place fields c.args.column.0 number new c.args.row.now formed spelled found long in
     let behind : c.in-Some.behind ≡ length (flat_map value_bytes place.behind) = same _ _ (sym c.in-Some.is ∙ c.bytes_behind.ensures.count _ place.behind refl place.stands) in
@@ -24,15 +24,15 @@ returns-then-end-ge-NUMBER_BYTES c = λ fields number formed spelled found long.
     ∙ summed place.front number (flat_map value_bytes place.behind) row long place.split c.args.addend
     ∙ sym place.then_split
 
-pub returns-else-end-ge-NUMBER_BYTES : goal.returns-else-end-ge-NUMBER_BYTES
-returns-else-end-ge-NUMBER_BYTES c = λ fields number formed spelled found long.
+pub returns-else-end-ge-NUMBER_BYTES-clause-sum : goal.returns-else-end-ge-NUMBER_BYTES-clause-sum
+returns-else-end-ge-NUMBER_BYTES-clause-sum c = λ fields number formed spelled found long.
     let new = to_le_bytes w32 ((from_le_bytes w32 number + c.args.addend) % 2 ^ 32) in
     let place = in_place fields c.args.column.0 number new c.args.row.now formed spelled found long in
     let behind : c.in-Some.behind ≡ length (flat_map value_bytes place.behind) = same _ _ (sym c.in-Some.is ∙ c.bytes_behind.ensures.count _ place.behind refl place.stands) in
     absurd (omega (arith, c.if-end-ge-NUMBER_BYTES.false, behind, lengths place.front number (flat_map value_bytes place.behind) c.args.row.now place.split, long))
 
-pub returns-in-None : goal.returns-in-None
-returns-in-None c = λ fields number formed spelled found long.
+pub returns-in-None-clause-sum : goal.returns-in-None-clause-sum
+returns-in-None-clause-sum c = λ fields number formed spelled found long.
     let new = to_le_bytes w32 ((from_le_bytes w32 number + c.args.addend) % 2 ^ 32) in
     let place = in_place fields c.args.column.0 number new c.args.row.now formed spelled found long in
     absurd (never _ (sym c.in-None.is ∙ c.bytes_behind.ensures.count _ place.behind refl place.stands))
