@@ -1,13 +1,15 @@
 -- A lawful change can be made by the tables with versions.
-use Rattle.std.proofs.Common.{◌≡◌, ℕ, ◌+◌, ◌<◌, ◌≤◌, Bool, true, false, not, ◌&&◌, ◌||◌, List, length, Option, Some, None, refl, sym, ap, subst, ◌∙◌, arith}
+use Rattle.std.proofs.Common.{◌≡◌, ℕ, ◌+◌, ◌<◌, ◌≤◌, Bool, true, false, not, ◌&&◌, ◌||◌, cond, List, [], ◌∷◌, length, Option, Some, None, refl, sym, ap, subst, ◌∙◌, arith}
 use Rattle.std.specs.Prelude.{◌==◌, ◌^◌, nat_le, nat_lt, bytes_eq, is_some, option_map, unwrap_or, IfSome, IsSomeAnd, IsTrue, MatchOption}
 use Rattle.std.specs.List.{AllByRecursion, list_all}
 use Rattle.std.proofs.lemmas.Bool.Decides.{nat_tests}
 use Rattle.jet_base.specs.ColumnType.{big_endian}
+use Rattle.jet_base.specs.TypeKinds.{is_long_type}
 use Rattle.column_set.specs.declared.changes.Change.{Change}
 use Rattle.column_set.specs.declared.changes.Change.TheVariants.{Put, Drop, Hold, Add}
 use Rattle.column_set.specs.Record.{is_record}
-use Rattle.column_set.specs.RecordValues.{RecordFields, has_value, is_kept_column, is_missing_a_value, record_fits, record_size}
+use Rattle.column_set.specs.declared.columns.Column.{Column}
+use Rattle.column_set.specs.RecordValues.{RecordFields, column_of_id, has_value, is_kept_column, is_missing_a_value, record_fits, record_size}
 use Rattle.column_set.specs.Rows.{all_here, is_all_here, is_row, largest_row}
 use Rattle.index_derive.specs.declared.log.EntryKind.TheVariants as entry
 use Rattle.index_derive.specs.declared.rules.IndexRule.{IndexRule}
@@ -37,6 +39,7 @@ use Rattle.engine_versions.specs.EngineState.{EngineState}
 use Rattle.engine_versions.specs.HoldsState.{HoldsState}
 use Rattle.engine_versions.proofs.BuiltSums.{no_sum_comes, no_sums_held}
 use Rattle.table_versions.specs.PutRecords.{IsStorable}
+use Rattle.table_versions.specs.VersionsKept.{HoldsNumbers}
 use Rattle.engine_steps.specs.Changing.{CanChange, IsFormed}
 use Rattle.engine_steps.specs.Steps.{MayCome, entry_by}
 use Rattle.engine_steps.proofs.Fitting.{lawful_by_kind}
@@ -127,15 +130,30 @@ seen_eight engine state h session id table found bookmark none there = by (recor
 -- the same as is asked of a put, of the schema of its table
 pub record IsStorableIn (schema : Schema) (bookmark : List ℕ) (values : RecordFields) : Type 0 where
   pub columns : record_fits schema.columns values ≡ true
+  pub numbers : HoldsNumbers schema values
   pub indexable : is_indexable schema values ≡ true
   pub own : IsOwn (primary_rule schema) schema bookmark values
   pub here : IsTrue (is_all_here values)
   pub formed : IsTrue (is_row (all_here values))
   pub small : record_size values ≤ largest_row
 
+-- no column that is built is an escrow column
+no_escrow : (columns : List Column) → list_all is_built_column columns ≡ true → (id : ℕ) → (elim (column_of_id columns id) [ Some column ↦ column.escrow | None ↦ false ]) ≡ false
+no_escrow [] built id = refl
+no_escrow (c ∷ columns) built id = by (c.id.0 == id) (no_escrow columns (and_right (is_built_column c) (list_all is_built_column columns) built) id)
+  where
+    neither : (a b : Bool) → not (a || b) ≡ true → a ≡ false
+    neither true b e = impossible e
+    neither false b e = refl
+
+    by : (b : Bool) → (elim (column_of_id columns id) [ Some column ↦ column.escrow | None ↦ false ]) ≡ false → (elim (cond b (Some c) (column_of_id columns id)) [ Some column ↦ column.escrow | None ↦ false ]) ≡ false
+    by true rest = neither c.escrow (c.version || c.auto) (and_right (not (is_long_type c.kind)) (not (c.escrow || (c.version || c.auto))) (and_left (is_built_column c) (list_all is_built_column columns) built))
+    by false rest = rest
+
 storable_of : (table : Table) (bookmark : List ℕ) (values : RecordFields) → IsStorableIn (schema_of table) bookmark values → IsStorable table bookmark values
 storable_of table bookmark values s = record {
   columns = s.columns;
+  numbers = s.numbers;
   indexable = s.indexable;
   own = s.own.own;
   some = s.own.some;
@@ -169,6 +187,7 @@ put_storable row engine state h session id table bookmark copied values found is
     let each = each_field table.greatest table.columns values (columns_of engine state h id table found) (and_left (list_all (stands_in table.columns) values) (list_all (λ column. not (is_kept_column column) || has_value values column.id.0) table.columns) fit) in
     record {
       columns = fit;
+      numbers = λ column escrow. impossible (sym (no_escrow table.columns (columns_of engine state h id table found).built column) ∙ escrow);
       indexable = and_right (fits && whole && small) indexed with_index;
       own =
           bookmark_own (state.number + 1) (schema_of table) rows bookmark values (primary_rule (schema_of table)) (legal_primary engine state h id table found)

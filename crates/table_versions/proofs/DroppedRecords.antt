@@ -35,7 +35,7 @@ use Rattle.table_versions.specs.VersionsView.{stored_versions, with_newest}
 use Rattle.table_versions.specs.VersionsKept.{AreKept, IsKeptChange, IsKeptTable, IsRowOf, IsRowUnder, secondary_rule}
 use Rattle.table_versions.specs.GoneKeys.{some_before}
 use Rattle.table_versions.proofs.Dropped.{TreeLaws, emptied, emptied_where, extent_at, has_trees, nodes_are, row_then, same_numbers, there_at}
-use Rattle.table_versions.proofs.Held.{appended}
+use Rattle.table_versions.proofs.Held.{appended, no_sum}
 use Rattle.versioned_tables.proofs.Lists.{all_append}
 use Rattle.table_versions.proofs.NodeRecords.{record_at}
 use Rattle.table_versions.proofs.Span.{RowSizes, same_cost}
@@ -187,7 +187,7 @@ new_kept laws trees by table bookmark known short tables held named there kept =
       subst (λ (extent : Option ℕ). IfSome (row_under (table_nodes trees table.0) bookmark) (λ row. IsSomeAnd extent (λ n. length row ≤ n))) (sym (extent_at laws trees table.0 bookmark known.there table.0 bookmark))
       (room_in (table_nodes trees table.0) short bookmark);
   other = λ e. impossible (sym e);
-  sum = refl;
+  sum = no_sum (table_with_id tables table.0) kind.Drop refl;
 }
   where
     fits : (t : Table) (row : Option (List ℕ)) → IfSome row (IsRowUnder t bookmark) → IfSome row (IsRowOf t)

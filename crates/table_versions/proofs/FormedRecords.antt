@@ -52,7 +52,7 @@ all-here (field ∷ row) h =
 abbrev IsFormed : RecordFields → Type 0
 IsFormed fields = IsTrue (is_record fields)
 
-row-formed : (row : RowFields) → is_row row ≡ true → is_record (here_fields row) ≡ true
+pub row-formed : (row : RowFields) → is_row row ≡ true → is_record (here_fields row) ≡ true
 row-formed row h =
     let formed = and_left (is_well_formed row) (nat_lt (length (values_in_order row)) (2 ^ 16)) h in
     and_both (is_sorted nat_cmp (here_fields row)) (list_all (λ field. ltb 0 (length field.1)) (here_fields row)) (sorted-here row ∙ and_left (is_sorted nat_cmp row) (list_all field_fits_row row) formed)

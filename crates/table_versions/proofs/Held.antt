@@ -1,11 +1,11 @@
--- A lock that is held behind the other changes.
+-- A lock or a sum that is held behind the other changes.
 use Rattle.std.proofs.Common.{◌≡◌, ℕ, Bool, true, false, not, ◌&&◌, ◌||◌, cond, List, [], ◌∷◌, ◌++◌, Option, Some, None, Result, Ok, Err, map, refl, sym, ap, ◌∙◌}
 use Rattle.std.specs.Prelude.{◌+◌, ◌==◌, IfSome, OnErr, OnOk, is_some, nat_lt, option_map}
 use Rattle.column_set.specs.declared.changes.Change.{Change}
 use Rattle.column_set.specs.declared.changes.Change.TheVariants.{Put, Drop, Hold, Add}
 use Rattle.database_state.specs.Changes.{changed_table}
 use Rattle.database_state.specs.State.{is_undone}
-use Rattle.database_state.specs.Table.{Table, table_with_id, with_table}
+use Rattle.database_state.specs.Table.{Table, schema_of, table_with_id, with_table}
 use Rattle.versioned_tables.proofs.Lists.{all_append}
 use Rattle.record_changes.proofs.Tests.{and_left, impossible}
 use Rattle.table_trees.specs.StoredTables.{StoredTable}
@@ -18,7 +18,7 @@ use Rattle.versioned_tables.specs.VersionedTables.{VersionedTables, with_change}
 use Rattle.table_versions.specs.RecordRows.{held_record}
 use Rattle.table_versions.specs.StoredVersions.{has_room}
 use Rattle.table_versions.specs.VersionsView.{with_newest}
-use Rattle.table_versions.specs.VersionsKept.{AreKept, IsKeptChange, IsRowOf}
+use Rattle.table_versions.specs.VersionsKept.{AddsToEscrow, AreKept, IsKeptChange, IsRowOf}
 use Rattle.table_versions.proofs.Span.{same_span}
 use Rattle.table_versions.proofs.Tables.{table_at}
 use Rattle.table_versions.proofs.ChangesKept.{SameVariants, changes_kept}
@@ -35,24 +35,30 @@ pub on_err : {A B Q P : Type 0} (r : Result A B) → OnErr r Q → (Q → P) →
 on_err (Ok x) err f = tt
 on_err (Err e) err f = f err
 
--- ---- the lock is kept
-
-not_rewrite : (what : ChangeKind) → what ≡ kind.Hold → is_rewrite what ≡ false
-not_rewrite what e = ap is_rewrite e
+-- ---- the lock, or the sum, is kept
 
 no_row : (o : Option Table) → IfSome o (λ table. IfSome None (IsRowOf table))
 no_row None = tt
 no_row (Some table) = tt
 
-lock_kept : (tables : List Table) (trees : List StoredTable) (by : By) (made : Change) → kind_of made ≡ kind.Hold → is_some (table_with_id tables (changed_table made)) ≡ true → IsKeptChange tables trees (new_change by made None)
-lock_kept tables trees by made lock named = record {
+-- a change that is no sum adds to no column
+pub no_sum : (o : Option Table) (what : ChangeKind) → is_add what ≡ false → IfSome o (λ table. AddsToEscrow (schema_of table) what)
+no_sum None what e = tt
+no_sum (Some table) kind.Put e = tt
+no_sum (Some table) kind.Drop e = tt
+no_sum (Some table) kind.Hold e = tt
+no_sum (Some table) (kind.Add column amount) e = impossible (sym e)
+
+held_kept : (tables : List Table) (trees : List StoredTable) (by : By) (made : Change) → is_rewrite (kind_of made) ≡ false → is_some (table_with_id tables (changed_table made)) ≡ true
+    → IfSome (table_with_id tables (changed_table made)) (λ table. AddsToEscrow (schema_of table) (kind_of made)) → IsKeptChange tables trees (new_change by made None)
+held_kept tables trees by made other named sum = record {
   named = named;
   row = no_row (table_with_id tables (changed_table made));
-  drop = λ standing dropped. impossible (sym (not_rewrite (kind_of made) lock) ∙ and_left (is_rewrite (kind_of made)) _ standing);
-  before = λ rewrites. impossible (sym (not_rewrite (kind_of made) lock) ∙ rewrites);
+  drop = λ standing dropped. impossible (sym other ∙ and_left (is_rewrite (kind_of made)) _ standing);
+  before = λ rewrites. impossible (sym other ∙ rewrites);
   room = λ is_uncommitted. tt;
   other = λ e. refl;
-  sum = ap is_add lock;
+  sum = sum;
 }
 
 no_variant : (made : HeldChange) → is_rewrite made.kind ≡ false → (held : List HeldChange) → SameVariants (map held_record (held ++ made ∷ [])) (map held_record held)
@@ -66,12 +72,18 @@ no_variant made other [] test none table bookmark =
 no_variant made other (h ∷ held) test none table bookmark =
     ap (λ b. (is_standing_rewrite table bookmark (held_record h) && test (held_record h).before) || b) (no_variant made other held test none table bookmark)
 
+-- a lock or a sum
+pub is_held : (tables : List Table) (trees : List StoredTable) (held : List HeldChange) (by : By) (made : Change) → is_rewrite (kind_of made) ≡ false → is_some (table_with_id tables (changed_table made)) ≡ true
+    → IfSome (table_with_id tables (changed_table made)) (λ table. AddsToEscrow (schema_of table) (kind_of made)) → AreKept tables trees held → AreKept tables trees (held ++ new_change by made None ∷ [])
+is_held tables trees held by made other named sum kept =
+    changes_kept tables trees held (held ++ new_change by made None ∷ []) kept
+    (all_append (IsKeptChange tables trees) held (new_change by made None ∷ []) kept.changes (held_kept tables trees by made other named sum, tt))
+    (no_variant (new_change by made None) other held)
+
 pub lock_is_kept : (tables : List Table) (trees : List StoredTable) (held : List HeldChange) (by : By) (made : Change) → kind_of made ≡ kind.Hold → is_some (table_with_id tables (changed_table made)) ≡ true → AreKept tables trees held
     → AreKept tables trees (held ++ new_change by made None ∷ [])
 lock_is_kept tables trees held by made lock named kept =
-    changes_kept tables trees held (held ++ new_change by made None ∷ []) kept
-    (all_append (IsKeptChange tables trees) held (new_change by made None ∷ []) kept.changes (lock_kept tables trees by made lock named, tt))
-    (no_variant (new_change by made None) (not_rewrite (kind_of made) lock) held)
+    is_held tables trees held by made (ap is_rewrite lock) named (no_sum (table_with_id tables (changed_table made)) (kind_of made) (ap is_add lock)) kept
 
 -- ---- what it shows
 
@@ -103,11 +115,14 @@ lock_shown tables held by (Add table bookmark column amount) lock = impossible (
 
 -- ---- its room and its table
 
+pub other_room : (by : By) (made : Change) → is_rewrite (kind_of made) ≡ false → (held : List HeldChange) (store : VersionedTables) → map held_record held ≡ store.held → has_room_for_row by made None held ≡ has_room by made store
+other_room by (Put table bookmark copied values) other held store same = impossible (sym other)
+other_room by (Drop table bookmark) other held store same = impossible (sym other)
+other_room by (Hold table bookmark) other held store same = ap (λ n. not (nat_lt by.limit (n + 64))) (same_span by.oldest held ∙ ap (span_of_records by.oldest) same)
+other_room by (Add table bookmark column amount) other held store same = ap (λ n. not (nat_lt by.limit (n + 64))) (same_span by.oldest held ∙ ap (span_of_records by.oldest) same)
+
 pub lock_room : (by : By) (made : Change) → kind_of made ≡ kind.Hold → (held : List HeldChange) (store : VersionedTables) → map held_record held ≡ store.held → has_room_for_row by made None held ≡ has_room by made store
-lock_room by (Put table bookmark copied values) lock held store same = impossible (ap is_hold lock)
-lock_room by (Drop table bookmark) lock held store same = impossible (ap is_hold lock)
-lock_room by (Hold table bookmark) lock held store same = ap (λ n. not (nat_lt by.limit (n + 64))) (same_span by.oldest held ∙ ap (span_of_records by.oldest) same)
-lock_room by (Add table bookmark column amount) lock held store same = impossible (ap is_hold lock)
+lock_room by made lock held store same = other_room by made (ap is_rewrite lock) held store same
 
 pub named_in_catalog : (trees : List StoredTable) (tables : List Table) (id : ℕ) → is_some (table_with_id (map (with_newest trees) tables) id) ≡ true → is_some (table_with_id tables id) ≡ true
 named_in_catalog trees tables id named = by (table_with_id tables id) (sym (ap is_some (table_at trees tables id)) ∙ named)

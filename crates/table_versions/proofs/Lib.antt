@@ -63,3 +63,5 @@ pub mod NewPuts
 pub mod PutKept
 pub mod PutAsked
 pub mod PutDone
+mod SummedRows
+mod SumsHeld

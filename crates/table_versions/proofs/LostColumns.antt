@@ -1,8 +1,9 @@
 -- A column goes, with its values in all records.
-use Rattle.std.proofs.Common.{◌≡◌, ℕ, Bool, true, false, ◌||◌, cond, List, [], ◌∷◌, Option, Some, None, map, option_map, refl, sym, ap, subst, ◌∙◌}
-use Rattle.std.specs.Prelude.{◌==◌, IfSome, IsSomeAnd, is_some}
+use Rattle.std.proofs.Common.{◌≡◌, ℕ, Bool, true, false, not, ◌||◌, cond, List, [], ◌∷◌, Option, Some, None, map, option_map, refl, sym, ap, subst, ◌∙◌}
+use Rattle.std.specs.Prelude.{◌==◌, filter, IfSome, IsSomeAnd, is_some}
 use Rattle.std.specs.List.{AllByRecursion, list_any}
 use Rattle.btree_inplace.specs.Order.{get_in}
+use Rattle.column_set.specs.declared.columns.Column.{Column}
 use Rattle.column_set.specs.RecordValues.{RecordFields, column_of_id, record_fits, remove_by_number, values_of, with_values}
 use Rattle.cursor_nav.specs.Places.{are_sorted}
 use Rattle.database_state.specs.Conflicts.{yields_key}
@@ -18,7 +19,7 @@ use Rattle.jet_base.specs.declared.ids.ColumnId.{ColumnId}
 use Rattle.jet_base.specs.declared.ids.TableId.{TableId}
 use Rattle.jet_catalog.specs.Catalog.{CatalogState, catalog_after}
 use Rattle.page_image.specs.Page.{Node}
-use Rattle.record_changes.proofs.Tests.{same_number}
+use Rattle.record_changes.proofs.Tests.{impossible, same_number}
 use Rattle.table_trees.specs.StoredNodes.{bookmark_entries}
 use Rattle.table_trees.specs.StoredTables.{StoredIndex, StoredTable, index_entries, is_index, part_of, table_indexes, table_nodes}
 use Rattle.version_history.proofs.Lists.{all_weaker}
@@ -26,11 +27,12 @@ use Rattle.version_store.specs.HeldChanges.{HeldChange}
 use Rattle.version_keys.proofs.IndexNumbers.{all_primary_first, none_of}
 use Rattle.version_keys.proofs.SameColumns.{yields_same}
 use Rattle.version_keys.proofs.SchemaKeys.{mapped_row, other_column}
+use Rattle.version_sums.specs.EscrowNumbers.{holds_number, is_one_number}
 use Rattle.versioned_tables.specs.Variants.{HoldsVariants, has_variant}
 use Rattle.table_versions.specs.LostColumns.{HasNodes, HoldsRecord, node_without, row_without}
 use Rattle.table_versions.specs.RecordRows.{IsRecordRow, record_of, row_under, rows_of_nodes}
 use Rattle.table_versions.specs.SchemaSteps.{IsMade}
-use Rattle.table_versions.specs.VersionsKept.{AreKept, IsBookmarkOf, IsKeptTable, IsRowUnder, needed_trees, only_secondary}
+use Rattle.table_versions.specs.VersionsKept.{AreKept, HoldsNumbers, IsBookmarkOf, IsKeptTable, IsRowUnder, needed_trees, only_secondary}
 use Rattle.table_versions.specs.StoredVersions.{StoredVersions}
 use Rattle.table_versions.specs.VersionsView.{stored_versions, with_newest}
 use Rattle.table_versions.proofs.ChangedColumns.{SameColumns, SameFields, indexable_then, own_then, rules_then}
@@ -65,6 +67,28 @@ same_key : (column : ℕ) (t : Table) (rule : IndexRule) → IsUnread column rul
     → yields_key rule (schema_of t) key found ≡ yields_key rule (schema_of (without_column column t)) key (option_map (λ values. with_values values column []) found)
 same_key column t rule apart key None = refl
 same_key column t rule apart key (Some values) = sym (yields_same rule (schema_of (without_column column t)) (schema_of t) key (remove_by_number column values) values (same_fields column t values rule apart))
+
+-- the other escrow columns hold their numbers
+numbers_left : (column : ℕ) (t : Table) (values : RecordFields) → HoldsNumbers (schema_of t) values → HoldsNumbers (schema_of (without_column column t)) (remove_by_number column values)
+numbers_left column t values numbers id escrow = by (id == column) refl
+  where
+    gone : (columns : List Column) → column_of_id (filter (λ c. not (c.id.0 == column)) columns) column ≡ None
+    gone [] = refl
+    gone (c ∷ columns) = at (c.id.0 == column) refl (gone columns)
+      where
+        at : (b : Bool) → (c.id.0 == column) ≡ b → column_of_id (filter (λ c. not (c.id.0 == column)) columns) column ≡ None
+            → column_of_id (cond (not b) (c ∷ filter (λ c. not (c.id.0 == column)) columns) (filter (λ c. not (c.id.0 == column)) columns)) column ≡ None
+        at true e rest = rest
+        at false e rest = ap (λ b. cond b (Some c) (column_of_id (filter (λ c. not (c.id.0 == column)) columns) column)) e ∙ rest
+
+    by : (b : Bool) → (id == column) ≡ b → holds_number (remove_by_number column values) id ≡ true
+    by true e =
+        impossible
+        (sym (ap (λ (o : Option Column). elim o [ Some c ↦ c.escrow | None ↦ false ]) (ap (column_of_id (without_column column t).columns) (same_number id column e) ∙ gone t.columns))
+        ∙ escrow)
+    by false e =
+        ap is_one_number (values_elsewhere column values id e)
+        ∙ numbers id (sym (ap (λ (o : Option Column). elim o [ Some c ↦ c.escrow | None ↦ false ]) (other_column column t id e)) ∙ escrow)
 
 column_lost : RowLaws → (trees other : List StoredTable) (column : ℕ) (t : Table) → AllByRecursion (IsUnread column) t.indexes → AllByRecursion HoldsRecord (table_nodes trees t.id)
     → table_nodes other t.id ≡ map (node_without column) (table_nodes trees t.id) → table_indexes other t.id ≡ table_indexes trees t.id → IsSettled trees t → IsSettled other (without_column column t)
@@ -105,6 +129,7 @@ column_lost laws trees other column t unused records nodes indexes k = subst (λ
           fits = record {
             row = row_is laws column bytes is.fits.row;
             columns = ap (record_fits (without_column column t).columns) same ∙ fits_without column t (record_of bytes) is.fits.columns;
+            numbers = subst (HoldsNumbers (schema_of (without_column column t))) (sym same) (numbers_left column t (record_of bytes) is.fits.numbers);
           };
           indexable =
               ap (is_indexable (schema_of (without_column column t))) same

@@ -1,7 +1,7 @@
 -- A column comes.
 use Rattle.std.proofs.Common.{◌≡◌, ℕ, Bool, true, false, ◌||◌, cond, List, [], ◌∷◌, Option, Some, None, map, option_map, refl, sym, ap, subst, ◌∙◌}
-use Rattle.std.specs.Prelude.{◌==◌, IfSome}
-use Rattle.std.specs.List.{AllByRecursion}
+use Rattle.std.specs.Prelude.{◌==◌, IfSome, nat_lt}
+use Rattle.std.specs.List.{AllByRecursion, list_all}
 use Rattle.column_set.specs.declared.columns.Column.{Column}
 use Rattle.column_set.specs.RecordValues.{RecordFields, column_of_id, is_kept_column, values_of}
 use Rattle.cursor_nav.specs.Places.{are_sorted}
@@ -9,11 +9,13 @@ use Rattle.database_state.specs.Conflicts.{yields_key}
 use Rattle.database_state.specs.SchemaChanges.{columns_with, rule_columns, with_column, with_column_id}
 use Rattle.database_state.specs.Table.{Rows, Table, primary_first, row_at, rule_with_id, schema_of, table_with_id, with_table}
 use Rattle.index_derive.specs.declared.rules.IndexRule.{IndexRule}
+use Rattle.index_derive.specs.Entries.{is_escrow_column}
 use Rattle.index_derive.specs.declared.schema_calls.SchemaStep.{SchemaStep}
 use Rattle.index_derive.specs.declared.schema_calls.SchemaStep.TheVariants as step
 use Rattle.jet_base.specs.declared.ids.TableId.{TableId}
 use Rattle.jet_catalog.specs.Catalog.{CatalogState, catalog_after}
 use Rattle.page_image.specs.Page.{Node}
+use Rattle.record_changes.proofs.Tests.{impossible}
 use Rattle.table_trees.specs.StoredNodes.{bookmark_entries}
 use Rattle.table_trees.specs.StoredTables.{StoredTable, index_entries, table_nodes}
 use Rattle.version_history.proofs.Lists.{all_weaker}
@@ -32,6 +34,9 @@ use Rattle.table_versions.proofs.Tables.{table_at}
 
 -- ---- a column comes
 
+abbrev is_escrow_of : Option Column → Bool
+is_escrow_of found = elim found [ Some column ↦ column.escrow | None ↦ false ]
+
 same_fields : (columns : List Column) (t : Table) (values : RecordFields) (rule : IndexRule) → SameColumns columns t rule → SameFields columns t values values rule
 same_fields columns t values rule same =
     all_weaker (λ id. column_of_id columns id ≡ column_of_id t.columns id) (λ id. (column_of_id columns id ≡ column_of_id t.columns id) × (values_of values id ≡ values_of values id)) (λ id e. (e, refl)) (rule_columns rule) same
@@ -49,6 +54,31 @@ no_rows_left nodes sorted none bookmark = by (row_under nodes bookmark) (sym (re
     by : (o : Option (List ℕ)) → option_map record_of o ≡ None → o ≡ None
     by None e = refl
     by (Some row) e = cc
+
+-- a column that is no escrow column leaves which columns are
+skipped : (column : Column) (id : ℕ) → is_kept_column column ≡ false → (other : Option Column) (b : Bool) → is_escrow_of (cond b (Some column) other) ≡ true → is_escrow_of other ≡ true
+skipped column id plain other true h = impossible (sym (plain_sum column.escrow column.version column.auto plain) ∙ h)
+  where
+    plain_sum : (a b c : Bool) → ((a || b) || c) ≡ false → a ≡ false
+    plain_sum true b c h = h
+    plain_sum false b c h = refl
+skipped column id plain other false h = h
+
+escrow_before_in : (column : Column) (id : ℕ) → is_kept_column column ≡ false → (columns : List Column) → is_escrow_of (column_of_id (columns_with column columns) id) ≡ true → is_escrow_of (column_of_id columns id) ≡ true
+escrow_before_in column id plain [] h = skipped column id plain None (column.id.0 == id) h
+escrow_before_in column id plain (x ∷ columns) h = placed (escrow_before_in column id plain columns) (list_all (λ c. nat_lt column.id.0 c.id.0) (x ∷ columns)) h
+  where
+    first : (one other : Option Column) → (is_escrow_of one ≡ true → is_escrow_of other ≡ true) → (b : Bool) → is_escrow_of (cond b (Some x) one) ≡ true → is_escrow_of (cond b (Some x) other) ≡ true
+    first one other step true h = h
+    first one other step false h = step h
+
+    placed : (is_escrow_of (column_of_id (columns_with column columns) id) ≡ true → is_escrow_of (column_of_id columns id) ≡ true) → (b : Bool)
+        → is_escrow_of (column_of_id (cond b (column ∷ x ∷ columns) (x ∷ columns_with column columns)) id) ≡ true → is_escrow_of (column_of_id (x ∷ columns) id) ≡ true
+    placed rest true g = skipped column id plain (column_of_id (x ∷ columns) id) (column.id.0 == id) g
+    placed rest false g = first (column_of_id (columns_with column columns) id) (column_of_id columns id) rest (x.id.0 == id) g
+
+escrow_before : (column : Column) (t : Table) (id : ℕ) → is_kept_column column ≡ false → is_escrow_column (schema_of (with_column column t)) id ≡ true → is_escrow_column (schema_of t) id ≡ true
+escrow_before column t id plain e = escrow_before_in column id plain t.columns e
 
 column_added : (trees : List StoredTable) (column : Column) (t : Table) → are_sorted (bookmark_entries (table_nodes trees t.id)) ≡ true → (is_kept_column column ≡ true → rows_of_nodes (table_nodes trees t.id) ≡ []) → IsSettled trees t → IsSettled trees (with_column column t)
 column_added trees column t sorted empty k = record {
@@ -74,7 +104,11 @@ column_added trees column t sorted empty k = record {
     row : (bookmark : List ℕ) (o : Option (List ℕ)) → row_under (table_nodes trees t.id) bookmark ≡ o → IfSome o (IsRowUnder t bookmark) → IfSome o (IsRowUnder (with_column column t) bookmark)
     row bookmark None e is = tt
     row bookmark (Some bytes) e is = record {
-      fits = record { row = is.fits.row; columns = fits_with column t.columns (record_of bytes) (is_plain (is_kept_column column) refl bookmark bytes e) is.fits.columns };
+      fits = record {
+        row = is.fits.row;
+        columns = fits_with column t.columns (record_of bytes) (is_plain (is_kept_column column) refl bookmark bytes e) is.fits.columns;
+        numbers = λ id escrow. is.fits.numbers id (escrow_before column t id (is_plain (is_kept_column column) refl bookmark bytes e) escrow);
+      };
       indexable = indexable_then (columns_with column t.columns) (with_column_id t.greatest column.id.0) t.rows t (record_of bytes) (record_of bytes) (fields (record_of bytes)) ∙ is.indexable;
       own = own_then (columns_with column t.columns) (with_column_id t.greatest column.id.0) t.rows t (record_of bytes) (record_of bytes) (fields (record_of bytes)) bookmark is.own;
     }

@@ -13,7 +13,7 @@ use Rattle.table_trees.specs.StoredTables.{StoredTable, table_nodes}
 use Rattle.version_store.specs.Answers.{change_at}
 use Rattle.version_store.specs.declared.calls.ChangeKind.{ChangeKind}
 use Rattle.version_store.specs.declared.calls.ChangeKind.TheVariants as kind
-use Rattle.version_store.specs.HeldChanges.{HeldChange, is_add, is_open_at, is_rewrite, last_place, undone_at, with_status}
+use Rattle.version_store.specs.HeldChanges.{HeldChange, is_open_at, is_rewrite, last_place, undone_at, with_status}
 use Rattle.versioned_tables.specs.HeldRecords.{inverse, is_change_at, is_standing_rewrite, is_open_at as is_open_record}
 use Rattle.versioned_tables.specs.VersionedTables.{with_last_undone}
 use Rattle.table_versions.specs.GoneKeys.{AreRows, HasKeysOf, some_before}
@@ -42,7 +42,7 @@ all_place P [] place h all at = none_is h at
 all_place P (x ∷ held) zero h all at = subst P (same_some x h at) all.0
 all_place P (x ∷ held) (suc place) h all at = all_place P held place h all.1 at
 
--- ---- a lock
+-- ---- a lock or a sum
 
 lock_leaves : (h : HeldChange) → is_rewrite h.kind ≡ false → (held : List HeldChange) (place : ℕ) → slice_get held place ≡ Some h → SameVariants (map held_record (undone_at (Some place) held)) (map held_record held)
 lock_leaves h other [] place at test none table bookmark = refl
@@ -61,19 +61,19 @@ lock_leaves h other (x ∷ held) zero at test none table bookmark =
 lock_leaves h other (x ∷ held) (suc place) at test none table bookmark =
     ap (λ b. (is_standing_rewrite table bookmark (held_record x) && test (held_record x).before) || b) (lock_leaves h other held place at test none table bookmark)
 
-pub lock_back : (tables : List Table) (trees : List StoredTable) (now : List HeldChange) (place table : ℕ) (held : List HeldChange) (h : HeldChange) → WasOpen tables trees now place table held h → is_rewrite h.kind ≡ false → IsBack tables trees trees now h
-lock_back tables trees now place table held h was other = record {
-  kept =
-      subst (AreKept tables trees) (sym was.after)
-      (changes_kept tables trees held (undone_at (Some place) held) was.kept (all_undone (IsKeptChange tables trees) (IsKeptChange tables trees) (λ x kept. kept) (undone_kept tables trees) held place was.kept.changes) (lock_leaves h other held place was.at));
-  shown = sym (by h.kind other (all_place (IsKeptChange tables trees) held place h was.kept.changes was.at).sum);
+-- the store is kept with a lock or a sum undone
+pub kept_alike : (tables : List Table) (trees : List StoredTable) (now : List HeldChange) (place table : ℕ) (held : List HeldChange) (h : HeldChange) → WasOpen tables trees now place table held h → is_rewrite h.kind ≡ false → AreKept tables trees now
+kept_alike tables trees now place table held h was other =
+    subst (AreKept tables trees) (sym was.after)
+    (changes_kept tables trees held (undone_at (Some place) held) was.kept (all_undone (IsKeptChange tables trees) (IsKeptChange tables trees) (λ x kept. kept) (undone_kept tables trees) held place was.kept.changes) (lock_leaves h other held place was.at))
+
+pub lock_back : (tables : List Table) (trees : List StoredTable) (now : List HeldChange) (place table : ℕ) (held : List HeldChange) (h : HeldChange) → WasOpen tables trees now place table held h → h.kind ≡ kind.Hold → IsBack tables trees trees now h
+lock_back tables trees now place table held h was lock = record {
+  kept = kept_alike tables trees now place table held h was (ap is_rewrite lock);
+  shown =
+      sym (ap (λ (k : ChangeKind). tables_after (map (with_newest trees) tables) (inverse (record (held_record h) { kind = k }))) lock
+      ∙ unchanged h.table (map (with_newest trees) tables));
 }
-  where
-    by : (k : ChangeKind) → is_rewrite k ≡ false → is_add k ≡ false → tables_after (map (with_newest trees) tables) (inverse (record (held_record h) { kind = k })) ≡ map (with_newest trees) tables
-    by kind.Put e f = impossible (sym e)
-    by kind.Drop e f = impossible (sym e)
-    by kind.Hold e f = unchanged h.table (map (with_newest trees) tables)
-    by (kind.Add column amount) e f = impossible (sym f)
 
 -- ---- a put or a drop
 

@@ -78,7 +78,7 @@ pub row_as : (t : Table) (rules : List IndexRule) (bookmark bytes : List ℕ) �
     → (AllByRecursion (Takes (schema_of t) (record_of bytes)) t.indexes → AllByRecursion (Takes (schema_of t) (record_of bytes)) rules)
     → IsRowUnder t bookmark bytes → IsRowUnder (with_rules rules t) bookmark bytes
 row_as t rules bookmark bytes primary takes is = record {
-  fits = record { row = is.fits.row; columns = is.fits.columns };
+  fits = record { row = is.fits.row; columns = is.fits.columns; numbers = is.fits.numbers };
   indexable =
       indexable_of (with_rules rules t) (record_of bytes)
       (all_weaker (Takes (schema_of t) (record_of bytes)) (Takes (schema_of (with_rules rules t)) (record_of bytes)) (takes_as t rules (record_of bytes)) rules

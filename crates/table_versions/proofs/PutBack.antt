@@ -136,7 +136,7 @@ equal_keys x y e = same_bytes x y (texts_ties x y ∙ ap is_eq e)
 same_rows : (a b : Rows) → RowsRise a → RowsRise b → ((own : List ℕ) → row_at a own ≡ row_at b own) → a ≡ b
 same_rows a b one other same = same_entries (slice_cmp nat_cmp) nat_list_cmp_total equal_keys a b one other same
 
-rows_filled : (laws : TreeLaws) (trees : List StoredTable) (id : ℕ) (bookmark row : List ℕ) → Fills laws trees id bookmark row → (other : ℕ)
+pub rows_filled : (laws : TreeLaws) (trees : List StoredTable) (id : ℕ) (bookmark row : List ℕ) → Fills laws trees id bookmark row → (other : ℕ)
     → rows_of_nodes (table_nodes (filled trees id bookmark row) other) ≡ cond (other == id) (rows_with (rows_of_nodes (table_nodes trees other)) bookmark (option_map record_of (row_in_node row))) (rows_of_nodes (table_nodes trees other))
 rows_filled laws trees id bookmark [] fills other =
     ap rows_of_nodes (nodes_filled laws trees id bookmark [] fills.table other) ∙ by (id == other)

@@ -25,7 +25,7 @@ use Rattle.table_versions.specs.PutRecords.{CanTake, HasVariantKeys, IsPut, IsSa
 use Rattle.table_versions.specs.GoneKeys.{AreRows, held_from}
 use Rattle.table_versions.specs.RecordRows.{IsRecordRow, held_record, record_of, row_under}
 use Rattle.table_versions.specs.StoredVersions.{StoredVersions, has_room}
-use Rattle.table_versions.specs.VersionsKept.{AreKept, IsBookmarkOf}
+use Rattle.table_versions.specs.VersionsKept.{AreKept, HoldsNumbers, IsBookmarkOf}
 use Rattle.table_versions.specs.VersionsView.{stored_versions, with_newest}
 use Rattle.table_versions.proofs.PutAsked.{PutAsks, are_rows, own_kept, put_asks, rules_take}
 use Rattle.table_versions.proofs.Dropped.{has_trees}
@@ -43,7 +43,7 @@ pub storable_in : (trees : List StoredTable) (tables : List Table) (id : ℕ) (b
     → IsSomeAnd (table_with_id (map (with_newest trees) tables) id) (λ table. IsStorable table bookmark values) → IsStorable t bookmark values
 storable_in trees tables id bookmark values t found is =
     let s = subst (λ (o : Option Table). IsSomeAnd o (λ table. IsStorable table bookmark values)) (table_at trees tables id ∙ ap (option_map (with_newest trees)) found) is in
-    record { columns = s.columns; indexable = s.indexable; own = s.own; some = s.some; short = s.short; here = s.here; formed = s.formed; small = s.small }
+    record { columns = s.columns; numbers = s.numbers; indexable = s.indexable; own = s.own; some = s.some; short = s.short; here = s.here; formed = s.formed; small = s.small }
 
 pub new_row : RowSizes → RowLaws → (t : Table) (bookmark : List ℕ) (values : RecordFields) → IsStorable t bookmark values → IsNewRow t bookmark (row_bytes (all_here values)) values
 new_row sizes laws t bookmark values is = record {
@@ -56,6 +56,7 @@ new_row sizes laws t bookmark values is = record {
         small = subst (λ n. n ≤ 1700) (sym (sizes.bytes (all_here values) ∙ sizes.size values is.here)) is.small;
       };
       columns = subst (λ (fields : RecordFields). record_fits t.columns fields ≡ true) (sym shows) is.columns;
+      numbers = subst (HoldsNumbers (schema_of t)) (sym shows) is.numbers;
     };
     indexable = subst (λ (fields : RecordFields). is_indexable (schema_of t) fields ≡ true) (sym shows) is.indexable;
     own = subst (λ (fields : RecordFields). IsBookmarkOf t fields bookmark) (sym shows) is.own;

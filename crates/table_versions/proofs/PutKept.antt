@@ -36,7 +36,7 @@ use Rattle.table_versions.specs.RecordRows.{IsRecordRow, held_record, record_of,
 use Rattle.table_versions.specs.VersionsKept.{AreKept, IsKeptChange, IsKeptTable, IsRowOf, IsRowUnder, needed_trees, only_secondary, secondary_rule, tree_numbers}
 use Rattle.table_versions.specs.VersionsView.{with_newest}
 use Rattle.table_versions.proofs.DroppedRecords.{room_in, turned_number}
-use Rattle.table_versions.proofs.Held.{appended}
+use Rattle.table_versions.proofs.Held.{appended, no_sum}
 use Rattle.table_versions.proofs.HalfPuts.{secondary_found}
 use Rattle.table_versions.proofs.KeysPut.{record_yields}
 use Rattle.versioned_tables.proofs.Lists.{all_append}
@@ -449,7 +449,7 @@ made_kept by table bookmark copied values old new wide short tables own found he
   room = λ uncommitted.
       wider_rooms (row_under (table_nodes old table.0) bookmark) (extent_in (table_nodes old table.0) bookmark) (extent_in (table_nodes new table.0) bookmark) (wide table.0 bookmark) (room_in (table_nodes old table.0) short bookmark);
   other = λ e. impossible (sym e);
-  sum = refl;
+  sum = no_sum (table_with_id tables table.0) kind.Put refl;
 }
   where
     fits : (t : Table) (row : Option (List ℕ)) → IfSome row (IsRowUnder t bookmark) → IfSome row (IsRowOf t)

@@ -17,7 +17,7 @@ use Rattle.table_trees.specs.StoredTables.{StoredTable, has_index, index_entries
 use Rattle.versioned_tables.specs.HeldRecords.{HeldRecord}
 use Rattle.versioned_tables.specs.Variants.{is_variant_key}
 use Rattle.table_versions.specs.GoneKeys.{ChangesEntries, HasKeysOf, index_numbers, table_numbers}
-use Rattle.table_versions.specs.VersionsKept.{IsBookmarkOf, only_secondary}
+use Rattle.table_versions.specs.VersionsKept.{HoldsNumbers, IsBookmarkOf, only_secondary}
 
 -- ---- keys
 
@@ -150,10 +150,11 @@ put_values (Drop table bookmark) = []
 put_values (Hold table bookmark) = []
 put_values (Add table bookmark column amount) = []
 
--- A record that fits the columns of a table, which no index of it refuses, under a bookmark of its own. All its values stand
--- in its row, and the row in a page.
+-- A record that fits the columns of a table, and holds numbers in the escrow columns, which no index of it refuses, under a
+-- bookmark of its own. All its values stand in its row, and the row in a page.
 pub record IsStorable (table : Table) (bookmark : List ℕ) (values : RecordFields) : Type 0 where
   pub columns : record_fits table.columns values ≡ true
+  pub numbers : HoldsNumbers (schema_of table) values
   pub indexable : is_indexable (schema_of table) values ≡ true
   pub own : IsBookmarkOf table values bookmark
   pub some : 0 < length bookmark

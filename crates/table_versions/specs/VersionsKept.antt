@@ -8,13 +8,16 @@ use Rattle.database_state.specs.SchemaChanges.{has_column, rule_columns}
 use Rattle.database_state.specs.State.{is_open}
 use Rattle.database_state.specs.Table.{Table, row_at, primary_rule, rule_with_id, schema_of, table_with_id}
 use Rattle.index_derive.specs.declared.rules.IndexRule.{IndexRule}
-use Rattle.index_derive.specs.Entries.{is_legal, primary_key}
+use Rattle.index_derive.specs.declared.rules.Schema.{Schema}
+use Rattle.index_derive.specs.Entries.{is_escrow_column, is_legal, primary_key}
 use Rattle.jet_catalog.specs.Catalog.{without_rows}
 use Rattle.page_image.specs.Page.{Node}
 use Rattle.table_trees.specs.StoredTables.{StoredTable, index_entries, table_nodes}
+use Rattle.version_store.specs.declared.calls.ChangeKind.{ChangeKind}
 use Rattle.version_store.specs.declared.calls.ChangeKind.TheVariants as kind
 pub use Rattle.version_store.specs.HeldChanges.{is_standing}
-use Rattle.version_store.specs.HeldChanges.{HeldChange, is_add, is_rewrite}
+use Rattle.version_store.specs.HeldChanges.{HeldChange, is_rewrite}
+use Rattle.version_sums.specs.EscrowNumbers.{holds_number}
 use Rattle.versioned_tables.specs.HeldRecords.{HeldRecord}
 use Rattle.versioned_tables.specs.Variants.{HoldsVariants, has_variant}
 use Rattle.table_versions.specs.RecordRows.{IsRecordRow, held_record, record_of, row_under, rows_of_nodes}
@@ -47,10 +50,15 @@ abbrev pub IsBookmarkOf : Table → RecordFields → List ℕ → Type 0
 IsBookmarkOf table values bookmark =
     MatchOption (primary_rule (schema_of table)) (length bookmark ≡ 8) (λ rule. bookmark ≡ primary_key rule (schema_of table) values)
 
--- A row of a table: its record fits the columns.
+-- A record holds one number, of four bytes, in each escrow column.
+abbrev pub HoldsNumbers : Schema → RecordFields → Type 0
+HoldsNumbers schema values = (column : ℕ) → is_escrow_column schema column ≡ true → holds_number values column ≡ true
+
+-- A row of a table: its record fits the columns, and holds numbers in the escrow columns.
 pub record IsRowOf (table : Table) (bytes : List ℕ) : Type 0 where
   pub row : IsRecordRow bytes
   pub columns : record_fits table.columns (record_of bytes) ≡ true
+  pub numbers : HoldsNumbers (schema_of table) (record_of bytes)
 
 -- The row under a bookmark of a table: no index refuses its record, and the bookmark is its own.
 pub record IsRowUnder (table : Table) (bookmark bytes : List ℕ) : Type 0 where
@@ -60,9 +68,16 @@ pub record IsRowUnder (table : Table) (bookmark bytes : List ℕ) : Type 0 where
 
 -- ---- held changes
 
+-- what is a sum adds to an escrow column
+abbrev pub AddsToEscrow : Schema → ChangeKind → Type 0
+AddsToEscrow schema kind.Put = Unit {0}
+AddsToEscrow schema kind.Drop = Unit {0}
+AddsToEscrow schema kind.Hold = Unit {0}
+AddsToEscrow schema (kind.Add column amount) = is_escrow_column schema column.0 ≡ true
+
 -- A held change is of a table of the catalog, and the row before it is one of that table. Before a put or a drop it is one that
--- stood under the bookmark, and a drop that stands has one; while the change is open its node has room for it. A lock holds no
--- row, and a sum of an escrow column is not held: these are not built.
+-- stood under the bookmark, and a drop that stands has one; while the change is open its node has room for it. A lock and a sum
+-- hold no row, and a sum is one of an escrow column.
 pub record IsKeptChange (tables : List Table) (trees : List StoredTable) (held : HeldChange) : Type 0 where
   pub named : is_some (table_with_id tables held.table) ≡ true
   pub row : IfSome (table_with_id tables held.table) (λ table. IfSome held.before (IsRowOf table))
@@ -70,7 +85,7 @@ pub record IsKeptChange (tables : List Table) (trees : List StoredTable) (held :
   pub drop : is_standing held ≡ true → held.kind ≡ kind.Drop → is_some held.before ≡ true
   pub room : is_open held.status ≡ true → IfSome held.before (λ row. IsSomeAnd (extent_in (table_nodes trees held.table) held.bookmark) (λ extent. length row ≤ extent))
   pub other : is_rewrite held.kind ≡ false → held.before ≡ None
-  pub sum : is_add held.kind ≡ false
+  pub sum : IfSome (table_with_id tables held.table) (λ table. AddsToEscrow (schema_of table) held.kind)
 
 -- ---- tables
 

@@ -17,6 +17,7 @@ mod reading;
 mod rewriting;
 mod schema;
 mod store;
+mod sums;
 mod telling;
 mod undoing;
 mod unique;

@@ -1,6 +1,6 @@
 //! Open changes are undone.
 
-ghost use Rattle.std.specs.Prelude.{◌≡◌, ◌≤◌, ℕ, true, List, Some, [], map, IfSome, option_copied, option_map, slice_get, unwrap_or};
+ghost use Rattle.std.specs.Prelude.{◌≡◌, ◌≤◌, ◌<◌, ℕ, true, false, List, Some, [], map, IfSome, length, option_copied, option_map, slice_get, unwrap_or};
 ghost use Rattle.std.specs.List.{AllByRecursion, list_any};
 ghost use Rattle.database_state.specs.Table.{Table, schema_of, table_with_id};
 ghost use Rattle.table_trees.specs.StoredTables.{table_nodes};
@@ -10,13 +10,14 @@ ghost use Rattle.versioned_tables.specs.HeldRecords.{is_open_at, is_open_of};
 ghost use Rattle.versioned_tables.specs.VersionedTables.{with_changes_undone, with_last_undone};
 ghost use Rattle.table_versions.specs.GoneKeys.{AreRows};
 ghost use Rattle.table_versions.specs.LeftVariants.{DistinctIds};
-ghost use Rattle.table_versions.specs.RecordRows.{row_under};
+ghost use Rattle.table_versions.specs.RecordRows.{IsRecordRow, row_under};
 ghost use Rattle.table_versions.specs.UndoneChanges.{CanPutBack, IsBack, IsUndone, WasOpen, tables_put_back};
 ghost use Rattle.table_versions.specs.VersionsKept.{AreKept};
 ghost use Rattle.table_versions.specs.VersionsView.{with_newest};
 
 use crate::reading::row_in_node;
 use crate::store::TableVersions;
+use crate::sums::{add_in_place, opposite};
 use crate::variants::take_variant;
 use arrayvec::ArrayVec;
 use column_set::RowRef;
@@ -92,8 +93,34 @@ fn put_back(
     requires { (held : List HeldChange) × ((h : HeldChange) × WasOpen catalog.now.tables trees.old versions.now place table.0 held h) }
     ensures { (held : List HeldChange) (h : HeldChange) → WasOpen catalog.now.tables trees.old versions.now place table.0 held h → IsBack catalog.now.tables trees.old trees.new versions.now h }
 {
-    if is_rewrite(versions.kind_at(place)) {
+    let what = versions.kind_at(place);
+    if is_rewrite(what) {
         put_back_of(catalog, trees, versions, table, place);
+    } else {
+        take_sum_out(trees, versions, table, place, what);
+    }
+}
+
+// A sum that has become undone goes from the newest record: the opposite one is made. A lock made nothing.
+fn take_sum_out(
+    trees: &mut TableTrees,
+    versions: &Versions,
+    table: TableId,
+    place: usize,
+    what: ChangeKind,
+)
+    requires within { place < length versions.now }
+    requires newest { (bookmark : List ℕ) → IfSome (row_under (table_nodes trees.old table.0) bookmark) IsRecordRow }
+    ensures { (tables : List Table) (held : List HeldChange) (h : HeldChange) → WasOpen tables trees.old versions.now place table.0 held h → h.kind ≡ what → is_rewrite h.kind ≡ false → IsBack tables trees.old trees.new versions.now h }
+{
+    match what {
+        ChangeKind::Add(column, amount) => {
+            let bookmark = versions.bookmark_at(place);
+            add_in_place(trees, table, bookmark, column, opposite(amount));
+        }
+        ChangeKind::Put => {}
+        ChangeKind::Drop => {}
+        ChangeKind::Hold => {}
     }
 }
 
@@ -173,7 +200,7 @@ fn bytes_of(row: Option<&[u8]>) -> &[u8]
 }
 
 // A copy of the newest row under a bookmark.
-fn copied_row(
+pub(crate) fn copied_row(
     trees: &TableTrees,
     table: TableId,
     bookmark: &[u8],

@@ -8,7 +8,7 @@ use Rattle.jet_base.specs.ColumnType.{largest_value}
 use Rattle.column_set.specs.declared.changes.Change.{Change}
 use Rattle.column_set.specs.declared.changes.Change.TheVariants.{Put, Drop, Hold, Add}
 use Rattle.column_set.specs.declared.columns.Column.{Column}
-use Rattle.column_set.specs.RecordValues.{RecordFields, column_of_id, has_value, is_kept_column, lookup_by_number, size_of_length, size_of_values, value_fits, values_fit, values_of}
+use Rattle.column_set.specs.RecordValues.{RecordFields, column_of_id, has_value, is_kept_column, lookup_by_number, record_fits, size_of_length, size_of_values, value_fits, values_fit, values_of}
 use Rattle.index_derive.specs.declared.log.Entry.{Entry}
 use Rattle.index_derive.specs.declared.log.EntryKind.{EntryKind}
 use Rattle.index_derive.specs.declared.log.EntryKind.TheVariants as entry
@@ -29,7 +29,7 @@ use Rattle.version_history.proofs.EndEntries.{back}
 use Rattle.version_history.proofs.Keeping.{some_map}
 use Rattle.version_history.proofs.LawfulEntries.{keeps_lawful}
 use Rattle.version_history.proofs.Lists.{all_both, all_weaker}
-use Rattle.version_sums.specs.EscrowNumbers.{is_number}
+use Rattle.version_sums.specs.EscrowNumbers.{ColumnsRise, holds_number, is_number}
 use Rattle.version_sums.proofs.Puts.{all_put, found_has, sum_put}
 use Rattle.version_sums.proofs.StoredSums.{values_seen}
 use Rattle.version_sums.proofs.VeryRecords.{one_value, sum_is_number}
@@ -77,18 +77,19 @@ column_fits (Some column) x y four e h =
     and_both (column.multi || nat_le 1 1) (value_fits column.kind y && true) (and_left (column.multi || nat_le 1 1) (value_fits column.kind x && true) h)
     (and_both (value_fits column.kind y) true (fits_four column.kind x y four e (and_left (value_fits column.kind x) true (and_right (column.multi || nat_le 1 1) (value_fits column.kind x && true) h))) refl)
 
+four_of : (bytes : List ℕ) → is_number bytes ≡ true → length bytes ≡ 4
+four_of bytes e = same_number (length bytes) 4 (and_left (length bytes == 4) (list_all (λ b. nat_lt b 256) bytes) e)
+
 -- a record that is stored, and holds numbers in its escrow columns
 abbrev pub IsStoredWithNumbers : ℕ → Schema → List ℕ → RecordFields → Type 0
 IsStoredWithNumbers number schema bookmark values = IsStored number schema bookmark values × HoldsNumbers number schema bookmark values
 
-sum_stored : (number : ℕ) (schema : Schema) (bookmark : List ℕ) (column : ℕ) (amount : ℤ) → is_escrow_column schema column ≡ true → (values : RecordFields) → IsStoredWithNumbers number schema bookmark values → IsStored number schema bookmark (with_sum values column amount)
-sum_stored number schema bookmark column amount escrow values h = (
-  subst (λ (n : ℕ). n ≤ 1700) (sym (ap (λ (n : ℕ). 2 + n) (sum_put (λ field. size_of_values field.1) column (new ∷ []) (old ∷ []) (size_one new old (four_new ∙ sym four_old)) values h.1.0 one.0))) h.0.0,
-  and_both (list_all fits (with_sum values column amount)) (list_all (λ c. not (is_kept_column c) || has_value (with_sum values column amount) c.id.0) schema.columns)
-      (all_put fits column (new ∷ []) (old ∷ []) (column_fits (column_of_id schema.columns column) old new four_old (four_old ∙ sym four_new) (found_has fits column (old ∷ []) values every one.0)) values h.1.0 one.0 every)
-      (all_stronger (λ c. not (is_kept_column c) || has_value values c.id.0) (λ c. not (is_kept_column c) || has_value (with_sum values column amount) c.id.0) (λ c had. stays (is_kept_column c) c.id.0 had) schema.columns
-      (and_right (list_all fits values) (list_all (λ c. not (is_kept_column c) || has_value values c.id.0) schema.columns) h.0.1)),
-)
+pub sum_fits : (schema : Schema) (column : ℕ) (amount : ℤ) (values : RecordFields) → ColumnsRise values → holds_number values column ≡ true → record_fits schema.columns values ≡ true → record_fits schema.columns (with_sum values column amount) ≡ true
+sum_fits schema column amount values rise held h =
+    and_both (list_all fits (with_sum values column amount)) (list_all (λ c. not (is_kept_column c) || has_value (with_sum values column amount) c.id.0) schema.columns)
+    (all_put fits column (new ∷ []) (old ∷ []) (column_fits (column_of_id schema.columns column) old new four_old (four_old ∙ sym four_new) (found_has fits column (old ∷ []) values every one.0)) values rise one.0 every)
+    (all_stronger (λ c. not (is_kept_column c) || has_value values c.id.0) (λ c. not (is_kept_column c) || has_value (with_sum values column amount) c.id.0) (λ c had. stays (is_kept_column c) c.id.0 had) schema.columns
+    (and_right (list_all fits values) (list_all (λ c. not (is_kept_column c) || has_value values c.id.0) schema.columns) h))
   where
     old : List ℕ
     old = escrow_bytes values column
@@ -100,13 +101,10 @@ sum_stored number schema bookmark column amount escrow values h = (
     fits field = elim (column_of_id schema.columns field.0) [ Some c ↦ values_fit c field.1 | None ↦ false ]
 
     one : (lookup_by_number column values ≡ Some (escrow_bytes values column ∷ [])) × (is_number (escrow_bytes values column) ≡ true)
-    one = one_value values column (h.1.1 column escrow)
+    one = one_value values column held
 
     every : list_all fits values ≡ true
-    every = and_left (list_all fits values) (list_all (λ c. not (is_kept_column c) || has_value values c.id.0) schema.columns) h.0.1
-
-    four_of : (bytes : List ℕ) → is_number bytes ≡ true → length bytes ≡ 4
-    four_of bytes e = same_number (length bytes) 4 (and_left (length bytes == 4) (list_all (λ b. nat_lt b 256) bytes) e)
+    every = and_left (list_all fits values) (list_all (λ c. not (is_kept_column c) || has_value values c.id.0) schema.columns) h
 
     four_old : length old ≡ 4
     four_old = four_of old one.1
@@ -119,6 +117,21 @@ sum_stored number schema bookmark column amount escrow values h = (
     stays true id had =
         ap (λ (found : List (List ℕ)). nat_lt 0 (length found)) (values_seen values column id amount)
         ∙ elim (id == column) as (λ b. nat_lt 0 (length (cond b (new ∷ []) (values_of values id))) ≡ true) [ true ↦ refl | false ↦ had ]
+
+sum_stored : (number : ℕ) (schema : Schema) (bookmark : List ℕ) (column : ℕ) (amount : ℤ) → is_escrow_column schema column ≡ true → (values : RecordFields) → IsStoredWithNumbers number schema bookmark values → IsStored number schema bookmark (with_sum values column amount)
+sum_stored number schema bookmark column amount escrow values h = (
+  subst (λ (n : ℕ). n ≤ 1700) (sym (ap (λ (n : ℕ). 2 + n) (sum_put (λ field. size_of_values field.1) column (new ∷ []) (old ∷ []) (size_one new old (four_of new (sum_is_number old amount) ∙ sym (four_of old one.1))) values h.1.0 one.0))) h.0.0,
+  sum_fits schema column amount values h.1.0 (h.1.1 column escrow) h.0.1,
+)
+  where
+    old : List ℕ
+    old = escrow_bytes values column
+
+    new : List ℕ
+    new = escrow_sum (escrow_bytes values column) amount
+
+    one : (lookup_by_number column values ≡ Some (escrow_bytes values column ∷ [])) × (is_number (escrow_bytes values column) ≡ true)
+    one = one_value values column (h.1.1 column escrow)
 
 -- ---- all records
 
