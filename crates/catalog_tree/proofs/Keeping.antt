@@ -33,7 +33,7 @@ use Rattle.catalog_tree.specs.CatalogsKept.{HoldsCatalog, TakesColumn, TakesInde
 use Rattle.catalog_tree.specs.declared.tree.CatalogTree.{CatalogTree}
 use Rattle.catalog_tree.proofs.Exchanging.{exchanges_then}
 
-becomes_as : (old : Frames) (was : CatalogTree) (new : Frames) (is : CatalogTree) (list list' : List Node) → list ≡ list' → CatalogBecomes old was new is list → CatalogBecomes old was new is list'
+pub becomes_as : (old : Frames) (was : CatalogTree) (new : Frames) (is : CatalogTree) (list list' : List Node) → list ≡ list' → CatalogBecomes old was new is list → CatalogBecomes old was new is list'
 becomes_as old was new is list list' e b = record { tree = b.tree; nodes = b.nodes ∙ e; pages = b.pages; root = b.root }
 
 pub becomes_then : (a b c : Frames) (first second third : CatalogTree) (list list' : List Node) → CatalogBecomes a first b second list → CatalogBecomes b second c third list' → CatalogBecomes a first c third list'
@@ -45,7 +45,7 @@ pub record Follows (old : Frames) (was : CatalogTree) (new : Frames) (is : Catal
   pub becomes : CatalogBecomes old was new is (nodes_of_catalog roots after)
   pub holds : HoldsCatalog new is roots after
 
-follows : (old : Frames) (was : CatalogTree) (new : Frames) (is : CatalogTree) (roots : Roots) (after : CatalogState) (list : List Node) → list ≡ nodes_of_catalog roots after → CatalogBecomes old was new is list → has_nodes roots after ≡ true → Follows old was new is roots after
+pub follows : (old : Frames) (was : CatalogTree) (new : Frames) (is : CatalogTree) (roots : Roots) (after : CatalogState) (list : List Node) → list ≡ nodes_of_catalog roots after → CatalogBecomes old was new is list → has_nodes roots after ≡ true → Follows old was new is roots after
 follows old was new is roots after list e b fits =
     let now = becomes_as old was new is list (nodes_of_catalog roots after) e b in
     record { becomes = now; holds = record { tree = now.tree; nodes = now.nodes; writable = fits } }

@@ -1,18 +1,20 @@
 -- The catalog that a tree keeps, and what its schema steps ask.
-use Rattle.std.specs.Prelude.{◌≡◌, ℕ, ◌<◌, Bool, true, false, Some, List, IsTrue}
+use Rattle.std.specs.Prelude.{◌≡◌, ℕ, ◌<◌, true, false, Some, List, length, map, take, slice_index_or, IsSome, IsTrue}
 use Rattle.jet_base.specs.declared.ids.ColumnId.{ColumnId}
 use Rattle.jet_base.specs.declared.ids.IndexId.{IndexId}
 use Rattle.jet_base.specs.declared.ids.TableId.{TableId}
 use Rattle.column_set.specs.declared.columns.Column.{Column}
 use Rattle.index_derive.specs.declared.rules.IndexRule.{IndexRule}
-use Rattle.index_derive.specs.declared.schema_calls.SchemaStep.{SchemaStep}
 use Rattle.index_derive.specs.declared.schema_calls.SchemaStep.TheVariants as step
 use Rattle.database_state.specs.SchemaChanges.{has_column, new_table, with_column}
 use Rattle.database_state.specs.Table.{GreatestColumns, Table, table_with_id}
-use Rattle.jet_catalog.specs.Catalog.{CatalogState, IsNumbered, catalog_after, has_new_id}
+use Rattle.jet_catalog.specs.Catalog.{CatalogState, IsNumbered, has_new_id}
+use Rattle.page_image.specs.Page.{Node}
 use Rattle.page_space.specs.Frames.{Frames}
-use Rattle.catalog_grammar.specs.CatalogBytes.{item_fits}
-use Rattle.catalog_changes.specs.CatalogSteps.{Roots, has_index, has_nodes, item_of_column, item_of_index, item_of_table, nodes_of_catalog}
+use Rattle.btree_inplace.specs.Order.{get_in}
+use Rattle.catalog_grammar.specs.CatalogBytes.{item_fits, item_key}
+use Rattle.catalog_grammar.specs.declared.items.CatalogItem.{CatalogItem}
+use Rattle.catalog_changes.specs.CatalogSteps.{Roots, has_index, has_nodes, item_of_column, item_of_index, item_of_table, nodes_of_catalog, without_items}
 use Rattle.catalog_tree.specs.CatalogTrees.{IsCatalogTree, nodes_in}
 use Rattle.catalog_tree.specs.declared.tree.CatalogTree.{CatalogTree}
 
@@ -60,3 +62,9 @@ pub record HasIndex (catalog : CatalogState) (table : TableId) (index : IndexId)
   pub t : Table
   pub there : table_with_id catalog.tables table.0 ≡ Some t
   pub has : has_index t index.0 ≡ true
+
+-- ---- a table that goes
+
+-- Each of a list has a node when those before it are gone.
+abbrev pub GoOneByOne : {X : Type 0} → (X → CatalogItem) → List X → List Node → Type 0
+GoOneByOne {X} named list nodes = (k : ℕ) (x : X) → k < length list → IsSome (get_in (without_items (map named (take k list)) nodes) (item_key (named (slice_index_or list k x))))

@@ -1,14 +1,14 @@
 //! The tree of a catalog through schema steps: what may want memory comes first, and alone.
 
-ghost use Rattle.std.specs.Prelude.{◌≡◌, Some, OnErr, OnOk};
+ghost use Rattle.std.specs.Prelude.{◌≡◌, Some, map, OnErr, OnOk};
 ghost use Rattle.jet_base.specs.Ids.{table_id};
 ghost use Rattle.index_derive.specs.declared.schema_calls.SchemaStep.TheVariants as step;
 ghost use Rattle.database_state.specs.Table.{table_with_id};
 ghost use Rattle.jet_catalog.specs.Catalog.{CatalogState, catalog_after};
-ghost use Rattle.btree_inplace.specs.Trees.{Exchanges};
-ghost use Rattle.catalog_changes.specs.CatalogSteps.{Roots, nodes_of_catalog};
-ghost use Rattle.catalog_tree.specs.CatalogTrees.{CatalogBecomes, nodes_in};
-ghost use Rattle.catalog_tree.specs.CatalogsKept.{HasColumn, HasIndex, HoldsCatalog, TakesColumn, TakesIndex, TakesTable};
+ghost use Rattle.catalog_grammar.specs.declared.items.CatalogItem.TheVariants as item;
+ghost use Rattle.catalog_changes.specs.CatalogSteps.{Roots, nodes_of_catalog, without_items};
+ghost use Rattle.catalog_tree.specs.CatalogTrees.{CatalogBecomes, IsCatalogTree, nodes_in};
+ghost use Rattle.catalog_tree.specs.CatalogsKept.{GoOneByOne, HasColumn, HasIndex, HoldsCatalog, TakesColumn, TakesIndex, TakesTable};
 
 use crate::CatalogTree;
 use catalog_record::{NodeBuffer, key_of};
@@ -18,8 +18,11 @@ use jet_base::{ColumnId, IndexId, Name, OutOfMemory, TableId};
 use jet_catalog::{GreatestColumns, TableDef};
 use page_space::Space;
 
-/// The kinds of nodes that go by their number.
+/// The kinds of nodes that go by their key.
+const TABLE: u8 = 1;
+
 const COLUMN: u8 = 2;
+
 const INDEX: u8 = 3;
 
 impl CatalogTree {
@@ -105,5 +108,39 @@ impl CatalogTree {
             → CatalogBecomes space.old self.old space.new self.new (nodes_of_catalog roots (catalog_after catalog (step.DeleteIndex table index))) × HoldsCatalog space.new self.new roots (catalog_after catalog (step.DeleteIndex table index)) }
     {
         self.remove(space, &key_of(INDEX, table.0, index.0));
+    }
+
+    /// Takes out the nodes of a table: those of its indexes, then those of its columns, then its own. It takes no memory.
+    pub fn delete_table(&mut self, space: &mut Space, table: &TableDef)
+        requires { (roots : Roots) × (catalog : CatalogState) × HoldsCatalog space.old self.old roots catalog × (table_with_id catalog.tables table.now.id ≡ Some table.now) }
+        ensures { (roots : Roots) (catalog : CatalogState) → HoldsCatalog space.old self.old roots catalog → table_with_id catalog.tables table.now.id ≡ Some table.now
+            → CatalogBecomes space.old self.old space.new self.new (nodes_of_catalog roots (catalog_after catalog (step.DeleteTable (table_id table.now.id)))) × HoldsCatalog space.new self.new roots (catalog_after catalog (step.DeleteTable (table_id table.now.id))) }
+    {
+        let id = table.id();
+        remove_indexes(self, space, id, table.indexes());
+        remove_columns(self, space, id, table.columns());
+        self.remove(space, &key_of(TABLE, id.0, 0));
+    }
+}
+
+/// Takes out the nodes of indexes of a table, one after the other.
+fn remove_indexes(tree: &mut CatalogTree, space: &mut Space, table: TableId, rules: &[IndexRule])
+    requires tree { IsCatalogTree space.old tree.old }
+    requires there { GoOneByOne (item.Index table 0) rules.now (nodes_in space.old tree.old) }
+    ensures { CatalogBecomes space.old tree.old space.new tree.new (without_items (map (item.Index table 0) rules.now) (nodes_in space.old tree.old)) }
+{
+    for rule in rules {
+        tree.remove(space, &key_of(INDEX, table.0, rule.id.0));
+    }
+}
+
+/// Takes out the nodes of columns of a table, one after the other.
+fn remove_columns(tree: &mut CatalogTree, space: &mut Space, table: TableId, columns: &[Column])
+    requires tree { IsCatalogTree space.old tree.old }
+    requires there { GoOneByOne (item.Column table) columns.now (nodes_in space.old tree.old) }
+    ensures { CatalogBecomes space.old tree.old space.new tree.new (without_items (map (item.Column table) columns.now) (nodes_in space.old tree.old)) }
+{
+    for column in columns {
+        tree.remove(space, &key_of(COLUMN, table.0, column.id.0));
     }
 }
