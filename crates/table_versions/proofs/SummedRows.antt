@@ -1,16 +1,13 @@
 -- A row with a sum made in it, and the store with such a row.
-use Rattle.std.proofs.Common.{◌≡◌, ℕ, ◌≤◌, ◌+◌, ◌%◌, ◌^◌, Bool, true, false, not, ◌&&◌, ◌||◌, cond, List, [], ◌∷◌, ◌++◌, length, drop, take, Option, Some, None, map, option_map, refl, sym, ap, subst, ◌∙◌, arith}
-use Rattle.std.specs.Prelude.{ℤ, T, ◌==◌, IfSome, IsSomeAnd, IsTrue, bytes_eq, is_some, option_and_then, unwrap_or}
+use Rattle.std.proofs.Common.{◌≡◌, ℕ, ◌≤◌, ◌+◌, ◌%◌, ◌^◌, Bool, true, false, not, ◌||◌, cond, List, [], ◌∷◌, ◌++◌, length, drop, take, Option, Some, None, map, option_map, refl, sym, ap, subst, ◌∙◌}
+use Rattle.std.specs.Prelude.{ℤ, T, ◌==◌, IfSome, IsSomeAnd, IsTrue, bytes_eq, is_some, unwrap_or}
 use Rattle.std.specs.Int.{w32, cast_unsigned, from_le_bytes, to_le_bytes}
 use Rattle.std.specs.List.{AllByRecursion, list_any, refill}
 use Rattle.std.specs.Ordering.{nat_cmp}
 use Rattle.std.specs.FinMap.Entries.{is_sorted}
 use Rattle.btree_inplace.specs.Changes.{with_data_at}
-use Rattle.btree_inplace.specs.Order.{get_in}
-use Rattle.column_set.specs.declared.changes.Change.{Change}
 use Rattle.column_set.specs.declared.changes.Change.TheVariants.{Add}
 use Rattle.column_set.specs.declared.rows.RowValue.TheVariants.{Here}
-use Rattle.column_set.specs.Record.{is_record}
 use Rattle.column_set.specs.RecordValues.{RecordFields, column_of_id, put_by_number, record_fits, values_of}
 use Rattle.column_set.specs.RowReading.{row_in}
 use Rattle.column_set.specs.Rows.{RowFields, all_here, here_fields, is_row, row_bytes, row_values_of}
@@ -19,14 +16,13 @@ use Rattle.database_state.specs.Changes.{escrow_bytes, escrow_sum, rows_with_sum
 use Rattle.database_state.specs.Conflicts.{yields_key}
 use Rattle.database_state.specs.Lawful.{is_indexable}
 use Rattle.database_state.specs.SchemaChanges.{rule_columns}
-use Rattle.database_state.specs.Table.{Rows, Table, row_at, rows_of, rule_with_id, primary_first, schema_of, table_with_id, with_row}
+use Rattle.database_state.specs.Table.{Rows, Table, row_at, rule_with_id, primary_first, schema_of, table_with_id, with_row}
 use Rattle.derived_index.specs.KeptEntries.{has_entry}
 use Rattle.index_derive.specs.declared.rules.IndexRule.{IndexRule}
 use Rattle.index_derive.specs.declared.rules.Schema.{Schema}
 use Rattle.index_derive.specs.Entries.{is_escrow_column, is_legal}
 use Rattle.jet_base.specs.declared.ids.ColumnId.{ColumnId}
 use Rattle.jet_base.specs.declared.ids.TableId.{TableId}
-use Rattle.page_image.specs.Page.{Node}
 use Rattle.record_changes.proofs.Tests.{and_left, and_right, impossible, same_bytes, same_number}
 use Rattle.table_trees.specs.StoredNodes.{bookmark_entries}
 use Rattle.table_trees.specs.StoredTables.{StoredTable, index_entries, table_nodes}
@@ -39,7 +35,7 @@ use Rattle.version_sums.specs.EscrowNumbers.{ColumnsRise, holds_number}
 use Rattle.version_sums.proofs.StoredSums.{values_seen}
 use Rattle.version_sums.proofs.VeryRecords.{one_value, sum_holds, sum_is_number}
 use Rattle.versioned_tables.specs.HeldRecords.{HeldRecord}
-use Rattle.versioned_tables.specs.Variants.{HoldsVariants, has_variant, is_variant_key}
+use Rattle.versioned_tables.specs.Variants.{HoldsVariants}
 use Rattle.versioned_tables.specs.VersionedTables.{rows_with}
 use Rattle.table_versions.specs.GoneKeys.{some_before}
 use Rattle.table_versions.specs.LeftVariants.{is_this}
@@ -118,8 +114,7 @@ pub record IsSummed (t : Table) (bookmark row : List ℕ) (column : ℕ) (amount
 pub its_value : SumLaws → (t : Table) (bookmark row : List ℕ) → IsRowUnder t bookmark row → (column : ℕ) → is_escrow_column (schema_of t) column ≡ true
     → (row_values_of (row_in row) column ≡ Here (escrow_bytes (record_of row) column) ∷ []) × (length (escrow_bytes (record_of row) column) ≡ 4)
 its_value laws t bookmark row is column escrow =
-    let one = one_value (record_of row) column (is.fits.numbers column escrow) in
-    (
+    let one = one_value (record_of row) column (is.fits.numbers column escrow) in (
       ap (λ (fields : RowFields). row_values_of fields column) is.fits.row.whole ∙ laws.found (record_of row) column (escrow_bytes (record_of row) column) (ap (λ (o : Option (List (List ℕ))). unwrap_or o []) one.0),
       same_number (length (escrow_bytes (record_of row) column)) 4 (and_left _ _ one.1),
     )
@@ -351,8 +346,7 @@ sum_done rows laws trees other table bookmark row column addend now under sorted
           shows = summed.shows;
           some = summed.some;
           fills = fills laws trees table.0 bookmark now (node_of_row (table_nodes trees table.0) bookmark (ap is_some under)) sorted (λ n. subst (λ (x : List StoredTable). are_sorted (bookmark_entries (table_nodes x n)) ≡ true) done (sorted_then n));
-        } in
-        (
+        } in (
           subst (λ (x : List StoredTable). AreKept tables x held) (sym done) (sum_kept laws trees table.0 bookmark row column.0 amount now sums tables own e escrow summed.under held kept),
           ap (λ (x : List StoredTable). map (with_newest x) tables) done ∙ sum_shown laws trees table bookmark row column amount now sums tables,
         )

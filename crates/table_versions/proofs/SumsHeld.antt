@@ -1,5 +1,5 @@
 -- A sum that is held, and one that is undone.
-use Rattle.std.proofs.Common.{◌≡◌, ℕ, zero, suc, ◌+◌, ◌-◌, ◌%◌, ◌^◌, ◌≤◌, ◌<◌, Bool, true, false, List, [], ◌∷◌, ◌++◌, Option, Some, None, map, refl, sym, ap, subst, ◌∙◌, arith}
+use Rattle.std.proofs.Common.{◌≡◌, ℕ, zero, suc, ◌+◌, ◌-◌, ◌%◌, ◌^◌, ◌<◌, true, false, List, [], ◌∷◌, ◌++◌, Option, Some, None, map, refl, sym, ap, subst, ◌∙◌, arith}
 use Rattle.std.specs.Prelude.{ℤ, pos, negsuc, neg_ℤ, FitsSigned, IfSome, IsSomeAnd, is_some, option_map}
 use Rattle.std.specs.Int.{w32, cast_unsigned}
 use Rattle.column_set.specs.declared.changes.Change.{Change}
@@ -17,7 +17,7 @@ use Rattle.table_trees.specs.StoredTables.{StoredTable, table_nodes}
 use Rattle.version_store.specs.declared.calls.By.{By}
 use Rattle.version_store.specs.declared.calls.ChangeKind.{ChangeKind}
 use Rattle.version_store.specs.declared.calls.ChangeKind.TheVariants as kind
-use Rattle.version_store.specs.HeldChanges.{HeldChange, is_rewrite, kind_of, new_change, with_status}
+use Rattle.version_store.specs.HeldChanges.{HeldChange, is_rewrite, kind_of, new_change}
 use Rattle.versioned_tables.specs.HeldRecords.{HeldRecord, inverse, new_change as new_record}
 use Rattle.versioned_tables.specs.VersionedTables.{with_change}
 use Rattle.table_versions.specs.RecordRows.{IsRecordRow, held_record, row_under}
@@ -25,7 +25,7 @@ use Rattle.table_versions.specs.UndoneChanges.{IsBack, WasOpen}
 use Rattle.table_versions.specs.VersionsKept.{AddsToEscrow, AreKept, IsKeptChange}
 use Rattle.table_versions.specs.VersionsView.{stored_versions, with_newest}
 use Rattle.table_versions.proofs.Held.{appended}
-use Rattle.table_versions.proofs.OpenUndone.{all_place, kept_alike, place_now}
+use Rattle.table_versions.proofs.OpenUndone.{all_place}
 use Rattle.table_versions.proofs.Tables.{newest_is_row, table_at}
 
 -- ---- one that is held

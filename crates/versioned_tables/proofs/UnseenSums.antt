@@ -1,5 +1,5 @@
 -- The sum of the amounts that a reader does not see, taken away at once, leaves what taking them away one by one leaves.
-use Rattle.std.proofs.Common.{◌≡◌, ℕ, ◌+◌, ◌-◌, ◌^◌, ◌%◌, ◌<◌, Bool, true, false, ◌&&◌, cond, List, [], ◌∷◌, ◌++◌, refl, sym, ap, subst, ◌∙◌, arith}
+use Rattle.std.proofs.Common.{◌≡◌, ℕ, ◌+◌, ◌-◌, ◌^◌, ◌%◌, ◌<◌, Bool, true, false, ◌&&◌, cond, List, [], ◌∷◌, ◌++◌, refl, sym, ap, ◌∙◌, arith}
 use Rattle.std.specs.Prelude.{ℤ, ◌==◌, bytes_eq, filter, flat_map, fold, map, FitsSigned}
 use Rattle.std.specs.Int.{w32, cast_signed, cast_unsigned, int_wrapping_sub}
 use Rattle.std.proofs.lemmas.Int.{of_z-to_z, to_z-of_z}

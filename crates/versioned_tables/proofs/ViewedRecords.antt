@@ -25,7 +25,7 @@ use Rattle.version_sums.proofs.VeryRecords.{very_record}
 use Rattle.version_records.specs.EscrowNumbers.{AddsToEscrow, HasEscrowNumbers, HoldsNumbers}
 use Rattle.version_records.proofs.EscrowRecords.{numbers_seen}
 use Rattle.version_store.specs.declared.calls.Reader.{Reader}
-use Rattle.versioned_tables.specs.HeldRecords.{HeldRecord, seen_record}
+use Rattle.versioned_tables.specs.HeldRecords.{seen_record}
 use Rattle.versioned_tables.specs.HeldSums.{unseen_sums}
 use Rattle.versioned_tables.specs.VersionedTables.{VersionedTables}
 use Rattle.versioned_tables.specs.ViewedRecords.{viewed_record, without_sums}

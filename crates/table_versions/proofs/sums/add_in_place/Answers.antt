@@ -1,26 +1,12 @@
-use Rattle.std.proofs.Common.{◌≡◌, ℕ, ℤ, ◌≤◌, ◌%◌, ◌+◌, ◌^◌, true, List, [], length, Option, Some, None, map, refl, sym, ap, subst, ◌∙◌, arith}
-use Rattle.std.specs.Prelude.{IfSome, IsSomeAnd, is_some, pos}
-use Rattle.std.specs.Int.{w32, cast_unsigned, from_le_bytes, to_le_bytes}
+use Rattle.std.proofs.Common.{◌≡◌, ℕ, ◌≤◌, List, length, Option, refl, sym, ap, subst, ◌∙◌}
+use Rattle.std.specs.Prelude.{IfSome, IsSomeAnd, pos}
 use Rattle.btree_inplace.specs.Order.{extent_in}
-use Rattle.cursor_nav.specs.Places.{are_sorted}
-use Rattle.column_set.specs.RecordValues.{put_by_number}
-use Rattle.column_set.specs.declared.rows.RowValue.TheVariants.{Here}
 use Rattle.column_set.specs.RowReading.{row_in}
-use Rattle.column_set.specs.Rows.{row_bytes}
-use Rattle.database_state.specs.Changes.{escrow_bytes}
-use Rattle.database_state.specs.Table.{Table, schema_of, table_with_id}
-use Rattle.index_derive.specs.Entries.{is_escrow_column}
-use Rattle.table_trees.specs.StoredNodes.{bookmark_entries}
-use Rattle.table_trees.specs.StoredTables.{StoredTable, table_nodes}
-use Rattle.version_store.specs.HeldChanges.{HeldChange}
-use Rattle.table_versions.specs.RecordRows.{IsRecordRow, held_record, record_of, row_under}
-use Rattle.table_versions.specs.VersionsKept.{AreKept, IsKeptTable, IsRowUnder}
-use Rattle.table_versions.specs.VersionsView.{with_newest}
+use Rattle.table_trees.specs.StoredTables.{table_nodes}
+use Rattle.table_versions.specs.RecordRows.{IsRecordRow}
 use Rattle.table_versions.proofs.Dropped.{TreeLaws}
 use Rattle.table_versions.proofs.DroppedRecords.{room_in}
-use Rattle.table_versions.proofs.Refilled.{Fills, filled}
 use Rattle.table_versions.proofs.SummedRows.{SumLaws, no_sum_shown, sum_done, written_over}
-use Rattle.table_versions.proofs.UndoneThere.{fills, node_of_row}
 use Rattle.table_versions.proofs.sums.add_in_place.Goals as goal
 
 pub replace-requires : goal.replace-requires

@@ -1,4 +1,4 @@
-use Rattle.std.proofs.Common.{rules, List, map, sym, ap, subst, ◌∙◌}
+use Rattle.std.proofs.Common.{rules, map, sym, ap, subst, ◌∙◌}
 use Rattle.std.specs.Prelude.{ℤ, FitsSigned, IsSomeAnd}
 use Rattle.std.specs.Int.{w32, cast_unsigned}
 use Rattle.std.proofs.lemmas.Int.{to_z-of_z}

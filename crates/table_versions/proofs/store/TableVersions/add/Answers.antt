@@ -1,13 +1,12 @@
-use Rattle.std.proofs.Common.{◌≡◌, true, List, [], ◌∷◌, ◌++◌, None, map, sym, ap, subst, ◌∙◌}
+use Rattle.std.proofs.Common.{◌≡◌, List, None, sym, ap, subst, ◌∙◌}
 use Rattle.std.specs.Prelude.{IsSomeAnd}
 use Rattle.database_state.specs.Changes.{changed_bookmark, changed_table}
 use Rattle.database_state.specs.Table.{Table, schema_of, table_with_id}
-use Rattle.index_derive.specs.declared.rules.Schema.{Schema}
-use Rattle.version_store.specs.HeldChanges.{HeldChange, has_room as has_room_for_row, kind_of, new_change}
+use Rattle.version_store.specs.HeldChanges.{HeldChange, has_room as has_room_for_row, kind_of}
 use Rattle.versioned_tables.specs.VersionedTables.{with_change}
 use Rattle.table_versions.specs.StoredVersions.{StoredVersions, has_room}
 use Rattle.table_versions.specs.VersionsKept.{AddsToEscrow, AreKept}
-use Rattle.table_versions.specs.VersionsView.{stored_versions, with_newest}
+use Rattle.table_versions.specs.VersionsView.{stored_versions}
 use Rattle.table_versions.proofs.Held.{is_held, other_room}
 use Rattle.table_versions.proofs.SumsHeld.{asked_of, if_of, plain_sum, some_of, store_summed}
 use Rattle.table_versions.proofs.Tables.{newest_is_row}
