@@ -1,6 +1,6 @@
 -- The nodes of a table's parts, taken out one after the other.
-use Rattle.std.proofs.Common.{◌≡◌, ℕ, suc, ◌+◌, ◌<◌, true, inl, Some, List, [], ◌∷◌, ◌++◌, length, take, drop, get_or, refl, sym, ap, subst, ◌∙◌, arith}
-use Rattle.std.specs.Prelude.{Contains, IsSome, map}
+use Rattle.std.proofs.Common.{◌≡◌, ℕ, suc, ◌+◌, ◌<◌, true, inl, Some, List, [], ◌∷◌, ◌++◌, length, take, drop, get_or, refl, sym, ap, subst, ◌∙◌}
+use Rattle.std.specs.Prelude.{IsSome, map}
 use Rattle.std.proofs.Math.Seq.{drop-cons}
 use Rattle.std.proofs.lemmas.List.{map-append, take-append-drop, take_more}
 use Rattle.jet_base.specs.Ids.{table_id}
@@ -14,14 +14,13 @@ use Rattle.page_image.specs.Page.{Node}
 use Rattle.page_space.specs.Frames.{Frames}
 use Rattle.btree_inplace.specs.Changes.{without_key}
 use Rattle.btree_inplace.specs.Order.{get_in}
-use Rattle.btree_inplace.specs.Trees.{Exchanges}
 use Rattle.catalog_grammar.specs.CatalogBytes.{catalog_key, item_key}
 use Rattle.catalog_grammar.specs.declared.items.CatalogItem.{CatalogItem}
 use Rattle.catalog_grammar.specs.declared.items.CatalogItem.TheVariants as item
-use Rattle.catalog_changes.specs.CatalogSteps.{Roots, has_nodes, item_of_column, item_of_index, items_of_columns, items_of_indexes, nodes_of_catalog, without_indexes, without_items, without_parts}
+use Rattle.catalog_changes.specs.CatalogSteps.{Roots, has_nodes, item_of_index, items_of_columns, items_of_indexes, nodes_of_catalog, without_indexes, without_items, without_parts}
 use Rattle.catalog_changes.proofs.Nodes.{one_more_goes}
 use Rattle.catalog_changes.proofs.StepNodes.{columns_go, indexes_go, table_goes, tables_left}
-use Rattle.catalog_tree.specs.CatalogTrees.{CatalogBecomes, IsCatalogTree, nodes_in, own_pages}
+use Rattle.catalog_tree.specs.CatalogTrees.{CatalogBecomes, IsCatalogTree, nodes_in}
 use Rattle.catalog_tree.specs.CatalogsKept.{GoOneByOne}
 use Rattle.catalog_tree.specs.declared.tree.CatalogTree.{CatalogTree}
 use Rattle.catalog_tree.proofs.Keeping.{Follows, becomes_as, becomes_then, follows}

@@ -1,10 +1,9 @@
 use Rattle.std.proofs.Common.{◌≡◌, ap, ◌∙◌}
 use Rattle.index_derive.specs.declared.schema_calls.SchemaStep.TheVariants as step
-use Rattle.jet_catalog.specs.Catalog.{CatalogState, catalog_after}
+use Rattle.jet_catalog.specs.Catalog.{catalog_after}
 use Rattle.catalog_record.specs.Buffers.{text_of}
-use Rattle.catalog_changes.specs.CatalogSteps.{Roots, item_of_index}
+use Rattle.catalog_changes.specs.CatalogSteps.{item_of_index}
 use Rattle.catalog_changes.proofs.StepNodes.{here, index_made}
-use Rattle.catalog_tree.specs.CatalogsKept.{HoldsCatalog, TakesIndex}
 use Rattle.catalog_tree.proofs.Keeping.{absent_now, added_now, index_is, index_through, on_ok}
 use Rattle.catalog_tree.proofs.tree.CatalogTree.create_index.Goals as goal
 
