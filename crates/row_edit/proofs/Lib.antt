@@ -1,2 +1,4 @@
 pub mod OtherFields
 pub mod Passing
+pub mod AnotherValue
+pub mod Behind

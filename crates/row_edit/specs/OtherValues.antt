@@ -1,5 +1,5 @@
 -- The values of a row that are not a column's.
-use Rattle.std.specs.Prelude.{◌≡◌, ◌<◌, ◌^◌, ◌==◌, ℕ, not, List, filter, IsTrue}
+use Rattle.std.specs.Prelude.{◌≡◌, ◌<◌, ◌^◌, ◌==◌, ℕ, not, List, ◌∷◌, ◌++◌, filter, IsTrue}
 use Rattle.std.specs.List.{AllByRecursion, flat_map}
 use Rattle.column_set.specs.declared.rows.RowValue.{RowValue}
 use Rattle.column_set.specs.Rows.{value_bytes, value_fits_row}
@@ -16,3 +16,9 @@ MayStand value = (value.0 < 2 ^ 16) × IsTrue (value_fits_row value.1)
 pub record StandIn (bytes : List ℕ) (values : List (ℕ × RowValue)) : Type 0 where
   pub fit : AllByRecursion MayStand values
   pub spelled : bytes ≡ flat_map value_bytes values
+
+-- One value of a column stands in the bytes, those of other columns before it, and these behind it.
+pub record StandsBefore (column : ℕ) (bytes : List ℕ) (value : ℕ × RowValue) (behind : List (ℕ × RowValue)) : Type 0 where
+  pub front : List (ℕ × RowValue)
+  pub apart : AllByRecursion (λ other. other.0 ≡ column → ⊥) front
+  pub stand : StandIn bytes (front ++ value ∷ behind)

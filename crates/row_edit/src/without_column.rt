@@ -63,7 +63,7 @@ fn copy_others(values: &[u8], column: u16, buffer: &mut ArrayVec<u8, MAX_ROW_SIZ
 }
 
 // The column of the first value, the bytes of the value, and those behind it.
-fn first_value(bytes: &[u8]) -> Option<(u16, &[u8], &[u8])>
+pub(crate) fn first_value(bytes: &[u8]) -> Option<(u16, &[u8], &[u8])>
     ensures split { IfSome result (λ found. (found.1.now ++ found.2.now ≡ bytes.now) × (0 < length found.1.now)) }
     ensures end { bytes.now ≡ [] → result ≡ None }
     ensures value { (value : ℕ × RowValue) (rest : List ℕ) → MayStand value → bytes.now ≡ value_bytes value ++ rest → IsSomeAnd result (λ found. (found.0 ≡ value.0) × (found.1.now ≡ value_bytes value) × (found.2.now ≡ rest)) }
