@@ -6,4 +6,5 @@ pub mod UpdateTold
 pub mod PutSteps
 pub mod Updates
 pub mod CopiedValues
+pub mod SeenRecords
 pub mod PreparedCopies

@@ -6,6 +6,7 @@ mod laws;
 mod preparing;
 mod putting;
 mod refusing_puts;
+mod sums;
 mod update_laws;
 mod updating;
 

@@ -81,7 +81,7 @@ column_fits (Some column) x y four e h =
 abbrev pub IsStoredWithNumbers : ℕ → Schema → List ℕ → RecordFields → Type 0
 IsStoredWithNumbers number schema bookmark values = IsStored number schema bookmark values × HoldsNumbers number schema bookmark values
 
-sum_stored : (number : ℕ) (schema : Schema) (bookmark : List ℕ) (column : ℕ) (amount : ℤ) → is_escrow_column schema column ≡ true → (values : RecordFields) → IsStoredWithNumbers number schema bookmark values → IsStored number schema bookmark (with_sum values column amount)
+pub sum_stored : (number : ℕ) (schema : Schema) (bookmark : List ℕ) (column : ℕ) (amount : ℤ) → is_escrow_column schema column ≡ true → (values : RecordFields) → IsStoredWithNumbers number schema bookmark values → IsStored number schema bookmark (with_sum values column amount)
 sum_stored number schema bookmark column amount escrow values h = (
   subst (λ (n : ℕ). n ≤ 1700) (sym (ap (λ (n : ℕ). 2 + n) (sum_put (λ field. size_of_values field.1) column (new ∷ []) (old ∷ []) (size_one new old (four_new ∙ sym four_old)) values h.1.0 one.0))) h.0.0,
   and_both (list_all fits (with_sum values column amount)) (list_all (λ c. not (is_kept_column c) || has_value (with_sum values column amount) c.id.0) schema.columns)
