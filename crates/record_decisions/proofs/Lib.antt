@@ -8,3 +8,4 @@ pub mod Updates
 pub mod CopiedValues
 pub mod SeenRecords
 pub mod PreparedCopies
+pub mod EscrowUpdates
