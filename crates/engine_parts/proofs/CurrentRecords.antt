@@ -15,7 +15,7 @@ use Rattle.version_cleanup.specs.Cleaning.{reader_in}
 use Rattle.version_store.specs.declared.calls.Reader.{Reader}
 use Rattle.engine_versions.specs.EngineState.{EngineState}
 use Rattle.engine_parts.specs.Parts.{tables_of}
-use Rattle.engine_parts.specs.Reading.{CurrentEntry, entry_at, record_for, records_for, shown_record}
+use Rattle.engine_parts.specs.Reading.{CurrentEntry, entry_at, shown_for, records_for, shown_record}
 use Rattle.engine_parts.specs.Retrieving.{IsRecordAt}
 
 -- what is looked up: the tables that the code has, its reader, and the record that it asks for
@@ -26,7 +26,7 @@ pub record IsLookedUp (engine : EngineState) (session table : ℕ) (bookmark : L
   pub same_bookmark : bytes ≡ bookmark
 
 record_is : (engine : EngineState) (session table : ℕ) (bookmark : List ℕ) (tables : StoredVersions) (reader : Reader) (number : ℕ) (bytes : List ℕ) (found : Option RecordFields) → IsLookedUp engine session table bookmark tables reader number bytes
-    → found ≡ shown_record reader tables.store number bytes → found ≡ record_for engine session table bookmark
+    → found ≡ shown_record reader tables.store number bytes → found ≡ shown_for engine session table bookmark
 record_is engine session table bookmark tables reader number bytes found by is =
     let own : Reader = reader_in session engine.sessions in
     is
@@ -50,14 +50,14 @@ entry_shown engine session labelled c key bookmark tables reader number bytes fo
 -- the record at a cursor that stands on an entry
 pub record_shown : (engine : EngineState) (session : ℕ) (c : OpenCursor) (key bookmark : List ℕ) (tables : StoredVersions) (reader : Reader) (number : ℕ) (bytes : List ℕ) (row : RowFields)
     → c.cursor.place ≡ On key bookmark → IsLookedUp engine session c.cursor.table bookmark tables reader number bytes → Some (here_fields row) ≡ shown_record reader tables.store number bytes
-    → IsRecordAt (record_for engine session c.cursor.table) c.cursor.place (Ok row)
+    → IsRecordAt (shown_for engine session c.cursor.table) c.cursor.place (Ok row)
 record_shown engine session c key bookmark tables reader number bytes row place by is =
-    subst (λ (p : Place). IsRecordAt (record_for engine session c.cursor.table) p (Ok row)) (sym place)
+    subst (λ (p : Place). IsRecordAt (shown_for engine session c.cursor.table) p (Ok row)) (sym place)
     (refl, sym (record_is engine session c.cursor.table bookmark tables reader number bytes (Some (here_fields row)) by is))
 
 pub record_gone : (engine : EngineState) (session : ℕ) (c : OpenCursor) (key bookmark : List ℕ) (tables : StoredVersions) (reader : Reader) (number : ℕ) (bytes : List ℕ)
     → c.cursor.place ≡ On key bookmark → IsLookedUp engine session c.cursor.table bookmark tables reader number bytes → None ≡ shown_record reader tables.store number bytes
-    → IsRecordAt (record_for engine session c.cursor.table) c.cursor.place (Err jet.RecordDeleted)
+    → IsRecordAt (shown_for engine session c.cursor.table) c.cursor.place (Err jet.RecordDeleted)
 record_gone engine session c key bookmark tables reader number bytes place by is =
-    subst (λ (p : Place). IsRecordAt (record_for engine session c.cursor.table) p (Err jet.RecordDeleted)) (sym place)
+    subst (λ (p : Place). IsRecordAt (shown_for engine session c.cursor.table) p (Err jet.RecordDeleted)) (sym place)
     (ap (λ (o : Option RecordFields). first_refusal ((not (is_on (On key bookmark)), jet.NoCurrentRecord) ∷ (is_none o, jet.RecordDeleted) ∷ [])) (sym (record_is engine session c.cursor.table bookmark tables reader number bytes None by is)))

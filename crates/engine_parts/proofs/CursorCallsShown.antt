@@ -1,5 +1,5 @@
 -- What shows the key and the bookmark of the entry at a cursor.
-use Rattle.std.proofs.Common.{◌≡◌, ℕ, Bool, true, false, List, [], ◌∷◌, Option, Some, None, Result, Ok, Err, refl, ap, ◌∙◌, is_some, is_none, if◌then◌else◌}
+use Rattle.std.proofs.Common.{◌≡◌, ℕ, Bool, true, false, List, [], ◌∷◌, Option, Some, None, Result, Ok, Err, refl, sym, ap, ◌∙◌, is_some, is_none, if◌then◌else◌}
 use Rattle.std.specs.Prelude.{IfSome}
 use Rattle.jet_base.specs.declared.ids.CursorId.{CursorId}
 use Rattle.jet_base.specs.declared.replies.Jet.{Jet}
@@ -26,8 +26,9 @@ use Rattle.agreeing_sessions.specs.InStep.{IsInStep}
 use Rattle.engine_versions.specs.EngineState.{EngineState}
 use Rattle.engine_versions.specs.HoldsState.{HoldsState, asked_of}
 use Rattle.engine_parts.specs.Deciding.{Decides}
-use Rattle.engine_parts.specs.Reading.{CurrentEntry, entry_at, record_for, records_for}
+use Rattle.engine_parts.specs.Reading.{CurrentEntry, entry_at, record_for, records_for, shown_for}
 use Rattle.engine_parts.proofs.Refusing.{answer-is}
+use Rattle.engine_parts.proofs.Views.{is_some-map}
 
 -- ---- a call that is decided on the shared state
 
@@ -74,7 +75,7 @@ ReadsRecords =
 
 pub has_read : ReadsRecords → (engine : EngineState) (state : DatabaseState) (side : SessionSide) (label : ℕ) (c : OpenCursor) → HoldsState engine state → IsInStep state side.session side.state → cursor_labelled side.state label ≡ Some c
     → (bookmark : List ℕ) → records_for engine side.session c.cursor.table bookmark ≡ is_some (row_at (rows_seen (asked_of engine state side.session side.state) c) bookmark)
-has_read reads engine state side label c h step found bookmark = ap (λ (o : Option RecordFields). is_some o) (reads engine state side.session side.state label c h step found bookmark)
+has_read reads engine state side label c h step found bookmark = sym (is_some-map _ (shown_for engine side.session c.cursor.table bookmark)) ∙ ap (λ (o : Option RecordFields). is_some o) (reads engine state side.session side.state label c h step found bookmark)
 
 -- a call at a cursor that answers with a part of the entry there
 abbrev IsShownAs : EngineState → SessionSide → Request → CursorId → (Pair → List ℕ) → Type 0

@@ -1,3 +1,4 @@
+pub mod RowSums
 pub mod ReadsView
 pub mod Views
 pub mod Found
@@ -9,5 +10,6 @@ pub mod CursorCallsCounted
 pub mod CursorCallsOpened
 pub mod CursorCallsClosed
 pub mod CurrentRecords
+pub mod SeenSums
 pub mod Retrieving
 pub mod Retrieved

@@ -1,24 +1,26 @@
 -- What a session reads of a state that the engine holds.
 use Rattle.std.proofs.Common.{◌≡◌, ℕ, ◌≤◌, Bool, true, false, cond, List, [], ◌∷◌, Option, Some, None, find, map, option_map, unwrap_or, refl, sym, ap, subst, ◌∙◌}
-use Rattle.std.specs.Prelude.{◌==◌, bytes_eq, IfSome, IsTrue, is_some, option_and_then}
+use Rattle.std.specs.Prelude.{ℤ, ◌==◌, bytes_eq, IfSome, IsTrue, is_some}
 use Rattle.std.specs.List.{AllByRecursion, list_all}
 use Rattle.column_set.specs.RecordValues.{RecordFields, record_fits, record_size}
-use Rattle.database_state.specs.State.{DatabaseState, LiveSession, PastChange, Transaction, transaction_of}
+use Rattle.database_state.specs.State.{DatabaseState, PastChange, transaction_of}
 use Rattle.database_state.specs.Table.{Table, index_entries, record_in, row_at, rows_of, schema_of, table_named, table_with_id}
 use Rattle.database_state.specs.View.{view}
 use Rattle.index_derive.specs.declared.rules.Schema.{Schema}
 use Rattle.record_changes.specs.Records.{Records, records_of}
 use Rattle.record_changes.proofs.Tests.{and_left, and_right, impossible}
 use Rattle.version_history.specs.History.{IsHistory, without_rows}
-use Rattle.version_keys.specs.Variants.{HasNoSums}
+use Rattle.version_sums.specs.EscrowSums.{with_sums}
 use Rattle.version_records.specs.EachRecord.{EachRecordHas}
+use Rattle.version_records.specs.EscrowNumbers.{HasEscrowNumbers, HoldsNumbers}
 use Rattle.version_records.specs.StoredRecords.{IsStored}
 use Rattle.version_store.specs.declared.calls.Reader.{Reader}
-use Rattle.version_cleanup.specs.declared.live.Transaction.{Transaction as LiveTransaction}
 use Rattle.version_cleanup.specs.Cleaning.{reader_in}
-use Rattle.version_cleanup.specs.LiveSessions.{LiveState, live_state, session_in, transaction_in, without_snapshot}
+use Rattle.versioned_tables.proofs.HeldSums.{same_sums}
 use Rattle.versioned_tables.proofs.SeenTables.{seen_at_id}
+use Rattle.versioned_tables.proofs.ViewedRecords.{AreAdded, unseen_added}
 use Rattle.versioned_tables.specs.HeldRecords.{HeldRecord, seen_record}
+use Rattle.versioned_tables.specs.HeldSums.{unseen_sums}
 use Rattle.versioned_tables.specs.VersionedTables.{VersionedTables, seen_table, seen_tables}
 use Rattle.versioned_tables.specs.Holding.{Holds, begin_of}
 use Rattle.table_versions.specs.StoredVersions.{entries_in}
@@ -28,52 +30,44 @@ use Rattle.agreeing_sessions.specs.InStep.{IsInStep}
 use Rattle.built_calls.specs.BuiltTables.{is_built_column, is_built_table}
 use Rattle.engine_versions.specs.EngineState.{EngineState}
 use Rattle.engine_versions.specs.HoldsState.{HoldsState}
-use Rattle.engine_parts.specs.Reading.{entries_for, record_for}
-
--- ---- the reader
-
-transaction_told : (label : ℕ) (sessions : List LiveSession) → transaction_in label (map live_state sessions) ≡ option_map without_snapshot (option_and_then (λ (s : LiveSession). s.transaction) (find (λ (s : LiveSession). s.label == label) sessions))
-transaction_told label [] = refl
-transaction_told label (s ∷ sessions) = by (s.label == label) (transaction_told label sessions)
-  where
-    by : (b : Bool) → transaction_in label (map live_state sessions) ≡ option_map without_snapshot (option_and_then (λ (s : LiveSession). s.transaction) (find (λ (s : LiveSession). s.label == label) sessions))
-        → option_and_then (λ (s : LiveState). s.transaction) (cond b (Some (live_state s)) (session_in label (map live_state sessions)))
-        ≡ option_map without_snapshot (option_and_then (λ (s : LiveSession). s.transaction) (cond b (Some s) (find (λ (s : LiveSession). s.label == label) sessions)))
-    by true rest = refl
-    by false rest = rest
-
-begin_told : (o : Option Transaction) → option_map (λ (t : LiveTransaction). t.begin) (option_map without_snapshot o) ≡ begin_of o
-begin_told None = refl
-begin_told (Some t) = refl
-
-reader_told : (engine : EngineState) (state : DatabaseState) (session : ℕ) → map live_state state.sessions ≡ engine.sessions → (reader_in session engine.sessions).begin ≡ begin_of (transaction_of state session)
-reader_told engine state session told =
-    ap (λ (sessions : List LiveState). option_map (λ (t : LiveTransaction). t.begin) (transaction_in session sessions)) (sym told)
-    ∙ ap (option_map (λ (t : LiveTransaction). t.begin)) (transaction_told session state.sessions)
-    ∙ begin_told (transaction_of state session)
+use Rattle.engine_versions.proofs.Telling.{begin_told}
+use Rattle.engine_parts.specs.Reading.{IsRowOf, entries_for, record_for, shown_for, unseen_amounts}
+use Rattle.engine_parts.proofs.RowSums.{row_of}
 
 -- ---- the tables that it is shown
 
 -- the laws that it rests on
-abbrev pub ShowsView : Type 0
-ShowsView =
-    (base : Records) (dropped kept : List PastChange) (store : VersionedTables) (state : DatabaseState) → Holds base dropped kept store state → HasNoSums kept
-    → (reader : Reader) → reader.begin ≡ begin_of (transaction_of state reader.session.0) → (table : ℕ) → table_with_id (seen_tables reader store) table ≡ table_with_id (view state reader.session.0) table
+abbrev pub ShowsTables : Type 0
+ShowsTables =
+    (engine : EngineState) (state : DatabaseState) → HoldsState engine state → (session table : ℕ)
+    → table_with_id (seen_tables (reader_in session engine.sessions) engine.store) table ≡ table_with_id (view state session) table
+
+abbrev pub ViewsRecords : Type 0
+ViewsRecords =
+    (engine : EngineState) (state : DatabaseState) → HoldsState engine state → (session table : ℕ) (bookmark : List ℕ)
+    → record_for engine session table bookmark ≡ record_in (view state session) table bookmark
+
+abbrev pub ShowsSums : Type 0
+ShowsSums =
+    (base : Records) (dropped kept : List PastChange) (store : VersionedTables) (state : DatabaseState) → Holds base dropped kept store state
+    → (reader : Reader) → reader.begin ≡ begin_of (transaction_of state reader.session.0) → (table : ℕ) (bookmark : List ℕ)
+    → record_in (seen_tables reader store) table bookmark ≡ option_map (λ values. with_sums values (unseen_sums table bookmark reader store.held)) (record_in (view state reader.session.0) table bookmark)
 
 abbrev pub FindsShown : Type 0
 FindsShown =
     (reader : Reader) (store : VersionedTables) (table : ℕ) (bookmark : List ℕ) → is_some (table_with_id store.tables table) ≡ true
     → record_in (seen_tables reader store) table bookmark ≡ seen_record table bookmark reader (record_in store.tables table bookmark) store.held
 
+-- every record that a session sees has something under its bookmark
+abbrev pub SeesEach : (ℕ → Schema → List ℕ → RecordFields → Type 0) → Type 0
+SeesEach P =
+    (base : Records) (dropped kept : List PastChange) (state : DatabaseState) → IsHistory base dropped kept state → HasEscrowNumbers base kept state → (session id : ℕ)
+    → IfSome (table_with_id state.tables id) (λ table. (bookmark : List ℕ) → IfSome (records_of (view state session) id bookmark) (P state.number (schema_of table) bookmark))
+
 abbrev pub SeesStored : Type 0
 SeesStored =
-    (base : Records) (dropped kept : List PastChange) (state : DatabaseState) → IsHistory base dropped kept state → HasNoSums kept → EachRecordHas IsStored base kept state → (session id : ℕ)
+    (base : Records) (dropped kept : List PastChange) (state : DatabaseState) → IsHistory base dropped kept state → HasEscrowNumbers base kept state → EachRecordHas IsStored base kept state → (session id : ℕ)
     → IfSome (table_with_id state.tables id) (λ table. (bookmark : List ℕ) → IfSome (records_of (view state session) id bookmark) (IsStored state.number (schema_of table) bookmark))
-
-seen_is_view : ShowsView → (engine : EngineState) (state : DatabaseState) (session : ℕ) → HoldsState engine state → (table : ℕ)
-    → table_with_id (seen_tables (reader_in session engine.sessions) engine.store) table ≡ table_with_id (view state session) table
-seen_is_view shows engine state session h table =
-    shows h.base h.dropped h.kept engine.store state h.holds h.no_sums (reader_in session engine.sessions) (reader_told engine state session h.sessions) table
 
 plain_at_id : (tables : List Table) (id : ℕ) → table_with_id (map without_rows tables) id ≡ option_map without_rows (table_with_id tables id)
 plain_at_id [] id = refl
@@ -133,7 +127,7 @@ entries_at c reader held (Some t) (Some u) seen index same has shown =
     ap (λ (s : Schema). index_entries s (seen_table reader held t).rows index) (same_schema t u same ∙ sym has.0)
     ∙ ap (λ (o : Option Table). index_entries c.schema (rows_of o) index) shown
 
-pub entries_read : ShowsView → (engine : EngineState) (state : DatabaseState) (session : ℕ) (local : LocalState) (label : ℕ) (c : OpenCursor) → HoldsState engine state → IsInStep state session local → cursor_labelled local label ≡ Some c
+pub entries_read : ShowsTables → (engine : EngineState) (state : DatabaseState) (session : ℕ) (local : LocalState) (label : ℕ) (c : OpenCursor) → HoldsState engine state → IsInStep state session local → cursor_labelled local label ≡ Some c
     → (index : ℕ) → entries_for engine session c.cursor.table index ≡ index_entries c.schema (rows_of (table_with_id (view state session) c.cursor.table)) index
 entries_read shows engine state session local label c h step found index =
     let reader = reader_in session engine.sessions in
@@ -142,32 +136,36 @@ entries_read shows engine state session local label c h step found index =
     ap (entries_in index) seen
     ∙ entries_at c reader engine.store.held (table_with_id engine.store.tables id) (table_with_id state.tables id) (table_with_id (view state session) id) index
     (same_definition engine.store.tables state.tables id h.holds.defined) (schema_at state session local label c step found)
-    (sym seen ∙ seen_is_view shows engine state session h id)
+    (sym seen ∙ shows engine state h session id)
 
-pub record_read : ShowsView → FindsShown → (engine : EngineState) (state : DatabaseState) (session : ℕ) (local : LocalState) (label : ℕ) (c : OpenCursor) → HoldsState engine state → IsInStep state session local → cursor_labelled local label ≡ Some c
+pub record_read : ViewsRecords → (engine : EngineState) (state : DatabaseState) (session : ℕ) (local : LocalState) (label : ℕ) (c : OpenCursor) → HoldsState engine state → IsInStep state session local → cursor_labelled local label ≡ Some c
     → (bookmark : List ℕ) → record_for engine session c.cursor.table bookmark ≡ row_at (rows_of (table_with_id (view state session) c.cursor.table)) bookmark
-record_read shows finds engine state session local label c h step found bookmark =
-    let id = c.cursor.table in
-    let there = stored_there c (table_with_id engine.store.tables id) (table_with_id state.tables id) (same_definition engine.store.tables state.tables id h.holds.defined) (schema_at state session local label c step found) in
-    sym (finds (reader_in session engine.sessions) engine.store id bookmark there)
-    ∙ ap (λ (o : Option Table). row_at (rows_of o) bookmark) (seen_is_view shows engine state session h id)
+record_read views engine state session local label c h step found bookmark = views engine state h session c.cursor.table bookmark
 
--- ---- records fit
+-- ---- records fit, and hold numbers
 
-stored_at : (c : OpenCursor) (number : ℕ) (committed : Option Table) (records : List ℕ → Option RecordFields) (bookmark : List ℕ) (values : RecordFields) → HasSchemaOf c committed
-    → IfSome committed (λ table. (bookmark : List ℕ) → IfSome (records bookmark) (IsStored number (schema_of table) bookmark)) → records bookmark ≡ Some values → (record_size values ≤ 1700) × IsTrue (record_fits c.schema.columns values)
-stored_at c number None records bookmark values has each is = absurd has
-stored_at c number (Some u) records bookmark values has each is =
-    subst (λ (s : Schema). (record_size values ≤ 1700) × IsTrue (record_fits s.columns values)) (sym has.0)
-    (subst (λ (o : Option RecordFields). IfSome o (IsStored number (schema_of u) bookmark)) is (each bookmark))
+has_at : (P : Schema → List ℕ → RecordFields → Type 0) (c : OpenCursor) (committed : Option Table) (records : List ℕ → Option RecordFields) (bookmark : List ℕ) (values : RecordFields) → HasSchemaOf c committed
+    → IfSome committed (λ table. (bookmark : List ℕ) → IfSome (records bookmark) (P (schema_of table) bookmark)) → records bookmark ≡ Some values → P c.schema bookmark values
+has_at P c None records bookmark values has each is = absurd has
+has_at P c (Some u) records bookmark values has each is =
+    subst (λ (s : Schema). P s bookmark values) (sym has.0)
+    (subst (λ (o : Option RecordFields). IfSome o (P (schema_of u) bookmark)) is (each bookmark))
 
-pub stored_read : ShowsView → FindsShown → SeesStored → (engine : EngineState) (state : DatabaseState) (session : ℕ) (local : LocalState) (label : ℕ) (c : OpenCursor) → HoldsState engine state → IsInStep state session local → cursor_labelled local label ≡ Some c
+pub stored_read : ViewsRecords → SeesStored → (engine : EngineState) (state : DatabaseState) (session : ℕ) (local : LocalState) (label : ℕ) (c : OpenCursor) → HoldsState engine state → IsInStep state session local → cursor_labelled local label ≡ Some c
     → (bookmark : List ℕ) (values : RecordFields) → record_for engine session c.cursor.table bookmark ≡ Some values → (record_size values ≤ 1700) × IsTrue (record_fits c.schema.columns values)
-stored_read shows finds stored engine state session local label c h step found bookmark values is =
+stored_read views stored engine state session local label c h step found bookmark values is =
     let id = c.cursor.table in
-    stored_at c state.number (table_with_id state.tables id) (records_of (view state session) id) bookmark values (schema_at state session local label c step found)
-    (stored h.base h.dropped h.kept state h.reached.history h.no_sums h.stored session id)
-    (sym (record_read shows finds engine state session local label c h step found bookmark) ∙ is)
+    has_at (IsStored state.number) c (table_with_id state.tables id) (records_of (view state session) id) bookmark values (schema_at state session local label c step found)
+    (stored h.base h.dropped h.kept state h.reached.history h.reached.numbers h.stored session id)
+    (sym (views engine state h session id bookmark) ∙ is)
+
+numbers_read : ViewsRecords → SeesEach HoldsNumbers → (engine : EngineState) (state : DatabaseState) (session : ℕ) (local : LocalState) (label : ℕ) (c : OpenCursor) → HoldsState engine state → IsInStep state session local → cursor_labelled local label ≡ Some c
+    → (bookmark : List ℕ) (values : RecordFields) → record_for engine session c.cursor.table bookmark ≡ Some values → HoldsNumbers state.number c.schema bookmark values
+numbers_read views numbers engine state session local label c h step found bookmark values is =
+    let id = c.cursor.table in
+    has_at (HoldsNumbers state.number) c (table_with_id state.tables id) (records_of (view state session) id) bookmark values (schema_at state session local label c step found)
+    (numbers h.base h.dropped h.kept state h.reached.history h.reached.numbers session id)
+    (sym (views engine state h session id bookmark) ∙ is)
 
 -- ---- columns are built
 
@@ -187,3 +185,52 @@ pub built_read : (engine : EngineState) (state : DatabaseState) (session : ℕ) 
     → IsTrue (list_all is_built_column c.schema.columns)
 built_read engine state session local label c h step found =
     built_at c (table_with_id state.tables c.cursor.table) (schema_at state session local label c step found) (λ t e. found_built state.tables c.cursor.table t h.built e)
+
+-- ---- rows
+
+-- the sums that the session does not see are of escrow columns
+added : (engine : EngineState) (state : DatabaseState) (session : ℕ) (c : OpenCursor) → HoldsState engine state → (committed : Option Table) → table_with_id state.tables c.cursor.table ≡ committed → HasSchemaOf c committed
+    → (bookmark : List ℕ) → AreAdded c.schema (unseen_sums c.cursor.table bookmark (reader_in session engine.sessions) engine.store.held)
+added engine state session c h None is has bookmark = absurd has
+added engine state session c h (Some u) is has bookmark =
+    subst (λ (s : Schema). AreAdded s (unseen_sums c.cursor.table bookmark (reader_in session engine.sessions) engine.store.held)) (sym has.0)
+    (subst (AreAdded (schema_of u)) (sym (same_sums (reader_in session engine.sessions) (transaction_of state session) (begin_told engine state h session) c.cursor.table bookmark h.kept engine.store.held h.holds.held))
+    (unseen_added h.base h.kept state h.reached.numbers session (transaction_of state session) c.cursor.table u is bookmark))
+
+-- the laws that rows rest on
+pub record ReadsRows : Type 0 where
+  pub views : ViewsRecords
+  pub sums : ShowsSums
+  pub finds : FindsShown
+  pub stored : SeesStored
+  pub numbers : SeesEach HoldsNumbers
+
+pub row_read : ReadsRows → (engine : EngineState) (state : DatabaseState) (session : ℕ) (local : LocalState) (label : ℕ) (c : OpenCursor) → HoldsState engine state → IsInStep state session local → cursor_labelled local label ≡ Some c
+    → (bookmark : List ℕ) (row seen : RecordFields) → shown_for engine session c.cursor.table bookmark ≡ Some row → record_for engine session c.cursor.table bookmark ≡ Some seen
+    → IsRowOf c.schema (unseen_amounts engine session c.cursor.table bookmark) row seen
+row_read laws engine state session local label c h step found bookmark row seen shown is =
+    subst (λ (r : RecordFields). IsRowOf c.schema (unseen_amounts engine session id bookmark) r seen) (sym same)
+    (row_of c.schema state.number bookmark sums (added engine state session c h (table_with_id state.tables id) refl has bookmark) seen
+    (stored_read laws.views laws.stored engine state session local label c h step found bookmark seen is, numbers_read laws.views laws.numbers engine state session local label c h step found bookmark seen is))
+  where
+    id : ℕ
+    id = c.cursor.table
+
+    sums : List (ℕ × ℤ)
+    sums = unseen_sums id bookmark (reader_in session engine.sessions) engine.store.held
+
+    has : HasSchemaOf c (table_with_id state.tables id)
+    has = schema_at state session local label c step found
+
+    there : is_some (table_with_id engine.store.tables id) ≡ true
+    there = stored_there c (table_with_id engine.store.tables id) (table_with_id state.tables id) (same_definition engine.store.tables state.tables id h.holds.defined) has
+
+    as_one : (one other : RecordFields) → Some one ≡ Some other → one ≡ other
+    as_one one other e = ap (λ (o : Option RecordFields). unwrap_or o one) e
+
+    same : row ≡ with_sums seen sums
+    same = as_one row (with_sums seen sums)
+        (sym shown
+        ∙ sym (laws.finds (reader_in session engine.sessions) engine.store id bookmark there)
+        ∙ laws.sums h.base h.dropped h.kept engine.store state h.holds (reader_in session engine.sessions) (begin_told engine state h session) id bookmark
+        ∙ ap (option_map (λ (values : RecordFields). with_sums values sums)) (sym (laws.views engine state h session id bookmark) ∙ is))

@@ -1,11 +1,15 @@
 -- What decides RetrieveColumn.
 use Rattle.std.proofs.Common.{◌≡◌, ℕ, ◌≤◌, Bool, true, false, cond, List, [], ◌∷◌, length, map, Ok, Err, Option, Some, None, unwrap_or, slice_get, refl, sym, ap, subst, ◌∙◌}
-use Rattle.std.specs.Prelude.{◌==◌, ◌-◌, IsTrue, is_none, not}
+use Rattle.std.specs.Prelude.{ℤ, ◌==◌, ◌-◌, ◌||◌, bytes_eq, option_map, IsTrue, is_none, not}
 use Rattle.std.specs.List.{list_all}
 use Rattle.jet_base.specs.declared.ids.CursorId.{CursorId}
 use Rattle.jet_base.specs.declared.replies.Jet.{Jet}
 use Rattle.jet_base.specs.declared.replies.Jet.TheVariants as jet
+use Rattle.jet_base.specs.declared.words.ColType.{ColType}
+use Rattle.jet_base.specs.declared.words.ColType.TheVariants as kind
+use Rattle.jet_base.specs.declared.words.ColType.TheVariants.{Long}
 use Rattle.jet_base.specs.ColumnType.{is_number_type}
+use Rattle.database_state.specs.SchemaChanges.{is_type_long}
 use Rattle.column_set.specs.declared.columns.Column.{Column}
 use Rattle.column_set.specs.RecordValues.{RecordFields, column_named, record_fits, record_size, values_of}
 use Rattle.column_set.specs.Rows.{RowFields, here_fields}
@@ -13,7 +17,7 @@ use Rattle.cursor_nav.specs.Places.{is_on, place_bookmark}
 use Rattle.database_state.specs.Refusals.{first_refusal}
 use Rattle.database_state.specs.Table.{row_at}
 use Rattle.database_state.specs.State.{DatabaseState}
-use Rattle.record_changes.proofs.Tests.{and_left}
+use Rattle.record_changes.proofs.Tests.{and_left, and_right, impossible}
 use Rattle.session_local.specs.declared.decision.Decision.{Decision}
 use Rattle.session_local.specs.declared.request.Request.TheVariants as call
 use Rattle.session_local.specs.Answer.{answered_by}
@@ -23,17 +27,21 @@ use Rattle.session_local.specs.Outcome.{Asked, Outcome, refused, unless_refused,
 use Rattle.session_local.specs.RecordCalls.{column_shown, on_column, retrieve_column, value_shown}
 use Rattle.session_local.specs.SessionSide.{SessionSide, are_distinct}
 use Rattle.session_local.specs.Showing.{names_within}
-use Rattle.session_local.specs.WellFormed.{IsWellFormed, is_well_formed_cursor, is_well_formed_schema, is_well_formed_update, number_of_column}
+use Rattle.session_local.specs.WellFormed.{IsWellFormed, is_well_formed_cursor, is_well_formed_schema, is_long_if_sum, is_well_formed_update, number_of_column}
 use Rattle.session_local.specs.Calls.{answer}
 use Rattle.agreeing_sessions.specs.InStep.{IsInStep}
 use Rattle.built_calls.specs.BuiltTables.{is_built_column}
 use Rattle.engine_versions.specs.EngineState.{EngineState}
 use Rattle.engine_versions.specs.HoldsState.{HoldsState, asked_of}
 use Rattle.engine_parts.specs.Deciding.{Decides, IsBeside, IsDecision}
-use Rattle.engine_parts.specs.Reading.{record_for}
-use Rattle.engine_parts.specs.Retrieving.{AreReadable, IsRecordAt, place_refusals}
+use Rattle.version_cleanup.specs.Cleaning.{reader_in}
+use Rattle.versioned_tables.specs.HeldSums.{unseen_sums}
+use Rattle.versioned_tables.specs.ViewedRecords.{without_sums}
+use Rattle.engine_parts.specs.Reading.{IsRowAt, IsRowOf, fields_at, record_for, shown_for, unseen_amounts}
+use Rattle.engine_parts.specs.Retrieving.{AreReadable, IsColumnOf, IsRecordAt, place_refusals}
+use Rattle.engine_parts.proofs.Views.{is_none-map}
 use Rattle.engine_parts.proofs.CursorCallsShown.{ReadsRecords}
-use Rattle.engine_parts.proofs.Found.{all_found}
+use Rattle.engine_parts.proofs.Found.{all_found, by_number}
 use Rattle.engine_parts.proofs.Refusing.{refused_with, answer-is, answer-refused}
 use Rattle.engine_parts.proofs.Retrieving.{readable}
 
@@ -54,6 +62,12 @@ distinct_at local label c formed found =
     let schema = and_left (is_well_formed_schema c.schema) (is_well_formed_update c.schema.columns c.prepared) well in
     and_left _ _ (and_left _ _ (and_left _ _ schema))
 
+longs_at : (local : LocalState) (label : ℕ) (c : OpenCursor) → IsWellFormed local → cursor_labelled local label ≡ Some c → list_all is_long_if_sum c.schema.columns ≡ true
+longs_at local label c formed found =
+    let well = all_found is_well_formed_cursor (λ c. c.label == label) local.cursors c formed found in
+    let schema = and_left (is_well_formed_schema c.schema) (is_well_formed_update c.schema.columns c.prepared) well in
+    and_right _ _ (and_left _ _ (and_left _ _ schema))
+
 -- ---- the answer
 
 retrieve-is : (asked : Asked) (cursor : CursorId) (name : List ℕ) (sequence most : ℕ) (c : OpenCursor) → asked.local.begun ≡ true → cursor_labelled asked.local cursor.0 ≡ Some c
@@ -62,14 +76,14 @@ unfolding answer
 retrieve-is asked cursor name sequence most c begun found = rw (begun, found) refl
 
 retrieve-row_refused : ReadsRecords → (engine : EngineState) (state : DatabaseState) (side : SessionSide) (label : ℕ) (c : OpenCursor) (name : List ℕ) (sequence most : ℕ) (refusal : Jet) → HoldsState engine state → IsInStep state side.session side.state
-    → cursor_labelled side.state label ≡ Some c → first_refusal (place_refusals (record_for engine side.session c.cursor.table) c.cursor.place) ≡ Some refusal
+    → cursor_labelled side.state label ≡ Some c → first_refusal (place_refusals (shown_for engine side.session c.cursor.table) c.cursor.place) ≡ Some refusal
     → retrieve_column (asked_of engine state side.session side.state) c name sequence most ≡ refused (asked_of engine state side.session side.state) refusal
 retrieve-row_refused reads engine state side label c name sequence most refusal h step found e =
     let asked = asked_of engine state side.session side.state in
     let rows = rows_seen asked c in
     let bookmark = place_bookmark c.cursor.place in
-    let same : is_none (record_for engine side.session c.cursor.table bookmark) ≡ is_none (row_at rows bookmark) =
-    ap (λ (o : Option RecordFields). is_none o) (reads engine state side.session side.state label c h step found bookmark) in
+    let same : is_none (shown_for engine side.session c.cursor.table bookmark) ≡ is_none (row_at rows bookmark) =
+    sym (is_none-map _ (shown_for engine side.session c.cursor.table bookmark)) ∙ ap (λ (o : Option RecordFields). is_none o) (reads engine state side.session side.state label c h step found bookmark) in
     let first : first_refusal ((not (is_on c.cursor.place), jet.NoCurrentRecord) ∷ (is_none (row_at rows bookmark), jet.RecordDeleted) ∷ []) ≡ Some refusal =
     ap (λ (b : Bool). first_refusal ((not (is_on c.cursor.place), jet.NoCurrentRecord) ∷ (b, jet.RecordDeleted) ∷ [])) (sym same) ∙ e in
     ap (λ (o : Option Jet). unless_refused asked o (λ _. on_column asked (column_named c.schema.columns name) (column_shown asked sequence most (unwrap_or (row_at rows bookmark) [])))) first
@@ -79,23 +93,35 @@ retrieve-at_row : (asked : Asked) (c : OpenCursor) (name : List ℕ) (sequence m
     → retrieve_column asked c name sequence most ≡ on_column asked (column_named c.schema.columns name) (column_shown asked sequence most fields)
 retrieve-at_row asked c name sequence most fields on is = rw (on, is) refl
 
+-- the record that is seen at a row
+pub seen_at : (engine : EngineState) (session : ℕ) (c : OpenCursor) (row : RecordFields) → shown_for engine session c.cursor.table (place_bookmark c.cursor.place) ≡ Some row
+    → record_for engine session c.cursor.table (place_bookmark c.cursor.place) ≡ Some (fields_at engine session c)
+seen_at engine session c row e = by (shown_for engine session c.cursor.table (place_bookmark c.cursor.place)) e
+  where
+    sums : List (ℕ × ℤ)
+    sums = unseen_sums c.cursor.table (place_bookmark c.cursor.place) (reader_in session engine.sessions) engine.store.held
+
+    by : (o : Option RecordFields) → o ≡ Some row → option_map (λ values. without_sums values sums) o ≡ Some (unwrap_or (option_map (λ values. without_sums values sums) o) [])
+    by None e = cc
+    by (Some values) e = refl
+
 -- what is found at a row
 retrieve-found : ReadsRecords → (engine : EngineState) (state : DatabaseState) (side : SessionSide) (cursor : CursorId) (name : List ℕ) (sequence most : ℕ) (c : OpenCursor) (row : RowFields) (column : Option Column)
-    → HoldsState engine state → IsInStep state side.session side.state → side.state.begun ≡ true → cursor_labelled side.state cursor.0 ≡ Some c → IsRecordAt (record_for engine side.session c.cursor.table) c.cursor.place (Ok row)
+    → HoldsState engine state → IsInStep state side.session side.state → side.state.begun ≡ true → cursor_labelled side.state cursor.0 ≡ Some c → IsRecordAt (shown_for engine side.session c.cursor.table) c.cursor.place (Ok row)
     → column_named c.schema.columns name ≡ column
     → answer (asked_of engine state side.session side.state) (call.RetrieveColumn cursor name sequence false most)
-    ≡ on_column (asked_of engine state side.session side.state) column (column_shown (asked_of engine state side.session side.state) sequence most (here_fields row))
+    ≡ on_column (asked_of engine state side.session side.state) column (column_shown (asked_of engine state side.session side.state) sequence most (fields_at engine side.session c))
 retrieve-found reads engine state side cursor name sequence most c row column h step begun found at named =
     let asked = asked_of engine state side.session side.state in
     retrieve-is asked cursor name sequence most c begun found
-    ∙ retrieve-at_row asked c name sequence most (here_fields row) at.0
-    (sym (reads engine state side.session side.state cursor.0 c h step found (place_bookmark c.cursor.place)) ∙ at.1)
-    ∙ ap (λ (o : Option Column). on_column asked o (column_shown asked sequence most (here_fields row))) named
+    ∙ retrieve-at_row asked c name sequence most (fields_at engine side.session c) at.0
+    (sym (reads engine state side.session side.state cursor.0 c h step found (place_bookmark c.cursor.place)) ∙ seen_at engine side.session c (here_fields row) at.1)
+    ∙ ap (λ (o : Option Column). on_column asked o (column_shown asked sequence most (fields_at engine side.session c))) named
 
 -- ---- decisions
 
 pub retrieve-refused : ReadsRecords → (engine : EngineState) (side : SessionSide) (cursor : CursorId) (name : List ℕ) (sequence most : ℕ) (c : OpenCursor) (refusal : Jet)
-    → side.state.begun ≡ true → cursor_labelled side.state cursor.0 ≡ Some c → IsRecordAt (record_for engine side.session c.cursor.table) c.cursor.place (Err refusal)
+    → side.state.begun ≡ true → cursor_labelled side.state cursor.0 ≡ Some c → IsRecordAt (shown_for engine side.session c.cursor.table) c.cursor.place (Err refusal)
     → Decides engine side (call.RetrieveColumn cursor name sequence false most) side (refused_with refusal)
 retrieve-refused reads engine side cursor name sequence most c refusal begun found at = λ state h step.
     let asked = asked_of engine state side.session side.state in
@@ -103,7 +129,7 @@ retrieve-refused reads engine side cursor name sequence most c refusal begun fou
     (retrieve-is asked cursor name sequence most c begun found ∙ retrieve-row_refused reads engine state side cursor.0 c name sequence most refusal h step found at)
 
 pub retrieve-no_column : ReadsRecords → (engine : EngineState) (side : SessionSide) (cursor : CursorId) (name : List ℕ) (sequence most : ℕ) (c : OpenCursor) (row : RowFields)
-    → side.state.begun ≡ true → cursor_labelled side.state cursor.0 ≡ Some c → IsRecordAt (record_for engine side.session c.cursor.table) c.cursor.place (Ok row)
+    → side.state.begun ≡ true → cursor_labelled side.state cursor.0 ≡ Some c → IsRecordAt (shown_for engine side.session c.cursor.table) c.cursor.place (Ok row)
     → column_named c.schema.columns name ≡ None
     → Decides engine side (call.RetrieveColumn cursor name sequence false most) side (refused_with jet.ColumnNotFound)
 retrieve-no_column reads engine side cursor name sequence most c row begun found at named = λ state h step.
@@ -132,16 +158,16 @@ pub column_shown-value : (asked : Asked) (sequence most : ℕ) (fields : RecordF
 column_shown-value asked sequence most fields column value ne is = rw (ne, is) refl
 
 pub retrieve-shown : ReadsRecords → (engine : EngineState) (side new : SessionSide) (cursor : CursorId) (name : List ℕ) (sequence most : ℕ) (c : OpenCursor) (row : RowFields) (column : Column) (decision : Decision)
-    → side.state.begun ≡ true → cursor_labelled side.state cursor.0 ≡ Some c → IsRecordAt (record_for engine side.session c.cursor.table) c.cursor.place (Ok row)
+    → side.state.begun ≡ true → cursor_labelled side.state cursor.0 ≡ Some c → IsRecordAt (shown_for engine side.session c.cursor.table) c.cursor.place (Ok row)
     → column_named c.schema.columns name ≡ Some column
-    → ((asked : Asked) → answered_by decision.reply new.reply ≡ (column_shown asked sequence most (here_fields row) column).answered)
+    → ((asked : Asked) → answered_by decision.reply new.reply ≡ (column_shown asked sequence most (fields_at engine side.session c) column).answered)
     → decision ≡ record { step = None; reply = decision.reply; table = None; copied = None; buffers = None; flush = false }
     → new.state ≡ side.state
     → Decides engine side (call.RetrieveColumn cursor name sequence false most) new decision
 retrieve-shown reads engine side new cursor name sequence most c row column decision begun found at named shown nothing same = λ state h step.
     let asked = asked_of engine state side.session side.state in
-    let still = column_shown-still asked sequence most (here_fields row) column in
-    answer-is asked (call.RetrieveColumn cursor name sequence false most) new decision (column_shown asked sequence most (here_fields row) column)
+    let still = column_shown-still asked sequence most (fields_at engine side.session c) column in
+    answer-is asked (call.RetrieveColumn cursor name sequence false most) new decision (column_shown asked sequence most (fields_at engine side.session c) column)
     (retrieve-found reads engine state side cursor name sequence most c row (Some column) h step begun found at named)
     (shown asked)
     (ap (λ (d : Decision). d.step) nothing ∙ sym still.step)
@@ -166,17 +192,39 @@ reading-decision engine side new cursor name sequence most decision nothing sess
 -- ---- the values are readable
 
 -- laws of what a session reads
-pub record ReadsStored : Type 0 where
-  pub stored : (engine : EngineState) (state : DatabaseState) (session : ℕ) (local : LocalState) (label : ℕ) (c : OpenCursor) → HoldsState engine state → IsInStep state session local → cursor_labelled local label ≡ Some c
-      → (bookmark : List ℕ) (values : RecordFields) → record_for engine session c.cursor.table bookmark ≡ Some values → (record_size values ≤ 1700) × IsTrue (record_fits c.schema.columns values)
+pub record ReadsRows : Type 0 where
+  pub rows : (engine : EngineState) (state : DatabaseState) (session : ℕ) (local : LocalState) (label : ℕ) (c : OpenCursor) → HoldsState engine state → IsInStep state session local → cursor_labelled local label ≡ Some c
+      → (bookmark : List ℕ) (row seen : RecordFields) → shown_for engine session c.cursor.table bookmark ≡ Some row → record_for engine session c.cursor.table bookmark ≡ Some seen
+      → IsRowOf c.schema (unseen_amounts engine session c.cursor.table bookmark) row seen
   pub built : (engine : EngineState) (state : DatabaseState) (session : ℕ) (local : LocalState) (label : ℕ) (c : OpenCursor) → HoldsState engine state → IsInStep state session local → cursor_labelled local label ≡ Some c
       → IsTrue (list_all is_built_column c.schema.columns)
 
-pub readable_at : ReadsStored → (engine : EngineState) (side : SessionSide) (label : ℕ) (name : List ℕ) (c : OpenCursor) (row : RowFields) (column : Column)
-    → IsBeside engine side → cursor_labelled side.state label ≡ Some c → IsRecordAt (record_for engine side.session c.cursor.table) c.cursor.place (Ok row) → column_named c.schema.columns name ≡ Some column
+pub row_read_at : ReadsRows → (engine : EngineState) (side : SessionSide) (label : ℕ) (c : OpenCursor) (row : RowFields)
+    → IsBeside engine side → cursor_labelled side.state label ≡ Some c → IsRecordAt (shown_for engine side.session c.cursor.table) c.cursor.place (Ok row) → IsRowAt engine side.session c (here_fields row)
+row_read_at laws engine side label c row beside found at =
+    let held = beside.held in
+    laws.rows engine held.state side.session side.state label c held.holds held.in_step found (place_bookmark c.cursor.place) (here_fields row) (fields_at engine side.session c) at.1 (seen_at engine side.session c (here_fields row) at.1)
+
+pub readable_at : ReadsRows → (engine : EngineState) (side : SessionSide) (label : ℕ) (name : List ℕ) (c : OpenCursor) (row : RowFields) (column : Column)
+    → IsBeside engine side → cursor_labelled side.state label ≡ Some c → IsRecordAt (shown_for engine side.session c.cursor.table) c.cursor.place (Ok row) → column_named c.schema.columns name ≡ Some column
     → AreReadable column.kind (values_of (here_fields row) column.id.0)
 readable_at laws engine side label name c row column beside found at named =
     let held = beside.held in
-    let fits = laws.stored engine held.state side.session side.state label c held.holds held.in_step found (place_bookmark c.cursor.place) (here_fields row) at.1 in
-    readable c.schema.columns (here_fields row) name column (distinct_at side.state label c beside.formed found) fits.1 fits.0
+    let is = row_read_at laws engine side label c row beside found at in
+    readable c.schema.columns (here_fields row) name column (distinct_at side.state label c beside.formed found) is.fits is.small
     (laws.built engine held.state side.session side.state label c held.holds held.in_step found) named
+
+long_type : (kind : ColType) → is_type_long kind ≡ true → kind ≡ Long
+long_type kind.Long h = refl
+long_type _ h = impossible h
+
+-- a column that the name finds
+pub column_at : (side : SessionSide) (label : ℕ) (name : List ℕ) (c : OpenCursor) (column : Column) → IsWellFormed side.state → cursor_labelled side.state label ≡ Some c → column_named c.schema.columns name ≡ Some column → IsColumnOf c.schema column
+column_at side label name c column formed found named = record {
+  its = ap (λ (o : Option Column). elim o [ Some column ↦ column.escrow | None ↦ false ]) (by_number (λ o. bytes_eq o.name name) c.schema.columns column (distinct_at side.state label c formed found) named);
+  long = λ sum. long_type column.kind (sum_long column.escrow (is_type_long column.kind) sum (all_found is_long_if_sum (λ o. bytes_eq o.name name) c.schema.columns column (longs_at side.state label c formed found) named));
+}
+  where
+    sum_long : (a b : Bool) → a ≡ true → (not a || b) ≡ true → b ≡ true
+    sum_long true b e f = f
+    sum_long false b e f = impossible e

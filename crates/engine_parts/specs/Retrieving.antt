@@ -1,12 +1,16 @@
 -- What RetrieveColumn finds in the record at a cursor, before its bytes are written to the reply buffer.
-use Rattle.std.specs.Prelude.{◌≡◌, ◌≤◌, ℕ, not, List, [], ◌∷◌, length, Option, Some, Result, Ok, Err, is_none, IsTrue}
+use Rattle.std.specs.Prelude.{◌≡◌, ◌≤◌, ℕ, true, not, List, [], ◌∷◌, length, Option, Some, Result, Ok, Err, is_none, IsTrue}
 use Rattle.std.specs.List.{list_all}
 use Rattle.jet_base.specs.declared.replies.Jet.{Jet}
 use Rattle.jet_base.specs.declared.replies.Jet.TheVariants as jet
 use Rattle.jet_base.specs.declared.words.ColType.{ColType}
+use Rattle.jet_base.specs.declared.words.ColType.TheVariants.{Long}
+use Rattle.column_set.specs.declared.columns.Column.{Column}
 use Rattle.column_set.specs.RecordValues.{RecordFields, value_fits}
 use Rattle.column_set.specs.Rows.{RowFields, are_short, here_fields}
 use Rattle.index_derive.specs.declared.entries.Place.{Place}
+use Rattle.index_derive.specs.declared.rules.Schema.{Schema}
+use Rattle.index_derive.specs.Entries.{is_escrow_column}
 use Rattle.cursor_nav.specs.Places.{is_on, place_bookmark}
 use Rattle.database_state.specs.Refusals.{Refusals, first_refusal}
 use Rattle.session_local.specs.Answer.{Answered, Nothing, Number}
@@ -32,6 +36,11 @@ pub record AreReadable (kind : ColType) (values : List (List ℕ)) : Type 0 wher
   pub fit : IsTrue (list_all (value_fits kind) values)
   pub short : IsTrue (are_short values)
   pub few : length values ≤ 1700
+
+-- The column is one of the schema, where it is a sum if it says so; and a sum is a Long.
+pub record IsColumnOf (schema : Schema) (column : Column) : Type 0 where
+  pub its : is_escrow_column schema column.id.0 ≡ column.escrow
+  pub long : column.escrow ≡ true → column.kind ≡ Long
 
 abbrev pub answered_with : ℕ → Shown → Answered
 answered_with most (shown.Number number) = record { jet = jet.Success; shown = Number number }

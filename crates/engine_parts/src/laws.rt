@@ -11,13 +11,16 @@ ghost use Rattle.agreeing_sessions.specs.InStep.{IsInStep};
 ghost use Rattle.built_calls.specs.BuiltTables.{is_built_column};
 ghost use Rattle.engine_versions.specs.EngineState.{EngineState};
 ghost use Rattle.engine_versions.specs.HoldsState.{HoldsState, asked_of};
-ghost use Rattle.engine_parts.specs.Reading.{entries_for, record_for};
+ghost use Rattle.engine_parts.specs.Reading.{IsRowOf, entries_for, record_for, shown_for, unseen_amounts};
 
-use version_records::every_record_seen_is_stored;
-use versioned_tables::{a_reader_finds_the_records_that_it_is_shown, a_session_is_shown_its_view};
+use engine_versions::{a_session_sees_its_view, a_session_views_its_very_record};
+use version_records::{every_record_seen_holds_numbers, every_record_seen_is_stored};
+use versioned_tables::{
+    a_reader_finds_the_records_that_it_is_shown, a_reader_is_shown_records_with_unseen_sums,
+};
 
 /// The entries of each index of a cursor's table, and its records, are for the session those of its view. Each record fits its
-/// row and its columns, and all columns are built.
+/// row and its columns, and all columns are built. The row that the session is shown tells its record.
 pub fn a_session_reads_its_view()
     ensures entries { (engine : EngineState) (state : DatabaseState) (session : ℕ) (local : LocalState) (label : ℕ) (c : OpenCursor) → HoldsState engine state → IsInStep state session local → cursor_labelled local label ≡ Some c
         → (index : ℕ) → entries_for engine session c.cursor.table index ≡ entries_seen (asked_of engine state session local) c index }
@@ -25,10 +28,16 @@ pub fn a_session_reads_its_view()
         → (bookmark : List ℕ) → record_for engine session c.cursor.table bookmark ≡ row_at (rows_seen (asked_of engine state session local) c) bookmark }
     ensures stored { (engine : EngineState) (state : DatabaseState) (session : ℕ) (local : LocalState) (label : ℕ) (c : OpenCursor) → HoldsState engine state → IsInStep state session local → cursor_labelled local label ≡ Some c
         → (bookmark : List ℕ) (values : RecordFields) → record_for engine session c.cursor.table bookmark ≡ Some values → (record_size values ≤ 1700) × IsTrue (record_fits c.schema.columns values) }
+    ensures rows { (engine : EngineState) (state : DatabaseState) (session : ℕ) (local : LocalState) (label : ℕ) (c : OpenCursor) → HoldsState engine state → IsInStep state session local → cursor_labelled local label ≡ Some c
+        → (bookmark : List ℕ) (row seen : RecordFields) → shown_for engine session c.cursor.table bookmark ≡ Some row → record_for engine session c.cursor.table bookmark ≡ Some seen
+        → IsRowOf c.schema (unseen_amounts engine session c.cursor.table bookmark) row seen }
     ensures built { (engine : EngineState) (state : DatabaseState) (session : ℕ) (local : LocalState) (label : ℕ) (c : OpenCursor) → HoldsState engine state → IsInStep state session local → cursor_labelled local label ≡ Some c
         → IsTrue (list_all is_built_column c.schema.columns) }
 {
-    a_session_is_shown_its_view();
+    a_session_sees_its_view();
+    a_session_views_its_very_record();
+    a_reader_is_shown_records_with_unseen_sums();
     a_reader_finds_the_records_that_it_is_shown();
     every_record_seen_is_stored();
+    every_record_seen_holds_numbers();
 }

@@ -7,6 +7,7 @@ mod cursor_calls;
 mod engine;
 mod laws;
 mod record_calls;
+mod sums;
 mod view;
 
 pub use answers::{done, one, refused, said};

@@ -1,8 +1,9 @@
 //! RetrieveColumn.
 
-ghost use Rattle.std.specs.Prelude.{◌≡◌, ◌≤◌, ℕ, Some, None, IfOk, IsTrue, false, length};
+ghost use Rattle.std.specs.Prelude.{◌≡◌, ◌≤◌, ℕ, Some, None, IfOk, IsTrue, false, true, length};
 ghost use Rattle.column_set.specs.RecordValues.{value_fits, values_of};
 ghost use Rattle.column_set.specs.Rows.{here_fields};
+ghost use Rattle.index_derive.specs.Entries.{is_escrow_column};
 ghost use Rattle.session_local.specs.declared.request.Request.TheVariants as call;
 ghost use Rattle.session_local.specs.Answer.{Bytes, answered_by, shown_by};
 ghost use Rattle.session_local.specs.LocalCalls.{is_answered_locally};
@@ -10,8 +11,9 @@ ghost use Rattle.session_local.specs.Outcome.{Asked};
 ghost use Rattle.session_local.specs.RecordCalls.{column_shown, value_shown};
 ghost use Rattle.session_local.specs.Showing.{names_within, bytes_answered};
 ghost use Rattle.engine_parts.specs.Deciding.{Decides, IsBeside, IsDecision};
-ghost use Rattle.engine_parts.specs.Reading.{record_for};
-ghost use Rattle.engine_parts.specs.Retrieving.{AreReadable, HasRoom, IsRecordAt, answered_or, answered_with};
+ghost use Rattle.version_sums.specs.EscrowSums.{escrow_value};
+ghost use Rattle.engine_parts.specs.Reading.{IsRowAt, fields_at, shown_for};
+ghost use Rattle.engine_parts.specs.Retrieving.{AreReadable, HasRoom, IsColumnOf, IsRecordAt, answered_or, answered_with};
 
 use crate::answers::{refused, said};
 use crate::engine::Engine;
@@ -50,22 +52,23 @@ impl Engine {
         let Some(found) = local.cursor(cursor) else {
             unreachable!()
         };
-        let row = match self.current_row(local.session(), found) {
+        let session = local.session();
+        let row = match self.current_row(session, found) {
             Ok(row) => row,
             Err(refusal) => return refused(refusal),
         };
         let Some(column) = column_named(&found.schema().columns, column) else {
             return refused(Jet::ColumnNotFound);
         };
-        match value_in(&row, column, sequence) {
+        match self.value_seen(session, found, &row, column, sequence) {
             Ok(value) => show_value(local, value, most),
             Err(refusal) => refused(refusal),
         }
     }
 
-    // The row of the record at the cursor that the session sees, read in place.
+    // The row of the record at the cursor that the session is shown, read in place.
     fn current_row(&self, session: Session, cursor: &OpenCursor) -> Result<RowRef<'_>, Jet>
-        ensures { IsRecordAt (record_for self.now session.0 cursor.now.cursor.table) cursor.now.cursor.place result }
+        ensures { IsRecordAt (shown_for self.now session.0 cursor.now.cursor.table) cursor.now.cursor.place result }
     {
         match cursor.cursor().place() {
             Place::On(_, bookmark) => {
@@ -79,9 +82,52 @@ impl Engine {
             _ => Err(Jet::NoCurrentRecord),
         }
     }
+
+    // A value of the column as the session sees it, the first being 1; for 0 the count of its values. An escrow column has one.
+    fn value_seen<'a>(
+        &self,
+        session: Session,
+        cursor: &OpenCursor,
+        row: &'a RowRef<'_>,
+        column: &Column,
+        sequence: u32,
+    ) -> Result<Shown<'a>, Jet>
+        requires row { IsRowAt self.now session.0 cursor.now (here_fields row.now) }
+        requires column { IsColumnOf cursor.now.schema column.now }
+        requires values { AreReadable column.now.kind (values_of (here_fields row.now) column.now.id.0) }
+        ensures answer { (asked : Asked) (most : ℕ) → (column_shown asked sequence most (fields_at self.now session.0 cursor.now) column.now).answered ≡ answered_or most result }
+        ensures room { IfOk result HasRoom }
+    {
+        if column.escrow && sequence == 1 {
+            Ok(Shown::Number(i64::from(self.sum_at(session, cursor, row, column))))
+        } else {
+            value_in(row, column, sequence)
+        }
+    }
+
+    // The number in an escrow column as the session sees it.
+    fn sum_at(
+        &self,
+        session: Session,
+        cursor: &OpenCursor,
+        row: &RowRef<'_>,
+        column: &Column,
+    ) -> i32
+        requires row { IsRowAt self.now session.0 cursor.now (here_fields row.now) }
+        requires sum { is_escrow_column cursor.now.schema column.now.id.0 ≡ true }
+        ensures { result ≡ escrow_value (fields_at self.now session.0 cursor.now) column.now.id.0 }
+    {
+        let table = cursor.cursor().table();
+        match cursor.cursor().place() {
+            Place::On(_, bookmark) => {
+                self.seen_sum(session, table, bookmark.as_bytes(), row, column.id)
+            }
+            _ => self.seen_sum(session, table, &[], row, column.id),
+        }
+    }
 }
 
-// A value of the column, the first being 1; for 0 the count of its values.
+// A value of the column in the row, the first being 1; for 0 the count of its values.
 fn value_in<'a>(row: &'a RowRef<'_>, column: &Column, sequence: u32) -> Result<Shown<'a>, Jet>
     requires { AreReadable column.now.kind (values_of (here_fields row.now) column.now.id.0) }
     ensures answer { (asked : Asked) (most : ℕ) → (column_shown asked sequence most (here_fields row.now) column.now).answered ≡ answered_or most result }

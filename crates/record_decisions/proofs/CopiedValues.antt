@@ -203,7 +203,7 @@ none_or_some (Some values) None h g same = impossible (ap (λ (values : List (Li
 none_or_some (Some values) (Some others) h g same = ap (λ (values : List (List ℕ)). Some values) same
 
 -- records that have the same values in each column are the same
-same_record : (one other : RecordFields) → is_record one ≡ true → is_record other ≡ true → ((number : ℕ) → values_of one number ≡ values_of other number) → one ≡ other
+pub same_record : (one other : RecordFields) → is_record one ≡ true → is_record other ≡ true → ((number : ℕ) → values_of one number ≡ values_of other number) → one ≡ other
 same_record one other formed well same =
     same_entries nat_cmp nat_cmp_total nat_cmp-IsAntisymmetric one other (passes _ (and_left _ _ formed)) (passes _ (and_left _ _ well))
     (λ number. none_or_some (lookup_by_number number one) (lookup_by_number number other) (found_some one number (and_right _ _ formed)) (found_some other number (and_right _ _ well)) (same number))

@@ -6,4 +6,6 @@ pub mod UpdateTold
 pub mod PutSteps
 pub mod Updates
 pub mod CopiedValues
+pub mod SeenRecords
 pub mod PreparedCopies
+pub mod EscrowUpdates

@@ -1,6 +1,6 @@
 -- What decides Delete and GetLock.
 use Rattle.std.proofs.Common.{◌≡◌, ℕ, Bool, true, false, cond, [], ◌∷◌, ◌++◌, Option, Some, None, refl, sym, ap, ◌∙◌}
-use Rattle.std.specs.Prelude.{◌==◌, ◌+◌, not, nat_le, nat_lt, is_none}
+use Rattle.std.specs.Prelude.{◌==◌, ◌+◌, not, nat_le, nat_lt, is_none, option_map}
 use Rattle.jet_base.specs.declared.ids.CursorId.{CursorId}
 use Rattle.jet_base.specs.declared.ids.Session.{Session}
 use Rattle.jet_base.specs.declared.replies.Jet.{Jet}
@@ -36,7 +36,7 @@ use Rattle.agreeing_sessions.specs.InStep.{IsInStep}
 use Rattle.engine_versions.specs.EngineState.{EngineState}
 use Rattle.engine_versions.specs.HoldsState.{HoldsState}
 use Rattle.engine_parts.specs.Deciding.{Decides}
-use Rattle.record_decisions.specs.Changing.{SeesRecords, TellsConflicts, TellsRoom, change_in, current_in, delete_in, is_outside_in, lock_in, own_in, room_in, step_by}
+use Rattle.record_decisions.specs.Changing.{SeesRecords, TellsConflicts, TellsRoom, change_in, current_in, delete_in, is_outside_in, lock_in, own_in, room_in, shown_for, step_by}
 use Rattle.decision_lemmas.proofs.Chains.{unless-refused, unless-passed}
 use Rattle.decision_lemmas.proofs.Refusing.{asked_by, refused_with, stepped_with, answer-begun, answer-is, answer-refused}
 use Rattle.decision_lemmas.proofs.Told.{levels-told}
@@ -52,11 +52,17 @@ at_if false found e = absurd (cc)
 pub outside-told : (engine : EngineState) (state : DatabaseState) (side : SessionSide) → HoldsState engine state → is_outside (asked_by engine state side) ≡ is_outside_in engine side.session
 outside-told engine state side h = ap (λ n. n == 0) (levels-told engine state side.session h)
 
+-- a record is seen where its row is shown
+none-seen : {X Y : Type 0} (f : X → Y) (o : Option X) → is_none (option_map f o) ≡ is_none o
+none-seen f None = refl
+none-seen f (Some x) = refl
+
 pub current-told : SeesRecords → (engine : EngineState) (state : DatabaseState) (side : SessionSide) (label : ℕ) (c : OpenCursor) → HoldsState engine state → IsInStep state side.session side.state → cursor_labelled side.state label ≡ Some c
     → current (asked_by engine state side) c ≡ current_in engine side.session c
 current-told sees engine state side label c h step found =
-    ap (λ (r : Option RecordFields). (not (is_on c.cursor.place), jet.NoCurrentRecord) ∷ (is_none r, jet.RecordDeleted) ∷ [])
-    (sym (sees engine state side.session side.state label c h step found (place_bookmark c.cursor.place)))
+    ap (λ b. (not (is_on c.cursor.place), jet.NoCurrentRecord) ∷ (b, jet.RecordDeleted) ∷ [])
+    (ap (λ (r : Option RecordFields). is_none r) (sym (sees engine state side.session side.state label c h step found (place_bookmark c.cursor.place)))
+    ∙ none-seen _ (shown_for engine side.session c.cursor.table (place_bookmark c.cursor.place)))
 
 pub room_told : TellsRoom → (engine : EngineState) (state : DatabaseState) (side : SessionSide) (made : Change) → HoldsState engine state
     → number_refusals (asked_by engine state side) ++ span_refusals (asked_by engine state side) made ≡ room_in engine made

@@ -1,6 +1,6 @@
 -- What decides PrepareUpdate `replace` and `insertcopy`.
-use Rattle.std.proofs.Common.{◌≡◌, ℕ, ◌≤◌, Bool, true, false, cond, not, ◌||◌, List, [], ◌∷◌, ◌++◌, length, map, fold, Option, Some, None, unwrap_or, refl, sym, ap, subst, ◌∙◌}
-use Rattle.std.specs.Prelude.{◌==◌, find, nat_le, is_none, is_some, IfSome, IsTrue}
+use Rattle.std.proofs.Common.{◌≡◌, ℕ, Bool, true, false, cond, ◌||◌, List, [], ◌∷◌, ◌++◌, length, map, Option, Some, None, unwrap_or, refl, sym, ap, subst, ◌∙◌}
+use Rattle.std.specs.Prelude.{ℤ, neg_ℤ, ◌==◌, find, nat_le, option_map, is_none, is_some, IfSome, IsTrue}
 use Rattle.std.specs.List.{list_all}
 use Rattle.jet_base.specs.declared.ids.CursorId.{CursorId}
 use Rattle.jet_base.specs.declared.replies.Jet.{Jet}
@@ -9,7 +9,7 @@ use Rattle.jet_base.specs.declared.words.Prepare.{Prepare}
 use Rattle.jet_base.specs.declared.words.Prepare.TheVariants as prepare
 use Rattle.column_set.specs.declared.columns.Column.{Column}
 use Rattle.column_set.specs.Record.{is_record}
-use Rattle.column_set.specs.RecordValues.{RecordFields, column_of_id, record_fits, record_size, value_fits, values_fit, with_values}
+use Rattle.column_set.specs.RecordValues.{RecordFields, column_of_id, record_fits, value_fits, values_fit}
 use Rattle.column_set.specs.Rows.{are_short}
 use Rattle.index_derive.specs.declared.log.Step.{Step}
 use Rattle.database_state.specs.Refusals.{Refusals, first_refusal}
@@ -36,21 +36,26 @@ use Rattle.built_calls.specs.BuiltTables.{is_built_column}
 use Rattle.built_calls.proofs.BuiltColumns.{not_long, values_short}
 use Rattle.engine_versions.specs.EngineState.{EngineState}
 use Rattle.engine_versions.specs.HoldsState.{HoldsState}
-use Rattle.engine_versions.proofs.WellFormed.{no_sums}
 use Rattle.engine_parts.specs.Deciding.{Decides, IsBeside, IsDecision, IsLawfulStep}
-use Rattle.record_decisions.specs.Changing.{SeesRecords, TellsConflicts, TellsRoom, change_in, current_in, is_outside_in, own_in, record_for, step_by}
-use Rattle.record_decisions.specs.Preparing.{HasFormedRecords, IsCopied, copy_in, copy_of, replace_in, replace_of, values_seen}
+use Rattle.engine_parts.specs.Reading.{IsRowOf, unseen_amounts}
+use Rattle.version_cleanup.specs.Cleaning.{reader_in}
+use Rattle.versioned_tables.specs.HeldSums.{unseen_sums}
+use Rattle.versioned_tables.specs.ViewedRecords.{without_sums}
+use Rattle.record_decisions.specs.Changing.{SeesRecords, TellsConflicts, TellsRoom, change_in, current_in, is_outside_in, own_in, record_for, shown_for, step_by}
+use Rattle.record_decisions.specs.Preparing.{HasFormedRecords, IsCopied, IsCopiedAs, copy_in, copy_of, replace_in, replace_of, values_seen}
 use Rattle.decision_lemmas.proofs.Chains.{unless-refused, unless-passed}
 use Rattle.record_decisions.proofs.LocksAndDeletes.{at_if, change-told, changed_by, current-told, outside-told, step_of_change-told}
+use Rattle.record_decisions.proofs.SeenRecords.{sums_formed}
 use Rattle.decision_lemmas.proofs.Refusing.{asked_by, answer-begun, answer-is, answer-refused, refused_with}
 
 -- ---- a record that is copied
 
 -- the laws that it rests on: each record fits its columns, all of which are built
-abbrev pub SeesStored : Type 0
-SeesStored =
+abbrev pub SeesRows : Type 0
+SeesRows =
     (engine : EngineState) (state : DatabaseState) (session : ℕ) (local : LocalState) (label : ℕ) (c : OpenCursor) → HoldsState engine state → IsInStep state session local → cursor_labelled local label ≡ Some c
-    → (bookmark : List ℕ) (values : RecordFields) → record_for engine session c.cursor.table bookmark ≡ Some values → (record_size values ≤ 1700) × IsTrue (record_fits c.schema.columns values)
+    → (bookmark : List ℕ) (row seen : RecordFields) → shown_for engine session c.cursor.table bookmark ≡ Some row → record_for engine session c.cursor.table bookmark ≡ Some seen
+    → IsRowOf c.schema (unseen_amounts engine session c.cursor.table bookmark) row seen
 
 abbrev pub SeesBuilt : Type 0
 SeesBuilt =
@@ -87,7 +92,7 @@ all_mono : {X : Type 0} (p q : X → Bool) → ((x : X) → p x ≡ true → q x
 all_mono p q f [] h = refl
 all_mono p q f (x ∷ xs) h = and_both (q x) (list_all q xs) (f x (and_left (p x) (list_all p xs) h)) (all_mono p q f xs (and_right (p x) (list_all p xs) h))
 
-distinct_at : (local : LocalState) (label : ℕ) (c : OpenCursor) → IsWellFormed local → cursor_labelled local label ≡ Some c → are_distinct (map number_of_column c.schema.columns) ≡ true
+pub distinct_at : (local : LocalState) (label : ℕ) (c : OpenCursor) → IsWellFormed local → cursor_labelled local label ≡ Some c → are_distinct (map number_of_column c.schema.columns) ≡ true
 distinct_at local label c formed found =
     and_left _ _ (and_left _ _ (and_left _ _
     (and_left (is_well_formed_schema c.schema) (is_well_formed_update c.schema.columns c.prepared) (found_passes is_well_formed_cursor (λ (c : OpenCursor). c.label == label) local.cursors c formed found))))
@@ -102,20 +107,41 @@ copied columns values formed fits built distinct =
       distinct = distinct;
     }
 
--- the record that the session sees under the cursor can be copied
-pub copied-at : SeesStored → SeesBuilt → (engine : EngineState) (side : SessionSide) (label session : ℕ) (c : OpenCursor) → IsBeside engine side → HasFormedRecords engine → cursor_labelled side.state label ≡ Some c → session ≡ side.session
-    → IfSome (record_for engine session c.cursor.table (bookmark_at c)) (IsCopied c.schema.columns)
-copied-at stored built engine side label session c beside formed found own =
-    subst (λ s. IfSome (record_for engine s c.cursor.table (bookmark_at c)) (IsCopied c.schema.columns)) (sym own)
-    (by (record_for engine side.session c.cursor.table (bookmark_at c)) refl (formed side.session c.cursor.table (bookmark_at c)))
+-- the record that is seen at a row
+pub seen_at : (engine : EngineState) (session : ℕ) (c : OpenCursor) (row : RecordFields) → shown_for engine session c.cursor.table (bookmark_at c) ≡ Some row
+    → (record_for engine session c.cursor.table (bookmark_at c) ≡ Some (values_seen engine session c)) × (is_record row ≡ true → is_record (values_seen engine session c) ≡ true)
+seen_at engine session c row e = by (shown_for engine session c.cursor.table (bookmark_at c)) e
   where
-    by : (seen : Option RecordFields) → record_for engine side.session c.cursor.table (bookmark_at c) ≡ seen → IfSome seen (λ fields. IsTrue (is_record fields)) → IfSome seen (IsCopied c.schema.columns)
+    sums : List (ℕ × ℤ)
+    sums = unseen_sums c.cursor.table (bookmark_at c) (reader_in session engine.sessions) engine.store.held
+
+    same : (one other : RecordFields) → Some one ≡ Some other → one ≡ other
+    same one other e = cc
+
+    by : (o : Option RecordFields) → o ≡ Some row
+        → (option_map (λ values. without_sums values sums) o ≡ Some (unwrap_or (option_map (λ values. without_sums values sums) o) []))
+        × (is_record row ≡ true → is_record (unwrap_or (option_map (λ values. without_sums values sums) o) []) ≡ true)
+    by None e = cc
+    by (Some values) e = (refl, λ h. sums_formed values (map (λ (sum : ℕ × ℤ). (sum.0, neg_ℤ sum.1)) sums) (ap is_record (same values row e) ∙ h))
+
+-- the row of the record under the cursor can be copied, and tells of the record that the session sees
+pub copied-at : SeesRows → SeesBuilt → (engine : EngineState) (side : SessionSide) (label session : ℕ) (c : OpenCursor) → IsBeside engine side → HasFormedRecords engine → cursor_labelled side.state label ≡ Some c → session ≡ side.session
+    → IfSome (shown_for engine session c.cursor.table (bookmark_at c)) (IsCopiedAs engine session c)
+copied-at rows built engine side label session c beside formed found own =
+    subst (λ s. IfSome (shown_for engine s c.cursor.table (bookmark_at c)) (IsCopiedAs engine s c)) (sym own)
+    (by (shown_for engine side.session c.cursor.table (bookmark_at c)) refl (formed side.session c.cursor.table (bookmark_at c)))
+  where
+    by : (shown : Option RecordFields) → shown_for engine side.session c.cursor.table (bookmark_at c) ≡ shown → IfSome shown (λ fields. IsTrue (is_record fields)) → IfSome shown (IsCopiedAs engine side.session c)
     by None e h = tt
-    by (Some values) e h =
+    by (Some row) e h =
         let held = beside.held in
-        copied c.schema.columns values h (stored engine held.state side.session side.state label c held.holds held.in_step found (bookmark_at c) values e).1
-        (built engine held.state side.session side.state label c held.holds held.in_step found)
-        (distinct_at side.state label c beside.formed found)
+        let seen = seen_at engine side.session c row e in
+        let is = rows engine held.state side.session side.state label c held.holds held.in_step found (bookmark_at c) row (values_seen engine side.session c) e seen.0 in
+        record {
+          copied = copied c.schema.columns row h is.fits (built engine held.state side.session side.state label c held.holds held.in_step found) (distinct_at side.state label c beside.formed found);
+          seen = is;
+          formed = seen.1 h;
+        }
 
 -- ---- a call that prepares an update, or refuses it
 
@@ -163,7 +189,7 @@ prepare-shared : (side : SessionSide) (cursor : CursorId) → elim side.state.be
 prepare-shared side cursor shared = (at_if side.state.begun (cursor_labelled side.state cursor.0) shared).0
 
 -- what the definitions copy is what the session sees
-values-told : SeesRecords → (engine : EngineState) (state : DatabaseState) (side : SessionSide) (label : ℕ) (c : OpenCursor) → HoldsState engine state → IsInStep state side.session side.state → cursor_labelled side.state label ≡ Some c
+pub values-told : SeesRecords → (engine : EngineState) (state : DatabaseState) (side : SessionSide) (label : ℕ) (c : OpenCursor) → HoldsState engine state → IsInStep state side.session side.state → cursor_labelled side.state label ≡ Some c
     → record_at (asked_by engine state side) c ≡ values_seen engine side.session c
 values-told sees engine state side label c h step found =
     ap (λ (o : Option RecordFields). unwrap_or o []) (sym (sees engine state side.session side.state label c h step found (bookmark_at c)))
@@ -204,15 +230,12 @@ replace-step engine side c is = ap (λ b. Some (step_by b (changed_by side.sessi
 
 -- ---- `insertcopy`
 
-no_sums_at_zero : (columns : List Column) (values : RecordFields) → list_all is_built_column columns ≡ true → with_sums_at_zero columns values ≡ values
-no_sums_at_zero columns values built = ap (λ (sums : List Column). fold (λ (fields : RecordFields) (column : Column). with_values fields column.id.0 ((0 ∷ 0 ∷ 0 ∷ 0 ∷ []) ∷ [])) values sums) (no_sums columns built)
-
-pub copy-prepares : SeesRecords → SeesBuilt → (engine : EngineState) (side : SessionSide) (cursor : CursorId) (c : OpenCursor) → is_answered_locally side.state (call.PrepareUpdate cursor prepare.InsertCopy) ≡ false → cursor_labelled side.state cursor.0 ≡ Some c
+pub copy-prepares : SeesRecords → (engine : EngineState) (side : SessionSide) (cursor : CursorId) (c : OpenCursor) → is_answered_locally side.state (call.PrepareUpdate cursor prepare.InsertCopy) ≡ false → cursor_labelled side.state cursor.0 ≡ Some c
     → Prepares engine side (call.PrepareUpdate cursor prepare.InsertCopy) (copy_in engine side.session c) c (copy_of engine side.session c) None
-copy-prepares sees built engine side cursor c shared found = λ state h step.
+copy-prepares sees engine side cursor c shared found = λ state h step.
     let asked = asked_by engine state side in
     let by : Refusals → RecordFields → Outcome = λ refusals values. prepared_by asked refusals c (record { for = inserting (Some (bookmark_at c)); values = values }) None in
     answer-begun asked (call.PrepareUpdate cursor prepare.InsertCopy) (prepare-shared side cursor shared)
     ∙ ap (λ o. on_cursor asked o (prepare_copy asked)) found
     ∙ ap (λ (l : Refusals). by (prepared_refusals c ++ l) (with_sums_at_zero c.schema.columns (record_at asked c))) (current-told sees engine state side cursor.0 c h step found)
-    ∙ ap (λ (v : RecordFields). by (copy_in engine side.session c) v) (no_sums_at_zero c.schema.columns (record_at asked c) (built engine state side.session side.state cursor.0 c h step found) ∙ values-told sees engine state side cursor.0 c h step found)
+    ∙ ap (λ (v : RecordFields). by (copy_in engine side.session c) (with_sums_at_zero c.schema.columns v)) (values-told sees engine state side cursor.0 c h step found)

@@ -37,6 +37,7 @@ use Rattle.agreeing_sessions.specs.InStep.{IsInStep}
 use Rattle.agreeing_sessions.proofs.Schemas.{defined}
 use Rattle.engine_versions.specs.EngineState.{EngineState}
 use Rattle.engine_versions.specs.HoldsState.{HoldsState}
+use Rattle.engine_versions.proofs.BuiltSums.{no_sums_held}
 use Rattle.engine_versions.proofs.Telling.{begin_told}
 use Rattle.record_decisions.specs.Updating.{HasLegalRules, HasShortBookmarks, IsLegalRule, TellsKeys, TellsSchemas, bookmark_by, keys_in, new_bookmark, number_of_change}
 use Rattle.record_decisions.proofs.RuleByRule.{asked-alike, found-has}
@@ -84,7 +85,7 @@ keys_at alike engine state session table schema own values (Some t) h is has =
     let reader : Reader = reader_in session engine.sessions in
     subst (λ (s : Schema). keys_in engine session table s own values ≡ key_refusals state session table s t.rows own values) (sym has)
     (asked-alike (λ rule. unique_refusals reader engine.store table (schema_of t) rule own values) (asked_of_state state session table (schema_of t) t.rows own values) (filter is_unique (schema_of t).indexes)
-    (λ rule. alike h.base h.dropped h.kept engine.store state h.holds h.no_sums reader (begin_told engine state h session) table t is rule own values))
+    (λ rule. alike h.base h.dropped h.kept engine.store state h.holds (no_sums_held engine state h) reader (begin_told engine state h session) table t is rule own values))
 
 pub keys-told : AsksAlike → TellsKeys
 keys-told alike engine state session local label c h step found own values =
@@ -148,7 +149,7 @@ short_by sees engine state session local label c (replacing bookmark) values h s
     replaced_short c.schema bookmark values (primary_rule c.schema) rules refl same
     (replaced_hidden state session c bookmark (table_with_id state.tables c.cursor.table)
     (of_found (λ (c : OpenCursor). HasSchemaOf c (table_with_id state.tables c.cursor.table)) (λ (c : OpenCursor). c.label == label) local.cursors c found step.agrees.schemas)
-    (sees h.base h.dropped h.kept state h.reached.history (all_see_none h.kept state h.no_sums) h.reached.bookmarks session c.cursor.table) may)
+    (sees h.base h.dropped h.kept state h.reached.history (all_see_none h.kept state (no_sums_held engine state h)) h.reached.bookmarks session c.cursor.table) may)
 
 pub bookmarks-short : SeesBookmarks → HasShortBookmarks
 bookmarks-short sees engine state session local label c prepared h step found is rules same =

@@ -20,7 +20,7 @@ use Rattle.version_cleanup.specs.LiveSessions.{levels_in, oldest_begin}
 use Rattle.versioned_tables.specs.HeldRecords.{has_conflict, span}
 use Rattle.engine_versions.specs.EngineState.{EngineState}
 use Rattle.engine_versions.specs.HoldsState.{HoldsState, asked_of}
-pub use Rattle.engine_parts.specs.Reading.{record_for}
+pub use Rattle.engine_parts.specs.Reading.{record_for, shown_for}
 use Rattle.agreeing_sessions.specs.InStep.{IsInStep}
 use Rattle.session_local.specs.Outcome.{rows_seen}
 
@@ -36,11 +36,11 @@ span_with engine made = span (oldest_begin engine.sessions) engine.store.held + 
 abbrev pub outside_in : EngineState → ℕ → Refusals
 outside_in engine session = (is_outside_in engine session, jet.NotInTransaction) ∷ []
 
--- the cursor is on an entry, whose record the session sees
+-- the cursor is on an entry, whose record the session sees: it is shown its row
 abbrev pub current_in : EngineState → ℕ → OpenCursor → Refusals
 current_in engine session c =
     (not (is_on c.cursor.place), jet.NoCurrentRecord)
-    ∷ (is_none (record_for engine session c.cursor.table (place_bookmark c.cursor.place)), jet.RecordDeleted) ∷ []
+    ∷ (is_none (shown_for engine session c.cursor.table (place_bookmark c.cursor.place)), jet.RecordDeleted) ∷ []
 
 -- the session has a replace of the record prepared
 abbrev pub own_in : LocalState → OpenCursor → Refusals

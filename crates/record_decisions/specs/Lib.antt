@@ -1,3 +1,4 @@
 pub mod Changing
+pub mod EscrowUpdates
 pub mod Updating
 pub mod Preparing

@@ -1,5 +1,5 @@
 -- Why the engine refuses to prepare a replace or a copy of a record, and what is prepared, by what it holds.
-use Rattle.std.specs.Prelude.{◌≡◌, ◌==◌, ℕ, true, [], ◌++◌, List, Some, IfSome, IsTrue, is_some, map, unwrap_or, if◌then◌else◌}
+use Rattle.std.specs.Prelude.{◌≡◌, ◌==◌, ℕ, true, ◌++◌, List, Some, IfSome, IsTrue, is_some, map, if◌then◌else◌}
 use Rattle.std.specs.List.{list_all}
 use Rattle.column_set.specs.declared.columns.Column.{Column}
 use Rattle.column_set.specs.Record.{is_record}
@@ -7,30 +7,27 @@ use Rattle.column_set.specs.RecordValues.{RecordFields, column_of_id, values_of}
 use Rattle.column_set.specs.Rows.{is_all_here}
 use Rattle.database_state.specs.Refusals.{Refusals}
 use Rattle.session_local.specs.declared.prepared.Prepared.{Prepared}
-use Rattle.session_local.specs.Local.{LocalState, OpenCursor, PreparedFor, PreparedUpdate, inserting, replacing}
+use Rattle.session_local.specs.Local.{LocalState, OpenCursor, PreparedUpdate, inserting, replacing}
 use Rattle.session_local.specs.Preparing.{update_of}
-use Rattle.session_local.specs.RecordCalls.{bookmark_at, hold_at, prepared_refusals}
+use Rattle.session_local.specs.RecordCalls.{bookmark_at, hold_at, prepared_refusals, with_sums_at_zero}
 use Rattle.session_local.specs.SessionSide.{are_distinct}
 use Rattle.session_local.specs.WellFormed.{number_of_column}
 use Rattle.engine_versions.specs.EngineState.{EngineState}
-use Rattle.record_decisions.specs.Changing.{change_in, current_in, outside_in, own_in, record_for}
+use Rattle.engine_parts.specs.Reading.{IsRowAt, fields_at}
+use Rattle.record_decisions.specs.Changing.{change_in, current_in, outside_in, own_in, shown_for}
 
 -- ---- what is prepared
 
 -- the record that the session sees under the cursor, with no value where there is none
 abbrev pub values_seen : EngineState → ℕ → OpenCursor → RecordFields
-values_seen engine session c = unwrap_or (record_for engine session c.cursor.table (bookmark_at c)) []
-
--- an update that begins with the values of the record
-abbrev pub update_from : EngineState → ℕ → OpenCursor → PreparedFor → PreparedUpdate
-update_from engine session c for = record { for = for; values = values_seen engine session c }
+values_seen engine session c = fields_at engine session c
 
 abbrev pub replace_of : EngineState → ℕ → OpenCursor → PreparedUpdate
-replace_of engine session c = update_from engine session c (replacing (bookmark_at c))
+replace_of engine session c = record { for = replacing (bookmark_at c); values = values_seen engine session c }
 
--- An insert that is copied from the record has its very values, since no column has sums.
+-- The sums of an insert that is copied from the record begin at 0.
 abbrev pub copy_of : EngineState → ℕ → OpenCursor → PreparedUpdate
-copy_of engine session c = update_from engine session c (inserting (Some (bookmark_at c)))
+copy_of engine session c = record { for = inserting (Some (bookmark_at c)); values = with_sums_at_zero c.schema.columns (values_seen engine session c) }
 
 -- the update, with the columns of its table
 abbrev pub IsPreparedAs : OpenCursor → PreparedUpdate → Prepared → Type 0
@@ -48,9 +45,9 @@ copy_in engine session c = prepared_refusals c ++ current_in engine session c
 
 -- ---- records that are copied column by column
 
--- the columns of a record that a session sees rise, and each has a value
+-- the columns of a record whose row a session is shown rise, and each has a value
 abbrev pub HasFormedRecords : EngineState → Type 0
-HasFormedRecords engine = (session table : ℕ) (bookmark : List ℕ) → IfSome (record_for engine session table bookmark) (λ fields. IsTrue (is_record fields))
+HasFormedRecords engine = (session table : ℕ) (bookmark : List ℕ) → IfSome (shown_for engine session table bookmark) (λ fields. IsTrue (is_record fields))
 
 -- What is asked of the record: its columns rise and have values, which stand in their row, and each is a column of the table.
 -- No two columns of the table have one number.
@@ -59,6 +56,12 @@ pub record IsCopied (columns : List Column) (fields : RecordFields) : Type 0 whe
   pub short : IsTrue (is_all_here fields)
   pub named : IsTrue (list_all (λ field. is_some (column_of_id columns field.0)) fields)
   pub distinct : are_distinct (map number_of_column columns) ≡ true
+
+-- The row is copied column by column, and tells of the record that the session sees, whose columns rise and have values too.
+pub record IsCopiedAs (engine : EngineState) (session : ℕ) (c : OpenCursor) (row : RecordFields) : Type 0 where
+  pub copied : IsCopied c.schema.columns row
+  pub seen : IsRowAt engine session c row
+  pub formed : is_record (values_seen engine session c) ≡ true
 
 -- the values of a column once those of one more were put behind
 abbrev pub values_with : RecordFields → RecordFields → ℕ → ℕ → List (List ℕ)

@@ -22,7 +22,7 @@ use Rattle.table_versions.specs.KeyConflicts.{unique_refusals}
 use Rattle.version_cleanup.specs.Cleaning.{reader_in}
 use Rattle.engine_versions.specs.EngineState.{EngineState}
 use Rattle.engine_versions.specs.HoldsState.{HoldsState, asked_of}
-use Rattle.record_decisions.specs.Changing.{is_outside_in, record_for, room_in, span_with}
+use Rattle.record_decisions.specs.Changing.{is_outside_in, room_in, shown_for, span_with}
 
 -- ---- what is put
 
@@ -43,7 +43,7 @@ bookmark_by engine session schema (replacing bookmark) values = bookmark
 -- the record that an insert was copied from, where the session still sees one under that bookmark
 abbrev pub copied_by : EngineState → ℕ → ℕ → PreparedFor → Option (List ℕ)
 copied_by engine session table (inserting None) = None
-copied_by engine session table (inserting (Some bookmark)) = if is_some (record_for engine session table bookmark) then Some bookmark else None
+copied_by engine session table (inserting (Some bookmark)) = if is_some (shown_for engine session table bookmark) then Some bookmark else None
 copied_by engine session table (replacing bookmark) = None
 
 abbrev pub put_by : EngineState → ℕ → OpenCursor → PreparedUpdate → Change

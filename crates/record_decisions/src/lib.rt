@@ -2,13 +2,16 @@
 #![tactic(auto)]
 
 mod changing;
+mod escrow_updates;
 mod laws;
 mod preparing;
 mod putting;
 mod refusing_puts;
+mod sums;
 mod update_laws;
 mod updating;
 
 pub use changing::{delete, get_lock};
+pub use escrow_updates::escrow_update;
 pub use preparing::{prepare_copy, prepare_replace};
 pub use updating::update;

@@ -9,15 +9,16 @@ ghost use Rattle.session_local.specs.declared.request.Request.TheVariants as cal
 ghost use Rattle.session_local.specs.declared.reply.Value.TheVariants.{Nothing};
 ghost use Rattle.session_local.specs.LocalCalls.{is_answered_locally};
 ghost use Rattle.session_local.specs.Preparing.{for_of};
-ghost use Rattle.session_local.specs.RecordCalls.{bookmark_at, hold_at};
+ghost use Rattle.session_local.specs.RecordCalls.{bookmark_at, hold_at, with_sums_at_zero};
 ghost use Rattle.engine_parts.specs.Deciding.{Decides, IsBeside, IsDecision};
-ghost use Rattle.record_decisions.specs.Changing.{record_for};
-ghost use Rattle.record_decisions.specs.Preparing.{IsCopied, IsPreparedAs, copy_in, copy_of, replace_in, replace_of, update_from, values_seen, values_with};
+ghost use Rattle.record_decisions.specs.Changing.{shown_for};
+ghost use Rattle.record_decisions.specs.Preparing.{IsCopied, IsCopiedAs, IsPreparedAs, copy_in, copy_of, replace_in, replace_of, values_seen, values_with};
 
 use crate::changing::{
     bookmark_at, change_refusal, change_step, current_refusal, has_own_replace, hold_at,
 };
 use crate::laws::{changes_are_refused_alike, records_are_formed};
+use crate::sums::{record_seen, with_sums_at_zero};
 use column_set::{Bookmark, Change, Column, Record, RowRef, Values};
 use engine_parts::{Engine, a_session_reads_its_view, refused};
 use index_derive::Step;
@@ -135,60 +136,83 @@ fn replace_at(
     session: Session,
     found: &OpenCursor,
 ) -> Result<Prepared, OutOfMemory>
-    requires { IfSome (record_for engine.now session.0 found.now.cursor.table (bookmark_at found.now)) (IsCopied found.now.schema.columns) }
+    requires { IfSome (shown_for engine.now session.0 found.now.cursor.table (bookmark_at found.now)) (IsCopiedAs engine.now session.0 found.now) }
     ensures { IfOk result (IsPreparedAs found.now (replace_of engine.now session.0 found.now)) }
 {
     match Bookmark::from_slice(engine.alloc, bookmark_at(found)) {
-        Ok(bookmark) => prepared_from(engine, session, found, Purpose::Replace(bookmark)),
-        Err(fault) => Err(fault),
-    }
-}
-
-// What an insert prepares that is copied from the record at the cursor.
-fn copy_at(engine: &Engine, session: Session, found: &OpenCursor) -> Result<Prepared, OutOfMemory>
-    requires { IfSome (record_for engine.now session.0 found.now.cursor.table (bookmark_at found.now)) (IsCopied found.now.schema.columns) }
-    ensures { IfOk result (IsPreparedAs found.now (copy_of engine.now session.0 found.now)) }
-{
-    match Bookmark::from_slice(engine.alloc, bookmark_at(found)) {
-        Ok(bookmark) => prepared_from(engine, session, found, Purpose::Insert(Some(bookmark))),
-        Err(fault) => Err(fault),
-    }
-}
-
-// The update with the values of the record at the cursor.
-fn prepared_from(
-    engine: &Engine,
-    session: Session,
-    found: &OpenCursor,
-    purpose: Purpose,
-) -> Result<Prepared, OutOfMemory>
-    requires { IfSome (record_for engine.now session.0 found.now.cursor.table (bookmark_at found.now)) (IsCopied found.now.schema.columns) }
-    ensures { IfOk result (IsPreparedAs found.now (update_from engine.now session.0 found.now (for_of purpose))) }
-{
-    match record_at(engine, session, found) {
-        Ok(values) => match CopyBuffer::new(engine.alloc, &found.schema().columns, values) {
-            Ok(buffer) => Ok(Prepared { purpose, buffer }),
+        Ok(bookmark) => match record_at(engine, session, found) {
+            Ok(values) => { prepared_from(engine.alloc, found, Purpose::Replace(bookmark), values) }
             Err(fault) => Err(fault),
         },
         Err(fault) => Err(fault),
     }
 }
 
+// What an insert prepares that is copied from the record at the cursor: its sums begin at 0.
+fn copy_at(engine: &Engine, session: Session, found: &OpenCursor) -> Result<Prepared, OutOfMemory>
+    requires { IfSome (shown_for engine.now session.0 found.now.cursor.table (bookmark_at found.now)) (IsCopiedAs engine.now session.0 found.now) }
+    ensures { IfOk result (IsPreparedAs found.now (copy_of engine.now session.0 found.now)) }
+{
+    match Bookmark::from_slice(engine.alloc, bookmark_at(found)) {
+        Ok(bookmark) => match new_record_at(engine, session, found) {
+            Ok(values) => {
+                prepared_from(engine.alloc, found, Purpose::Insert(Some(bookmark)), values)
+            }
+            Err(fault) => Err(fault),
+        },
+        Err(fault) => Err(fault),
+    }
+}
+
+// The update with the values.
+fn prepared_from(
+    alloc: Global,
+    found: &OpenCursor,
+    purpose: Purpose,
+    values: Record,
+) -> Result<Prepared, OutOfMemory>
+    ensures { IfOk result (IsPreparedAs found.now (record { for = for_of purpose; values = values })) }
+{
+    match CopyBuffer::new(alloc, &found.schema().columns, values) {
+        Ok(buffer) => Ok(Prepared { purpose, buffer }),
+        Err(fault) => Err(fault),
+    }
+}
+
 // The record that the session sees at the cursor, its values copied.
 fn record_at(engine: &Engine, session: Session, found: &OpenCursor) -> Result<Record, OutOfMemory>
-    requires { IfSome (record_for engine.now session.0 found.now.cursor.table (bookmark_at found.now)) (IsCopied found.now.schema.columns) }
+    requires { IfSome (shown_for engine.now session.0 found.now.cursor.table (bookmark_at found.now)) (IsCopiedAs engine.now session.0 found.now) }
     ensures { IfOk result (λ made. made ≡ values_seen engine.now session.0 found.now) }
 {
     let table = found.cursor().table();
     let reader = engine.reader(session);
     match engine.tables().look_up(table, bookmark_at(found), reader) {
-        Some(row) => record_of_row(engine.alloc, found.schema().columns.as_slice(), &row),
+        Some(row) => record_seen(engine, session, found, &row),
         None => Ok(Record::new(engine.alloc)),
     }
 }
 
-// A copy of a row that is read in place.
-fn record_of_row(alloc: Global, columns: &[Column], row: &RowRef<'_>) -> Result<Record, OutOfMemory>
+// The same with its sums at 0.
+fn new_record_at(
+    engine: &Engine,
+    session: Session,
+    found: &OpenCursor,
+) -> Result<Record, OutOfMemory>
+    requires { IfSome (shown_for engine.now session.0 found.now.cursor.table (bookmark_at found.now)) (IsCopiedAs engine.now session.0 found.now) }
+    ensures { IfOk result (λ made. made ≡ with_sums_at_zero found.now.schema.columns (values_seen engine.now session.0 found.now)) }
+{
+    match record_at(engine, session, found) {
+        Ok(values) => with_sums_at_zero(engine.alloc, found.schema().columns.as_slice(), values),
+        Err(fault) => Err(fault),
+    }
+}
+
+/// A copy of a row that is read in place.
+pub(crate) fn record_of_row(
+    alloc: Global,
+    columns: &[Column],
+    row: &RowRef<'_>,
+) -> Result<Record, OutOfMemory>
     requires { IsCopied columns.now (here_fields row.now) }
     ensures { IfOk result (λ made. made ≡ here_fields row.now) }
 {

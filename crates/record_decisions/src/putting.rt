@@ -4,7 +4,7 @@ ghost use Rattle.std.specs.Prelude.{◌≡◌, false, IfOk, is_some, nat_le};
 ghost use Rattle.database_state.specs.Lawful.{log_limit};
 ghost use Rattle.database_state.specs.Table.{primary_rule};
 ghost use Rattle.session_local.specs.Preparing.{for_of, update_of};
-ghost use Rattle.record_decisions.specs.Changing.{record_for};
+ghost use Rattle.record_decisions.specs.Changing.{shown_for};
 ghost use Rattle.record_decisions.specs.Updating.{HasLegalRules, bookmark_by, copied_by, new_bookmark, number_of_change, put_by};
 
 use column_set::{Bookmark, Change, Record};
@@ -122,7 +122,7 @@ fn copied_by(
 
 // Whether the session sees a record under the bookmark.
 fn has_record(engine: &Engine, session: Session, table: TableId, bookmark: &[u8]) -> bool
-    ensures { result ≡ is_some (record_for engine.now session.0 table.0 bookmark.now) }
+    ensures { result ≡ is_some (shown_for engine.now session.0 table.0 bookmark.now) }
 {
     let reader = engine.reader(session);
     engine.tables().look_up(table, bookmark, reader).is_some()

@@ -11,6 +11,7 @@ use Rattle.versioned_tables.specs.VersionedTables.{VersionedTables, seen_tables}
 use Rattle.versioned_tables.specs.Holding.{Holds, begin_of}
 use Rattle.engine_versions.specs.EngineState.{EngineState}
 use Rattle.engine_versions.specs.HoldsState.{HoldsState}
+use Rattle.engine_versions.proofs.BuiltSums.{no_sums_held}
 use Rattle.engine_versions.proofs.Telling.{begin_told}
 
 -- the law that they rest on
@@ -22,4 +23,4 @@ ShowsView =
 pub seen-told : ShowsView → (engine : EngineState) (state : DatabaseState) (session : ℕ) → HoldsState engine state → (table : ℕ)
     → table_with_id (seen_tables (reader_in session engine.sessions) engine.store) table ≡ table_with_id (view state session) table
 seen-told shows engine state session h table =
-    shows h.base h.dropped h.kept engine.store state h.holds h.no_sums (reader_in session engine.sessions) (begin_told engine state h session) table
+    shows h.base h.dropped h.kept engine.store state h.holds (no_sums_held engine state h) (reader_in session engine.sessions) (begin_told engine state h session) table

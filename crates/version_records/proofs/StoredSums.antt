@@ -118,7 +118,7 @@ sum_fits schema column amount values rise held h =
         ap (λ (found : List (List ℕ)). nat_lt 0 (length found)) (values_seen values column id amount)
         ∙ elim (id == column) as (λ b. nat_lt 0 (length (cond b (new ∷ []) (values_of values id))) ≡ true) [ true ↦ refl | false ↦ had ]
 
-sum_stored : (number : ℕ) (schema : Schema) (bookmark : List ℕ) (column : ℕ) (amount : ℤ) → is_escrow_column schema column ≡ true → (values : RecordFields) → IsStoredWithNumbers number schema bookmark values → IsStored number schema bookmark (with_sum values column amount)
+pub sum_stored : (number : ℕ) (schema : Schema) (bookmark : List ℕ) (column : ℕ) (amount : ℤ) → is_escrow_column schema column ≡ true → (values : RecordFields) → IsStoredWithNumbers number schema bookmark values → IsStored number schema bookmark (with_sum values column amount)
 sum_stored number schema bookmark column amount escrow values h = (
   subst (λ (n : ℕ). n ≤ 1700) (sym (ap (λ (n : ℕ). 2 + n) (sum_put (λ field. size_of_values field.1) column (new ∷ []) (old ∷ []) (size_one new old (four_of new (sum_is_number old amount) ∙ sym (four_of old one.1))) values h.1.0 one.0))) h.0.0,
   sum_fits schema column amount values h.1.0 (h.1.1 column escrow) h.0.1,

@@ -81,7 +81,7 @@ are_added tables id found e test bookmark (item ∷ items) h =
     mine : PastChange → Bool
     mine x = test x && is_change_of id bookmark x.change
 
-unseen_added : (base : Records) (kept : List PastChange) (state : DatabaseState) → HasEscrowNumbers base kept state → (session : ℕ) (transaction : Option Transaction) (id : ℕ) (found : Table) → table_with_id state.tables id ≡ Some found → (bookmark : List ℕ)
+pub unseen_added : (base : Records) (kept : List PastChange) (state : DatabaseState) → HasEscrowNumbers base kept state → (session : ℕ) (transaction : Option Transaction) (id : ℕ) (found : Table) → table_with_id state.tables id ≡ Some found → (bookmark : List ℕ)
     → AreAdded (schema_of found) (unseen_kept session transaction id bookmark kept)
 unseen_added base kept state numbers session transaction id found e bookmark =
     are_added state.tables id found e (is_unseen_change session transaction) bookmark (until (hides_record session transaction id bookmark) kept)

@@ -10,14 +10,14 @@ use Rattle.record_decisions.proofs.preparing.prepare_copy.Goals as goal
 
 pub copy_at-requires : goal.copy_at-requires
 copy_at-requires c =
-    copied-at c.a_session_reads_its_view.ensures.stored c.a_session_reads_its_view.ensures.built c.args.engine.now c.args.local.now c.args.cursor.0 c.session-session.result.0 c.in-Some.found.now c.requires.beside c.records_are_formed.ensures c.in-Some.ensures c.session-session.ensures
+    copied-at c.a_session_reads_its_view.ensures.rows c.a_session_reads_its_view.ensures.built c.args.engine.now c.args.local.now c.args.cursor.0 c.session-session.result.0 c.in-Some.found.now c.requires.beside c.records_are_formed.ensures c.in-Some.ensures c.session-session.ensures
 
 pub returns-in-Some-copy_refusal-clause-answer : goal.returns-in-Some-copy_refusal-clause-answer
 returns-in-Some-copy_refusal-clause-answer c =
     let engine = c.args.engine.now in
     let side = c.args.local.now in
     let found = c.in-Some.found.now in
-    let prepares = copy-prepares c.a_session_reads_its_view.ensures.records c.a_session_reads_its_view.ensures.built engine side c.args.cursor found c.requires.shared c.in-Some.ensures in
+    let prepares = copy-prepares c.a_session_reads_its_view.ensures.records engine side c.args.cursor found c.requires.shared c.in-Some.ensures in
     rw c.refused.ensures
     (prepare-refused engine side (call.PrepareUpdate c.args.cursor prepare.InsertCopy) (copy_in engine side.session found) found (copy_of engine side.session found) None c.in-Some-copy_refusal.refusal prepares
     (sym (c.in-Some-copy_refusal.ensures ∙ ap (λ s. first_refusal (copy_in engine s found)) c.session-session.ensures)))
@@ -28,7 +28,7 @@ returns-in_ok-prepared-in-None-clause-answer c =
     let side = c.args.local.now in
     let found = c.in-Some.found.now in
     let prepared = c.in_ok-prepared-in-None.prepared in
-    let prepares = copy-prepares c.a_session_reads_its_view.ensures.records c.a_session_reads_its_view.ensures.built engine side c.args.cursor found c.requires.shared c.in-Some.ensures in
+    let prepares = copy-prepares c.a_session_reads_its_view.ensures.records engine side c.args.cursor found c.requires.shared c.in-Some.ensures in
     let none : first_refusal (copy_in engine side.session found) ≡ None = sym (c.in-None.ensures ∙ ap (λ s. first_refusal (copy_in engine s found)) c.session-session.ensures) in
     let same : update_of prepared ≡ copy_of engine side.session found = c.in_ok-prepared-in-None.ensures.0 ∙ ap (λ s. copy_of engine s found) c.session-session.ensures in
     subst (Decides engine side (call.PrepareUpdate c.args.cursor prepare.InsertCopy) side) (sym c.prepared_with.ensures)
