@@ -9,7 +9,9 @@ ghost use Rattle.engine_parts.specs.Deciding.{Decides, IsBeside, IsDecision};
 
 use engine_parts::Engine;
 use jet_base::{CursorId, OutOfMemory, Prepare};
-use record_decisions::{delete, get_lock, prepare_copy, prepare_replace, update};
+use record_decisions::{
+    delete, escrow_update, get_lock, prepare_copy, prepare_replace, update,
+};
 use session_decisions::{
     begin_session, begin_transaction, change_schema, commit_transaction, create_index, end_session,
     rollback,
@@ -69,10 +71,14 @@ pub fn decide(
         Request::Update { cursor } => update(engine, local, *cursor),
         Request::Delete { cursor } => delete(engine, local, *cursor),
         Request::GetLock { cursor } => get_lock(engine, local, *cursor),
+        Request::EscrowUpdate {
+            cursor,
+            column,
+            amount,
+        } => escrow_update(engine, local, *cursor, column, *amount),
         Request::MakeKey { .. }
         | Request::RemoveIndexRange { .. }
-        | Request::SetColumn { .. }
-        | Request::EscrowUpdate { .. } => unreachable!(),
+        | Request::SetColumn { .. } => unreachable!(),
     }
 }
 
