@@ -8,6 +8,7 @@ pub mod SameTables
 pub mod Telling
 pub mod OpenLevels
 pub mod WellFormed
+pub mod ZeroSums
 pub mod Beginning
 pub mod Room
 pub mod Replies
