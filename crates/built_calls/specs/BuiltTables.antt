@@ -12,12 +12,12 @@ use Rattle.index_derive.specs.declared.schema_calls.SchemaStep.TheVariants as st
 use Rattle.database_state.specs.SchemaChanges.{is_type_long}
 use Rattle.database_state.specs.Table.{Table}
 
--- the columns of a type with these flags: of no long type, no sum, and not kept up by the engine
-abbrev pub is_built_kind : ColType → (escrow version auto : Bool) → Bool
-is_built_kind kind escrow version auto = not (is_long_type kind) && not (escrow || (version || auto))
+-- the columns of a type with these flags: of no long type, and not numbered by the engine
+abbrev pub is_built_kind : ColType → (version auto : Bool) → Bool
+is_built_kind kind version auto = not (is_long_type kind) && not (version || auto)
 
 abbrev pub has_built_kind : Column → Bool
-has_built_kind column = is_built_kind column.kind column.escrow column.version column.auto
+has_built_kind column = is_built_kind column.kind column.version column.auto
 
 -- An escrow column is a Long with one value, and a fixed column, whose number is one of 1 to 127: no other is ever added.
 abbrev pub is_built_sum : Column → Bool
