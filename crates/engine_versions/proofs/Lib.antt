@@ -1,7 +1,6 @@
 pub mod Sessions
 pub mod InUse
 pub mod Tables
-pub mod BuiltSums
 pub mod AfterEntries
 pub mod Cleans
 pub mod SameTables

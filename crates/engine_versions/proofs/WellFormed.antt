@@ -21,16 +21,11 @@ use Rattle.lawful_answers.proofs.ColumnNumbers.{all_mono}
 use Rattle.lawful_answers.proofs.TableTests.{all_filtered, all_found}
 use Rattle.agreeing_sessions.specs.InStep.{IsInStep}
 use Rattle.built_calls.specs.BuiltTables.{is_built_column, is_built_rule, is_built_sum, is_built_table}
-use Rattle.built_calls.proofs.BuiltColumns.{its_sum, not_sum}
+use Rattle.built_calls.proofs.BuiltColumns.{its_sum}
 use Rattle.engine_versions.specs.EngineState.{EngineState}
 use Rattle.engine_versions.specs.HoldsState.{HoldsState}
 
 -- ---- schemas
-
-pub no_sums : (columns : List Column) → list_all is_built_column columns ≡ true → filter is_sum columns ≡ []
-no_sums [] h = refl
-no_sums (c ∷ columns) h =
-    ap (λ b. cond b (c ∷ filter is_sum columns) (filter is_sum columns)) (not_sum c (and_left (is_built_column c) (list_all is_built_column columns) h)) ∙ no_sums columns (and_right (is_built_column c) (list_all is_built_column columns) h)
 
 le_test : (a b : ℕ) → a ≤ b → nat_le a b ≡ true
 le_test a b h = grind (arith, nat_tests)
