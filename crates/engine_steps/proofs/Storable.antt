@@ -4,7 +4,6 @@ use Rattle.std.specs.Prelude.{◌==◌, ◌^◌, nat_le, nat_lt, bytes_eq, is_so
 use Rattle.std.specs.List.{AllByRecursion, list_all}
 use Rattle.std.proofs.lemmas.Bool.Decides.{nat_tests}
 use Rattle.jet_base.specs.ColumnType.{big_endian}
-use Rattle.jet_base.specs.TypeKinds.{is_long_type}
 use Rattle.column_set.specs.declared.changes.Change.{Change}
 use Rattle.column_set.specs.declared.changes.Change.TheVariants.{Put, Drop, Hold, Add}
 use Rattle.column_set.specs.Record.{is_record}
@@ -35,6 +34,7 @@ use Rattle.version_records.proofs.Standing.{bookmarks_seen}
 use Rattle.lawful_answers.specs.ColumnNumbers.{are_in_range, has_own_numbers, is_given_number}
 use Rattle.lawful_answers.proofs.TableTests.{all_found}
 use Rattle.built_calls.specs.BuiltTables.{is_built_column, is_built_rule, is_built_table}
+use Rattle.built_calls.proofs.BuiltColumns.{not_sum}
 use Rattle.engine_versions.specs.EngineState.{EngineState}
 use Rattle.engine_versions.specs.HoldsState.{HoldsState}
 use Rattle.engine_versions.proofs.BuiltSums.{no_sum_comes, no_sums_held}
@@ -142,12 +142,8 @@ no_escrow : (columns : List Column) → list_all is_built_column columns ≡ tru
 no_escrow [] built id = refl
 no_escrow (c ∷ columns) built id = by (c.id.0 == id) (no_escrow columns (and_right (is_built_column c) (list_all is_built_column columns) built) id)
   where
-    neither : (a b : Bool) → not (a || b) ≡ true → a ≡ false
-    neither true b e = impossible e
-    neither false b e = refl
-
     by : (b : Bool) → (elim (column_of_id columns id) [ Some column ↦ column.escrow | None ↦ false ]) ≡ false → (elim (cond b (Some c) (column_of_id columns id)) [ Some column ↦ column.escrow | None ↦ false ]) ≡ false
-    by true rest = neither c.escrow (c.version || c.auto) (and_right (not (is_long_type c.kind)) (not (c.escrow || (c.version || c.auto))) (and_left (is_built_column c) (list_all is_built_column columns) built))
+    by true rest = not_sum c (and_left (is_built_column c) (list_all is_built_column columns) built)
     by false rest = rest
 
 storable_of : (table : Table) (bookmark : List ℕ) (values : RecordFields) → IsStorableIn (schema_of table) bookmark values → IsStorable table bookmark values

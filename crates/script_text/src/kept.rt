@@ -75,10 +75,9 @@ fn is_built_call(request: &Request) -> bool
 {
     match request {
         Request::AddColumn { kind, flags, .. } => {
-            !kind.is_long() && !(flags.escrow || flags.version || flags.auto)
+            !kind.is_long() && !(flags.version || flags.auto)
         }
         Request::CreateIndex { key_most, .. } => *key_most <= 255,
-        Request::EscrowUpdate { .. } => false,
         _ => true,
     }
 }
