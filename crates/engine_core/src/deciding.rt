@@ -9,9 +9,7 @@ ghost use Rattle.engine_parts.specs.Deciding.{Decides, IsBeside, IsDecision};
 
 use engine_parts::Engine;
 use jet_base::{CursorId, OutOfMemory, Prepare};
-use record_decisions::{
-    delete, escrow_update, get_lock, prepare_copy, prepare_replace, update,
-};
+use record_decisions::{delete, escrow_update, get_lock, prepare_copy, prepare_replace, update};
 use session_decisions::{
     begin_session, begin_transaction, change_schema, commit_transaction, create_index, end_session,
     rollback,
@@ -76,9 +74,8 @@ pub fn decide(
             column,
             amount,
         } => escrow_update(engine, local, *cursor, column, *amount),
-        Request::MakeKey { .. }
-        | Request::RemoveIndexRange { .. }
-        | Request::SetColumn { .. } => unreachable!(),
+        Request::MakeKey { .. } | Request::RemoveIndexRange { .. } | Request::SetColumn { .. } =>
+            unreachable!(),
     }
 }
 
