@@ -13,3 +13,4 @@ pub mod Room
 pub mod Replies
 pub mod Preparing
 pub mod Answering
+pub mod NoneOpen

@@ -17,6 +17,7 @@ ghost use Rattle.version_cleanup.specs.LiveSessions.{has_other_transaction, is_l
 ghost use Rattle.version_history.specs.History.{EachTwo};
 ghost use Rattle.versioned_tables.specs.HeldRecords.{has_conflict, has_key_conflict, is_open_of, seen_record, span};
 ghost use Rattle.versioned_tables.specs.Holding.{begin_of};
+ghost use Rattle.versioned_tables.specs.VersionedTables.{seen_tables};
 ghost use Rattle.versioned_tables.specs.ViewedRecords.{viewed_record};
 ghost use Rattle.engine_versions.specs.EngineState.{EngineState, has_table_open};
 ghost use Rattle.engine_versions.specs.HoldsState.{HoldsState};
@@ -72,10 +73,12 @@ pub fn conflicts_are_told()
 }
 
 /// The records of the engine's tables are the newest ones. Where no session is in a transaction they are the committed ones,
-/// and the tables are the committed tables.
+/// the tables are the committed tables, and each session is shown them.
 pub fn newest_records_are_told()
     ensures newest { (engine : EngineState) (state : DatabaseState) → HoldsState engine state → (table : ℕ) (bookmark : List ℕ) → record_in engine.store.tables table bookmark ≡ record_in (newest state) table bookmark }
     ensures committed { (engine : EngineState) (state : DatabaseState) → HoldsState engine state → (session : ℕ) → (levels state session == 0) ≡ true → has_other_transaction session engine.sessions ≡ false → engine.store.tables ≡ state.tables }
+    ensures shown { (engine : EngineState) (state : DatabaseState) → HoldsState engine state → (session : ℕ) → (levels state session == 0) ≡ true → has_other_transaction session engine.sessions ≡ false
+        → seen_tables (reader_in session engine.sessions) engine.store ≡ state.tables }
 {}
 
 /// The levels of a session's open changes do not fall from the older to the newer, and each is a level of its transaction.
