@@ -1,6 +1,6 @@
 -- What decides the schema calls that go over no record.
-use Rattle.std.proofs.Common.{◌≡◌, ℕ, suc, ◌≤◌, ◌<◌, Bool, true, false, cond, ◌&&◌, ◌||◌, List, [], ◌∷◌, length, map, Option, Some, None, Result, Ok, Err, refl, sym, ap, subst, ◌∙◌, option_map, unwrap_or, arith}
-use Rattle.std.specs.Prelude.{◌==◌, nat_le, nat_lt, not, bytes_eq, is_none, is_some, IfSome}
+use Rattle.std.proofs.Common.{◌≡◌, ℕ, suc, ◌<◌, Bool, true, false, cond, ◌&&◌, ◌||◌, List, [], ◌∷◌, length, map, Option, Some, None, Result, Ok, Err, refl, sym, ap, subst, ◌∙◌, option_map, unwrap_or, arith}
+use Rattle.std.specs.Prelude.{◌==◌, nat_le, nat_lt, not, bytes_eq, is_none, is_some}
 use Rattle.std.specs.Option.{option_or}
 use Rattle.std.proofs.lemmas.Bool.Decides.{nat_tests}
 use Rattle.jet_base.specs.declared.replies.Jet.{Jet}
