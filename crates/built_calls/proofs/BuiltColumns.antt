@@ -1,4 +1,4 @@
--- Columns that are built: their values are short, and they are no sums and not kept up by the engine.
+-- Columns that are built: their values are short, and the engine keeps up none of them but the sums.
 use Rattle.std.proofs.Common.{◌≡◌, ℕ, Bool, true, false, not, ◌&&◌, ◌||◌, List, [], ◌∷◌, length, refl, arith}
 use Rattle.std.specs.Prelude.{◌==◌, nat_le, bytes_eq}
 use Rattle.std.specs.List.{list_all}
@@ -10,28 +10,35 @@ use Rattle.jet_base.specs.TypeKinds.{is_long_type}
 use Rattle.column_set.specs.declared.columns.Column.{Column}
 use Rattle.column_set.specs.RecordValues.{is_kept_column, value_fits}
 use Rattle.column_set.specs.Rows.{are_short}
-use Rattle.built_calls.specs.BuiltTables.{is_built_column}
+use Rattle.built_calls.specs.BuiltTables.{has_built_kind, is_built_column, is_built_sum}
 
 -- ---- its type and flags
 
+pub its_kind : (c : Column) → is_built_column c ≡ true → has_built_kind c ≡ true
+its_kind c h = (and_parts (has_built_kind c) (is_built_sum c) h).0
+
+pub its_sum : (c : Column) → is_built_column c ≡ true → is_built_sum c ≡ true
+its_sum c h = (and_parts (has_built_kind c) (is_built_sum c) h).1
+
 pub not_long : (c : Column) → is_built_column c ≡ true → not (is_long_type c.kind) ≡ true
-not_long c h = (and_parts (not (is_long_type c.kind)) (not (c.escrow || (c.version || c.auto))) h).0
+not_long c h = (and_parts (not (is_long_type c.kind)) (not (c.version || c.auto)) (its_kind c h)).0
 
-without_flags : (long escrow version auto : Bool) → (not long && not (escrow || (version || auto))) ≡ true → (escrow ≡ false) × ((version || auto) ≡ false) × ((escrow || version || auto) ≡ false)
-without_flags true escrow version auto h = absurd cc
-without_flags false true version auto h = absurd cc
-without_flags false false true auto h = absurd cc
-without_flags false false false true h = absurd cc
-without_flags false false false false h = (refl, refl, refl)
+pub not_numbered : (c : Column) → has_built_kind c ≡ true → (c.version || c.auto) ≡ false
+not_numbered c h = by (c.version || c.auto) (and_parts (not (is_long_type c.kind)) (not (c.version || c.auto)) h).1
+  where
+    by : (b : Bool) → not b ≡ true → b ≡ false
+    by true h = absurd cc
+    by false h = refl
 
-pub not_sum : (c : Column) → is_built_column c ≡ true → c.escrow ≡ false
-not_sum c h = (without_flags (is_long_type c.kind) c.escrow c.version c.auto h).0
-
-pub not_numbered : (c : Column) → is_built_column c ≡ true → (c.version || c.auto) ≡ false
-not_numbered c h = (without_flags (is_long_type c.kind) c.escrow c.version c.auto h).1
-
-pub not_kept : (c : Column) → is_built_column c ≡ true → is_kept_column c ≡ false
-not_kept c h = (without_flags (is_long_type c.kind) c.escrow c.version c.auto h).2
+-- so those that the engine keeps up are the sums
+pub kept_is_sum : (c : Column) → has_built_kind c ≡ true → is_kept_column c ≡ true → c.escrow ≡ true
+kept_is_sum c h kept = by c.escrow c.version c.auto (not_numbered c h) kept
+  where
+    by : (escrow version auto : Bool) → (version || auto) ≡ false → (escrow || version || auto) ≡ true → escrow ≡ true
+    by true version auto none kept = refl
+    by false true auto none kept = absurd cc
+    by false false true none kept = absurd cc
+    by false false false none kept = kept
 
 -- ---- values of types that are not long
 

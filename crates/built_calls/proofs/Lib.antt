@@ -1,1 +1,2 @@
+pub mod BuiltAmounts
 pub mod BuiltColumns

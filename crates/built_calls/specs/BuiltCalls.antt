@@ -1,16 +1,21 @@
 -- Which calls are built. This is the one place that says so.
-use Rattle.std.specs.Prelude.{Bool, true, false, ◌&&◌, Some, None}
+use Rattle.std.specs.Prelude.{Bool, true, ◌&&◌, nat_le, ℤ, pos, negsuc, Some, None}
 use Rattle.jet_catalog.specs.Decisions.{makes_named as makes_named_in_catalog}
 use Rattle.session_local.specs.declared.request.Request.{Request}
 use Rattle.session_local.specs.declared.request.Request.TheVariants as call
 use Rattle.built_calls.specs.BuiltTables.{is_built_kind, is_built_limit}
 use Rattle.built_calls.specs.SchemaRequests.{schema_call_of}
 
--- All calls but those that make a column or an index that is not built, and EscrowUpdate.
+-- a number of 32 bits, as the amount of a sum is by its type
+abbrev pub is_amount : ℤ → Bool
+is_amount (pos n) = nat_le n 2147483647
+is_amount (negsuc n) = nat_le n 2147483647
+
+-- All calls but those that make a column or an index that is not built.
 abbrev pub is_built_call : Request → Bool
-is_built_call (call.AddColumn table column kind flags) = is_built_kind kind flags.escrow flags.version flags.auto
+is_built_call (call.AddColumn table column kind flags) = is_built_kind kind flags.version flags.auto
 is_built_call (call.CreateIndex table index flags key_most segments conditions) = is_built_limit key_most
-is_built_call (call.EscrowUpdate cursor column amount) = false
+is_built_call (call.EscrowUpdate cursor column amount) = is_amount amount
 is_built_call _ = true
 
 -- whether what a call makes has a name of 1 to 64 bytes, as every name of the grammar has

@@ -9,14 +9,22 @@ use Rattle.index_derive.specs.declared.log.Entry.{Entry}
 use Rattle.index_derive.specs.declared.log.EntryKind.{EntryKind}
 use Rattle.index_derive.specs.declared.log.EntryKind.TheVariants as entry
 use Rattle.index_derive.specs.declared.schema_calls.SchemaStep.TheVariants as step
+use Rattle.database_state.specs.SchemaChanges.{is_type_long}
 use Rattle.database_state.specs.Table.{Table}
 
--- the columns of a type with these flags: of no long type, no sum, and not kept up by the engine
-abbrev pub is_built_kind : ColType → (escrow version auto : Bool) → Bool
-is_built_kind kind escrow version auto = not (is_long_type kind) && not (escrow || (version || auto))
+-- the columns of a type with these flags: of no long type, and not numbered by the engine
+abbrev pub is_built_kind : ColType → (version auto : Bool) → Bool
+is_built_kind kind version auto = not (is_long_type kind) && not (version || auto)
+
+abbrev pub has_built_kind : Column → Bool
+has_built_kind column = is_built_kind column.kind column.version column.auto
+
+-- An escrow column is a Long with one value, and a fixed column, whose number is one of 1 to 127: no other is ever added.
+abbrev pub is_built_sum : Column → Bool
+is_built_sum column = not column.escrow || (is_type_long column.kind && (not column.multi && (nat_le 1 column.id.0 && nat_le column.id.0 127)))
 
 abbrev pub is_built_column : Column → Bool
-is_built_column column = is_built_kind column.kind column.escrow column.version column.auto
+is_built_column column = has_built_kind column && is_built_sum column
 
 -- keys of so many bytes at most: of 255
 abbrev pub is_built_limit : ℕ → Bool
@@ -31,9 +39,9 @@ is_built_table table = list_all is_built_column table.columns && list_all is_bui
 abbrev pub are_built : List Table → Bool
 are_built tables = list_all is_built_table tables
 
--- whether an entry makes only what is built
+-- whether an entry makes only what is built: of an escrow column the entry is lawful only where it is a sum that is built
 abbrev pub makes_built : EntryKind → Bool
-makes_built (entry.Schema (step.AddColumn table column)) = is_built_column column
+makes_built (entry.Schema (step.AddColumn table column)) = has_built_kind column
 makes_built (entry.Schema (step.CreateIndex table rule)) = is_built_rule rule
 makes_built _ = true
 

@@ -1,10 +1,14 @@
 -- The definitions answer no built call with want of memory, and the calls that take none make no step that takes some.
+use Rattle.std.specs.Prelude.{ℤ}
 use Rattle.std.proofs.Common.{◌≡◌, ◌≢◌, ℕ, ◌-◌, ◌==◌, ◌||◌, ◌&&◌, Bool, true, false, not, nat_le, nat_lt, List, [], ◌∷◌, ◌++◌, length, take, find, slice_get, pos, Option, Some, None, is_some, is_none, refl, sym, ap, ◌∙◌, if◌then◌else◌, bytes_eq}
 use Rattle.jet_base.specs.declared.replies.Jet.TheVariants as jet
+use Rattle.jet_base.specs.declared.words.ColType.TheVariants as kind
 use Rattle.jet_base.specs.declared.words.Given.{Given}
 use Rattle.jet_base.specs.declared.words.Prepare.TheVariants as prepare
 use Rattle.jet_base.specs.ColumnType.{is_number_type, number_of}
 use Rattle.jet_base.specs.Given.{given_fits}
+use Rattle.column_set.specs.declared.changes.Change.{Change}
+use Rattle.column_set.specs.declared.changes.Change.TheVariants as change
 use Rattle.column_set.specs.declared.columns.Column.{Column}
 use Rattle.column_set.specs.RecordValues.{RecordFields, values_of, column_named, is_missing_a_value}
 use Rattle.record_edit.specs.SetColumn.{set_refusals, size_refusals, fields_after}
@@ -16,6 +20,7 @@ use Rattle.index_derive.specs.declared.schema_calls.SchemaStep.{SchemaStep}
 use Rattle.cursor_nav.specs.Navigation.{MadeKey, new_cursor, count_from}
 use Rattle.cursor_nav.specs.MakingKeys.{begun_key, segment_kind, with_segment}
 use Rattle.cursor_nav.specs.Places.{Pair, least_entry_of}
+use Rattle.database_state.specs.Changes.{escrow_bytes}
 use Rattle.database_state.specs.Puts.{put_refusals}
 use Rattle.database_state.specs.SchemaSteps.{table_step, deleted_table_step, column_step, deleted_column_step, index_step, deleted_index_step}
 use Rattle.database_state.specs.State.{levels}
@@ -29,7 +34,7 @@ use Rattle.session_local.specs.Calls.{answer, answer_begun, answer_not_begun}
 use Rattle.session_local.specs.SessionCalls.{begin_session}
 use Rattle.session_local.specs.SchemaCalls.{schema_changed}
 use Rattle.session_local.specs.CursorCalls.{whole, opened, close_table, index_chosen_by, set_current_index, current_entries, move_cursor, seek_key, set_index_range, remove_index_range, segment_made, key_made_in, make_key, index_record_count, retrieve_key, get_bookmark, gone_to, goto_bookmark}
-use Rattle.session_local.specs.RecordCalls.{record_at, bookmark_at, current, own_refusals, conflict_refusals, transaction_refusals, drop_at, hold_at, delete, get_lock, with_prepared, prepared_refusals, with_sums_at_zero, prepare_insert, prepare_copy, prepare_replace, cancel_update, on_prepared, on_column, set_column_in, set_column, value_shown, column_shown, retrieve_column, retrieve_copy, bookmark_for, replaced_by, is_primary_changed, put_of, update_with, update}
+use Rattle.session_local.specs.RecordCalls.{record_at, bookmark_at, current, own_refusals, conflict_refusals, transaction_refusals, drop_at, hold_at, delete, get_lock, with_prepared, prepared_refusals, with_sums_at_zero, prepare_insert, prepare_copy, prepare_replace, cancel_update, on_prepared, on_column, set_column_in, set_column, sum_in, escrow_update, value_shown, column_shown, retrieve_column, retrieve_copy, bookmark_for, replaced_by, is_primary_changed, put_of, update_with, update}
 use Rattle.session_local.specs.Run.{takes_no_memory}
 use Rattle.built_calls.specs.BuiltCalls.{is_built_request}
 use Rattle.engine_steps.specs.Steps.{step_may_lack_memory}
@@ -269,6 +274,20 @@ update-other asked c prepared =
     (λ reply other. other)
     refl
 
+sum-other : (asked : Asked) (c : OpenCursor) (amount : ℤ) (column : Column) → IsOther (sum_in asked c amount column)
+sum-other asked c amount column =
+    let sum : Change = change.Add (record { 0 = c.cursor.table }) (bookmark_at c) column.id amount in
+    unless-other IsOther asked
+    ((not column.escrow, jet.InvalidColumnType)
+    ∷ own_refusals asked c
+    ++ conflict_refusals asked sum
+    ++ number_refusals asked
+    ++ span_refusals asked sum)
+    (λ _. done asked.local (Number (number_of kind.Long (escrow_bytes (record_at asked c) column.id.0))) (step_of_change asked sum))
+    refl
+    (λ reply other. other)
+    refl
+
 taking : (asked : Asked) (request : Request) → is_built_request request ≡ true → takes_no_memory request ≡ false → IsOther (answer_begun asked request)
 taking asked call.BeginSession built some = begins-other asked
 taking asked call.BeginTransaction built some =
@@ -361,6 +380,13 @@ taking asked (call.GetLock cursor) built some =
     refl
     (λ reply other. other)
     refl)
+taking asked (call.EscrowUpdate cursor name amount) built some =
+    at_cursor-each IsOther asked (cursor_labelled asked.local cursor.0) (λ c. escrow_update asked c name amount) refl
+    (λ c. unless-other IsOther asked (transaction_refusals asked ++ current asked c)
+    (λ _. on_column asked (column_named c.schema.columns name) (sum_in asked c amount))
+    refl
+    (λ reply other. other)
+    (on_column-each IsOther asked (column_named c.schema.columns name) (sum_in asked c amount) refl (λ found. sum-other asked c amount found)))
 taking asked _ built some = cc
 
 -- ---- the laws

@@ -11,6 +11,10 @@ use Rattle.record_changes.specs.Records.{Records, records_of}
 use Rattle.record_changes.proofs.Tests.{and_left, and_right, impossible}
 use Rattle.version_history.specs.History.{IsHistory, without_rows}
 use Rattle.version_sums.specs.EscrowSums.{with_sums}
+use Rattle.version_keys.specs.KeySums.{SeesNoSum}
+use Rattle.version_keys.proofs.EscrowSums.{unseen_now}
+use Rattle.version_keys.proofs.IndexNumbers.{all_primary_first}
+use Rattle.version_keys.proofs.UniqueKept.{id_of}
 use Rattle.version_records.specs.EachRecord.{EachRecordHas}
 use Rattle.version_records.specs.EscrowNumbers.{HasEscrowNumbers, HoldsNumbers}
 use Rattle.version_records.specs.StoredRecords.{IsStored}
@@ -34,13 +38,14 @@ use Rattle.engine_versions.proofs.Telling.{begin_told}
 use Rattle.engine_parts.specs.Reading.{IsRowOf, entries_for, record_for, shown_for, unseen_amounts}
 use Rattle.engine_parts.proofs.RowSums.{row_of}
 
--- ---- the tables that it is shown
+-- ---- what it is shown
 
 -- the laws that it rests on
-abbrev pub ShowsTables : Type 0
-ShowsTables =
-    (engine : EngineState) (state : DatabaseState) → HoldsState engine state → (session table : ℕ)
-    → table_with_id (seen_tables (reader_in session engine.sessions) engine.store) table ≡ table_with_id (view state session) table
+abbrev pub ShowsEntries : Type 0
+ShowsEntries =
+    (base : Records) (dropped kept : List PastChange) (store : VersionedTables) (state : DatabaseState) → Holds base dropped kept store state
+    → (reader : Reader) → reader.begin ≡ begin_of (transaction_of state reader.session.0) → (table : ℕ) (schema : Schema) → AllByRecursion (λ rule. SeesNoSum rule table kept) schema.indexes → (index : ℕ)
+    → index_entries schema (rows_of (table_with_id (seen_tables reader store) table)) index ≡ index_entries schema (rows_of (table_with_id (view state reader.session.0) table)) index
 
 abbrev pub ViewsRecords : Type 0
 ViewsRecords =
@@ -118,25 +123,34 @@ stored_there c (Some t) committed same has = refl
 same_schema : (t u : Table) → Some (without_rows t) ≡ Some (without_rows u) → schema_of t ≡ schema_of u
 same_schema t u same = ap (λ (o : Option Table). schema_of (unwrap_or o t)) same
 
-entries_at : (c : OpenCursor) (reader : Reader) (held : List HeldRecord) (stored committed seen : Option Table) (index : ℕ) → option_map without_rows stored ≡ option_map without_rows committed → HasSchemaOf c committed
-    → option_map (seen_table reader held) stored ≡ seen → entries_in index (option_map (seen_table reader held) stored) ≡ index_entries c.schema (rows_of seen) index
-entries_at c reader held None None seen index same has shown = absurd has
-entries_at c reader held None (Some u) seen index same has shown = none_is_some (without_rows u) same
-entries_at c reader held (Some t) None seen index same has shown = absurd has
-entries_at c reader held (Some t) (Some u) seen index same has shown =
-    ap (λ (s : Schema). index_entries s (seen_table reader held t).rows index) (same_schema t u same ∙ sym has.0)
-    ∙ ap (λ (o : Option Table). index_entries c.schema (rows_of o) index) shown
+entries_at : (c : OpenCursor) (reader : Reader) (held : List HeldRecord) (stored committed : Option Table) (index : ℕ) → option_map without_rows stored ≡ option_map without_rows committed → HasSchemaOf c committed
+    → entries_in index (option_map (seen_table reader held) stored) ≡ index_entries c.schema (rows_of (option_map (seen_table reader held) stored)) index
+entries_at c reader held None None index same has = absurd has
+entries_at c reader held None (Some u) index same has = none_is_some (without_rows u) same
+entries_at c reader held (Some t) None index same has = absurd has
+entries_at c reader held (Some t) (Some u) index same has = ap (λ (s : Schema). index_entries s (seen_table reader held t).rows index) (same_schema t u same ∙ sym has.0)
 
-pub entries_read : ShowsTables → (engine : EngineState) (state : DatabaseState) (session : ℕ) (local : LocalState) (label : ℕ) (c : OpenCursor) → HoldsState engine state → IsInStep state session local → cursor_labelled local label ≡ Some c
+-- no index of the cursor's schema sees a sum
+unseen_at : (tables : List Table) (kept : List PastChange) (c : OpenCursor) (committed : Option Table) → table_with_id tables c.cursor.table ≡ committed → HasSchemaOf c committed → IfSome committed (λ t. AllByRecursion (λ rule. SeesNoSum rule t.id kept) t.indexes)
+    → AllByRecursion (λ rule. SeesNoSum rule c.cursor.table kept) c.schema.indexes
+unseen_at tables kept c None is has unseen = absurd has
+unseen_at tables kept c (Some u) is has unseen =
+    subst (λ (s : Schema). AllByRecursion (λ rule. SeesNoSum rule c.cursor.table kept) s.indexes) (sym has.0)
+    (all_primary_first (λ rule. SeesNoSum rule c.cursor.table kept) u.indexes
+    (subst (λ (n : ℕ). AllByRecursion (λ rule. SeesNoSum rule n kept) u.indexes) (id_of tables c.cursor.table u is) unseen))
+
+pub entries_read : ShowsEntries → (engine : EngineState) (state : DatabaseState) (session : ℕ) (local : LocalState) (label : ℕ) (c : OpenCursor) → HoldsState engine state → IsInStep state session local → cursor_labelled local label ≡ Some c
     → (index : ℕ) → entries_for engine session c.cursor.table index ≡ index_entries c.schema (rows_of (table_with_id (view state session) c.cursor.table)) index
 entries_read shows engine state session local label c h step found index =
     let reader = reader_in session engine.sessions in
     let id = c.cursor.table in
     let seen = seen_at_id reader engine.store.held engine.store.tables id in
+    let has = schema_at state session local label c step found in
     ap (entries_in index) seen
-    ∙ entries_at c reader engine.store.held (table_with_id engine.store.tables id) (table_with_id state.tables id) (table_with_id (view state session) id) index
-    (same_definition engine.store.tables state.tables id h.holds.defined) (schema_at state session local label c step found)
-    (sym seen ∙ shows engine state h session id)
+    ∙ entries_at c reader engine.store.held (table_with_id engine.store.tables id) (table_with_id state.tables id) index (same_definition engine.store.tables state.tables id h.holds.defined) has
+    ∙ ap (λ (o : Option Table). index_entries c.schema (rows_of o) index) (sym seen)
+    ∙ shows h.base h.dropped h.kept engine.store state h.holds reader (begin_told engine state h session) id c.schema
+    (unseen_at state.tables h.kept c (table_with_id state.tables id) refl has (unseen_now h.base h.kept state h.reached.sums id)) index
 
 pub record_read : ViewsRecords → (engine : EngineState) (state : DatabaseState) (session : ℕ) (local : LocalState) (label : ℕ) (c : OpenCursor) → HoldsState engine state → IsInStep state session local → cursor_labelled local label ≡ Some c
     → (bookmark : List ℕ) → record_for engine session c.cursor.table bookmark ≡ row_at (rows_of (table_with_id (view state session) c.cursor.table)) bookmark

@@ -13,10 +13,11 @@ ghost use Rattle.engine_versions.specs.EngineState.{EngineState};
 ghost use Rattle.engine_versions.specs.HoldsState.{HoldsState, asked_of};
 ghost use Rattle.engine_parts.specs.Reading.{IsRowOf, entries_for, record_for, shown_for, unseen_amounts};
 
-use engine_versions::{a_session_sees_its_view, a_session_views_its_very_record};
+use engine_versions::a_session_views_its_very_record;
 use version_records::{every_record_seen_holds_numbers, every_record_seen_is_stored};
 use versioned_tables::{
     a_reader_finds_the_records_that_it_is_shown, a_reader_is_shown_records_with_unseen_sums,
+    a_reader_is_shown_the_entries_of_its_view,
 };
 
 /// The entries of each index of a cursor's table, and its records, are for the session those of its view. Each record fits its
@@ -34,7 +35,7 @@ pub fn a_session_reads_its_view()
     ensures built { (engine : EngineState) (state : DatabaseState) (session : ℕ) (local : LocalState) (label : ℕ) (c : OpenCursor) → HoldsState engine state → IsInStep state session local → cursor_labelled local label ≡ Some c
         → IsTrue (list_all is_built_column c.schema.columns) }
 {
-    a_session_sees_its_view();
+    a_reader_is_shown_the_entries_of_its_view();
     a_session_views_its_very_record();
     a_reader_is_shown_records_with_unseen_sums();
     a_reader_finds_the_records_that_it_is_shown();

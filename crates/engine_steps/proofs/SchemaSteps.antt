@@ -6,7 +6,6 @@ use Rattle.std.proofs.lemmas.Bool.Decides.{nat_tests}
 use Rattle.jet_base.specs.declared.ids.ColumnId.{ColumnId}
 use Rattle.jet_base.specs.declared.ids.TableId.{TableId}
 use Rattle.jet_base.specs.declared.replies.Jet.TheVariants as jet
-use Rattle.column_set.specs.RecordValues.{is_kept_column}
 use Rattle.column_set.specs.declared.columns.Column.{Column}
 use Rattle.index_derive.specs.declared.log.EntryKind.TheVariants as entry
 use Rattle.index_derive.specs.declared.rules.IndexRule.{IndexRule}
@@ -22,8 +21,8 @@ use Rattle.version_keys.proofs.FreeKeys.{in_any_order}
 use Rattle.version_keys.proofs.IndexNumbers.{all_primary_first, none_of}
 use Rattle.version_keys.proofs.SchemaKeys.{IsNewIndex, at_found, new_index, unrefused}
 use Rattle.version_records.proofs.PrimaryKeys.{found_passes, of_found}
-use Rattle.built_calls.specs.BuiltTables.{makes_built}
-use Rattle.built_calls.proofs.BuiltColumns.{not_kept}
+use Rattle.built_calls.specs.BuiltTables.{has_built_kind, makes_built}
+use Rattle.built_calls.proofs.BuiltColumns.{kept_is_sum}
 use Rattle.engine_parts.specs.Parts.{tables_of}
 use Rattle.engine_versions.specs.EngineState.{EngineState}
 use Rattle.engine_versions.proofs.Telling.{tables_settled}
@@ -78,9 +77,10 @@ table_there state session made free other =
 above : (a b : ℕ) → (a == (b + 1)) ≡ true → b < a
 above a b e = grind (arith, nat_tests)
 
-any_takes : (o : Option Table) (column : Column) → is_kept_column column ≡ false → IfSome o (TakesColumn column)
-any_takes None column plain = tt
-any_takes (Some t) column plain = λ kept. impossible (sym plain ∙ kept)
+-- an escrow column comes to a table without records
+takes_column : (o : Option Table) (column : Column) → has_built_kind column ≡ true → ((t : Table) → o ≡ Some t → (column.escrow && nat_lt 0 (length t.rows)) ≡ false) → IfSome o (TakesColumn column)
+takes_column None column built empty = tt
+takes_column (Some t) column built empty = λ kept. no_records t.rows (and_second column.escrow (nat_lt 0 (length t.rows)) (kept_is_sum column built kept) (empty t refl))
 
 -- no index has the column, in whichever order they are asked
 column_unused : (column : ColumnId) (rules : List IndexRule) → column_is_used column (primary_first rules) ≡ false → column_is_used column rules ≡ false
@@ -132,7 +132,8 @@ committed_store state held = record { greatest_table = state.greatest_table; sto
 can_make : (state : DatabaseState) (session : ℕ) (made : SchemaStep) → IsLawfulStep state session made → makes_built (entry.Schema made) ≡ true → (held : List HeldRecord) → CanMake made (committed_store state held)
 can_make state session (step.CreateTable table name) is built held = above table.0 state.greatest_table (and_left (table.0 == (state.greatest_table + 1)) (is_name name) is.numbers)
 can_make state session (step.DeleteTable table) is built held = table_there state session (step.DeleteTable table) is.free refl
-can_make state session (step.AddColumn table column) is built held = any_takes (table_with_id state.tables table.0) column (not_kept column built)
+can_make state session (step.AddColumn table column) is built held =
+    takes_column (table_with_id state.tables table.0) column built (λ t found. (at_found state session (step.AddColumn table column) t is.free found).1.1.1.0)
 can_make state session (step.DeleteColumn table column) is built held =
     some_or (table_with_id state.tables table.0) (λ t. column_is_used column t.indexes ≡ false) (table_there state session (step.DeleteColumn table column) is.free refl)
     (λ t found. column_unused column t.indexes (at_found state session (step.DeleteColumn table column) t is.free found).1.0)

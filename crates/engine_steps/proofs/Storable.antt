@@ -1,20 +1,20 @@
 -- A lawful change can be made by the tables with versions.
-use Rattle.std.proofs.Common.{◌≡◌, ℕ, ◌+◌, ◌<◌, ◌≤◌, Bool, true, false, not, ◌&&◌, ◌||◌, cond, List, [], ◌∷◌, length, Option, Some, None, refl, sym, ap, subst, ◌∙◌, arith}
-use Rattle.std.specs.Prelude.{◌==◌, ◌^◌, nat_le, nat_lt, bytes_eq, is_some, option_map, unwrap_or, IfSome, IsSomeAnd, IsTrue, MatchOption}
+use Rattle.std.proofs.Common.{◌≡◌, ℕ, ◌+◌, ◌<◌, ◌≤◌, Bool, true, false, not, ◌&&◌, ◌||◌, List, length, Option, Some, None, refl, sym, ap, subst, ◌∙◌, arith}
+use Rattle.std.specs.Prelude.{◌==◌, ◌^◌, nat_le, nat_lt, bytes_eq, is_some, option_map, unwrap_or, T, IfSome, IsSomeAnd, IsTrue, MatchOption}
+use Rattle.std.specs.Ordering.{nat_cmp}
+use Rattle.std.specs.FinMap.Entries.{is_sorted}
 use Rattle.std.specs.List.{AllByRecursion, list_all}
 use Rattle.std.proofs.lemmas.Bool.Decides.{nat_tests}
 use Rattle.jet_base.specs.ColumnType.{big_endian}
-use Rattle.jet_base.specs.TypeKinds.{is_long_type}
 use Rattle.column_set.specs.declared.changes.Change.{Change}
 use Rattle.column_set.specs.declared.changes.Change.TheVariants.{Put, Drop, Hold, Add}
 use Rattle.column_set.specs.Record.{is_record}
-use Rattle.column_set.specs.declared.columns.Column.{Column}
-use Rattle.column_set.specs.RecordValues.{RecordFields, column_of_id, has_value, is_kept_column, is_missing_a_value, record_fits, record_size}
+use Rattle.column_set.specs.RecordValues.{RecordFields, has_value, is_kept_column, is_missing_a_value, record_fits, record_size}
 use Rattle.column_set.specs.Rows.{all_here, is_all_here, is_row, largest_row}
 use Rattle.index_derive.specs.declared.log.EntryKind.TheVariants as entry
 use Rattle.index_derive.specs.declared.rules.IndexRule.{IndexRule}
 use Rattle.index_derive.specs.declared.rules.Schema.{Schema}
-use Rattle.index_derive.specs.Entries.{primary_key}
+use Rattle.index_derive.specs.Entries.{is_escrow_column, primary_key}
 use Rattle.database_state.specs.Table.{Rows, Table, primary_rule, record_in, row_at, rows_of, schema_of, table_with_id}
 use Rattle.database_state.specs.State.{DatabaseState, Transaction, levels, levels_of, transaction_of}
 use Rattle.database_state.specs.Conflicts.{has_write_conflict}
@@ -27,9 +27,11 @@ use Rattle.version_history.proofs.Lists.{all_weaker}
 use Rattle.version_history.proofs.Unhindered.{finds_newest}
 use Rattle.version_keys.specs.UniqueKeys.{HasUniqueIndexes, IsSoundIndex, IsUniqueIndex}
 use Rattle.version_keys.proofs.IndexNumbers.{all_primary_first}
-use Rattle.version_keys.proofs.KeySums.{all_see_none}
+use Rattle.version_keys.proofs.EscrowSums.{unseen_now}
 use Rattle.version_records.specs.Bookmarks.{is_bookmark}
+use Rattle.version_records.specs.EscrowNumbers.{HoldsNumbers as HoldsNumbersUnder}
 use Rattle.version_records.proofs.EntryNumbers.{entry_number-own}
+use Rattle.version_records.proofs.EscrowRecords.{numbers_seen, put_numbers}
 use Rattle.version_records.proofs.PrimaryKeys.{found_passes, of_found}
 use Rattle.version_records.proofs.Standing.{bookmarks_seen}
 use Rattle.lawful_answers.specs.ColumnNumbers.{are_in_range, has_own_numbers, is_given_number}
@@ -37,7 +39,6 @@ use Rattle.lawful_answers.proofs.TableTests.{all_found}
 use Rattle.built_calls.specs.BuiltTables.{is_built_column, is_built_rule, is_built_table}
 use Rattle.engine_versions.specs.EngineState.{EngineState}
 use Rattle.engine_versions.specs.HoldsState.{HoldsState}
-use Rattle.engine_versions.proofs.BuiltSums.{no_sum_comes, no_sums_held}
 use Rattle.table_versions.specs.PutRecords.{IsStorable}
 use Rattle.table_versions.specs.VersionsKept.{HoldsNumbers}
 use Rattle.engine_steps.specs.Changing.{CanChange, IsFormed}
@@ -118,7 +119,7 @@ seen_eight engine state h session id table found bookmark none there = by (recor
     stands : (bookmark : List ℕ) → IfSome (record_in (view state session) id bookmark) (λ values. is_bookmark state.number (schema_of table) (primary_rule (schema_of table)) bookmark values ≡ true)
     stands =
         subst (λ (o : Option Table). IfSome o (λ t. (bookmark : List ℕ) → IfSome (records_of (view state session) id bookmark) (λ values. is_bookmark state.number (schema_of t) (primary_rule (schema_of t)) bookmark values ≡ true))) found
-        (bookmarks_seen h.base h.dropped h.kept state h.reached.history (all_see_none h.kept state (no_sums_held engine state h)) h.reached.bookmarks session id)
+        (bookmarks_seen h.base h.dropped h.kept state h.reached.history (unseen_now h.base h.kept state h.reached.sums) h.reached.bookmarks session id)
 
     by : (o : Option RecordFields) → is_some o ≡ true → IfSome o (λ values. is_bookmark state.number (schema_of table) (primary_rule (schema_of table)) bookmark values ≡ true) → length bookmark ≡ 8
     by None e s = impossible e
@@ -137,19 +138,6 @@ pub record IsStorableIn (schema : Schema) (bookmark : List ℕ) (values : Record
   pub formed : IsTrue (is_row (all_here values))
   pub small : record_size values ≤ largest_row
 
--- no column that is built is an escrow column
-no_escrow : (columns : List Column) → list_all is_built_column columns ≡ true → (id : ℕ) → (elim (column_of_id columns id) [ Some column ↦ column.escrow | None ↦ false ]) ≡ false
-no_escrow [] built id = refl
-no_escrow (c ∷ columns) built id = by (c.id.0 == id) (no_escrow columns (and_right (is_built_column c) (list_all is_built_column columns) built) id)
-  where
-    neither : (a b : Bool) → not (a || b) ≡ true → a ≡ false
-    neither true b e = impossible e
-    neither false b e = refl
-
-    by : (b : Bool) → (elim (column_of_id columns id) [ Some column ↦ column.escrow | None ↦ false ]) ≡ false → (elim (cond b (Some c) (column_of_id columns id)) [ Some column ↦ column.escrow | None ↦ false ]) ≡ false
-    by true rest = neither c.escrow (c.version || c.auto) (and_right (not (is_long_type c.kind)) (not (c.escrow || (c.version || c.auto))) (and_left (is_built_column c) (list_all is_built_column columns) built))
-    by false rest = rest
-
 storable_of : (table : Table) (bookmark : List ℕ) (values : RecordFields) → IsStorableIn (schema_of table) bookmark values → IsStorable table bookmark values
 storable_of table bookmark values s = record {
   columns = s.columns;
@@ -162,6 +150,16 @@ storable_of table bookmark values s = record {
   formed = s.formed;
   small = s.small;
 }
+
+-- it holds numbers in the escrow columns, as the record in whose place it comes does
+put_holds : (engine : EngineState) (state : DatabaseState) → HoldsState engine state → (session id : ℕ) (table : Table) (bookmark : List ℕ) (copied : Option (List ℕ)) (values : RecordFields) → table_with_id state.tables table.id ≡ Some table
+    → IsTrue (is_record values) → is_lawful_put state session table (rows_of (table_with_id (view state session) table.id)) bookmark copied values ≡ true → HoldsNumbers (schema_of table) values
+put_holds engine state h session id table bookmark copied values found is lawful =
+    let rise : T (is_sorted nat_cmp values) = subst (λ (b : Bool). T b) (sym (and_left (is_sorted nat_cmp values) _ is)) tt in
+    let held : (bookmark : List ℕ) → IfSome (records_of (view state session) table.id bookmark) (HoldsNumbersUnder state.number (schema_of table) bookmark) =
+    subst (λ (o : Option Table). IfSome o (λ t. (bookmark : List ℕ) → IfSome (records_of (view state session) table.id bookmark) (HoldsNumbersUnder state.number (schema_of t) bookmark))) found
+    (numbers_seen h.base h.dropped h.kept state h.reached.history h.reached.numbers session table.id) in
+    (put_numbers state session (Put (record { 0 = id }) bookmark copied values) rise h.reached.numbers.columns table (rows_of (table_with_id (view state session) table.id)) found held lawful).1
 
 at_most : (n m : ℕ) → nat_le n m ≡ true → n ≤ m
 at_most n m h = grind (arith, nat_tests)
@@ -187,7 +185,7 @@ put_storable row engine state h session id table bookmark copied values found is
     let each = each_field table.greatest table.columns values (columns_of engine state h id table found) (and_left (list_all (stands_in table.columns) values) (list_all (λ column. not (is_kept_column column) || has_value values column.id.0) table.columns) fit) in
     record {
       columns = fit;
-      numbers = λ column escrow. impossible (sym (no_escrow table.columns (columns_of engine state h id table found).built column) ∙ escrow);
+      numbers = put_holds engine state h session id table bookmark copied values (ap (table_with_id state.tables) same ∙ found) is lawful;
       indexable = and_right (fits && whole && small) indexed with_index;
       own =
           bookmark_own (state.number + 1) (schema_of table) rows bookmark values (primary_rule (schema_of table)) (legal_primary engine state h id table found)
@@ -290,10 +288,10 @@ change_can laws engine state h session (Drop table bookmark) lawful is =
 change_can laws engine state h session (Hold table bookmark) lawful is =
     let may = allowed state session table.0 (Hold table bookmark) (and_right _ _ lawful) in
     some_found (table_with_id engine.store.tables table.0) (table_with_id state.tables table.0) (laws.schema engine state h table.0) (ap is_some may.found)
-change_can laws engine state h session (Add table bookmark column amount) lawful is = absurd (never (no_sum_comes engine state h session (Add table bookmark column amount) lawful))
-  where
-    never : true ≡ false → ⊥
-    never e = impossible (sym e)
+change_can laws engine state h session (Add table bookmark column amount) lawful is =
+    let may = allowed state session table.0 (Add table bookmark column amount) (and_right _ _ lawful) in
+    let escrow : is_escrow_column (schema_of may.table) column.0 ≡ true = and_right (is_some (record_in (view state session) may.table.id bookmark)) (is_escrow_column (schema_of may.table) column.0) may.is in
+    schema_found (table_with_id engine.store.tables table.0) (Some may.table) (λ schema. is_escrow_column schema column.0 ≡ true) (laws.schema engine state h table.0 ∙ ap (option_map schema_of) may.found) escrow
 
 pub lawful_can : ChangeLaws → (engine : EngineState) (session : ℕ) (change : Change) → MayCome engine (entry_by session (entry.Change change)) → IsFormed change → CanChange engine.store change
 lawful_can laws engine session change may is = change_can laws engine may.state may.holds session change (lawful_by_kind may.state session (entry.Change change) may.lawful) is

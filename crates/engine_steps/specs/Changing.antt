@@ -3,16 +3,18 @@ use Rattle.std.specs.Prelude.{◌≡◌, true, is_some, IsSomeAnd, IsTrue}
 use Rattle.column_set.specs.Record.{is_record}
 use Rattle.column_set.specs.declared.changes.Change.{Change}
 use Rattle.column_set.specs.declared.changes.Change.TheVariants.{Put, Drop, Hold, Add}
-use Rattle.database_state.specs.Table.{record_in, table_with_id}
+use Rattle.database_state.specs.Table.{record_in, schema_of, table_with_id}
+use Rattle.index_derive.specs.Entries.{is_escrow_column}
 use Rattle.versioned_tables.specs.VersionedTables.{VersionedTables}
 use Rattle.table_versions.specs.PutRecords.{IsStorable}
 
--- A record that is put can be stored in its table, one that is dropped is there, and a lock is in a table. Sums are not built.
+-- A record that is put can be stored in its table, one that is dropped is there, a lock is in a table, and a sum is one of an
+-- escrow column of a table.
 abbrev pub CanChange : VersionedTables → Change → Type 0
 CanChange store (Put table bookmark copied values) = IsSomeAnd (table_with_id store.tables table.0) (λ t. IsStorable t bookmark values)
 CanChange store (Drop table bookmark) = is_some (record_in store.tables table.0 bookmark) ≡ true
 CanChange store (Hold table bookmark) = is_some (table_with_id store.tables table.0) ≡ true
-CanChange store (Add table bookmark column amount) = ⊥
+CanChange store (Add table bookmark column amount) = IsSomeAnd (table_with_id store.tables table.0) (λ t. is_escrow_column (schema_of t) column.0 ≡ true)
 
 -- the record of a put has its columns in order, each with a value
 abbrev pub IsFormed : Change → Type 0

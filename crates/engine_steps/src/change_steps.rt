@@ -70,7 +70,7 @@ fn make_change(tables: &mut TableVersions, by: By, made: &Change) -> Result<(), 
         Change::Put { .. } => tables.put(by, made),
         Change::Drop { .. } => tables.drop_record(by, made),
         Change::Hold { .. } => tables.hold(by, made),
-        Change::Add { .. } => unreachable!(),
+        Change::Add { .. } => tables.add(by, made),
     };
     match answer {
         Ok(()) => Ok(()),

@@ -31,7 +31,7 @@ use Rattle.engine_versions.specs.EngineState.{EngineState}
 use Rattle.engine_versions.specs.EngineSteps.{engine_after, engine_after_all, greatest_after, maker, store_after}
 use Rattle.engine_versions.specs.HoldsState.{HoldsState}
 use Rattle.engine_versions.proofs.Sessions.{levels_alike}
-use Rattle.engine_versions.proofs.Tables.{built_stay}
+use Rattle.engine_versions.proofs.Tables.{built_kept}
 
 abbrev pub entry_by : ℕ → EntryKind → Entry
 entry_by session kind = record { session = record { 0 = session }; kind = kind }
@@ -137,7 +137,7 @@ entry_holds one alike engine state made h e built type =
       greatest = greatest_stays state session made.kind ∙ ap (λ (n : ℕ). greatest_after n made.kind) h.greatest;
       sessions = alike state made ∙ (λ i. sessions_after (h.number i + 1) session made.kind (h.sessions i));
       labels = labels_rise state made h.labels e;
-      built = built_stay state session made.kind reached.order.ids built h.built;
+      built = built_kept state made reached.order.ids e built h.built;
     }
 
 pub entries_hold : HasOneEntry → ChangesSessionsAlike → (engine : EngineState) (state : DatabaseState) (entries : List Entry) → HoldsState engine state → AreLawful state entries → AllMakeBuilt entries → AreOfTheirTypes entries → HoldsState (engine_after_all engine entries) (state_after_all state entries)

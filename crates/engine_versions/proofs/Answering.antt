@@ -60,7 +60,7 @@ answer_lawful one rise engine state h session local request step built = elim (t
     stepping (call.CreateTable table) b e = lawful_schema.table_made (asked_of engine state session local) table step.agrees (and_left (is_name table) true b)
     stepping (call.DeleteTable table) b e = lawful_schema.table_deleted (asked_of engine state session local) table step.agrees
     stepping (call.AddColumn table column kind flags) b e =
-        lawful_schema.column_made (asked_of engine state session local) table column kind flags step.agrees h.reached.order (and_left (is_name column) (is_built_kind kind flags.escrow flags.version flags.auto) b)
+        lawful_schema.column_made (asked_of engine state session local) table column kind flags step.agrees h.reached.order (and_left (is_name column) (is_built_kind kind flags.version flags.auto) b)
     stepping (call.DeleteColumn table column) b e = lawful_schema.column_deleted (asked_of engine state session local) table column step.agrees
     stepping (call.CreateIndex table index flags key_most segments conditions) b e =
         lawful_schema.index_made (asked_of engine state session local) table index flags key_most segments conditions step.agrees h.reached.order (and_left (is_name index) (is_built_limit key_most) b)

@@ -1,15 +1,16 @@
 pub mod Sessions
 pub mod InUse
 pub mod Tables
-pub mod BuiltSums
 pub mod AfterEntries
 pub mod Cleans
 pub mod SameTables
 pub mod Telling
 pub mod OpenLevels
 pub mod WellFormed
+pub mod ZeroSums
 pub mod Beginning
 pub mod Room
 pub mod Replies
 pub mod Preparing
 pub mod Answering
+pub mod NoneOpen

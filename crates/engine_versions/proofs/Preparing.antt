@@ -1,27 +1,29 @@
 -- Updates that a session prepares by itself, or copies, keep it in step.
-use Rattle.std.proofs.Common.{◌≡◌, ℕ, ◌≤◌, Bool, true, false, not, ◌||◌, cond, List, [], ◌∷◌, ◌++◌, map, fold, Option, Some, None, refl, sym, ap, subst, ◌∙◌, arith}
+use Rattle.std.proofs.Common.{◌≡◌, ℕ, ◌≤◌, Bool, true, false, not, ◌&&◌, ◌||◌, cond, List, [], ◌∷◌, ◌++◌, map, Option, Some, None, refl, sym, ap, subst, ◌∙◌, arith}
 use Rattle.std.specs.Prelude.{◌==◌, bytes_eq, find, is_none, nat_le, unwrap_or, IfSome}
-use Rattle.std.specs.List.{list_all}
+use Rattle.std.specs.List.{AllByRecursion, list_all}
 use Rattle.std.proofs.lemmas.Bool.Decides.{nat_tests}
 use Rattle.jet_base.specs.declared.ids.CursorId.{CursorId}
 use Rattle.jet_base.specs.declared.replies.Jet.{Jet}
 use Rattle.jet_base.specs.declared.words.Given.{Given}
 use Rattle.jet_base.specs.declared.words.Prepare.TheVariants as prepare
 use Rattle.column_set.specs.declared.columns.Column.{Column}
-use Rattle.column_set.specs.RecordValues.{RecordFields, column_named, has_value, is_kept_column, record_fits, record_size, values_of, with_values}
+use Rattle.column_set.specs.RecordValues.{RecordFields, column_named, has_value, is_kept_column, record_fits, record_size, values_of}
 use Rattle.record_edit.specs.SetColumn.{fields_after, set_refusals, size_refusals, stored_value, values_after}
 use Rattle.index_derive.specs.declared.rules.Schema.{Schema}
-use Rattle.database_state.specs.Table.{Table, row_at, schema_of}
+use Rattle.database_state.specs.Table.{Table, row_at, schema_of, table_with_id}
 use Rattle.database_state.specs.Lawful.{keeps_escrow}
-use Rattle.database_state.specs.Changes.{escrow_bytes}
-use Rattle.database_state.specs.Refusals.{first_refusal}
+use Rattle.database_state.specs.Refusals.{Refusals, first_refusal}
 use Rattle.database_state.specs.State.{DatabaseState}
 use Rattle.database_state.specs.View.{view}
 use Rattle.record_changes.specs.Records.{records_of}
 use Rattle.record_changes.proofs.Tests.{and_left, and_right, and_both, impossible, self_equal}
 use Rattle.version_sums.specs.EscrowNumbers.{ColumnsRise}
 use Rattle.version_records.specs.StoredRecords.{IsStored}
-use Rattle.version_records.proofs.StoredSums.{stored_seen_with_sums}
+use Rattle.version_records.specs.EscrowNumbers.{HoldsNumbers}
+use Rattle.version_records.proofs.EscrowRecords.{numbers_seen}
+use Rattle.version_records.proofs.StoredSums.{IsStoredWithNumbers, stored_seen_with_sums}
+use Rattle.version_keys.proofs.SchemaKeys.{unrefused}
 use Rattle.version_records.proofs.PrimaryKeys.{of_found}
 use Rattle.session_local.specs.declared.request.Request.{Request}
 use Rattle.session_local.specs.declared.request.Request.TheVariants as call
@@ -31,7 +33,9 @@ use Rattle.session_local.specs.LocalCalls.{is_answered_begun, is_answered_locall
 use Rattle.session_local.specs.Local.{LocalState, OpenCursor, PreparedUpdate, cursor_labelled, inserting, with_cursor}
 use Rattle.session_local.specs.Outcome.{Asked, Outcome, at_cursor, on_cursor, rows_seen, unless_refused}
 use Rattle.session_local.specs.RecordCalls.{bookmark_at, current, on_column, on_prepared, prepare_copy, prepare_insert, prepared_refusals, record_at, set_column, set_column_in, with_sums_at_zero}
-use Rattle.session_local.specs.WellFormed.{IsWellFormed, is_well_formed_cursor, is_well_formed_record, is_well_formed_schema, stands_in}
+use Rattle.session_local.specs.SessionSide.{are_distinct}
+use Rattle.session_local.specs.WellFormed.{IsWellFormed, is_well_formed_cursor, is_well_formed_record, is_well_formed_schema, number_of_column, stands_in}
+use Rattle.lawful_answers.specs.ColumnNumbers.{are_in_range, has_own_numbers, is_given_number}
 use Rattle.lawful_answers.proofs.ChangeSteps.{IsAtTable, at_its_table}
 use Rattle.lawful_answers.proofs.ColumnNumbers.{all_mono}
 use Rattle.lawful_answers.specs.EntryTypes.{HasRisingColumns}
@@ -42,11 +46,12 @@ use Rattle.agreeing_sessions.proofs.Answering.{at_found, past, when_begun}
 use Rattle.agreeing_sessions.proofs.OpenCursors.{prepared_in_step}
 use Rattle.agreeing_sessions.proofs.Replacing.{seen_rises}
 use Rattle.agreeing_sessions.proofs.RisingColumns.{values_rise, zeros_rise}
-use Rattle.built_calls.specs.BuiltTables.{is_built_column, is_built_rule, is_built_table}
-use Rattle.built_calls.proofs.BuiltColumns.{not_kept, not_sum}
+use Rattle.built_calls.specs.BuiltTables.{is_built_column, is_built_rule, is_built_sum, is_built_table}
+use Rattle.built_calls.proofs.BuiltColumns.{its_sum}
 use Rattle.engine_versions.specs.EngineState.{EngineState}
 use Rattle.engine_versions.specs.HoldsState.{HoldsState, asked_of}
-use Rattle.engine_versions.proofs.WellFormed.{no_sums, session_formed}
+use Rattle.engine_versions.proofs.WellFormed.{session_formed}
+use Rattle.engine_versions.proofs.ZeroSums.{all_kept, apart_from_sums, set_keeps_sums, set_leaves_sums, sums_kept, zeros_kept, zeros_stored, zeros_there}
 
 -- ---- columns that are built
 
@@ -59,23 +64,24 @@ columns_built engine state session local h c at =
     ∙ and_left (list_all is_built_column at.table.columns) (list_all is_built_rule at.table.indexes)
     (subst (λ (o : Option Table). IfSome o (λ t. is_built_table t ≡ true)) at.found (all_found is_built_table state.tables h.built c.cursor.table))
 
-plain_kept : (values : RecordFields) (c : Column) → is_built_column c ≡ true → (not (is_kept_column c) || has_value values c.id.0) ≡ true
-plain_kept values c h = ap (λ kept. not kept || has_value values c.id.0) (not_kept c h)
-
-plain_sums : (seen : Option RecordFields) (values : RecordFields) (columns : List Column) → AreBuilt columns → keeps_escrow columns seen values ≡ true
-plain_sums seen values columns built = all_mono is_built_column (λ c. not c.escrow || bytes_eq (escrow_bytes values c.id.0) (escrow_bytes (unwrap_or seen []) c.id.0)) (λ c h. ap (λ sum. not sum || bytes_eq (escrow_bytes values c.id.0) (escrow_bytes (unwrap_or seen []) c.id.0)) (not_sum c h)) columns built
+columns_distinct : (engine : EngineState) (state : DatabaseState) (session : ℕ) (local : LocalState) → HoldsState engine state → (c : OpenCursor) → IsAtTable (asked_of engine state session local) c → are_distinct (map number_of_column c.schema.columns) ≡ true
+columns_distinct engine state session local h c at =
+    ap (λ (schema : Schema). are_distinct (map number_of_column schema.columns)) at.schema
+    ∙ and_right (are_in_range at.table.greatest && list_all (is_given_number at.table.greatest) at.table.columns) (are_distinct (map number_of_column at.table.columns))
+    (subst (λ (o : Option Table). IfSome o (λ t. has_own_numbers t ≡ true)) at.found (all_found has_own_numbers state.tables h.reached.columns c.cursor.table))
 
 le_of : (a b : ℕ) → nat_le a b ≡ true → a ≤ b
 le_of a b h = grind (arith, nat_tests)
 
--- a well-formed record may be stored where no column is kept up by the engine
-storable_formed : (state : DatabaseState) (session : ℕ) (c : OpenCursor) (p : PreparedUpdate) → AreBuilt c.schema.columns → is_well_formed_record c.schema.columns p.values ≡ true → MayReplace state session c p.for → IsStorable state session c (Some p)
-storable_formed state session c p built formed may = (
+-- a well-formed record may be stored where it has every sum, as it may be stored
+storable_formed : (state : DatabaseState) (session : ℕ) (c : OpenCursor) (p : PreparedUpdate) → AreBuilt c.schema.columns → is_well_formed_record c.schema.columns p.values ≡ true → MayReplace state session c p.for
+    → list_all (λ d. not d.escrow || has_value p.values d.id.0) c.schema.columns ≡ true → keeps_escrow c.schema.columns (replaced_in state session c p.for) p.values ≡ true → IsStorable state session c (Some p)
+storable_formed state session c p built formed may there keeps = (
   le_of (record_size p.values) 1700 (and_right (list_all (stands_in c.schema.columns) p.values) (nat_le (record_size p.values) 1700) formed),
   and_both (list_all (stands_in c.schema.columns) p.values) (list_all (λ column. not (is_kept_column column) || has_value p.values column.id.0) c.schema.columns)
       (and_left (list_all (stands_in c.schema.columns) p.values) (nat_le (record_size p.values) 1700) formed)
-      (all_mono is_built_column (λ column. not (is_kept_column column) || has_value p.values column.id.0) (plain_kept p.values) c.schema.columns built),
-  plain_sums (replaced_in state session c p.for) p.values c.schema.columns built,
+      (all_kept p.values c.schema.columns built there),
+  keeps,
   may,
 )
 
@@ -118,14 +124,21 @@ locally local request e f = by local.begun
     by false = ap not f
 
 with_update : (engine : EngineState) (state : DatabaseState) (session : ℕ) (local : LocalState) → HoldsState engine state → IsInStep state session local → (label : ℕ) (c : OpenCursor) → cursor_labelled local label ≡ Some c → (p : PreparedUpdate) → MayReplace state session c p.for → ColumnsRise p.values
+    → list_all (λ d. not d.escrow || has_value p.values d.id.0) c.schema.columns ≡ true → keeps_escrow c.schema.columns (replaced_in state session c p.for) p.values ≡ true
     → IsWellFormed (with_cursor local (record c { prepared = Some p })) → IsInStep state session (with_cursor local (record c { prepared = Some p }))
-with_update engine state session local h step label c e p may rise formed =
+with_update engine state session local h step label c e p may rise there keeps formed =
     prepared_in_step state session local label c (Some p) step e
-    (storable_formed state session (record c { prepared = Some p }) p (columns_built engine state session local h c (at_its_table (asked_of engine state session local) label c step.agrees e)) (record_formed local label c p e formed) may) rise
+    (storable_formed state session (record c { prepared = Some p }) p (columns_built engine state session local h c (at_its_table (asked_of engine state session local) label c step.agrees e)) (record_formed local label c p e formed) may there keeps) rise
 
 unless_formed : (asked : Asked) → IsInStep asked.state asked.session asked.local → (refusal : Option Jet) (next : Unit {0} → Outcome) → IfFormed asked (next tt) → IfFormed asked (unless_refused asked refusal next)
 unless_formed asked step None next f = f
 unless_formed asked step (Some reply) next f = λ formed. step
+
+unless_past : (asked : Asked) → IsInStep asked.state asked.session asked.local → (refusals : Refusals) (next : Unit {0} → Outcome) → (AllByRecursion (λ refusal. refusal.0 ≡ false) refusals → IfFormed asked (next tt)) → IfFormed asked (unless_refused asked (first_refusal refusals) next)
+unless_past asked step refusals next f = elim (first_refusal refusals) as (λ o. first_refusal refusals ≡ o → IfFormed asked (unless_refused asked o next)) [
+  | None ↦ λ e. f (unrefused refusals (ap is_none e))
+  | Some reply ↦ λ e. λ formed. step
+] refl
 
 cursor_formed : (asked : Asked) → IsInStep asked.state asked.session asked.local → (label : ℕ) (next : OpenCursor → Outcome) → ((c : OpenCursor) → cursor_labelled asked.local label ≡ Some c → IfFormed asked (next c)) → IfFormed asked (at_cursor asked label next)
 cursor_formed asked step label next f = elim (cursor_labelled asked.local label) as (λ o. cursor_labelled asked.local label ≡ o → IfFormed asked (on_cursor asked o next)) [
@@ -138,21 +151,26 @@ pub insert_prepared : KeepWellFormed → (engine : EngineState) (state : Databas
 insert_prepared keeps engine state session local cursor h step =
     let asked = asked_of engine state session local in
     begun_each (IfFormed asked) asked (call.PrepareUpdate cursor prepare.Insert)
-    (λ begun. cursor_formed asked step cursor.0 (prepare_insert asked) (λ c e. unless_formed asked step (first_refusal (prepared_refusals c)) _ (λ formed. with_update engine state session local h step cursor.0 c e _ tt (zeros_rise c.schema.columns [] tt) formed)))
+    (λ begun. cursor_formed asked step cursor.0 (prepare_insert asked) (λ c e. unless_formed asked step (first_refusal (prepared_refusals c)) _ (λ formed. with_update engine state session local h step cursor.0 c e _ tt (zeros_rise c.schema.columns [] tt) (zeros_there c.schema.columns []) (zeros_kept c.schema.columns []) formed)))
     (λ begun. λ formed. step)
     (keeps asked (call.PrepareUpdate cursor prepare.Insert) (locally local (call.PrepareUpdate cursor prepare.Insert) refl refl) (session_formed engine state h session local step))
 
 -- ---- columns that are set
 
-column_set : (engine : EngineState) (state : DatabaseState) (session : ℕ) (local : LocalState) → HoldsState engine state → IsInStep state session local → (label : ℕ) (c : OpenCursor) → cursor_labelled local label ≡ Some c → (sequence : ℕ) (value : Given) (p : PreparedUpdate)
-    → MayReplace state session c p.for → ColumnsRise p.values → (o : Option Column) → IfFormed (asked_of engine state session local) (on_column (asked_of engine state session local) o (set_column_in (asked_of engine state session local) c p sequence value))
-column_set engine state session local h step label c e sequence value p may rise None = λ formed. step
-column_set engine state session local h step label c e sequence value p may rise (Some column) =
+-- no sum is set
+column_set : (engine : EngineState) (state : DatabaseState) (session : ℕ) (local : LocalState) → HoldsState engine state → IsInStep state session local → (label : ℕ) (c : OpenCursor) → cursor_labelled local label ≡ Some c → (name : List ℕ) (sequence : ℕ) (value : Given) (p : PreparedUpdate)
+    → IsStorable state session c (Some p) → ColumnsRise p.values → (o : Option Column) → column_named c.schema.columns name ≡ o → IfFormed (asked_of engine state session local) (on_column (asked_of engine state session local) o (set_column_in (asked_of engine state session local) c p sequence value))
+column_set engine state session local h step label c e name sequence value p storable rise None found = λ formed. step
+column_set engine state session local h step label c e name sequence value p storable rise (Some column) found =
     let asked = asked_of engine state session local in
-    unless_formed asked step (first_refusal (set_refusals column sequence value p.values)) _
-    (unless_formed asked step (first_refusal (size_refusals column sequence value p.values)) _
-    (λ formed. with_update engine state session local h step label c e (record p { values = fields_after column sequence value p.values }) may
-    (values_rise p.values column.id.0 (values_after column.multi sequence (stored_value column value) (values_of p.values column.id.0)) rise) formed))
+    let values = values_after column.multi sequence (stored_value column value) (values_of p.values column.id.0) in
+    unless_past asked step (set_refusals column sequence value p.values) _ (λ refused.
+    let apart = apart_from_sums (λ o. bytes_eq o.name name) c.schema.columns column (columns_distinct engine state session local h c (at_its_table asked label c step.agrees e)) found refused.0 in
+    unless_formed asked step (first_refusal (size_refusals column sequence value p.values)) _
+    (λ formed. with_update engine state session local h step label c e (record p { values = fields_after column sequence value p.values }) storable.3
+    (values_rise p.values column.id.0 values rise)
+    (set_leaves_sums c.schema.columns p.values column.id.0 values apart (sums_kept p.values c.schema.columns (and_right _ _ storable.1)))
+    (set_keeps_sums c.schema.columns (replaced_in state session c p.for) p.values column.id.0 values apart storable.2) formed))
 
 pub column_is_set : KeepWellFormed → (engine : EngineState) (state : DatabaseState) (session : ℕ) (local : LocalState) (cursor : CursorId) (name : List ℕ) (sequence : ℕ) (value : Given) → HoldsState engine state → IsInStep state session local
     → StaysInStep (asked_of engine state session local) (answer (asked_of engine state session local) (call.SetColumn cursor name sequence value))
@@ -170,30 +188,33 @@ column_is_set keeps engine state session local cursor name sequence value h step
 
     by : (c : OpenCursor) → cursor_labelled local cursor.0 ≡ Some c → (o : Option PreparedUpdate) → IsStorable state session c o → HasRisingColumns o → IfFormed asked (on_prepared asked o (λ p. on_column asked (column_named c.schema.columns name) (set_column_in asked c p sequence value)))
     by c e None storable rise = λ formed. step
-    by c e (Some p) storable rise = column_set engine state session local h step cursor.0 c e sequence value p storable.3 rise (column_named c.schema.columns name)
+    by c e (Some p) storable rise = column_set engine state session local h step cursor.0 c e name sequence value p storable rise (column_named c.schema.columns name) refl
 
 -- ---- a copy
 
--- a record without sums stays as it is
-no_sums_at_zero : (columns : List Column) (values : RecordFields) → AreBuilt columns → with_sums_at_zero columns values ≡ values
-no_sums_at_zero columns values built = ap (λ (sums : List Column). fold (λ (fields : RecordFields) (column : Column). with_values fields column.id.0 ((0 ∷ 0 ∷ 0 ∷ 0 ∷ []) ∷ [])) values sums) (no_sums columns built)
-
+-- the record that is seen may be stored, and so may it be with its sums at 0
 copy_storable : (engine : EngineState) (state : DatabaseState) (session : ℕ) (local : LocalState) → HoldsState engine state → (c : OpenCursor) → IsAtTable (asked_of engine state session local) c → (o : Option RecordFields) → row_at (rows_seen (asked_of engine state session local) c) (bookmark_at c) ≡ o → is_none o ≡ false
-    → (prepared : PreparedUpdate) → prepared ≡ record { for = inserting (Some (bookmark_at c)); values = unwrap_or o [] } → IsStorable state session c (Some prepared)
-copy_storable engine state session local h c at None e there prepared is = impossible (sym there)
-copy_storable engine state session local h c at (Some values) e there prepared is =
-    subst (λ (p : PreparedUpdate). IsStorable state session c (Some p)) (sym is) (
-      stored.0,
-      ap (λ (schema : Schema). record_fits schema.columns values) at.schema ∙ stored.1,
-      plain_sums None values c.schema.columns (columns_built engine state session local h c at),
-      tt,
-    )
+    → IsStorable state session c (Some (record { for = inserting (Some (bookmark_at c)); values = with_sums_at_zero c.schema.columns (unwrap_or o []) }))
+copy_storable engine state session local h c at None e there = impossible (sym there)
+copy_storable engine state session local h c at (Some values) e there = (fit.0, fit.1, zeros_kept c.schema.columns values, tt)
   where
-    stored : IsStored state.number (schema_of at.table) (bookmark_at c) values
-    stored =
-        subst (λ (o : Option RecordFields). IfSome o (IsStored state.number (schema_of at.table) (bookmark_at c))) e
-        (subst (λ (o : Option Table). IfSome o (λ table. (bookmark : List ℕ) → IfSome (records_of (view state session) c.cursor.table bookmark) (IsStored state.number (schema_of table) bookmark))) at.found
-        (stored_seen_with_sums h.base h.dropped h.kept state h.reached.history h.reached.numbers h.stored session c.cursor.table) (bookmark_at c))
+    seen : (P : ℕ → Schema → List ℕ → RecordFields → Type 0) → IfSome (table_with_id state.tables c.cursor.table) (λ table. (bookmark : List ℕ) → IfSome (records_of (view state session) c.cursor.table bookmark) (P state.number (schema_of table) bookmark))
+        → P state.number (schema_of at.table) (bookmark_at c) values
+    seen P has =
+        subst (λ (o : Option RecordFields). IfSome o (P state.number (schema_of at.table) (bookmark_at c))) e
+        (subst (λ (o : Option Table). IfSome o (λ table. (bookmark : List ℕ) → IfSome (records_of (view state session) c.cursor.table bookmark) (P state.number (schema_of table) bookmark))) at.found has (bookmark_at c))
+
+    with_zeros : IsStoredWithNumbers state.number (schema_of at.table) (bookmark_at c) (with_sums_at_zero (schema_of at.table).columns values)
+    with_zeros =
+        zeros_stored state.number (schema_of at.table) (bookmark_at c) values
+        (all_mono is_built_column is_built_sum its_sum at.table.columns (subst (λ (schema : Schema). list_all is_built_column schema.columns ≡ true) at.schema (columns_built engine state session local h c at)))
+        (subst (λ (schema : Schema). are_distinct (map number_of_column schema.columns) ≡ true) at.schema (columns_distinct engine state session local h c at)) (
+          seen IsStored (stored_seen_with_sums h.base h.dropped h.kept state h.reached.history h.reached.numbers h.stored session c.cursor.table),
+          seen HoldsNumbers (numbers_seen h.base h.dropped h.kept state h.reached.history h.reached.numbers session c.cursor.table),
+        )
+
+    fit : (record_size (with_sums_at_zero c.schema.columns values) ≤ 1700) × (record_fits c.schema.columns (with_sums_at_zero c.schema.columns values) ≡ true)
+    fit = subst (λ (schema : Schema). (record_size (with_sums_at_zero schema.columns values) ≤ 1700) × (record_fits schema.columns (with_sums_at_zero schema.columns values) ≡ true)) (sym at.schema) with_zeros.0
 
 pub copy_prepared : (engine : EngineState) (state : DatabaseState) (session : ℕ) (local : LocalState) (cursor : CursorId) → HoldsState engine state → IsInStep state session local
     → StaysInStep (asked_of engine state session local) (answer (asked_of engine state session local) (call.PrepareUpdate cursor prepare.InsertCopy))
@@ -211,6 +232,4 @@ copy_prepared engine state session local cursor h step =
     copied c = record { for = inserting (Some (bookmark_at c)); values = with_sums_at_zero c.schema.columns (record_at (asked_of engine state session local) c) }
 
     at_copy : (c : OpenCursor) → IsAtTable (asked_of engine state session local) c → is_none (row_at (rows_seen (asked_of engine state session local) c) (bookmark_at c)) ≡ false → IsStorable state session (record c { prepared = Some (copied c) }) (Some (copied c))
-    at_copy c at there =
-        copy_storable engine state session local h c at (row_at (rows_seen (asked_of engine state session local) c) (bookmark_at c)) refl there (copied c)
-        (ap (λ (values : RecordFields). let p : PreparedUpdate = record { for = inserting (Some (bookmark_at c)); values = values } in p) (no_sums_at_zero c.schema.columns (record_at (asked_of engine state session local) c) (columns_built engine state session local h c at)))
+    at_copy c at there = copy_storable engine state session local h c at (row_at (rows_seen (asked_of engine state session local) c) (bookmark_at c)) refl there

@@ -1,14 +1,15 @@
 -- What the engine tells of records and conflicts.
-use Rattle.std.proofs.Common.{◌≡◌, ℕ, Bool, true, false, not, ◌&&◌, ◌||◌, cond, List, [], ◌∷◌, map, Option, Some, None, refl, sym, ap, subst, ◌∙◌}
-use Rattle.std.specs.Prelude.{◌==◌, filter, find, fold, is_none, is_some, option_and_then, IfSome}
+use Rattle.std.proofs.Common.{◌≡◌, ℕ, Bool, true, false, not, ◌&&◌, ◌||◌, cond, List, [], ◌∷◌, Option, Some, None, refl, sym, ap, subst, ◌∙◌}
+use Rattle.std.specs.Prelude.{option_map, ℤ, ◌==◌, filter, find, fold, is_none, is_some, option_and_then, IfSome}
 use Rattle.std.specs.List.{AllByRecursion, list_any}
+use Rattle.column_set.specs.RecordValues.{RecordFields}
 use Rattle.database_state.specs.Table.{Table, record_in, schema_of, table_with_id}
 use Rattle.database_state.specs.State.{DatabaseState, LiveSession, PastChange, Status, Transaction, uncommitted, committed, undone, levels, transaction_of}
-use Rattle.database_state.specs.View.{view, view_in}
+use Rattle.database_state.specs.View.{view}
 use Rattle.database_state.specs.Conflicts.{has_key_conflict as has_key_conflict_in}
 use Rattle.record_changes.specs.Records.{Records, after_item, records_after_items, records_of}
 use Rattle.record_changes.proofs.Tests.{impossible, same_number}
-use Rattle.version_history.specs.History.{IsOpenIn, IsPlaced, IsPlacedBy, without_rows}
+use Rattle.version_history.specs.History.{IsOpenIn, IsPlaced, IsPlacedBy}
 use Rattle.version_history.specs.Readers.{is_standing, was_committed, was_committed_status}
 use Rattle.version_history.proofs.LawfulEntries.{outside}
 use Rattle.version_history.proofs.SeenRecords.{newest_records}
@@ -18,18 +19,16 @@ use Rattle.version_keys.proofs.EscrowSums.{key_befores_at, unseen_now}
 use Rattle.version_keys.proofs.UniqueKept.{id_of}
 use Rattle.version_cleanup.specs.Cleaning.{reader_in}
 use Rattle.version_cleanup.specs.LiveSessions.{has_other_transaction}
-use Rattle.versioned_tables.specs.HeldRecords.{has_key_conflict}
-use Rattle.versioned_tables.specs.VersionedTables.{seen_tables}
-use Rattle.versioned_tables.specs.ViewedRecords.{viewed_record}
+use Rattle.versioned_tables.specs.HeldRecords.{has_key_conflict, seen_record}
+use Rattle.versioned_tables.specs.HeldSums.{unseen_sums}
+use Rattle.versioned_tables.specs.ViewedRecords.{viewed_record, without_sums}
 use Rattle.versioned_tables.specs.Holding.{begin_of}
 use Rattle.versioned_tables.proofs.Rising.{same_table}
 use Rattle.versioned_tables.proofs.TellingKeys.{VariantsTellKeyConflicts, key_conflict_is_told}
 use Rattle.versioned_tables.proofs.ViewedRecords.{very_viewed}
-use Rattle.versioned_tables.proofs.Views.{FindsItsRecord, is_shown, seen_defined, view_defined}
 use Rattle.engine_versions.specs.EngineState.{EngineState}
 use Rattle.engine_versions.specs.HoldsState.{HoldsState}
-use Rattle.engine_versions.proofs.BuiltSums.{no_sums_held}
-use Rattle.engine_versions.proofs.SameTables.{ids_rise_alike, same_tables}
+use Rattle.engine_versions.proofs.SameTables.{same_tables}
 use Rattle.engine_versions.proofs.Sessions.{begin_alike, other_alike}
 use Rattle.version_cleanup.specs.LiveSessions.{LiveState}
 
@@ -44,24 +43,16 @@ pub record_viewed : (engine : EngineState) (state : DatabaseState) → HoldsStat
 record_viewed engine state h session table bookmark =
     very_viewed h.base h.dropped h.kept engine.store state h.holds h.reached.numbers (reader_in session engine.sessions) (begin_told engine state h session) table bookmark
 
-pub table_seen : FindsItsRecord → (engine : EngineState) (state : DatabaseState) → HoldsState engine state → (session table : ℕ) → table_with_id (seen_tables (reader_in session engine.sessions) engine.store) table ≡ table_with_id (view state session) table
-table_seen finds engine state h session table =
-    is_shown finds h.base h.dropped h.kept engine.store state h.holds (no_sums_held engine state h) (reader_in session engine.sessions) (begin_told engine state h session) table
-
-pub view_seen : FindsItsRecord → (engine : EngineState) (state : DatabaseState) → HoldsState engine state → (session : ℕ) → seen_tables (reader_in session engine.sessions) engine.store ≡ view state session
-view_seen finds engine state h session =
-    let viewed : map without_rows (view state session) ≡ map without_rows state.tables = view_defined h.base h.dropped h.kept engine.store state h.holds session in
-    same_tables (seen_tables (reader_in session engine.sessions) engine.store) (view state session)
-    (seen_defined (reader_in session engine.sessions) engine.store.held engine.store.tables ∙ h.holds.defined ∙ sym viewed)
-    (ids_rise_alike (view state session) state.tables viewed h.reached.order.ids)
-    (table_seen finds engine state h session)
-
-outside_view : (state : DatabaseState) (session : ℕ) → transaction_of state session ≡ None → view state session ≡ state.tables
-unfolding view
-outside_view state session e = ap (view_in state session) e
-
-pub outside_seen : FindsItsRecord → (engine : EngineState) (state : DatabaseState) → HoldsState engine state → (session : ℕ) → (levels state session == 0) ≡ true → seen_tables (reader_in session engine.sessions) engine.store ≡ state.tables
-outside_seen finds engine state h session e = view_seen finds engine state h session ∙ outside_view state session (outside h.base h.dropped h.kept state h.reached.history session e)
+-- and whether there is one
+pub record_shown : (engine : EngineState) (state : DatabaseState) → HoldsState engine state → (session table : ℕ) (bookmark : List ℕ)
+    → is_some (seen_record table bookmark (reader_in session engine.sessions) (record_in engine.store.tables table bookmark) engine.store.held) ≡ is_some (record_in (view state session) table bookmark)
+record_shown engine state h session table bookmark =
+    same_some (unseen_sums table bookmark (reader_in session engine.sessions) engine.store.held) (seen_record table bookmark (reader_in session engine.sessions) (record_in engine.store.tables table bookmark) engine.store.held)
+    ∙ ap is_some (record_viewed engine state h session table bookmark)
+  where
+    same_some : (sums : List (ℕ × ℤ)) (o : Option RecordFields) → is_some o ≡ is_some (option_map (λ values. without_sums values sums) o)
+    same_some sums None = refl
+    same_some sums (Some values) = refl
 
 -- ---- no transaction is open
 

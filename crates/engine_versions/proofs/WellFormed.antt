@@ -1,15 +1,17 @@
 -- Schemas of tables and sessions in step are well formed.
-use Rattle.std.proofs.Common.{◌≡◌, ℕ, ◌≤◌, Bool, true, not, ◌&&◌, ◌||◌, cond, List, [], ◌∷◌, ◌++◌, map, filter, length, Option, Some, None, refl, ap, ◌∙◌, arith}
-use Rattle.std.specs.Prelude.{nat_le, IfSome}
-use Rattle.std.specs.List.{AllByRecursion, list_all}
+use Rattle.std.proofs.Common.{◌≡◌, ℕ, ◌≤◌, ◌<◌, Bool, true, false, not, ◌&&◌, ◌||◌, cond, List, [], ◌∷◌, ◌++◌, map, filter, length, Option, Some, None, refl, ap, subst, ◌∙◌, arith}
+use Rattle.std.specs.Prelude.{◌==◌, nat_le, IfSome}
+use Rattle.std.specs.List.{AllByRecursion, IsDistinct, list_all, list_any}
 use Rattle.std.proofs.lemmas.Bool.Decides.{nat_tests}
+use Rattle.std.proofs.lemmas.List.{length-map}
+use Rattle.std.proofs.lemmas.Map.Steps.{length-le_from_distinct_below}
 use Rattle.column_set.specs.declared.columns.Column.{Column}
 use Rattle.column_set.specs.RecordValues.{has_value, is_kept_column, record_size}
 use Rattle.index_derive.specs.declared.rules.IndexRule.{IndexRule}
 use Rattle.database_state.specs.Table.{Table, primary_first, schema_of, table_with_id}
 use Rattle.database_state.specs.SchemaChanges.{is_type_long}
 use Rattle.database_state.specs.State.{DatabaseState}
-use Rattle.record_changes.proofs.Tests.{and_left, and_right, and_both}
+use Rattle.record_changes.proofs.Tests.{and_left, and_right, and_both, impossible, not_true, or_first, or_second}
 use Rattle.session_local.specs.Agreement.{HasSchemaOf, IsStorable}
 use Rattle.session_local.specs.Local.{LocalState, OpenCursor, PreparedUpdate}
 use Rattle.session_local.specs.SessionSide.{are_distinct}
@@ -18,17 +20,91 @@ use Rattle.lawful_answers.specs.ColumnNumbers.{are_in_range, has_own_numbers, is
 use Rattle.lawful_answers.proofs.ColumnNumbers.{all_mono}
 use Rattle.lawful_answers.proofs.TableTests.{all_filtered, all_found}
 use Rattle.agreeing_sessions.specs.InStep.{IsInStep}
-use Rattle.built_calls.specs.BuiltTables.{is_built_column, is_built_rule, is_built_table}
-use Rattle.built_calls.proofs.BuiltColumns.{not_sum}
+use Rattle.built_calls.specs.BuiltTables.{is_built_column, is_built_rule, is_built_sum, is_built_table}
+use Rattle.built_calls.proofs.BuiltColumns.{its_sum}
 use Rattle.engine_versions.specs.EngineState.{EngineState}
 use Rattle.engine_versions.specs.HoldsState.{HoldsState}
 
 -- ---- schemas
 
-pub no_sums : (columns : List Column) → list_all is_built_column columns ≡ true → filter is_sum columns ≡ []
-no_sums [] h = refl
-no_sums (c ∷ columns) h =
-    ap (λ b. cond b (c ∷ filter is_sum columns) (filter is_sum columns)) (not_sum c (and_left (is_built_column c) (list_all is_built_column columns) h)) ∙ no_sums columns (and_right (is_built_column c) (list_all is_built_column columns) h)
+le_test : (a b : ℕ) → a ≤ b → nat_le a b ≡ true
+le_test a b h = grind (arith, nat_tests)
+
+-- a sum is a Long
+long_sum : (c : Column) → is_built_sum c ≡ true → is_long_if_sum c ≡ true
+long_sum c h = by c.escrow (is_type_long c.kind) _ h
+  where
+    by : (e l r : Bool) → (not e || (l && r)) ≡ true → (not e || l) ≡ true
+    by false l r h = refl
+    by true l r h = and_left l r h
+
+-- and has a number of a fixed column
+fixed_sum : (c : Column) → is_built_sum c ≡ true → is_sum c ≡ true → (nat_le 1 c.id.0 && nat_le c.id.0 127) ≡ true
+fixed_sum c h sum = and_right (not c.multi) _ (and_right (is_type_long c.kind) _ (by c.escrow _ h sum))
+  where
+    by : (e r : Bool) → (not e || r) ≡ true → e ≡ true → r ≡ true
+    by true r h e = h
+    by false r h e = impossible e
+
+-- whether the number is not among those, and they are distinct
+none_summed : (n : ℕ) (columns : List Column) → list_any (λ other. other == n) (map number_of_column columns) ≡ false → AllByRecursion (λ k. (n == k) ≡ false) (map number_of_column (filter is_sum columns))
+none_summed n [] h = tt
+none_summed n (c ∷ columns) h = elim c.escrow as (λ b. AllByRecursion (λ k. (n == k) ≡ false) (map number_of_column (cond b (c ∷ filter is_sum columns) (filter is_sum columns)))) [
+  | true ↦ (turned c.id.0 n (or_first (c.id.0 == n) _ h), none_summed n columns (or_second (c.id.0 == n) _ h))
+  | false ↦ none_summed n columns (or_second (c.id.0 == n) _ h)
+]
+  where
+    turned : (a b : ℕ) → (a == b) ≡ false → (b == a) ≡ false
+    turned a b h = grind (arith, nat_tests)
+
+sums_distinct : (columns : List Column) → are_distinct (map number_of_column columns) ≡ true → IsDistinct (λ m n. m == n) (map number_of_column (filter is_sum columns))
+unfolding IsDistinct
+sums_distinct [] h = tt
+sums_distinct (c ∷ columns) h = elim c.escrow as (λ b. IsDistinct (λ m n. m == n) (map number_of_column (cond b (c ∷ filter is_sum columns) (filter is_sum columns)))) [
+  | true ↦ (none_summed c.id.0 columns (not_true _ (and_left _ _ h)), sums_distinct columns (and_right _ _ h))
+  | false ↦ sums_distinct columns (and_right _ _ h)
+]
+
+sums_fixed : (columns : List Column) → list_all is_built_column columns ≡ true → list_all (λ n. nat_le 1 n && nat_le n 127) (map number_of_column (filter is_sum columns)) ≡ true
+sums_fixed [] h = refl
+sums_fixed (c ∷ columns) h = elim c.escrow as (λ b. c.escrow ≡ b → list_all (λ n. nat_le 1 n && nat_le n 127) (map number_of_column (cond b (c ∷ filter is_sum columns) (filter is_sum columns))) ≡ true) [
+  | true ↦ λ e. and_both (nat_le 1 c.id.0 && nat_le c.id.0 127) (list_all (λ n. nat_le 1 n && nat_le n 127) (map number_of_column (filter is_sum columns))) (fixed_sum c (its_sum c (and_left _ _ h)) e) (sums_fixed columns (and_right _ _ h))
+  | false ↦ λ e. sums_fixed columns (and_right _ _ h)
+] refl
+
+-- distinct numbers from 1 to 127, with 0 before them, are 128 numbers below 128 at most
+few_numbers : (numbers : List ℕ) → IsDistinct (λ m n. m == n) numbers → list_all (λ n. nat_le 1 n && nat_le n 127) numbers ≡ true → length numbers ≤ 127
+unfolding IsDistinct
+few_numbers numbers distinct fixed = let most = length-le_from_distinct_below (0 ∷ numbers) 128 (apart numbers fixed, distinct) below in omega (arith, most)
+  where
+    apart : (xs : List ℕ) → list_all (λ n. nat_le 1 n && nat_le n 127) xs ≡ true → AllByRecursion (λ n. (0 == n) ≡ false) xs
+    apart [] h = tt
+    apart (x ∷ xs) h = (one x (and_left _ _ (and_left _ _ h)), apart xs (and_right _ _ h))
+      where
+        one : (n : ℕ) → nat_le 1 n ≡ true → (0 == n) ≡ false
+        one n h = grind (arith, nat_tests)
+
+    small : (n q : ℕ) → nat_le n 127 ≡ true → (q == n) ≡ true → q < 128
+    small n q h e = grind (arith, nat_tests)
+
+    among : (xs : List ℕ) (q : ℕ) → list_all (λ n. nat_le 1 n && nat_le n 127) xs ≡ true → list_any (λ n. q == n) xs ≡ true → q < 128
+    among [] q h e = impossible e
+    among (x ∷ xs) q h e = elim (q == x) as (λ b. (q == x) ≡ b → (b || list_any (λ n. q == n) xs) ≡ true → q < 128) [
+      | true ↦ λ f g. small x q (and_right _ _ (and_left _ _ h)) f
+      | false ↦ λ f g. among xs q (and_right _ _ h) g
+    ] refl e
+
+    zero_small : (q : ℕ) → (q == 0) ≡ true → q < 128
+    zero_small q e = grind (arith, nat_tests)
+
+    below : (q : ℕ) → list_any (λ n. q == n) (0 ∷ numbers) ≡ true → q < 128
+    below q e = elim (q == 0) as (λ b. (q == 0) ≡ b → (b || list_any (λ n. q == n) numbers) ≡ true → q < 128) [
+      | true ↦ λ f g. zero_small q f
+      | false ↦ λ f g. among numbers q fixed g
+    ] refl e
+
+few_sums : (columns : List Column) → list_all is_built_column columns ≡ true → are_distinct (map number_of_column columns) ≡ true → nat_le (length (filter is_sum columns)) 127 ≡ true
+few_sums columns built distinct = le_test (length (filter is_sum columns)) 127 (subst (λ (n : ℕ). n ≤ 127) (length-map (filter is_sum columns) number_of_column) (few_numbers (map number_of_column (filter is_sum columns)) (sums_distinct columns distinct) (sums_fixed columns built)))
 
 all_joined : (p : IndexRule → Bool) (xs ys : List IndexRule) → list_all p xs ≡ true → list_all p ys ≡ true → list_all p (xs ++ ys) ≡ true
 all_joined p [] ys h g = g
@@ -43,8 +119,8 @@ schema_formed t built own =
     let few = nat_le (length (filter is_sum t.columns)) 127 in
     and_both (are_distinct (map number_of_column t.columns) && sums && few) (list_all has_short_keys (primary_first t.indexes))
     (and_both (are_distinct (map number_of_column t.columns) && sums) few
-    (and_both (are_distinct (map number_of_column t.columns)) sums distinct (all_mono is_built_column is_long_if_sum (λ c h. ap (λ b. not b || is_type_long c.kind) (not_sum c h)) t.columns columns))
-    (ap (λ (l : List Column). nat_le (length l) 127) (no_sums t.columns columns)))
+    (and_both (are_distinct (map number_of_column t.columns)) sums distinct (all_mono is_built_column is_long_if_sum (λ c h. long_sum c (its_sum c h)) t.columns columns))
+    (few_sums t.columns columns distinct))
     (all_joined has_short_keys (filter (λ r. r.flags.primary) t.indexes) (filter (λ r. not r.flags.primary) t.indexes) (all_filtered is_built_rule (λ r. r.flags.primary) t.indexes rules) (all_filtered is_built_rule (λ r. not r.flags.primary) t.indexes rules))
 
 pub table_formed : (engine : EngineState) (state : DatabaseState) → HoldsState engine state → (table : ℕ) → IfSome (table_with_id state.tables table) (λ t. is_well_formed_schema (schema_of t) ≡ true)
@@ -55,9 +131,6 @@ table_formed engine state h table = by (table_with_id state.tables table) (all_f
     by (Some t) built own = schema_formed t built own
 
 -- ---- sessions
-
-le_test : (a b : ℕ) → a ≤ b → nat_le a b ≡ true
-le_test a b h = grind (arith, nat_tests)
 
 update_formed : (state : DatabaseState) (session : ℕ) (c : OpenCursor) (prepared : Option PreparedUpdate) → IsStorable state session c prepared → is_well_formed_update c.schema.columns prepared ≡ true
 update_formed state session c None s = refl

@@ -3,6 +3,8 @@
 ghost use Rattle.std.specs.Prelude.{◌≡◌, ◌+◌, ◌^◌, ◌≤◌, ℕ, true, List, [], IfSome};
 ghost use Rattle.database_state.specs.Table.{row_at, schema_of, table_with_id};
 ghost use Rattle.database_state.specs.State.{DatabaseState, empty_state};
+ghost use Rattle.std.specs.List.{AllByRecursion};
+ghost use Rattle.version_keys.specs.KeySums.{IsPlainIndex};
 ghost use Rattle.version_keys.specs.TableOrder.{HasTablesInOrder};
 ghost use Rattle.version_keys.specs.UniqueKeys.{IsUniqueTable};
 ghost use Rattle.version_records.specs.Bookmarks.{StandsUnder};
@@ -23,10 +25,11 @@ pub fn an_empty_engine_holds_the_empty_state()
 {}
 
 /// An engine of tables alone holds each state without sessions and past changes whose tables these are: they are in order,
-/// unique and built, their columns have numbers of their own, and their records have their bookmarks, fit and hold numbers in
-/// their escrow columns. All sessions that have not begun are in step with it.
+/// unique and built, their indexes name no escrow column, their columns have numbers of their own, and their records have their
+/// bookmarks, fit and hold numbers in their escrow columns. All sessions that have not begun are in step with it.
 pub fn an_engine_of_tables_alone_holds_their_state()
     ensures holds { (limit : ℕ) (state : DatabaseState) → state.sessions ≡ [] → state.past ≡ [] → HasTablesInOrder state → ((id : ℕ) → IfSome (table_with_id state.tables id) IsUniqueTable)
+        → ((id : ℕ) → IfSome (table_with_id state.tables id) (λ table. AllByRecursion (IsPlainIndex table) table.indexes))
         → ((id : ℕ) → IfSome (table_with_id state.tables id) (λ table. (bookmark : List ℕ) → IfSome (row_at table.rows bookmark) (StandsUnder state.number (schema_of table) bookmark)))
         → ((id : ℕ) → IfSome (table_with_id state.tables id) (λ table. (bookmark : List ℕ) → IfSome (row_at table.rows bookmark) (IsStored state.number (schema_of table) bookmark)))
         → ((id : ℕ) → IfSome (table_with_id state.tables id) (λ table. (bookmark : List ℕ) → IfSome (row_at table.rows bookmark) (HoldsNumbers state.number (schema_of table) bookmark)))

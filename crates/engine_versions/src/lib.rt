@@ -6,7 +6,6 @@ mod answers;
 mod begin;
 mod entries;
 mod formed;
-mod sums;
 mod told;
 
 pub use answers::{
@@ -20,9 +19,8 @@ pub use entries::{
     a_lawful_step_makes_the_next_state, ends_always_find_room,
 };
 pub use formed::{sessions_in_step_are_well_formed, tables_are_well_formed};
-pub use sums::no_sum_is_held;
 pub use told::{
-    a_session_sees_its_view, a_session_views_its_very_record, conflicts_are_told,
-    newest_records_are_told, open_changes_stand_by_rising_levels, sessions_are_told,
-    tables_are_told, uses_are_told,
+    a_session_is_shown_the_records_of_its_view, a_session_views_its_very_record,
+    conflicts_are_told, newest_records_are_told, open_changes_stand_by_rising_levels,
+    sessions_are_told, tables_are_told, uses_are_told,
 };

@@ -1,6 +1,6 @@
 //! What the engine tells of a state that it holds.
 
-ghost use Rattle.std.specs.Prelude.{◌≡◌, ◌==◌, ◌≤◌, ℕ, Bool, true, false, ◌||◌, List, length, map, Option, IfSome, option_map};
+ghost use Rattle.std.specs.Prelude.{◌≡◌, ◌==◌, ◌≤◌, ℕ, Bool, true, false, ◌||◌, List, length, map, Option, IfSome, is_some, option_map};
 ghost use Rattle.std.specs.List.{AllByRecursion};
 ghost use Rattle.column_set.specs.declared.changes.Change.{Change};
 ghost use Rattle.database_state.specs.Table.{Table, record_in, schema_of, table_named, table_with_id};
@@ -15,14 +15,14 @@ ghost use Rattle.record_changes.specs.Records.{records_of};
 ghost use Rattle.version_cleanup.specs.Cleaning.{reader_in};
 ghost use Rattle.version_cleanup.specs.LiveSessions.{has_other_transaction, is_live, levels_in, oldest_begin, transaction_in, without_snapshot};
 ghost use Rattle.version_history.specs.History.{EachTwo};
-ghost use Rattle.versioned_tables.specs.HeldRecords.{has_conflict, has_key_conflict, is_open_of, span};
+ghost use Rattle.versioned_tables.specs.HeldRecords.{has_conflict, has_key_conflict, is_open_of, seen_record, span};
 ghost use Rattle.versioned_tables.specs.Holding.{begin_of};
 ghost use Rattle.versioned_tables.specs.VersionedTables.{seen_tables};
 ghost use Rattle.versioned_tables.specs.ViewedRecords.{viewed_record};
 ghost use Rattle.engine_versions.specs.EngineState.{EngineState, has_table_open};
 ghost use Rattle.engine_versions.specs.HoldsState.{HoldsState};
 
-use version_keys::{a_session_finds_its_very_record, variants_tell_key_conflicts};
+use version_keys::variants_tell_key_conflicts;
 
 /// Which sessions are live, and their transactions.
 pub fn sessions_are_told()
@@ -54,14 +54,11 @@ pub fn a_session_views_its_very_record()
         → viewed_record table bookmark (reader_in session engine.sessions) (record_in engine.store.tables table bookmark) engine.store.held ≡ record_in (view state session) table bookmark }
 {}
 
-/// As long as no escrow column is built, a session is shown its view, which outside a transaction is the committed tables.
-pub fn a_session_sees_its_view()
-    ensures table { (engine : EngineState) (state : DatabaseState) → HoldsState engine state → (session table : ℕ) → table_with_id (seen_tables (reader_in session engine.sessions) engine.store) table ≡ table_with_id (view state session) table }
-    ensures tables { (engine : EngineState) (state : DatabaseState) → HoldsState engine state → (session : ℕ) → seen_tables (reader_in session engine.sessions) engine.store ≡ view state session }
-    ensures outside { (engine : EngineState) (state : DatabaseState) → HoldsState engine state → (session : ℕ) → (levels state session == 0) ≡ true → seen_tables (reader_in session engine.sessions) engine.store ≡ state.tables }
-{
-    a_session_finds_its_very_record();
-}
+/// A session is shown a record exactly where its view has one. Only the sums of others that it does not see may differ.
+pub fn a_session_is_shown_the_records_of_its_view()
+    ensures { (engine : EngineState) (state : DatabaseState) → HoldsState engine state → (session table : ℕ) (bookmark : List ℕ)
+        → is_some (seen_record table bookmark (reader_in session engine.sessions) (record_in engine.store.tables table bookmark) engine.store.held) ≡ is_some (record_in (view state session) table bookmark) }
+{}
 
 /// The held changes tell write conflicts, key conflicts in each index of each table, and the version store's span.
 pub fn conflicts_are_told()
@@ -76,10 +73,12 @@ pub fn conflicts_are_told()
 }
 
 /// The records of the engine's tables are the newest ones. Where no session is in a transaction they are the committed ones,
-/// and the tables are the committed tables.
+/// the tables are the committed tables, and each session is shown them.
 pub fn newest_records_are_told()
     ensures newest { (engine : EngineState) (state : DatabaseState) → HoldsState engine state → (table : ℕ) (bookmark : List ℕ) → record_in engine.store.tables table bookmark ≡ record_in (newest state) table bookmark }
     ensures committed { (engine : EngineState) (state : DatabaseState) → HoldsState engine state → (session : ℕ) → (levels state session == 0) ≡ true → has_other_transaction session engine.sessions ≡ false → engine.store.tables ≡ state.tables }
+    ensures shown { (engine : EngineState) (state : DatabaseState) → HoldsState engine state → (session : ℕ) → (levels state session == 0) ≡ true → has_other_transaction session engine.sessions ≡ false
+        → seen_tables (reader_in session engine.sessions) engine.store ≡ state.tables }
 {}
 
 /// The levels of a session's open changes do not fall from the older to the newer, and each is a level of its transaction.

@@ -1,7 +1,7 @@
 -- Refusals that are asked rule by rule: what a walk over the rules tells of all of them.
 use Rattle.std.proofs.Common.{◌≡◌, ℕ, zero, suc, ◌+◌, ◌<◌, ◌≤◌, Bool, true, false, cond, List, [], ◌∷◌, ◌++◌, length, drop, get_or, Option, Some, None, filter, find, refl, sym, ap, subst, ◌∙◌}
 use Rattle.std.specs.Prelude.{slice_get}
-use Rattle.std.specs.List.{flat_map}
+use Rattle.std.specs.List.{AllByRecursion, flat_map}
 use Rattle.std.specs.Option.{option_or}
 use Rattle.std.proofs.lemmas.List.{at_drop_all, at_drop_more}
 use Rattle.std.proofs.lemmas.Option.{slice_get_read}
@@ -68,9 +68,9 @@ filter-asked test f (r ∷ rules) =
 
 -- ---- two ways to ask that are one
 
-pub asked-alike : {X Y : Type 0} (f g : X → List Y) (rules : List X) → ((rule : X) → f rule ≡ g rule) → flat_map f rules ≡ flat_map g rules
+pub asked-alike : {X Y : Type 0} (f g : X → List Y) (rules : List X) → AllByRecursion (λ rule. f rule ≡ g rule) rules → flat_map f rules ≡ flat_map g rules
 asked-alike f g [] same = refl
-asked-alike f g (r ∷ rules) same = ap (λ l. l ++ flat_map f rules) (same r) ∙ ap (λ l. g r ++ l) (asked-alike f g rules same)
+asked-alike f g (r ∷ rules) same = ap (λ l. l ++ flat_map f rules) same.0 ∙ ap (λ l. g r ++ l) (asked-alike f g rules same.1)
 
 -- ---- a rule that is found
 

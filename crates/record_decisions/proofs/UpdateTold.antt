@@ -1,7 +1,7 @@
 -- What the engine holds tells of an update: the schema of the cursor, the keys of unique indexes, and the bookmark.
 use Rattle.std.proofs.Common.{◌≡◌, ℕ, ◌≤◌, ◌==◌, Bool, true, false, not, List, [], ◌∷◌, length, map, min, Option, Some, None, filter, refl, sym, ap, subst, ◌∙◌, arith}
 use Rattle.std.specs.Prelude.{nat_le, reverse, IfSome, IsSome, IsSomeAnd}
-use Rattle.std.specs.List.{list_any}
+use Rattle.std.specs.List.{AllByRecursion, list_any}
 use Rattle.std.proofs.lemmas.Bool.Decides.{nat_tests}
 use Rattle.std.proofs.lemmas.List.{length-take}
 use Rattle.jet_base.specs.declared.replies.Jet.TheVariants as jet
@@ -19,9 +19,11 @@ use Rattle.database_state.specs.View.{view}
 use Rattle.record_changes.specs.Records.{Records, records_of}
 use Rattle.record_changes.proofs.Tests.{and_left, impossible, same_bytes}
 use Rattle.version_history.specs.History.{IsHistory, without_rows}
-use Rattle.version_keys.specs.KeySums.{IndexesSeeNoSum}
-use Rattle.version_keys.specs.Variants.{HasNoSums}
-use Rattle.version_keys.proofs.KeySums.{all_see_none}
+use Rattle.version_history.proofs.Lists.{all_filter, all_weaker}
+use Rattle.version_keys.specs.KeySums.{HasKeyBefores, IndexesSeeNoSum, IsApartFromSums, SeesNoSum}
+use Rattle.version_keys.proofs.EscrowSums.{unseen_now}
+use Rattle.version_keys.proofs.IndexNumbers.{all_primary_first}
+use Rattle.version_keys.proofs.UniqueKept.{id_of}
 use Rattle.version_records.specs.Bookmarks.{HasBookmarks, StandsUnder, is_bookmark, is_entry_number}
 use Rattle.version_records.proofs.PrimaryKeys.{of_found}
 use Rattle.version_store.specs.declared.calls.Reader.{Reader}
@@ -37,7 +39,6 @@ use Rattle.agreeing_sessions.specs.InStep.{IsInStep}
 use Rattle.agreeing_sessions.proofs.Schemas.{defined}
 use Rattle.engine_versions.specs.EngineState.{EngineState}
 use Rattle.engine_versions.specs.HoldsState.{HoldsState}
-use Rattle.engine_versions.proofs.BuiltSums.{no_sums_held}
 use Rattle.engine_versions.proofs.Telling.{begin_told}
 use Rattle.record_decisions.specs.Updating.{HasLegalRules, HasShortBookmarks, IsLegalRule, TellsKeys, TellsSchemas, bookmark_by, keys_in, new_bookmark, number_of_change}
 use Rattle.record_decisions.proofs.RuleByRule.{asked-alike, found-has}
@@ -64,12 +65,14 @@ schemas-told engine state session local label c h step found = schema_in engine.
 -- the law that they rest on
 abbrev pub AsksAlike : Type 0
 AsksAlike =
-    (base : Records) (dropped kept : List PastChange) (store : VersionedTables) (state : DatabaseState) → Holds base dropped kept store state → HasNoSums kept
+    (base : Records) (dropped kept : List PastChange) (store : VersionedTables) (state : DatabaseState) → Holds base dropped kept store state
     → (reader : Reader) → reader.begin ≡ begin_of (transaction_of state reader.session.0)
-    → (table : ℕ) (seen : Table) → table_with_id (view state reader.session.0) table ≡ Some seen → (rule : IndexRule) (own : Option (List ℕ)) (values : RecordFields)
+    → (table : ℕ) (seen : Table) → table_with_id (view state reader.session.0) table ≡ Some seen
+    → AllByRecursion (λ rule. SeesNoSum rule table kept × HasKeyBefores rule (schema_of seen) table base kept) (schema_of seen).indexes
+    → AllByRecursion (λ rule. (own : Option (List ℕ)) (values : RecordFields)
     → unique_refusals reader store table (schema_of seen) rule own values
     ≡ (list_any (has_key_conflict state reader.session.0 table (schema_of seen) rule) (new_keys rule (schema_of seen) (replaced_record seen.rows own) values), jet.WriteConflict)
-    ∷ (list_any (is_taken (schema_of seen) seen.rows rule own) (key_list rule (schema_of seen) values), jet.KeyDuplicate) ∷ []
+    ∷ (list_any (is_taken (schema_of seen) seen.rows rule own) (key_list rule (schema_of seen) values), jet.KeyDuplicate) ∷ []) (schema_of seen).indexes
 
 -- what the state is asked for one rule
 abbrev asked_of_state : DatabaseState → ℕ → ℕ → Schema → Rows → Option (List ℕ) → RecordFields → IndexRule → Refusals
@@ -77,20 +80,42 @@ asked_of_state state session table schema rows own values rule =
     (list_any (has_key_conflict state session table schema rule) (new_keys rule schema (replaced_record rows own) values), jet.WriteConflict)
     ∷ (list_any (is_taken schema rows rule own) (key_list rule schema values), jet.KeyDuplicate) ∷ []
 
-keys_at : AsksAlike → (engine : EngineState) (state : DatabaseState) (session table : ℕ) (schema : Schema) (own : Option (List ℕ)) (values : RecordFields) (seen : Option Table) → HoldsState engine state
-    → table_with_id (view state session) table ≡ seen → IsSomeAnd seen (λ t. schema ≡ schema_of t)
+-- the indexes of a schema see no sum, nor anything of one in the records before them
+abbrev AreApart : Records → List PastChange → ℕ → Schema → Type 0
+AreApart base kept table schema = AllByRecursion (λ rule. SeesNoSum rule table kept × HasKeyBefores rule schema table base kept) schema.indexes
+
+-- so it is for the cursor's schema
+apart_at : (tables : List Table) (base : Records) (kept : List PastChange) (c : OpenCursor) (committed : Option Table) → table_with_id tables c.cursor.table ≡ committed → HasSchemaOf c committed
+    → IfSome committed (λ t. AllByRecursion (IsApartFromSums base kept t) t.indexes) → AreApart base kept c.cursor.table c.schema
+apart_at tables base kept c None is has apart = absurd has
+apart_at tables base kept c (Some t) is has apart =
+    subst (AreApart base kept c.cursor.table) (sym has.0)
+    (subst (λ (n : ℕ). AreApart base kept n (schema_of t)) (id_of tables c.cursor.table t is)
+    (all_primary_first (λ rule. SeesNoSum rule t.id kept × HasKeyBefores rule (schema_of t) t.id base kept) t.indexes
+    (all_weaker (IsApartFromSums base kept t) (λ rule. SeesNoSum rule t.id kept × HasKeyBefores rule (schema_of t) t.id base kept) (λ rule each. (each.1, each.2)) t.indexes apart)))
+
+keys_at : AsksAlike → (engine : EngineState) (state : DatabaseState) (session table : ℕ) (schema : Schema) (own : Option (List ℕ)) (values : RecordFields) (seen : Option Table) (h : HoldsState engine state)
+    → table_with_id (view state session) table ≡ seen → IsSomeAnd seen (λ t. schema ≡ schema_of t) → AreApart h.base h.kept table schema
     → keys_in engine session table schema own values ≡ key_refusals state session table schema (rows_of seen) own values
-keys_at alike engine state session table schema own values None h is has = absurd has
-keys_at alike engine state session table schema own values (Some t) h is has =
+keys_at alike engine state session table schema own values None h is has apart = absurd has
+keys_at alike engine state session table schema own values (Some t) h is has apart =
     let reader : Reader = reader_in session engine.sessions in
+    let f : IndexRule → Refusals = λ rule. unique_refusals reader engine.store table (schema_of t) rule own values in
+    let g : IndexRule → Refusals = asked_of_state state session table (schema_of t) t.rows own values in
     subst (λ (s : Schema). keys_in engine session table s own values ≡ key_refusals state session table s t.rows own values) (sym has)
-    (asked-alike (λ rule. unique_refusals reader engine.store table (schema_of t) rule own values) (asked_of_state state session table (schema_of t) t.rows own values) (filter is_unique (schema_of t).indexes)
-    (λ rule. alike h.base h.dropped h.kept engine.store state h.holds (no_sums_held engine state h) reader (begin_told engine state h session) table t is rule own values))
+    (asked-alike f g (filter is_unique (schema_of t).indexes)
+    (all_filter (λ rule. f rule ≡ g rule) is_unique (schema_of t).indexes
+    (all_weaker (λ rule. (own : Option (List ℕ)) (values : RecordFields) → unique_refusals reader engine.store table (schema_of t) rule own values ≡ asked_of_state state session table (schema_of t) t.rows own values rule) (λ rule. f rule ≡ g rule)
+    (λ rule same. same own values) (schema_of t).indexes
+    (alike h.base h.dropped h.kept engine.store state h.holds reader (begin_told engine state h session) table t is (subst (AreApart h.base h.kept table) has apart)))))
 
 pub keys-told : AsksAlike → TellsKeys
 keys-told alike engine state session local label c h step found own values =
     keys_at alike engine state session c.cursor.table c.schema own values (table_with_id (view state session) c.cursor.table) h refl
     (schema_in (view state session) state session local label c (view_defined h.base h.dropped h.kept engine.store state h.holds session) step found)
+    (apart_at state.tables h.base h.kept c (table_with_id state.tables c.cursor.table) refl
+    (of_found (λ (c : OpenCursor). HasSchemaOf c (table_with_id state.tables c.cursor.table)) (λ (c : OpenCursor). c.label == label) local.cursors c found step.agrees.schemas)
+    (h.reached.sums.tables c.cursor.table))
 
 -- ---- the bookmark is short
 
@@ -149,7 +174,7 @@ short_by sees engine state session local label c (replacing bookmark) values h s
     replaced_short c.schema bookmark values (primary_rule c.schema) rules refl same
     (replaced_hidden state session c bookmark (table_with_id state.tables c.cursor.table)
     (of_found (λ (c : OpenCursor). HasSchemaOf c (table_with_id state.tables c.cursor.table)) (λ (c : OpenCursor). c.label == label) local.cursors c found step.agrees.schemas)
-    (sees h.base h.dropped h.kept state h.reached.history (all_see_none h.kept state (no_sums_held engine state h)) h.reached.bookmarks session c.cursor.table) may)
+    (sees h.base h.dropped h.kept state h.reached.history (unseen_now h.base h.kept state h.reached.sums) h.reached.bookmarks session c.cursor.table) may)
 
 pub bookmarks-short : SeesBookmarks → HasShortBookmarks
 bookmarks-short sees engine state session local label c prepared h step found is rules same =

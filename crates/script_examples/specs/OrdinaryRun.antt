@@ -47,6 +47,10 @@ ordinary_lines = filling_lines ++ codes "1 Move 1 First" ∷ walking_lines
 abbrev pub plain_column : ColumnFlags
 plain_column = record { not_null = false; tagged = false; multi = false; escrow = false; version = false; auto = false }
 
+-- a column that sums are added to
+abbrev pub sum_column : ColumnFlags
+sum_column = record plain_column { escrow = true }
+
 -- an index that is primary and nothing else
 abbrev pub only_primary : IndexFlags
 only_primary = record {

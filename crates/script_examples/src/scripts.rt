@@ -9,7 +9,7 @@ ghost use Rattle.session_local.specs.declared.request.Request.TheVariants as cal
 ghost use Rattle.script_words.specs.Words.{text_of_lines};
 ghost use Rattle.script_text.specs.Grammar.{script_lines};
 ghost use Rattle.script_text.specs.Built.{built_lines};
-ghost use Rattle.script_examples.specs.OrdinaryRun.{plain_column, only_primary, filling_lines, walking_lines, ordinary_lines, ordinary_calls};
+ghost use Rattle.script_examples.specs.OrdinaryRun.{plain_column, sum_column, only_primary, filling_lines, walking_lines, ordinary_lines, ordinary_calls};
 
 /// The ordinary run is read as its calls.
 pub fn ordinary_run_is_read()
@@ -45,10 +45,17 @@ pub fn spaces_stand_between_words()
     ensures last { script_lines (codes "1 BeginSession ") ≡ Err 1 }
 {}
 
-/// With a sum in the place of its first move, line 16 of the ordinary run is in the grammar and not built.
-pub fn sum_is_not_built()
-    ensures read { script_lines (codes "1 EscrowUpdate 1 n -5") ≡ Ok ((1, call.EscrowUpdate (cursor_id 1) (codes "n") (neg_ℤ (pos 5))) ∷ []) }
-    ensures not_built { built_lines (text_of_lines (filling_lines ++ codes "1 EscrowUpdate 1 n -5" ∷ walking_lines)) ≡ Err 16 }
+/// With a column of a long type in the place of its first move, line 16 of the ordinary run is in the grammar and not built.
+pub fn long_column_is_not_built()
+    ensures read { script_lines (codes "1 AddColumn T a LongText") ≡ Ok ((1, call.AddColumn (codes "T") (codes "a") kind.LongText plain_column) ∷ []) }
+    ensures not_built { built_lines (text_of_lines (filling_lines ++ codes "1 AddColumn T a LongText" ∷ walking_lines)) ≡ Err 16 }
+{}
+
+/// A sum and the column that it adds to are built. An amount is one of 32 bits.
+pub fn sums_are_built()
+    ensures column { built_lines (text_of_lines (codes "1 AddColumn T a Long escrow" ∷ [])) ≡ Ok ((1, call.AddColumn (codes "T") (codes "a") kind.Long sum_column) ∷ []) }
+    ensures sum { built_lines (codes "1 EscrowUpdate 1 n -5") ≡ Ok ((1, call.EscrowUpdate (cursor_id 1) (codes "n") (neg_ℤ (pos 5))) ∷ []) }
+    ensures too_large { built_lines (codes "1 EscrowUpdate 1 n 2147483648") ≡ Err 1 }
 {}
 
 /// A line is built by itself, in any order and any number of times, whatever an engine answers.
@@ -75,8 +82,8 @@ pub fn lines_of_every_session_are_built()
     ensures too_many { built_lines (codes "100 BeginSession") ≡ Err 1 }
 {}
 
-/// A column of a long type and one that is a sum are not built.
-pub fn long_columns_and_sums_are_not_built()
-    ensures long { built_lines (text_of_lines (codes "1 AddColumn T a LongText" ∷ [])) ≡ Err 1 }
-    ensures escrow { built_lines (text_of_lines (codes "1 AddColumn T a Long escrow" ∷ [])) ≡ Err 1 }
+/// A column of a long type is not built.
+pub fn long_columns_are_not_built()
+    ensures text { built_lines (text_of_lines (codes "1 AddColumn T a LongText" ∷ [])) ≡ Err 1 }
+    ensures binary { built_lines (text_of_lines (codes "1 AddColumn T a LongBinary" ∷ [])) ≡ Err 1 }
 {}

@@ -1,7 +1,7 @@
 //! The calls of the lines that are read so far.
 
 ghost use Rattle.std.specs.Prelude.{◌≡◌, []};
-ghost use Rattle.built_calls.specs.BuiltCalls.{is_built_call};
+ghost use Rattle.built_calls.specs.BuiltCalls.{is_amount, is_built_call};
 ghost use Rattle.script_words.specs.Reading.{Reads};
 ghost use Rattle.script_text.specs.Kept.{kept_behind};
 
@@ -75,10 +75,18 @@ fn is_built_call(request: &Request) -> bool
 {
     match request {
         Request::AddColumn { kind, flags, .. } => {
-            !kind.is_long() && !(flags.escrow || flags.version || flags.auto)
+            !kind.is_long() && !(flags.version || flags.auto)
         }
         Request::CreateIndex { key_most, .. } => *key_most <= 255,
-        Request::EscrowUpdate { .. } => false,
+        Request::EscrowUpdate { amount, .. } => is_amount(*amount),
         _ => true,
     }
+}
+
+// Whether it is the amount of a sum: a number of 32 bits, as all are of its type.
+fn is_amount(amount: i32) -> bool
+    ensures { result ≡ is_amount amount }
+{
+    let _amount = amount;
+    true
 }

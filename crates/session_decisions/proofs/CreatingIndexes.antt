@@ -30,10 +30,10 @@ use Rattle.record_changes.proofs.Tests.{and_false, and_right}
 use Rattle.session_local.specs.declared.request.Request.{Request}
 use Rattle.session_local.specs.declared.request.Request.TheVariants as call
 use Rattle.session_local.specs.SessionSide.{SessionSide}
-use Rattle.version_cleanup.specs.LiveSessions.{levels_in}
+use Rattle.version_cleanup.specs.LiveSessions.{has_other_transaction, levels_in}
 use Rattle.session_decisions.specs.CreatingIndexes.{HasKeys, makes_index, step_refusals_in}
 use Rattle.session_decisions.specs.SchemaRequests.{catalog_in, engine_table, sessions_in}
-use Rattle.session_decisions.proofs.SchemaCalls.{IsAsked, SchemaLaws, found-told, outside-passed, rows-told}
+use Rattle.session_decisions.proofs.SchemaCalls.{IsAsked, SchemaLaws, alone-passed, found-told, outside-passed, rows-told}
 
 -- ---- the records of the table
 
@@ -49,14 +49,14 @@ none_refused (step.DeleteIndex id index) = refl
 
 -- what the records refuse that the session sees, those of the table refuse in any state that the engine holds
 pub refusals-told : SchemaLaws → (engine : EngineState) (state : DatabaseState) (session : ℕ) (called : SchemaCall) (made : SchemaStep) → HoldsState engine state → IsNumbered (catalog_in engine) → (levels_in session engine.sessions == 0) ≡ true
-    → first_refusal (record_refusals (table_or_new state called) made) ≡ first_refusal (step_refusals_in engine session (engine_table engine called) made)
-refusals-told laws engine state session called made h rise outside =
+    → has_other_transaction session engine.sessions ≡ false → first_refusal (record_refusals (table_or_new state called) made) ≡ first_refusal (step_refusals_in engine session (engine_table engine called) made)
+refusals-told laws engine state session called made h rise outside alone =
     by (called_table state called) refl ∙ ap (λ (found : Option Table). first_refusal (step_refusals_in engine session found made)) (sym (found-told laws engine state called h))
   where
     by : (found : Option Table) → called_table state called ≡ found
         → first_refusal (record_refusals (unwrap_or found (new_table 0 [])) made) ≡ first_refusal (step_refusals_in engine session (option_map without_rows found) made)
     by None e = none_refused made
-    by (Some t) e = ap (λ (rows : Rows). first_refusal (record_refusals (record t { rows = rows }) made)) (sym (rows-told laws engine state session called t h rise outside e))
+    by (Some t) e = ap (λ (rows : Rows). first_refusal (record_refusals (record t { rows = rows }) made)) (sym (rows-told laws engine state session called t h rise outside alone e))
 
 -- ---- the rule of the index
 
@@ -131,5 +131,5 @@ pub records-refuse : SchemaLaws → (engine : EngineState) (side : SessionSide) 
     → first_refusal (sessions_in engine side.session called) ≡ None → own ≡ side.session → found ≡ engine_table engine called → refusal ≡ first_refusal (step_refusals_in engine own found made)
     → (state : DatabaseState) → HoldsState engine state → first_refusal (record_refusals (table_or_new state called) made) ≡ refusal
 records-refuse laws engine side request called made own found refusal asked free is_own is_found is state h =
-    refusals-told laws engine state side.session called made h asked.rise (outside-passed engine side.session called free)
+    refusals-told laws engine state side.session called made h asked.rise (outside-passed engine side.session called free) (alone-passed engine side.session called free)
     ∙ sym (is ∙ ap (λ n. first_refusal (step_refusals_in engine n found made)) is_own ∙ ap (λ (o : Option Table). first_refusal (step_refusals_in engine side.session o made)) is_found)

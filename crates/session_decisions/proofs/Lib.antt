@@ -1,4 +1,3 @@
-pub mod SeenTables
 pub mod SessionCalls
 pub mod SchemaCalls
 pub mod RecordWalks

@@ -1,6 +1,6 @@
 -- What decides the schema calls that go over no record.
-use Rattle.std.proofs.Common.{◌≡◌, ℕ, suc, ◌≤◌, ◌<◌, Bool, true, false, cond, ◌&&◌, ◌||◌, List, [], ◌∷◌, length, map, Option, Some, None, Result, Ok, Err, refl, sym, ap, subst, ◌∙◌, option_map, unwrap_or, arith}
-use Rattle.std.specs.Prelude.{◌==◌, nat_le, nat_lt, not, bytes_eq, is_none, is_some, IfSome}
+use Rattle.std.proofs.Common.{◌≡◌, ℕ, suc, ◌<◌, Bool, true, false, cond, ◌&&◌, ◌||◌, List, [], ◌∷◌, length, map, Option, Some, None, Result, Ok, Err, refl, sym, ap, subst, ◌∙◌, option_map, unwrap_or, arith}
+use Rattle.std.specs.Prelude.{◌==◌, nat_le, nat_lt, not, bytes_eq, is_none, is_some}
 use Rattle.std.specs.Option.{option_or}
 use Rattle.std.proofs.lemmas.Bool.Decides.{nat_tests}
 use Rattle.jet_base.specs.declared.replies.Jet.{Jet}
@@ -15,16 +15,15 @@ use Rattle.index_derive.specs.declared.schema_calls.SchemaStep.{SchemaStep}
 use Rattle.index_derive.specs.Entries.{own_order}
 use Rattle.cursor_nav.specs.Places.{entry_after}
 use Rattle.database_state.specs.Table.{Rows, Table, rows_of, table_named, table_with_id}
-use Rattle.database_state.specs.State.{DatabaseState, PastChange, Transaction, levels_of, transaction_of}
-use Rattle.database_state.specs.View.{view, view_in}
+use Rattle.database_state.specs.State.{DatabaseState, levels}
 use Rattle.database_state.specs.Lawful.{is_name, log_limit}
 use Rattle.database_state.specs.Refusals.{Refusals, first_refusal}
 use Rattle.database_state.specs.SchemaChanges.{has_records, is_in_use, makes_table, new_table, record_refusals, schema_refusal}
 use Rattle.database_state.specs.SchemaSteps.{called_name, step_of_call}
-use Rattle.record_changes.specs.Records.{Records}
-use Rattle.version_history.specs.History.{IsBegun}
 use Rattle.version_keys.specs.TableOrder.{HasTablesInOrder}
-use Rattle.version_cleanup.specs.LiveSessions.{levels_in}
+use Rattle.version_cleanup.specs.Cleaning.{reader_in}
+use Rattle.version_cleanup.specs.LiveSessions.{has_other_transaction, levels_in}
+use Rattle.versioned_tables.specs.VersionedTables.{seen_tables}
 use Rattle.jet_catalog.specs.Catalog.{CatalogState, IsNumbered, catalog_of, database_of, ids_rise, without_rows}
 use Rattle.jet_catalog.specs.Decisions.{call_refusals, called_table, decided, refused_or, refusal_after, session_refusals, table_or_new}
 use Rattle.session_local.specs.declared.request.Request.{Request}
@@ -43,12 +42,11 @@ use Rattle.lawful_answers.specs.LawfulSteps.{HasLawfulStep}
 use Rattle.table_versions.specs.StoredVersions.{StoredVersions}
 use Rattle.built_calls.specs.BuiltCalls.{makes_named}
 use Rattle.built_calls.specs.SchemaRequests.{schema_call_of}
-use Rattle.engine_versions.specs.EngineState.{EngineState}
+use Rattle.engine_versions.specs.EngineState.{EngineState, has_table_open}
 use Rattle.engine_versions.specs.HoldsState.{HoldsState}
 use Rattle.engine_parts.specs.Deciding.{Decides, IsDecision}
 use Rattle.session_decisions.specs.SchemaRequests.{catalog_in, decided_in, engine_table, has_rows_in, is_missing, is_used, makes_new, is_schema_request, rows_for, sessions_in}
 use Rattle.decision_lemmas.proofs.Refusing.{AnswersLawfully, asked_by, refused_with, stepped_with, one_by, answer-begun, answer-is, answer-refused, decision-stepped}
-use Rattle.session_decisions.proofs.SeenTables.{ShowsView, seen-told}
 use Rattle.decision_lemmas.proofs.Told.{levels-told}
 
 -- ---- the laws that they rest on
@@ -59,7 +57,8 @@ pub record SchemaLaws : Type 0 where
   pub steps : (state : DatabaseState) (asked : SchemaCall) → step_of_call (database_of (catalog_of state)) asked ≡ step_of_call state asked
   pub decisions : (state : DatabaseState) (holds_records : Bool) (asked : SchemaCall) → decided (database_of (catalog_of state)) holds_records asked ≡ decided state holds_records asked
   pub named : (tables : List Table) (name : List ℕ) → table_named (map without_rows tables) name ≡ option_map without_rows (table_named tables name)
-  pub shows : ShowsView
+  pub settled : (engine : EngineState) (state : DatabaseState) → HoldsState engine state → (session : ℕ) → (levels state session == 0) ≡ true → has_other_transaction session engine.sessions ≡ false
+      → seen_tables (reader_in session engine.sessions) engine.store ≡ state.tables
   pub uses : (engine : EngineState) (state : DatabaseState) → HoldsState engine state → (session : ℕ) (found : Option Table) → is_in_use state session found ≡ is_used engine session found
   pub catalog : (engine : EngineState) (state : DatabaseState) → HoldsState engine state → catalog_of state ≡ catalog_in engine
 
@@ -187,20 +186,6 @@ numbered low high (x ∷ tables) h =
     let parts : (nat_lt low x.id ≡ true) × (ids_rise x.id high (map without_rows tables) ≡ true) = both _ _ h in
     ap (λ b. b && ids_rise x.id high tables) parts.0 ∙ numbered x.id high tables parts.1
 
--- outside a transaction a session sees the committed tables
-no_transaction : (number : ℕ) (tables : List Table) (base : Records) (kept : List PastChange) (transaction : Option Transaction) → IfSome transaction (IsBegun number tables base kept) → (levels_of transaction == 0) ≡ true → transaction ≡ None
-no_transaction number tables base kept None begun outside = refl
-no_transaction number tables base kept (Some t) begun outside = absurd (no t.levels begun.levels outside)
-  where
-    no : (n : ℕ) → 1 ≤ n → (n == 0) ≡ true → ⊥
-    no n h e = let z : n ≡ 0 = grind (arith, nat_tests) in omega (arith, h, z)
-
-view-outside : (engine : EngineState) (state : DatabaseState) (session : ℕ) → HoldsState engine state → (levels_in session engine.sessions == 0) ≡ true → view state session ≡ state.tables
-unfolding view
-view-outside engine state session h outside =
-    ap (view_in state session)
-    (no_transaction state.number state.tables h.base h.kept (transaction_of state session) (h.reached.history.keeps.begun session) (ap (λ n. n == 0) (levels-told engine state session h) ∙ outside))
-
 any_row : (rows : Rows) → nat_lt 0 (length rows) ≡ is_some (entry_after Before (own_order rows))
 any_row [] = refl
 any_row (row ∷ rows) = some (length rows)
@@ -208,29 +193,30 @@ any_row (row ∷ rows) = some (length rows)
     some : (n : ℕ) → nat_lt 0 (suc n) ≡ true
     some n = grind (arith, nat_tests)
 
--- the records of the table that the call names are those that the session sees
+-- where no session is in a transaction, the records of the table that the call names are those that the session sees
 pub rows-told : SchemaLaws → (engine : EngineState) (state : DatabaseState) (session : ℕ) (called : SchemaCall) (t : Table) → HoldsState engine state → IsNumbered (catalog_in engine) → (levels_in session engine.sessions == 0) ≡ true
-    → called_table state called ≡ Some t → rows_for engine session t.id ≡ t.rows
-rows-told laws engine state session called t h rise outside e =
-    ap rows_of (seen-told laws.shows engine state session h t.id ∙ ap (λ (tables : List Table). table_with_id tables t.id) (view-outside engine state session h outside) ∙ by_number 0 engine.greatest_table state.tables (called_name called) t rises e)
+    → has_other_transaction session engine.sessions ≡ false → called_table state called ≡ Some t → rows_for engine session t.id ≡ t.rows
+rows-told laws engine state session called t h rise outside alone e =
+    ap (λ (tables : List Table). rows_of (table_with_id tables t.id)) (laws.settled engine state h session (ap (λ n. n == 0) (levels-told engine state session h) ∙ outside) alone)
+    ∙ ap rows_of (by_number 0 engine.greatest_table state.tables (called_name called) t rises e)
   where
     rises : ids_rise 0 engine.greatest_table state.tables ≡ true
     rises = numbered 0 engine.greatest_table state.tables (subst (λ (tables : List Table). ids_rise 0 engine.greatest_table tables ≡ true) h.holds.defined rise)
 
 records-told : SchemaLaws → (engine : EngineState) (state : DatabaseState) (session : ℕ) (called : SchemaCall) → HoldsState engine state → IsNumbered (catalog_in engine) → (levels_in session engine.sessions == 0) ≡ true
-    → has_records (table_or_new state called) ≡ has_rows_in engine session (engine_table engine called)
-records-told laws engine state session called h rise outside = by (called_table state called) refl ∙ ap (has_rows_in engine session) (sym (found-told laws engine state called h))
+    → has_other_transaction session engine.sessions ≡ false → has_records (table_or_new state called) ≡ has_rows_in engine session (engine_table engine called)
+records-told laws engine state session called h rise outside alone = by (called_table state called) refl ∙ ap (has_rows_in engine session) (sym (found-told laws engine state called h))
   where
     by : (found : Option Table) → called_table state called ≡ found → has_records (unwrap_or found (new_table 0 [])) ≡ has_rows_in engine session (option_map without_rows found)
     by None e = refl
-    by (Some t) e = any_row t.rows ∙ ap (λ (r : Rows). is_some (entry_after Before (own_order r))) (sym (rows-told laws engine state session called t h rise outside e))
+    by (Some t) e = any_row t.rows ∙ ap (λ (r : Rows). is_some (entry_after Before (own_order r))) (sym (rows-told laws engine state session called t h rise outside alone e))
 
 -- ---- what the catalog decides
 
 decided-told : SchemaLaws → (engine : EngineState) (state : DatabaseState) (session : ℕ) (called : SchemaCall) → HoldsState engine state → IsNumbered (catalog_in engine) → (levels_in session engine.sessions == 0) ≡ true
-    → decided state (has_records (table_or_new state called)) called ≡ decided_in engine session called
-decided-told laws engine state session called h rise outside =
-    ap (λ holds. decided state holds called) (records-told laws engine state session called h rise outside)
+    → has_other_transaction session engine.sessions ≡ false → decided state (has_records (table_or_new state called)) called ≡ decided_in engine session called
+decided-told laws engine state session called h rise outside alone =
+    ap (λ holds. decided state holds called) (records-told laws engine state session called h rise outside alone)
     ∙ sym (laws.decisions state (has_rows_in engine session (engine_table engine called)) called)
     ∙ ap (λ (c : CatalogState). decided (database_of c) (has_rows_in engine session (engine_table engine called)) called) (laws.catalog engine state h)
 
@@ -289,12 +275,22 @@ outside-passed engine session called is = by (levels_in session engine.sessions 
     by true e = refl
     by false e = cc
 
+pub alone-passed : (engine : EngineState) (session : ℕ) (called : SchemaCall) → first_refusal (sessions_in engine session called) ≡ None → has_other_transaction session engine.sessions ≡ false
+alone-passed engine session called is =
+    by (not (levels_in session engine.sessions == 0)) (is_missing called (engine_table engine called)) (has_other_transaction session engine.sessions) (has_table_open engine.sessions (engine_table engine called)) is
+  where
+    by : (inside missing other open_table : Bool) → first_refusal ((inside, jet.InTransaction) ∷ (missing, jet.ObjectNotFound) ∷ (other || open_table, jet.TableInUse) ∷ []) ≡ None → other ≡ false
+    by true missing other open_table e = cc
+    by false true other open_table e = cc
+    by false false true open_table e = cc
+    by false false false open_table e = refl
+
 free-told : SchemaLaws → (engine : EngineState) (side : SessionSide) (request : Request) (called : SchemaCall) (state : DatabaseState) → HoldsState engine state → IsAsked engine side request called → first_refusal (sessions_in engine side.session called) ≡ None
     → schema_refusal state side.session (step_of_call state called) ≡ refusal_after (decided_in engine side.session called) (table_or_new state called)
 free-told laws engine side request called state h asked free =
     refusal-told laws engine side request called state h asked
     ∙ ap (λ first. option_or first (refusal_after (decided state (has_records (table_or_new state called)) called) (table_or_new state called))) free
-    ∙ ap (λ decision. refusal_after decision (table_or_new state called)) (decided-told laws engine state side.session called h asked.rise (outside-passed engine side.session called free))
+    ∙ ap (λ decision. refusal_after decision (table_or_new state called)) (decided-told laws engine state side.session called h asked.rise (outside-passed engine side.session called free) (alone-passed engine side.session called free))
 
 -- the catalog refuses it
 pub schema-refused : SchemaLaws → (engine : EngineState) (side : SessionSide) (request : Request) (called : SchemaCall) (reply : Jet) → IsAsked engine side request called → first_refusal (sessions_in engine side.session called) ≡ None

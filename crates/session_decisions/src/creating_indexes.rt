@@ -10,7 +10,9 @@ ghost use Rattle.session_decisions.specs.CreatingIndexes.{HasKeys, makes_index, 
 use crate::index_records::records_refusal;
 use crate::schema_calls::{called_table, has_records, sessions_refusal};
 use engine_parts::{Engine, done, one, refused};
-use engine_versions::{an_answer_is_lawful_and_stays_in_step, tables_are_told, uses_are_told};
+use engine_versions::{
+    an_answer_is_lawful_and_stays_in_step, newest_records_are_told, tables_are_told, uses_are_told,
+};
 use index_derive::{EntryKind, NamedCondition, NamedSegment, SchemaCall, SchemaStep};
 use jet_base::{Items, Jet, OutOfMemory, Session};
 use jet_catalog::{
@@ -19,7 +21,6 @@ use jet_catalog::{
 };
 use session_local::{Decision, Local, Request};
 use std::alloc::Global;
-use versioned_tables::a_session_is_shown_its_view;
 
 /// CreateIndex. Its name has 1 to 64 bytes, and its keys at most 255.
 pub fn create_index(
@@ -36,7 +37,7 @@ pub fn create_index(
     refusals_of_a_call();
     calls_ask_the_same_without_records();
     tables_are_found_without_records();
-    a_session_is_shown_its_view();
+    newest_records_are_told();
     uses_are_told();
     tables_are_told();
     an_answer_is_lawful_and_stays_in_step();

@@ -11,7 +11,7 @@ ghost use Rattle.database_state.specs.SchemaSteps.{called_name};
 ghost use Rattle.session_decisions.specs.SchemaRequests.{engine_table, has_rows_in, is_missing, is_schema_request, is_used, sessions_in};
 
 use engine_parts::{Engine, done, one, refused};
-use engine_versions::{tables_are_told, uses_are_told};
+use engine_versions::{newest_records_are_told, tables_are_told, uses_are_told};
 use index_derive::{EntryKind, Place, SchemaCall};
 use jet_base::{Jet, OutOfMemory, Session};
 use jet_catalog::{
@@ -22,7 +22,6 @@ use lawful_answers::{
     steps_of_columns_are_lawful, steps_of_indexes_are_lawful, steps_of_tables_are_lawful,
 };
 use session_local::{Decision, Local, Request};
-use versioned_tables::a_session_is_shown_its_view;
 
 /// CreateTable, DeleteTable, AddColumn, DeleteColumn or DeleteIndex. What is made has a name of 1 to 64 bytes.
 pub fn change_schema(
@@ -39,7 +38,7 @@ pub fn change_schema(
     refusals_of_a_call();
     calls_ask_the_same_without_records();
     tables_are_found_without_records();
-    a_session_is_shown_its_view();
+    newest_records_are_told();
     uses_are_told();
     tables_are_told();
     steps_of_tables_are_lawful();

@@ -1,29 +1,33 @@
 -- What an update asks of a unique index, by the held changes and of the state.
-use Rattle.std.proofs.Common.{◌≡◌, ℕ, true, not, ◌&&◌, List, [], ◌∷◌, Option, Some, None, option_map, refl, sym, ap, ◌∙◌}
-use Rattle.std.specs.Prelude.{bytes_eq, is_some}
-use Rattle.std.specs.List.{list_any}
+use Rattle.std.proofs.Common.{◌≡◌, ℕ, true, not, ◌&&◌, List, [], ◌∷◌, Option, Some, None, filter, option_map, unwrap_or, refl, sym, ap, ◌∙◌}
+use Rattle.std.specs.Prelude.{bytes_eq, is_some, IsSomeAnd}
+use Rattle.std.specs.List.{AllByRecursion, list_any}
 use Rattle.column_set.specs.RecordValues.{RecordFields}
 use Rattle.cursor_nav.specs.Places.{Pair}
-use Rattle.database_state.specs.Conflicts.{has_key_conflict as has_key_conflict_in}
+use Rattle.database_state.specs.Conflicts.{has_key_conflict as has_key_conflict_in, yields_key}
 use Rattle.database_state.specs.Puts.{is_replaced, is_taken, new_keys, replaced_record}
 use Rattle.database_state.specs.State.{DatabaseState, PastChange, transaction_of}
-use Rattle.database_state.specs.Table.{Table, record_in, row_at, rows_of, schema_of, table_with_id}
+use Rattle.database_state.specs.Table.{Table, index_entries, record_in, row_at, rows_of, schema_of, table_with_id}
 use Rattle.database_state.specs.View.{view}
 use Rattle.index_derive.specs.declared.rules.IndexRule.{IndexRule}
 use Rattle.index_derive.specs.declared.rules.Schema.{Schema}
 use Rattle.index_derive.specs.Entries.{key_list}
 use Rattle.jet_base.specs.declared.replies.Jet.TheVariants as jet
 use Rattle.record_changes.specs.Records.{Records, records_of}
+use Rattle.record_changes.proofs.Tests.{impossible}
+use Rattle.version_history.specs.History.{without_rows}
+use Rattle.version_history.proofs.Lists.{all_weaker}
+use Rattle.version_history.proofs.Viewing.{same_there}
 use Rattle.version_keys.specs.KeySums.{HasKeyBefores, SeesNoSum}
-use Rattle.version_keys.specs.Variants.{HasNoSums}
-use Rattle.version_keys.proofs.KeySums.{befores_of_none, sees_none}
 use Rattle.version_store.specs.declared.calls.Reader.{Reader}
 use Rattle.versioned_tables.specs.HeldRecords.{has_key_conflict, seen_record}
 use Rattle.versioned_tables.specs.Holding.{Holds, begin_of}
-use Rattle.versioned_tables.specs.VersionedTables.{VersionedTables, seen_table, seen_tables}
+use Rattle.versioned_tables.specs.VersionedTables.{VersionedTables, seen_tables}
+use Rattle.versioned_tables.proofs.HeldSums.{keys_shown}
+use Rattle.versioned_tables.proofs.Rising.{found_without}
+use Rattle.versioned_tables.proofs.Views.{seen_defined, view_defined}
 use Rattle.table_versions.specs.KeyConflicts.{has_conflict_over, replaced_seen, unique_refusals}
 use Rattle.table_versions.specs.StoredVersions.{entries_in}
-use Rattle.versioned_tables.proofs.SeenTables.{seen_at_id}
 
 -- the laws that it rests on
 abbrev pub TellsConflicts : Type 0
@@ -33,50 +37,95 @@ TellsConflicts =
     → SeesNoSum rule table kept → HasKeyBefores rule schema table base kept → (key : List ℕ)
     → has_key_conflict reader (records_of store.tables) table rule schema key store.held ≡ has_key_conflict_in state reader.session.0 table schema rule key
 
-abbrev pub ShowsTheView : Type 0
-ShowsTheView =
-    (base : Records) (dropped kept : List PastChange) (store : VersionedTables) (state : DatabaseState) → Holds base dropped kept store state → HasNoSums kept
-    → (reader : Reader) → reader.begin ≡ begin_of (transaction_of state reader.session.0) → (table : ℕ) → table_with_id (seen_tables reader store) table ≡ table_with_id (view state reader.session.0) table
+abbrev pub ShowsEntries : Type 0
+ShowsEntries =
+    (base : Records) (dropped kept : List PastChange) (store : VersionedTables) (state : DatabaseState) → Holds base dropped kept store state
+    → (reader : Reader) → reader.begin ≡ begin_of (transaction_of state reader.session.0) → (table : ℕ) (schema : Schema) → AllByRecursion (λ rule. SeesNoSum rule table kept) schema.indexes → (index : ℕ)
+    → index_entries schema (rows_of (table_with_id (seen_tables reader store) table)) index ≡ index_entries schema (rows_of (table_with_id (view state reader.session.0) table)) index
 
 abbrev pub FindsShown : Type 0
 FindsShown =
     (reader : Reader) (store : VersionedTables) (table : ℕ) (bookmark : List ℕ) → is_some (table_with_id store.tables table) ≡ true
     → record_in (seen_tables reader store) table bookmark ≡ seen_record table bookmark reader (record_in store.tables table bookmark) store.held
 
--- a table that is seen is there
-there : (reader : Reader) (store : VersionedTables) (table : ℕ) (seen : Table) → table_with_id (seen_tables reader store) table ≡ Some seen → is_some (table_with_id store.tables table) ≡ true
-there reader store table seen e = by (table_with_id store.tables table) (ap is_some (sym (seen_at_id reader store.held store.tables table) ∙ e))
-  where
-    by : (o : Option Table) → is_some (option_map (seen_table reader store.held) o) ≡ true → is_some o ≡ true
-    by None e = e
-    by (Some t) e = refl
+-- ---- the table that is shown
 
-replaced : FindsShown → (reader : Reader) (store : VersionedTables) (table : ℕ) (seen : Table) → table_with_id (seen_tables reader store) table ≡ Some seen → (own : Option (List ℕ))
-    → replaced_seen reader store table own ≡ replaced_record seen.rows own
-replaced finds reader store table seen e None = refl
-replaced finds reader store table seen e (Some own) =
-    sym (finds reader store table own (there reader store table seen e)) ∙ ap (λ (o : Option Table). row_at (rows_of o) own) e
+some_table : (o : Option Table) (seen : Table) → option_map without_rows o ≡ Some (without_rows seen) → IsSomeAnd o (λ t. schema_of t ≡ schema_of seen)
+some_table None seen e = impossible (ap is_some e)
+some_table (Some t) seen e = ap (λ (o : Option Table). schema_of (unwrap_or o t)) e
 
-pub asked_of_the_state : TellsConflicts → ShowsTheView → FindsShown
-    → (base : Records) (dropped kept : List PastChange) (store : VersionedTables) (state : DatabaseState) → Holds base dropped kept store state → HasNoSums kept
+-- it has the schema of the view's
+schema_shown : (base : Records) (dropped kept : List PastChange) (store : VersionedTables) (state : DatabaseState) → Holds base dropped kept store state → (reader : Reader) (table : ℕ) (seen : Table)
+    → table_with_id (view state reader.session.0) table ≡ Some seen → IsSomeAnd (table_with_id (seen_tables reader store) table) (λ t. schema_of t ≡ schema_of seen)
+schema_shown base dropped kept store state h reader table seen found =
+    some_table (table_with_id (seen_tables reader store) table) seen
+    (sym (found_without (seen_tables reader store) table)
+    ∙ ap (λ (tables : List Table). table_with_id tables table) (seen_defined reader store.held store.tables ∙ h.defined ∙ sym (view_defined base dropped kept store state h reader.session.0))
+    ∙ found_without (view state reader.session.0) table
+    ∙ ap (option_map without_rows) found)
+
+entries_by : (index : ℕ) (o : Option Table) (schema : Schema) → IsSomeAnd o (λ t. schema_of t ≡ schema) → entries_in index o ≡ index_entries schema (rows_of o) index
+entries_by index None schema has = absurd has
+entries_by index (Some t) schema has = ap (λ (s : Schema). index_entries s t.rows index) has
+
+-- ---- what is asked of one rule
+
+asked_of_rule : TellsConflicts → ShowsEntries → FindsShown
+    → (base : Records) (dropped kept : List PastChange) (store : VersionedTables) (state : DatabaseState) → Holds base dropped kept store state
     → (reader : Reader) → reader.begin ≡ begin_of (transaction_of state reader.session.0)
-    → (table : ℕ) (seen : Table) → table_with_id (view state reader.session.0) table ≡ Some seen → (rule : IndexRule) (own : Option (List ℕ)) (values : RecordFields)
+    → (table : ℕ) (seen : Table) → table_with_id (view state reader.session.0) table ≡ Some seen → AllByRecursion (λ rule. SeesNoSum rule table kept) (schema_of seen).indexes
+    → (rule : IndexRule) → SeesNoSum rule table kept × HasKeyBefores rule (schema_of seen) table base kept → (own : Option (List ℕ)) (values : RecordFields)
     → unique_refusals reader store table (schema_of seen) rule own values
     ≡ (list_any (has_key_conflict_in state reader.session.0 table (schema_of seen) rule) (new_keys rule (schema_of seen) (replaced_record seen.rows own) values), jet.WriteConflict)
     ∷ (list_any (is_taken (schema_of seen) seen.rows rule own) (key_list rule (schema_of seen) values), jet.KeyDuplicate) ∷ []
-asked_of_the_state tells shows finds base dropped kept store state h none reader e table seen found rule own values =
+asked_of_rule tells shows finds base dropped kept store state h reader e table seen found plain rule apart own values =
     λ i. (conflicts i, jet.WriteConflict) ∷ (taken i, jet.KeyDuplicate) ∷ []
   where
-    is_seen : table_with_id (seen_tables reader store) table ≡ Some seen
-    is_seen = shows base dropped kept store state h none reader e table ∙ found
+    there : is_some (table_with_id store.tables table) ≡ true
+    there = sym (same_there (view state reader.session.0) store.tables (view_defined base dropped kept store state h reader.session.0 ∙ sym h.defined) table) ∙ ap is_some found
 
     over : (key : List ℕ) → has_conflict_over reader store table rule (schema_of seen) key ≡ has_key_conflict_in state reader.session.0 table (schema_of seen) rule key
-    over key = tells base dropped kept store state h reader e table (schema_of seen) rule (sees_none rule table kept none) (befores_of_none rule (schema_of seen) table kept base none) key
+    over key = tells base dropped kept store state h reader e table (schema_of seen) rule apart.0 apart.1 key
+
+    replaced : (own : Option (List ℕ)) (key : List ℕ) → yields_key rule (schema_of seen) key (replaced_seen reader store table own) ≡ yields_key rule (schema_of seen) key (replaced_record seen.rows own)
+    replaced None key = refl
+    replaced (Some own) key =
+        ap (yields_key rule (schema_of seen) key) (sym (finds reader store table own there))
+        ∙ keys_shown base dropped kept store state h reader e table rule (schema_of seen) apart.0 key own
+        ∙ ap (λ (o : Option Table). yields_key rule (schema_of seen) key (row_at (rows_of o) own)) found
 
     conflicts : list_any (has_conflict_over reader store table rule (schema_of seen)) (new_keys rule (schema_of seen) (replaced_seen reader store table own) values)
         ≡ list_any (has_key_conflict_in state reader.session.0 table (schema_of seen) rule) (new_keys rule (schema_of seen) (replaced_record seen.rows own) values)
-    conflicts = λ i. list_any (λ key. over key i) (new_keys rule (schema_of seen) (replaced finds reader store table seen is_seen own i) values)
+    conflicts = λ i. list_any (λ key. over key i) (filter (λ key. not (replaced own key i)) (key_list rule (schema_of seen) values))
+
+    entries : entries_in rule.id.0 (table_with_id (seen_tables reader store) table) ≡ index_entries (schema_of seen) seen.rows rule.id.0
+    entries =
+        entries_by rule.id.0 (table_with_id (seen_tables reader store) table) (schema_of seen) (schema_shown base dropped kept store state h reader table seen found)
+        ∙ shows base dropped kept store state h reader e table (schema_of seen) plain rule.id.0
+        ∙ ap (λ (o : Option Table). index_entries (schema_of seen) (rows_of o) rule.id.0) found
 
     taken : list_any (λ key. list_any (λ entry. bytes_eq entry.0 key && not (is_replaced own entry.1)) (entries_in rule.id.0 (table_with_id (seen_tables reader store) table))) (key_list rule (schema_of seen) values)
         ≡ list_any (is_taken (schema_of seen) seen.rows rule own) (key_list rule (schema_of seen) values)
-    taken = ap (λ (o : Option Table). list_any (λ key. list_any (λ (entry : Pair). bytes_eq entry.0 key && not (is_replaced own entry.1)) (entries_in rule.id.0 o)) (key_list rule (schema_of seen) values)) is_seen
+    taken = ap (λ (l : List Pair). list_any (λ key. list_any (λ (entry : Pair). bytes_eq entry.0 key && not (is_replaced own entry.1)) l) (key_list rule (schema_of seen) values)) entries
+
+-- ---- of each
+
+pub asked_of_the_state : TellsConflicts → ShowsEntries → FindsShown
+    → (base : Records) (dropped kept : List PastChange) (store : VersionedTables) (state : DatabaseState) → Holds base dropped kept store state
+    → (reader : Reader) → reader.begin ≡ begin_of (transaction_of state reader.session.0)
+    → (table : ℕ) (seen : Table) → table_with_id (view state reader.session.0) table ≡ Some seen
+    → AllByRecursion (λ rule. SeesNoSum rule table kept × HasKeyBefores rule (schema_of seen) table base kept) (schema_of seen).indexes
+    → AllByRecursion (λ rule. (own : Option (List ℕ)) (values : RecordFields)
+    → unique_refusals reader store table (schema_of seen) rule own values
+    ≡ (list_any (has_key_conflict_in state reader.session.0 table (schema_of seen) rule) (new_keys rule (schema_of seen) (replaced_record seen.rows own) values), jet.WriteConflict)
+    ∷ (list_any (is_taken (schema_of seen) seen.rows rule own) (key_list rule (schema_of seen) values), jet.KeyDuplicate) ∷ []) (schema_of seen).indexes
+asked_of_the_state tells shows finds base dropped kept store state h reader e table seen found apart =
+    let IsApart : IndexRule → Type 0 = λ rule. SeesNoSum rule table kept × HasKeyBefores rule (schema_of seen) table base kept in
+    all_weaker IsApart
+    (λ rule. (own : Option (List ℕ)) (values : RecordFields)
+    → unique_refusals reader store table (schema_of seen) rule own values
+    ≡ (list_any (has_key_conflict_in state reader.session.0 table (schema_of seen) rule) (new_keys rule (schema_of seen) (replaced_record seen.rows own) values), jet.WriteConflict)
+    ∷ (list_any (is_taken (schema_of seen) seen.rows rule own) (key_list rule (schema_of seen) values), jet.KeyDuplicate) ∷ [])
+    (asked_of_rule tells shows finds base dropped kept store state h reader e table seen found
+    (all_weaker IsApart (λ rule. SeesNoSum rule table kept) (λ rule both. both.0) (schema_of seen).indexes apart))
+    (schema_of seen).indexes apart

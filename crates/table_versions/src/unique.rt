@@ -1,7 +1,7 @@
 //! What an update asks of a unique index.
 
 ghost use Rattle.std.specs.Prelude.{◌≡◌, ℕ, ◌≤◌, ◌&&◌, not, true, List, [], ◌∷◌, IsOk, IsSomeAnd, Option, Some, option_copied, option_map};
-ghost use Rattle.std.specs.List.{list_any};
+ghost use Rattle.std.specs.List.{AllByRecursion, list_any};
 ghost use Rattle.jet_base.specs.declared.replies.Jet.TheVariants as jet;
 ghost use Rattle.column_set.specs.RecordValues.{RecordFields};
 ghost use Rattle.column_set.specs.Refusals.{first_refusal};
@@ -14,7 +14,7 @@ ghost use Rattle.database_state.specs.View.{view};
 ghost use Rattle.index_derive.specs.declared.rules.IndexRule.{IndexRule};
 ghost use Rattle.index_derive.specs.Entries.{entries, is_legal, key_list};
 ghost use Rattle.record_changes.specs.Records.{Records};
-ghost use Rattle.version_keys.specs.Variants.{HasNoSums};
+ghost use Rattle.version_keys.specs.KeySums.{HasKeyBefores, SeesNoSum};
 ghost use Rattle.version_store.specs.declared.calls.Reader.{Reader};
 ghost use Rattle.versioned_tables.specs.Holding.{Holds, begin_of};
 ghost use Rattle.versioned_tables.specs.VersionedTables.{VersionedTables};
@@ -29,7 +29,7 @@ use jet_base::{Jet, TableId};
 use key_normal::Key;
 use version_store::Reader;
 use versioned_tables::{
-    a_reader_finds_the_records_that_it_is_shown, a_session_is_shown_its_view,
+    a_reader_finds_the_records_that_it_is_shown, a_reader_is_shown_the_entries_of_its_view,
     held_changes_tell_key_conflicts,
 };
 
@@ -243,17 +243,19 @@ fn lacks_key(rule: &IndexRule, schema: &Schema, row: &Option<RowRef<'_>>, key: &
     }
 }
 
-/// What an update asks of a unique index by the held changes is what it asks of the state: the table is one of the session's
-/// view, and no escrow column was changed.
+/// What an update asks of each unique index by the held changes is what it asks of the state: the table is one of the session's
+/// view, and none of its indexes names the column of a kept sum, nor sees one in the records before them.
 pub fn unique_keys_are_asked_as_of_the_state()
-    ensures { (base : Records) (dropped kept : List PastChange) (store : VersionedTables) (state : DatabaseState) → Holds base dropped kept store state → HasNoSums kept
+    ensures { (base : Records) (dropped kept : List PastChange) (store : VersionedTables) (state : DatabaseState) → Holds base dropped kept store state
         → (reader : Reader) → reader.begin ≡ begin_of (transaction_of state reader.session.0)
-        → (table : ℕ) (seen : Table) → table_with_id (view state reader.session.0) table ≡ Some seen → (rule : IndexRule) (own : Option (List ℕ)) (values : RecordFields)
+        → (table : ℕ) (seen : Table) → table_with_id (view state reader.session.0) table ≡ Some seen
+        → AllByRecursion (λ rule. SeesNoSum rule table kept × HasKeyBefores rule (schema_of seen) table base kept) (schema_of seen).indexes
+        → AllByRecursion (λ rule. (own : Option (List ℕ)) (values : RecordFields)
         → unique_refusals reader store table (schema_of seen) rule own values
         ≡ (list_any (has_key_conflict state reader.session.0 table (schema_of seen) rule) (new_keys rule (schema_of seen) (replaced_record seen.rows own) values), jet.WriteConflict)
-        ∷ (list_any (is_taken (schema_of seen) seen.rows rule own) (key_list rule (schema_of seen) values), jet.KeyDuplicate) ∷ [] }
+        ∷ (list_any (is_taken (schema_of seen) seen.rows rule own) (key_list rule (schema_of seen) values), jet.KeyDuplicate) ∷ []) (schema_of seen).indexes }
 {
     held_changes_tell_key_conflicts();
-    a_session_is_shown_its_view();
+    a_reader_is_shown_the_entries_of_its_view();
     a_reader_finds_the_records_that_it_is_shown();
 }

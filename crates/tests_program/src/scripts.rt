@@ -88,8 +88,8 @@ fn a_call_keeps_the_label_of_its_line(rt: HostRuntime) -> Result<(), Fail> {
     Ok(())
 }
 
-/// Fifteen built lines, a sum, which is not built, and a built line.
-const WITH_A_SUM: &[u8] = b"1 BeginSession
+/// Fifteen built lines, a column of a long type, which is not built, and a built line.
+const WITH_A_LONG_COLUMN: &[u8] = b"1 BeginSession
 1 CreateTable T
 1 AddColumn T id Long
 1 AddColumn T name Text
@@ -104,21 +104,24 @@ const WITH_A_SUM: &[u8] = b"1 BeginSession
 1 SetColumn 1 id 1 n:-3
 1 Update 1
 1 CommitTransaction
-1 EscrowUpdate 1 id 1
+1 AddColumn T body LongText
 1 EndSession
 ";
 
 #[test]
 fn the_first_line_that_is_not_built_is_named(rt: HostRuntime) {
     for (script, line) in [
-        (WITH_A_SUM, 16),
+        (WITH_A_LONG_COLUMN, 16),
         (
-            b"1 BeginSession\n\n# none\n1 EscrowUpdate 1 a 1\n".as_slice(),
+            b"1 BeginSession\n\n# none\n1 AddColumn T a LongBinary\n".as_slice(),
             4,
         ),
         (b"2 BeginSession\n100 BeginSession\n", 2),
         (b"1 CreateTable T\n1 AddColumn T a LongText\n", 2),
-        (b"1 CreateTable T\n1 AddColumn T a Long escrow\n", 2),
+        (
+            b"1 AddColumn T a Long escrow\n1 EscrowUpdate 1 a 2147483648\n",
+            2,
+        ),
         (b"1 PrepareUpdate 1 insert\n1 PrepareUpdate 1 other\n", 2),
         (b"1 BeginSession\r\n", 1),
         (b"\n\n1  BeginSession", 3),

@@ -122,7 +122,7 @@ number_shown base dropped kept store state h reader e id bookmark stored seen fo
 
 -- ---- indexes
 
-keys_shown : (base : Records) (dropped kept : List PastChange) (store : VersionedTables) (state : DatabaseState) → Holds base dropped kept store state → (reader : Reader) → reader.begin ≡ begin_of (transaction_of state reader.session.0)
+pub keys_shown : (base : Records) (dropped kept : List PastChange) (store : VersionedTables) (state : DatabaseState) → Holds base dropped kept store state → (reader : Reader) → reader.begin ≡ begin_of (transaction_of state reader.session.0)
     → (id : ℕ) (rule : IndexRule) (schema : Schema) → SeesNoSum rule id kept → (key bookmark : List ℕ)
     → yields_key rule schema key (record_in (seen_tables reader store) id bookmark) ≡ yields_key rule schema key (record_in (view state reader.session.0) id bookmark)
 keys_shown base dropped kept store state h reader e id rule schema plain key bookmark = elim (shown_or_none base dropped kept store state h reader e id bookmark) [
@@ -130,7 +130,7 @@ keys_shown base dropped kept store state h reader e id rule schema plain key boo
   | inr found ↦ ap (yields_key rule schema key) found ∙ found_keys base dropped kept state h.history reader.session.0 id rule schema plain bookmark key
 ]
 
-rise_at : (tables : List Table) (id : ℕ) → AllRise tables → RowsRise (rows_of (table_with_id tables id))
+pub rise_at : (tables : List Table) (id : ℕ) → AllRise tables → RowsRise (rows_of (table_with_id tables id))
 rise_at [] id h = tt
 rise_at (t ∷ tables) id h = elim (t.id == id) as (λ b. RowsRise (rows_of (cond b (Some t) (table_with_id tables id)))) [ true ↦ h.0 | false ↦ rise_at tables id h.1 ]
 

@@ -24,3 +24,4 @@ pub mod Neighbours
 pub mod HeldSums
 pub mod ViewedRecords
 pub mod UnseenSums
+pub mod ShownIndexes

@@ -67,7 +67,7 @@ found_rises (t ∷ tables) id h = by (t.id == id) (found_rises tables id h.1)
     by true rest = h.0
     by false rest = rest
 
-found_without : (tables : List Table) (id : ℕ) → table_with_id (map without_rows tables) id ≡ option_map without_rows (table_with_id tables id)
+pub found_without : (tables : List Table) (id : ℕ) → table_with_id (map without_rows tables) id ≡ option_map without_rows (table_with_id tables id)
 found_without [] id = refl
 found_without (t ∷ tables) id = by (t.id == id) (found_without tables id)
   where

@@ -31,8 +31,8 @@ pub use steps::{
     tables_in_order_have_records_that_rise, undone_changes_are_taken_back,
 };
 pub use sums::{
-    a_reader_is_shown_records_with_unseen_sums, a_reader_is_shown_the_index_of_its_view,
-    a_reader_sees_stored_numbers_without_unseen_sums,
+    a_reader_is_shown_records_with_unseen_sums, a_reader_is_shown_the_entries_of_its_view,
+    a_reader_is_shown_the_index_of_its_view, a_reader_sees_stored_numbers_without_unseen_sums,
 };
 pub use variants::{
     a_change_adds_the_keys_that_it_leaves, a_clean_takes_the_keys_that_no_variant_has,

@@ -1,12 +1,13 @@
 //! Sums of escrow columns under a reader.
 
 ghost use Rattle.std.specs.Prelude.{◌≡◌, ℕ, List, [], Option, Some, option_map};
+ghost use Rattle.std.specs.List.{AllByRecursion};
 ghost use Rattle.column_set.specs.RecordValues.{RecordFields, values_of};
 ghost use Rattle.index_derive.specs.declared.rules.IndexRule.{IndexRule};
 ghost use Rattle.index_derive.specs.declared.rules.Schema.{Schema};
 ghost use Rattle.index_derive.specs.Entries.{derive};
 ghost use Rattle.database_state.specs.State.{DatabaseState, PastChange, transaction_of};
-ghost use Rattle.database_state.specs.Table.{record_in, rows_of, table_with_id};
+ghost use Rattle.database_state.specs.Table.{index_entries, record_in, rows_of, table_with_id};
 ghost use Rattle.database_state.specs.View.{view};
 ghost use Rattle.record_changes.specs.Records.{Records};
 ghost use Rattle.version_sums.specs.EscrowSums.{amounts_to, escrow_value, seen_value, with_sums};
@@ -48,6 +49,18 @@ pub fn a_reader_is_shown_the_index_of_its_view()
     ensures { (base : Records) (dropped kept : List PastChange) (store : VersionedTables) (state : DatabaseState) → Holds base dropped kept store state
         → (reader : Reader) → reader.begin ≡ begin_of (transaction_of state reader.session.0) → (table : ℕ) (rule : IndexRule) (schema : Schema) → SeesNoSum rule table kept
         → derive rule schema (rows_of (table_with_id (seen_tables reader store) table)) ≡ derive rule schema (rows_of (table_with_id (view state reader.session.0) table)) }
+{
+    derived_entries_are_in_order();
+    entries_are_of_their_records();
+    entries_in_order_are_told_by_those_that_are_there();
+}
+
+/// So is each index of a schema whose indexes name no such column, the records' own order among them: there the reader is shown
+/// the entries of its view.
+pub fn a_reader_is_shown_the_entries_of_its_view()
+    ensures { (base : Records) (dropped kept : List PastChange) (store : VersionedTables) (state : DatabaseState) → Holds base dropped kept store state
+        → (reader : Reader) → reader.begin ≡ begin_of (transaction_of state reader.session.0) → (table : ℕ) (schema : Schema) → AllByRecursion (λ rule. SeesNoSum rule table kept) schema.indexes → (index : ℕ)
+        → index_entries schema (rows_of (table_with_id (seen_tables reader store) table)) index ≡ index_entries schema (rows_of (table_with_id (view state reader.session.0) table)) index }
 {
     derived_entries_are_in_order();
     entries_are_of_their_records();

@@ -3,7 +3,7 @@ use Rattle.engine_parts.proofs.laws.a_session_reads_its_view.Goals as goal
 
 pub returns-clause-entries : goal.returns-clause-entries
 returns-clause-entries c engine state session local label cursor h step found =
-    entries_read c.a_session_sees_its_view.ensures.table engine state session local label cursor h step found
+    entries_read c.a_reader_is_shown_the_entries_of_its_view.ensures engine state session local label cursor h step found
 
 pub returns-clause-records : goal.returns-clause-records
 returns-clause-records c engine state session local label cursor h step found =

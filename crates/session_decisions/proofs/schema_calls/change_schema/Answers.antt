@@ -21,7 +21,7 @@ returns-in-Some-clause-answer c =
     let engine = c.args.engine.now in
     let side = c.args.local.now in
     let called = c.in_ok-call.call in
-    let laws : SchemaLaws = record { composed = c.refusals_of_a_call.ensures; steps = c.calls_ask_the_same_without_records.ensures.step; decisions = c.calls_ask_the_same_without_records.ensures.decided; named = c.tables_are_found_without_records.ensures.named; shows = c.a_session_is_shown_its_view.ensures; uses = c.uses_are_told.ensures; catalog = c.tables_are_told.ensures.catalog } in
+    let laws : SchemaLaws = record { composed = c.refusals_of_a_call.ensures; steps = c.calls_ask_the_same_without_records.ensures.step; decisions = c.calls_ask_the_same_without_records.ensures.decided; named = c.tables_are_found_without_records.ensures.named; settled = c.newest_records_are_told.ensures.shown; uses = c.uses_are_told.ensures; catalog = c.tables_are_told.ensures.catalog } in
     let catalog : c.catalog-catalog.result.now ≡ catalog_in engine = c.catalog-catalog.ensures ∙ ap catalog_shown c.tables.ensures in
     let asked : IsAsked engine side c.args.request.now called = record { begun = c.requires.shared; same = c.in_ok-call.ensures; rise = subst IsNumbered catalog c.called_table-found.ensures.numbered } in
     let found : option_copied c.called_table-found.result ≡ engine_table engine called = c.called_table-found.ensures.found ∙ ap (λ (k : CatalogState). table_named k.tables (called_name called)) catalog in
@@ -33,7 +33,7 @@ returns-in-Err-clause-answer c =
     let engine = c.args.engine.now in
     let side = c.args.local.now in
     let called = c.in_ok-call.call in
-    let laws : SchemaLaws = record { composed = c.refusals_of_a_call.ensures; steps = c.calls_ask_the_same_without_records.ensures.step; decisions = c.calls_ask_the_same_without_records.ensures.decided; named = c.tables_are_found_without_records.ensures.named; shows = c.a_session_is_shown_its_view.ensures; uses = c.uses_are_told.ensures; catalog = c.tables_are_told.ensures.catalog } in
+    let laws : SchemaLaws = record { composed = c.refusals_of_a_call.ensures; steps = c.calls_ask_the_same_without_records.ensures.step; decisions = c.calls_ask_the_same_without_records.ensures.decided; named = c.tables_are_found_without_records.ensures.named; settled = c.newest_records_are_told.ensures.shown; uses = c.uses_are_told.ensures; catalog = c.tables_are_told.ensures.catalog } in
     let catalog : c.catalog-catalog.result.now ≡ catalog_in engine = c.catalog-catalog.ensures ∙ ap catalog_shown c.tables.ensures in
     let asked : IsAsked engine side c.args.request.now called = record { begun = c.requires.shared; same = c.in_ok-call.ensures; rise = subst IsNumbered catalog c.called_table-found.ensures.numbered } in
     let found : option_copied c.called_table-found.result ≡ engine_table engine called = c.called_table-found.ensures.found ∙ ap (λ (k : CatalogState). table_named k.tables (called_name called)) catalog in
@@ -47,7 +47,7 @@ returns-then-is_full-clause-answer c =
     let engine = c.args.engine.now in
     let side = c.args.local.now in
     let called = c.in_ok-call.call in
-    let laws : SchemaLaws = record { composed = c.refusals_of_a_call.ensures; steps = c.calls_ask_the_same_without_records.ensures.step; decisions = c.calls_ask_the_same_without_records.ensures.decided; named = c.tables_are_found_without_records.ensures.named; shows = c.a_session_is_shown_its_view.ensures; uses = c.uses_are_told.ensures; catalog = c.tables_are_told.ensures.catalog } in
+    let laws : SchemaLaws = record { composed = c.refusals_of_a_call.ensures; steps = c.calls_ask_the_same_without_records.ensures.step; decisions = c.calls_ask_the_same_without_records.ensures.decided; named = c.tables_are_found_without_records.ensures.named; settled = c.newest_records_are_told.ensures.shown; uses = c.uses_are_told.ensures; catalog = c.tables_are_told.ensures.catalog } in
     let catalog : c.catalog-catalog.result.now ≡ catalog_in engine = c.catalog-catalog.ensures ∙ ap catalog_shown c.tables.ensures in
     let asked : IsAsked engine side c.args.request.now called = record { begun = c.requires.shared; same = c.in_ok-call.ensures; rise = subst IsNumbered catalog c.called_table-found.ensures.numbered } in
     let found : option_copied c.called_table-found.result ≡ engine_table engine called = c.called_table-found.ensures.found ∙ ap (λ (k : CatalogState). table_named k.tables (called_name called)) catalog in
@@ -62,7 +62,7 @@ returns-clause-answer c =
     let engine = c.args.engine.now in
     let side = c.args.local.now in
     let called = c.in_ok-call.call in
-    let laws : SchemaLaws = record { composed = c.refusals_of_a_call.ensures; steps = c.calls_ask_the_same_without_records.ensures.step; decisions = c.calls_ask_the_same_without_records.ensures.decided; named = c.tables_are_found_without_records.ensures.named; shows = c.a_session_is_shown_its_view.ensures; uses = c.uses_are_told.ensures; catalog = c.tables_are_told.ensures.catalog } in
+    let laws : SchemaLaws = record { composed = c.refusals_of_a_call.ensures; steps = c.calls_ask_the_same_without_records.ensures.step; decisions = c.calls_ask_the_same_without_records.ensures.decided; named = c.tables_are_found_without_records.ensures.named; settled = c.newest_records_are_told.ensures.shown; uses = c.uses_are_told.ensures; catalog = c.tables_are_told.ensures.catalog } in
     let catalog : c.catalog-catalog.result.now ≡ catalog_in engine = c.catalog-catalog.ensures ∙ ap catalog_shown c.tables.ensures in
     let asked : IsAsked engine side c.args.request.now called = record { begun = c.requires.shared; same = c.in_ok-call.ensures; rise = subst IsNumbered catalog c.called_table-found.ensures.numbered } in
     let found : option_copied c.called_table-found.result ≡ engine_table engine called = c.called_table-found.ensures.found ∙ ap (λ (k : CatalogState). table_named k.tables (called_name called)) catalog in
@@ -79,7 +79,7 @@ returns-clause-decided c =
     let engine = c.args.engine.now in
     let side = c.args.local.now in
     let called = c.in_ok-call.call in
-    let laws : SchemaLaws = record { composed = c.refusals_of_a_call.ensures; steps = c.calls_ask_the_same_without_records.ensures.step; decisions = c.calls_ask_the_same_without_records.ensures.decided; named = c.tables_are_found_without_records.ensures.named; shows = c.a_session_is_shown_its_view.ensures; uses = c.uses_are_told.ensures; catalog = c.tables_are_told.ensures.catalog } in
+    let laws : SchemaLaws = record { composed = c.refusals_of_a_call.ensures; steps = c.calls_ask_the_same_without_records.ensures.step; decisions = c.calls_ask_the_same_without_records.ensures.decided; named = c.tables_are_found_without_records.ensures.named; settled = c.newest_records_are_told.ensures.shown; uses = c.uses_are_told.ensures; catalog = c.tables_are_told.ensures.catalog } in
     let catalog : c.catalog-catalog.result.now ≡ catalog_in engine = c.catalog-catalog.ensures ∙ ap catalog_shown c.tables.ensures in
     let asked : IsAsked engine side c.args.request.now called = record { begun = c.requires.shared; same = c.in_ok-call.ensures; rise = subst IsNumbered catalog c.called_table-found.ensures.numbered } in
     let found : option_copied c.called_table-found.result ≡ engine_table engine called = c.called_table-found.ensures.found ∙ ap (λ (k : CatalogState). table_named k.tables (called_name called)) catalog in
