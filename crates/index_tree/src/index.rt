@@ -1,21 +1,21 @@
 //! An index: its entries, in rising order.
 
-ghost use Rattle.std.specs.Prelude.{◌≡◌, ◌*◌, ◌≤◌, ℕ, false, true, not, List, [], length, find, filter, IfOk, OnErr, OnOk};
+ghost use Rattle.std.specs.Prelude.{◌≡◌, ◌+◌, ◌*◌, ◌≤◌, ◌++◌, ℕ, false, true, not, List, [], length, find, filter, IfOk, OnErr, OnOk};
 ghost use Rattle.std.specs.List.{last_or};
 ghost use Rattle.std.specs.Option.{option_map};
 ghost use Rattle.page_space.specs.Frames.{Frames};
 ghost use Rattle.btree_inplace.specs.Trees.{AreApart, Exchanges};
 ghost use Rattle.index_derive.specs.Entries.{insert_entry};
-ghost use Rattle.cursor_nav.specs.Places.{entry_after, entry_before, found_pair, pair_lt};
+ghost use Rattle.cursor_nav.specs.Places.{entry_after, entry_before, pair_lt};
 ghost use Rattle.derived_index.specs.KeptEntries.{has_entry, has_key, without_entry};
 ghost use Rattle.index_tree.specs.Entries.{CutsAt, IsApartFromAll};
 ghost use Rattle.index_tree.specs.IndexTrees.{IsIndexTree, entries_of, own_pages, root_of};
 ghost use Rattle.index_tree.specs.declared.index.IndexTree.{IndexTree};
 
-use crate::parts::{NodeKey, entry_of, gap_bookmark, joined, parts};
+use crate::parts::{NodeKey, gap_bookmark, join, joined, parts};
 use btree_inplace::{Tree, nodes_fit_their_space, other_tree_stays};
 use byteorder::{ByteOrder, LittleEndian};
-use index_derive::{IndexEntry, Place};
+use index_derive::Place;
 use jet_base::OutOfMemory;
 use page_space::Space;
 use std::cmp::Ordering;
@@ -119,73 +119,85 @@ impl IndexTree {
         }
     }
 
-    /// The least entry beyond a place.
-    pub fn after(&self, space: &Space, place: &Place) -> Option<IndexEntry>
+    /// The least entry beyond a place: its key and its bookmark, as they lie in their page.
+    pub fn after<'a>(&self, space: &'a Space, place: &Place) -> Option<(&'a [u8], &'a [u8])>
         requires { IsIndexTree space.now self.now }
-        ensures { found_pair result ≡ entry_after place.now (entries_of space.now self.now) }
+        ensures { option_map (λ found. (found.0.now, found.1.now)) result ≡ entry_after place.now (entries_of space.now self.now) }
     {
         match place {
-            Place::Before => entry_of(self.tree.first(space)),
+            Place::Before => parts(self.tree.first(space)),
             Place::After => None,
             Place::On(key, bookmark) => {
-                let above = joined(bookmark.as_bytes(), &[0]);
-                self.from(space, key.as_bytes(), above.as_slice())
+                self.from(space, key.as_bytes(), bookmark.as_bytes(), &[0])
             }
-            Place::Gap(key, above) => self.from(space, key.as_bytes(), gap_bookmark(*above)),
+            Place::Gap(key, above) => self.from(space, key.as_bytes(), gap_bookmark(*above), &[]),
         }
     }
 
-    /// The greatest entry before a place.
-    pub fn before(&self, space: &Space, place: &Place) -> Option<IndexEntry>
+    /// The greatest entry before a place: its key and its bookmark, as they lie in their page.
+    pub fn before<'a>(&self, space: &'a Space, place: &Place) -> Option<(&'a [u8], &'a [u8])>
         requires { IsIndexTree space.now self.now }
-        ensures { found_pair result ≡ entry_before place.now (entries_of space.now self.now) }
+        ensures { option_map (λ found. (found.0.now, found.1.now)) result ≡ entry_before place.now (entries_of space.now self.now) }
     {
         match place {
             Place::Before => None,
-            Place::After => entry_of(self.tree.last(space)),
+            Place::After => parts(self.tree.last(space)),
             Place::On(key, bookmark) => self.below(space, key.as_bytes(), bookmark.as_bytes()),
             Place::Gap(key, above) => self.below(space, key.as_bytes(), gap_bookmark(*above)),
         }
     }
 
-    /// The least entry that is not below a key with a bookmark, which may have 256 bytes.
-    fn from(&self, space: &Space, key: &[u8], bookmark: &[u8]) -> Option<IndexEntry>
+    /// The least entry that is not below a key with a bookmark that has these bytes behind it, 256 bytes together.
+    fn from<'a>(
+        &self,
+        space: &'a Space,
+        key: &[u8],
+        bookmark: &[u8],
+        behind: &[u8],
+    ) -> Option<(&'a [u8], &'a [u8])>
         requires index { IsIndexTree space.now self.now }
         requires key { length key.now ≤ 255 }
-        requires bookmark { length bookmark.now ≤ 256 }
-        ensures { found_pair result ≡ find (λ entry. not (pair_lt entry (key.now, bookmark.now))) (entries_of space.now self.now) }
+        requires bookmark { length bookmark.now + length behind.now ≤ 256 }
+        ensures { option_map (λ found. (found.0.now, found.1.now)) result ≡ find (λ entry. not (pair_lt entry (key.now, bookmark.now ++ behind.now))) (entries_of space.now self.now) }
     {
-        let cut = self.cut(space, key, bookmark);
-        entry_of(self.tree.at_or_after(space, cut.as_slice()))
+        let mut node_key = NodeKey::new();
+        self.cut(space, key, bookmark, behind, &mut node_key);
+        parts(self.tree.at_or_after(space, node_key.as_slice()))
     }
 
     /// The greatest entry below a key with a bookmark, which may have 256 bytes.
-    fn below(&self, space: &Space, key: &[u8], bookmark: &[u8]) -> Option<IndexEntry>
+    fn below<'a>(
+        &self,
+        space: &'a Space,
+        key: &[u8],
+        bookmark: &[u8],
+    ) -> Option<(&'a [u8], &'a [u8])>
         requires index { IsIndexTree space.now self.now }
         requires key { length key.now ≤ 255 }
         requires bookmark { length bookmark.now ≤ 256 }
-        ensures { found_pair result ≡ last_or None (filter (λ entry. pair_lt entry (key.now, bookmark.now)) (entries_of space.now self.now)) }
+        ensures { option_map (λ found. (found.0.now, found.1.now)) result ≡ last_or None (filter (λ entry. pair_lt entry (key.now, bookmark.now)) (entries_of space.now self.now)) }
     {
-        let cut = self.cut(space, key, bookmark);
-        entry_of(self.tree.before(space, cut.as_slice()))
+        let mut node_key = NodeKey::new();
+        self.cut(space, key, bookmark, &[], &mut node_key);
+        parts(self.tree.before(space, node_key.as_slice()))
     }
 
-    /// A node's key that parts the nodes as a key with a bookmark parts the entries. The key need not be
-    /// apart from the entries' keys: the nodes of one that begins it may lie on both sides of it, though
-    /// all their entries are below.
-    fn cut(&self, space: &Space, key: &[u8], bookmark: &[u8]) -> NodeKey
+    /// Makes it a node's key that parts the nodes as a key with a bookmark, and these bytes behind it, parts the entries. The
+    /// key need not be apart from the entries' keys: the nodes of one that begins it may lie on both sides of it, though all
+    /// their entries are below.
+    fn cut(&self, space: &Space, key: &[u8], bookmark: &[u8], behind: &[u8], node_key: &mut NodeKey)
         requires index { IsIndexTree space.now self.now }
         requires key { length key.now ≤ 255 }
-        requires bookmark { length bookmark.now ≤ 256 }
-        ensures { CutsAt result.items (key.now, bookmark.now) (entries_of space.now self.now) }
+        requires bookmark { length bookmark.now + length behind.now ≤ 256 }
+        ensures { CutsAt node_key.new.items (key.now, bookmark.now ++ behind.now) (entries_of space.now self.now) }
     {
         match parts(self.tree.at_or_after(space, key)) {
             Some((found, _)) => match found.cmp(key) {
-                Ordering::Less => joined(found, gap_bookmark(true)),
-                Ordering::Equal => joined(key, bookmark),
-                Ordering::Greater => joined(key, &[]),
+                Ordering::Less => join(node_key, found, gap_bookmark(true), &[]),
+                Ordering::Equal => join(node_key, key, bookmark, behind),
+                Ordering::Greater => join(node_key, key, &[], &[]),
             },
-            None => joined(key, &[]),
+            None => join(node_key, key, &[], &[]),
         }
     }
 }

@@ -1,15 +1,13 @@
 //! Keys of nodes, put together of an entry's key and bookmark, and cut apart again.
 
-ghost use Rattle.std.specs.Prelude.{◌≡◌, ◌≤◌, ◌++◌, Option, length, IfSome};
+ghost use Rattle.std.specs.Prelude.{◌≡◌, ◌+◌, ◌≤◌, ◌++◌, Option, length, IfSome};
 ghost use Rattle.std.specs.Option.{option_map};
 ghost use Rattle.btree_inplace.specs.Order.{key_and_data};
-ghost use Rattle.cursor_nav.specs.Places.{Pair, found_pair};
+ghost use Rattle.cursor_nav.specs.Places.{Pair};
 ghost use Rattle.index_tree.specs.Entries.{IsShort, gap_bookmark, node_of_entry};
 
 use arrayvec::ArrayVec;
 use byteorder::{ByteOrder, LittleEndian};
-use index_derive::IndexEntry;
-use key_normal::Key;
 
 /// The key of a node: a key of at most 255 bytes and what stands behind it, one byte more than a
 /// bookmark has at most.
@@ -25,13 +23,31 @@ pub fn joined(key: &[u8], bookmark: &[u8]) -> NodeKey
     ensures { result.items ≡ key.now ++ bookmark.now }
 {
     let mut bytes = ArrayVec::new();
-    if bytes.try_extend_from_slice(key).is_err() {
-        unreachable!()
-    }
-    if bytes.try_extend_from_slice(bookmark).is_err() {
-        unreachable!()
-    }
+    push(&mut bytes, key);
+    push(&mut bytes, bookmark);
     bytes
+}
+
+/// Makes it a key, a bookmark and what stands behind it, one behind the other.
+pub fn join(bytes: &mut NodeKey, key: &[u8], bookmark: &[u8], behind: &[u8])
+    requires key { length key.now ≤ 255 }
+    requires bookmark { length bookmark.now + length behind.now ≤ 256 }
+    ensures { bytes.new.items ≡ key.now ++ bookmark.now ++ behind.now }
+{
+    bytes.clear();
+    push(bytes, key);
+    push(bytes, bookmark);
+    push(bytes, behind);
+}
+
+/// Puts bytes behind those that are there.
+fn push(bytes: &mut NodeKey, more: &[u8])
+    requires { length bytes.old.items + length more.now ≤ 511 }
+    ensures { bytes.new.items ≡ bytes.old.items ++ more.now }
+{
+    if bytes.try_extend_from_slice(more).is_err() {
+        unreachable!()
+    }
 }
 
 /// The key and the bookmark of a node that was found.
@@ -51,18 +67,4 @@ pub fn gap_bookmark(above: bool) -> &'static [u8]
     ensures short { length result.now ≤ 256 }
 {
     if above { &TOP } else { &[] }
-}
-
-/// The entry of a node that was found.
-pub fn entry_of(found: Option<(&[u8], &[u8])>) -> Option<IndexEntry>
-    requires { (entry : Option Pair) × IfSome entry IsShort × (option_map (λ node. (node.0.now, node.1.now)) found ≡ option_map (λ e. key_and_data (node_of_entry e)) entry) }
-    ensures { (entry : Option Pair) → IfSome entry IsShort → option_map (λ node. (node.0.now, node.1.now)) found.entry ≡ option_map (λ e. key_and_data (node_of_entry e)) entry → found_pair result ≡ entry }
-{
-    match parts(found) {
-        Some((key, bookmark)) => Some(IndexEntry {
-            key: Key::from_slice(key),
-            bookmark: Key::from_slice(bookmark),
-        }),
-        None => None,
-    }
 }

@@ -4,6 +4,7 @@ pub mod Lookups
 pub mod Outcomes
 pub mod BookmarkOrder
 pub mod Finding
+pub mod FoundEntries
 pub mod NodeChanges
 pub mod TableChanges
 pub mod LongChanges

@@ -2,8 +2,9 @@
 
 ghost use Rattle.std.specs.Prelude.{◌≡◌, ◌==◌, ◌≤◌, false, true, [], ◌∷◌, ◌++◌, length, IfOk, OnErr, OnOk};
 ghost use Rattle.std.specs.List.{list_any, position_from};
+ghost use Rattle.std.specs.Option.{option_map};
 ghost use Rattle.index_derive.specs.Entries.{insert_entry};
-ghost use Rattle.cursor_nav.specs.Places.{entry_after, entry_before, found_pair};
+ghost use Rattle.cursor_nav.specs.Places.{entry_after, entry_before};
 ghost use Rattle.derived_index.specs.KeptEntries.{has_entry, has_key, without_entry};
 ghost use Rattle.index_tree.specs.Entries.{IsApartFromAll};
 ghost use Rattle.page_space.specs.Frames.{Frames};
@@ -18,7 +19,7 @@ ghost use Rattle.table_trees.specs.TableParts.{IsIndex, IsTable, TableBecomes, i
 use crate::long_values::LongTree;
 use crate::nodes::{NodeTree, tree_pages_are_own};
 use btree_inplace::other_tree_stays;
-use index_derive::{IndexEntry, Place};
+use index_derive::Place;
 use index_tree::{IndexTree, other_index_entries_stay};
 use jet_base::{IndexId, OutOfMemory, TableId};
 use long_value::{other_long_values_stay, values_are_shown};
@@ -167,10 +168,15 @@ impl Table {
         }
     }
 
-    /// The least entry of an index beyond a place.
-    pub fn entry_after(&self, space: &Space, index: IndexId, place: &Place) -> Option<IndexEntry>
+    /// The least entry of an index beyond a place: its key and its bookmark.
+    pub fn entry_after<'a>(
+        &self,
+        space: &'a Space,
+        index: IndexId,
+        place: &Place,
+    ) -> Option<(&'a [u8], &'a [u8])>
         requires { IsTable space.now self.now }
-        ensures { found_pair result ≡ entry_after place.now (part_of (is_index index.0) (λ x. x.1) (stored_table space.now self.now).indexes) }
+        ensures { option_map (λ found. (found.0.now, found.1.now)) result ≡ entry_after place.now (part_of (is_index index.0) (λ x. x.1) (stored_table space.now self.now).indexes) }
     {
         match index_place(self.indexes.as_slice(), index) {
             Some(i) => self.indexes[i].tree.after(space, place),
@@ -178,10 +184,15 @@ impl Table {
         }
     }
 
-    /// The greatest entry of an index before a place.
-    pub fn entry_before(&self, space: &Space, index: IndexId, place: &Place) -> Option<IndexEntry>
+    /// The greatest entry of an index before a place: its key and its bookmark.
+    pub fn entry_before<'a>(
+        &self,
+        space: &'a Space,
+        index: IndexId,
+        place: &Place,
+    ) -> Option<(&'a [u8], &'a [u8])>
         requires { IsTable space.now self.now }
-        ensures { found_pair result ≡ entry_before place.now (part_of (is_index index.0) (λ x. x.1) (stored_table space.now self.now).indexes) }
+        ensures { option_map (λ found. (found.0.now, found.1.now)) result ≡ entry_before place.now (part_of (is_index index.0) (λ x. x.1) (stored_table space.now self.now).indexes) }
     {
         match index_place(self.indexes.as_slice(), index) {
             Some(i) => self.indexes[i].tree.before(space, place),

@@ -6,7 +6,7 @@ ghost use Rattle.std.specs.Option.{option_copied, option_map};
 ghost use Rattle.btree_inplace.specs.Changes.{inserted, with_data_at, with_extent_at, without_key};
 ghost use Rattle.btree_inplace.specs.Order.{extent_in, get_in};
 ghost use Rattle.index_derive.specs.Entries.{insert_entry};
-ghost use Rattle.cursor_nav.specs.Places.{are_sorted, entry_after, entry_before, found_pair};
+ghost use Rattle.cursor_nav.specs.Places.{are_sorted, entry_after, entry_before};
 ghost use Rattle.derived_index.specs.KeptEntries.{has_entry, has_key, without_entry};
 ghost use Rattle.index_tree.specs.Entries.{AreApart, IsApartFromAll, IsShort};
 ghost use Rattle.long_value.specs.Stores.{id_bytes, read_upto};
@@ -16,7 +16,7 @@ ghost use Rattle.table_trees.specs.StoredTables.{has_index, has_table, index_ent
 
 use crate::table::{Table, tables_stay};
 use btree_inplace::nodes_fit_their_space;
-use index_derive::{IndexEntry, Place};
+use index_derive::Place;
 use index_tree::entries_fit_their_space;
 use jet_base::{IndexId, OutOfMemory, TableId};
 use long_value::LongId;
@@ -331,9 +331,15 @@ impl TableTrees {
         }
     }
 
-    /// The least entry of an index beyond a place.
-    pub fn entry_after(&self, table: TableId, index: IndexId, place: &Place) -> Option<IndexEntry>
-        ensures { found_pair result ≡ entry_after place.now (index_entries self.now table.0 index.0) }
+    /// The least entry of an index beyond a place: its key and its bookmark, as they lie in their page.
+    pub fn entry_after(
+        &self,
+        table: TableId,
+        index: IndexId,
+        place: &Place,
+    ) -> Option<(&[u8], &[u8])>
+        ensures entry { option_map (λ found. (found.0.now, found.1.now)) result ≡ entry_after place.now (index_entries self.now table.0 index.0) }
+        ensures short { IfSome result (λ found. (length found.0.now ≤ 255) × (length found.1.now ≤ 255)) }
     {
         match table_place(self.tables.as_slice(), table) {
             Some(i) => self.tables[i].entry_after(&self.space, index, place),
@@ -341,9 +347,15 @@ impl TableTrees {
         }
     }
 
-    /// The greatest entry of an index before a place.
-    pub fn entry_before(&self, table: TableId, index: IndexId, place: &Place) -> Option<IndexEntry>
-        ensures { found_pair result ≡ entry_before place.now (index_entries self.now table.0 index.0) }
+    /// The greatest entry of an index before a place: its key and its bookmark, as they lie in their page.
+    pub fn entry_before(
+        &self,
+        table: TableId,
+        index: IndexId,
+        place: &Place,
+    ) -> Option<(&[u8], &[u8])>
+        ensures entry { option_map (λ found. (found.0.now, found.1.now)) result ≡ entry_before place.now (index_entries self.now table.0 index.0) }
+        ensures short { IfSome result (λ found. (length found.0.now ≤ 255) × (length found.1.now ≤ 255)) }
     {
         match table_place(self.tables.as_slice(), table) {
             Some(i) => self.tables[i].entry_before(&self.space, index, place),

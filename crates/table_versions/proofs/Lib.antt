@@ -52,6 +52,7 @@ pub mod NewEntries
 pub mod NodeWalks
 pub mod NodesShown
 pub mod NodesBefore
+pub mod EntriesShown
 pub mod FilledIndexes
 pub mod IndexTrees
 pub mod RewrittenNodes

@@ -35,11 +35,11 @@ pub record WalkLaws : Type 0 where
   pub walks : WalksSeen
   pub own : Laws
 
-abbrev rule_among : List IndexRule → ℕ → Option IndexRule
+abbrev pub rule_among : List IndexRule → ℕ → Option IndexRule
 rule_among rules index = find (λ r. r.id.0 == index) rules
 
 -- the rule that was found has the number
-rule_number : (index : ℕ) (rules : List IndexRule) (rule : IndexRule) → rule_among rules index ≡ Some rule → rule.id.0 ≡ index
+pub rule_number : (index : ℕ) (rules : List IndexRule) (rule : IndexRule) → rule_among rules index ≡ Some rule → rule.id.0 ≡ index
 rule_number index [] rule e = cc
 rule_number index (r ∷ rules) rule e = by (r.id.0 == index) refl (rule_number index rules rule) e
   where

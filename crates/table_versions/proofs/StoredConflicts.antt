@@ -62,7 +62,7 @@ named_table P tables trees held kept each table schema known =
         subst (λ (n : ℕ). P n schema) found (subst (P t.id) (sym is) (each t named (subst K named (kept.each t.id))))
 
 -- the same in a store
-in_store : (P : StoredVersions → ℕ → Schema → Type 0) (catalog : CatalogState) (trees : List StoredTable) (held : List HeldChange) → AreKept catalog.tables trees held
+pub in_store : (P : StoredVersions → ℕ → Schema → Type 0) (catalog : CatalogState) (trees : List StoredTable) (held : List HeldChange) → AreKept catalog.tables trees held
     → ((t : Table) → table_with_id catalog.tables t.id ≡ Some t → IsKeptTable trees (table_nodes trees t.id) (map held_record held) t → P (stored_versions catalog trees held) t.id (schema_of t))
     → (now : StoredVersions) → stored_versions catalog trees held ≡ now → (table : ℕ) (schema : Schema) → IsSomeAnd (table_with_id now.store.tables table) (λ t. schema ≡ schema_of t) → P now table schema
 in_store P catalog trees held kept each now shows table schema known =
@@ -96,7 +96,7 @@ OfRecord reader v table rule schema key bookmark = conflicts_under reader rule s
 abbrev pub Conflict : Reader → StoredVersions → ℕ → IndexRule → Schema → List ℕ → Bool
 Conflict reader v table rule schema key = has_key_conflict reader (record_in v.store.tables) table rule schema key v.store.held
 
-newest_rows : (tables : List Table) (trees : List StoredTable) (t : Table) → table_with_id tables t.id ≡ Some t → (bookmark : List ℕ) → record_in (map (with_newest trees) tables) t.id bookmark ≡ row_at (rows_of_nodes (table_nodes trees t.id)) bookmark
+pub newest_rows : (tables : List Table) (trees : List StoredTable) (t : Table) → table_with_id tables t.id ≡ Some t → (bookmark : List ℕ) → record_in (map (with_newest trees) tables) t.id bookmark ≡ row_at (rows_of_nodes (table_nodes trees t.id)) bookmark
 newest_rows tables trees t named bookmark = ap (λ (o : Option Table). row_at (rows_of o) bookmark) (table_at trees tables t.id ∙ ap (option_map (with_newest trees)) named)
 
 pub conflict_in_tree : (reader : Reader) (key : List ℕ) (catalog : CatalogState) (trees : List StoredTable) (held : List HeldChange) → AreKept catalog.tables trees held → (now : StoredVersions) → stored_versions catalog trees held ≡ now

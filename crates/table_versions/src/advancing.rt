@@ -1,17 +1,18 @@
 //! A place that goes to its neighbour in an index as a reader sees it, where the place lies.
 
-ghost use Rattle.std.specs.Prelude.{◌≡◌, ◌≤◌, length, IsSomeAnd, is_some};
+ghost use Rattle.std.specs.Prelude.{◌≡◌, ◌≤◌, Some, length, IsSomeAnd, is_some};
 ghost use Rattle.cursor_nav.specs.Places.{entry_after, entry_before, on_or};
-ghost use Rattle.database_state.specs.Table.{rows_of, schema_of, table_with_id};
+ghost use Rattle.database_state.specs.Table.{rows_of, rule_with_id, schema_of, table_with_id};
 ghost use Rattle.index_derive.specs.Entries.{own_order};
 ghost use Rattle.index_derive.specs.declared.entries.Place.TheVariants.{After, Before, On};
 ghost use Rattle.versioned_tables.specs.VersionedTables.{seen_tables};
 ghost use Rattle.table_versions.specs.StoredVersions.{seen_entries};
+ghost use Rattle.table_versions.specs.VersionsKept.{only_secondary};
 
 use crate::store::TableVersions;
 use crate::walking::secondary_rule;
 use derived_index::entries_in_order_are_told_by_those_that_are_there;
-use index_derive::{Place, Schema};
+use index_derive::{IndexRule, Place, Schema};
 use jet_base::{IndexId, TableId};
 use key_normal::Key;
 use version_store::Reader;
@@ -39,10 +40,9 @@ impl TableVersions {
         entries_in_order_are_told_by_those_that_are_there();
         self.trees.nodes_are_in_order();
         self.trees.entries_are_in_order();
-        if secondary_rule(schema, index).is_none() {
-            self.advance_in_records(table, place, reader)
-        } else {
-            self.advance_in_entries(table, schema, index, place, reader)
+        match secondary_rule(schema, index) {
+            Some(rule) => self.advance_in_entries(table, schema, index, rule, place, reader),
+            None => self.advance_in_records(table, place, reader),
         }
     }
 
@@ -53,7 +53,7 @@ impl TableVersions {
     {
         match self.next_seen(table, place, reader) {
             Some(bookmark) => {
-                stand_on(place, bookmark);
+                stand_on(place, bookmark, bookmark);
                 true
             }
             None => {
@@ -69,16 +69,18 @@ impl TableVersions {
         table: TableId,
         schema: &Schema,
         index: IndexId,
+        rule: &IndexRule,
         place: &mut Place,
         reader: Reader,
     ) -> bool
-        requires { IsSomeAnd (table_with_id self.now.store.tables table.0) (λ t. schema.now ≡ schema_of t) }
+        requires named { IsSomeAnd (table_with_id self.now.store.tables table.0) (λ t. schema.now ≡ schema_of t) }
+        requires rule { only_secondary (rule_with_id schema.now index.0) ≡ Some rule.now }
         ensures found { result ≡ is_some (entry_after place.old (seen_entries reader self.now.store table.0 index.0)) }
         ensures place { place.new ≡ on_or (entry_after place.old (seen_entries reader self.now.store table.0 index.0)) After }
     {
-        match self.walk_entries(table, schema, index, place, reader) {
-            Some(entry) => {
-                *place = Place::On(entry.key, entry.bookmark);
+        match self.next_shown(table, schema, index, rule, place, reader) {
+            Some((key, bookmark)) => {
+                stand_on(place, key, bookmark);
                 true
             }
             None => {
@@ -107,10 +109,9 @@ impl TableVersions {
         entries_in_order_are_told_by_those_that_are_there();
         self.trees.nodes_are_in_order();
         self.trees.entries_are_in_order();
-        if secondary_rule(schema, index).is_none() {
-            self.retreat_in_records(table, place, reader)
-        } else {
-            self.retreat_in_entries(table, schema, index, place, reader)
+        match secondary_rule(schema, index) {
+            Some(rule) => self.retreat_in_entries(table, schema, index, rule, place, reader),
+            None => self.retreat_in_records(table, place, reader),
         }
     }
 
@@ -121,7 +122,7 @@ impl TableVersions {
     {
         match self.previous_seen(table, place, reader) {
             Some(bookmark) => {
-                stand_on(place, bookmark);
+                stand_on(place, bookmark, bookmark);
                 true
             }
             None => {
@@ -137,16 +138,18 @@ impl TableVersions {
         table: TableId,
         schema: &Schema,
         index: IndexId,
+        rule: &IndexRule,
         place: &mut Place,
         reader: Reader,
     ) -> bool
-        requires { IsSomeAnd (table_with_id self.now.store.tables table.0) (λ t. schema.now ≡ schema_of t) }
+        requires named { IsSomeAnd (table_with_id self.now.store.tables table.0) (λ t. schema.now ≡ schema_of t) }
+        requires rule { only_secondary (rule_with_id schema.now index.0) ≡ Some rule.now }
         ensures found { result ≡ is_some (entry_before place.old (seen_entries reader self.now.store table.0 index.0)) }
         ensures place { place.new ≡ on_or (entry_before place.old (seen_entries reader self.now.store table.0 index.0)) Before }
     {
-        match self.walk_entries_back(table, schema, index, place, reader) {
-            Some(entry) => {
-                *place = Place::On(entry.key, entry.bookmark);
+        match self.previous_shown(table, schema, index, rule, place, reader) {
+            Some((key, bookmark)) => {
+                stand_on(place, key, bookmark);
                 true
             }
             None => {
@@ -157,10 +160,11 @@ impl TableVersions {
     }
 }
 
-// Makes the place that of the record with a bookmark, which is its own key.
-fn stand_on(place: &mut Place, bookmark: &[u8])
-    requires { length bookmark.now ≤ 255 }
-    ensures { place.new ≡ On bookmark.now bookmark.now }
+// Makes the place that of an entry.
+fn stand_on(place: &mut Place, key: &[u8], bookmark: &[u8])
+    requires key { length key.now ≤ 255 }
+    requires bookmark { length bookmark.now ≤ 255 }
+    ensures { place.new ≡ On key.now bookmark.now }
 {
-    *place = Place::On(Key::from_slice(bookmark), Key::from_slice(bookmark));
+    *place = Place::On(Key::from_slice(key), Key::from_slice(bookmark));
 }

@@ -15,6 +15,7 @@ ghost use Rattle.table_versions.specs.RecordRows.{held_record};
 
 use crate::reading::in_place;
 use crate::store::TableVersions;
+use crate::walking::entry_behind;
 use column_set::RowRef;
 use index_derive::derive::yields;
 use index_derive::{IndexRule, Place, Schema, a_primary_index_has_one_entry};
@@ -66,16 +67,14 @@ impl TableVersions {
         self.trees.entries_are_in_order();
         let gap = Place::Gap(key.copy(), false);
         let mut found = self.trees.entry_after(table, rule.id, &gap);
-        while let Some(entry) = found {
-            if entry.key != *key {
+        while let Some((found_key, bookmark)) = found {
+            if found_key != key.as_bytes() {
                 return false;
             }
-            let bookmark = entry.bookmark.as_bytes();
             if self.conflict_under(reader, table, schema, rule, key, bookmark) {
                 return true;
             }
-            let last = Place::On(entry.key, entry.bookmark);
-            found = self.trees.entry_after(table, rule.id, &last);
+            found = entry_behind(&self.trees, table, rule.id, found_key, bookmark);
         }
         false
     }
@@ -186,7 +185,7 @@ fn has_concurrent(versions: &Versions, reader: Reader, table: TableId, bookmark:
 }
 
 // Whether there is a row, and it has the key in the index.
-fn has_key(rule: &IndexRule, schema: &Schema, row: Option<RowRef<'_>>, key: &Key) -> bool
+pub(crate) fn has_key(rule: &IndexRule, schema: &Schema, row: Option<RowRef<'_>>, key: &Key) -> bool
     requires legal { is_legal rule.now schema.now ≡ true }
     requires short { rule.now.key_most ≤ 255 }
     ensures { result ≡ yields_key rule.now schema.now key.now (option_map here_fields row.entry) }

@@ -1,23 +1,24 @@
 //! The neighbours of a place in an index as a reader sees it.
 
-ghost use Rattle.std.specs.Prelude.{◌≡◌, ◌≤◌, length, IfSome, IsSomeAnd, option_copied, option_map, true};
+ghost use Rattle.std.specs.Prelude.{◌≡◌, ◌≤◌, Some, length, IfSome, IsSomeAnd, option_copied, option_map, true};
 ghost use Rattle.cursor_nav.specs.Places.{entry_after, entry_before, found_pair};
+ghost use Rattle.database_state.specs.Conflicts.{yields_key};
 ghost use Rattle.database_state.specs.Table.{record_in, rows_of, rule_with_id, schema_of, table_with_id};
 ghost use Rattle.index_derive.specs.Entries.{is_legal, own_order};
 ghost use Rattle.index_derive.specs.declared.entries.Place.TheVariants.{On};
 ghost use Rattle.table_trees.specs.StoredNodes.{node_after, node_before};
-ghost use Rattle.table_trees.specs.StoredTables.{table_nodes};
+ghost use Rattle.table_trees.specs.StoredTables.{index_entries, table_nodes};
 ghost use Rattle.version_store.specs.HeldChanges.{seen_row};
 ghost use Rattle.versioned_tables.specs.HeldRecords.{seen_record};
 ghost use Rattle.versioned_tables.specs.VersionedTables.{seen_tables};
 ghost use Rattle.table_versions.specs.RecordRows.{row_in_node};
 ghost use Rattle.table_versions.specs.StoredVersions.{seen_entries};
 ghost use Rattle.table_versions.specs.VersionsKept.{only_secondary};
-ghost use Rattle.table_versions.specs.Walks.{is_entry_of, is_row_seen, stored_entries};
+ghost use Rattle.table_versions.specs.Walks.{is_row_seen};
 
+use crate::conflicting_keys::has_key;
 use crate::store::TableVersions;
 use derived_index::entries_in_order_are_told_by_those_that_are_there;
-use index_derive::derive::yields;
 use index_derive::{IndexEntry, IndexRule, Place, Schema};
 use jet_base::{IndexId, TableId};
 use key_normal::Key;
@@ -48,38 +49,43 @@ impl TableVersions {
         entries_in_order_are_told_by_those_that_are_there();
         self.trees.nodes_are_in_order();
         self.trees.entries_are_in_order();
-        if secondary_rule(schema, index).is_none() {
-            self.walk_records(table, place, reader)
-        } else {
-            self.walk_entries(table, schema, index, place, reader)
+        match secondary_rule(schema, index) {
+            Some(rule) => shown_entry(self.next_shown(table, schema, index, rule, place, reader)),
+            None => self.walk_records(table, place, reader),
         }
     }
 
-    // The same over the stored entries: in a function of its own, since one clears all its places where it begins.
-    pub(crate) fn walk_entries(
+    // The key and the bookmark of the least stored entry beyond a place that the reader is shown, where they lie in their page:
+    // in an index that has a tree of its own.
+    pub(crate) fn next_shown(
         &self,
         table: TableId,
         schema: &Schema,
         index: IndexId,
+        rule: &IndexRule,
         place: &Place,
         reader: Reader,
-    ) -> Option<IndexEntry>
-        requires { IsSomeAnd (table_with_id self.now.store.tables table.0) (λ t. schema.now ≡ schema_of t) }
-        ensures { found_pair result ≡ entry_after place.now (seen_entries reader self.now.store table.0 index.0) }
+    ) -> Option<(&[u8], &[u8])>
+        requires named { IsSomeAnd (table_with_id self.now.store.tables table.0) (λ t. schema.now ≡ schema_of t) }
+        requires rule { only_secondary (rule_with_id schema.now index.0) ≡ Some rule.now }
+        ensures entry { option_map (λ found. (found.0.now, found.1.now)) result ≡ entry_after place.now (seen_entries reader self.now.store table.0 index.0) }
+        ensures short { IfSome result (λ found. (length found.0.now ≤ 255) × (length found.1.now ≤ 255)) }
     {
         a_reader_is_shown_the_records_that_it_sees();
         a_reader_walks_the_index_of_what_it_sees();
         entries_in_order_are_told_by_those_that_are_there();
         self.trees.nodes_are_in_order();
         self.trees.entries_are_in_order();
-        let rule = secondary_rule(schema, index);
-        let mut found = stored_after(&self.trees, table, rule, place);
-        while let Some(entry) = found {
-            if self.shows(table, schema, rule, &entry, reader) {
-                return Some(entry);
+        let mut found = self.trees.entry_after(table, rule.id, place);
+        while let Some((key, bookmark)) = found {
+            // A record that no held change touches has one variant, which has all its entries and which all see.
+            if self.versions.newest_change(table, bookmark).is_none() {
+                return Some((key, bookmark));
             }
-            let last = Place::On(entry.key, entry.bookmark);
-            found = stored_after(&self.trees, table, rule, &last);
+            if self.shows(table, schema, rule, key, bookmark, reader) {
+                return Some((key, bookmark));
+            }
+            found = entry_behind(&self.trees, table, rule.id, key, bookmark);
         }
         None
     }
@@ -101,38 +107,44 @@ impl TableVersions {
         entries_in_order_are_told_by_those_that_are_there();
         self.trees.nodes_are_in_order();
         self.trees.entries_are_in_order();
-        if secondary_rule(schema, index).is_none() {
-            self.walk_records_back(table, place, reader)
-        } else {
-            self.walk_entries_back(table, schema, index, place, reader)
+        match secondary_rule(schema, index) {
+            Some(rule) => shown_entry(self.previous_shown(
+                table, schema, index, rule, place, reader,
+            )),
+            None => self.walk_records_back(table, place, reader),
         }
     }
 
-    // The same over the stored entries.
-    pub(crate) fn walk_entries_back(
+    // Those of the greatest before a place.
+    pub(crate) fn previous_shown(
         &self,
         table: TableId,
         schema: &Schema,
         index: IndexId,
+        rule: &IndexRule,
         place: &Place,
         reader: Reader,
-    ) -> Option<IndexEntry>
-        requires { IsSomeAnd (table_with_id self.now.store.tables table.0) (λ t. schema.now ≡ schema_of t) }
-        ensures { found_pair result ≡ entry_before place.now (seen_entries reader self.now.store table.0 index.0) }
+    ) -> Option<(&[u8], &[u8])>
+        requires named { IsSomeAnd (table_with_id self.now.store.tables table.0) (λ t. schema.now ≡ schema_of t) }
+        requires rule { only_secondary (rule_with_id schema.now index.0) ≡ Some rule.now }
+        ensures entry { option_map (λ found. (found.0.now, found.1.now)) result ≡ entry_before place.now (seen_entries reader self.now.store table.0 index.0) }
+        ensures short { IfSome result (λ found. (length found.0.now ≤ 255) × (length found.1.now ≤ 255)) }
     {
         a_reader_is_shown_the_records_that_it_sees();
         a_reader_walks_the_index_of_what_it_sees();
         entries_in_order_are_told_by_those_that_are_there();
         self.trees.nodes_are_in_order();
         self.trees.entries_are_in_order();
-        let rule = secondary_rule(schema, index);
-        let mut found = stored_before(&self.trees, table, rule, place);
-        while let Some(entry) = found {
-            if self.shows(table, schema, rule, &entry, reader) {
-                return Some(entry);
+        let mut found = self.trees.entry_before(table, rule.id, place);
+        while let Some((key, bookmark)) = found {
+            // A record that no held change touches has one variant, which has all its entries and which all see.
+            if self.versions.newest_change(table, bookmark).is_none() {
+                return Some((key, bookmark));
             }
-            let last = Place::On(entry.key, entry.bookmark);
-            found = stored_before(&self.trees, table, rule, &last);
+            if self.shows(table, schema, rule, key, bookmark, reader) {
+                return Some((key, bookmark));
+            }
+            found = entry_in_front(&self.trees, table, rule.id, key, bookmark);
         }
         None
     }
@@ -203,26 +215,72 @@ impl TableVersions {
         None
     }
 
-    // Whether an entry of the index stands for the record that the reader sees under its bookmark.
+    // Whether the record that the reader sees under the bookmark of an entry has the key of it.
     fn shows(
         &self,
         table: TableId,
         schema: &Schema,
-        rule: Option<&IndexRule>,
-        entry: &IndexEntry,
+        rule: &IndexRule,
+        key: &[u8],
+        bookmark: &[u8],
         reader: Reader,
     ) -> bool
-        requires { IfSome (option_copied rule) (λ r. (is_legal r schema.now ≡ true) × (r.key_most ≤ 255)) }
-        ensures { result ≡ is_entry_of (option_copied rule.entry) schema.now entry.now.key (seen_record table.0 entry.now.bookmark reader (record_in self.now.store.tables table.0 entry.now.bookmark) self.now.store.held) }
+        requires legal { is_legal rule.now schema.now ≡ true }
+        requires most { rule.now.key_most ≤ 255 }
+        requires short { length key.now ≤ 255 }
+        ensures { result ≡ yields_key rule.now schema.now key.now (seen_record table.0 bookmark.now reader (record_in self.now.store.tables table.0 bookmark.now) self.now.store.held) }
     {
-        match self.look_up(table, entry.bookmark.as_bytes(), reader) {
-            Some(row) => match rule {
-                Some(rule) => yields(rule, schema, &row, &entry.key),
-                None => true,
-            },
-            None => false,
-        }
+        let row = self.look_up(table, bookmark, reader);
+        has_key(rule, schema, row, &Key::from_slice(key))
     }
+}
+
+// The entry that was found, by value.
+fn shown_entry(found: Option<(&[u8], &[u8])>) -> Option<IndexEntry>
+    requires { IfSome found (λ found. (length found.0.now ≤ 255) × (length found.1.now ≤ 255)) }
+    ensures { found_pair result ≡ option_map (λ found. (found.0.now, found.1.now)) found.entry }
+{
+    match found {
+        Some((key, bookmark)) => Some(IndexEntry {
+            key: Key::from_slice(key),
+            bookmark: Key::from_slice(bookmark),
+        }),
+        None => None,
+    }
+}
+
+// The entry of an index behind one of it.
+pub(crate) fn entry_behind<'a>(
+    trees: &'a TableTrees,
+    table: TableId,
+    index: IndexId,
+    key: &[u8],
+    bookmark: &[u8],
+) -> Option<(&'a [u8], &'a [u8])>
+    requires key { length key.now ≤ 255 }
+    requires bookmark { length bookmark.now ≤ 255 }
+    ensures entry { option_map (λ found. (found.0.now, found.1.now)) result ≡ entry_after (On key.now bookmark.now) (index_entries trees.now table.0 index.0) }
+    ensures short { IfSome result (λ found. (length found.0.now ≤ 255) × (length found.1.now ≤ 255)) }
+{
+    let last = Place::On(Key::from_slice(key), Key::from_slice(bookmark));
+    trees.entry_after(table, index, &last)
+}
+
+// The entry of an index in front of one of it.
+fn entry_in_front<'a>(
+    trees: &'a TableTrees,
+    table: TableId,
+    index: IndexId,
+    key: &[u8],
+    bookmark: &[u8],
+) -> Option<(&'a [u8], &'a [u8])>
+    requires key { length key.now ≤ 255 }
+    requires bookmark { length bookmark.now ≤ 255 }
+    ensures entry { option_map (λ found. (found.0.now, found.1.now)) result ≡ entry_before (On key.now bookmark.now) (index_entries trees.now table.0 index.0) }
+    ensures short { IfSome result (λ found. (length found.0.now ≤ 255) × (length found.1.now ≤ 255)) }
+{
+    let last = Place::On(Key::from_slice(key), Key::from_slice(bookmark));
+    trees.entry_before(table, index, &last)
 }
 
 // The node behind the one with a bookmark.
@@ -277,44 +335,6 @@ pub(crate) fn secondary_rule(schema: &Schema, index: IndexId) -> Option<&IndexRu
     match schema.rule_with_id(index) {
         Some(rule) => { if rule.flags.primary { None } else { Some(rule) } }
         None => None,
-    }
-}
-
-// The least stored entry beyond a place.
-fn stored_after(
-    trees: &TableTrees,
-    table: TableId,
-    rule: Option<&IndexRule>,
-    place: &Place,
-) -> Option<IndexEntry>
-    ensures { found_pair result ≡ entry_after place.now (stored_entries trees.now table.0 (option_copied rule.entry)) }
-{
-    neighbours_are_those_of_bookmarks();
-    match rule {
-        Some(rule) => trees.entry_after(table, rule.id, place),
-        None => match trees.node_after(table, place) {
-            Some((bookmark, _)) => Some(own_entry(bookmark)),
-            None => None,
-        },
-    }
-}
-
-// The greatest stored entry before a place.
-fn stored_before(
-    trees: &TableTrees,
-    table: TableId,
-    rule: Option<&IndexRule>,
-    place: &Place,
-) -> Option<IndexEntry>
-    ensures { found_pair result ≡ entry_before place.now (stored_entries trees.now table.0 (option_copied rule.entry)) }
-{
-    neighbours_are_those_of_bookmarks();
-    match rule {
-        Some(rule) => trees.entry_before(table, rule.id, place),
-        None => match trees.node_before(table, place) {
-            Some((bookmark, _)) => Some(own_entry(bookmark)),
-            None => None,
-        },
     }
 }
 

@@ -1,5 +1,6 @@
 -- What each kind of place asks of the tree.
-use Rattle.std.proofs.Common.{◌≡◌, true, not, ◌++◌, ◌∷◌, [], List, ℕ, find, sym, ap, ◌∙◌}
+use Rattle.std.proofs.Common.{true, not, ◌++◌, ◌∷◌, [], find, sym, ap, ◌∙◌}
+use Rattle.std.proofs.lemmas.List.{append-nil}
 use Rattle.btree_inplace.specs.Trees.{nodes_of}
 use Rattle.index_derive.specs.declared.entries.Place.{Place}
 use Rattle.cursor_nav.specs.Places.{entry_after, pair_lt}
@@ -10,8 +11,8 @@ use Rattle.index_tree.proofs.Lists.{find_all, find_nothing}
 use Rattle.index_tree.proofs.NodeEntries.{node_from}
 use Rattle.index_tree.proofs.index.IndexTree.after.Goals as goal
 
-pub entry_of-requires : goal.entry_of-requires
-entry_of-requires c =
+pub parts-requires : goal.parts-requires
+parts-requires c =
     let es = entries_of c.args.space.now c.args.self.now in (
       find (λ _. true) es,
       find_all IsShort (λ _. true) es c.requires.short,
@@ -21,7 +22,7 @@ entry_of-requires c =
 pub returns-in-Before : goal.returns-in-Before
 returns-in-Before c =
     let es = entries_of c.args.space.now c.args.self.now in
-    c.entry_of.ensures (find (λ _. true) es) (find_all IsShort (λ _. true) es c.requires.short)
+    c.parts.ensures (find (λ _. true) es) (find_all IsShort (λ _. true) es c.requires.short)
     (c.first.ensures ∙ node_from (nodes_of c.args.space.now c.args.self.now.tree) es (λ _. true) c.requires.nodes)
     ∙ ap (λ (p : Place). entry_after p es) (sym c.in-Before.is)
 
@@ -33,9 +34,8 @@ returns-in-After c =
 pub returns-in-On : goal.returns-in-On
 returns-in-On c =
     let es = entries_of c.args.space.now c.args.self.now in
-    let above : c.as_slice.result.now ≡ c.in-On.bookmark ++ 0 ∷ [] = c.as_slice.ensures.value ∙ c.joined-above.ensures ∙ ap (λ (b : List ℕ). b ++ 0 ∷ []) c.as_bytes.ensures.value in
     c.from.ensures
-    ∙ (λ i. find (λ entry. not (pair_lt entry (c.as_bytes-in-On.ensures.value i, above i))) es)
+    ∙ (λ i. find (λ entry. not (pair_lt entry (c.as_bytes.ensures.value i, c.as_bytes-in-On.ensures.value i ++ 0 ∷ []))) es)
     ∙ after_pair c.in-On.key c.in-On.bookmark es
     ∙ ap (λ (p : Place). entry_after p es) (sym c.in-On.is)
 
@@ -43,6 +43,6 @@ pub returns-in-Gap : goal.returns-in-Gap
 returns-in-Gap c =
     let es = entries_of c.args.space.now c.args.self.now in
     c.from-in-Gap.ensures
-    ∙ (λ i. find (λ entry. not (pair_lt entry (c.as_bytes-in-Gap.ensures.value i, c.gap_bookmark.ensures.bytes i))) es)
+    ∙ (λ i. find (λ entry. not (pair_lt entry (c.as_bytes-in-Gap.ensures.value i, (append-nil c.gap_bookmark.result.now ∙ c.gap_bookmark.ensures.bytes) i))) es)
     ∙ after_gap c.in-Gap.key c.in-Gap.above es c.requires.short
     ∙ ap (λ (p : Place). entry_after p es) (sym c.in-Gap.is)

@@ -11,8 +11,8 @@ use Rattle.index_tree.proofs.Lists.{last_all, last_nothing}
 use Rattle.index_tree.proofs.NodeEntries.{node_upto}
 use Rattle.index_tree.proofs.index.IndexTree.before.Goals as goal
 
-pub entry_of-requires : goal.entry_of-requires
-entry_of-requires c =
+pub parts-requires : goal.parts-requires
+parts-requires c =
     let es = entries_of c.args.space.now c.args.self.now in (
       last_or None (filter (λ _. true) es),
       last_all IsShort (λ _. true) None es tt c.requires.short,
@@ -22,7 +22,7 @@ entry_of-requires c =
 pub returns-in-After : goal.returns-in-After
 returns-in-After c =
     let es = entries_of c.args.space.now c.args.self.now in
-    c.entry_of.ensures (last_or None (filter (λ _. true) es)) (last_all IsShort (λ _. true) None es tt c.requires.short)
+    c.parts.ensures (last_or None (filter (λ _. true) es)) (last_all IsShort (λ _. true) None es tt c.requires.short)
     (c.last.ensures ∙ node_upto (nodes_of c.args.space.now c.args.self.now.tree) es (λ _. true) c.requires.nodes)
     ∙ ap (λ (p : Place). entry_before p es) (sym c.in-After.is)
 

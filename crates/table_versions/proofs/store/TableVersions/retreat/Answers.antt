@@ -4,14 +4,13 @@ use Rattle.cursor_nav.specs.Places.{entry_before, on_or}
 use Rattle.index_derive.specs.declared.entries.Place.TheVariants.{Before}
 use Rattle.database_state.specs.Table.{rule_with_id}
 use Rattle.table_versions.specs.VersionsKept.{only_secondary}
-use Rattle.table_versions.proofs.NodesShown.{none_copied}
 use Rattle.table_versions.proofs.ShownEntries.{seen_of_stored}
 use Rattle.table_versions.proofs.ShownRecords.{seen_of_nodes}
 use Rattle.table_versions.proofs.store.TableVersions.retreat.Goals as goal
 
-pub returns-then-is_none : goal.returns-then-is_none
-returns-then-is_none c =
-    let none : None ≡ only_secondary (rule_with_id c.args.schema.now c.args.index.0) = sym (none_copied c.secondary_rule.result c.if-is_none.ensures) ∙ c.secondary_rule.ensures in
+pub returns-in-None : goal.returns-in-None
+returns-in-None c =
+    let none : None ≡ only_secondary (rule_with_id c.args.schema.now c.args.index.0) = c.in-None.ensures in
     let own = seen_of_nodes (record { same = c.entries_in_order_are_told_by_those_that_are_there.ensures.same; some = c.entries_in_order_are_told_by_those_that_are_there.ensures.some; seen = c.a_reader_is_shown_the_records_that_it_sees.ensures })
     c.self.inside.catalog c.self.inside.trees c.self.inside.versions c.self.invariant c.nodes_are_in_order.ensures.sorted c.args.self.now c.self.view_is c.args.table.0 c.args.reader in
     let seen =
