@@ -11,11 +11,11 @@ ghost use Rattle.checkpoint.specs.Found.{CountsCheckFault, HoldsOnly};
 ghost use Rattle.checkpoint.specs.Parts.{BearsNumber, ExplainsSlots, IsBadSlot, LooksOnly, SaysOnly};
 
 use crate::fault::CheckFault;
-use crate::pages::{FREE, PAGE_BYTES, slot_start};
+use crate::pages::{FREE, slot_start};
 use jet_base::OutOfMemory;
 use jet_io::Failed;
 use jet_volume::{File, Volume};
-use page_image::Page;
+use page_image::{PAGE_BYTES, Page};
 use std::alloc::Global;
 
 /// The page that the bytes spell, where it bears this number.

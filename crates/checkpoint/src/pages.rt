@@ -17,9 +17,6 @@ use page_image::Page;
 /// The mark of a free page among the slots.
 pub const FREE: u8 = 2;
 
-/// The bytes of a page, and of a slot.
-pub const PAGE_BYTES: usize = 4096;
-
 /// Where a slot of a page begins in the database file.
 pub fn slot_start(page: usize, slot: u8) -> u64
     requires page { page < 16777216 }

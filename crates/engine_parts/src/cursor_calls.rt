@@ -21,10 +21,7 @@ use index_derive::{EntryKind, Place};
 use jet_base::{CursorId, Jet, Name, OutOfMemory};
 use key_normal::Key;
 use lawful_answers::{the_step_of_a_close_is_lawful, the_step_of_an_open_is_lawful};
-use session_local::{Decision, Local, OpenCursor, Request, Value};
-
-/// So many cursors may be open in a session.
-const MOST_CURSORS: usize = 16;
+use session_local::{Decision, Local, MOST_CURSORS, OpenCursor, Request, Value};
 
 impl Engine {
     /// OpenTable with a label that is free.

@@ -11,7 +11,7 @@ use std::marker::Model;
 pub(crate) const REPLY_SIZE: usize = 1_048_576;
 
 /// How many cursors a session may have open.
-pub(crate) const MOST_CURSORS: usize = 16;
+pub const MOST_CURSORS: usize = 16;
 
 /// The memory that a session takes as it begins: its reply buffer, and room for its cursors. Contracts see the bytes
 /// of the reply buffer.

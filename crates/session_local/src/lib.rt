@@ -22,7 +22,7 @@ mod setting_columns;
 mod showing;
 
 pub use answering::local_step;
-pub use buffers::Buffers;
+pub use buffers::{Buffers, MOST_CURSORS};
 pub use calls::is_local;
 pub use decision::Decision;
 pub use finishing::finish;

@@ -20,16 +20,13 @@ use crate::store::TableVersions;
 use crate::sums::{add_in_place, opposite};
 use crate::variants::take_variant;
 use arrayvec::ArrayVec;
-use column_set::RowRef;
+use column_set::{MAX_ROW_SIZE, RowRef};
 use index_derive::Schema;
 use jet_base::{Session, TableId};
 use jet_catalog::Catalog;
 use table_trees::{TableTrees, nodes_after_a_change, nodes_by_bookmark};
 use version_store::{ChangeKind, Versions};
 use versioned_tables::changes_undone_one_by_one_are_undone_at_once;
-
-/// The most bytes of a row.
-const LARGEST_ROW: usize = 1700;
 
 /// The most levels of a transaction.
 const MOST_LEVELS: u8 = 7;
@@ -204,7 +201,7 @@ pub(crate) fn copied_row(
     trees: &TableTrees,
     table: TableId,
     bookmark: &[u8],
-) -> Option<ArrayVec<u8, LARGEST_ROW>>
+) -> Option<ArrayVec<u8, MAX_ROW_SIZE>>
     ensures { option_map (λ copy. copy.items) result ≡ row_under (table_nodes trees.now table.0) bookmark.now }
 {
     trees.nodes_are_in_order();
