@@ -27,7 +27,7 @@ use Rattle.versioned_tables.specs.HeldRecords.{HeldRecord, seen_record}
 use Rattle.versioned_tables.specs.HeldSums.{unseen_sums}
 use Rattle.versioned_tables.specs.VersionedTables.{VersionedTables, seen_table, seen_tables}
 use Rattle.versioned_tables.specs.Holding.{Holds, begin_of}
-use Rattle.table_versions.specs.StoredVersions.{entries_in}
+use Rattle.stored_variants.specs.StoredVersions.{entries_in}
 use Rattle.session_local.specs.Agreement.{HasSchemaOf}
 use Rattle.session_local.specs.Local.{LocalState, OpenCursor, cursor_labelled}
 use Rattle.agreeing_sessions.specs.InStep.{IsInStep}

@@ -6,7 +6,7 @@ use Rattle.index_derive.specs.declared.rules.Schema.{Schema}
 use Rattle.version_history.specs.History.{without_rows}
 use Rattle.version_store.specs.declared.calls.Reader.{Reader}
 use Rattle.versioned_tables.specs.VersionedTables.{VersionedTables, seen_table}
-use Rattle.table_versions.specs.StoredVersions.{entries_in, seen_entries}
+use Rattle.stored_variants.specs.StoredVersions.{entries_in, seen_entries}
 use Rattle.versioned_tables.proofs.SeenTables.{seen_at_id}
 use Rattle.engine_parts.proofs.ReadsView.{none_is_some}
 

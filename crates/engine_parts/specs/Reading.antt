@@ -11,7 +11,7 @@ use Rattle.cursor_nav.specs.Places.{Pair, place_bookmark}
 use Rattle.database_state.specs.Table.{record_in}
 use Rattle.session_local.specs.Local.{OpenCursor}
 use Rattle.session_local.specs.Navigating.{EntriesOf, RecordsOf}
-use Rattle.table_versions.specs.StoredVersions.{seen_entries}
+use Rattle.stored_variants.specs.StoredVersions.{seen_entries}
 use Rattle.version_cleanup.specs.Cleaning.{reader_in}
 use Rattle.version_store.specs.declared.calls.Reader.{Reader}
 use Rattle.version_sums.specs.EscrowNumbers.{holds_number}

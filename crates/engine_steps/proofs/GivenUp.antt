@@ -5,7 +5,7 @@ use Rattle.std.proofs.lemmas.Bool.Decides.{nat_tests}
 use Rattle.record_changes.proofs.Tests.{impossible}
 use Rattle.version_store.specs.HeldChanges.{is_kept_status}
 use Rattle.versioned_tables.specs.HeldRecords.{HeldRecord, from_oldest_kept}
-use Rattle.table_versions.specs.StoredVersions.{next_to_forget}
+use Rattle.stored_variants.specs.StoredVersions.{next_to_forget}
 use Rattle.engine_steps.specs.Cleans.{AreUnneeded}
 
 pub drop_later : {X : Type 0} (n : ℕ) (xs : List X) → drop 1 (drop n xs) ≡ drop (suc n) xs

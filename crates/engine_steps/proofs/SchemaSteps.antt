@@ -27,9 +27,9 @@ use Rattle.engine_parts.specs.Parts.{tables_of}
 use Rattle.engine_versions.specs.EngineState.{EngineState}
 use Rattle.engine_versions.proofs.Telling.{tables_settled}
 use Rattle.versioned_tables.specs.HeldRecords.{HeldRecord}
-use Rattle.table_versions.specs.SchemaSteps.{CanMake, IsIndexFor, TakesColumn}
-use Rattle.table_versions.specs.StoredVersions.{StoredVersions}
-use Rattle.table_versions.specs.VersionsKept.{only_secondary, secondary_rule}
+use Rattle.stored_variants.specs.SchemaSteps.{CanMake, IsIndexFor, TakesColumn}
+use Rattle.stored_variants.specs.StoredVersions.{StoredVersions}
+use Rattle.stored_variants.specs.VersionsKept.{only_secondary, secondary_rule}
 use Rattle.engine_steps.specs.Steps.{MayCome, entry_by}
 use Rattle.engine_steps.proofs.Fitting.{at_most}
 use Rattle.engine_steps.proofs.Settled.{IsLawfulStep, lawful_step, none_open}

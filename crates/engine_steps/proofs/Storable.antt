@@ -39,8 +39,8 @@ use Rattle.lawful_answers.proofs.TableTests.{all_found}
 use Rattle.built_calls.specs.BuiltTables.{is_built_column, is_built_rule, is_built_table}
 use Rattle.engine_versions.specs.EngineState.{EngineState}
 use Rattle.engine_versions.specs.HoldsState.{HoldsState}
-use Rattle.table_versions.specs.PutRecords.{IsStorable}
-use Rattle.table_versions.specs.VersionsKept.{HoldsNumbers}
+use Rattle.stored_variants.specs.PutRecords.{IsStorable}
+use Rattle.stored_variants.specs.VersionsKept.{HoldsNumbers}
 use Rattle.engine_steps.specs.Changing.{CanChange, IsFormed}
 use Rattle.engine_steps.specs.Steps.{MayCome, entry_by}
 use Rattle.engine_steps.proofs.Fitting.{lawful_by_kind}

@@ -6,7 +6,7 @@ use Rattle.column_set.specs.declared.changes.Change.TheVariants.{Put, Drop, Hold
 use Rattle.database_state.specs.Table.{record_in, schema_of, table_with_id}
 use Rattle.index_derive.specs.Entries.{is_escrow_column}
 use Rattle.versioned_tables.specs.VersionedTables.{VersionedTables}
-use Rattle.table_versions.specs.PutRecords.{IsStorable}
+use Rattle.stored_variants.specs.PutRecords.{IsStorable}
 
 -- A record that is put can be stored in its table, one that is dropped is there, a lock is in a table, and a sum is one of an
 -- escrow column of a table.

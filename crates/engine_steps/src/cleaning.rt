@@ -4,7 +4,7 @@ ghost use Rattle.std.specs.Prelude.{◌≡◌, ◌≤◌, ◌<◌, ◌&&◌, nat
 ghost use Rattle.database_state.specs.State.{DatabaseState};
 ghost use Rattle.engine_versions.specs.EngineState.{cleaned};
 ghost use Rattle.engine_versions.specs.HoldsState.{HoldsState};
-ghost use Rattle.table_versions.specs.StoredVersions.{next_to_forget};
+ghost use Rattle.stored_variants.specs.StoredVersions.{next_to_forget};
 ghost use Rattle.engine_steps.specs.Cleans.{AreUnneeded, CanGo, without_first, without_oldest_held, without_unneeded};
 
 use crate::laws::changes_that_are_not_needed_may_go;

@@ -17,7 +17,7 @@ ghost use Rattle.engine_versions.specs.HoldsState.{HoldsAllInStep, HoldsState};
 ghost use Rattle.engine_steps.specs.Changing.{CanChange, IsFormed};
 ghost use Rattle.engine_steps.specs.Cleans.{CanGo, without_oldest_held};
 ghost use Rattle.engine_steps.specs.Steps.{IsSettledForStep, MayCome, MayTake, begin_taken_back, entry_by};
-ghost use Rattle.table_versions.specs.SchemaSteps.{CanMake};
+ghost use Rattle.stored_variants.specs.SchemaSteps.{CanMake};
 
 use column_set::values_here_are_the_record;
 use engine_versions::{

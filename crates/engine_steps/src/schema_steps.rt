@@ -4,7 +4,7 @@ ghost use Rattle.std.specs.Prelude.{◌≡◌, ◌+◌, ◌^◌, ◌≤◌, ℕ,
 ghost use Rattle.index_derive.specs.declared.log.EntryKind.TheVariants as entry;
 ghost use Rattle.engine_parts.specs.Parts.{tables_of};
 ghost use Rattle.engine_versions.specs.EngineSteps.{effect_on};
-ghost use Rattle.table_versions.specs.SchemaSteps.{CanMake};
+ghost use Rattle.stored_variants.specs.SchemaSteps.{CanMake};
 
 use engine_parts::Engine;
 use index_derive::SchemaStep;

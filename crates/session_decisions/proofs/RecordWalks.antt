@@ -11,7 +11,7 @@ use Rattle.index_derive.specs.Entries.{own_order}
 use Rattle.cursor_nav.specs.Places.{Pair, are_sorted, entry_after, pair_lt}
 use Rattle.database_state.specs.Table.{Rows, Table, entries_of_rule, index_entries, record_in, row_at, rows_of, rule_with_id, schema_of, table_with_id}
 use Rattle.record_changes.proofs.Tests.{and_left, and_right, equal_bytes, impossible, refuted, same_bytes}
-use Rattle.table_versions.specs.StoredVersions.{entries_in}
+use Rattle.stored_variants.specs.StoredVersions.{entries_in}
 use Rattle.versioned_tables.proofs.Order.{not_back, not_itself}
 use Rattle.versioned_tables.proofs.SeenTables.{seen_at_id}
 use Rattle.version_store.specs.declared.calls.Reader.{Reader}

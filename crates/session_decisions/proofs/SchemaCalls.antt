@@ -39,7 +39,7 @@ use Rattle.session_local.specs.Finishing.{finished}
 use Rattle.session_local.specs.Deciding.{decided_in as decided_by_decision}
 use Rattle.session_local.specs.Run.{is_lazy}
 use Rattle.lawful_answers.specs.LawfulSteps.{HasLawfulStep}
-use Rattle.table_versions.specs.StoredVersions.{StoredVersions}
+use Rattle.stored_variants.specs.StoredVersions.{StoredVersions}
 use Rattle.built_calls.specs.BuiltCalls.{makes_named}
 use Rattle.built_calls.specs.SchemaRequests.{schema_call_of}
 use Rattle.engine_versions.specs.EngineState.{EngineState, has_table_open}

@@ -27,7 +27,7 @@ use Rattle.versioned_tables.proofs.HeldSums.{keys_shown}
 use Rattle.versioned_tables.proofs.Rising.{found_without}
 use Rattle.versioned_tables.proofs.Views.{seen_defined, view_defined}
 use Rattle.table_versions.specs.KeyConflicts.{has_conflict_over, replaced_seen, unique_refusals}
-use Rattle.table_versions.specs.StoredVersions.{entries_in}
+use Rattle.stored_variants.specs.StoredVersions.{entries_in}
 
 -- the laws that it rests on
 abbrev pub TellsConflicts : Type 0

@@ -1,10 +1,8 @@
 -- A drop keeps what trees, catalog and held changes keep of one another.
-use Rattle.std.proofs.Common.{◌≡◌, ℕ, ◌≤◌, Bool, true, false, not, ◌&&◌, ◌||◌, cond, List, [], ◌∷◌, ◌++◌, length, Option, Some, None, find, map, option_map, refl, sym, ap, subst, ◌∙◌, arith}
+use Rattle.std.proofs.Common.{◌≡◌, ℕ, ◌≤◌, Bool, true, false, ◌&&◌, ◌||◌, cond, List, [], ◌∷◌, ◌++◌, length, Option, Some, None, find, map, option_map, refl, sym, ap, subst, ◌∙◌, arith}
 use Rattle.std.specs.Prelude.{◌==◌, All, IfSome, IsSomeAnd, bytes_eq, is_some, option_and_then}
 use Rattle.std.specs.List.{AllByRecursion, list_any}
 use Rattle.std.proofs.lemmas.List.Folds.{list_any-append}
-use Rattle.std.specs.Cmp.Lexicographic.{texts_ties}
-use Rattle.std.proofs.lemmas.List.Elements.{All-head, All-tail}
 use Rattle.btree_inplace.specs.Changes.{with_data_at}
 use Rattle.btree_inplace.specs.Order.{extent_in, has_key}
 use Rattle.column_set.specs.declared.changes.Change.{Change}
@@ -19,7 +17,7 @@ use Rattle.index_derive.specs.declared.rules.IndexRule.{IndexRule}
 use Rattle.jet_catalog.specs.Catalog.{CatalogState}
 use Rattle.jet_base.specs.declared.ids.TableId.{TableId}
 use Rattle.page_image.specs.Page.{Node}
-use Rattle.record_changes.proofs.Tests.{and_left, and_right, impossible, same_bytes, same_number, self_equal}
+use Rattle.record_changes.proofs.Tests.{and_left, and_right, impossible, same_bytes, same_number}
 use Rattle.table_trees.specs.StoredNodes.{IsShortNode, bookmark_entries}
 use Rattle.table_trees.specs.StoredTables.{StoredIndex, StoredTable, has_table, index_entries, is_index, part_of, table_nodes, with_nodes}
 use Rattle.version_store.specs.declared.calls.By.{By}
@@ -29,17 +27,17 @@ use Rattle.version_store.specs.HeldChanges.{HeldChange, kind_of, new_change}
 use Rattle.versioned_tables.specs.HeldRecords.{HeldRecord, is_standing_rewrite, new_change as new_record}
 use Rattle.versioned_tables.specs.VersionedTables.{VersionedTables, with_change}
 use Rattle.versioned_tables.specs.Variants.{HoldsVariants}
-use Rattle.table_versions.specs.RecordRows.{IsRecordRow, held_record, record_of, row_in_node, row_under, rows_of_nodes, with_record}
-use Rattle.table_versions.specs.StoredVersions.{StoredVersions}
-use Rattle.table_versions.specs.VersionsView.{stored_versions, with_newest}
-use Rattle.table_versions.specs.VersionsKept.{AreKept, IsKeptChange, IsKeptTable, IsRowOf, IsRowUnder, secondary_rule}
-use Rattle.table_versions.specs.GoneKeys.{some_before}
-use Rattle.table_versions.proofs.Dropped.{TreeLaws, emptied, emptied_where, extent_at, has_trees, nodes_are, row_then, same_numbers, there_at}
+use Rattle.stored_variants.specs.RecordRows.{IsRecordRow, held_record, record_of, row_in_node, row_under, rows_of_nodes}
+use Rattle.stored_variants.specs.StoredVersions.{StoredVersions}
+use Rattle.stored_variants.specs.VersionsView.{stored_versions, with_newest}
+use Rattle.stored_variants.specs.VersionsKept.{AreKept, IsKeptChange, IsKeptTable, IsRowOf, IsRowUnder, secondary_rule}
+use Rattle.stored_variants.specs.GoneKeys.{some_before}
+use Rattle.stored_variants.proofs.Dropped.{TreeLaws, emptied, extent_at, has_trees, nodes_are, row_then, same_numbers, there_at, room_in, turned_number, rows_emptied}
 use Rattle.table_versions.proofs.Held.{appended, no_sum}
 use Rattle.versioned_tables.proofs.Lists.{all_append}
-use Rattle.table_versions.proofs.NodeRecords.{record_at}
+use Rattle.stored_variants.proofs.NodeRecords.{record_at}
 use Rattle.table_versions.proofs.Span.{RowSizes, same_cost}
-use Rattle.table_versions.proofs.Tables.{found_number, newest_at, newest_is_row, table_at}
+use Rattle.stored_variants.proofs.Tables.{found_number, newest_at, newest_is_row, table_at}
 
 -- what is known of the trees before and after
 pub record Emptied (laws : TreeLaws) (trees : List StoredTable) (id : ℕ) (bookmark : List ℕ) : Type 0 where
@@ -161,20 +159,6 @@ all_room laws trees id bookmark there tables (h ∷ held) kept = (room_then laws
 
 -- ---- the drop itself
 
--- a row has room in its node
-pub room_in : (nodes : List Node) → All IsShortNode nodes → (own : List ℕ) → IfSome (row_under nodes own) (λ row. IsSomeAnd (extent_in nodes own) (λ n. length row ≤ n))
-room_in [] short own = tt
-room_in (n ∷ nodes) short own = by (has_key own n) (All-head IsShortNode n nodes short) (room_in nodes (All-tail IsShortNode n nodes short) own)
-  where
-    fits : (bytes : List ℕ) (extent : ℕ) → length bytes ≤ extent → IfSome (row_in_node bytes) (λ row. length row ≤ extent)
-    fits [] extent h = tt
-    fits (byte ∷ bytes) extent h = h
-
-    by : (b : Bool) → IsShortNode n → IfSome (row_under nodes own) (λ row. IsSomeAnd (extent_in nodes own) (λ n. length row ≤ n))
-        → IfSome (option_and_then row_in_node (option_map (λ (n : Node). n.data) (cond b (Some n) (find (has_key own) nodes)))) (λ row. IsSomeAnd (option_map (λ (n : Node). n.extent) (cond b (Some n) (find (has_key own) nodes))) (λ n. length row ≤ n))
-    by true is rest = fits n.data n.extent is.row
-    by false is rest = rest
-
 new_kept : (laws : TreeLaws) (trees : List StoredTable) (by : By) (table : TableId) (bookmark : List ℕ) → Emptied laws trees table.0 bookmark → All IsShortNode (table_nodes trees table.0) → (tables : List Table) (held : List HeldRecord)
     → is_some (table_with_id tables table.0) ≡ true → is_some (row_under (table_nodes trees table.0) bookmark) ≡ true → IfSome (table_with_id tables table.0) (IsKeptTable trees (table_nodes trees table.0) held)
     → IsKeptChange tables (emptied trees table.0 bookmark) (dropped by table bookmark trees)
@@ -223,35 +207,6 @@ drop_kept laws trees by table bookmark known short tables held named there kept 
         (dropped_table laws trees by table bookmark known held t (subst (λ (n : ℕ). IsKeptTable trees (table_nodes trees n) (map held_record held) t) (sym found) is))
 
 -- ---- what it shows
-
-pub turned_number : (a b : ℕ) → (a == b) ≡ (b == a)
-turned_number a b = by (a == b) (b == a) refl refl
-  where
-    by : (x y : Bool) → (a == b) ≡ x → (b == a) ≡ y → (a == b) ≡ (b == a)
-    by true y e f = e ∙ sym (ap (λ n. n == a) (sym (same_number a b e)) ∙ self_equal a)
-    by false true e f = ap (λ n. n == b) (sym (same_number b a f)) ∙ self_equal b ∙ sym f
-    by false false e f = e ∙ sym f
-
-pub rows_emptied : (bookmark : List ℕ) (nodes : List Node) → rows_of_nodes (with_data_at nodes bookmark []) ≡ without_row (rows_of_nodes nodes) bookmark
-rows_emptied bookmark [] = refl
-rows_emptied bookmark (n ∷ nodes) =
-    node (has_key bookmark n) ∙ by (has_key bookmark n) refl (row_in_node n.data) (rows_emptied bookmark nodes)
-  where
-    node : (b : Bool) → with_record (emptied_where b n).key (row_in_node (emptied_where b n).data) (rows_of_nodes (with_data_at nodes bookmark [])) ≡ with_record n.key (cond b None (row_in_node n.data)) (rows_of_nodes (with_data_at nodes bookmark []))
-    node true = refl
-    node false = refl
-
-    test : (b : Bool) → has_key bookmark n ≡ b → bytes_eq n.key bookmark ≡ b
-    test b e = texts_ties n.key bookmark ∙ e
-
-    by : (b : Bool) → has_key bookmark n ≡ b → (row : Option (List ℕ)) → rows_of_nodes (with_data_at nodes bookmark []) ≡ without_row (rows_of_nodes nodes) bookmark
-        → with_record n.key (cond b None row) (rows_of_nodes (with_data_at nodes bookmark [])) ≡ without_row (with_record n.key row (rows_of_nodes nodes)) bookmark
-    by true e None rest = rest
-    by true e (Some row) rest = rest ∙ sym (ap (λ b. cond (not b) ((n.key, record_of row) ∷ without_row (rows_of_nodes nodes) bookmark) (without_row (rows_of_nodes nodes) bookmark)) (test true e))
-    by false e None rest = rest
-    by false e (Some row) rest =
-        ap (λ rows. (n.key, record_of row) ∷ rows) rest
-        ∙ sym (ap (λ b. cond (not b) ((n.key, record_of row) ∷ without_row (rows_of_nodes nodes) bookmark) (without_row (rows_of_nodes nodes) bookmark)) (test false e))
 
 rows_then : (laws : TreeLaws) (trees : List StoredTable) (id : ℕ) (bookmark : List ℕ) → has_table trees id ≡ true → (other : ℕ)
     → rows_of_nodes (table_nodes (emptied trees id bookmark) other) ≡ cond (other == id) (without_row (rows_of_nodes (table_nodes trees other)) bookmark) (rows_of_nodes (table_nodes trees other))

@@ -7,9 +7,9 @@ use Rattle.record_changes.proofs.Tests.{and_both, and_left, and_right, impossibl
 use Rattle.table_trees.specs.StoredTables.{StoredTable}
 use Rattle.version_store.specs.HeldChanges.{HeldChange, committed_change, is_open_at, is_open_of, is_rewrite, released_change, with_status}
 use Rattle.versioned_tables.specs.HeldRecords.{committed_change as committed_record, is_change_at, is_standing_rewrite, released_change as released_record}
-use Rattle.table_versions.specs.RecordRows.{held_record, record_of}
-use Rattle.table_versions.specs.VersionsKept.{IsKeptChange, is_standing}
-use Rattle.table_versions.proofs.ChangesKept.{LeavesBefore}
+use Rattle.stored_variants.specs.RecordRows.{held_record, record_of}
+use Rattle.stored_variants.specs.VersionsKept.{IsKeptChange, is_standing}
+use Rattle.stored_variants.proofs.ChangesKept.{LeavesBefore}
 
 turned : (a b : Bool) → (a && b) ≡ (b && a)
 turned true true = refl

@@ -19,10 +19,10 @@ use Rattle.version_store.specs.HeldChanges.{HeldChange, is_record, is_rewrite, l
 use Rattle.versioned_tables.specs.HeldRecords.{before_or, hides, is_standing_rewrite, is_unseen, seen_record}
 use Rattle.versioned_tables.specs.Variants.{HoldsVariants}
 use Rattle.versioned_tables.proofs.Neighbours.{IsIn, found_in, last_in, shown_after, shown_before, shown_from, shown_to}
-use Rattle.table_versions.specs.RecordRows.{held_record, rows_of_nodes}
-use Rattle.table_versions.specs.StoredVersions.{StoredVersions}
-use Rattle.table_versions.specs.VersionsKept.{AreKept, IsKeptTable, only_secondary}
-use Rattle.table_versions.specs.VersionsView.{stored_versions}
+use Rattle.stored_variants.specs.RecordRows.{held_record, rows_of_nodes}
+use Rattle.stored_variants.specs.StoredVersions.{StoredVersions}
+use Rattle.stored_variants.specs.VersionsKept.{AreKept, IsKeptTable, only_secondary}
+use Rattle.stored_variants.specs.VersionsView.{stored_versions}
 use Rattle.table_versions.specs.Walks.{is_shown}
 use Rattle.table_versions.proofs.NodesShown.{parts_of}
 use Rattle.table_versions.proofs.RecordConflicts.{skipped_newest, up_to}

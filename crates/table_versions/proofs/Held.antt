@@ -1,11 +1,11 @@
 -- A lock or a sum that is held behind the other changes.
-use Rattle.std.proofs.Common.{◌≡◌, ℕ, Bool, true, false, not, ◌&&◌, ◌||◌, cond, List, [], ◌∷◌, ◌++◌, Option, Some, None, Result, Ok, Err, map, refl, sym, ap, ◌∙◌}
-use Rattle.std.specs.Prelude.{◌+◌, ◌==◌, IfSome, OnErr, OnOk, is_some, nat_lt, option_map}
+use Rattle.std.proofs.Common.{◌≡◌, ℕ, Bool, true, false, not, ◌&&◌, ◌||◌, List, [], ◌∷◌, ◌++◌, Option, Some, None, map, refl, sym, ap, ◌∙◌}
+use Rattle.std.specs.Prelude.{◌+◌, IfSome, is_some, nat_lt, option_map}
 use Rattle.column_set.specs.declared.changes.Change.{Change}
 use Rattle.column_set.specs.declared.changes.Change.TheVariants.{Put, Drop, Hold, Add}
 use Rattle.database_state.specs.Changes.{changed_table}
 use Rattle.database_state.specs.State.{is_undone}
-use Rattle.database_state.specs.Table.{Table, schema_of, table_with_id, with_table}
+use Rattle.database_state.specs.Table.{Table, schema_of, table_with_id}
 use Rattle.versioned_tables.proofs.Lists.{all_append}
 use Rattle.record_changes.proofs.Tests.{and_left, impossible}
 use Rattle.table_trees.specs.StoredTables.{StoredTable}
@@ -15,25 +15,13 @@ use Rattle.version_store.specs.declared.calls.ChangeKind.TheVariants as kind
 use Rattle.version_store.specs.HeldChanges.{HeldChange, has_room as has_room_for_row, is_add, is_rewrite, kind_of, new_change}
 use Rattle.versioned_tables.specs.HeldRecords.{is_change_at, is_standing_rewrite, span as span_of_records}
 use Rattle.versioned_tables.specs.VersionedTables.{VersionedTables, with_change}
-use Rattle.table_versions.specs.RecordRows.{held_record}
-use Rattle.table_versions.specs.StoredVersions.{has_room}
-use Rattle.table_versions.specs.VersionsView.{with_newest}
-use Rattle.table_versions.specs.VersionsKept.{AddsToEscrow, AreKept, IsKeptChange, IsRowOf}
+use Rattle.stored_variants.specs.RecordRows.{held_record}
+use Rattle.stored_variants.specs.StoredVersions.{has_room}
+use Rattle.stored_variants.specs.VersionsView.{with_newest}
+use Rattle.stored_variants.specs.VersionsKept.{AddsToEscrow, AreKept, IsKeptChange, IsRowOf}
 use Rattle.table_versions.proofs.Span.{same_span}
-use Rattle.table_versions.proofs.Tables.{table_at}
-use Rattle.table_versions.proofs.ChangesKept.{SameVariants, changes_kept}
-
-pub either : {A B P Q R : Type 0} (r : Result A B) → OnOk r Q → OnErr r R → (Q → P) → (R → P) → P
-either (Ok x) ok err f g = f ok
-either (Err e) ok err f g = g err
-
-pub on_ok : {A B Q P : Type 0} (r : Result A B) → OnOk r Q → (Q → P) → OnOk r P
-on_ok (Ok x) ok f = f ok
-on_ok (Err e) ok f = tt
-
-pub on_err : {A B Q P : Type 0} (r : Result A B) → OnErr r Q → (Q → P) → OnErr r P
-on_err (Ok x) err f = tt
-on_err (Err e) err f = f err
+use Rattle.stored_variants.proofs.Tables.{table_at, unchanged}
+use Rattle.stored_variants.proofs.ChangesKept.{SameVariants, changes_kept}
 
 -- ---- the lock, or the sum, is kept
 
@@ -90,14 +78,6 @@ lock_is_kept tables trees held by made lock named kept =
 pub appended : (held : List HeldChange) (made : HeldChange) → map held_record (held ++ made ∷ []) ≡ map held_record held ++ held_record made ∷ []
 appended [] made = refl
 appended (h ∷ held) made = ap (λ rest. held_record h ∷ rest) (appended held made)
-
-pub unchanged : (id : ℕ) (tables : List Table) → with_table id (λ table. record table { rows = table.rows }) tables ≡ tables
-unchanged id [] = refl
-unchanged id (t ∷ tables) = λ i. same (t.id == id) i ∷ unchanged id tables i
-  where
-    same : (b : Bool) → cond b (record t { rows = t.rows }) t ≡ t
-    same true = refl
-    same false = refl
 
 abbrev is_hold : ChangeKind → Bool
 is_hold kind.Put = false

@@ -9,7 +9,7 @@ use Rattle.index_derive.specs.Derived.{is_above, next_in}
 use Rattle.record_changes.proofs.Tests.{impossible, refuted}
 use Rattle.versioned_tables.proofs.Neighbours.{fewer, found_in}
 use Rattle.versioned_tables.proofs.Order.{lt_lt, not_below_itself}
-use Rattle.table_versions.proofs.StoredRules.{found_all}
+use Rattle.stored_variants.proofs.FoundRules.{found_all}
 use Rattle.table_versions.proofs.WithKey.{filter_alike}
 
 abbrev pub Rise : List (List ℕ) → Type 0

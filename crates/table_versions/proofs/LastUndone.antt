@@ -9,7 +9,7 @@ use Rattle.record_changes.proofs.Tests.{impossible}
 use Rattle.version_store.specs.HeldChanges.{HeldChange, is_open_at, is_rewrite, last_place, later_place, undone_at, with_status}
 use Rattle.versioned_tables.specs.HeldRecords.{HeldRecord, as_undone, inverse, is_open_at as is_open_record, undone_change}
 use Rattle.versioned_tables.specs.VersionedTables.{last_undone, tables_with_last_back}
-use Rattle.table_versions.specs.RecordRows.{held_record, record_of}
+use Rattle.stored_variants.specs.RecordRows.{held_record, record_of}
 
 turned : (a b : Bool) → (a && b) ≡ (b && a)
 turned true true = refl

@@ -29,15 +29,16 @@ use Rattle.versioned_tables.specs.HeldRecords.{HeldRecord, seen_record}
 use Rattle.versioned_tables.specs.VersionedTables.{VersionedTables, seen_rows, seen_table}
 use Rattle.versioned_tables.specs.Variants.{has_variant}
 use Rattle.versioned_tables.specs.Holding.{RowsRise}
-use Rattle.table_versions.specs.RecordRows.{held_record, record_of, row_under, rows_of_nodes}
-use Rattle.table_versions.specs.StoredVersions.{StoredVersions, entries_in, seen_entries}
-use Rattle.table_versions.specs.VersionsView.{stored_versions, with_newest}
-use Rattle.table_versions.specs.VersionsKept.{AreKept, IsKeptChange, IsKeptTable, IsRowUnder, only_secondary}
-use Rattle.table_versions.proofs.NodeRecords.{record_at, turned}
-use Rattle.table_versions.proofs.OwnOrder.{order_is, rows_rise, seen_is_variant, seen_rise}
+use Rattle.stored_variants.specs.RecordRows.{held_record, record_of, row_under, rows_of_nodes}
+use Rattle.stored_variants.specs.StoredVersions.{StoredVersions, entries_in, seen_entries}
+use Rattle.stored_variants.specs.VersionsView.{stored_versions, with_newest}
+use Rattle.stored_variants.specs.VersionsKept.{AreKept, IsKeptChange, IsKeptTable, IsRowUnder, only_secondary}
+use Rattle.stored_variants.proofs.NodeRecords.{record_at, turned}
+use Rattle.table_versions.proofs.OwnOrder.{order_is, seen_is_variant, seen_rise}
+use Rattle.stored_variants.proofs.RisingRows.{rows_rise}
 use Rattle.table_versions.proofs.SeenRecords.{record_seen, seen_is}
 use Rattle.versioned_tables.proofs.SeenTables.{seen_at_id}
-use Rattle.table_versions.proofs.Tables.{found_number, table_at}
+use Rattle.stored_variants.proofs.Tables.{found_number, table_at}
 
 -- ---- the entries of the records that a reader sees
 

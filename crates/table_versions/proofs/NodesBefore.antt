@@ -9,9 +9,9 @@ use Rattle.index_derive.specs.declared.entries.Place.TheVariants.{On}
 use Rattle.page_image.specs.Page.{Node}
 use Rattle.record_changes.proofs.Tests.{and_left, and_right, refuted}
 use Rattle.table_trees.specs.StoredNodes.{bookmark_entries, node_before}
-use Rattle.table_versions.proofs.NodeRecords.{apart, key_is}
+use Rattle.stored_variants.proofs.NodeRecords.{apart, key_is}
 use Rattle.table_versions.proofs.NodesShown.{entry_at}
-use Rattle.table_versions.proofs.NodeWalks.{below, has_own_key}
+use Rattle.stored_variants.proofs.NodeWalks.{below, has_own_key}
 use Rattle.versioned_tables.proofs.Neighbours.{IsIn, fewer_left_to, left_to, shown_before, shown_to}
 
 -- the neighbours among nodes are those among their bookmarks

@@ -15,14 +15,14 @@ use Rattle.table_trees.specs.StoredTables.{StoredTable, table_nodes}
 use Rattle.version_store.specs.declared.calls.Reader.{Reader}
 use Rattle.version_store.specs.HeldChanges.{HeldChange, SeenRow, current, row_before, absent, seen_row}
 use Rattle.versioned_tables.specs.HeldRecords.{seen_record}
-use Rattle.table_versions.specs.RecordRows.{record_of, row_in_node}
-use Rattle.table_versions.specs.StoredVersions.{StoredVersions}
-use Rattle.table_versions.specs.VersionsKept.{AreKept}
-use Rattle.table_versions.specs.VersionsView.{stored_versions}
+use Rattle.stored_variants.specs.RecordRows.{record_of, row_in_node}
+use Rattle.stored_variants.specs.StoredVersions.{StoredVersions}
+use Rattle.stored_variants.specs.VersionsKept.{AreKept}
+use Rattle.stored_variants.specs.VersionsView.{stored_versions}
 use Rattle.table_versions.specs.Walks.{is_row_seen, is_seen}
-use Rattle.table_versions.proofs.NodeWalks.{next_is_there, next_node}
+use Rattle.stored_variants.proofs.NodeWalks.{next_is_there, next_node}
 use Rattle.table_versions.proofs.SeenRecords.{record_seen, seen_is}
-use Rattle.table_versions.proofs.Tables.{newest_at}
+use Rattle.stored_variants.proofs.Tables.{newest_at}
 use Rattle.versioned_tables.proofs.Neighbours.{fewer_left, left_from, shown_after, shown_from}
 
 -- the entry of a node that was found

@@ -6,7 +6,7 @@ use Rattle.std.specs.Ordering.{eq_by_cmp, nat_cmp, is_lt}
 use Rattle.std.specs.Cmp.Lexicographic.{slice_cmp, nat_list_cmp_total, texts_ties}
 use Rattle.std.specs.FinMap.Entries.{below_all, is_sorted-put, is_sorted-where_key}
 use Rattle.btree_inplace.specs.Order.{get_in, has_key}
-use Rattle.column_set.specs.RecordValues.{RecordFields, bytes_lt}
+use Rattle.column_set.specs.RecordValues.{RecordFields}
 use Rattle.cursor_nav.specs.Places.{Pair, are_sorted, pair_lt}
 use Rattle.database_state.specs.Table.{Rows, row_at}
 use Rattle.derived_index.specs.KeptEntries.{has_entry}
@@ -20,9 +20,10 @@ use Rattle.versioned_tables.specs.HeldRecords.{HeldRecord, before_or, hides, is_
 use Rattle.versioned_tables.specs.VersionedTables.{hides_in, rows_with, seen_rows}
 use Rattle.versioned_tables.specs.Variants.{has_variant}
 use Rattle.versioned_tables.specs.Holding.{RowsRise}
-use Rattle.table_versions.specs.RecordRows.{row_in_node, rows_of_nodes, with_record}
-use Rattle.table_versions.proofs.NodeRecords.{turned}
+use Rattle.stored_variants.specs.RecordRows.{rows_of_nodes}
+use Rattle.stored_variants.proofs.NodeRecords.{turned}
 use Rattle.table_versions.proofs.SeenRecords.{unseen_stands}
+use Rattle.stored_variants.proofs.RisingRows.{rows_rise}
 
 -- ---- tests
 
@@ -34,32 +35,7 @@ or_right : (a b : Bool) → b ≡ true → (a || b) ≡ true
 or_right true b e = refl
 or_right false b e = e
 
--- ---- the records rise as the nodes do
-
-own_below : (a b : Bool) → (a || (b && a)) ≡ true → T a
-own_below true b h = tt
-own_below false true h = impossible h
-own_below false false h = impossible h
-
-both : (a b : Bool) → T a → T b → T (a && b)
-both true b p q = q
-both false b p q = p
-
-below_is : (key : List ℕ) (nodes : List Node) → list_all (pair_lt (key, key)) (bookmark_entries nodes) ≡ true → T (below_all (slice_cmp nat_cmp) key (rows_of_nodes nodes))
-below_is key [] low = tt
-below_is key (n ∷ nodes) low = by (row_in_node n.data) (below_is key nodes (and_right (pair_lt (key, key) (n.key, n.key)) _ low))
-  where
-    by : (row : Option (List ℕ)) → T (below_all (slice_cmp nat_cmp) key (rows_of_nodes nodes)) → T (below_all (slice_cmp nat_cmp) key (with_record n.key row (rows_of_nodes nodes)))
-    by None rest = rest
-    by (Some row) rest = both _ _ (own_below (bytes_lt key n.key) (bytes_eq key n.key) (and_left (pair_lt (key, key) (n.key, n.key)) _ low)) rest
-
-pub rows_rise : (nodes : List Node) → are_sorted (bookmark_entries nodes) ≡ true → RowsRise (rows_of_nodes nodes)
-rows_rise [] sorted = tt
-rows_rise (n ∷ nodes) sorted = by (row_in_node n.data) (rows_rise nodes (and_right (list_all (pair_lt (n.key, n.key)) (bookmark_entries nodes)) _ sorted))
-  where
-    by : (row : Option (List ℕ)) → RowsRise (rows_of_nodes nodes) → RowsRise (with_record n.key row (rows_of_nodes nodes))
-    by None rest = rest
-    by (Some row) rest = both _ _ (below_is n.key nodes (and_left _ _ sorted)) rest
+-- ---- records in the order of their bookmarks
 
 -- rows that rise are in the order of their bookmarks
 first : (a b : Bool) → T (a && b) → T a

@@ -21,17 +21,17 @@ use Rattle.version_store.specs.declared.calls.ChangeKind.{ChangeKind}
 use Rattle.version_store.specs.declared.calls.ChangeKind.TheVariants as kind
 use Rattle.version_store.specs.HeldChanges.{HeldChange, has_room as has_room_for_row, kind_of, new_change}
 use Rattle.versioned_tables.specs.VersionedTables.{VersionedTables, with_change}
-use Rattle.table_versions.specs.PutRecords.{CanTake, HasVariantKeys, IsPut, IsSame, IsStorable, put_values, record_keys}
-use Rattle.table_versions.specs.GoneKeys.{AreRows, held_from}
-use Rattle.table_versions.specs.RecordRows.{IsRecordRow, held_record, record_of, row_under}
-use Rattle.table_versions.specs.StoredVersions.{StoredVersions, has_room}
-use Rattle.table_versions.specs.VersionsKept.{AreKept, HoldsNumbers, IsBookmarkOf}
-use Rattle.table_versions.specs.VersionsView.{stored_versions, with_newest}
+use Rattle.stored_variants.specs.PutRecords.{CanTake, HasVariantKeys, IsPut, IsSame, IsStorable, put_values, record_keys}
+use Rattle.stored_variants.specs.GoneKeys.{AreRows, held_from}
+use Rattle.stored_variants.specs.RecordRows.{IsRecordRow, held_record, record_of, row_under}
+use Rattle.stored_variants.specs.StoredVersions.{StoredVersions, has_room}
+use Rattle.stored_variants.specs.VersionsKept.{AreKept, HoldsNumbers, IsBookmarkOf}
+use Rattle.stored_variants.specs.VersionsView.{stored_versions, with_newest}
 use Rattle.table_versions.proofs.PutAsked.{PutAsks, are_rows, own_kept, put_asks, rules_take}
-use Rattle.table_versions.proofs.Dropped.{has_trees}
+use Rattle.stored_variants.proofs.Dropped.{has_trees}
 use Rattle.table_versions.proofs.PutKept.{AreSorted, IsNewRow, made_put, put_kept, put_shown, same_kept, same_tables}
 use Rattle.table_versions.proofs.Span.{RowSizes, same_room}
-use Rattle.table_versions.proofs.Tables.{newest_at, newest_is_row, table_at}
+use Rattle.stored_variants.proofs.Tables.{newest_at, newest_is_row, table_at}
 
 -- laws of rows that are read
 pub record RowLaws : Type 0 where

@@ -30,20 +30,19 @@ use Rattle.versioned_tables.specs.HeldRecords.{HeldRecord, is_standing_rewrite, 
 use Rattle.versioned_tables.specs.Holding.{RowsRise}
 use Rattle.versioned_tables.specs.VersionedTables.{with_change}
 use Rattle.versioned_tables.specs.Variants.{HoldsVariants, has_variant, is_variant_key}
-use Rattle.table_versions.specs.GoneKeys.{HasKeysOf, index_numbers, some_before, table_numbers}
-use Rattle.table_versions.specs.PutRecords.{AreWidened, IsPut, IsSame, IsWidened, is_place, record_keys}
-use Rattle.table_versions.specs.RecordRows.{IsRecordRow, held_record, record_of, row_in_node, row_under, rows_of_nodes}
-use Rattle.table_versions.specs.VersionsKept.{AreKept, IsKeptChange, IsKeptTable, IsRowOf, IsRowUnder, needed_trees, only_secondary, secondary_rule, tree_numbers}
-use Rattle.table_versions.specs.VersionsView.{with_newest}
-use Rattle.table_versions.proofs.DroppedRecords.{room_in, turned_number}
+use Rattle.stored_variants.specs.GoneKeys.{HasKeysOf, index_numbers, some_before, table_numbers}
+use Rattle.stored_variants.specs.PutRecords.{AreWidened, IsPut, IsSame, IsWidened, is_place, record_keys}
+use Rattle.stored_variants.specs.RecordRows.{IsRecordRow, held_record, record_of, row_in_node, row_under, rows_of_nodes}
+use Rattle.stored_variants.specs.VersionsKept.{AreKept, IsKeptChange, IsKeptTable, IsRowOf, IsRowUnder, needed_trees, only_secondary, secondary_rule, tree_numbers}
+use Rattle.stored_variants.specs.VersionsView.{with_newest}
+use Rattle.stored_variants.proofs.Dropped.{room_in, turned_number}
 use Rattle.table_versions.proofs.Held.{appended, no_sum}
-use Rattle.table_versions.proofs.HalfPuts.{secondary_found}
-use Rattle.table_versions.proofs.KeysPut.{record_yields}
+use Rattle.stored_variants.proofs.FoundRules.{secondary_found, record_yields}
 use Rattle.versioned_tables.proofs.Lists.{all_append}
-use Rattle.table_versions.proofs.NodeRecords.{record_at, turned}
-use Rattle.table_versions.proofs.OwnOrder.{rows_rise}
+use Rattle.stored_variants.proofs.NodeRecords.{record_at, turned}
+use Rattle.stored_variants.proofs.RisingRows.{rows_rise}
 use Rattle.table_versions.proofs.Span.{RowSizes, same_cost}
-use Rattle.table_versions.proofs.Tables.{found_number, newest_at, newest_is_row}
+use Rattle.stored_variants.proofs.Tables.{found_number, newest_at, newest_is_row}
 
 -- ---- numbers of trees
 

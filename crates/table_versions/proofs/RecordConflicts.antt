@@ -10,7 +10,7 @@ use Rattle.version_store.specs.declared.calls.Reader.{Reader}
 use Rattle.version_store.specs.HeldChanges.{HeldChange, is_concurrent, is_record, is_rewrite, is_standing, last_place, later_place}
 use Rattle.versioned_tables.specs.HeldRecords.{is_standing_rewrite}
 use Rattle.table_versions.specs.KeyConflicts.{conflicts_under, next_yields, yields_before, yields_before_change}
-use Rattle.table_versions.specs.RecordRows.{held_record, record_of}
+use Rattle.stored_variants.specs.RecordRows.{held_record, record_of}
 
 -- ---- places
 

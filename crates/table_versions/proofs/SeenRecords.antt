@@ -10,8 +10,8 @@ use Rattle.table_trees.specs.StoredTables.{StoredTable}
 use Rattle.version_store.specs.declared.calls.Reader.{Reader}
 use Rattle.version_store.specs.HeldChanges.{HeldChange, SeenRow, current, row_before, absent, hides, is_record, is_rewrite, is_unseen_status, seen_at, seen_before, seen_row}
 use Rattle.versioned_tables.specs.HeldRecords.{before_or, hides as hides_record, seen_record}
-use Rattle.table_versions.specs.RecordRows.{IsRecordRow, held_record, record_of}
-use Rattle.table_versions.specs.VersionsKept.{IsKeptChange, IsRowUnder, is_standing}
+use Rattle.stored_variants.specs.RecordRows.{IsRecordRow, held_record, record_of}
+use Rattle.stored_variants.specs.VersionsKept.{IsKeptChange, IsRowUnder, is_standing}
 
 -- the record that is seen, given the newest one
 abbrev pub record_seen : Option RecordFields → SeenRow → Option RecordFields

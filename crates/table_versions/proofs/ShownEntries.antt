@@ -17,13 +17,14 @@ use Rattle.versioned_tables.specs.VersionedTables.{VersionedTables, seen_rows, s
 use Rattle.versioned_tables.specs.Variants.{HoldsVariants, shown_entries}
 use Rattle.versioned_tables.proofs.SeenTables.{seen_at_id}
 use Rattle.versioned_tables.specs.Holding.{RowsRise}
-use Rattle.table_versions.specs.RecordRows.{held_record, rows_of_nodes}
-use Rattle.table_versions.specs.StoredVersions.{StoredVersions, entries_in, seen_entries}
-use Rattle.table_versions.specs.VersionsView.{stored_versions, with_newest}
-use Rattle.table_versions.specs.VersionsKept.{AreKept, IsKeptTable, only_secondary}
+use Rattle.stored_variants.specs.RecordRows.{held_record, rows_of_nodes}
+use Rattle.stored_variants.specs.StoredVersions.{StoredVersions, entries_in, seen_entries}
+use Rattle.stored_variants.specs.VersionsView.{stored_versions, with_newest}
+use Rattle.stored_variants.specs.VersionsKept.{AreKept, IsKeptTable, only_secondary}
 use Rattle.table_versions.specs.Walks.{is_entry_of, is_shown, stored_entries}
-use Rattle.table_versions.proofs.OwnOrder.{Laws, own_order_is, rows_rise}
-use Rattle.table_versions.proofs.Tables.{found_number, table_at}
+use Rattle.table_versions.proofs.OwnOrder.{Laws, own_order_is}
+use Rattle.stored_variants.proofs.RisingRows.{rows_rise}
+use Rattle.stored_variants.proofs.Tables.{found_number, table_at}
 
 abbrev pub WalksSeen : Type 0
 WalksSeen =

@@ -14,15 +14,15 @@ use Rattle.version_store.specs.HeldChanges.{HeldChange}
 use Rattle.versioned_tables.specs.HeldRecords.{HeldRecord, seen_record}
 use Rattle.versioned_tables.specs.VersionedTables.{seen_rows, seen_table, seen_tables}
 use Rattle.versioned_tables.specs.Variants.{has_variant}
-use Rattle.table_versions.specs.RecordRows.{held_record, rows_of_nodes}
-use Rattle.table_versions.specs.StoredVersions.{StoredVersions}
-use Rattle.table_versions.specs.VersionsView.{stored_versions, with_newest}
-use Rattle.table_versions.specs.VersionsKept.{AreKept, IsKeptTable}
+use Rattle.stored_variants.specs.RecordRows.{held_record, rows_of_nodes}
+use Rattle.stored_variants.specs.StoredVersions.{StoredVersions}
+use Rattle.stored_variants.specs.VersionsView.{stored_versions, with_newest}
+use Rattle.stored_variants.specs.VersionsKept.{AreKept, IsKeptTable}
 use Rattle.table_versions.specs.Walks.{is_seen}
 use Rattle.table_versions.proofs.OwnOrder.{Laws, own_order_is}
 use Rattle.versioned_tables.proofs.SeenTables.{seen_at_id}
 use Rattle.table_versions.proofs.ShownEntries.{store_of}
-use Rattle.table_versions.proofs.Tables.{found_number, no_nodes, table_at}
+use Rattle.stored_variants.proofs.Tables.{found_number, no_nodes, table_at}
 
 in_store : Laws → (tables : List Table) (trees : List StoredTable) (held : List HeldChange) → AreKept tables trees held → ((table : ℕ) → are_sorted (bookmark_entries (table_nodes trees table)) ≡ true) → (id : ℕ) (reader : Reader)
     → own_order (rows_of (table_with_id (seen_tables reader (store_of trees tables held)) id)) ≡ filter (is_seen reader (store_of trees tables held) id) (bookmark_entries (table_nodes trees id))

@@ -19,8 +19,8 @@ use Rattle.version_store.specs.declared.calls.ChangeKind.{ChangeKind}
 use Rattle.version_store.specs.HeldChanges.{HeldChange, cost, cost_of, from_oldest_kept, has_room as has_room_for_row, is_kept, is_rewrite, kind_of, rounded_size, span}
 use Rattle.versioned_tables.specs.HeldRecords.{HeldRecord, from_oldest_kept as from_oldest_record, span as span_of_records}
 use Rattle.versioned_tables.specs.VersionedTables.{VersionedTables}
-use Rattle.table_versions.specs.RecordRows.{IsRecordRow, held_record, record_of}
-use Rattle.table_versions.specs.StoredVersions.{has_room}
+use Rattle.stored_variants.specs.RecordRows.{IsRecordRow, held_record, record_of}
+use Rattle.stored_variants.specs.StoredVersions.{has_room}
 
 -- ---- the span
 

@@ -1,17 +1,19 @@
 -- A schema step of the store, once no change is held.
-use Rattle.std.proofs.Common.{◌≡◌, ℕ, true, List, [], ◌∷◌, Option, Some, None, map, option_map, refl, sym, ap, subst, ◌∙◌}
+use Rattle.std.proofs.Common.{◌≡◌, ℕ, true, List, [], ◌∷◌, Option, Some, None, map, option_map, refl, sym, ap, subst, ◌∙◌, false}
 use Rattle.std.specs.Prelude.{IsSomeAnd, is_some}
 use Rattle.database_state.specs.Table.{Table, table_with_id}
 use Rattle.index_derive.specs.declared.schema_calls.SchemaStep.{SchemaStep}
 use Rattle.jet_catalog.specs.Catalog.{CatalogState}
 use Rattle.table_trees.specs.StoredTables.{StoredTable}
 use Rattle.version_store.specs.HeldChanges.{HeldChange}
-use Rattle.table_versions.specs.RecordRows.{held_record}
-use Rattle.table_versions.specs.SchemaSteps.{IsMade, after_step}
-use Rattle.table_versions.specs.StoredVersions.{StoredVersions}
-use Rattle.table_versions.specs.VersionsKept.{AreKept, secondary_rule}
-use Rattle.table_versions.specs.VersionsView.{stored_versions, with_newest}
-use Rattle.table_versions.proofs.Tables.{table_at}
+use Rattle.stored_variants.specs.RecordRows.{held_record}
+use Rattle.stored_variants.specs.SchemaSteps.{IsMade, after_step}
+use Rattle.stored_variants.specs.StoredVersions.{StoredVersions}
+use Rattle.stored_variants.specs.VersionsKept.{AreKept, secondary_rule}
+use Rattle.stored_variants.specs.VersionsView.{stored_versions, with_newest}
+use Rattle.stored_variants.proofs.Tables.{table_at}
+use Rattle.index_derive.specs.Entries.{column_is_used}
+use Rattle.jet_base.specs.declared.ids.ColumnId.{ColumnId}
 
 none_held : (held : List HeldChange) → map held_record held ≡ [] → held ≡ []
 none_held [] e = refl
@@ -70,3 +72,14 @@ unchanged_kept catalog same trees others held e kept =
 
 pub unchanged_shown : (catalog same : CatalogState) (trees others : List StoredTable) (held : List HeldChange) (now : StoredVersions) → (same ≡ catalog) × (others ≡ trees) → stored_versions catalog trees held ≡ now → stored_versions same others held ≡ now
 unchanged_shown catalog same trees others held now e shows = (λ i. stored_versions (e.0 i) (e.1 i) held) ∙ shows
+
+-- what is asked of the column, in the catalog
+pub unused_in_catalog : (catalog : CatalogState) (trees : List StoredTable) (held : List HeldChange) (now : StoredVersions) → stored_versions catalog trees held ≡ now → (id : ℕ) (column : ColumnId)
+    → IsSomeAnd (table_with_id now.store.tables id) (λ t. column_is_used column t.indexes ≡ false) → IsSomeAnd (table_with_id catalog.tables id) (λ t. column_is_used column t.indexes ≡ false)
+unused_in_catalog catalog trees held now shows id column unused =
+    by (table_with_id catalog.tables id)
+    (subst (λ (o : Option Table). IsSomeAnd o (λ t. column_is_used column t.indexes ≡ false)) (in_catalog catalog trees held now shows id ∙ table_at trees catalog.tables id) unused)
+  where
+    by : (o : Option Table) → IsSomeAnd (option_map (with_newest trees) o) (λ t. column_is_used column t.indexes ≡ false) → IsSomeAnd o (λ t. column_is_used column t.indexes ≡ false)
+    by None h = h
+    by (Some t) h = h

@@ -21,14 +21,14 @@ use Rattle.version_store.specs.HeldChanges.{HeldChange, is_record, is_rewrite, i
 use Rattle.versioned_tables.specs.HeldRecords.{HeldRecord, has_key_conflict, is_standing_rewrite}
 use Rattle.versioned_tables.specs.Variants.{HoldsVariants, is_variant_key}
 use Rattle.table_versions.specs.KeyConflicts.{AreRowsBefore, conflicts_under}
-use Rattle.table_versions.specs.RecordRows.{held_record, record_of, row_under, rows_of_nodes}
-use Rattle.table_versions.specs.StoredVersions.{StoredVersions}
-use Rattle.table_versions.specs.VersionsKept.{AreKept, IsKeptChange, IsKeptTable, IsRowUnder, only_secondary}
-use Rattle.table_versions.specs.VersionsView.{stored_versions, with_newest}
+use Rattle.stored_variants.specs.RecordRows.{held_record, record_of, row_under, rows_of_nodes}
+use Rattle.stored_variants.specs.StoredVersions.{StoredVersions}
+use Rattle.stored_variants.specs.VersionsKept.{AreKept, IsKeptChange, IsKeptTable, IsRowUnder, only_secondary}
+use Rattle.stored_variants.specs.VersionsView.{stored_versions, with_newest}
 use Rattle.table_versions.proofs.KeyConflicts.{conflict_at_entries, conflict_under_one}
 use Rattle.table_versions.proofs.SeenRecords.{before_is_row}
 use Rattle.table_versions.proofs.StoredRules.{IsLegalRule, rule_at, stored_rule}
-use Rattle.table_versions.proofs.Tables.{found_number, newest_at, table_at}
+use Rattle.stored_variants.proofs.Tables.{found_number, newest_at, table_at}
 use Rattle.table_versions.proofs.WithKey.{has_key_and}
 
 none_some : {A : Type 0} {X : Type 0} (x : X) → None ≡ Some x → A

@@ -1,5 +1,5 @@
 -- The rules of a table's indexes.
-use Rattle.std.proofs.Common.{◌≡◌, ℕ, zero, suc, ◌≤◌, Bool, true, false, not, cond, List, [], ◌∷◌, Option, Some, None, filter, find, map, option_map, refl, sym, ap, subst}
+use Rattle.std.proofs.Common.{◌≡◌, ℕ, zero, suc, ◌≤◌, Bool, true, false, not, cond, List, [], ◌∷◌, Option, Some, None, filter, map, option_map, refl, sym, ap, subst}
 use Rattle.std.specs.Prelude.{◌==◌, slice_get, IfSome, IsSomeAnd, unwrap_or}
 use Rattle.std.specs.List.{AllByRecursion}
 use Rattle.database_state.specs.Table.{Table, rule_with_id, schema_of, table_with_id}
@@ -10,19 +10,12 @@ use Rattle.index_derive.specs.Entries.{is_legal}
 use Rattle.jet_catalog.specs.Catalog.{CatalogState}
 use Rattle.table_trees.specs.StoredTables.{StoredTable, table_nodes}
 use Rattle.version_store.specs.HeldChanges.{HeldChange}
-use Rattle.table_versions.specs.RecordRows.{held_record}
-use Rattle.table_versions.specs.StoredVersions.{StoredVersions}
-use Rattle.table_versions.specs.VersionsKept.{AreKept, IsKeptTable, IsStoredRule, only_secondary}
-use Rattle.table_versions.specs.VersionsView.{stored_versions, with_newest}
-use Rattle.table_versions.proofs.Tables.{table_at}
-
-pub found_all : {X : Type 0} (P : X → Type 0) (q : X → Bool) (x : X) (xs : List X) → AllByRecursion P xs → find q xs ≡ Some x → P x
-found_all P q x [] all e = cc
-found_all {X} P q x (y ∷ xs) all e = by (q y) e (found_all P q x xs all.1)
-  where
-    by : (b : Bool) → cond b (Some y) (find q xs) ≡ Some x → (find q xs ≡ Some x → P x) → P x
-    by true e rest = subst P (ap (λ (o : Option X). unwrap_or o y) e) all.0
-    by false e rest = rest e
+use Rattle.stored_variants.specs.RecordRows.{held_record}
+use Rattle.stored_variants.specs.StoredVersions.{StoredVersions}
+use Rattle.stored_variants.specs.VersionsKept.{AreKept, IsKeptTable, IsStoredRule, only_secondary}
+use Rattle.stored_variants.specs.VersionsView.{stored_versions, with_newest}
+use Rattle.stored_variants.proofs.Tables.{table_at}
+use Rattle.stored_variants.proofs.FoundRules.{found_all}
 
 -- an index that is found is one of the table's
 pub stored_rule : (table : Table) (index : ℕ) (rule : IndexRule) → AllByRecursion (IsStoredRule table) table.indexes → rule_with_id (schema_of table) index ≡ Some rule → IsStoredRule table rule

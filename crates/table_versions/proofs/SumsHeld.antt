@@ -1,34 +1,23 @@
--- A sum that is held, and one that is undone.
-use Rattle.std.proofs.Common.{◌≡◌, ℕ, zero, suc, ◌+◌, ◌-◌, ◌%◌, ◌^◌, ◌<◌, true, false, List, [], ◌∷◌, ◌++◌, Option, Some, None, map, refl, sym, ap, subst, ◌∙◌, arith}
-use Rattle.std.specs.Prelude.{ℤ, pos, negsuc, neg_ℤ, FitsSigned, IfSome, IsSomeAnd, is_some, option_map}
-use Rattle.std.specs.Int.{w32, cast_unsigned}
+-- A sum that is held.
+use Rattle.std.proofs.Common.{◌≡◌, ℕ, ◌+◌, ◌-◌, true, false, List, [], ◌∷◌, ◌++◌, Option, Some, None, map, refl, ap, subst, ◌∙◌}
+use Rattle.std.specs.Prelude.{IfSome, IsSomeAnd, is_some, option_map}
 use Rattle.column_set.specs.declared.changes.Change.{Change}
 use Rattle.column_set.specs.declared.changes.Change.TheVariants.{Put, Drop, Hold, Add}
 use Rattle.column_set.specs.RecordValues.{RecordFields}
-use Rattle.database_state.specs.Changes.{changed_bookmark, changed_table, is_sum, rows_with_sum, tables_after}
-use Rattle.database_state.specs.Table.{Table, record_in, row_at, schema_of, table_with_id, with_table}
+use Rattle.database_state.specs.Changes.{changed_bookmark, changed_table, is_sum, tables_after}
+use Rattle.database_state.specs.Table.{Table, record_in, schema_of, table_with_id}
 use Rattle.index_derive.specs.declared.rules.Schema.{Schema}
-use Rattle.index_derive.specs.Entries.{is_escrow_column}
-use Rattle.jet_base.specs.declared.ids.ColumnId.{ColumnId}
-use Rattle.jet_base.specs.declared.ids.TableId.{TableId}
 use Rattle.jet_catalog.specs.Catalog.{CatalogState}
 use Rattle.record_changes.proofs.Tests.{impossible}
-use Rattle.table_trees.specs.StoredTables.{StoredTable, table_nodes}
+use Rattle.table_trees.specs.StoredTables.{StoredTable}
 use Rattle.version_store.specs.declared.calls.By.{By}
-use Rattle.version_store.specs.declared.calls.ChangeKind.{ChangeKind}
-use Rattle.version_store.specs.declared.calls.ChangeKind.TheVariants as kind
 use Rattle.version_store.specs.HeldChanges.{HeldChange, is_rewrite, kind_of, new_change}
-use Rattle.versioned_tables.specs.HeldRecords.{HeldRecord, inverse, new_change as new_record}
+use Rattle.versioned_tables.specs.HeldRecords.{HeldRecord, new_change as new_record}
 use Rattle.versioned_tables.specs.VersionedTables.{with_change}
-use Rattle.table_versions.specs.RecordRows.{IsRecordRow, held_record, row_under}
-use Rattle.table_versions.specs.UndoneChanges.{IsBack, WasOpen}
-use Rattle.table_versions.specs.VersionsKept.{AddsToEscrow, AreKept, IsKeptChange}
-use Rattle.table_versions.specs.VersionsView.{stored_versions, with_newest}
+use Rattle.stored_variants.specs.RecordRows.{held_record}
+use Rattle.stored_variants.specs.VersionsView.{stored_versions, with_newest}
 use Rattle.table_versions.proofs.Held.{appended}
-use Rattle.table_versions.proofs.OpenUndone.{all_place}
-use Rattle.table_versions.proofs.Tables.{newest_is_row, table_at}
-
--- ---- one that is held
+use Rattle.stored_variants.proofs.Tables.{table_at}
 
 pub plain_sum : (made : Change) → is_sum made ≡ true → is_rewrite (kind_of made) ≡ false
 plain_sum (Put table bookmark copied values) e = impossible e
@@ -68,46 +57,3 @@ some_of P (Some x) h = refl
 pub if_of : (P : Table → Type 0) (o : Option Table) → IsSomeAnd o P → IfSome o P
 if_of P None h = absurd h
 if_of P (Some x) h = h
-
-and_of : (P : Table → Type 0) (o : Option Table) → is_some o ≡ true → IfSome o P → IsSomeAnd o P
-and_of P None e h = impossible e
-and_of P (Some x) e h = h
-
--- ---- one that is undone
-
-whole : (n : ℕ) → n ≡ 0 → n ≡ (0 + (4294967296 - 0)) % 4294967296
-whole n e = omega (arith, e)
-
-above : (k : ℕ) → suc k < 2147483648 → 4294967296 - suc k ≡ (0 + (4294967296 - suc k)) % 4294967296
-above k h = omega (arith, h)
-
-below : (k : ℕ) → k < 2147483648 → suc k ≡ (0 + (4294967296 - (4294967296 - suc k))) % 4294967296
-below k h = omega (arith, h)
-
--- the opposite amount as a number of 32 bits
-pub opposite_is : (amount : ℤ) → FitsSigned w32 amount → cast_unsigned w32 (neg_ℤ amount) ≡ (0 + (2 ^ 32 - cast_unsigned w32 amount)) % 2 ^ 32
-opposite_is (pos zero) f = whole 0 refl
-opposite_is (pos (suc k)) f = above k f.sfits
-opposite_is (negsuc k) f = below k f.sfits
-
--- the escrow column of a sum that is held
-pub sum_column : (tables : List Table) (trees : List StoredTable) (now : List HeldChange) (place table : ℕ) (held : List HeldChange) (h : HeldChange) → WasOpen tables trees now place table held h → (column : ColumnId) (amount : ℤ) → h.kind ≡ kind.Add column amount
-    → IsSomeAnd (table_with_id tables table) (λ t. is_escrow_column (schema_of t) column.0 ≡ true)
-sum_column tables trees now place table held h was column amount is =
-    let kept : IsKeptChange tables trees h = all_place (IsKeptChange tables trees) held place h was.kept.changes was.at in
-    and_of (λ t. is_escrow_column (schema_of t) column.0 ≡ true) (table_with_id tables table) (ap (λ n. is_some (table_with_id tables n)) (sym was.named) ∙ kept.named)
-    (subst (λ (k : ChangeKind). IfSome (table_with_id tables table) (λ t. AddsToEscrow (schema_of t) k)) is
-    (subst (λ (n : ℕ). IfSome (table_with_id tables n) (λ t. AddsToEscrow (schema_of t) h.kind)) was.named kept.sum))
-
-pub sum_back : (tables : List Table) (trees other : List StoredTable) (now : List HeldChange) (place : ℕ) (table : TableId) (held : List HeldChange) (h : HeldChange) → WasOpen tables trees now place table.0 held h → (column : ColumnId) (amount : ℤ) → h.kind ≡ kind.Add column amount
-    → (bookmark : List ℕ) → h.bookmark ≡ bookmark → AreKept tables other now → map (with_newest other) tables ≡ tables_after (map (with_newest trees) tables) (Add table bookmark column (neg_ℤ amount)) → IsBack tables trees other now h
-sum_back tables trees other now place table held h was column amount is bookmark at kept shown = record {
-  kept = kept;
-  shown =
-      shown
-      ∙ (λ i. with_table (sym was.named i) (λ t. record t { rows = rows_with_sum t.rows (sym at i) (row_at t.rows (sym at i)) column.0 (neg_ℤ amount) }) (map (with_newest trees) tables))
-      ∙ sym (ap (λ (k : ChangeKind). tables_after (map (with_newest trees) tables) (inverse (record (held_record h) { kind = k }))) is);
-}
-
-pub newest_now : (tables : List Table) (trees : List StoredTable) (now : List HeldChange) (place table : ℕ) (held : List HeldChange) (h : HeldChange) → WasOpen tables trees now place table held h → (bookmark : List ℕ) → IfSome (row_under (table_nodes trees table) bookmark) IsRecordRow
-newest_now tables trees now place table held h was bookmark = newest_is_row tables trees held was.kept table bookmark

@@ -8,8 +8,8 @@ use Rattle.record_changes.proofs.Tests.{impossible}
 use Rattle.version_store.specs.declared.calls.Reader.{Reader}
 use Rattle.version_store.specs.HeldChanges.{HeldChange, conflicts, is_kept}
 use Rattle.versioned_tables.specs.HeldRecords.{conflicts as conflicts_with}
-use Rattle.table_versions.specs.RecordRows.{held_record}
-use Rattle.table_versions.specs.StoredVersions.{next_to_forget}
+use Rattle.stored_variants.specs.RecordRows.{held_record}
+use Rattle.stored_variants.specs.StoredVersions.{next_to_forget}
 
 pub same_conflicts : (reader : Reader) (made : Change) (held : List HeldChange) → list_any (conflicts reader made) held ≡ list_any (conflicts_with reader made) (map held_record held)
 same_conflicts reader made [] = refl

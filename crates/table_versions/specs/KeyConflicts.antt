@@ -14,8 +14,8 @@ use Rattle.version_store.specs.declared.calls.Reader.{Reader}
 use Rattle.version_store.specs.HeldChanges.{HeldChange, is_standing}
 use Rattle.versioned_tables.specs.HeldRecords.{HeldRecord, has_key_conflict, is_change_at, is_concurrent, is_standing_rewrite, seen_record}
 use Rattle.versioned_tables.specs.VersionedTables.{VersionedTables}
-use Rattle.table_versions.specs.RecordRows.{IsRecordRow, record_of}
-use Rattle.table_versions.specs.StoredVersions.{seen_entries}
+use Rattle.stored_variants.specs.RecordRows.{IsRecordRow, record_of}
+use Rattle.stored_variants.specs.StoredVersions.{seen_entries}
 
 -- ---- conflicts
 

@@ -1,13 +1,2 @@
-pub mod RecordRows
-pub mod StoredVersions
-pub mod VersionsView
-pub mod VersionsKept
 pub mod Walks
-pub mod GoneKeys
-pub mod LeftVariants
 pub mod KeyConflicts
-pub mod UndoneChanges
-pub mod SchemaSteps
-pub mod PutRecords
-pub mod NewEntries
-pub mod LostColumns

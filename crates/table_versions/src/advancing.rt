@@ -6,8 +6,8 @@ ghost use Rattle.database_state.specs.Table.{rows_of, rule_with_id, schema_of, t
 ghost use Rattle.index_derive.specs.Entries.{own_order};
 ghost use Rattle.index_derive.specs.declared.entries.Place.TheVariants.{After, Before, On};
 ghost use Rattle.versioned_tables.specs.VersionedTables.{seen_tables};
-ghost use Rattle.table_versions.specs.StoredVersions.{seen_entries};
-ghost use Rattle.table_versions.specs.VersionsKept.{only_secondary};
+ghost use Rattle.stored_variants.specs.StoredVersions.{seen_entries};
+ghost use Rattle.stored_variants.specs.VersionsKept.{only_secondary};
 
 use crate::store::TableVersions;
 use crate::walking::secondary_rule;

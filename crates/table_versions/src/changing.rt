@@ -1,21 +1,21 @@
 //! Changes of records.
 
 ghost use Rattle.std.specs.Prelude.{◌≡◌, ◌↔◌, true, false, is_some, option_copied, IfSome, IsErrOf, IsSomeAnd, OnErr, OnOk};
-ghost use Rattle.database_state.specs.Changes.{changed_bookmark, changed_table};
-ghost use Rattle.database_state.specs.Table.{record_in, table_with_id};
-ghost use Rattle.version_store.specs.declared.calls.ChangeKind.TheVariants as kind;
-ghost use Rattle.version_store.specs.declared.fault.VersionFault.TheVariants as fault;
+ghost use Rattle.database_state.specs.Changes.{changed_bookmark, changed_table, is_sum};
+ghost use Rattle.database_state.specs.Table.{record_in, table_with_id, schema_of};
 ghost use Rattle.version_store.specs.HeldChanges.{kind_of};
 ghost use Rattle.versioned_tables.specs.VersionedTables.{with_change};
-ghost use Rattle.table_versions.specs.PutRecords.{IsStorable, put_values};
-ghost use Rattle.table_versions.specs.StoredVersions.{has_room};
+ghost use Rattle.stored_variants.specs.PutRecords.{IsStorable, put_values};
+ghost use Rattle.stored_variants.specs.StoredVersions.{has_room};
+ghost use Rattle.stored_variants.specs.VersionsKept.{AddsToEscrow};
+ghost use Rattle.version_store.specs.declared.calls.ChangeKind.TheVariants as kind;
+ghost use Rattle.version_store.specs.declared.fault.VersionFault.TheVariants as fault;
 
-use crate::putting::put_in;
-use crate::reading::row_in_node;
 use crate::store::TableVersions;
 use crate::telling::{bookmark_of, table_of};
 use column_set::{Change, Record, rows_are_read_back, size_of_a_row, values_here_are_the_record};
 use table_trees::{nodes_after_a_change, nodes_by_bookmark};
+use variant_trees::{add_sum, put_record, row_in_node};
 use version_store::{By, VersionFault};
 
 impl TableVersions {
@@ -71,7 +71,7 @@ impl TableVersions {
         match values_of(change) {
             Some(values) => match self.catalog.by_id(table) {
                 Some(def) => {
-                    let answer = put_in(
+                    let answer = put_record(
                         self.alloc,
                         &mut self.trees,
                         &mut self.versions,
@@ -88,6 +88,27 @@ impl TableVersions {
                 None => Err(VersionFault::OutOfMemory),
             },
             None => Err(VersionFault::OutOfMemory),
+        }
+    }
+
+    /// Adds an amount to the number in an escrow column of a record, and holds the sum behind the other changes. The number is one
+    /// of 32 bits, and wraps. Where there is no record under the bookmark the sum is held alone. It is refused where it does not
+    /// fit, as `fits` says. After a refusal and after want of memory all is as it was.
+    ///
+    /// The four bytes of the number are changed in the row: no index reads them.
+    pub fn add(&mut self, by: By, change: &Change) -> Result<(), VersionFault>
+        requires sum { is_sum change.now ≡ true }
+        requires column { IsSomeAnd (table_with_id self.old.store.tables (changed_table change.now)) (λ t. AddsToEscrow (schema_of t) (kind_of change.now)) }
+        ensures over { IsErrOf result fault.OverSpan ↔ (has_room by change.now self.old.store ≡ false) }
+        ensures ok { OnOk result (self.new ≡ record self.old { store = with_change by change.now self.old.store }) }
+        ensures err { OnErr result (self.new ≡ self.old) }
+    {
+        match self.versions.push(by, change, None) {
+            Ok(()) => {
+                add_sum(&mut self.trees, change);
+                Ok(())
+            }
+            Err(fault) => Err(fault),
         }
     }
 }

@@ -11,9 +11,8 @@ ghost use Rattle.index_derive.specs.Entries.{is_legal};
 ghost use Rattle.version_store.specs.HeldChanges.{HeldChange};
 ghost use Rattle.versioned_tables.specs.HeldRecords.{has_key_conflict};
 ghost use Rattle.table_versions.specs.KeyConflicts.{AreRowsBefore, conflicts_under, is_taken_for, yields_before_change};
-ghost use Rattle.table_versions.specs.RecordRows.{held_record};
+ghost use Rattle.stored_variants.specs.RecordRows.{held_record};
 
-use crate::reading::in_place;
 use crate::store::TableVersions;
 use crate::walking::entry_behind;
 use column_set::RowRef;
@@ -21,6 +20,7 @@ use index_derive::derive::yields;
 use index_derive::{IndexRule, Place, Schema, a_primary_index_has_one_entry};
 use jet_base::{IndexId, TableId};
 use key_normal::Key;
+use variant_trees::in_place;
 use version_store::{Reader, Versions};
 
 impl TableVersions {

@@ -1,18 +1,26 @@
-//! Ends of levels and transactions, and locks.
+//! Ends of levels and transactions, undos, locks, and the oldest change that is forgotten.
 
-ghost use Rattle.std.specs.Prelude.{◌≡◌, ◌≤◌, ◌↔◌, true, false, is_some, IsErrOf, OnErr, OnOk};
+ghost use Rattle.std.specs.Prelude.{◌≡◌, ◌≤◌, ◌↔◌, true, false, is_some, IsErrOf, OnErr, OnOk, Some, ◌<◌, length};
 ghost use Rattle.database_state.specs.Changes.{changed_table};
 ghost use Rattle.database_state.specs.Table.{table_with_id};
+ghost use Rattle.version_store.specs.HeldChanges.{kind_of};
+ghost use Rattle.versioned_tables.specs.VersionedTables.{with_change, with_level_released, with_session_committed, with_changes_undone, with_last_undone, without_oldest};
+ghost use Rattle.stored_variants.specs.StoredVersions.{has_room};
+ghost use Rattle.std.specs.List.{AllByRecursion, list_any};
+ghost use Rattle.version_history.specs.History.{EachTwo};
+ghost use Rattle.versioned_tables.specs.HeldRecords.{is_open_at, is_open_of};
 ghost use Rattle.version_store.specs.declared.calls.ChangeKind.TheVariants as kind;
 ghost use Rattle.version_store.specs.declared.fault.VersionFault.TheVariants as fault;
-ghost use Rattle.version_store.specs.HeldChanges.{kind_of};
-ghost use Rattle.versioned_tables.specs.VersionedTables.{with_change, with_level_released, with_session_committed};
-ghost use Rattle.table_versions.specs.StoredVersions.{has_room};
 
 use crate::store::TableVersions;
 use column_set::Change;
 use jet_base::Session;
+use variant_trees::{forget_oldest, put_back};
 use version_store::{By, VersionFault};
+use versioned_tables::changes_undone_one_by_one_are_undone_at_once;
+
+/// The most levels of a transaction.
+const MOST_LEVELS: u8 = 7;
 
 impl TableVersions {
     /// The session's open changes at the level, which is at least 2, go to the level below. It takes no memory.
@@ -40,5 +48,61 @@ impl TableVersions {
         ensures err { OnErr result (self.new ≡ self.old) }
     {
         self.versions.push(by, change, None)
+    }
+
+    /// All open changes of the session are undone, the newest first: each record is again the one before it. They stand at the
+    /// levels 1 to 7, which do not fall from the older to the newer. It takes no memory.
+    pub fn undo_session(&mut self, session: Session)
+        requires rise { EachTwo (λ earlier later. is_open_of session.0 earlier ≡ true → is_open_of session.0 later ≡ true → earlier.level ≤ later.level) self.old.store.held }
+        requires levels { AllByRecursion (λ held. is_open_of session.0 held ≡ true → (1 ≤ held.level) × (held.level ≤ 7)) self.old.store.held }
+        ensures { self.new ≡ record self.old { store = with_changes_undone (is_open_of session.0) self.old.store } }
+    {
+        let mut level = MOST_LEVELS;
+        while level > 0 {
+            self.undo_level(session, level);
+            level -= 1;
+        }
+    }
+
+    /// The session's open changes at the level are undone, the newest first: each record is again the one before it. It takes
+    /// no memory.
+    pub fn undo_level(&mut self, session: Session, level: u8)
+        ensures { self.new ≡ record self.old { store = with_changes_undone (is_open_at session.0 level) self.old.store } }
+    {
+        changes_undone_one_by_one_are_undone_at_once();
+        let mut more = self.undo_newest(session, level);
+        while more {
+            more = self.undo_newest(session, level);
+        }
+    }
+
+    /// The newest of the session's open changes at the level is undone. Tells whether there was one.
+    pub fn undo_newest(&mut self, session: Session, level: u8) -> bool
+        ensures store { self.new ≡ record self.old { store = with_last_undone (is_open_at session.0 level) self.old.store } }
+        ensures found { result ≡ list_any (is_open_at session.0 level) self.old.store.held }
+    {
+        match self.versions.undo_level(session, level) {
+            Some(undone) => {
+                put_back(
+                    &self.catalog,
+                    &mut self.trees,
+                    &self.versions,
+                    undone.table,
+                    undone.place,
+                );
+                true
+            }
+            None => false,
+        }
+    }
+
+    /// Gives up the oldest held change, with the variant that no reader needs: the row before it, the keys that no other variant
+    /// has, and the node if no variant is left. It takes no memory.
+    pub fn forget(&mut self)
+        requires { 0 < length self.old.store.held }
+        ensures { self.new ≡ record self.old { store = without_oldest self.old.store } }
+    {
+        forget_oldest(&self.catalog, &mut self.trees, &self.versions);
+        self.versions.pop_oldest();
     }
 }

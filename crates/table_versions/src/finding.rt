@@ -4,10 +4,10 @@ ghost use Rattle.std.specs.Prelude.{◌≡◌, ◌<◌, ◌≤◌, ◌^◌, ℕ,
 ghost use Rattle.cursor_nav.specs.Places.{are_sorted, found_pair, least_entry_of};
 ghost use Rattle.database_state.specs.Table.{schema_of, table_with_id};
 ghost use Rattle.version_store.specs.declared.calls.Reader.{Reader};
-ghost use Rattle.table_versions.specs.StoredVersions.{seen_entries};
+ghost use Rattle.stored_variants.specs.StoredVersions.{seen_entries};
 
 use crate::store::TableVersions;
-use crate::walking::{own_entry, secondary_rule};
+use crate::walking::secondary_rule;
 use derived_index::{
     a_record_has_an_entry_a_key, entries_in_order_are_told_by_those_that_are_there,
 };
@@ -15,6 +15,7 @@ use index_derive::derive::next_entry;
 use index_derive::{IndexEntry, Schema};
 use jet_base::{IndexId, TableId};
 use key_normal::Key;
+use variant_trees::own_entry;
 use version_store::Reader;
 use versioned_tables::{
     a_reader_is_shown_the_records_that_it_sees, a_reader_walks_the_index_of_what_it_sees,

@@ -1,6 +1,6 @@
 //! What a reader sees of records.
 
-ghost use Rattle.std.specs.Prelude.{◌≡◌, ℕ, List, IfSome, IsTrue, option_and_then, option_copied, option_map};
+ghost use Rattle.std.specs.Prelude.{◌≡◌, ℕ, List, IfSome, IsTrue, option_copied, option_map};
 ghost use Rattle.column_set.specs.Record.{is_record};
 ghost use Rattle.column_set.specs.Rows.{here_fields};
 ghost use Rattle.database_state.specs.Table.{record_in};
@@ -8,11 +8,12 @@ ghost use Rattle.version_store.specs.declared.calls.Reader.{Reader};
 ghost use Rattle.version_sums.specs.EscrowSums.{amounts_to, seen_value};
 ghost use Rattle.versioned_tables.specs.HeldRecords.{seen_record};
 ghost use Rattle.versioned_tables.specs.HeldSums.{unseen_sums};
-ghost use Rattle.table_versions.specs.RecordRows.{IsRecordRow, record_of, row_in_node};
+ghost use Rattle.stored_variants.specs.RecordRows.{IsRecordRow, record_of, row_in_node};
 
 use crate::store::TableVersions;
 use column_set::RowRef;
 use jet_base::{ColumnId, TableId};
+use variant_trees::{in_place, row_in_node};
 use version_store::{Reader, Variant};
 use versioned_tables::an_unseen_sum_is_that_of_the_unseen_amounts;
 
@@ -78,26 +79,5 @@ impl TableVersions {
     {
         self.trees.nodes_are_in_order();
         row_in_node(self.trees.get(table, bookmark))
-    }
-}
-
-// The row in a node's bytes.
-pub(crate) fn row_in_node(bytes: Option<&[u8]>) -> Option<&[u8]>
-    ensures { option_copied result ≡ option_and_then row_in_node (option_copied bytes.entry) }
-{
-    match bytes {
-        Some(row) => { if row.is_empty() { None } else { Some(row) } }
-        None => None,
-    }
-}
-
-// The record of a row, read in place.
-pub(crate) fn in_place(row: Option<&[u8]>) -> Option<RowRef<'_>>
-    requires { IfSome (option_copied row) IsRecordRow }
-    ensures { option_map here_fields result ≡ option_map record_of (option_copied row.entry) }
-{
-    match row {
-        Some(row) => Some(RowRef::new(row)),
-        None => None,
     }
 }

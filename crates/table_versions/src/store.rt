@@ -29,12 +29,12 @@ pub struct TableVersions {
 }
 
 impl Model for TableVersions {
-    ghost use Rattle.table_versions.specs.StoredVersions.{StoredVersions};
+    ghost use Rattle.stored_variants.specs.StoredVersions.{StoredVersions};
 
     ghost Value = { StoredVersions };
 
-    ghost use Rattle.table_versions.specs.VersionsView.{stored_versions};
-    ghost use Rattle.table_versions.specs.VersionsKept.{AreKept};
+    ghost use Rattle.stored_variants.specs.VersionsView.{stored_versions};
+    ghost use Rattle.stored_variants.specs.VersionsKept.{AreKept};
 
     ghost view = { λ a. stored_versions a.catalog a.trees a.versions };
 

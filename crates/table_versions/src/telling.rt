@@ -4,7 +4,7 @@ ghost use Rattle.std.specs.Prelude.{◌≡◌, length};
 ghost use Rattle.column_set.specs.Rows.{largest_row};
 ghost use Rattle.database_state.specs.Changes.{changed_bookmark, changed_table};
 ghost use Rattle.versioned_tables.specs.HeldRecords.{has_conflict};
-ghost use Rattle.table_versions.specs.StoredVersions.{has_room, next_to_forget};
+ghost use Rattle.stored_variants.specs.StoredVersions.{has_room, next_to_forget};
 
 use crate::store::TableVersions;
 use column_set::{Change, size_of_a_row, values_here_are_the_record};

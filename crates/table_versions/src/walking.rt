@@ -11,9 +11,9 @@ ghost use Rattle.table_trees.specs.StoredTables.{index_entries, table_nodes};
 ghost use Rattle.version_store.specs.HeldChanges.{seen_row};
 ghost use Rattle.versioned_tables.specs.HeldRecords.{seen_record};
 ghost use Rattle.versioned_tables.specs.VersionedTables.{seen_tables};
-ghost use Rattle.table_versions.specs.RecordRows.{row_in_node};
-ghost use Rattle.table_versions.specs.StoredVersions.{seen_entries};
-ghost use Rattle.table_versions.specs.VersionsKept.{only_secondary};
+ghost use Rattle.stored_variants.specs.RecordRows.{row_in_node};
+ghost use Rattle.stored_variants.specs.StoredVersions.{seen_entries};
+ghost use Rattle.stored_variants.specs.VersionsKept.{only_secondary};
 ghost use Rattle.table_versions.specs.Walks.{is_row_seen};
 
 use crate::conflicting_keys::has_key;
@@ -23,6 +23,7 @@ use index_derive::{IndexEntry, IndexRule, Place, Schema};
 use jet_base::{IndexId, TableId};
 use key_normal::Key;
 use table_trees::{TableTrees, neighbours_are_those_of_bookmarks};
+use variant_trees::own_entry;
 use version_store::{Reader, Variant, Versions};
 use versioned_tables::{
     a_reader_is_shown_the_records_that_it_sees, a_reader_walks_the_index_of_what_it_sees,
@@ -335,17 +336,5 @@ pub(crate) fn secondary_rule(schema: &Schema, index: IndexId) -> Option<&IndexRu
     match schema.rule_with_id(index) {
         Some(rule) => { if rule.flags.primary { None } else { Some(rule) } }
         None => None,
-    }
-}
-
-// A bookmark is its own key.
-pub(crate) fn own_entry(bookmark: &[u8]) -> IndexEntry
-    requires { length bookmark.now ≤ 255 }
-    ensures key { result.key ≡ bookmark.now }
-    ensures bookmark { result.bookmark ≡ bookmark.now }
-{
-    IndexEntry {
-        key: Key::from_slice(bookmark),
-        bookmark: Key::from_slice(bookmark),
     }
 }

@@ -3,7 +3,7 @@ use Rattle.std.specs.Prelude.{drop, is_some, nat_lt}
 use Rattle.record_changes.proofs.Tests.{and_left, and_right, and_second}
 use Rattle.versioned_tables.specs.HeldRecords.{HeldRecord}
 use Rattle.versioned_tables.specs.VersionedTables.{without_oldest}
-use Rattle.table_versions.specs.StoredVersions.{StoredVersions, next_to_forget}
+use Rattle.stored_variants.specs.StoredVersions.{StoredVersions, next_to_forget}
 use Rattle.engine_steps.specs.Cleans.{AreUnneeded}
 use Rattle.engine_steps.proofs.GivenUp.{drop_later, fewer_left, kept_is, minus_none, more_unneeded, none_yet, one_more, one_within, some_held, some_left}
 use Rattle.engine_steps.proofs.cleaning.forget_first.Goals as goal

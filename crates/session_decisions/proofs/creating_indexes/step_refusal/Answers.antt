@@ -5,7 +5,7 @@ use Rattle.database_state.specs.Table.{Table, schema_of}
 use Rattle.engine_versions.specs.EngineState.{EngineState}
 use Rattle.index_derive.specs.declared.rules.IndexRule.{IndexRule}
 use Rattle.index_derive.specs.declared.schema_calls.SchemaStep.{SchemaStep}
-use Rattle.table_versions.specs.StoredVersions.{StoredVersions}
+use Rattle.stored_variants.specs.StoredVersions.{StoredVersions}
 use Rattle.version_cleanup.specs.Cleaning.{reader_in}
 use Rattle.version_store.specs.declared.calls.Reader.{Reader}
 use Rattle.session_decisions.specs.CreatingIndexes.{row_refusals, rows_shown, step_refusals_in}

@@ -2,7 +2,7 @@ use Rattle.std.proofs.Common.{Bool, cond, List, ℕ, Option, option_map, sym, ap
 use Rattle.std.specs.Prelude.{IfSome, option_copied}
 use Rattle.database_state.specs.Conflicts.{yields_key}
 use Rattle.version_store.specs.HeldChanges.{HeldChange, is_standing}
-use Rattle.table_versions.specs.RecordRows.{IsRecordRow, record_of}
+use Rattle.stored_variants.specs.RecordRows.{IsRecordRow, record_of}
 use Rattle.table_versions.proofs.RecordConflicts.{at_place, mapped}
 use Rattle.table_versions.proofs.conflicting_keys.yields_before.Goals as goal
 

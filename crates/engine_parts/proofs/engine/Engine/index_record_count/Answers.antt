@@ -2,7 +2,7 @@ use Rattle.std.proofs.Common.{◌<◌, ◌^◌, length, Ok, Err, sym, ap, subst,
 use Rattle.cursor_nav.specs.Navigation.{CursorState}
 use Rattle.session_local.specs.declared.decision.Decision.{Decision}
 use Rattle.session_local.specs.Answer.{answered_by}
-use Rattle.table_versions.specs.StoredVersions.{StoredVersions, seen_entries}
+use Rattle.stored_variants.specs.StoredVersions.{StoredVersions, seen_entries}
 use Rattle.engine_parts.specs.Parts.{tables_of}
 use Rattle.engine_parts.specs.Reading.{has_shown}
 use Rattle.engine_parts.proofs.CursorCallsCounted.{counts-few, count_at, count-decides}

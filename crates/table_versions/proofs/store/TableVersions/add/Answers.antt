@@ -4,12 +4,12 @@ use Rattle.database_state.specs.Changes.{changed_bookmark, changed_table}
 use Rattle.database_state.specs.Table.{Table, schema_of, table_with_id}
 use Rattle.version_store.specs.HeldChanges.{HeldChange, has_room as has_room_for_row, kind_of}
 use Rattle.versioned_tables.specs.VersionedTables.{with_change}
-use Rattle.table_versions.specs.StoredVersions.{StoredVersions, has_room}
-use Rattle.table_versions.specs.VersionsKept.{AddsToEscrow, AreKept}
-use Rattle.table_versions.specs.VersionsView.{stored_versions}
+use Rattle.stored_variants.specs.StoredVersions.{StoredVersions, has_room}
+use Rattle.stored_variants.specs.VersionsKept.{AddsToEscrow, AreKept}
+use Rattle.stored_variants.specs.VersionsView.{stored_versions}
 use Rattle.table_versions.proofs.Held.{is_held, other_room}
 use Rattle.table_versions.proofs.SumsHeld.{asked_of, if_of, plain_sum, some_of, store_summed}
-use Rattle.table_versions.proofs.Tables.{newest_is_row}
+use Rattle.stored_variants.proofs.Tables.{newest_is_row}
 use Rattle.table_versions.proofs.store.TableVersions.add.Goals as goal
 
 pub add_sum-requires : goal.add_sum-requires

@@ -1,8 +1,8 @@
 use Rattle.std.proofs.Common.{refl, subst}
 use Rattle.std.specs.Prelude.{Option, IfSome}
 use Rattle.database_state.specs.Table.{Table}
-use Rattle.table_versions.specs.SchemaSteps.{TakesColumn}
-use Rattle.table_versions.proofs.Held.{either, on_err, on_ok}
+use Rattle.stored_variants.specs.SchemaSteps.{TakesColumn}
+use Rattle.stored_variants.proofs.Outcomes.{either, on_err, on_ok}
 use Rattle.table_versions.proofs.StepInStore.{in_catalog, is_after, settled_parts, unchanged_kept, unchanged_shown}
 use Rattle.table_versions.proofs.store.TableVersions.add_column.Goals as goal
 

@@ -1,8 +1,8 @@
 use Rattle.std.proofs.Common.{ℕ, List, map, sym, ap, ◌∙◌}
 use Rattle.database_state.specs.Table.{Table}
 use Rattle.jet_catalog.specs.Catalog.{CatalogState, without_rows}
-use Rattle.table_versions.specs.StoredVersions.{StoredVersions}
-use Rattle.table_versions.proofs.Tables.{definitions}
+use Rattle.stored_variants.specs.StoredVersions.{StoredVersions}
+use Rattle.stored_variants.proofs.Tables.{definitions}
 use Rattle.table_versions.proofs.store.TableVersions.catalog.Goals as goal
 
 pub returns : goal.returns

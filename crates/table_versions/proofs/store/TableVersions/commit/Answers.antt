@@ -2,10 +2,10 @@ use Rattle.std.proofs.Common.{List, map, sym, ap, subst, ◌∙◌}
 use Rattle.version_store.specs.HeldChanges.{HeldChange, committed_change}
 use Rattle.versioned_tables.specs.HeldRecords.{HeldRecord, committed_change as committed_record}
 use Rattle.versioned_tables.specs.VersionedTables.{with_session_committed}
-use Rattle.table_versions.specs.StoredVersions.{StoredVersions}
-use Rattle.table_versions.specs.VersionsView.{stored_versions, with_newest}
-use Rattle.table_versions.specs.VersionsKept.{AreKept, IsKeptChange}
-use Rattle.table_versions.proofs.ChangesKept.{all_changed, changes_kept, map_held, same_variants}
+use Rattle.stored_variants.specs.StoredVersions.{StoredVersions}
+use Rattle.stored_variants.specs.VersionsView.{stored_versions, with_newest}
+use Rattle.stored_variants.specs.VersionsKept.{AreKept, IsKeptChange}
+use Rattle.stored_variants.proofs.ChangesKept.{all_changed, changes_kept, map_held, same_variants}
 use Rattle.table_versions.proofs.Ends.{committed_kept, committed_leaves, committed_same}
 use Rattle.table_versions.proofs.store.TableVersions.commit.Goals as goal
 

@@ -1,6 +1,6 @@
 use Rattle.std.proofs.Common.{ap, ◌∙◌}
 use Rattle.versioned_tables.specs.HeldRecords.{has_conflict}
-use Rattle.table_versions.specs.StoredVersions.{StoredVersions}
+use Rattle.stored_variants.specs.StoredVersions.{StoredVersions}
 use Rattle.table_versions.proofs.Told.{same_conflicts}
 use Rattle.table_versions.proofs.store.TableVersions.conflict.Goals as goal
 

@@ -2,7 +2,7 @@ use Rattle.std.proofs.Common.{sym, ap, ◌∙◌}
 use Rattle.database_state.specs.Conflicts.{yields_key}
 use Rattle.database_state.specs.Table.{record_in}
 use Rattle.table_versions.specs.KeyConflicts.{conflicts_under}
-use Rattle.table_versions.specs.StoredVersions.{StoredVersions}
+use Rattle.stored_variants.specs.StoredVersions.{StoredVersions}
 use Rattle.table_versions.proofs.store.TableVersions.conflict_under.Goals as goal
 
 pub returns-else-has_concurrent : goal.returns-else-has_concurrent

@@ -2,8 +2,8 @@ use Rattle.std.proofs.Common.{Bool, map, ap, ◌∙◌}
 use Rattle.database_state.specs.Conflicts.{yields_key}
 use Rattle.database_state.specs.Table.{record_in}
 use Rattle.table_versions.specs.KeyConflicts.{conflicts_under}
-use Rattle.table_versions.specs.RecordRows.{held_record}
-use Rattle.table_versions.specs.StoredVersions.{StoredVersions}
+use Rattle.stored_variants.specs.RecordRows.{held_record}
+use Rattle.stored_variants.specs.StoredVersions.{StoredVersions}
 use Rattle.table_versions.proofs.StoredConflicts.{rows_before}
 use Rattle.table_versions.proofs.store.TableVersions.conflict_with_changes.Goals as goal
 

@@ -1,6 +1,5 @@
-use Rattle.table_versions.proofs.Held.{either, on_err, on_ok}
-use Rattle.table_versions.proofs.LostColumns.{unused_in_catalog}
-use Rattle.table_versions.proofs.StepInStore.{is_after, settled_parts, unchanged_kept, unchanged_shown}
+use Rattle.stored_variants.proofs.Outcomes.{either, on_err, on_ok}
+use Rattle.table_versions.proofs.StepInStore.{unused_in_catalog, is_after, settled_parts, unchanged_kept, unchanged_shown}
 use Rattle.table_versions.proofs.store.TableVersions.delete_column.Goals as goal
 
 pub drop_column-requires-clause-kept : goal.drop_column-requires-clause-kept

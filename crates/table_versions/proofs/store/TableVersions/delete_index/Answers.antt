@@ -1,4 +1,4 @@
-use Rattle.table_versions.proofs.Held.{either, on_err, on_ok}
+use Rattle.stored_variants.proofs.Outcomes.{either, on_err, on_ok}
 use Rattle.table_versions.proofs.StepInStore.{index_in_catalog, is_after, settled_parts, unchanged_kept, unchanged_shown}
 use Rattle.table_versions.proofs.store.TableVersions.delete_index.Goals as goal
 

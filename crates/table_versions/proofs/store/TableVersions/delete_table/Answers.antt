@@ -1,4 +1,4 @@
-use Rattle.table_versions.proofs.Held.{either, on_err, on_ok}
+use Rattle.stored_variants.proofs.Outcomes.{either, on_err, on_ok}
 use Rattle.table_versions.proofs.StepInStore.{is_after, settled_parts, there_in_catalog, unchanged_kept, unchanged_shown}
 use Rattle.table_versions.proofs.store.TableVersions.delete_table.Goals as goal
 

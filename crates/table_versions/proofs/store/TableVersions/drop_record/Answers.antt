@@ -4,12 +4,12 @@ use Rattle.database_state.specs.Changes.{changed_bookmark, changed_table}
 use Rattle.database_state.specs.Table.{record_in}
 use Rattle.table_trees.specs.StoredTables.{table_nodes}
 use Rattle.version_store.specs.HeldChanges.{has_room as has_room_for_row, new_change}
-use Rattle.table_versions.specs.RecordRows.{IsRecordRow, record_of, row_in_node, row_under}
-use Rattle.table_versions.specs.StoredVersions.{StoredVersions, has_room}
-use Rattle.table_versions.proofs.Dropped.{TreeLaws, emptied}
+use Rattle.stored_variants.specs.RecordRows.{IsRecordRow, record_of, row_in_node, row_under}
+use Rattle.stored_variants.specs.StoredVersions.{StoredVersions, has_room}
+use Rattle.stored_variants.proofs.Dropped.{TreeLaws, emptied}
 use Rattle.table_versions.proofs.DroppedRecords.{IsAfterDrop, after_drop, has_extent, row_there}
 use Rattle.table_versions.proofs.Span.{RowSizes, same_room, small_row}
-use Rattle.table_versions.proofs.Tables.{newest_at, newest_is_row}
+use Rattle.stored_variants.proofs.Tables.{newest_at, newest_is_row}
 use Rattle.table_versions.proofs.store.TableVersions.drop_record.Goals as goal
 
 pub push-requires : goal.push-requires

@@ -2,10 +2,10 @@ use Rattle.std.proofs.Common.{List, ℕ, Option, sym, ap, ◌∙◌, arith}
 use Rattle.database_state.specs.Changes.{changed_bookmark, changed_table}
 use Rattle.database_state.specs.Table.{record_in}
 use Rattle.table_trees.specs.StoredTables.{table_nodes}
-use Rattle.table_versions.specs.RecordRows.{row_under}
-use Rattle.table_versions.specs.StoredVersions.{StoredVersions}
+use Rattle.stored_variants.specs.RecordRows.{row_under}
+use Rattle.stored_variants.specs.StoredVersions.{StoredVersions}
 use Rattle.table_versions.proofs.Span.{RowSizes, longest_fits, same_room}
-use Rattle.table_versions.proofs.Tables.{newest_at, newest_is_row}
+use Rattle.stored_variants.proofs.Tables.{newest_at, newest_is_row}
 use Rattle.table_versions.proofs.store.TableVersions.fits.Goals as goal
 
 pub fits-requires : goal.fits-requires

@@ -2,7 +2,7 @@ use Rattle.std.proofs.Common.{ap, ◌∙◌}
 use Rattle.std.specs.Prelude.{option_copied}
 use Rattle.database_state.specs.Changes.{changed_table}
 use Rattle.database_state.specs.Table.{record_in}
-use Rattle.table_versions.specs.StoredVersions.{StoredVersions}
+use Rattle.stored_variants.specs.StoredVersions.{StoredVersions}
 use Rattle.table_versions.proofs.Span.{RowSizes, same_room, small_row}
 use Rattle.table_versions.proofs.store.TableVersions.fits_with_its_row.Goals as goal
 

@@ -2,10 +2,10 @@ use Rattle.std.proofs.Common.{List, map, sym, ap, subst, ◌∙◌}
 use Rattle.std.specs.Prelude.{◌<◌, length}
 use Rattle.version_store.specs.HeldChanges.{HeldChange}
 use Rattle.versioned_tables.specs.VersionedTables.{without_oldest}
-use Rattle.table_versions.specs.RecordRows.{held_record}
-use Rattle.table_versions.specs.StoredVersions.{StoredVersions}
-use Rattle.table_versions.specs.VersionsKept.{AreKept}
-use Rattle.table_versions.proofs.Forgotten.{rest_of_records, some_held}
+use Rattle.stored_variants.specs.RecordRows.{held_record}
+use Rattle.stored_variants.specs.StoredVersions.{StoredVersions}
+use Rattle.stored_variants.specs.VersionsKept.{AreKept}
+use Rattle.table_versions.proofs.OldestHeld.{rest_of_records, some_held}
 use Rattle.table_versions.proofs.store.TableVersions.forget.Goals as goal
 
 pub forget_oldest-requires : goal.forget_oldest-requires

@@ -5,10 +5,11 @@ use Rattle.database_state.specs.Table.{table_with_id}
 use Rattle.version_store.specs.declared.fault.VersionFault.TheVariants as fault
 use Rattle.version_store.specs.HeldChanges.{HeldChange}
 use Rattle.versioned_tables.specs.VersionedTables.{VersionedTables, with_change}
-use Rattle.table_versions.specs.StoredVersions.{StoredVersions}
-use Rattle.table_versions.specs.VersionsView.{stored_versions, with_newest}
-use Rattle.table_versions.specs.VersionsKept.{AreKept}
-use Rattle.table_versions.proofs.Held.{either, lock_is_kept, lock_room, lock_shown, named_in_catalog, on_err, on_ok}
+use Rattle.stored_variants.specs.StoredVersions.{StoredVersions}
+use Rattle.stored_variants.specs.VersionsView.{stored_versions, with_newest}
+use Rattle.stored_variants.specs.VersionsKept.{AreKept}
+use Rattle.stored_variants.proofs.Outcomes.{either, on_err, on_ok}
+use Rattle.table_versions.proofs.Held.{lock_is_kept, lock_room, lock_shown, named_in_catalog}
 use Rattle.table_versions.proofs.store.TableVersions.hold.Goals as goal
 
 pub invariant_of-self : goal.invariant_of-self

@@ -2,7 +2,7 @@ use Rattle.std.proofs.Common.{List, ℕ, not}
 use Rattle.std.specs.Prelude.{option_copied}
 use Rattle.cursor_nav.specs.Places.{found_pair}
 use Rattle.database_state.specs.Puts.{is_replaced}
-use Rattle.table_versions.specs.StoredVersions.{seen_entries}
+use Rattle.stored_variants.specs.StoredVersions.{seen_entries}
 use Rattle.versioned_tables.proofs.Neighbours.{left_from}
 use Rattle.table_versions.proofs.WithKey.{KeyWalk}
 use Rattle.table_versions.proofs.store.TableVersions.is_taken.Given as goal

@@ -1,7 +1,7 @@
 use Rattle.std.proofs.Common.{Some, None, option_map, refl, sym, ap, ◌∙◌}
 use Rattle.column_set.specs.Rows.{here_fields}
 use Rattle.database_state.specs.Table.{rule_with_id}
-use Rattle.table_versions.specs.VersionsKept.{only_secondary}
+use Rattle.stored_variants.specs.VersionsKept.{only_secondary}
 use Rattle.table_versions.proofs.LeastEntries.{has_keys_in, is_seen, least_seen}
 use Rattle.table_versions.proofs.StoredRules.{legal_in_store}
 use Rattle.table_versions.proofs.store.TableVersions.least.Goals as goal

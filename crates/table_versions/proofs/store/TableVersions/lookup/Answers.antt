@@ -1,8 +1,8 @@
 use Rattle.std.proofs.Common.{List, option_map, sym, ap, ◌∙◌}
 use Rattle.database_state.specs.Table.{Table, table_named}
 use Rattle.jet_catalog.specs.Catalog.{without_rows}
-use Rattle.table_versions.specs.StoredVersions.{StoredVersions}
-use Rattle.table_versions.proofs.Tables.{defined, named_at}
+use Rattle.stored_variants.specs.StoredVersions.{StoredVersions}
+use Rattle.stored_variants.proofs.Tables.{defined, named_at}
 use Rattle.table_versions.proofs.store.TableVersions.lookup.Goals as goal
 
 pub returns : goal.returns

@@ -1,8 +1,8 @@
 use Rattle.std.proofs.Common.{subst}
 use Rattle.std.specs.Prelude.{Option, IsSomeAnd}
 use Rattle.database_state.specs.Table.{Table}
-use Rattle.table_versions.specs.SchemaSteps.{IsIndexFor}
-use Rattle.table_versions.proofs.Held.{either, on_err, on_ok}
+use Rattle.stored_variants.specs.SchemaSteps.{IsIndexFor}
+use Rattle.stored_variants.proofs.Outcomes.{either, on_err, on_ok}
 use Rattle.table_versions.proofs.StepInStore.{in_catalog, is_after, settled_parts, unchanged_kept, unchanged_shown}
 use Rattle.table_versions.proofs.store.TableVersions.make_index.Goals as goal
 

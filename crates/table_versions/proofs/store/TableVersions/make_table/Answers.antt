@@ -1,6 +1,6 @@
 use Rattle.std.proofs.Common.{ap, arith}
-use Rattle.table_versions.specs.StoredVersions.{StoredVersions}
-use Rattle.table_versions.proofs.Held.{either, on_err, on_ok}
+use Rattle.stored_variants.specs.StoredVersions.{StoredVersions}
+use Rattle.stored_variants.proofs.Outcomes.{either, on_err, on_ok}
 use Rattle.table_versions.proofs.StepInStore.{is_after, settled_parts, unchanged_kept, unchanged_shown}
 use Rattle.table_versions.proofs.store.TableVersions.make_table.Goals as goal
 

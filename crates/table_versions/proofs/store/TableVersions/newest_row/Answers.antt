@@ -1,9 +1,9 @@
 use Rattle.std.proofs.Common.{Option, List, ℕ, option_map, sym, ap, subst, ◌∙◌}
 use Rattle.std.specs.Prelude.{IfSome, option_and_then}
 use Rattle.database_state.specs.Table.{record_in}
-use Rattle.table_versions.specs.RecordRows.{IsRecordRow, record_of, row_in_node}
-use Rattle.table_versions.specs.StoredVersions.{StoredVersions}
-use Rattle.table_versions.proofs.Tables.{newest_at, newest_is_row}
+use Rattle.stored_variants.specs.RecordRows.{IsRecordRow, record_of, row_in_node}
+use Rattle.stored_variants.specs.StoredVersions.{StoredVersions}
+use Rattle.stored_variants.proofs.Tables.{newest_at, newest_is_row}
 use Rattle.table_versions.proofs.store.TableVersions.newest_row.Goals as goal
 
 pub returns-clause-values : goal.returns-clause-values

@@ -6,7 +6,7 @@ use Rattle.page_image.specs.Page.{Node}
 use Rattle.table_trees.specs.StoredNodes.{bookmark_entries, node_after}
 use Rattle.table_trees.specs.StoredTables.{table_nodes}
 use Rattle.version_store.specs.HeldChanges.{seen_row}
-use Rattle.table_versions.specs.RecordRows.{row_in_node}
+use Rattle.stored_variants.specs.RecordRows.{row_in_node}
 use Rattle.table_versions.specs.Walks.{is_row_seen, is_seen}
 use Rattle.versioned_tables.proofs.Neighbours.{left_from}
 use Rattle.table_versions.proofs.NodesShown.{StandsAt, entry_at, fewer_from, goes_on, parts_of, seen_in_place, short_parts, stands_at, stands_on_it}

@@ -1,5 +1,5 @@
 use Rattle.std.proofs.Common.{sym, ap, ◌∙◌}
-use Rattle.table_versions.specs.StoredVersions.{StoredVersions, next_to_forget}
+use Rattle.stored_variants.specs.StoredVersions.{StoredVersions, next_to_forget}
 use Rattle.table_versions.proofs.Told.{forgotten, kept_first, none_held}
 use Rattle.table_versions.proofs.store.TableVersions.next_to_forget.Goals as goal
 

@@ -3,7 +3,7 @@ use Rattle.std.specs.Prelude.{◌<◌}
 use Rattle.cursor_nav.specs.Places.{Pair, entry_before}
 use Rattle.index_derive.specs.declared.entries.Place.TheVariants.{On}
 use Rattle.table_trees.specs.StoredTables.{index_entries}
-use Rattle.table_versions.specs.StoredVersions.{seen_entries}
+use Rattle.stored_variants.specs.StoredVersions.{seen_entries}
 use Rattle.table_versions.specs.Walks.{is_shown}
 use Rattle.versioned_tables.proofs.Neighbours.{fewer_left_to, left_to, shown_to}
 use Rattle.table_versions.proofs.EntriesShown.{StandsOn, none_here, passed_over, shown_is_it, short_pairs, stands_before, untouched_is_shown}

@@ -2,10 +2,10 @@ use Rattle.std.proofs.Common.{List, map, sym, ap, subst, ◌∙◌}
 use Rattle.version_store.specs.HeldChanges.{HeldChange, released_change}
 use Rattle.versioned_tables.specs.HeldRecords.{HeldRecord, released_change as released_record}
 use Rattle.versioned_tables.specs.VersionedTables.{with_level_released}
-use Rattle.table_versions.specs.StoredVersions.{StoredVersions}
-use Rattle.table_versions.specs.VersionsView.{stored_versions, with_newest}
-use Rattle.table_versions.specs.VersionsKept.{AreKept, IsKeptChange}
-use Rattle.table_versions.proofs.ChangesKept.{all_changed, changes_kept, map_held, same_variants}
+use Rattle.stored_variants.specs.StoredVersions.{StoredVersions}
+use Rattle.stored_variants.specs.VersionsView.{stored_versions, with_newest}
+use Rattle.stored_variants.specs.VersionsKept.{AreKept, IsKeptChange}
+use Rattle.stored_variants.proofs.ChangesKept.{all_changed, changes_kept, map_held, same_variants}
 use Rattle.table_versions.proofs.Ends.{released_kept, released_leaves, released_same}
 use Rattle.table_versions.proofs.store.TableVersions.release.Goals as goal
 

@@ -3,7 +3,7 @@ use Rattle.std.specs.Prelude.{is_some}
 use Rattle.cursor_nav.specs.Places.{entry_before, on_or}
 use Rattle.index_derive.specs.declared.entries.Place.TheVariants.{Before}
 use Rattle.database_state.specs.Table.{rule_with_id}
-use Rattle.table_versions.specs.VersionsKept.{only_secondary}
+use Rattle.stored_variants.specs.VersionsKept.{only_secondary}
 use Rattle.table_versions.proofs.ShownEntries.{seen_of_stored}
 use Rattle.table_versions.proofs.ShownRecords.{seen_of_nodes}
 use Rattle.table_versions.proofs.store.TableVersions.retreat.Goals as goal

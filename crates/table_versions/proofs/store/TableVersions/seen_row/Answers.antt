@@ -1,7 +1,7 @@
 use Rattle.std.proofs.Common.{sym, ap, subst, ◌∙◌}
 use Rattle.database_state.specs.Table.{record_in}
 use Rattle.versioned_tables.specs.HeldRecords.{seen_record}
-use Rattle.table_versions.specs.StoredVersions.{StoredVersions}
+use Rattle.stored_variants.specs.StoredVersions.{StoredVersions}
 use Rattle.table_versions.proofs.SeenRecords.{IsSeenRow, record_seen, seen_is, seen_is_row}
 use Rattle.table_versions.proofs.store.TableVersions.seen_row.Goals as goal
 

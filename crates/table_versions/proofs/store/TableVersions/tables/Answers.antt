@@ -1,7 +1,7 @@
 use Rattle.std.proofs.Common.{map, sym, ap, ◌∙◌}
 use Rattle.jet_catalog.specs.Catalog.{without_rows}
-use Rattle.table_versions.specs.StoredVersions.{StoredVersions}
-use Rattle.table_versions.proofs.Tables.{definitions}
+use Rattle.stored_variants.specs.StoredVersions.{StoredVersions}
+use Rattle.stored_variants.proofs.Tables.{definitions}
 use Rattle.table_versions.proofs.store.TableVersions.tables.Goals as goal
 
 pub returns : goal.returns

@@ -1,7 +1,7 @@
 use Rattle.std.proofs.Common.{◌≡◌, None, sym, ap, ◌∙◌}
 use Rattle.cursor_nav.specs.Places.{entry_after}
 use Rattle.database_state.specs.Table.{rule_with_id}
-use Rattle.table_versions.specs.VersionsKept.{only_secondary}
+use Rattle.stored_variants.specs.VersionsKept.{only_secondary}
 use Rattle.table_versions.proofs.ShownEntries.{seen_of_stored}
 use Rattle.table_versions.proofs.ShownRecords.{seen_of_nodes}
 use Rattle.table_versions.proofs.store.TableVersions.walk.Goals as goal

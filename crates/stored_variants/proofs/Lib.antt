@@ -1,0 +1,10 @@
+pub mod NodeRecords
+pub mod Tables
+pub mod ChangesKept
+pub mod Dropped
+pub mod NodeWalks
+pub mod RowRecords
+pub mod RisingRows
+pub mod HeldPlaces
+pub mod FoundRules
+pub mod Outcomes

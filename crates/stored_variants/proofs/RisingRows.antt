@@ -1,0 +1,39 @@
+-- The records of a table rise as its nodes do.
+use Rattle.std.proofs.Common.{◌≡◌, ℕ, Bool, true, false, ◌&&◌, ◌||◌, List, [], ◌∷◌, Option, Some, None}
+use Rattle.std.specs.Prelude.{T, bytes_eq}
+use Rattle.std.specs.List.{list_all}
+use Rattle.std.specs.Ordering.{nat_cmp}
+use Rattle.std.specs.Cmp.Lexicographic.{slice_cmp}
+use Rattle.std.specs.FinMap.Entries.{below_all}
+use Rattle.column_set.specs.RecordValues.{bytes_lt}
+use Rattle.cursor_nav.specs.Places.{are_sorted, pair_lt}
+use Rattle.page_image.specs.Page.{Node}
+use Rattle.record_changes.proofs.Tests.{and_left, and_right, impossible}
+use Rattle.table_trees.specs.StoredNodes.{bookmark_entries}
+use Rattle.versioned_tables.specs.Holding.{RowsRise}
+use Rattle.stored_variants.specs.RecordRows.{row_in_node, rows_of_nodes, with_record}
+
+own_below : (a b : Bool) → (a || (b && a)) ≡ true → T a
+own_below true b h = tt
+own_below false true h = impossible h
+own_below false false h = impossible h
+
+both : (a b : Bool) → T a → T b → T (a && b)
+both true b p q = q
+both false b p q = p
+
+below_is : (key : List ℕ) (nodes : List Node) → list_all (pair_lt (key, key)) (bookmark_entries nodes) ≡ true → T (below_all (slice_cmp nat_cmp) key (rows_of_nodes nodes))
+below_is key [] low = tt
+below_is key (n ∷ nodes) low = by (row_in_node n.data) (below_is key nodes (and_right (pair_lt (key, key) (n.key, n.key)) _ low))
+  where
+    by : (row : Option (List ℕ)) → T (below_all (slice_cmp nat_cmp) key (rows_of_nodes nodes)) → T (below_all (slice_cmp nat_cmp) key (with_record n.key row (rows_of_nodes nodes)))
+    by None rest = rest
+    by (Some row) rest = both _ _ (own_below (bytes_lt key n.key) (bytes_eq key n.key) (and_left (pair_lt (key, key) (n.key, n.key)) _ low)) rest
+
+pub rows_rise : (nodes : List Node) → are_sorted (bookmark_entries nodes) ≡ true → RowsRise (rows_of_nodes nodes)
+rows_rise [] sorted = tt
+rows_rise (n ∷ nodes) sorted = by (row_in_node n.data) (rows_rise nodes (and_right (list_all (pair_lt (n.key, n.key)) (bookmark_entries nodes)) _ sorted))
+  where
+    by : (row : Option (List ℕ)) → RowsRise (rows_of_nodes nodes) → RowsRise (with_record n.key row (rows_of_nodes nodes))
+    by None rest = rest
+    by (Some row) rest = both _ _ (below_is n.key nodes (and_left _ _ sorted)) rest

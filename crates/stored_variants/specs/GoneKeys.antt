@@ -1,0 +1,78 @@
+-- The keys of a record that goes, as far as no variant of it has them any more.
+use Rattle.std.specs.Prelude.{◌≡◌, ℕ, ◌≤◌, ◌≢◌, ◌&&◌, Bool, true, not, List, Option, Some, map, drop, IsOk, IfSome, bytes_eq}
+use Rattle.std.specs.List.{AllByRecursion, list_any}
+use Rattle.column_set.specs.RecordValues.{RecordFields}
+use Rattle.cursor_nav.specs.Places.{Pair}
+use Rattle.database_state.specs.Conflicts.{yields_key}
+use Rattle.database_state.specs.Table.{rule_with_id}
+use Rattle.derived_index.specs.KeptEntries.{has_entry}
+use Rattle.index_derive.specs.declared.rules.IndexRule.{IndexRule}
+use Rattle.index_derive.specs.declared.rules.Schema.{Schema}
+use Rattle.index_derive.specs.Entries.{entries, is_legal}
+use Rattle.table_trees.specs.StoredTables.{StoredTable, index_entries, table_indexes, table_nodes}
+use Rattle.version_store.specs.HeldChanges.{HeldChange}
+use Rattle.versioned_tables.specs.HeldRecords.{HeldRecord, is_standing_rewrite}
+use Rattle.versioned_tables.specs.Variants.{is_variant_key}
+use Rattle.stored_variants.specs.RecordRows.{IsRecordRow, held_record}
+use Rattle.stored_variants.specs.VersionsKept.{only_secondary}
+
+-- ---- variants
+
+-- the held changes from a place on
+abbrev pub held_from : ℕ → List HeldChange → List HeldRecord
+held_from place held = map held_record (drop place held)
+
+-- whether a put or drop of the record that is not undone has a record before it that passes
+abbrev pub some_before : (Option RecordFields → Bool) → ℕ → List ℕ → List HeldRecord → Bool
+some_before test table bookmark held = list_any (λ change. is_standing_rewrite table bookmark change && test change.before) held
+
+-- the rows before the held changes are spelled as records
+abbrev pub AreRows : List HeldChange → Type 0
+AreRows held = AllByRecursion (λ h. IfSome h.before IsRecordRow) held
+
+-- ---- keys that go
+
+-- A key of the record that goes which no variant has: neither the newest one nor the one before a held change.
+abbrev pub is_gone_key : Option RecordFields → List HeldRecord → IndexRule → Schema → ℕ → List ℕ → RecordFields → List ℕ → Bool
+is_gone_key newest held rule schema table bookmark gone key = yields_key rule schema key (Some gone) && not (is_variant_key newest held rule schema table key bookmark)
+
+-- Of the entries exactly those with such a key and the record's bookmark are gone.
+abbrev pub LosesKeys : Option RecordFields → List HeldRecord → IndexRule → Schema → ℕ → List ℕ → RecordFields → List Pair → List Pair → Type 0
+LosesKeys newest held rule schema table bookmark gone old new =
+    (key own : List ℕ) → has_entry key own new ≡ (has_entry key own old && not (bytes_eq own bookmark && is_gone_key newest held rule schema table bookmark gone key))
+
+-- The entry with a key and a bookmark is gone, unless the key is to stay.
+abbrev pub LosesKey : (List ℕ → Bool) → List ℕ → List ℕ → List Pair → List Pair → Type 0
+LosesKey stays gone bookmark old new =
+    (key own : List ℕ) → has_entry key own new ≡ (has_entry key own old && not (bytes_eq own bookmark && (bytes_eq key gone && not (stays key))))
+
+-- ---- trees
+
+abbrev pub table_numbers : List StoredTable → List ℕ
+table_numbers trees = map (λ x. x.number) trees
+
+abbrev pub index_numbers : List StoredTable → ℕ → List ℕ
+index_numbers trees table = map (λ x. x.0) (table_indexes trees table)
+
+-- The tables, their indexes and their nodes stay, and so do the entries of all indexes but those of one table.
+pub record ChangesEntries (table : ℕ) (old new : List StoredTable) : Type 0 where
+  pub numbers : table_numbers new ≡ table_numbers old
+  pub indexes : (other : ℕ) → index_numbers new other ≡ index_numbers old other
+  pub nodes : (other : ℕ) → table_nodes new other ≡ table_nodes old other
+  pub entries : (other index : ℕ) → other ≢ table → index_entries new other index ≡ index_entries old other index
+
+-- The other indexes of the table keep their entries.
+abbrev pub OthersKeep : ℕ → ℕ → List StoredTable → List StoredTable → Type 0
+OthersKeep table index old new = (other : ℕ) → other ≢ index → index_entries new table other ≡ index_entries old table other
+
+-- Each index with a tree of its own has lost the keys of the record.
+abbrev pub LosesRecord : Option RecordFields → List HeldRecord → Schema → ℕ → List ℕ → RecordFields → List StoredTable → List StoredTable → Type 0
+LosesRecord newest held schema table bookmark gone old new =
+    (index : ℕ) → IfSome (only_secondary (rule_with_id schema index)) (λ rule. LosesKeys newest held rule schema table bookmark gone (index_entries old table index) (index_entries new table index))
+
+-- An index of a schema is found by its number, and has keys of the record that goes.
+pub record HasKeysOf (schema : Schema) (gone : RecordFields) (rule : IndexRule) : Type 0 where
+  pub found : rule_with_id schema rule.id.0 ≡ Some rule
+  pub legal : is_legal rule schema ≡ true
+  pub short : rule.key_most ≤ 255
+  pub taken : IsOk (entries rule schema gone)

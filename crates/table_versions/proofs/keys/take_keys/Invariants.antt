@@ -1,9 +1,0 @@
-use Rattle.std.proofs.Common.{option_map}
-use Rattle.table_trees.specs.StoredTables.{table_nodes}
-use Rattle.table_versions.specs.GoneKeys.{held_from}
-use Rattle.table_versions.specs.RecordRows.{record_of, row_under}
-use Rattle.table_versions.proofs.LostKeys.{LosesUpTo}
-use Rattle.table_versions.proofs.keys.take_keys.Given as goal
-
-abbrev pub invariant-loop-rule : goal.invariant-loop-rule
-invariant-loop-rule g l = LosesUpTo (option_map record_of (row_under (table_nodes l.initial.trees l.table.0) l.bookmark)) (held_from l.from l.versions) l.schema l.table.0 l.bookmark (g.R.Values.fields l.gone) l.rule-index l.initial.trees l.trees

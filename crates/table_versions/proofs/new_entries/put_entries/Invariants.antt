@@ -1,5 +1,0 @@
-use Rattle.table_versions.proofs.NewEntries.{HasSome}
-use Rattle.table_versions.proofs.new_entries.put_entries.Given as goal
-
-abbrev pub invariant-loop-key : goal.invariant-loop-key
-invariant-loop-key l = HasSome l.table.0 l.index.0 l.keys l.bookmark l.key-index l.fn.trees l.trees

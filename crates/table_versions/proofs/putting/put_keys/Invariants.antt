@@ -1,6 +1,0 @@
-use Rattle.table_versions.specs.PutRecords.{HasKeys, record_keys}
-use Rattle.std.proofs.Common.{take}
-use Rattle.table_versions.proofs.putting.put_keys.Given as goal
-
-abbrev pub invariant-loop-rule : goal.invariant-loop-rule
-invariant-loop-rule l = HasKeys l.table.0 l.bookmark (record_keys (take l.rule-index l.rule-items) l.schema l.values) l.fn.trees l.trees

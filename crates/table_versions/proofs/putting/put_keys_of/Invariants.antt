@@ -1,7 +1,0 @@
-use Rattle.table_versions.specs.PutRecords.{HasKeys}
-use Rattle.std.proofs.Common.{take}
-use Rattle.table_versions.specs.PutRecords.{some_keys}
-use Rattle.table_versions.proofs.putting.put_keys_of.Given as goal
-
-abbrev pub invariant-loop-key : goal.invariant-loop-key
-invariant-loop-key l = HasKeys l.table.0 l.bookmark (some_keys l.rule.id.0 (take l.key-index l.key-items)) l.fn.trees l.trees

@@ -1,0 +1,156 @@
+-- Rows and nodes without the values of a column.
+use Rattle.std.proofs.Common.{◌≡◌, ℕ, ◌≤◌, Bool, true, false, not, ◌||◌, cond, List, [], ◌∷◌, length, Option, Some, None, filter, find, map, option_map, refl, sym, ap, subst, ◌∙◌, arith}
+use Rattle.std.specs.Prelude.{◌==◌, IfSome, IsTrue, is_some, nat_lt, option_and_then, unwrap_or}
+use Rattle.std.specs.List.{AllByRecursion, list_all}
+use Rattle.btree_inplace.specs.Order.{get_in, has_key}
+use Rattle.column_set.specs.declared.columns.Column.{Column}
+use Rattle.column_set.specs.RecordValues.{RecordFields, column_of_id, has_value, is_kept_column, record_fits, remove_by_number, values_fit, values_of, with_values}
+use Rattle.column_set.specs.RowReading.{row_in}
+use Rattle.column_set.specs.Rows.{RowFields, all_here, here_fields, is_row, row_bytes}
+use Rattle.cursor_nav.specs.Places.{are_sorted, pair_lt}
+use Rattle.database_state.specs.SchemaChanges.{without_column}
+use Rattle.database_state.specs.Table.{Table, row_at}
+use Rattle.page_image.specs.Page.{Node}
+use Rattle.record_changes.proofs.Tests.{and_both, and_left, and_right, equal_bytes, impossible, refuted}
+use Rattle.std.specs.Cmp.Lexicographic.{texts_ties}
+use Rattle.table_trees.specs.StoredNodes.{bookmark_entries}
+use Rattle.version_keys.proofs.SchemaKeys.{other_column, other_values}
+use Rattle.variant_trees.specs.LostColumns.{HoldsRecord, node_without, row_without}
+use Rattle.stored_variants.specs.RecordRows.{IsRecordRow, record_of, row_in_node, row_under, rows_of_nodes, with_record}
+use Rattle.stored_variants.proofs.NodeRecords.{apart, key_is, record_at}
+use Rattle.variant_trees.proofs.UndoneThere.{row_some}
+
+-- ---- rows
+
+-- laws of rows without the values of a column
+pub record RowLaws : Type 0 where
+  pub read : (row : RowFields) → IsTrue (is_row row) → row_in (row_bytes row) ≡ row
+  pub formed : (fields : RowFields) (column : ℕ) → IsTrue (is_row fields) → IsTrue (is_row (remove_by_number column fields))
+  pub shorter : (fields : RowFields) (column : ℕ) → length (row_bytes (remove_by_number column fields)) ≤ length (row_bytes fields)
+  pub shown : (fields : RowFields) (column : ℕ) → here_fields (remove_by_number column fields) ≡ with_values (here_fields fields) column []
+  pub whole : (fields : RecordFields) (column : ℕ) → remove_by_number column (all_here fields) ≡ all_here (with_values fields column [])
+
+read_without : RowLaws → (column : ℕ) (row : List ℕ) → IsRecordRow row → row_in (row_without column row) ≡ remove_by_number column (row_in row)
+read_without laws column row is = laws.read (remove_by_number column (row_in row)) (laws.formed (row_in row) column is.formed)
+
+pub record_without : RowLaws → (column : ℕ) (row : List ℕ) → IsRecordRow row → record_of (row_without column row) ≡ remove_by_number column (record_of row)
+record_without laws column row is = ap here_fields (read_without laws column row is) ∙ laws.shown (row_in row) column
+
+pub row_is : RowLaws → (column : ℕ) (row : List ℕ) → IsRecordRow row → IsRecordRow (row_without column row)
+row_is laws column row is = record {
+  formed = ap is_row (read_without laws column row is) ∙ laws.formed (row_in row) column is.formed;
+  spelled = sym (ap row_bytes (read_without laws column row is));
+  whole =
+      read_without laws column row is ∙ ap (remove_by_number column) is.whole ∙ laws.whole (record_of row) column
+      ∙ ap all_here (sym (record_without laws column row is));
+  small = omega (arith, laws.shorter (row_in row) column, ap length is.spelled, is.small);
+}
+
+-- ---- nodes
+
+pub rows_lost : RowLaws → (column : ℕ) (nodes : List Node) → AllByRecursion HoldsRecord nodes → rows_of_nodes (map (node_without column) nodes) ≡ map (λ row. (row.0, with_values row.1 column [])) (rows_of_nodes nodes)
+rows_lost laws column [] all = refl
+rows_lost laws column (n ∷ nodes) all =
+    (λ i. (n.key, record_without laws column n.data all.0 i) ∷ rows_lost laws column nodes all.1 i)
+    ∙ ap (λ (o : Option (List ℕ)). map (λ row. (row.0, with_values row.1 column [])) (with_record n.key o (rows_of_nodes nodes))) (sym (row_some n.data all.0))
+
+pub got_without : (column : ℕ) (nodes : List Node) (own : List ℕ) → get_in (map (node_without column) nodes) own ≡ option_map (row_without column) (get_in nodes own)
+got_without column [] own = refl
+got_without column (n ∷ nodes) own = by (has_key own n) (got_without column nodes own)
+  where
+    by : (b : Bool) → get_in (map (node_without column) nodes) own ≡ option_map (row_without column) (get_in nodes own)
+        → option_map (λ (n : Node). n.data) (cond b (Some (node_without column n)) (find (has_key own) (map (node_without column) nodes))) ≡ option_map (row_without column) (option_map (λ (n : Node). n.data) (cond b (Some n) (find (has_key own) nodes)))
+    by true rest = refl
+    by false rest = rest
+
+got_record : (nodes : List Node) (own : List ℕ) → AllByRecursion HoldsRecord nodes → IfSome (get_in nodes own) IsRecordRow
+got_record [] own all = tt
+got_record (n ∷ nodes) own all = by (has_key own n) (got_record nodes own all.1)
+  where
+    by : (b : Bool) → IfSome (get_in nodes own) IsRecordRow → IfSome (option_map (λ (n : Node). n.data) (cond b (Some n) (find (has_key own) nodes))) IsRecordRow
+    by true rest = all.0
+    by false rest = rest
+
+pub under_without : (column : ℕ) (nodes : List Node) (own : List ℕ) → AllByRecursion HoldsRecord nodes → row_under (map (node_without column) nodes) own ≡ option_map (row_without column) (row_under nodes own)
+under_without column nodes own all = ap (option_and_then row_in_node) (got_without column nodes own) ∙ by (get_in nodes own) (got_record nodes own all)
+  where
+    by : (o : Option (List ℕ)) → IfSome o IsRecordRow → option_and_then row_in_node (option_map (row_without column) o) ≡ option_map (row_without column) (option_and_then row_in_node o)
+    by None is = refl
+    by (Some row) is = ap (option_map (row_without column)) (sym (row_some row is))
+
+-- ---- each node has a record, once no change is held
+
+found_own : (nodes : List Node) → are_sorted (bookmark_entries nodes) ≡ true → AllByRecursion (λ n. find (has_key n.key) nodes ≡ Some n) nodes
+found_own [] sorted = tt
+found_own (n ∷ nodes) sorted = (
+  ap (λ b. cond b (Some n) (find (has_key n.key) nodes)) (sym (texts_ties n.key n.key) ∙ equal_bytes n.key n.key refl),
+  behind nodes (and_left _ _ sorted) (found_own nodes (and_right (list_all (pair_lt (n.key, n.key)) (bookmark_entries nodes)) _ sorted)),
+)
+  where
+    behind : (later : List Node) → list_all (pair_lt (n.key, n.key)) (bookmark_entries later) ≡ true → AllByRecursion (λ m. find (has_key m.key) nodes ≡ Some m) later → AllByRecursion (λ m. find (has_key m.key) (n ∷ nodes) ≡ Some m) later
+    behind [] low all = tt
+    behind (m ∷ later) low all = (
+      ap (λ b. cond b (Some n) (find (has_key m.key) nodes)) (refuted (has_key m.key n) (λ e. apart n.key m.key (and_left (pair_lt (n.key, n.key) (m.key, m.key)) _ low) (key_is n.key m.key e))) ∙ all.0,
+      behind later (and_right (pair_lt (n.key, n.key) (m.key, m.key)) _ low) all.1,
+    )
+
+pub all_records : (nodes : List Node) → are_sorted (bookmark_entries nodes) ≡ true → ((own : List ℕ) → is_some (get_in nodes own) ≡ (is_some (row_at (rows_of_nodes nodes) own) || false))
+    → ((own : List ℕ) → IfSome (row_under nodes own) IsRecordRow) → AllByRecursion HoldsRecord nodes
+all_records nodes sorted stands rows = each nodes (found_own nodes sorted)
+  where
+    unless : (b : Bool) → (b || false) ≡ b
+    unless true = refl
+    unless false = refl
+
+    record_in : (bytes : List ℕ) → is_some (option_map record_of (row_in_node bytes)) ≡ true → IfSome (row_in_node bytes) IsRecordRow → IsRecordRow bytes
+    record_in [] e is = impossible e
+    record_in (byte ∷ bytes) e is = is
+
+    own : (n : Node) → find (has_key n.key) nodes ≡ Some n → IsRecordRow n.data
+    own n found =
+        let got : get_in nodes n.key ≡ Some n.data = ap (option_map (λ (m : Node). m.data)) found in
+        record_in n.data
+        (ap (λ (o : Option (List ℕ)). is_some (option_map record_of (option_and_then row_in_node o))) (sym got)
+        ∙ sym (ap is_some (record_at nodes sorted n.key)) ∙ sym (unless (is_some (row_at (rows_of_nodes nodes) n.key))) ∙ sym (stands n.key) ∙ ap is_some got)
+        (subst (λ (o : Option (List ℕ)). IfSome (option_and_then row_in_node o) IsRecordRow) got (rows n.key))
+
+    each : (later : List Node) → AllByRecursion (λ n. find (has_key n.key) nodes ≡ Some n) later → AllByRecursion HoldsRecord later
+    each [] all = tt
+    each (n ∷ later) all = (own n all.0, each later all.1)
+
+-- ---- records
+
+pub values_elsewhere : (column : ℕ) (values : RecordFields) (id : ℕ) → (id == column) ≡ false → values_of (remove_by_number column values) id ≡ values_of values id
+values_elsewhere column values id apart = ap (λ (o : Option (List (List ℕ))). unwrap_or o []) (other_values values column id apart)
+
+all_left : {X : Type 0} (p q kept : X → Bool) → ((x : X) → kept x ≡ true → p x ≡ q x) → (xs : List X) → list_all q xs ≡ true → list_all p (filter kept xs) ≡ true
+all_left p q kept same [] h = refl
+all_left {X} p q kept same (x ∷ xs) h = by (kept x) refl (and_left (q x) (list_all q xs) h) (all_left p q kept same xs (and_right (q x) (list_all q xs) h))
+  where
+    by : (b : Bool) → kept x ≡ b → q x ≡ true → list_all p (filter kept xs) ≡ true → list_all p (cond b (x ∷ filter kept xs) (filter kept xs)) ≡ true
+    by true e own rest = and_both (p x) (list_all p (filter kept xs)) (same x e ∙ own) rest
+    by false e own rest = rest
+
+other : (b : Bool) → not b ≡ true → b ≡ false
+other true e = sym e
+other false e = refl
+
+-- a record without the values of a column fits the other columns
+pub fits_without : (column : ℕ) (t : Table) (values : RecordFields) → record_fits t.columns values ≡ true → record_fits (without_column column t).columns (remove_by_number column values) ≡ true
+fits_without column t values h =
+    and_both (list_all (takes (without_column column t).columns) (remove_by_number column values)) (list_all (has_kept (remove_by_number column values)) (without_column column t).columns)
+    (all_left (takes (without_column column t).columns) (takes t.columns) (λ field. not (field.0 == column))
+    (λ field left. ap (λ (o : Option Column). elim o [ Some c ↦ values_fit c field.1 | None ↦ false ]) (other_column column t field.0 (other (field.0 == column) left)))
+    values (and_left (list_all (takes t.columns) values) (list_all (has_kept values) t.columns) h))
+    (all_left (has_kept (remove_by_number column values)) (has_kept values) (λ c. not (c.id.0 == column))
+    (λ c left. ap (λ (v : List (List ℕ)). not (is_kept_column c) || has_some v) (values_elsewhere column values c.id.0 (other (c.id.0 == column) left)))
+    t.columns (and_right (list_all (takes t.columns) values) (list_all (has_kept values) t.columns) h))
+  where
+    takes : List Column → ℕ × List (List ℕ) → Bool
+    takes columns field = elim (column_of_id columns field.0) [ Some c ↦ values_fit c field.1 | None ↦ false ]
+
+    has_some : List (List ℕ) → Bool
+    has_some values = nat_lt 0 (length values)
+
+    has_kept : RecordFields → Column → Bool
+    has_kept values c = not (is_kept_column c) || has_value values c.id.0

@@ -1,0 +1,166 @@
+-- A table comes or goes.
+use Rattle.std.proofs.Common.{◌≡◌, ◌≢◌, ◌<◌, ℕ, Bool, true, false, not, cond, List, [], ◌∷◌, ◌++◌, Option, Some, None, filter, map, refl, sym, ap, subst, ◌∙◌, arith}
+use Rattle.std.specs.Prelude.{◌==◌, IfSome, is_some, nat_le, nat_lt}
+use Rattle.std.proofs.lemmas.Bool.Decides.{nat_tests}
+use Rattle.database_state.specs.SchemaChanges.{new_table}
+use Rattle.database_state.specs.Table.{Table, table_with_id}
+use Rattle.index_derive.specs.declared.schema_calls.SchemaStep.{SchemaStep}
+use Rattle.index_derive.specs.declared.schema_calls.SchemaStep.TheVariants as step
+use Rattle.jet_base.specs.declared.ids.TableId.{TableId}
+use Rattle.jet_catalog.specs.Catalog.{CatalogState, IsNumbered, catalog_after, ids_rise, without_rows}
+use Rattle.page_image.specs.Page.{Node}
+use Rattle.record_changes.proofs.Tests.{and_left, and_right, impossible, or_first, or_second, same_number, self_equal}
+use Rattle.table_trees.specs.StoredTables.{StoredTable, has_table, is_table, new_table as new_tree, table_indexes, table_nodes, without_table}
+use Rattle.version_history.proofs.Lists.{all_true}
+use Rattle.version_keys.proofs.IndexNumbers.{found_in_filter}
+use Rattle.version_keys.proofs.SchemaKeys.{with_last}
+use Rattle.stored_variants.specs.RecordRows.{rows_of_nodes}
+use Rattle.stored_variants.specs.SchemaSteps.{IsMade}
+use Rattle.stored_variants.specs.VersionsKept.{AreKept, IsKeptTable, needed_trees, tree_numbers}
+use Rattle.stored_variants.specs.VersionsView.{with_newest}
+use Rattle.stored_variants.proofs.Dropped.{has_trees}
+use Rattle.variant_trees.proofs.Stepping.{IsSettled, StepsTo, if_some, is_made, kept_of, map_filter, map_last, map_same, moved, newest_same, settled_of}
+use Rattle.stored_variants.proofs.Tables.{found_number, no_nodes}
+
+-- ---- numbers of tables
+
+none_above : (low high : ℕ) (tables : List Table) → ids_rise low high tables ≡ true → (id : ℕ) → high < id → table_with_id tables id ≡ None
+none_above low high [] rise id lt = refl
+none_above low high (t ∷ tables) rise id lt =
+    ap (λ b. cond b (Some t) (table_with_id tables id)) (apart t.id high id (within t.id high tables (and_right (nat_lt low t.id) _ rise)) lt)
+    ∙ none_above t.id high tables (and_right (nat_lt low t.id) _ rise) id lt
+  where
+    apart : (n high id : ℕ) → nat_le n high ≡ true → high < id → (n == id) ≡ false
+    apart n high id le lt = grind (arith, nat_tests)
+
+    lower : (low n high : ℕ) → nat_lt low n ≡ true → nat_le n high ≡ true → nat_le low high ≡ true
+    lower low n high lt le = grind (arith, nat_tests)
+
+    within : (low high : ℕ) (tables : List Table) → ids_rise low high tables ≡ true → nat_le low high ≡ true
+    within low high [] h = h
+    within low high (t ∷ tables) h = lower low t.id high (and_left (nat_lt low t.id) _ h) (within t.id high tables (and_right (nat_lt low t.id) _ h))
+
+-- a number above all that were given is that of no table
+pub none_new : (greatest : ℕ) (tables : List Table) → ids_rise 0 greatest tables ≡ true → (id : ℕ) → greatest < id → table_with_id tables id ≡ None
+none_new greatest tables rise id lt = none_above 0 greatest tables rise id lt
+
+pub no_tree : (tables : List Table) (trees : List StoredTable) → AreKept tables trees [] → (id : ℕ) → table_with_id tables id ≡ None → has_table trees id ≡ false
+no_tree tables trees kept id none = has_trees trees tables id kept.numbers ∙ ap is_some none
+
+pub a_tree : (tables : List Table) (trees : List StoredTable) → AreKept tables trees [] → (id : ℕ) → is_some (table_with_id tables id) ≡ true → has_table trees id ≡ true
+a_tree tables trees kept id there = has_trees trees tables id kept.numbers ∙ there
+
+-- ---- a table comes
+
+pub record NewTableLaws : Type 0 where
+  pub nodes : (tables : List StoredTable) (table other : ℕ) → table_nodes (tables ++ new_tree table ∷ []) other ≡ table_nodes tables other
+  pub indexes : (tables : List StoredTable) (table other : ℕ) → table_indexes (tables ++ new_tree table ∷ []) other ≡ table_indexes tables other
+
+new_is_settled : (other : List StoredTable) (id : ℕ) (name : List ℕ) → table_nodes other id ≡ [] → IsSettled other (new_table id name)
+new_is_settled other id name nodes = subst (λ (n : List Node). IsKeptTable other n [] (new_table id name)) (sym nodes) (record {
+  rules = tt;
+  rows = λ bookmark. tt;
+  stands = λ bookmark. refl;
+  entries = λ index. tt;
+})
+
+pub table_comes : NewTableLaws → (id : TableId) (name : List ℕ) (tables : List Table) (trees : List StoredTable) → AreKept tables trees [] → table_with_id tables id.0 ≡ None → StepsTo (step.CreateTable id name) tables trees (trees ++ new_tree id.0 ∷ [])
+table_comes laws id name tables trees kept none = record {
+  kept = kept_of (tables ++ new_table id.0 name ∷ []) other
+      (map_last without_rows tables (new_table id.0 name) ∙ ap (λ (ts : List Table). ts ++ new_table id.0 name ∷ []) kept.plain)
+      (map_last tree_numbers trees (new_tree id.0) ∙ ap (λ (ns : List (ℕ × List ℕ)). ns ++ (id.0, []) ∷ []) kept.numbers ∙ sym (map_last needed_trees tables (new_table id.0 name)))
+      (λ n. with_last (IsSettled other) (new_table id.0 name) (new_is_settled other id.0 name empty) tables n
+      (if_some (IsSettled trees) (IsSettled other) (λ t k. moved trees other t (laws.nodes trees id.0 t.id) (laws.indexes trees id.0 t.id) k) (table_with_id tables n) (settled_of tables trees kept n)));
+  shown =
+      map_last (with_newest other) tables (new_table id.0 name)
+      ∙ (λ i. map_same (with_newest other) (with_newest trees) (λ t. newest_same trees other t (laws.nodes trees id.0 t.id)) tables i ++ record (new_table id.0 name) { rows = rows_of_nodes (empty i) } ∷ []);
+}
+  where
+    other : List StoredTable
+    other = trees ++ new_tree id.0 ∷ []
+
+    empty : table_nodes other id.0 ≡ []
+    empty = laws.nodes trees id.0 id.0 ∙ no_nodes trees tables id.0 kept.numbers none
+
+-- and goes again where it may not stay
+pub given_back : (trees : List StoredTable) (id : ℕ) → has_table trees id ≡ false → without_table id (trees ++ new_tree id ∷ []) ≡ trees
+given_back [] id h = ap (λ b. cond (not b) (new_tree id ∷ []) []) (self_equal id)
+given_back (x ∷ trees) id h =
+    ap (λ b. cond (not b) (x ∷ without_table id (trees ++ new_tree id ∷ [])) (without_table id (trees ++ new_tree id ∷ []))) (or_first (is_table id x) _ h)
+    ∙ ap (λ rest. x ∷ rest) (given_back trees id (or_second (is_table id x) _ h))
+
+-- ---- a table goes
+
+pub record OldTableLaws : Type 0 where
+  pub nodes : (tables : List StoredTable) (table other : ℕ) → other ≢ table → table_nodes (without_table table tables) other ≡ table_nodes tables other
+  pub indexes : (tables : List StoredTable) (table other : ℕ) → other ≢ table → table_indexes (without_table table tables) other ≡ table_indexes tables other
+
+abbrev stays : ℕ → Table → Bool
+stays id t = not (t.id == id)
+
+apart_from : (a b : ℕ) → (a == b) ≡ false → a ≢ b
+apart_from a b e same = impossible (sym e ∙ ap (λ n. n == b) same ∙ self_equal b)
+
+gone : (id : ℕ) (tables : List Table) → table_with_id (filter (stays id) tables) id ≡ None
+gone id [] = refl
+gone id (t ∷ tables) = by (t.id == id) refl (gone id tables)
+  where
+    by : (b : Bool) → (t.id == id) ≡ b → table_with_id (filter (stays id) tables) id ≡ None → table_with_id (cond (not b) (t ∷ filter (stays id) tables) (filter (stays id) tables)) id ≡ None
+    by true e rest = rest
+    by false e rest = ap (λ b. cond b (Some t) (table_with_id (filter (stays id) tables) id)) e ∙ rest
+
+left_at : (P R : Table → Type 0) (d : ℕ) (tables : List Table) → ((t : Table) → (t.id == d) ≡ false → P t → R t) → ((id : ℕ) → IfSome (table_with_id tables id) P) → (id : ℕ) → IfSome (table_with_id (filter (stays d) tables) id) R
+left_at P R d tables g h id = cases (id == d) refl
+  where
+    other : (o : Option Table) → table_with_id tables id ≡ o → (id == d) ≡ false → IfSome o P → IfSome o R
+    other None e apart p = tt
+    other (Some t) e apart p = g t (ap (λ n. n == d) (found_number id tables t e) ∙ apart) p
+
+    cases : (b : Bool) → (id == d) ≡ b → IfSome (table_with_id (filter (stays d) tables) id) R
+    cases true e =
+        subst (λ (n : ℕ). IfSome (table_with_id (filter (stays d) tables) n) R) (sym (same_number id d e))
+        (subst (λ (o : Option Table). IfSome o R) (sym (gone d tables)) tt)
+    cases false e =
+        subst (λ (o : Option Table). IfSome o R)
+        (sym (found_in_filter (λ t. t.id == id) (stays d) tables (all_true (λ t. (t.id == id) ≡ true → stays d t ≡ true) (λ t f. ap (λ n. not (n == d)) (same_number t.id id f) ∙ ap not e) tables)))
+        (other (table_with_id tables id) refl e (h id))
+
+left_shown : OldTableLaws → (trees : List StoredTable) (id : ℕ) (tables : List Table) → map (with_newest (without_table id trees)) (filter (stays id) tables) ≡ filter (stays id) (map (with_newest trees) tables)
+left_shown laws trees id [] = refl
+left_shown laws trees id (t ∷ tables) = by (t.id == id) refl (left_shown laws trees id tables)
+  where
+    by : (b : Bool) → (t.id == id) ≡ b → map (with_newest (without_table id trees)) (filter (stays id) tables) ≡ filter (stays id) (map (with_newest trees) tables)
+        → map (with_newest (without_table id trees)) (cond (not b) (t ∷ filter (stays id) tables) (filter (stays id) tables)) ≡ cond (not b) (with_newest trees t ∷ filter (stays id) (map (with_newest trees) tables)) (filter (stays id) (map (with_newest trees) tables))
+    by true e rest = rest
+    by false e rest = λ i. newest_same trees (without_table id trees) t (laws.nodes trees id t.id (apart_from t.id id e)) i ∷ rest i
+
+pub table_goes : OldTableLaws → (id : TableId) (tables : List Table) (trees : List StoredTable) → AreKept tables trees [] → StepsTo (step.DeleteTable id) tables trees (without_table id.0 trees)
+table_goes laws id tables trees kept = record {
+  kept = kept_of (filter (stays id.0) tables) (without_table id.0 trees)
+      (map_filter without_rows (stays id.0) tables ∙ ap (filter (stays id.0)) kept.plain)
+      (map_filter tree_numbers (λ p. not (p.0 == id.0)) trees ∙ ap (filter (λ p. not (p.0 == id.0))) kept.numbers ∙ sym (map_filter needed_trees (λ p. not (p.0 == id.0)) tables))
+      (left_at (IsSettled trees) (IsSettled (without_table id.0 trees)) id.0 tables
+      (λ t apart k. moved trees (without_table id.0 trees) t (laws.nodes trees id.0 t.id (apart_from t.id id.0 apart)) (laws.indexes trees id.0 t.id (apart_from t.id id.0 apart)) k)
+      (settled_of tables trees kept));
+  shown = left_shown laws trees id.0 tables;
+}
+
+-- ---- in a catalog
+
+pub lower : (a b : ℕ) → a < b → nat_lt a b ≡ true
+lower a b lt = grind (arith, nat_tests)
+
+pub create_made : NewTableLaws → (made : SchemaStep) (id : TableId) (name : List ℕ) → made ≡ step.CreateTable id name → (was : CatalogState) (trees : List StoredTable) → AreKept was.tables trees [] → IsNumbered was → was.greatest_table < id.0
+    → (is : CatalogState) → is ≡ catalog_after was made → (other : List StoredTable) → other ≡ trees ++ new_tree id.0 ∷ [] → IsMade made was trees is other
+create_made laws made id name step_is was trees kept rise lt is is_after other other_is =
+    is_made made was trees is other is_after
+    (subst (λ (s : SchemaStep). StepsTo s was.tables trees other) (sym step_is)
+    (subst (λ (o : List StoredTable). StepsTo (step.CreateTable id name) was.tables trees o) (sym other_is)
+    (table_comes laws id name was.tables trees kept (none_new was.greatest_table was.tables rise id.0 lt))))
+
+pub delete_made : OldTableLaws → (made : SchemaStep) (id : TableId) → made ≡ step.DeleteTable id → (was : CatalogState) (trees : List StoredTable) → AreKept was.tables trees []
+    → (is : CatalogState) → is ≡ catalog_after was made → (other : List StoredTable) → other ≡ without_table id.0 trees → IsMade made was trees is other
+delete_made laws made id step_is was trees kept is is_after other other_is =
+    is_made made was trees is other is_after
+    (subst (λ (s : SchemaStep). StepsTo s was.tables trees other) (sym step_is)
+    (subst (λ (o : List StoredTable). StepsTo (step.DeleteTable id) was.tables trees o) (sym other_is) (table_goes laws id was.tables trees kept)))

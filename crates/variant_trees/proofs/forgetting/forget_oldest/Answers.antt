@@ -1,0 +1,11 @@
+use Rattle.std.proofs.Common.{sym, ap, ◌∙◌}
+use Rattle.std.specs.Prelude.{option_map}
+use Rattle.jet_base.specs.declared.ids.TableId.{TableId}
+use Rattle.variant_trees.proofs.Forgotten.{always_first}
+use Rattle.variant_trees.proofs.forgetting.forget_oldest.Goals as goal
+
+pub forget_of-requires-clause-first : goal.forget_of-requires-clause-first
+forget_of-requires-clause-first c = sym c.oldest_table.ensures ∙ ap (option_map (λ (t : TableId). t.0)) c.in-Some.is
+
+pub returns-in-None-clause-kept : goal.returns-in-None-clause-kept
+returns-in-None-clause-kept c = always_first c.args.versions.now c.requires.some (sym (ap (option_map (λ (t : TableId). t.0)) c.in-None.is) ∙ c.oldest_table.ensures)

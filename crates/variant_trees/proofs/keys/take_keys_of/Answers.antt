@@ -1,0 +1,50 @@
+use Rattle.std.proofs.Common.{ℕ, ◌<◌, List, Option, Some, length, option_map, refl, sym, subst, ◌∙◌}
+use Rattle.std.specs.Prelude.{IfSome}
+use Rattle.index_derive.specs.Entries.{key_list}
+use Rattle.page_image.specs.Page.{Node}
+use Rattle.table_trees.specs.StoredTables.{index_entries, table_nodes}
+use Rattle.versioned_tables.specs.Variants.{is_variant_key}
+use Rattle.stored_variants.specs.GoneKeys.{LosesKey, held_from}
+use Rattle.stored_variants.specs.RecordRows.{IsRecordRow, record_of, row_under}
+use Rattle.variant_trees.proofs.EntryTrees.{entries_stay, entries_then}
+use Rattle.variant_trees.proofs.LostKeys.{LosesSoFar, keys_begin, keys_end, keys_go_on}
+use Rattle.variant_trees.proofs.RisingKeys.{fewer_keys, keys_from}
+use Rattle.variant_trees.proofs.keys.take_keys_of.Goals as goal
+
+pub loop-next-init : goal.loop-next-init
+loop-next-init g c = record {
+  others = entries_stay c.args.table.0 c.args.trees.now;
+  indexes = λ other apart. refl;
+  keys = keys_begin (key_list c.args.rule.now c.args.schema.now (g.R.Values.fields c.args.gone.now)) (λ (k : List ℕ). is_variant_key (option_map record_of (row_under (table_nodes c.args.trees.now c.args.table.0) c.args.bookmark.now)) (held_from c.args.from c.args.versions.now) c.args.rule.now c.args.schema.now c.args.table.0 k c.args.bookmark.now) c.args.bookmark.now (index_entries c.args.trees.now c.args.table.0 c.args.rule.now.id.0) c.next_entry-next.result (c.entries_rise.ensures c.args.rule.now c.args.schema.now (g.R.Values.fields c.args.gone.now)) c.next_entry-next.ensures;
+}
+
+pub take_key-requires-clause-newest : goal.take_key-requires-clause-newest
+take_key-requires-clause-newest g c =
+    subst (λ (nodes : List Node). IfSome (row_under nodes c.args.bookmark.now) IsRecordRow) (sym (c.loop-next.invariant.others.nodes c.args.table.0)) c.requires.newest
+
+pub loop-next-smaller : goal.loop-next-smaller
+loop-next-smaller g c =
+    subst (λ (next : Option (List ℕ)). length (keys_from (key_list c.args.rule.now c.args.schema.now (g.R.Values.fields c.args.gone.now)) c.next_entry-next-in-Some.result) < length (keys_from (key_list c.args.rule.now c.args.schema.now (g.R.Values.fields c.args.gone.now)) next)) (sym c.in-Some.is)
+    (subst (λ (next : Option (List ℕ)). length (keys_from (key_list c.args.rule.now c.args.schema.now (g.R.Values.fields c.args.gone.now)) next) < length (keys_from (key_list c.args.rule.now c.args.schema.now (g.R.Values.fields c.args.gone.now)) (Some c.in-Some.key))) (sym c.next_entry-next-in-Some.ensures) (fewer_keys c.in-Some.key (key_list c.args.rule.now c.args.schema.now (g.R.Values.fields c.args.gone.now)) (c.entries_rise.ensures c.args.rule.now c.args.schema.now (g.R.Values.fields c.args.gone.now))))
+
+pub loop-next-preserved : goal.loop-next-preserved
+loop-next-preserved g c = record {
+  others = entries_then c.args.table.0 c.args.trees.now c.loop-next.trees c.take_key.new.trees c.loop-next.invariant.others c.take_key.ensures.others;
+  indexes = λ other apart. c.take_key.ensures.indexes other apart ∙ c.loop-next.invariant.indexes other apart;
+  keys =
+      keys_go_on (key_list c.args.rule.now c.args.schema.now (g.R.Values.fields c.args.gone.now)) (λ (k : List ℕ). is_variant_key (option_map record_of (row_under (table_nodes c.args.trees.now c.args.table.0) c.args.bookmark.now)) (held_from c.args.from c.args.versions.now) c.args.rule.now c.args.schema.now c.args.table.0 k c.args.bookmark.now) c.args.bookmark.now (index_entries c.args.trees.now c.args.table.0 c.args.rule.now.id.0) (index_entries c.loop-next.trees c.args.table.0 c.args.rule.now.id.0) (index_entries c.take_key.new.trees c.args.table.0 c.args.rule.now.id.0) c.in-Some.key c.next_entry-next-in-Some.result (c.entries_rise.ensures c.args.rule.now c.args.schema.now (g.R.Values.fields c.args.gone.now))
+      (subst (LosesSoFar (key_list c.args.rule.now c.args.schema.now (g.R.Values.fields c.args.gone.now)) (λ (k : List ℕ). is_variant_key (option_map record_of (row_under (table_nodes c.args.trees.now c.args.table.0) c.args.bookmark.now)) (held_from c.args.from c.args.versions.now) c.args.rule.now c.args.schema.now c.args.table.0 k c.args.bookmark.now) c.args.bookmark.now (index_entries c.args.trees.now c.args.table.0 c.args.rule.now.id.0) (index_entries c.loop-next.trees c.args.table.0 c.args.rule.now.id.0)) c.in-Some.is c.loop-next.invariant.keys)
+      (subst (λ (nodes : List Node). LosesKey (λ (k : List ℕ). is_variant_key (option_map record_of (row_under nodes c.args.bookmark.now)) (held_from c.args.from c.args.versions.now) c.args.rule.now c.args.schema.now c.args.table.0 k c.args.bookmark.now) c.in-Some.key c.args.bookmark.now (index_entries c.loop-next.trees c.args.table.0 c.args.rule.now.id.0) (index_entries c.take_key.new.trees c.args.table.0 c.args.rule.now.id.0))
+      (c.loop-next.invariant.others.nodes c.args.table.0) c.take_key.ensures.key)
+      c.next_entry-next-in-Some.ensures;
+}
+
+pub returns-clause-others : goal.returns-clause-others
+returns-clause-others g c = c.loop-next.invariant.others
+
+pub returns-clause-indexes : goal.returns-clause-indexes
+returns-clause-indexes g c = c.loop-next.invariant.indexes
+
+pub returns-clause-keys : goal.returns-clause-keys
+returns-clause-keys g c =
+    keys_end (key_list c.args.rule.now c.args.schema.now (g.R.Values.fields c.args.gone.now)) (λ (k : List ℕ). is_variant_key (option_map record_of (row_under (table_nodes c.args.trees.now c.args.table.0) c.args.bookmark.now)) (held_from c.args.from c.args.versions.now) c.args.rule.now c.args.schema.now c.args.table.0 k c.args.bookmark.now) c.args.bookmark.now (index_entries c.args.trees.now c.args.table.0 c.args.rule.now.id.0) (index_entries c.loop-next.trees c.args.table.0 c.args.rule.now.id.0) (subst (LosesSoFar (key_list c.args.rule.now c.args.schema.now (g.R.Values.fields c.args.gone.now)) (λ (k : List ℕ). is_variant_key (option_map record_of (row_under (table_nodes c.args.trees.now c.args.table.0) c.args.bookmark.now)) (held_from c.args.from c.args.versions.now) c.args.rule.now c.args.schema.now c.args.table.0 k c.args.bookmark.now) c.args.bookmark.now (index_entries c.args.trees.now c.args.table.0 c.args.rule.now.id.0) (index_entries c.loop-next.trees c.args.table.0 c.args.rule.now.id.0)) c.in_default.is c.loop-next.invariant.keys)

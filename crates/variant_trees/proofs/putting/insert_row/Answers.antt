@@ -1,0 +1,11 @@
+use Rattle.std.proofs.Common.{List, sym, subst}
+use Rattle.table_trees.specs.StoredTables.{StoredTable}
+use Rattle.stored_variants.specs.PutRecords.{HasNewRow}
+use Rattle.variant_trees.proofs.NewPuts.{row_in_new}
+use Rattle.variant_trees.proofs.putting.insert_row.Goals as goal
+
+pub returns-in-Ok-clause-ok : goal.returns-in-Ok-clause-ok
+returns-in-Ok-clause-ok c =
+    subst (λ (trees : List StoredTable). HasNewRow c.args.table.0 c.args.bookmark.now c.args.row.now c.args.trees.now trees)
+    (sym c.in-Ok.ensures.ok)
+    (row_in_new (record { named = c.nodes_after_a_change.ensures.named; others = c.nodes_after_a_change.ensures.others; indexes = c.nodes_after_a_change.ensures.indexes; put = c.nodes_by_bookmark.ensures.put; removed = c.nodes_by_bookmark.ensures.removed; replaced = c.nodes_by_bookmark.ensures.replaced; widened = c.nodes_by_bookmark.ensures.widened }) c.args.trees.now c.args.table.0 c.args.bookmark.now c.args.row.now c.requires.there c.requires.absent)

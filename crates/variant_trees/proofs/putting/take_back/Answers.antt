@@ -1,0 +1,31 @@
+use Rattle.std.proofs.Common.{List, Option, option_map, sym, ap, subst, ◌∙◌}
+use Rattle.table_trees.specs.StoredTables.{StoredTable, table_nodes}
+use Rattle.stored_variants.specs.GoneKeys.{held_from, LosesRecord}
+use Rattle.stored_variants.specs.PutRecords.{IsSame, record_keys}
+use Rattle.stored_variants.specs.RecordRows.{record_of, row_under}
+use Rattle.column_set.specs.RecordValues.{RecordFields}
+use Rattle.variant_trees.proofs.HalfPuts.{row_stays, table_stays, taken_back, taken_back_with_node}
+use Rattle.variant_trees.proofs.putting.take_back.Goals as goal
+
+-- src/putting.rt:158:1
+pub returns-then-is_new : goal.returns-then-is_new
+returns-then-is_new c =
+    λ base half is variants.
+    subst (λ (trees : List StoredTable). IsSame c.args.table.0 c.args.schema.now base trees) (sym c.remove.ensures)
+    (taken_back_with_node (record { named = c.nodes_after_a_change.ensures.named; others = c.nodes_after_a_change.ensures.others; indexes = c.nodes_after_a_change.ensures.indexes; put = c.nodes_by_bookmark.ensures.put; removed = c.nodes_by_bookmark.ensures.removed; replaced = c.nodes_by_bookmark.ensures.replaced; widened = c.nodes_by_bookmark.ensures.widened })
+    c.args.schema.now c.args.values.now c.args.table.0 c.args.bookmark.now (option_map record_of (row_under (table_nodes base c.args.table.0) c.args.bookmark.now)) (held_from 0 c.args.versions.now) base c.args.trees.now c.take_keys.new.trees
+    c.requires.rules half c.take_keys.ensures.others
+    (subst (λ (newest : Option RecordFields). LosesRecord newest (held_from 0 c.args.versions.now) c.args.schema.now c.args.table.0 c.args.bookmark.now c.args.values.now c.args.trees.now c.take_keys.new.trees)
+    (ap (option_map record_of) (row_stays c.args.table.0 c.args.bookmark.now (record_keys c.args.schema.now.indexes c.args.schema.now c.args.values.now) base c.args.trees.now half)) c.take_keys.ensures.keys)
+    variants (table_stays c.args.table.0 c.args.trees.now c.take_keys.new.trees c.take_keys.ensures.others.numbers ∙ c.requires.there) (sym c.if-is_new.true ∙ is))
+
+-- src/putting.rt:158:1
+pub returns-else-is_new : goal.returns-else-is_new
+returns-else-is_new c =
+    λ base half is variants.
+    taken_back
+    c.args.schema.now c.args.values.now c.args.table.0 c.args.bookmark.now (option_map record_of (row_under (table_nodes base c.args.table.0) c.args.bookmark.now)) (held_from 0 c.args.versions.now) base c.args.trees.now c.take_keys.new.trees
+    c.requires.rules half c.take_keys.ensures.others
+    (subst (λ (newest : Option RecordFields). LosesRecord newest (held_from 0 c.args.versions.now) c.args.schema.now c.args.table.0 c.args.bookmark.now c.args.values.now c.args.trees.now c.take_keys.new.trees)
+    (ap (option_map record_of) (row_stays c.args.table.0 c.args.bookmark.now (record_keys c.args.schema.now.indexes c.args.schema.now c.args.values.now) base c.args.trees.now half)) c.take_keys.ensures.keys)
+    variants (sym c.if-is_new.false ∙ is)

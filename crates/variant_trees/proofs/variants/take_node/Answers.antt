@@ -1,0 +1,23 @@
+use Rattle.std.proofs.Common.{List, sym, subst, ◌∙◌}
+use Rattle.std.specs.Prelude.{option_map}
+use Rattle.table_trees.specs.StoredTables.{StoredTable, table_nodes}
+use Rattle.versioned_tables.specs.Variants.{has_variant}
+use Rattle.stored_variants.specs.GoneKeys.{held_from}
+use Rattle.variant_trees.specs.LeftVariants.{LosesNode}
+use Rattle.stored_variants.specs.RecordRows.{record_of, row_under}
+use Rattle.stored_variants.proofs.Dropped.{TreeLaws}
+use Rattle.variant_trees.proofs.LostNodes.{node_goes}
+use Rattle.variant_trees.proofs.variants.take_node.Goals as goal
+
+pub returns-then-not-is_record_before : goal.returns-then-not-is_record_before
+returns-then-not-is_record_before c =
+    let laws : TreeLaws = record {
+      named = c.nodes_after_a_change.ensures.named;
+      others = c.nodes_after_a_change.ensures.others;
+      indexes = c.nodes_after_a_change.ensures.indexes;
+      replaced = c.nodes_by_bookmark.ensures.replaced;
+    } in
+    subst (λ (trees : List StoredTable). LosesNode (has_variant (option_map record_of (row_under (table_nodes c.args.trees.now c.args.table.0) c.args.bookmark.now)) (held_from c.args.from c.args.versions.now) c.args.table.0 c.args.bookmark.now) c.args.table.0 c.args.bookmark.now c.args.trees.now trees)
+    (sym c.remove.ensures)
+    (node_goes laws c.nodes_by_bookmark.ensures.removed c.args.table.0 c.args.bookmark.now (held_from c.args.from c.args.versions.now) c.args.trees.now (c.nodes_are_in_order.ensures.sorted c.args.table.0)
+    (sym c.has_empty_node.ensures ∙ c.if-has_empty_node.true) (sym c.is_record_before.ensures ∙ c.if-not-is_record_before.true))

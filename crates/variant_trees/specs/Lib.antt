@@ -1,0 +1,3 @@
+pub mod LeftVariants
+pub mod NewEntries
+pub mod LostColumns

@@ -1,0 +1,139 @@
+//! An index comes, with the entries of the records that stand.
+
+ghost use Rattle.std.specs.Prelude.{◌≡◌, true, false, [], map, IfSome, IsSomeAnd, OnErr, OnOk};
+ghost use Rattle.database_state.specs.Table.{schema_of, table_with_id};
+ghost use Rattle.jet_catalog.specs.Catalog.{catalog_after};
+ghost use Rattle.table_trees.specs.StoredTables.{has_index, index_entries, table_nodes};
+ghost use Rattle.variant_trees.specs.NewEntries.{CanFill, HasNewestKeys, OnlyEntries};
+ghost use Rattle.stored_variants.specs.SchemaSteps.{IsIndexFor, IsMade};
+ghost use Rattle.stored_variants.specs.VersionsKept.{AreKept};
+ghost use Rattle.stored_variants.specs.VersionsView.{with_newest};
+ghost use Rattle.index_derive.specs.declared.schema_calls.SchemaStep.TheVariants as step;
+
+use crate::new_entries::fill;
+use index_derive::{IndexRule, SchemaStep};
+use jet_base::{OutOfMemory, TableId};
+use jet_catalog::Catalog;
+use std::alloc::Global;
+use table_trees::{
+    TableTrees, indexes_after_a_change, indexes_beside_a_new_one, indexes_without_one,
+};
+
+/// An index of a table comes, with the keys of all its records, while no change is held: its tree with the entries first, and
+/// then its rule in the catalog. The primary index needs no tree. After want of memory all is as it was.
+pub fn put_index(
+    alloc: Global,
+    catalog: &mut Catalog,
+    trees: &mut TableTrees,
+    made: &SchemaStep,
+    table: TableId,
+    rule: &IndexRule,
+) -> Result<(), OutOfMemory>
+    requires kept { AreKept catalog.old.tables trees.old [] }
+    requires step { made.now ≡ step.CreateIndex table rule.now }
+    requires fits { IsSomeAnd (table_with_id (map (with_newest trees.old) catalog.old.tables) table.0) (IsIndexFor rule.now) }
+    ensures ok { OnOk result (IsMade made.now catalog.old trees.old catalog.new trees.new) }
+    ensures err { OnErr result ((catalog.new ≡ catalog.old) × (trees.new ≡ trees.old)) }
+{
+    if rule.flags.primary {
+        put_primary(catalog, trees, made, table, rule)
+    } else {
+        put_secondary(alloc, catalog, trees, made, table, rule)
+    }
+}
+
+// A primary index comes, which needs no tree of its own.
+fn put_primary(
+    catalog: &mut Catalog,
+    trees: &TableTrees,
+    made: &SchemaStep,
+    table: TableId,
+    rule: &IndexRule,
+) -> Result<(), OutOfMemory>
+    requires kept { AreKept catalog.old.tables trees.now [] }
+    requires step { made.now ≡ step.CreateIndex table rule.now }
+    requires primary { rule.now.flags.primary ≡ true }
+    requires fits { IsSomeAnd (table_with_id (map (with_newest trees.now) catalog.old.tables) table.0) (IsIndexFor rule.now) }
+    ensures ok { OnOk result (IsMade made.now catalog.old trees.now catalog.new trees.now) }
+    ensures err { OnErr result (catalog.new ≡ catalog.old) }
+{
+    trees.nodes_are_in_order();
+    catalog.make(made)
+}
+
+// Another index comes: its tree first, which goes again where there is no memory for its entries or in the catalog.
+fn put_secondary(
+    alloc: Global,
+    catalog: &mut Catalog,
+    trees: &mut TableTrees,
+    made: &SchemaStep,
+    table: TableId,
+    rule: &IndexRule,
+) -> Result<(), OutOfMemory>
+    requires kept { AreKept catalog.old.tables trees.old [] }
+    requires step { made.now ≡ step.CreateIndex table rule.now }
+    requires secondary { rule.now.flags.primary ≡ false }
+    requires fits { IsSomeAnd (table_with_id (map (with_newest trees.old) catalog.old.tables) table.0) (IsIndexFor rule.now) }
+    ensures ok { OnOk result (IsMade made.now catalog.old trees.old catalog.new trees.new) }
+    ensures err { OnErr result ((catalog.new ≡ catalog.old) × (trees.new ≡ trees.old)) }
+{
+    indexes_after_a_change();
+    indexes_beside_a_new_one();
+    indexes_without_one();
+    catalog.tables();
+    trees.nodes_are_in_order();
+    match trees.add_index(table, rule.id) {
+        Ok(()) => match fill_and_make(alloc, catalog, trees, made, table, rule) {
+            Ok(()) => Ok(()),
+            Err(fault) => {
+                trees.remove_index(table, rule.id);
+                Err(fault)
+            }
+        },
+        Err(fault) => Err(fault),
+    }
+}
+
+// The index gets the keys of all records, and then comes into the catalog.
+fn fill_and_make(
+    alloc: Global,
+    catalog: &mut Catalog,
+    trees: &mut TableTrees,
+    made: &SchemaStep,
+    table: TableId,
+    rule: &IndexRule,
+) -> Result<(), OutOfMemory>
+    requires step { made.now ≡ step.CreateIndex table rule.now }
+    requires there { has_index trees.old table.0 rule.now.id.0 ≡ true }
+    requires empty { index_entries trees.old table.0 rule.now.id.0 ≡ [] }
+    requires fits { IsSomeAnd (table_with_id catalog.old.tables table.0) (CanFill rule.now (table_nodes trees.old table.0)) }
+    ensures only { OnlyEntries table.0 rule.now.id.0 trees.old trees.new }
+    ensures filled { OnOk result (IfSome (table_with_id catalog.old.tables table.0) (λ t. HasNewestKeys rule.now (table_nodes trees.old table.0) (index_entries trees.new table.0 rule.now.id.0) (schema_of t))) }
+    ensures made { OnOk result (catalog.new ≡ catalog_after catalog.old made.now) }
+    ensures err { OnErr result (catalog.new ≡ catalog.old) }
+{
+    match fill_table(alloc, catalog, trees, table, rule) {
+        Ok(()) => catalog.make(made),
+        Err(fault) => Err(fault),
+    }
+}
+
+// The index gets the keys of all records, as the columns in the catalog are.
+fn fill_table(
+    alloc: Global,
+    catalog: &Catalog,
+    trees: &mut TableTrees,
+    table: TableId,
+    rule: &IndexRule,
+) -> Result<(), OutOfMemory>
+    requires there { has_index trees.old table.0 rule.now.id.0 ≡ true }
+    requires empty { index_entries trees.old table.0 rule.now.id.0 ≡ [] }
+    requires fits { IsSomeAnd (table_with_id catalog.now.tables table.0) (CanFill rule.now (table_nodes trees.old table.0)) }
+    ensures only { OnlyEntries table.0 rule.now.id.0 trees.old trees.new }
+    ensures filled { OnOk result (IfSome (table_with_id catalog.now.tables table.0) (λ t. HasNewestKeys rule.now (table_nodes trees.old table.0) (index_entries trees.new table.0 rule.now.id.0) (schema_of t))) }
+{
+    match catalog.by_id(table) {
+        Some(known) => fill(alloc, trees, table, known.schema(), rule),
+        None => unreachable!(),
+    }
+}

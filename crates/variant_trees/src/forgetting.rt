@@ -1,0 +1,64 @@
+//! What goes with the oldest held change.
+
+ghost use Rattle.std.specs.Prelude.{◌≡◌, ◌<◌, ℕ, List, Some, drop, length, map, IfSome};
+ghost use Rattle.database_state.specs.Table.{Table, schema_of, table_with_id};
+ghost use Rattle.table_trees.specs.StoredTables.{table_nodes};
+ghost use Rattle.stored_variants.specs.GoneKeys.{AreRows};
+ghost use Rattle.variant_trees.specs.LeftVariants.{CanForget, DistinctIds, first_table};
+ghost use Rattle.stored_variants.specs.RecordRows.{IsRecordRow, row_under};
+ghost use Rattle.stored_variants.specs.VersionsKept.{AreKept};
+ghost use Rattle.stored_variants.specs.VersionsView.{with_newest};
+
+use crate::nodes::in_place;
+use crate::variants::take_variant;
+use index_derive::Schema;
+use jet_base::TableId;
+use jet_catalog::Catalog;
+use table_trees::TableTrees;
+use version_store::Versions;
+
+/// Takes away what no reader needs once the oldest change is forgotten: of the record before it the keys that no other
+/// variant has, and the node where no variant is left. The newest records stay. The change itself is still held: the caller
+/// gives it up. It takes no memory.
+pub fn forget_oldest(catalog: &Catalog, trees: &mut TableTrees, versions: &Versions)
+    requires kept { AreKept catalog.now.tables trees.old versions.now }
+    requires some { 0 < length versions.now }
+    ensures kept { AreKept catalog.now.tables trees.new (drop 1 versions.now) }
+    ensures newest { map (with_newest trees.new) catalog.now.tables ≡ map (with_newest trees.old) catalog.now.tables }
+{
+    match versions.oldest_table() {
+        Some(table) => forget_of(catalog, trees, versions, table),
+        None => {}
+    }
+}
+
+// The same where the change's table is known.
+fn forget_of(catalog: &Catalog, trees: &mut TableTrees, versions: &Versions, table: TableId)
+    requires kept { AreKept catalog.now.tables trees.old versions.now }
+    requires first { first_table versions.now ≡ Some table.0 }
+    ensures kept { AreKept catalog.now.tables trees.new (drop 1 versions.now) }
+    ensures newest { map (with_newest trees.new) catalog.now.tables ≡ map (with_newest trees.old) catalog.now.tables }
+{
+    let _ = catalog.tables();
+    match catalog.by_id(table) {
+        Some(named) => forget_in(trees, versions, table, named.schema()),
+        None => {}
+    }
+}
+
+// The same where the table's schema is known.
+fn forget_in(trees: &mut TableTrees, versions: &Versions, table: TableId, schema: &Schema)
+    requires can { CanForget schema.now table.0 versions.now }
+    requires rows { AreRows versions.now }
+    requires newest { (bookmark : List ℕ) → IfSome (row_under (table_nodes trees.old table.0) bookmark) IsRecordRow }
+    ensures kept { (tables : List Table) → DistinctIds tables → IfSome (table_with_id tables table.0) (λ t. schema.now ≡ schema_of t) → AreKept tables trees.old versions.now → AreKept tables trees.new (drop 1 versions.now) }
+    ensures newest { (tables : List Table) → map (with_newest trees.new) tables ≡ map (with_newest trees.old) tables }
+{
+    match in_place(versions.before_at(0)) {
+        Some(row) => {
+            let bookmark = versions.bookmark_at(0);
+            take_variant(trees, versions, 1, table, schema, bookmark, &row);
+        }
+        None => {}
+    }
+}

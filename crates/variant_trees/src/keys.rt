@@ -1,0 +1,179 @@
+//! The keys of a record that goes: an index loses those that no variant of the record has.
+
+ghost use Rattle.std.specs.Prelude.{◌≡◌, ℕ, ◌≤◌, ◌&&◌, true, not, IfSome, List, bytes_eq, length, option_copied, option_map};
+ghost use Rattle.std.specs.List.{AllByRecursion};
+ghost use Rattle.database_state.specs.Conflicts.{yields_key};
+ghost use Rattle.derived_index.specs.KeptEntries.{has_entry};
+ghost use Rattle.index_derive.specs.Entries.{is_legal};
+ghost use Rattle.table_trees.specs.StoredTables.{index_entries, table_nodes};
+ghost use Rattle.versioned_tables.specs.Variants.{is_variant_key};
+ghost use Rattle.stored_variants.specs.GoneKeys.{AreRows, ChangesEntries, HasKeysOf, LosesKey, LosesKeys, LosesRecord, OthersKeep, held_from, some_before};
+ghost use Rattle.stored_variants.specs.RecordRows.{IsRecordRow, record_of, row_under};
+
+use crate::nodes::{in_place, row_in_node};
+use column_set::Values;
+use index_derive::derive::{next_entry, yields};
+use index_derive::{IndexRule, Schema, entries_rise};
+use jet_base::{IndexId, TableId};
+use key_normal::Key;
+use table_trees::{TableTrees, entries_after_a_change, indexes_after_a_change};
+use version_store::Versions;
+
+/// Takes out of each index that has a tree of its own the keys of a record that goes, but for those that a variant of the
+/// record under the bookmark has: the newest one, or the one before a held change, of those from a place on. It takes no
+/// memory.
+///
+/// Keys that are not there are passed over, so that it may come after some of them were put.
+pub(crate) fn take_keys<R: Values>(
+    trees: &mut TableTrees,
+    versions: &Versions,
+    from: usize,
+    table: TableId,
+    schema: &Schema,
+    bookmark: &[u8],
+    gone: &R,
+)
+    requires rules { AllByRecursion (HasKeysOf schema.now (R.fields gone.now)) schema.now.indexes }
+    requires newest { IfSome (row_under (table_nodes trees.old table.0) bookmark.now) IsRecordRow }
+    requires rows { AreRows versions.now }
+    requires bookmark { length bookmark.now ≤ 255 }
+    ensures others { ChangesEntries table.0 trees.old trees.new }
+    ensures keys { LosesRecord (option_map record_of (row_under (table_nodes trees.old table.0) bookmark.now)) (held_from from versions.now) schema.now table.0 bookmark.now (R.fields gone.now) trees.old trees.new }
+{
+    for rule in schema.indexes.as_slice() {
+        if !rule.flags.primary {
+            take_keys_of(trees, versions, from, table, schema, rule, bookmark, gone);
+        }
+    }
+}
+
+// The same of one index.
+fn take_keys_of<R: Values>(
+    trees: &mut TableTrees,
+    versions: &Versions,
+    from: usize,
+    table: TableId,
+    schema: &Schema,
+    rule: &IndexRule,
+    bookmark: &[u8],
+    gone: &R,
+)
+    requires rule { HasKeysOf schema.now (R.fields gone.now) rule.now }
+    requires newest { IfSome (row_under (table_nodes trees.old table.0) bookmark.now) IsRecordRow }
+    requires rows { AreRows versions.now }
+    requires bookmark { length bookmark.now ≤ 255 }
+    ensures others { ChangesEntries table.0 trees.old trees.new }
+    ensures indexes { OthersKeep table.0 rule.now.id.0 trees.old trees.new }
+    ensures keys { LosesKeys (option_map record_of (row_under (table_nodes trees.old table.0) bookmark.now)) (held_from from versions.now) rule.now schema.now table.0 bookmark.now (R.fields gone.now) (index_entries trees.old table.0 rule.now.id.0) (index_entries trees.new table.0 rule.now.id.0) }
+{
+    entries_rise();
+    let mut next = next_entry(rule, schema, gone, None);
+    while let Some(key) = next {
+        take_key(trees, versions, from, table, schema, rule, bookmark, &key);
+        next = next_entry(rule, schema, gone, Some(&key));
+    }
+}
+
+// Takes a key of the record out of an index, where no variant has it.
+fn take_key(
+    trees: &mut TableTrees,
+    versions: &Versions,
+    from: usize,
+    table: TableId,
+    schema: &Schema,
+    rule: &IndexRule,
+    bookmark: &[u8],
+    key: &Key,
+)
+    requires legal { is_legal rule.now schema.now ≡ true }
+    requires short { rule.now.key_most ≤ 255 }
+    requires newest { IfSome (row_under (table_nodes trees.old table.0) bookmark.now) IsRecordRow }
+    requires rows { AreRows versions.now }
+    requires bookmark { length bookmark.now ≤ 255 }
+    ensures others { ChangesEntries table.0 trees.old trees.new }
+    ensures indexes { OthersKeep table.0 rule.now.id.0 trees.old trees.new }
+    ensures key { LosesKey (λ (k : List ℕ). is_variant_key (option_map record_of (row_under (table_nodes trees.old table.0) bookmark.now)) (held_from from versions.now) rule.now schema.now table.0 k bookmark.now) key.now bookmark.now (index_entries trees.old table.0 rule.now.id.0) (index_entries trees.new table.0 rule.now.id.0) }
+{
+    if !is_variant_key(trees, versions, from, table, schema, rule, bookmark, key) {
+        take_entry(trees, table, rule.id, key, bookmark);
+    }
+}
+
+// Takes an entry out of an index, where it is there.
+fn take_entry(trees: &mut TableTrees, table: TableId, index: IndexId, key: &Key, bookmark: &[u8])
+    requires { length bookmark.now ≤ 255 }
+    ensures others { ChangesEntries table.0 trees.old trees.new }
+    ensures indexes { OthersKeep table.0 index.0 trees.old trees.new }
+    ensures entry { (k own : List ℕ) → has_entry k own (index_entries trees.new table.0 index.0) ≡ (has_entry k own (index_entries trees.old table.0 index.0) && not (bytes_eq own bookmark.now && bytes_eq k key.now)) }
+{
+    entries_after_a_change();
+    indexes_after_a_change();
+    let key = key.as_bytes();
+    if trees.has_entry(table, index, key, bookmark) {
+        trees.remove_entry(table, index, key, bookmark);
+    }
+}
+
+// Whether a variant of the record has the key.
+fn is_variant_key(
+    trees: &TableTrees,
+    versions: &Versions,
+    from: usize,
+    table: TableId,
+    schema: &Schema,
+    rule: &IndexRule,
+    bookmark: &[u8],
+    key: &Key,
+) -> bool
+    requires legal { is_legal rule.now schema.now ≡ true }
+    requires short { rule.now.key_most ≤ 255 }
+    requires newest { IfSome (row_under (table_nodes trees.now table.0) bookmark.now) IsRecordRow }
+    requires rows { AreRows versions.now }
+    ensures { result ≡ is_variant_key (option_map record_of (row_under (table_nodes trees.now table.0) bookmark.now)) (held_from from versions.now) rule.now schema.now table.0 key.now bookmark.now }
+{
+    let newest = row_in_node(trees.get(table, bookmark));
+    has_key(rule, schema, newest, key)
+        || is_key_before(versions, from, table, schema, rule, bookmark, key)
+}
+
+// Whether the record before a held change has the key, where it is a put or drop of the record that is not undone. It goes
+// from the newest of these back.
+fn is_key_before(
+    versions: &Versions,
+    from: usize,
+    table: TableId,
+    schema: &Schema,
+    rule: &IndexRule,
+    bookmark: &[u8],
+    key: &Key,
+) -> bool
+    requires legal { is_legal rule.now schema.now ≡ true }
+    requires short { rule.now.key_most ≤ 255 }
+    requires rows { AreRows versions.now }
+    ensures { result ≡ some_before (yields_key rule.now schema.now key.now) table.0 bookmark.now (held_from from versions.now) }
+{
+    let mut at = versions.newest_rewrite(table, bookmark);
+    while let Some(place) = at {
+        if place < from {
+            return false;
+        }
+        if has_key(rule, schema, versions.before_at(place), key) {
+            return true;
+        }
+        at = versions.older_rewrite(place);
+    }
+    false
+}
+
+// Whether the record of a row has the key.
+fn has_key(rule: &IndexRule, schema: &Schema, row: Option<&[u8]>, key: &Key) -> bool
+    requires legal { is_legal rule.now schema.now ≡ true }
+    requires short { rule.now.key_most ≤ 255 }
+    requires row { IfSome (option_copied row) IsRecordRow }
+    ensures { result ≡ yields_key rule.now schema.now key.now (option_map record_of (option_copied row.entry)) }
+{
+    match in_place(row) {
+        Some(row) => yields(rule, schema, &row, key),
+        None => false,
+    }
+}

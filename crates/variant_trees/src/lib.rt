@@ -1,0 +1,25 @@
+//! What changes the trees of tables with versions: a put brings a record with its keys, an undo and a forgotten change take away
+//! what no variant has any more, a sum is made in its row, and schema steps bring and take tables, indexes and columns. The
+//! catalog, the trees and the held changes come as parts.
+#![tactic(auto)]
+
+mod filling;
+mod forgetting;
+mod keys;
+mod new_entries;
+mod nodes;
+mod putting;
+mod rewriting;
+mod schema;
+mod sums;
+mod undoing;
+mod variants;
+
+pub use filling::put_index;
+pub use forgetting::forget_oldest;
+pub use nodes::{in_place, own_entry, row_in_node};
+pub use putting::put_record;
+pub use rewriting::drop_column;
+pub use schema::{create_table, drop_index, drop_table, put_column};
+pub use sums::add_sum;
+pub use undoing::put_back;

@@ -1,0 +1,113 @@
+//! Schema steps, once no change is held.
+
+ghost use Rattle.std.specs.Prelude.{◌≡◌, ◌<◌, ℕ, [], List, map, true, is_some, IfSome, IsSomeAnd, OnErr, OnOk};
+ghost use Rattle.database_state.specs.Table.{table_with_id};
+ghost use Rattle.stored_variants.specs.SchemaSteps.{IsMade, TakesColumn};
+ghost use Rattle.stored_variants.specs.VersionsKept.{AreKept, secondary_rule};
+ghost use Rattle.stored_variants.specs.VersionsView.{with_newest};
+ghost use Rattle.index_derive.specs.declared.schema_calls.SchemaStep.TheVariants as step;
+
+use column_set::Column;
+use index_derive::SchemaStep;
+use jet_base::{IndexId, OutOfMemory, TableId};
+use jet_catalog::Catalog;
+use table_trees::{
+    TableTrees, indexes_after_a_change, indexes_without_one, tables_beside_a_new_one,
+    tables_without_one,
+};
+
+/// A table comes, with a number above all that were given, while no change is held: its trees first, which go again where the
+/// catalog has no memory for it. After want of memory all is as it was.
+pub fn create_table(
+    catalog: &mut Catalog,
+    trees: &mut TableTrees,
+    made: &SchemaStep,
+    table: TableId,
+) -> Result<(), OutOfMemory>
+    requires kept { AreKept catalog.old.tables trees.old [] }
+    requires step { (name : List ℕ) × (made.now ≡ step.CreateTable table name) }
+    requires new_id { catalog.old.greatest_table < table.0 }
+    ensures ok { OnOk result (IsMade made.now catalog.old trees.old catalog.new trees.new) }
+    ensures err { OnErr result ((catalog.new ≡ catalog.old) × (trees.new ≡ trees.old)) }
+{
+    tables_beside_a_new_one();
+    catalog.tables();
+    match trees.add_table(table) {
+        Ok(()) => match catalog.make(made) {
+            Ok(()) => Ok(()),
+            Err(fault) => {
+                trees.remove_table(table);
+                Err(fault)
+            }
+        },
+        Err(fault) => Err(fault),
+    }
+}
+
+/// A table goes, with its records and its indexes, while no change is held. After want of memory all is as it was.
+pub fn drop_table(
+    catalog: &mut Catalog,
+    trees: &mut TableTrees,
+    made: &SchemaStep,
+    table: TableId,
+) -> Result<(), OutOfMemory>
+    requires kept { AreKept catalog.old.tables trees.old [] }
+    requires step { made.now ≡ step.DeleteTable table }
+    requires there { is_some (table_with_id catalog.old.tables table.0) ≡ true }
+    ensures ok { OnOk result (IsMade made.now catalog.old trees.old catalog.new trees.new) }
+    ensures err { OnErr result ((catalog.new ≡ catalog.old) × (trees.new ≡ trees.old)) }
+{
+    tables_without_one();
+    match catalog.make(made) {
+        Ok(()) => {
+            trees.remove_table(table);
+            Ok(())
+        }
+        Err(fault) => Err(fault),
+    }
+}
+
+/// A column comes, while no change is held: one of which every record has a value only where there is no record. No row is
+/// written. After want of memory all is as it was.
+pub fn put_column(
+    catalog: &mut Catalog,
+    trees: &TableTrees,
+    made: &SchemaStep,
+    table: TableId,
+    column: &Column,
+) -> Result<(), OutOfMemory>
+    requires kept { AreKept catalog.old.tables trees.now [] }
+    requires step { made.now ≡ step.AddColumn table column.now }
+    requires taken { IfSome (table_with_id (map (with_newest trees.now) catalog.old.tables) table.0) (TakesColumn column.now) }
+    ensures ok { OnOk result (IsMade made.now catalog.old trees.now catalog.new trees.now) }
+    ensures err { OnErr result (catalog.new ≡ catalog.old) }
+{
+    trees.nodes_are_in_order();
+    catalog.make(made)
+}
+
+/// An index goes, one that has entries of its own, while no change is held. After want of memory all is as it was.
+pub fn drop_index(
+    catalog: &mut Catalog,
+    trees: &mut TableTrees,
+    made: &SchemaStep,
+    table: TableId,
+    index: IndexId,
+) -> Result<(), OutOfMemory>
+    requires kept { AreKept catalog.old.tables trees.old [] }
+    requires step { made.now ≡ step.DeleteIndex table index }
+    requires there { IsSomeAnd (table_with_id catalog.old.tables table.0) (λ t. is_some (secondary_rule t index.0) ≡ true) }
+    ensures ok { OnOk result (IsMade made.now catalog.old trees.old catalog.new trees.new) }
+    ensures err { OnErr result ((catalog.new ≡ catalog.old) × (trees.new ≡ trees.old)) }
+{
+    indexes_after_a_change();
+    indexes_without_one();
+    catalog.tables();
+    match catalog.make(made) {
+        Ok(()) => {
+            trees.remove_index(table, index);
+            Ok(())
+        }
+        Err(fault) => Err(fault),
+    }
+}

@@ -1,0 +1,102 @@
+//! What is left of a variant that is none any more: its keys, and its node where it was the last one.
+
+ghost use Rattle.std.specs.Prelude.{◌≡◌, ◌≤◌, List, map, drop, IfSome, is_some, length, option_copied, option_map};
+ghost use Rattle.std.specs.List.{AllByRecursion};
+ghost use Rattle.btree_inplace.specs.Order.{get_in};
+ghost use Rattle.database_state.specs.Table.{Table, schema_of, table_with_id};
+ghost use Rattle.table_trees.specs.StoredTables.{table_nodes};
+ghost use Rattle.versioned_tables.specs.Variants.{has_variant};
+ghost use Rattle.stored_variants.specs.GoneKeys.{AreRows, HasKeysOf, held_from, some_before};
+ghost use Rattle.variant_trees.specs.LeftVariants.{AreLeft, DistinctIds, LosesNode, is_empty_node};
+ghost use Rattle.stored_variants.specs.RecordRows.{IsRecordRow, record_of, row_under};
+ghost use Rattle.stored_variants.specs.VersionsKept.{AreKept};
+ghost use Rattle.stored_variants.specs.VersionsView.{with_newest};
+
+use crate::keys::take_keys;
+use column_set::Values;
+use index_derive::Schema;
+use jet_base::TableId;
+use table_trees::{TableTrees, nodes_after_a_change, nodes_by_bookmark};
+use version_store::Versions;
+
+/// Takes away what is left of a record that is no variant any more, where only the held changes from a place on count: the keys
+/// that no variant has, and the node where there is none. The newest records stay. It takes no memory.
+pub(crate) fn take_variant<R: Values>(
+    trees: &mut TableTrees,
+    versions: &Versions,
+    from: usize,
+    table: TableId,
+    schema: &Schema,
+    bookmark: &[u8],
+    gone: &R,
+)
+    requires rules { AllByRecursion (HasKeysOf schema.now (R.fields gone.now)) schema.now.indexes }
+    requires newest { IfSome (row_under (table_nodes trees.old table.0) bookmark.now) IsRecordRow }
+    requires rows { AreRows versions.now }
+    requires bookmark { length bookmark.now ≤ 255 }
+    ensures kept { (tables : List Table) → DistinctIds tables → IfSome (table_with_id tables table.0) (λ t. schema.now ≡ schema_of t) → AreLeft tables trees.old (drop from versions.now) table.0 bookmark.now (R.fields gone.now) → AreKept tables trees.new (drop from versions.now) }
+    ensures newest { (tables : List Table) → map (with_newest trees.new) tables ≡ map (with_newest trees.old) tables }
+{
+    trees.nodes_are_in_order();
+    take_keys(trees, versions, from, table, schema, bookmark, gone);
+    take_node(trees, versions, from, table, bookmark);
+}
+
+// Takes out the node of a record, where no variant is left: neither a newest one nor one before a held change, of those from a
+// place on.
+fn take_node(
+    trees: &mut TableTrees,
+    versions: &Versions,
+    from: usize,
+    table: TableId,
+    bookmark: &[u8],
+)
+    ensures { LosesNode (has_variant (option_map record_of (row_under (table_nodes trees.old table.0) bookmark.now)) (held_from from versions.now) table.0 bookmark.now) table.0 bookmark.now trees.old trees.new }
+{
+    nodes_after_a_change();
+    nodes_by_bookmark();
+    trees.nodes_are_in_order();
+    if has_empty_node(trees, table, bookmark) {
+        if !is_record_before(versions, from, table, bookmark) {
+            trees.remove(table, bookmark);
+        }
+    }
+}
+
+// Whether the node under a bookmark has no byte.
+fn has_empty_node(trees: &TableTrees, table: TableId, bookmark: &[u8]) -> bool
+    ensures { result ≡ is_empty_node (get_in (table_nodes trees.now table.0) bookmark.now) }
+{
+    match trees.get(table, bookmark) {
+        Some(bytes) => bytes.is_empty(),
+        None => false,
+    }
+}
+
+// Whether there is a record before a held change that is a put or drop of the record and not undone. It goes from the newest
+// of these back.
+fn is_record_before(versions: &Versions, from: usize, table: TableId, bookmark: &[u8]) -> bool
+    ensures { result ≡ some_before is_some table.0 bookmark.now (held_from from versions.now) }
+{
+    let mut at = versions.newest_rewrite(table, bookmark);
+    while let Some(place) = at {
+        if place < from {
+            return false;
+        }
+        if is_record(versions.before_at(place)) {
+            return true;
+        }
+        at = versions.older_rewrite(place);
+    }
+    false
+}
+
+// Whether there is a record.
+fn is_record(row: Option<&[u8]>) -> bool
+    ensures { result ≡ is_some (option_map record_of (option_copied row.entry)) }
+{
+    match row {
+        Some(_) => true,
+        None => false,
+    }
+}
