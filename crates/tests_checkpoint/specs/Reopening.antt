@@ -1,5 +1,5 @@
 -- What is read after a checkpoint was written over what stood on a volume.
-use Rattle.std.specs.Prelude.{◌≡◌, ℕ, ◌+◌, List, Option}
+use Rattle.std.specs.Prelude.{ℕ, ◌+◌, List, Option}
 use Rattle.jet_volume.specs.declared.files.LogStart.{LogStart}
 use Rattle.jet_volume.specs.Image.{Image as Files}
 use Rattle.page_image.specs.Page.{PageContents}

@@ -1,7 +1,7 @@
 //! A system of files in memory, with which a volume over real files is tested. It moves few bytes at a time, fails at
 //! a call, and keeps what was synced.
 
-ghost use Rattle.std.specs.Prelude.{◌≡◌, ◌≤◌, length, IfOk};
+ghost use Rattle.std.specs.Prelude.{◌≤◌, length, IfOk};
 
 use std::alloc::{AllocError, Allocator, Global};
 use std::cell::{RefCell, RefMut};

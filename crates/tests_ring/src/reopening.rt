@@ -1,6 +1,6 @@
 //! A log that is opened, appended to, crashed and opened again.
 
-ghost use Rattle.std.specs.Prelude.{◌≡◌, ◌⊎◌, ◌<◌, ◌≤◌, ◌^◌, ◌++◌, ℕ, List, true, length, IfOk};
+ghost use Rattle.std.specs.Prelude.{◌≡◌, ◌⊎◌, ◌<◌, ◌≤◌, ◌^◌, ◌++◌, true, length, IfOk};
 ghost use Rattle.jet_volume.specs.Crash.{IsSettled};
 ghost use Rattle.jet_volume.specs.Memory.{mem_seen, mem_moment, mem_left_at};
 ghost use Rattle.log_ring.specs.Blocks.{Scans};

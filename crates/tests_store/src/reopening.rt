@@ -1,6 +1,6 @@
 //! A volume that is opened, flushed to, written, crashed and opened again.
 
-ghost use Rattle.std.specs.Prelude.{◌≡◌, ◌⊎◌, ◌≤◌, ◌+◌, ◌++◌, List, [], true, length, IfOk};
+ghost use Rattle.std.specs.Prelude.{◌≡◌, ◌⊎◌, ◌≤◌, ◌+◌, ◌++◌, [], true, length, IfOk};
 ghost use Rattle.jet_volume.specs.Crash.{IsSettled};
 ghost use Rattle.jet_volume.specs.Memory.{mem_seen, mem_moment, mem_left_at};
 ghost use Rattle.checkpoint.specs.Shape.{IsInShape};

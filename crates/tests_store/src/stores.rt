@@ -1,6 +1,6 @@
 //! Stores over volumes in memory.
 
-ghost use Rattle.std.specs.Prelude.{◌≡◌, ◌⊎◌, ◌≤◌, ◌<◌, ◌^◌, IfOk};
+ghost use Rattle.std.specs.Prelude.{◌<◌, ◌^◌, IfOk};
 ghost use Rattle.checkpoint.specs.Shape.{IsInShape};
 ghost use Rattle.store_core.specs.Store.{store_end, store_standing};
 

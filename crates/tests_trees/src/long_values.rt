@@ -1,6 +1,6 @@
 //! Values that are put, read, shared and released.
 
-ghost use Rattle.std.specs.Prelude.{◌≡◌, ◌<◌, ℕ, Contains, IfOk};
+ghost use Rattle.std.specs.Prelude.{◌<◌, ℕ, Contains, IfOk};
 ghost use Rattle.btree_inplace.specs.Trees.{Exchanges};
 ghost use Rattle.long_value.specs.Stores.{IsLongStore, own_pages};
 

@@ -1,11 +1,10 @@
 //! What a put brings into the trees of its table, and how it is taken back.
 
-ghost use Rattle.std.specs.Prelude.{◌≡◌, ℕ, ◌≤◌, ◌<◌, ◌↔◌, ◌++◌, ◌∷◌, [], List, length, true, false, not, is_none, is_some, Some, None, option_map, IfOk, IfSome, IsErrOf, IsTrue, OnErr, OnOk};
+ghost use Rattle.std.specs.Prelude.{◌≡◌, ℕ, ◌≤◌, ◌<◌, ◌++◌, ◌∷◌, [], List, length, true, false, not, is_none, is_some, Some, None, option_map, IfSome, IsErrOf, IsTrue, OnErr, OnOk};
 ghost use Rattle.std.specs.List.{AllByRecursion};
 ghost use Rattle.btree_inplace.specs.Order.{extent_in, get_in};
 ghost use Rattle.column_set.specs.RecordValues.{record_fits};
-ghost use Rattle.column_set.specs.RowReading.{row_in};
-ghost use Rattle.column_set.specs.Rows.{RowFields, all_here, is_all_here, is_row, row_bytes};
+ghost use Rattle.column_set.specs.Rows.{all_here, is_all_here, row_bytes};
 ghost use Rattle.index_tree.specs.Entries.{IsApartFromAll};
 ghost use Rattle.table_trees.specs.StoredTables.{StoredTable, has_index, has_table, index_entries, table_nodes};
 ghost use Rattle.version_store.specs.HeldChanges.{has_room, new_change};

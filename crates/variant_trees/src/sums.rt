@@ -1,10 +1,10 @@
 //! Sums of escrow columns.
 
-ghost use Rattle.std.specs.Prelude.{◌≡◌, ℤ, neg_ℤ, List, map, true, false, is_some, IfSome, IsSomeAnd};
+ghost use Rattle.std.specs.Prelude.{◌≡◌, ℤ, neg_ℤ, List, map, true, false, IfSome, IsSomeAnd};
 ghost use Rattle.std.specs.Int.{w32, cast_unsigned};
 ghost use Rattle.column_set.specs.declared.changes.Change.TheVariants.{Add};
 ghost use Rattle.database_state.specs.Changes.{changed_bookmark, changed_table, is_sum, tables_after};
-ghost use Rattle.database_state.specs.Table.{Table, record_in, schema_of, table_with_id};
+ghost use Rattle.database_state.specs.Table.{Table, schema_of, table_with_id};
 ghost use Rattle.index_derive.specs.Entries.{is_escrow_column};
 ghost use Rattle.table_trees.specs.StoredTables.{table_nodes};
 ghost use Rattle.version_store.specs.HeldChanges.{HeldChange, kind_of};

@@ -1,4 +1,4 @@
-use Rattle.std.proofs.Common.{◌≡◌, ◌⊎◌, inl, inr, ⊎_elim, ℕ, ◌+◌, true, Result, Ok, Err, List, Option, sym, ◌∙◌, subst}
+use Rattle.std.proofs.Common.{◌≡◌, ◌⊎◌, inl, inr, ⊎_elim, ℕ, ◌+◌, true, Result, Ok, Err, List, sym, ◌∙◌, subst}
 use Rattle.std.specs.Prelude.{is_ok, OnOk}
 use Rattle.jet_volume.specs.Crash.{LeavesOnly}
 use Rattle.jet_volume.specs.Image.{Image as Files}

@@ -1,4 +1,4 @@
-use Rattle.std.proofs.Common.{◌≡◌, List, sym, ◌∙◌, ap, subst}
+use Rattle.std.proofs.Common.{sym, ap, subst}
 use Rattle.jet_volume.specs.Image.{Image}
 use Rattle.jet_volume.specs.Memory.{mem_seen, mem_moment, mem_left_at}
 use Rattle.jet_volume.specs.Moments.{leaves_now}

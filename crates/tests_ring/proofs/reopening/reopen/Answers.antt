@@ -1,6 +1,5 @@
-use Rattle.std.proofs.Common.{◌≡◌, ◌⊎◌, inl, inr, ⊎_elim, true, Result, Ok, Err, List, ◌++◌, sym, ◌∙◌, ap, subst}
+use Rattle.std.proofs.Common.{◌≡◌, ◌⊎◌, inl, inr, ⊎_elim, true, Result, Ok, Err, List, ◌++◌, sym, ◌∙◌, subst}
 use Rattle.std.specs.Prelude.{is_ok, OnOk}
-use Rattle.jet_volume.specs.Image.{Image}
 use Rattle.jet_volume.specs.Memory.{mem_seen, mem_moment, mem_left_at}
 use Rattle.jet_volume.specs.Moments.{leaves_now}
 use Rattle.log_ring.specs.Blocks.{Scans}
