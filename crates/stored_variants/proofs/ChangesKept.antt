@@ -11,8 +11,7 @@ use Rattle.table_trees.specs.StoredTables.{StoredTable, index_entries, table_nod
 use Rattle.version_store.specs.HeldChanges.{HeldChange}
 use Rattle.versioned_tables.specs.HeldRecords.{HeldRecord, is_standing_rewrite}
 use Rattle.versioned_tables.specs.Variants.{HoldsVariants}
-use Rattle.stored_variants.specs.GoneKeys.{some_before}
-use Rattle.stored_variants.specs.RecordRows.{held_record, rows_of_nodes}
+use Rattle.stored_variants.specs.RecordRows.{some_before, held_record, rows_of_nodes}
 use Rattle.stored_variants.specs.VersionsKept.{AreKept, IsKeptChange, IsKeptTable, secondary_rule}
 
 -- held changes with the same records before them, for every record

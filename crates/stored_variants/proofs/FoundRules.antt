@@ -10,8 +10,7 @@ use Rattle.stored_variants.specs.VersionsKept.{only_secondary}
 use Rattle.column_set.specs.RecordValues.{RecordFields}
 use Rattle.database_state.specs.Conflicts.{yields_key}
 use Rattle.table_trees.specs.StoredTables.{StoredIndex, is_index}
-use Rattle.stored_variants.specs.GoneKeys.{HasKeysOf}
-use Rattle.stored_variants.specs.PutRecords.{record_keys}
+use Rattle.stored_variants.specs.PutRecords.{HasKeysOf, record_keys}
 
 pub found_all : {X : Type 0} (P : X → Type 0) (q : X → Bool) (x : X) (xs : List X) → AllByRecursion P xs → find q xs ≡ Some x → P x
 found_all P q x [] all e = cc

@@ -2,7 +2,5 @@ pub mod RecordRows
 pub mod StoredVersions
 pub mod VersionsView
 pub mod VersionsKept
-pub mod GoneKeys
-pub mod UndoneChanges
 pub mod SchemaSteps
 pub mod PutRecords

@@ -1,5 +1,6 @@
 -- Rows and held changes as the records that they stand for.
-use Rattle.std.specs.Prelude.{◌≡◌, ◌≤◌, ℕ, not, ◌&&◌, List, [], ◌∷◌, length, IsTrue, Option, Some, None, option_and_then, option_map, if◌then◌else◌}
+use Rattle.std.specs.Prelude.{◌≡◌, ◌≤◌, ℕ, Bool, not, ◌&&◌, List, [], ◌∷◌, length, IsTrue, Option, Some, None, option_and_then, option_map, if◌then◌else◌}
+use Rattle.std.specs.List.{list_any}
 use Rattle.page_image.specs.Page.{Node}
 use Rattle.btree_inplace.specs.Order.{get_in}
 use Rattle.column_set.specs.RecordValues.{RecordFields}
@@ -8,7 +9,7 @@ use Rattle.column_set.specs.RowReading.{row_in}
 use Rattle.database_state.specs.State.{is_undone}
 use Rattle.database_state.specs.Table.{Rows}
 use Rattle.version_store.specs.HeldChanges.{HeldChange, cost_of, is_rewrite}
-use Rattle.versioned_tables.specs.HeldRecords.{HeldRecord}
+use Rattle.versioned_tables.specs.HeldRecords.{HeldRecord, is_standing_rewrite}
 
 -- the record that a row stands for
 abbrev pub record_of : List ℕ → RecordFields
@@ -59,3 +60,7 @@ held_record held = record {
   cost = cost_of held;
   status = held.status;
 }
+
+-- whether a put or drop of the record that is not undone has a record before it that passes
+abbrev pub some_before : (Option RecordFields → Bool) → ℕ → List ℕ → List HeldRecord → Bool
+some_before test table bookmark held = list_any (λ change. is_standing_rewrite table bookmark change && test change.before) held

@@ -27,11 +27,10 @@ use Rattle.version_store.specs.HeldChanges.{HeldChange, kind_of, new_change}
 use Rattle.versioned_tables.specs.HeldRecords.{HeldRecord, is_standing_rewrite, new_change as new_record}
 use Rattle.versioned_tables.specs.VersionedTables.{VersionedTables, with_change}
 use Rattle.versioned_tables.specs.Variants.{HoldsVariants}
-use Rattle.stored_variants.specs.RecordRows.{IsRecordRow, held_record, record_of, row_in_node, row_under, rows_of_nodes}
+use Rattle.stored_variants.specs.RecordRows.{IsRecordRow, held_record, record_of, row_in_node, row_under, rows_of_nodes, some_before}
 use Rattle.stored_variants.specs.StoredVersions.{StoredVersions}
 use Rattle.stored_variants.specs.VersionsView.{stored_versions, with_newest}
 use Rattle.stored_variants.specs.VersionsKept.{AreKept, IsKeptChange, IsKeptTable, IsRowOf, IsRowUnder, secondary_rule}
-use Rattle.stored_variants.specs.GoneKeys.{some_before}
 use Rattle.stored_variants.proofs.Dropped.{TreeLaws, emptied, extent_at, has_trees, nodes_are, row_then, same_numbers, there_at, room_in, turned_number, rows_emptied}
 use Rattle.table_versions.proofs.Held.{appended, no_sum}
 use Rattle.versioned_tables.proofs.Lists.{all_append}

@@ -11,7 +11,7 @@ use Rattle.versioned_tables.specs.HeldRecords.{is_open_at as is_open_record}
 use Rattle.versioned_tables.specs.VersionedTables.{with_last_undone}
 use Rattle.stored_variants.specs.RecordRows.{held_record}
 use Rattle.stored_variants.specs.StoredVersions.{StoredVersions}
-use Rattle.stored_variants.specs.UndoneChanges.{IsBack}
+use Rattle.variant_trees.specs.UndoneChanges.{IsBack}
 use Rattle.stored_variants.specs.VersionsView.{stored_versions, with_newest}
 use Rattle.table_versions.proofs.LastUndone.{any_last, last_back, last_changed, none_back, same_level}
 use Rattle.stored_variants.proofs.HeldPlaces.{StandsAt, last_stands, take_all, same_some}

@@ -22,8 +22,9 @@ use Rattle.table_trees.specs.StoredTables.{StoredIndex, StoredTable, index_entri
 use Rattle.version_store.specs.HeldChanges.{HeldChange, is_rewrite}
 use Rattle.versioned_tables.specs.HeldRecords.{HeldRecord, is_change_at, is_standing_rewrite}
 use Rattle.versioned_tables.specs.Variants.{HoldsVariants, is_variant_key}
-use Rattle.stored_variants.specs.GoneKeys.{AreRows, HasKeysOf, held_from, index_numbers}
-use Rattle.stored_variants.specs.PutRecords.{AreKeysOfRecords, CanTake, HasVariantKeys, IsKeyOfRecord}
+use Rattle.stored_variants.specs.PutRecords.{HasKeysOf}
+use Rattle.variant_trees.specs.GoneKeys.{AreRows, held_from, index_numbers}
+use Rattle.variant_trees.specs.PutStages.{AreKeysOfRecords, CanTake, HasVariantKeys, IsKeyOfRecord}
 use Rattle.stored_variants.specs.RecordRows.{IsRecordRow, held_record, record_of, row_under, rows_of_nodes}
 use Rattle.stored_variants.specs.VersionsKept.{AreKept, IsKeptChange, IsKeptTable, IsRowOf, IsRowUnder, IsStoredRule, needed_trees, only_secondary, secondary_rule, secondary_rules, tree_numbers}
 use Rattle.stored_variants.proofs.FoundRules.{list_any_numbers}

@@ -21,8 +21,9 @@ use Rattle.version_store.specs.declared.calls.ChangeKind.{ChangeKind}
 use Rattle.version_store.specs.declared.calls.ChangeKind.TheVariants as kind
 use Rattle.version_store.specs.HeldChanges.{HeldChange, has_room as has_room_for_row, kind_of, new_change}
 use Rattle.versioned_tables.specs.VersionedTables.{VersionedTables, with_change}
-use Rattle.stored_variants.specs.PutRecords.{CanTake, HasVariantKeys, IsPut, IsSame, IsStorable, put_values, record_keys}
-use Rattle.stored_variants.specs.GoneKeys.{AreRows, held_from}
+use Rattle.stored_variants.specs.PutRecords.{IsStorable, put_values, record_keys}
+use Rattle.variant_trees.specs.PutStages.{CanTake, HasVariantKeys, IsPut, IsSame}
+use Rattle.variant_trees.specs.GoneKeys.{AreRows, held_from}
 use Rattle.stored_variants.specs.RecordRows.{IsRecordRow, held_record, record_of, row_under}
 use Rattle.stored_variants.specs.StoredVersions.{StoredVersions, has_room}
 use Rattle.stored_variants.specs.VersionsKept.{AreKept, HoldsNumbers, IsBookmarkOf}

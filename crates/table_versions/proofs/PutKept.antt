@@ -30,9 +30,10 @@ use Rattle.versioned_tables.specs.HeldRecords.{HeldRecord, is_standing_rewrite, 
 use Rattle.versioned_tables.specs.Holding.{RowsRise}
 use Rattle.versioned_tables.specs.VersionedTables.{with_change}
 use Rattle.versioned_tables.specs.Variants.{HoldsVariants, has_variant, is_variant_key}
-use Rattle.stored_variants.specs.GoneKeys.{HasKeysOf, index_numbers, some_before, table_numbers}
-use Rattle.stored_variants.specs.PutRecords.{AreWidened, IsPut, IsSame, IsWidened, is_place, record_keys}
-use Rattle.stored_variants.specs.RecordRows.{IsRecordRow, held_record, record_of, row_in_node, row_under, rows_of_nodes}
+use Rattle.stored_variants.specs.PutRecords.{HasKeysOf, record_keys}
+use Rattle.stored_variants.specs.RecordRows.{some_before, IsRecordRow, held_record, record_of, row_in_node, row_under, rows_of_nodes}
+use Rattle.variant_trees.specs.GoneKeys.{index_numbers, table_numbers}
+use Rattle.variant_trees.specs.PutStages.{AreWidened, IsPut, IsSame, IsWidened, is_place}
 use Rattle.stored_variants.specs.VersionsKept.{AreKept, IsKeptChange, IsKeptTable, IsRowOf, IsRowUnder, needed_trees, only_secondary, secondary_rule, tree_numbers}
 use Rattle.stored_variants.specs.VersionsView.{with_newest}
 use Rattle.stored_variants.proofs.Dropped.{room_in, turned_number}

@@ -6,7 +6,7 @@ use Rattle.cursor_nav.specs.Places.{Pair}
 use Rattle.derived_index.specs.KeptEntries.{has_entry, without_entry}
 use Rattle.record_changes.proofs.Tests.{and_left, and_right, impossible, same_bytes, same_number, self_equal}
 use Rattle.table_trees.specs.StoredTables.{StoredIndex, StoredTable, changed_where, has_index, has_table, index_entries, is_index, is_table, part_of, put_entries, put_indexes, table_indexes, table_nodes, with_entries, with_indexes}
-use Rattle.stored_variants.specs.GoneKeys.{ChangesEntries, index_numbers, table_numbers}
+use Rattle.variant_trees.specs.GoneKeys.{ChangesEntries, index_numbers, table_numbers}
 
 -- laws of tables and indexes
 pub record IndexLaws : Type 0 where

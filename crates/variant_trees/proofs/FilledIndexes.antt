@@ -17,7 +17,7 @@ use Rattle.record_changes.proofs.Tests.{and_right, impossible, same_bytes}
 use Rattle.table_trees.specs.StoredNodes.{bookmark_entries, node_after}
 use Rattle.table_trees.specs.StoredTables.{StoredTable, index_entries, table_nodes}
 use Rattle.variant_trees.specs.NewEntries.{IsAmong, IsTakenRow, OnlyEntries, is_key_in_node, is_newest_key}
-use Rattle.stored_variants.specs.PutRecords.{IsKeyOfRecord}
+use Rattle.variant_trees.specs.PutStages.{IsKeyOfRecord}
 use Rattle.stored_variants.specs.RecordRows.{record_of, row_in_node, row_under}
 use Rattle.variant_trees.proofs.KeysPut.{AreApartKeys, keys_apart}
 use Rattle.versioned_tables.proofs.Neighbours.{found_in}

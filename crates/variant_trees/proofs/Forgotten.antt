@@ -22,9 +22,10 @@ use Rattle.table_trees.specs.StoredTables.{StoredTable, index_entries, table_nod
 use Rattle.version_store.specs.HeldChanges.{HeldChange, is_rewrite}
 use Rattle.versioned_tables.specs.HeldRecords.{HeldRecord, is_standing_rewrite}
 use Rattle.versioned_tables.specs.Variants.{HoldsVariants, has_variant, is_variant_key}
-use Rattle.stored_variants.specs.GoneKeys.{AreRows, HasKeysOf, is_gone_key, some_before}
+use Rattle.stored_variants.specs.PutRecords.{HasKeysOf}
+use Rattle.stored_variants.specs.RecordRows.{some_before, IsRecordRow, held_record, record_of, rows_of_nodes}
+use Rattle.variant_trees.specs.GoneKeys.{AreRows, is_gone_key}
 use Rattle.variant_trees.specs.LeftVariants.{AreLeft, CanForget, DistinctIds, IsLeft, first_table, is_this}
-use Rattle.stored_variants.specs.RecordRows.{IsRecordRow, held_record, record_of, rows_of_nodes}
 use Rattle.stored_variants.specs.VersionsKept.{AreKept, IsBookmarkOf, IsKeptChange, IsKeptTable, IsRowOf, IsRowUnder, IsStoredRule, secondary_rule}
 use Rattle.stored_variants.proofs.ChangesKept.{SameVariants, changes_kept}
 use Rattle.versioned_tables.proofs.Lists.{all_append, all_filter}

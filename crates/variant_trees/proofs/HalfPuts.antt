@@ -16,8 +16,9 @@ use Rattle.table_trees.specs.StoredNodes.{put_data}
 use Rattle.table_trees.specs.StoredTables.{StoredIndex, StoredTable, has_table, index_entries, is_index, part_of, table_nodes, with_nodes}
 use Rattle.versioned_tables.specs.HeldRecords.{HeldRecord}
 use Rattle.versioned_tables.specs.Variants.{is_variant_key}
-use Rattle.stored_variants.specs.GoneKeys.{ChangesEntries, HasKeysOf, LosesRecord, table_numbers}
-use Rattle.stored_variants.specs.PutRecords.{HasKeys, HasRoom, HasVariantKeys, IsHalfPut, IsPut, IsSame, IsWidened, Keys, MayHaveKeys, is_place, node_at_least, record_keys}
+use Rattle.stored_variants.specs.PutRecords.{HasKeysOf, Keys, record_keys}
+use Rattle.variant_trees.specs.GoneKeys.{ChangesEntries, LosesRecord, table_numbers}
+use Rattle.variant_trees.specs.PutStages.{HasKeys, HasRoom, HasVariantKeys, IsHalfPut, IsPut, IsSame, IsWidened, MayHaveKeys, is_place, node_at_least}
 use Rattle.stored_variants.specs.RecordRows.{row_in_node, row_under}
 use Rattle.stored_variants.specs.VersionsKept.{only_secondary}
 use Rattle.variant_trees.proofs.KeysPut.{may_have}

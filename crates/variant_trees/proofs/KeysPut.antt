@@ -15,8 +15,9 @@ use Rattle.index_derive.specs.Entries.{entries, entry_le, insert_entry, is_legal
 use Rattle.index_tree.specs.Entries.{IsApart, IsApartFromAll}
 use Rattle.record_changes.proofs.Tests.{and_left, and_right, equal_bytes, impossible, same_bytes, same_number, self_equal}
 use Rattle.table_trees.specs.StoredTables.{StoredTable, has_index, index_entries, table_indexes, with_entries}
-use Rattle.stored_variants.specs.GoneKeys.{HasKeysOf, index_numbers}
-use Rattle.stored_variants.specs.PutRecords.{AreKeysOfRecords, CanTake, HasKeys, IsKeyOfRecord, Keys, MayHaveKeys, one_key, record_keys, rule_keys, some_keys}
+use Rattle.stored_variants.specs.PutRecords.{HasKeysOf, Keys, record_keys, rule_keys}
+use Rattle.variant_trees.specs.GoneKeys.{index_numbers}
+use Rattle.variant_trees.specs.PutStages.{AreKeysOfRecords, CanTake, HasKeys, IsKeyOfRecord, MayHaveKeys, one_key, some_keys}
 use Rattle.variant_trees.proofs.EntryTrees.{EntryLaws, IndexLaws, entries_changed, entries_stay, entries_then}
 use Rattle.stored_variants.proofs.NodeRecords.{turned}
 use Rattle.stored_variants.proofs.FoundRules.{list_any_numbers}

@@ -15,9 +15,9 @@ use Rattle.table_trees.specs.StoredTables.{StoredIndex, StoredTable, has_table, 
 use Rattle.version_store.specs.HeldChanges.{HeldChange, is_rewrite}
 use Rattle.versioned_tables.specs.HeldRecords.{HeldRecord, is_standing_rewrite}
 use Rattle.versioned_tables.specs.Variants.{HoldsVariants, has_variant, is_variant_key}
-use Rattle.stored_variants.specs.GoneKeys.{ChangesEntries, LosesRecord, index_numbers, is_gone_key, some_before, table_numbers}
+use Rattle.stored_variants.specs.RecordRows.{some_before, held_record, record_of, row_in_node, row_under, rows_of_nodes}
+use Rattle.variant_trees.specs.GoneKeys.{ChangesEntries, LosesRecord, index_numbers, is_gone_key, table_numbers}
 use Rattle.variant_trees.specs.LeftVariants.{AreLeft, DistinctIds, IsLeft, LosesNode, is_this}
-use Rattle.stored_variants.specs.RecordRows.{held_record, record_of, row_in_node, row_under, rows_of_nodes}
 use Rattle.stored_variants.specs.VersionsView.{with_newest}
 use Rattle.stored_variants.specs.VersionsKept.{AreKept, IsKeptChange, IsKeptTable, IsRowUnder, needed_trees, only_secondary, secondary_rule, tree_numbers}
 use Rattle.variant_trees.proofs.EntryTrees.{no_part, other_number}

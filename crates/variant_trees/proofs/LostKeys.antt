@@ -13,7 +13,8 @@ use Rattle.index_derive.specs.Derived.{next_in}
 use Rattle.record_changes.proofs.Tests.{impossible, same_number}
 use Rattle.table_trees.specs.StoredTables.{StoredTable, index_entries}
 use Rattle.versioned_tables.specs.HeldRecords.{HeldRecord}
-use Rattle.stored_variants.specs.GoneKeys.{ChangesEntries, HasKeysOf, LosesKey, LosesKeys, LosesRecord, OthersKeep, is_gone_key}
+use Rattle.stored_variants.specs.PutRecords.{HasKeysOf}
+use Rattle.variant_trees.specs.GoneKeys.{ChangesEntries, LosesKey, LosesKeys, LosesRecord, OthersKeep, is_gone_key}
 use Rattle.stored_variants.specs.VersionsKept.{only_secondary}
 use Rattle.variant_trees.proofs.EntryTrees.{entries_stay, entries_then, other_number}
 use Rattle.variant_trees.proofs.RisingKeys.{Rise, all_keys, keys_after, keys_from}

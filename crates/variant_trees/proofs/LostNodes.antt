@@ -11,9 +11,8 @@ use Rattle.table_trees.specs.StoredNodes.{bookmark_entries}
 use Rattle.table_trees.specs.StoredTables.{StoredTable, has_table, table_nodes, with_nodes, is_table}
 use Rattle.versioned_tables.specs.HeldRecords.{HeldRecord}
 use Rattle.versioned_tables.specs.Variants.{has_variant}
-use Rattle.stored_variants.specs.GoneKeys.{some_before}
+use Rattle.stored_variants.specs.RecordRows.{some_before, record_of, row_in_node, row_under, rows_of_nodes, with_record}
 use Rattle.variant_trees.specs.LeftVariants.{LosesNode, is_empty_node, is_this}
-use Rattle.stored_variants.specs.RecordRows.{record_of, row_in_node, row_under, rows_of_nodes, with_record}
 use Rattle.stored_variants.proofs.Dropped.{TreeLaws, same_numbers}
 use Rattle.variant_trees.proofs.EntryTrees.{no_part, other_number, there_or}
 use Rattle.stored_variants.proofs.NodeRecords.{key_is, none_behind}

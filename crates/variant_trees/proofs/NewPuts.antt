@@ -8,7 +8,8 @@ use Rattle.page_image.specs.Page.{Node}
 use Rattle.record_changes.proofs.Tests.{equal_bytes, impossible, same_bytes, same_number, self_equal}
 use Rattle.table_trees.specs.StoredNodes.{put_data}
 use Rattle.table_trees.specs.StoredTables.{StoredIndex, StoredTable, has_table, index_entries, is_index, part_of, table_nodes, with_nodes}
-use Rattle.stored_variants.specs.PutRecords.{HasKeys, HasNewRow, IsHalfPut, IsNewPut, IsPut, IsWidened, Keys, MayHaveKeys, is_place, node_at_least}
+use Rattle.stored_variants.specs.PutRecords.{Keys}
+use Rattle.variant_trees.specs.PutStages.{HasKeys, HasNewRow, IsHalfPut, IsNewPut, IsPut, IsWidened, MayHaveKeys, is_place, node_at_least}
 use Rattle.variant_trees.proofs.KeysPut.{may_have}
 use Rattle.variant_trees.proofs.RoomMade.{NodeLaws, data_of, extent_of, found_then, no_less, same_table_numbers}
 

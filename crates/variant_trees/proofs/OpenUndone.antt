@@ -13,9 +13,10 @@ use Rattle.version_store.specs.declared.calls.ChangeKind.{ChangeKind}
 use Rattle.version_store.specs.declared.calls.ChangeKind.TheVariants as kind
 use Rattle.version_store.specs.HeldChanges.{HeldChange, is_rewrite, undone_at, with_status}
 use Rattle.versioned_tables.specs.HeldRecords.{inverse, is_change_at, is_standing_rewrite}
-use Rattle.stored_variants.specs.GoneKeys.{AreRows, HasKeysOf, some_before}
-use Rattle.stored_variants.specs.RecordRows.{IsRecordRow, held_record, record_of, row_under}
-use Rattle.stored_variants.specs.UndoneChanges.{CanPutBack, IsBack, IsUndone, WasOpen}
+use Rattle.stored_variants.specs.PutRecords.{HasKeysOf}
+use Rattle.stored_variants.specs.RecordRows.{some_before, IsRecordRow, held_record, record_of, row_under}
+use Rattle.variant_trees.specs.GoneKeys.{AreRows}
+use Rattle.variant_trees.specs.UndoneChanges.{CanPutBack, IsBack, IsUndone, WasOpen}
 use Rattle.stored_variants.specs.VersionsKept.{AreKept, IsKeptChange, IsKeptTable, IsRowUnder}
 use Rattle.stored_variants.specs.VersionsView.{with_newest}
 use Rattle.stored_variants.proofs.ChangesKept.{SameVariants, changes_kept}

@@ -21,10 +21,9 @@ use Rattle.versioned_tables.specs.HeldRecords.{HeldRecord, inverse}
 use Rattle.versioned_tables.specs.Holding.{RowsRise}
 use Rattle.versioned_tables.specs.VersionedTables.{rows_with}
 use Rattle.versioned_tables.specs.Variants.{HoldsVariants, has_variant, is_variant_key}
-use Rattle.stored_variants.specs.GoneKeys.{some_before}
+use Rattle.stored_variants.specs.RecordRows.{some_before, held_record, record_of, row_in_node, rows_of_nodes}
 use Rattle.variant_trees.specs.LeftVariants.{is_this}
-use Rattle.stored_variants.specs.RecordRows.{held_record, record_of, row_in_node, rows_of_nodes}
-use Rattle.stored_variants.specs.UndoneChanges.{tables_put_back}
+use Rattle.variant_trees.specs.UndoneChanges.{tables_put_back}
 use Rattle.stored_variants.specs.VersionsView.{with_newest}
 use Rattle.stored_variants.specs.VersionsKept.{AreKept, IsKeptChange, IsKeptTable, secondary_rule}
 use Rattle.stored_variants.proofs.Dropped.{TreeLaws, same_numbers, rows_emptied, turned_number}

@@ -11,10 +11,10 @@ use Rattle.record_changes.proofs.Tests.{equal_bytes, impossible, self_equal}
 use Rattle.table_trees.specs.StoredNodes.{bookmark_entries}
 use Rattle.table_trees.specs.StoredTables.{StoredTable, table_nodes}
 use Rattle.version_store.specs.HeldChanges.{HeldChange, undone_at, with_status}
-use Rattle.stored_variants.specs.GoneKeys.{HasKeysOf}
+use Rattle.stored_variants.specs.PutRecords.{HasKeysOf}
 use Rattle.variant_trees.specs.LeftVariants.{AreLeft}
 use Rattle.stored_variants.specs.RecordRows.{IsRecordRow, record_of, row_in_node, row_under, rows_of_nodes}
-use Rattle.stored_variants.specs.UndoneChanges.{CanPutBack, IsUndone, tables_put_back}
+use Rattle.variant_trees.specs.UndoneChanges.{CanPutBack, IsUndone, tables_put_back}
 use Rattle.stored_variants.specs.VersionsView.{with_newest}
 use Rattle.stored_variants.specs.VersionsKept.{AreKept, IsKeptChange}
 use Rattle.stored_variants.proofs.Dropped.{TreeLaws}

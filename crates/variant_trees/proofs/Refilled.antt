@@ -18,9 +18,9 @@ use Rattle.table_trees.specs.StoredTables.{StoredIndex, StoredTable, has_table, 
 use Rattle.version_store.specs.HeldChanges.{HeldChange, is_rewrite, undone_at, with_status}
 use Rattle.versioned_tables.specs.HeldRecords.{HeldRecord, is_standing_rewrite}
 use Rattle.versioned_tables.specs.Variants.{HoldsVariants, has_variant, is_variant_key}
-use Rattle.stored_variants.specs.GoneKeys.{is_gone_key, some_before}
+use Rattle.stored_variants.specs.RecordRows.{some_before, held_record, record_of, row_in_node, row_under, rows_of_nodes}
+use Rattle.variant_trees.specs.GoneKeys.{is_gone_key}
 use Rattle.variant_trees.specs.LeftVariants.{AreLeft, IsLeft, is_this}
-use Rattle.stored_variants.specs.RecordRows.{held_record, record_of, row_in_node, row_under, rows_of_nodes}
 use Rattle.stored_variants.specs.VersionsKept.{AreKept, IsKeptChange, IsKeptTable, IsRowUnder, secondary_rule}
 use Rattle.stored_variants.proofs.Dropped.{TreeLaws, same_numbers}
 use Rattle.variant_trees.proofs.EntryTrees.{other_number}

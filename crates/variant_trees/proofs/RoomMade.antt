@@ -8,8 +8,8 @@ use Rattle.page_image.specs.Page.{Node}
 use Rattle.record_changes.proofs.Tests.{equal_bytes, impossible, same_bytes, same_number, self_equal}
 use Rattle.table_trees.specs.StoredNodes.{IsShortNode, put_data, put_extent}
 use Rattle.table_trees.specs.StoredTables.{StoredTable, has_table, is_table, put_nodes, table_indexes, table_nodes, with_nodes}
-use Rattle.stored_variants.specs.GoneKeys.{table_numbers}
-use Rattle.stored_variants.specs.PutRecords.{HasRoom, IsWidened, is_place, node_at_least}
+use Rattle.variant_trees.specs.GoneKeys.{table_numbers}
+use Rattle.variant_trees.specs.PutStages.{HasRoom, IsWidened, is_place, node_at_least}
 
 -- laws of nodes
 pub record NodeLaws : Type 0 where

@@ -6,8 +6,8 @@ use Rattle.column_set.specs.RecordValues.{RecordFields}
 use Rattle.database_state.specs.State.{is_undone}
 use Rattle.record_changes.proofs.Tests.{and_both, and_left, and_right, same_bytes, same_number}
 use Rattle.version_store.specs.HeldChanges.{HeldChange, is_record, is_rewrite, is_standing_rewrite, last_place, later_place}
-use Rattle.stored_variants.specs.GoneKeys.{AreRows, held_from, some_before}
-use Rattle.stored_variants.specs.RecordRows.{IsRecordRow, held_record, record_of}
+use Rattle.stored_variants.specs.RecordRows.{some_before, IsRecordRow, held_record, record_of}
+use Rattle.variant_trees.specs.GoneKeys.{AreRows, held_from}
 use Rattle.stored_variants.proofs.HeldPlaces.{take_all, StandsAt, last_stands}
 
 -- ---- of any test

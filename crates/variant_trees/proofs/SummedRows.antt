@@ -37,9 +37,8 @@ use Rattle.version_sums.proofs.VeryRecords.{one_value, sum_holds, sum_is_number}
 use Rattle.versioned_tables.specs.HeldRecords.{HeldRecord}
 use Rattle.versioned_tables.specs.Variants.{HoldsVariants}
 use Rattle.versioned_tables.specs.VersionedTables.{rows_with}
-use Rattle.stored_variants.specs.GoneKeys.{some_before}
+use Rattle.stored_variants.specs.RecordRows.{some_before, IsRecordRow, held_record, record_of, row_in_node, row_under, rows_of_nodes}
 use Rattle.variant_trees.specs.LeftVariants.{is_this}
-use Rattle.stored_variants.specs.RecordRows.{IsRecordRow, held_record, record_of, row_in_node, row_under, rows_of_nodes}
 use Rattle.stored_variants.specs.VersionsKept.{AreKept, IsBookmarkOf, IsKeptChange, IsKeptTable, IsRowUnder, IsStoredRule, only_secondary}
 use Rattle.stored_variants.specs.VersionsView.{with_newest}
 use Rattle.variant_trees.proofs.ChangedColumns.{SameFields, indexable_then, own_then}

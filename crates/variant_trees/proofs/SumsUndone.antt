@@ -15,7 +15,7 @@ use Rattle.version_store.specs.declared.calls.ChangeKind.TheVariants as kind
 use Rattle.version_store.specs.HeldChanges.{HeldChange}
 use Rattle.versioned_tables.specs.HeldRecords.{inverse}
 use Rattle.stored_variants.specs.RecordRows.{IsRecordRow, held_record, row_under}
-use Rattle.stored_variants.specs.UndoneChanges.{IsBack, WasOpen}
+use Rattle.variant_trees.specs.UndoneChanges.{IsBack, WasOpen}
 use Rattle.stored_variants.specs.VersionsKept.{AddsToEscrow, AreKept, IsKeptChange}
 use Rattle.stored_variants.specs.VersionsView.{with_newest}
 use Rattle.variant_trees.proofs.OpenUndone.{all_place}

@@ -12,7 +12,8 @@ use Rattle.table_trees.specs.StoredTables.{StoredTable, index_entries, table_ind
 use Rattle.version_store.specs.HeldChanges.{HeldChange}
 use Rattle.versioned_tables.specs.HeldRecords.{HeldRecord}
 use Rattle.versioned_tables.specs.Variants.{has_variant, is_variant_key}
-use Rattle.stored_variants.specs.GoneKeys.{HasKeysOf, is_gone_key}
+use Rattle.stored_variants.specs.PutRecords.{HasKeysOf}
+use Rattle.variant_trees.specs.GoneKeys.{is_gone_key}
 use Rattle.stored_variants.specs.RecordRows.{held_record, record_of, row_under, rows_of_nodes}
 use Rattle.stored_variants.specs.VersionsKept.{IsKeptChange, IsRowUnder, IsStoredRule, needed_trees, secondary_rule, tree_numbers}
 

@@ -3,7 +3,7 @@
 ghost use Rattle.std.specs.Prelude.{◌≡◌, ◌<◌, ℕ, List, Some, drop, length, map, IfSome};
 ghost use Rattle.database_state.specs.Table.{Table, schema_of, table_with_id};
 ghost use Rattle.table_trees.specs.StoredTables.{table_nodes};
-ghost use Rattle.stored_variants.specs.GoneKeys.{AreRows};
+ghost use Rattle.variant_trees.specs.GoneKeys.{AreRows};
 ghost use Rattle.variant_trees.specs.LeftVariants.{CanForget, DistinctIds, first_table};
 ghost use Rattle.stored_variants.specs.RecordRows.{IsRecordRow, row_under};
 ghost use Rattle.stored_variants.specs.VersionsKept.{AreKept};

@@ -7,8 +7,9 @@ ghost use Rattle.derived_index.specs.KeptEntries.{has_entry};
 ghost use Rattle.index_derive.specs.Entries.{is_legal};
 ghost use Rattle.table_trees.specs.StoredTables.{index_entries, table_nodes};
 ghost use Rattle.versioned_tables.specs.Variants.{is_variant_key};
-ghost use Rattle.stored_variants.specs.GoneKeys.{AreRows, ChangesEntries, HasKeysOf, LosesKey, LosesKeys, LosesRecord, OthersKeep, held_from, some_before};
-ghost use Rattle.stored_variants.specs.RecordRows.{IsRecordRow, record_of, row_under};
+ghost use Rattle.stored_variants.specs.PutRecords.{HasKeysOf};
+ghost use Rattle.stored_variants.specs.RecordRows.{some_before, IsRecordRow, record_of, row_under};
+ghost use Rattle.variant_trees.specs.GoneKeys.{AreRows, ChangesEntries, LosesKey, LosesKeys, LosesRecord, OthersKeep, held_from};
 
 use crate::nodes::{in_place, row_in_node};
 use column_set::Values;

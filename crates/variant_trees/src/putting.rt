@@ -9,8 +9,9 @@ ghost use Rattle.index_tree.specs.Entries.{IsApartFromAll};
 ghost use Rattle.table_trees.specs.StoredTables.{StoredTable, has_index, has_table, index_entries, table_nodes};
 ghost use Rattle.version_store.specs.HeldChanges.{has_room, new_change};
 ghost use Rattle.version_store.specs.declared.fault.VersionFault.TheVariants as fault;
-ghost use Rattle.stored_variants.specs.GoneKeys.{AreRows, HasKeysOf, held_from};
-ghost use Rattle.stored_variants.specs.PutRecords.{AreKeysOfRecords, CanTake, HasKeys, HasNewRow, HasRoom, HasVariantKeys, IsHalfPut, IsNewPut, IsPut, IsSame, MayHaveKeys, one_key, record_keys, rule_keys};
+ghost use Rattle.stored_variants.specs.PutRecords.{HasKeysOf, record_keys, rule_keys};
+ghost use Rattle.variant_trees.specs.GoneKeys.{AreRows, held_from};
+ghost use Rattle.variant_trees.specs.PutStages.{AreKeysOfRecords, CanTake, HasKeys, HasNewRow, HasRoom, HasVariantKeys, IsHalfPut, IsNewPut, IsPut, IsSame, MayHaveKeys, one_key};
 ghost use Rattle.stored_variants.specs.RecordRows.{IsRecordRow, record_of, row_under};
 
 use crate::keys::take_keys;

@@ -4,10 +4,10 @@ ghost use Rattle.std.specs.Prelude.{◌≡◌, ◌<◌, ℕ, true, false, List, 
 ghost use Rattle.database_state.specs.Table.{Table, schema_of, table_with_id};
 ghost use Rattle.table_trees.specs.StoredTables.{table_nodes};
 ghost use Rattle.version_store.specs.HeldChanges.{HeldChange, is_rewrite};
-ghost use Rattle.stored_variants.specs.GoneKeys.{AreRows};
+ghost use Rattle.variant_trees.specs.GoneKeys.{AreRows};
 ghost use Rattle.variant_trees.specs.LeftVariants.{DistinctIds};
 ghost use Rattle.stored_variants.specs.RecordRows.{IsRecordRow, row_under};
-ghost use Rattle.stored_variants.specs.UndoneChanges.{CanPutBack, IsBack, IsUndone, WasOpen, tables_put_back};
+ghost use Rattle.variant_trees.specs.UndoneChanges.{CanPutBack, IsBack, IsUndone, WasOpen, tables_put_back};
 ghost use Rattle.stored_variants.specs.VersionsKept.{AreKept};
 ghost use Rattle.stored_variants.specs.VersionsView.{with_newest};
 

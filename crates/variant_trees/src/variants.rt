@@ -6,9 +6,10 @@ ghost use Rattle.btree_inplace.specs.Order.{get_in};
 ghost use Rattle.database_state.specs.Table.{Table, schema_of, table_with_id};
 ghost use Rattle.table_trees.specs.StoredTables.{table_nodes};
 ghost use Rattle.versioned_tables.specs.Variants.{has_variant};
-ghost use Rattle.stored_variants.specs.GoneKeys.{AreRows, HasKeysOf, held_from, some_before};
+ghost use Rattle.stored_variants.specs.PutRecords.{HasKeysOf};
+ghost use Rattle.stored_variants.specs.RecordRows.{some_before, IsRecordRow, record_of, row_under};
+ghost use Rattle.variant_trees.specs.GoneKeys.{AreRows, held_from};
 ghost use Rattle.variant_trees.specs.LeftVariants.{AreLeft, DistinctIds, LosesNode, is_empty_node};
-ghost use Rattle.stored_variants.specs.RecordRows.{IsRecordRow, record_of, row_under};
 ghost use Rattle.stored_variants.specs.VersionsKept.{AreKept};
 ghost use Rattle.stored_variants.specs.VersionsView.{with_newest};
 

@@ -3,7 +3,8 @@ use Rattle.std.specs.Prelude.{IfSome}
 use Rattle.index_derive.specs.declared.rules.IndexRule.{IndexRule}
 use Rattle.page_image.specs.Page.{Node}
 use Rattle.table_trees.specs.StoredTables.{StoredTable, index_entries, table_nodes}
-use Rattle.stored_variants.specs.GoneKeys.{HasKeysOf, LosesKeys, held_from}
+use Rattle.stored_variants.specs.PutRecords.{HasKeysOf}
+use Rattle.variant_trees.specs.GoneKeys.{LosesKeys, held_from}
 use Rattle.stored_variants.specs.RecordRows.{IsRecordRow, record_of, row_under}
 use Rattle.variant_trees.proofs.LostKeys.{LosesUpTo, all_at, indexes_begin, indexes_end, indexes_lose, indexes_pass}
 use Rattle.variant_trees.proofs.keys.take_keys.Goals as goal

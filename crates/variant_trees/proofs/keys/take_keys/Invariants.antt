@@ -1,6 +1,6 @@
 use Rattle.std.proofs.Common.{option_map}
 use Rattle.table_trees.specs.StoredTables.{table_nodes}
-use Rattle.stored_variants.specs.GoneKeys.{held_from}
+use Rattle.variant_trees.specs.GoneKeys.{held_from}
 use Rattle.stored_variants.specs.RecordRows.{record_of, row_under}
 use Rattle.variant_trees.proofs.LostKeys.{LosesUpTo}
 use Rattle.variant_trees.proofs.keys.take_keys.Given as goal

@@ -4,7 +4,7 @@ use Rattle.index_derive.specs.Entries.{key_list}
 use Rattle.page_image.specs.Page.{Node}
 use Rattle.table_trees.specs.StoredTables.{index_entries, table_nodes}
 use Rattle.versioned_tables.specs.Variants.{is_variant_key}
-use Rattle.stored_variants.specs.GoneKeys.{LosesKey, held_from}
+use Rattle.variant_trees.specs.GoneKeys.{LosesKey, held_from}
 use Rattle.stored_variants.specs.RecordRows.{IsRecordRow, record_of, row_under}
 use Rattle.variant_trees.proofs.EntryTrees.{entries_stay, entries_then}
 use Rattle.variant_trees.proofs.LostKeys.{LosesSoFar, keys_begin, keys_end, keys_go_on}

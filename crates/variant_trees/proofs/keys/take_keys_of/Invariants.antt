@@ -2,7 +2,7 @@ use Rattle.std.proofs.Common.{List, ℕ, length, option_map}
 use Rattle.index_derive.specs.Entries.{key_list}
 use Rattle.table_trees.specs.StoredTables.{index_entries, table_nodes}
 use Rattle.versioned_tables.specs.Variants.{is_variant_key}
-use Rattle.stored_variants.specs.GoneKeys.{ChangesEntries, OthersKeep, held_from}
+use Rattle.variant_trees.specs.GoneKeys.{ChangesEntries, OthersKeep, held_from}
 use Rattle.stored_variants.specs.RecordRows.{record_of, row_under}
 use Rattle.variant_trees.proofs.LostKeys.{LosesSoFar}
 use Rattle.variant_trees.proofs.RisingKeys.{keys_from}

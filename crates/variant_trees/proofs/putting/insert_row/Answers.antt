@@ -1,6 +1,6 @@
 use Rattle.std.proofs.Common.{List, sym, subst}
 use Rattle.table_trees.specs.StoredTables.{StoredTable}
-use Rattle.stored_variants.specs.PutRecords.{HasNewRow}
+use Rattle.variant_trees.specs.PutStages.{HasNewRow}
 use Rattle.variant_trees.proofs.NewPuts.{row_in_new}
 use Rattle.variant_trees.proofs.putting.insert_row.Goals as goal
 

@@ -1,6 +1,6 @@
 use Rattle.std.proofs.Common.{List, sym, subst, arith}
 use Rattle.table_trees.specs.StoredTables.{StoredTable, table_nodes}
-use Rattle.stored_variants.specs.PutRecords.{HasRoom}
+use Rattle.variant_trees.specs.PutStages.{HasRoom}
 use Rattle.variant_trees.proofs.RoomMade.{room_in_wider, room_there, row_fits}
 use Rattle.variant_trees.proofs.putting.make_room.Goals as goal
 

@@ -1,6 +1,6 @@
 use Rattle.std.proofs.Common.{List, sym, subst, ◌∙◌}
 use Rattle.table_trees.specs.StoredTables.{StoredTable, index_entries, with_entries}
-use Rattle.stored_variants.specs.PutRecords.{HasKeys, one_key}
+use Rattle.variant_trees.specs.PutStages.{HasKeys, one_key}
 use Rattle.stored_variants.proofs.Outcomes.{on_ok}
 use Rattle.variant_trees.proofs.KeysPut.{has_put}
 use Rattle.index_derive.specs.Entries.{insert_entry}

@@ -1,8 +1,8 @@
 use Rattle.std.proofs.Common.{List, ◌+◌, sym, subst, take, ◌∙◌, arith}
 use Rattle.std.specs.List.{AllByRecursion}
 use Rattle.table_trees.specs.StoredTables.{StoredTable}
-use Rattle.stored_variants.specs.GoneKeys.{HasKeysOf}
-use Rattle.stored_variants.specs.PutRecords.{CanTake, HasKeys, MayHaveKeys, record_keys, rule_keys}
+use Rattle.stored_variants.specs.PutRecords.{HasKeysOf, record_keys, rule_keys}
+use Rattle.variant_trees.specs.PutStages.{CanTake, HasKeys, MayHaveKeys}
 use Rattle.variant_trees.proofs.KeysPut.{front_keys, front_rules, with_rule, without_rule, index_stays, keys_of_records, may_then, more_rules, no_keys, none_yet, rule_at, rule_keys_within, taken_rules, whole}
 use Rattle.stored_variants.proofs.FoundRules.{record_yields}
 use Rattle.index_derive.specs.declared.rules.IndexRule.{IndexRule}

@@ -1,4 +1,5 @@
-use Rattle.stored_variants.specs.PutRecords.{HasKeys, record_keys}
+use Rattle.stored_variants.specs.PutRecords.{record_keys}
+use Rattle.variant_trees.specs.PutStages.{HasKeys}
 use Rattle.std.proofs.Common.{take}
 use Rattle.variant_trees.proofs.putting.put_keys.Given as goal
 

@@ -1,6 +1,7 @@
 use Rattle.std.proofs.Common.{◌≡◌, ℕ, List, ◌+◌, sym, ap, subst, take, Ok, arith, ◌∙◌}
 use Rattle.table_trees.specs.StoredTables.{StoredTable, index_entries}
-use Rattle.stored_variants.specs.PutRecords.{MayHaveKeys, one_key, rule_keys, some_keys}
+use Rattle.stored_variants.specs.PutRecords.{rule_keys}
+use Rattle.variant_trees.specs.PutStages.{MayHaveKeys, one_key, some_keys}
 use Rattle.index_derive.specs.Entries.{entries}
 use Rattle.variant_trees.proofs.KeysPut.{apart_from_all, derived_keys, derived_within, front_key, own_key, whole, index_stays, key_at, keys_of_records, keys_then, may_have, more_keys, no_key_yet, no_keys, same_keys}
 use Rattle.variant_trees.proofs.putting.put_keys_of.Goals as goal

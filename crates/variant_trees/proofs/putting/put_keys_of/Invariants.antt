@@ -1,4 +1,4 @@
-use Rattle.stored_variants.specs.PutRecords.{HasKeys, some_keys}
+use Rattle.variant_trees.specs.PutStages.{HasKeys, some_keys}
 use Rattle.std.proofs.Common.{take}
 use Rattle.variant_trees.proofs.putting.put_keys_of.Given as goal
 

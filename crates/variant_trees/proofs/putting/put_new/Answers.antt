@@ -1,7 +1,8 @@
 use Rattle.std.proofs.Common.{List, None, sym, subst, ◌∙◌}
 use Rattle.version_store.specs.HeldChanges.{HeldChange}
-use Rattle.stored_variants.specs.GoneKeys.{held_from}
-use Rattle.stored_variants.specs.PutRecords.{HasVariantKeys, record_keys}
+use Rattle.variant_trees.specs.GoneKeys.{held_from}
+use Rattle.stored_variants.specs.PutRecords.{record_keys}
+use Rattle.variant_trees.specs.PutStages.{HasVariantKeys}
 use Rattle.variant_trees.proofs.KeysPut.{taken_rules}
 use Rattle.variant_trees.proofs.HalfPuts.{table_stays}
 use Rattle.variant_trees.proofs.NewPuts.{new_node_is_there, new_put, new_put_done, new_put_with_keys}

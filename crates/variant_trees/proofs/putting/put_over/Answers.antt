@@ -1,7 +1,8 @@
 use Rattle.std.proofs.Common.{List, find, length, option_map, sym, subst, ◌∙◌}
 use Rattle.table_trees.specs.StoredTables.{StoredTable, table_nodes}
-use Rattle.stored_variants.specs.GoneKeys.{held_from}
-use Rattle.stored_variants.specs.PutRecords.{HasVariantKeys, IsPut, record_keys}
+use Rattle.variant_trees.specs.GoneKeys.{held_from}
+use Rattle.stored_variants.specs.PutRecords.{record_keys}
+use Rattle.variant_trees.specs.PutStages.{HasVariantKeys, IsPut}
 use Rattle.stored_variants.specs.RecordRows.{record_of, row_under}
 use Rattle.version_store.specs.HeldChanges.{HeldChange}
 use Rattle.variant_trees.proofs.KeysPut.{taken_rules}

@@ -1,7 +1,8 @@
 use Rattle.std.proofs.Common.{List, Option, option_map, sym, ap, subst, ◌∙◌}
 use Rattle.table_trees.specs.StoredTables.{StoredTable, table_nodes}
-use Rattle.stored_variants.specs.GoneKeys.{held_from, LosesRecord}
-use Rattle.stored_variants.specs.PutRecords.{IsSame, record_keys}
+use Rattle.variant_trees.specs.GoneKeys.{held_from, LosesRecord}
+use Rattle.stored_variants.specs.PutRecords.{record_keys}
+use Rattle.variant_trees.specs.PutStages.{IsSame}
 use Rattle.stored_variants.specs.RecordRows.{record_of, row_under}
 use Rattle.column_set.specs.RecordValues.{RecordFields}
 use Rattle.variant_trees.proofs.HalfPuts.{row_stays, table_stays, taken_back, taken_back_with_node}

@@ -2,8 +2,9 @@ use Rattle.std.proofs.Common.{List, Option, ℕ, sym, ap, subst, ◌∙◌}
 use Rattle.std.specs.Prelude.{IfSome, is_none, is_some, option_and_then, option_map}
 use Rattle.btree_inplace.specs.Order.{get_in}
 use Rattle.table_trees.specs.StoredTables.{StoredTable, table_nodes}
-use Rattle.stored_variants.specs.GoneKeys.{held_from, table_numbers}
-use Rattle.stored_variants.specs.PutRecords.{HasVariantKeys, IsHalfPut, record_keys}
+use Rattle.variant_trees.specs.GoneKeys.{held_from, table_numbers}
+use Rattle.stored_variants.specs.PutRecords.{record_keys}
+use Rattle.variant_trees.specs.PutStages.{HasVariantKeys, IsHalfPut}
 use Rattle.stored_variants.specs.RecordRows.{IsRecordRow, record_of, row_in_node, row_under}
 use Rattle.variant_trees.proofs.HalfPuts.{table_stays}
 use Rattle.variant_trees.proofs.RoomMade.{same_table_numbers}

@@ -3,7 +3,7 @@ use Rattle.std.specs.Prelude.{option_map}
 use Rattle.page_image.specs.Page.{Node}
 use Rattle.table_trees.specs.StoredTables.{table_nodes}
 use Rattle.versioned_tables.specs.Variants.{has_variant}
-use Rattle.stored_variants.specs.GoneKeys.{held_from}
+use Rattle.variant_trees.specs.GoneKeys.{held_from}
 use Rattle.variant_trees.specs.LeftVariants.{LosesNode}
 use Rattle.stored_variants.specs.RecordRows.{record_of, row_under}
 use Rattle.variant_trees.proofs.LeftNodes.{Goes, left_goes, rows_then}

@@ -6,7 +6,8 @@ use Rattle.database_state.specs.Changes.{changed_bookmark, changed_table}
 use Rattle.database_state.specs.Table.{schema_of, table_with_id}
 use Rattle.table_trees.specs.StoredTables.{table_nodes}
 use Rattle.version_store.specs.HeldChanges.{new_change}
-use Rattle.stored_variants.specs.PutRecords.{IsPut, IsSame, IsStorable, put_values, record_keys}
+use Rattle.stored_variants.specs.PutRecords.{IsStorable, put_values, record_keys}
+use Rattle.variant_trees.specs.PutStages.{IsPut, IsSame}
 use Rattle.stored_variants.specs.RecordRows.{row_under}
 use Rattle.stored_variants.specs.StoredVersions.{StoredVersions}
 use Rattle.table_versions.proofs.PutDone.{IsAfterNone, IsAfterPut, PutGiven, RowLaws, after_none, after_put, on_both, on_errs, on_oks, put_as, put_given, row_room, same_as, storable_in}

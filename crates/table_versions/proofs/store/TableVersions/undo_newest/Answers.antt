@@ -4,7 +4,7 @@ use Rattle.version_store.specs.declared.calls.Undone.{Undone}
 use Rattle.version_store.specs.HeldChanges.{HeldChange, is_open_at, last_place, undone_at}
 use Rattle.versioned_tables.specs.HeldRecords.{is_open_at as is_open_record}
 use Rattle.stored_variants.specs.StoredVersions.{StoredVersions}
-use Rattle.stored_variants.specs.UndoneChanges.{WasOpen}
+use Rattle.variant_trees.specs.UndoneChanges.{WasOpen}
 use Rattle.stored_variants.specs.VersionsKept.{AreKept}
 use Rattle.table_versions.proofs.LastUndone.{any_last, same_level}
 use Rattle.table_versions.proofs.LevelsShown.{last_shown, newest_there, none_shown, nothing_undone, open_there, same_table}

@@ -10,7 +10,7 @@ use Rattle.table_trees.specs.StoredTables.{StoredTable, table_nodes}
 use Rattle.version_store.specs.HeldChanges.{HeldChange, is_rewrite, undone_at}
 use Rattle.versioned_tables.specs.HeldRecords.{inverse}
 use Rattle.versioned_tables.specs.VersionedTables.{rows_with}
-use Rattle.stored_variants.specs.GoneKeys.{HasKeysOf}
+use Rattle.stored_variants.specs.PutRecords.{HasKeysOf}
 use Rattle.stored_variants.specs.RecordRows.{IsRecordRow, held_record, record_of, row_under}
 use Rattle.stored_variants.specs.VersionsKept.{AreKept}
 use Rattle.stored_variants.specs.VersionsView.{with_newest}

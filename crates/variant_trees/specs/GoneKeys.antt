@@ -1,6 +1,6 @@
 -- The keys of a record that goes, as far as no variant of it has them any more.
-use Rattle.std.specs.Prelude.{◌≡◌, ℕ, ◌≤◌, ◌≢◌, ◌&&◌, Bool, true, not, List, Option, Some, map, drop, IsOk, IfSome, bytes_eq}
-use Rattle.std.specs.List.{AllByRecursion, list_any}
+use Rattle.std.specs.Prelude.{◌≡◌, ℕ, ◌≢◌, ◌&&◌, Bool, not, List, Option, Some, map, drop, IfSome, bytes_eq}
+use Rattle.std.specs.List.{AllByRecursion}
 use Rattle.column_set.specs.RecordValues.{RecordFields}
 use Rattle.cursor_nav.specs.Places.{Pair}
 use Rattle.database_state.specs.Conflicts.{yields_key}
@@ -8,12 +8,11 @@ use Rattle.database_state.specs.Table.{rule_with_id}
 use Rattle.derived_index.specs.KeptEntries.{has_entry}
 use Rattle.index_derive.specs.declared.rules.IndexRule.{IndexRule}
 use Rattle.index_derive.specs.declared.rules.Schema.{Schema}
-use Rattle.index_derive.specs.Entries.{entries, is_legal}
 use Rattle.table_trees.specs.StoredTables.{StoredTable, index_entries, table_indexes, table_nodes}
 use Rattle.version_store.specs.HeldChanges.{HeldChange}
-use Rattle.versioned_tables.specs.HeldRecords.{HeldRecord, is_standing_rewrite}
+use Rattle.versioned_tables.specs.HeldRecords.{HeldRecord}
 use Rattle.versioned_tables.specs.Variants.{is_variant_key}
-use Rattle.stored_variants.specs.RecordRows.{IsRecordRow, held_record}
+use Rattle.stored_variants.specs.RecordRows.{held_record, IsRecordRow}
 use Rattle.stored_variants.specs.VersionsKept.{only_secondary}
 
 -- ---- variants
@@ -21,10 +20,6 @@ use Rattle.stored_variants.specs.VersionsKept.{only_secondary}
 -- the held changes from a place on
 abbrev pub held_from : ℕ → List HeldChange → List HeldRecord
 held_from place held = map held_record (drop place held)
-
--- whether a put or drop of the record that is not undone has a record before it that passes
-abbrev pub some_before : (Option RecordFields → Bool) → ℕ → List ℕ → List HeldRecord → Bool
-some_before test table bookmark held = list_any (λ change. is_standing_rewrite table bookmark change && test change.before) held
 
 -- the rows before the held changes are spelled as records
 abbrev pub AreRows : List HeldChange → Type 0
@@ -69,10 +64,3 @@ OthersKeep table index old new = (other : ℕ) → other ≢ index → index_ent
 abbrev pub LosesRecord : Option RecordFields → List HeldRecord → Schema → ℕ → List ℕ → RecordFields → List StoredTable → List StoredTable → Type 0
 LosesRecord newest held schema table bookmark gone old new =
     (index : ℕ) → IfSome (only_secondary (rule_with_id schema index)) (λ rule. LosesKeys newest held rule schema table bookmark gone (index_entries old table index) (index_entries new table index))
-
--- An index of a schema is found by its number, and has keys of the record that goes.
-pub record HasKeysOf (schema : Schema) (gone : RecordFields) (rule : IndexRule) : Type 0 where
-  pub found : rule_with_id schema rule.id.0 ≡ Some rule
-  pub legal : is_legal rule schema ≡ true
-  pub short : rule.key_most ≤ 255
-  pub taken : IsOk (entries rule schema gone)
