@@ -11,7 +11,7 @@ use crate::store::TableVersions;
 use column_set::Column;
 use index_derive::{IndexRule, SchemaStep};
 use jet_base::{ColumnId, IndexId, OutOfMemory, TableId};
-use variant_trees::{create_table, drop_column, drop_index, drop_table, put_column, put_index};
+use variant_trees::{add_column, create_index, create_table, drop_column, drop_index, drop_table};
 
 impl TableVersions {
     /// A schema step, once no change is held. After want of memory all is as it was.
@@ -48,7 +48,7 @@ impl TableVersions {
         ensures ok { OnOk result (self.new ≡ after_step made.now self.old) }
         ensures err { OnErr result (self.new ≡ self.old) }
     {
-        put_index(
+        create_index(
             self.alloc,
             &mut self.catalog,
             &mut self.trees,
@@ -110,7 +110,7 @@ impl TableVersions {
         ensures ok { OnOk result (self.new ≡ after_step made.now self.old) }
         ensures err { OnErr result (self.new ≡ self.old) }
     {
-        put_column(&mut self.catalog, &self.trees, made, table, column)
+        add_column(&mut self.catalog, &self.trees, made, table, column)
     }
 
     /// An index goes, any but the primary one. After want of memory all is as it was.

@@ -21,7 +21,7 @@ use table_trees::{
 
 /// An index of a table comes, with the keys of all its records, while no change is held: its tree with the entries first, and
 /// then its rule in the catalog. The primary index needs no tree. After want of memory all is as it was.
-pub fn put_index(
+pub fn create_index(
     alloc: Global,
     catalog: &mut Catalog,
     trees: &mut TableTrees,
@@ -36,14 +36,14 @@ pub fn put_index(
     ensures err { OnErr result ((catalog.new ≡ catalog.old) × (trees.new ≡ trees.old)) }
 {
     if rule.flags.primary {
-        put_primary(catalog, trees, made, table, rule)
+        create_primary(catalog, trees, made, table, rule)
     } else {
-        put_secondary(alloc, catalog, trees, made, table, rule)
+        create_secondary(alloc, catalog, trees, made, table, rule)
     }
 }
 
 // A primary index comes, which needs no tree of its own.
-fn put_primary(
+fn create_primary(
     catalog: &mut Catalog,
     trees: &TableTrees,
     made: &SchemaStep,
@@ -62,7 +62,7 @@ fn put_primary(
 }
 
 // Another index comes: its tree first, which goes again where there is no memory for its entries or in the catalog.
-fn put_secondary(
+fn create_secondary(
     alloc: Global,
     catalog: &mut Catalog,
     trees: &mut TableTrees,

@@ -15,11 +15,11 @@ mod sums;
 mod undoing;
 mod variants;
 
-pub use filling::put_index;
+pub use filling::create_index;
 pub use forgetting::forget_oldest;
 pub use nodes::{in_place, own_entry, row_in_node};
 pub use putting::put_record;
 pub use rewriting::drop_column;
-pub use schema::{create_table, drop_index, drop_table, put_column};
+pub use schema::{add_column, create_table, drop_index, drop_table};
 pub use sums::add_sum;
 pub use undoing::put_back;

@@ -69,7 +69,7 @@ pub fn drop_table(
 
 /// A column comes, while no change is held: one of which every record has a value only where there is no record. No row is
 /// written. After want of memory all is as it was.
-pub fn put_column(
+pub fn add_column(
     catalog: &mut Catalog,
     trees: &TableTrees,
     made: &SchemaStep,

@@ -1,6 +1,6 @@
 use Rattle.stored_variants.proofs.Outcomes.{on_ok}
 use Rattle.variant_trees.proofs.NewIndexes.{index_created, no_tree_more}
-use Rattle.variant_trees.proofs.filling.put_primary.Goals as goal
+use Rattle.variant_trees.proofs.filling.create_primary.Goals as goal
 
 pub returns-clause-ok : goal.returns-clause-ok
 returns-clause-ok c =

@@ -1,6 +1,6 @@
 use Rattle.stored_variants.proofs.Outcomes.{on_ok}
 use Rattle.variant_trees.proofs.MadeColumns.{column_made}
-use Rattle.variant_trees.proofs.schema.put_column.Goals as goal
+use Rattle.variant_trees.proofs.schema.add_column.Goals as goal
 
 pub returns-clause-ok : goal.returns-clause-ok
 returns-clause-ok c =

@@ -4,7 +4,7 @@ use Rattle.variant_trees.specs.NewEntries.{OnlyEntries}
 use Rattle.variant_trees.proofs.IndexTrees.{can_fill, in_trees, new_created, new_is_empty, new_is_there, new_nodes, no_index, taken_back}
 use Rattle.variant_trees.proofs.MadeTables.{a_tree}
 use Rattle.variant_trees.proofs.NewEntries.{still_there}
-use Rattle.variant_trees.proofs.filling.put_secondary.Goals as goal
+use Rattle.variant_trees.proofs.filling.create_secondary.Goals as goal
 
 pub add_index-requires-clause-there : goal.add_index-requires-clause-there
 add_index-requires-clause-there c =
