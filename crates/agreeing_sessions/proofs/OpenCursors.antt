@@ -10,7 +10,7 @@ use Rattle.database_state.specs.Lawful.{keeps_escrow}
 use Rattle.cursor_nav.specs.Navigation.{CursorState}
 use Rattle.record_changes.proofs.Tests.{and_both, and_left, and_right, impossible, not_true, or_first, or_second, same_number}
 use Rattle.version_history.proofs.Lists.{all_map, all_weaker}
-use Rattle.version_records.proofs.PrimaryKeys.{found_passes, of_found}
+use Rattle.common_lemmas.proofs.Found.{found_passes, of_found}
 use Rattle.session_local.specs.Agreement.{Agrees, HasSchemaOf, IsStorable, MayReplace, cursor_table, has_lock, replaced_in}
 use Rattle.session_local.specs.Local.{LocalState, OpenCursor, PreparedFor, PreparedUpdate, cursor_labelled, inserting, replacing, with_cursor}
 use Rattle.session_local.specs.SessionSide.{are_distinct, label_of}

@@ -23,7 +23,7 @@ use Rattle.version_history.proofs.Lists.{all_append, all_map, all_true, all_weak
 use Rattle.version_history.proofs.Transactions.{found-left, same-with, transaction-levels}
 use Rattle.version_keys.specs.TableOrder.{HasTablesInOrder}
 use Rattle.version_keys.proofs.OrderedTables.{found_each}
-use Rattle.version_records.proofs.PrimaryKeys.{found_passes, of_found}
+use Rattle.common_lemmas.proofs.Found.{found_passes, of_found}
 use Rattle.session_local.specs.declared.request.Request.TheVariants as call
 use Rattle.session_local.specs.Agreement.{HasSchemaOf, IsStorable, cursor_table, open_tables_of}
 use Rattle.session_local.specs.Answer.{Nothing}

@@ -18,7 +18,7 @@ use Rattle.version_history.proofs.Lists.{all_both, all_true, all_weaker}
 use Rattle.version_keys.proofs.IndexNumbers.{found_in_filter, none_of}
 use Rattle.version_keys.proofs.SchemaKeys.{other_table, unrefused}
 use Rattle.version_keys.proofs.UniqueKept.{id_of, same_tables}
-use Rattle.version_records.proofs.PrimaryKeys.{of_found}
+use Rattle.common_lemmas.proofs.Found.{of_found}
 use Rattle.session_local.specs.Agreement.{Agrees, HasSchemaOf, cursor_table, open_tables_of}
 use Rattle.session_local.specs.Local.{LocalState, OpenCursor}
 use Rattle.lawful_answers.proofs.SessionSteps.{same_members}

@@ -40,15 +40,6 @@ labelled label (x ∷ xs) c found =
 
 -- ---- lists that pass a test
 
-pub all_found : {X : Type 0} (p test : X → Bool) (xs : List X) (x : X) → list_all p xs ≡ true → find test xs ≡ Some x → p x ≡ true
-all_found p test [] x all found = cc
-all_found p test (y ∷ ys) x all found =
-    let parts : (p y ≡ true) × (list_all p ys ≡ true) = both _ _ all in
-    elim (test y) as (λ b. cond b (Some y) (find test ys) ≡ Some x → p x ≡ true) [
-      | true ↦ λ h. let same : y ≡ x = cc in rw (← same) parts.0
-      | false ↦ λ h. all_found p test ys x parts.1 h
-    ] found
-
 pub all_at : {X : Type 0} (p : X → Bool) (xs : List X) (i : ℕ) (x : X) → list_all p xs ≡ true → slice_get xs i ≡ Some x → p x ≡ true
 all_at p [] i x all found = cc
 all_at p (y ∷ ys) zero x all found =

@@ -1,8 +1,9 @@
 -- What a session reads of a state that the engine holds.
-use Rattle.std.proofs.Common.{◌≡◌, ℕ, ◌≤◌, Bool, true, false, cond, List, [], ◌∷◌, Option, Some, None, find, map, option_map, unwrap_or, refl, sym, ap, subst, ◌∙◌}
+use Rattle.std.proofs.Common.{◌≡◌, ℕ, ◌≤◌, Bool, true, false, cond, List, [], ◌∷◌, Option, Some, None, map, option_map, unwrap_or, refl, sym, ap, subst, ◌∙◌}
 use Rattle.std.specs.Prelude.{ℤ, ◌==◌, bytes_eq, IfSome, IsTrue, is_some}
 use Rattle.std.specs.List.{AllByRecursion, list_all}
 use Rattle.column_set.specs.RecordValues.{RecordFields, record_fits, record_size}
+use Rattle.common_lemmas.proofs.Found.{of_found}
 use Rattle.database_state.specs.State.{DatabaseState, PastChange, transaction_of}
 use Rattle.database_state.specs.Table.{Table, index_entries, record_in, row_at, rows_of, schema_of, table_named, table_with_id}
 use Rattle.database_state.specs.View.{view}
@@ -98,18 +99,10 @@ same_definition stored committed id same = sym (plain_at_id stored id) ∙ ap (�
 
 -- ---- the cursor's table
 
-found_all : {X : Type 0} (P : X → Type 0) (q : X → Bool) (x : X) (xs : List X) → AllByRecursion P xs → find q xs ≡ Some x → P x
-found_all P q x [] all e = cc
-found_all {X} P q x (y ∷ xs) all e = by (q y) e (found_all P q x xs all.1)
-  where
-    by : (b : Bool) → cond b (Some y) (find q xs) ≡ Some x → (find q xs ≡ Some x → P x) → P x
-    by true e rest = subst P (ap (λ (o : Option X). unwrap_or o y) e) all.0
-    by false e rest = rest e
-
 -- its schema is that of the committed table
 pub schema_at : (state : DatabaseState) (session : ℕ) (local : LocalState) (label : ℕ) (c : OpenCursor) → IsInStep state session local → cursor_labelled local label ≡ Some c → HasSchemaOf c (table_with_id state.tables c.cursor.table)
 schema_at state session local label c step found =
-    found_all (λ (c : OpenCursor). HasSchemaOf c (table_with_id state.tables c.cursor.table)) (λ (c : OpenCursor). c.label == label) c local.cursors step.agrees.schemas found
+    of_found (λ (c : OpenCursor). HasSchemaOf c (table_with_id state.tables c.cursor.table)) (λ (c : OpenCursor). c.label == label) local.cursors c found step.agrees.schemas
 
 pub none_is_some : {A X : Type 0} (x : X) → None ≡ Some x → A
 none_is_some {A} {X} x e = impossible (ap (λ (o : Option X). is_some o) e)

@@ -41,7 +41,8 @@ use Rattle.engine_parts.specs.Reading.{IsRowAt, IsRowOf, fields_at, record_for, 
 use Rattle.engine_parts.specs.Retrieving.{AreReadable, IsColumnOf, IsRecordAt, place_refusals}
 use Rattle.engine_parts.proofs.Views.{is_none-map}
 use Rattle.engine_parts.proofs.CursorCallsShown.{ReadsRecords}
-use Rattle.engine_parts.proofs.Found.{all_found, by_number}
+use Rattle.common_lemmas.proofs.Found.{all_found}
+use Rattle.engine_parts.proofs.Found.{by_number}
 use Rattle.engine_parts.proofs.Refusing.{refused_with, answer-is, answer-refused}
 use Rattle.engine_parts.proofs.Retrieving.{readable}
 

@@ -16,7 +16,8 @@ use Rattle.session_local.specs.WellFormed.{number_of_column}
 use Rattle.built_calls.specs.BuiltTables.{is_built_column}
 use Rattle.built_calls.proofs.BuiltColumns.{not_long, values_short}
 use Rattle.engine_parts.specs.Retrieving.{AreReadable}
-use Rattle.engine_parts.proofs.Found.{all_at, all_found, by_number, values_of-counted, values_of-fit}
+use Rattle.common_lemmas.proofs.Found.{all_found}
+use Rattle.engine_parts.proofs.Found.{all_at, by_number, values_of-counted, values_of-fit}
 
 le_from_true : (m n : ℕ) → nat_le m n ≡ true → m ≤ n
 le_from_true m n h = grind (arith, nat_tests)

@@ -1,6 +1,6 @@
 -- A record that fits columns that are built stands in its row.
-use Rattle.std.proofs.Common.{◌≡◌, ℕ, ◌≤◌, Bool, true, false, ◌&&◌, ◌||◌, cond, List, [], ◌∷◌, length, Option, Some, None, refl, sym, ap, subst, ◌∙◌, arith}
-use Rattle.std.specs.Prelude.{◌==◌, ◌^◌, find, nat_le, nat_lt}
+use Rattle.std.proofs.Common.{◌≡◌, ℕ, ◌≤◌, Bool, true, false, ◌&&◌, ◌||◌, cond, List, [], ◌∷◌, length, Option, Some, None, refl, sym, ap, ◌∙◌, arith}
+use Rattle.std.specs.Prelude.{◌==◌, ◌^◌, nat_le, nat_lt}
 use Rattle.std.specs.List.{list_all}
 use Rattle.std.proofs.lemmas.Bool.Decides.{nat_tests}
 use Rattle.column_set.specs.declared.columns.Column.{Column}
@@ -9,7 +9,7 @@ use Rattle.column_set.specs.Rows.{are_short, is_all_here}
 use Rattle.database_state.specs.Table.{GreatestColumns}
 use Rattle.record_changes.proofs.Tests.{and_left, and_right, and_both, impossible, same_number}
 use Rattle.session_local.specs.WellFormed.{stands_in}
-use Rattle.version_records.proofs.PrimaryKeys.{found_passes}
+use Rattle.common_lemmas.proofs.Found.{all_found, found_passes}
 use Rattle.lawful_answers.specs.ColumnNumbers.{are_in_range, is_given_number}
 use Rattle.built_calls.specs.BuiltTables.{is_built_column}
 use Rattle.built_calls.proofs.BuiltColumns.{not_long, values_short}
@@ -43,26 +43,13 @@ pub record AreColumns (greatest : GreatestColumns) (columns : List Column) : Typ
   pub given : list_all (is_given_number greatest) columns ≡ true
   pub built : list_all is_built_column columns ≡ true
 
-found_all : (test p : Column → Bool) (columns : List Column) (column : Column) → list_all p columns ≡ true → find test columns ≡ Some column → p column ≡ true
-found_all test p [] column h e = absurd (none column e)
-  where
-    none : (x : Column) → None ≡ Some x → ⊥
-    none x e = cc
-found_all test p (c ∷ columns) column h e = elim (test c) as (λ b. cond b (Some c) (find test columns) ≡ Some column → p column ≡ true) [
-  | true ↦ λ f. subst (λ (x : Column). p x ≡ true) (same c column f) (and_left (p c) (list_all p columns) h)
-  | false ↦ λ f. found_all test p columns column (and_right (p c) (list_all p columns) h) f
-] e
-  where
-    same : (a b : Column) → Some a ≡ Some b → a ≡ b
-    same a b e = cc
-
 field_found : (greatest : GreatestColumns) (columns : List Column) (field : ℕ × List (List ℕ)) (found : Option Column) → AreColumns greatest columns → column_of_id columns field.0 ≡ found → fits_found field.1 found ≡ true
     → (are_short field.1 ≡ true) × (nat_lt field.0 (2 ^ 16) ≡ true)
 field_found greatest columns field None are is fits = impossible fits
 field_found greatest columns field (Some column) are is fits =
     let at : Column → Bool = λ c. c.id.0 == field.0 in
-    let built = found_all at is_built_column columns column are.built is in
-    let given = found_all at (is_given_number greatest) columns column are.given is in
+    let built = all_found is_built_column at columns column are.built is in
+    let given = all_found (is_given_number greatest) at columns column are.given is in
     let same = same_number column.id.0 field.0 (found_passes at columns column is) in (
       values_short column.kind field.1
           (not_long column built)

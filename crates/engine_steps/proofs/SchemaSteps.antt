@@ -20,7 +20,7 @@ use Rattle.record_changes.proofs.Tests.{and_left, and_second, impossible, same_n
 use Rattle.version_keys.proofs.FreeKeys.{in_any_order}
 use Rattle.version_keys.proofs.IndexNumbers.{all_primary_first, none_of}
 use Rattle.version_keys.proofs.SchemaKeys.{IsNewIndex, at_found, new_index, unrefused}
-use Rattle.version_records.proofs.PrimaryKeys.{found_passes, of_found}
+use Rattle.common_lemmas.proofs.Found.{found_passes, of_found}
 use Rattle.built_calls.specs.BuiltTables.{has_built_kind, makes_built}
 use Rattle.built_calls.proofs.BuiltColumns.{kept_is_sum}
 use Rattle.engine_parts.specs.Parts.{tables_of}

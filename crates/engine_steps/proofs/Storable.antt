@@ -32,7 +32,7 @@ use Rattle.version_records.specs.Bookmarks.{is_bookmark}
 use Rattle.version_records.specs.EscrowNumbers.{HoldsNumbers as HoldsNumbersUnder}
 use Rattle.version_records.proofs.EntryNumbers.{entry_number-own}
 use Rattle.version_records.proofs.EscrowRecords.{numbers_seen, put_numbers}
-use Rattle.version_records.proofs.PrimaryKeys.{found_passes, of_found}
+use Rattle.common_lemmas.proofs.Found.{found_passes, of_found}
 use Rattle.version_records.proofs.Standing.{bookmarks_seen}
 use Rattle.lawful_answers.specs.ColumnNumbers.{are_in_range, has_own_numbers, is_given_number}
 use Rattle.lawful_answers.proofs.TableTests.{all_found}

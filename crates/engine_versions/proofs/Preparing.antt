@@ -24,7 +24,7 @@ use Rattle.version_records.specs.EscrowNumbers.{HoldsNumbers}
 use Rattle.version_records.proofs.EscrowRecords.{numbers_seen}
 use Rattle.version_records.proofs.StoredSums.{IsStoredWithNumbers, stored_seen_with_sums}
 use Rattle.version_keys.proofs.SchemaKeys.{unrefused}
-use Rattle.version_records.proofs.PrimaryKeys.{of_found}
+use Rattle.common_lemmas.proofs.Found.{of_found}
 use Rattle.session_local.specs.declared.request.Request.{Request}
 use Rattle.session_local.specs.declared.request.Request.TheVariants as call
 use Rattle.session_local.specs.Agreement.{IsStorable, MayReplace, replaced_in}

@@ -23,6 +23,7 @@ use Rattle.index_derive.specs.Entries.{is_unique, key_list}
 use Rattle.cursor_nav.specs.Places.{Pair, least_entry_of}
 use Rattle.cursor_nav.specs.Navigation.{MadeKey, new_cursor, moved, index_set, sought, ranged, count_from}
 use Rattle.cursor_nav.specs.MakingKeys.{begun_key, segment_kind, with_segment}
+use Rattle.common_lemmas.proofs.Found.{of_found}
 use Rattle.database_state.specs.Refusals.{Refusals, first_refusal}
 use Rattle.database_state.specs.Table.{Rows, Table, index_entries, primary_order, primary_rule, record_in, row_at, rows_of, schema_of, table_named, table_with_id, rule_with_id}
 use Rattle.database_state.specs.SchemaSteps.{table_step, deleted_table_step, column_step, deleted_column_step, index_step, deleted_index_step}
@@ -307,17 +308,6 @@ marked_alike : (asked : Asked) (past : List PastChange) (schema : Schema) (for :
 marked_alike asked past schema (inserting copied) values = inserted_alike asked past schema (primary_rule schema) values
 marked_alike asked past schema (replacing bookmark) values = refl
 
-found_all : {X : Type 0} (P : X → Type 0) (test : X → Bool) (xs : List X) → AllByRecursion P xs → (x : X) → find test xs ≡ Some x → P x
-found_all P test [] h x e = absurd (none e)
-  where
-    none : None ≡ Some x → ⊥
-    none e = cc
-found_all {X} P test (y ∷ ys) h x e = by (λ f. found_all P test ys h.1 x f) (test y) e
-  where
-    by : (find test ys ≡ Some x → P x) → (b : Bool) → cond b (Some y) (find test ys) ≡ Some x → P x
-    by rest true f = subst P (ap (λ (o : Option X). unwrap_or o y) f) h.0
-    by rest false f = rest f
-
 -- of a cursor that has the schema of its table
 update_alike : (asked : Asked) (past : List PastChange) → SamePast asked.state past → SameView asked past → read_no_sums asked.state.tables ≡ true → (c : OpenCursor) → HasSchemaOf c (table_with_id asked.state.tables c.cursor.table)
     → update asked c ≡ update (again asked past) c
@@ -380,7 +370,7 @@ begun_alike asked past e v none has (call.SetColumn cursor column sequence value
 begun_alike asked past e v none has (call.RetrieveColumn cursor column sequence true most) = at_alike asked past cursor.0 (λ c. retrieve_copy asked c column sequence most) (λ c. retrieve_copy (again asked past) c column sequence most) (λ c f. own_copy_alike asked past c column sequence most)
 begun_alike asked past e v none has (call.RetrieveColumn cursor column sequence false most) = at_alike asked past cursor.0 (λ c. retrieve_column asked c column sequence most) (λ c. retrieve_column (again asked past) c column sequence most) (λ c f. retrieve_alike asked past v c column sequence most)
 begun_alike asked past e v none has (call.Update cursor) =
-    at_alike asked past cursor.0 (update asked) (update (again asked past)) (λ c f. update_alike asked past e v none c (found_all (λ c. HasSchemaOf c (table_with_id asked.state.tables c.cursor.table)) (λ c. c.label == cursor.0) asked.local.cursors has c f))
+    at_alike asked past cursor.0 (update asked) (update (again asked past)) (λ c f. update_alike asked past e v none c (of_found (λ c. HasSchemaOf c (table_with_id asked.state.tables c.cursor.table)) (λ c. c.label == cursor.0) asked.local.cursors c f has))
 begun_alike asked past e v none has (call.Delete cursor) = at_alike asked past cursor.0 (delete asked) (delete (again asked past)) (λ c f. delete_alike asked past e v c)
 begun_alike asked past e v none has (call.GetLock cursor) = at_alike asked past cursor.0 (get_lock asked) (get_lock (again asked past)) (λ c f. lock_alike asked past e v c)
 begun_alike asked past e v none has (call.EscrowUpdate cursor column amount) = at_alike asked past cursor.0 (λ c. escrow_update asked c column amount) (λ c. escrow_update (again asked past) c column amount) (λ c f. escrow_alike asked past e v c column amount)

@@ -28,7 +28,7 @@ use Rattle.session_local.specs.Outcome.{Asked, is_outside, number_refusals, rows
 use Rattle.session_local.specs.RecordCalls.{bookmark_at, conflict_refusals, current, delete, drop_at, get_lock, hold_at, own_refusals, prepare_replace, prepared_refusals, transaction_refusals}
 use Rattle.lawful_answers.specs.LawfulSteps.{AreLawful, IsReached, HasLawfulStep, begin_of}
 use Rattle.lawful_answers.proofs.Alone.{alone_lawful, conflict_after, one_level, view_after}
-use Rattle.version_records.proofs.PrimaryKeys.{of_found}
+use Rattle.common_lemmas.proofs.Found.{of_found}
 use Rattle.lawful_answers.proofs.Refusals.{at_found, past, when_begun}
 use Rattle.lawful_answers.proofs.SessionSteps.{below}
 

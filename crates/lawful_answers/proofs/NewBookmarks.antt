@@ -28,7 +28,8 @@ use Rattle.version_records.specs.Bookmarks.{StandsUnder, TouchesRecord, is_bookm
 use Rattle.version_records.specs.EachRecord.{HasBoth}
 use Rattle.version_records.proofs.EachRecord.{AtChange}
 use Rattle.version_records.proofs.EntryNumbers.{entry_number-later}
-use Rattle.version_records.proofs.PrimaryKeys.{AreUnrefused, each_null, found_passes, of_found, primary_listed}
+use Rattle.common_lemmas.proofs.Found.{found_passes, of_found}
+use Rattle.version_records.proofs.PrimaryKeys.{AreUnrefused, each_null, primary_listed}
 use Rattle.version_records.proofs.Standing.{bookmarks_seen}
 use Rattle.session_local.specs.Local.{OpenCursor, PreparedFor, inserting, replacing}
 use Rattle.session_local.specs.Outcome.{Asked, is_outside, rows_seen}

@@ -25,7 +25,7 @@ use Rattle.session_local.specs.Calls.{answer}
 use Rattle.session_local.specs.Outcome.{Asked, done, number_refusals, one, unless, unless_refused}
 use Rattle.session_local.specs.SchemaCalls.{schema_changed}
 use Rattle.lawful_answers.specs.LawfulSteps.{HasLawfulStep}
-use Rattle.version_records.proofs.PrimaryKeys.{of_found}
+use Rattle.common_lemmas.proofs.Found.{of_found}
 use Rattle.lawful_answers.proofs.Refusals.{past, when_begun}
 use Rattle.lawful_answers.proofs.SessionSteps.{below}
 

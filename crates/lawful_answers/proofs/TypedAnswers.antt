@@ -18,7 +18,7 @@ use Rattle.database_state.specs.State.{levels}
 use Rattle.database_state.specs.Table.{Table, table_named}
 use Rattle.record_changes.proofs.Tests.{impossible}
 use Rattle.version_sums.specs.EscrowNumbers.{IsOfItsType}
-use Rattle.version_records.proofs.PrimaryKeys.{of_found}
+use Rattle.common_lemmas.proofs.Found.{of_found}
 use Rattle.session_local.specs.declared.request.Request.{Request}
 use Rattle.session_local.specs.declared.request.Request.TheVariants as call
 use Rattle.session_local.specs.Calls.{answer, prepare_update}

@@ -39,7 +39,8 @@ use Rattle.lawful_answers.specs.LawfulSteps.{AreLawful, HasLawfulStep, IsReached
 use Rattle.lawful_answers.proofs.Alone.{key_conflict_after, view_after}
 use Rattle.lawful_answers.proofs.ChangeSteps.{IsAtTable, IsLawfulAtTable, after_tables, at_its_table, changes_lawful}
 use Rattle.lawful_answers.proofs.Locks.{locked_free}
-use Rattle.version_records.proofs.PrimaryKeys.{AreUnrefused, of_found}
+use Rattle.common_lemmas.proofs.Found.{of_found}
+use Rattle.version_records.proofs.PrimaryKeys.{AreUnrefused}
 use Rattle.lawful_answers.proofs.NewBookmarks.{AreFound, IsNewFor, new_for, new_row}
 use Rattle.lawful_answers.proofs.PutSteps.{IsFreeIn, IsOwn, free_rules, no_first, parted, parts_of_put}
 use Rattle.lawful_answers.proofs.Refusals.{at_found, past, when_begun}

@@ -1,6 +1,6 @@
 -- What decides PrepareUpdate `replace` and `insertcopy`.
 use Rattle.std.proofs.Common.{◌≡◌, ℕ, Bool, true, false, cond, ◌||◌, List, [], ◌∷◌, ◌++◌, length, map, Option, Some, None, unwrap_or, refl, sym, ap, subst, ◌∙◌}
-use Rattle.std.specs.Prelude.{ℤ, neg_ℤ, ◌==◌, find, nat_le, option_map, is_none, is_some, IfSome, IsTrue}
+use Rattle.std.specs.Prelude.{ℤ, neg_ℤ, ◌==◌, nat_le, option_map, is_none, is_some, IfSome, IsTrue}
 use Rattle.std.specs.List.{list_all}
 use Rattle.jet_base.specs.declared.ids.CursorId.{CursorId}
 use Rattle.jet_base.specs.declared.replies.Jet.{Jet}
@@ -12,6 +12,7 @@ use Rattle.column_set.specs.Record.{is_record}
 use Rattle.column_set.specs.RecordValues.{RecordFields, column_of_id, record_fits, value_fits, values_fit}
 use Rattle.column_set.specs.Rows.{are_short}
 use Rattle.index_derive.specs.declared.log.Step.{Step}
+use Rattle.common_lemmas.proofs.Found.{all_found}
 use Rattle.database_state.specs.Refusals.{Refusals, first_refusal}
 use Rattle.database_state.specs.State.{DatabaseState}
 use Rattle.record_changes.proofs.Tests.{and_both, and_left, and_right, impossible}
@@ -62,14 +63,6 @@ SeesBuilt =
     (engine : EngineState) (state : DatabaseState) (session : ℕ) (local : LocalState) (label : ℕ) (c : OpenCursor) → HoldsState engine state → IsInStep state session local → cursor_labelled local label ≡ Some c
     → IsTrue (list_all is_built_column c.schema.columns)
 
-found_passes : {X : Type 0} (p test : X → Bool) (xs : List X) (x : X) → list_all p xs ≡ true → find test xs ≡ Some x → p x ≡ true
-found_passes p test [] x all found = cc
-found_passes {X} p test (y ∷ ys) x all found = by (test y) found (found_passes p test ys x (and_right (p y) (list_all p ys) all))
-  where
-    by : (b : Bool) → cond b (Some y) (find test ys) ≡ Some x → (find test ys ≡ Some x → p x ≡ true) → p x ≡ true
-    by true e rest = ap (λ (o : Option X). p (unwrap_or o y)) (sym e) ∙ and_left (p y) (list_all p ys) all
-    by false e rest = rest e
-
 -- the values of a column that is built are short
 field_short : (columns : List Column) (number : ℕ) (values : List (List ℕ)) → list_all is_built_column columns ≡ true → stands_in columns (number, values) ≡ true → are_short values ≡ true
 field_short columns number values built stands = by (column_of_id columns number) refl stands
@@ -78,7 +71,7 @@ field_short columns number values built stands = by (column_of_id columns number
     by None e h = impossible h
     by (Some column) e h =
         values_short column.kind values
-        (not_long column (found_passes is_built_column (λ (c : Column). c.id.0 == number) columns column built e))
+        (not_long column (all_found is_built_column (λ (c : Column). c.id.0 == number) columns column built e))
         (and_right (column.multi || nat_le (length values) 1) (list_all (value_fits column.kind) values) h)
 
 field_named : (columns : List Column) (number : ℕ) (values : List (List ℕ)) → stands_in columns (number, values) ≡ true → is_some (column_of_id columns number) ≡ true
@@ -95,7 +88,7 @@ all_mono p q f (x ∷ xs) h = and_both (q x) (list_all q xs) (f x (and_left (p x
 pub distinct_at : (local : LocalState) (label : ℕ) (c : OpenCursor) → IsWellFormed local → cursor_labelled local label ≡ Some c → are_distinct (map number_of_column c.schema.columns) ≡ true
 distinct_at local label c formed found =
     and_left _ _ (and_left _ _ (and_left _ _
-    (and_left (is_well_formed_schema c.schema) (is_well_formed_update c.schema.columns c.prepared) (found_passes is_well_formed_cursor (λ (c : OpenCursor). c.label == label) local.cursors c formed found))))
+    (and_left (is_well_formed_schema c.schema) (is_well_formed_update c.schema.columns c.prepared) (all_found is_well_formed_cursor (λ (c : OpenCursor). c.label == label) local.cursors c formed found))))
 
 copied : (columns : List Column) (values : RecordFields) → is_record values ≡ true → record_fits columns values ≡ true → list_all is_built_column columns ≡ true → are_distinct (map number_of_column columns) ≡ true → IsCopied columns values
 copied columns values formed fits built distinct =

@@ -25,7 +25,7 @@ use Rattle.version_keys.proofs.EscrowSums.{unseen_now}
 use Rattle.version_keys.proofs.IndexNumbers.{all_primary_first}
 use Rattle.version_keys.proofs.UniqueKept.{id_of}
 use Rattle.version_records.specs.Bookmarks.{HasBookmarks, StandsUnder, is_bookmark, is_entry_number}
-use Rattle.version_records.proofs.PrimaryKeys.{of_found}
+use Rattle.common_lemmas.proofs.Found.{of_found}
 use Rattle.version_store.specs.declared.calls.Reader.{Reader}
 use Rattle.version_cleanup.specs.Cleaning.{reader_in}
 use Rattle.versioned_tables.specs.VersionedTables.{VersionedTables}

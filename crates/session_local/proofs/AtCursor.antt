@@ -33,7 +33,8 @@ use Rattle.session_local.specs.Holding.{begun_with_cursors}
 use Rattle.session_local.specs.WellFormed.{number_of_column, has_short_keys, is_well_formed_schema, is_well_formed_cursor, is_well_formed_update, stands_in}
 use Rattle.session_local.proofs.Distinct.{both, found-position, set-position}
 use Rattle.session_local.proofs.Labels.{labelled}
-use Rattle.session_local.proofs.Records.{all_found, all_at, by_number, values_of-fit, values_of-counted}
+use Rattle.common_lemmas.proofs.Found.{all_found}
+use Rattle.session_local.proofs.Records.{all_at, by_number, values_of-fit, values_of-counted}
 use Rattle.session_local.proofs.Kept.{schema_parts, schema_of_cursor, update_of_cursor, record_parts}
 
 -- ---- MakeKey

@@ -30,7 +30,8 @@ use Rattle.session_local.specs.Changing.{Changed, cursor_if, insert_prepared_at,
 use Rattle.session_local.specs.WellFormed.{number_of_column, is_sum, is_long_if_sum, has_short_keys, is_well_formed_schema, stands_in, is_well_formed_record, is_well_formed_update, is_well_formed_cursor, is_well_formed_table, is_well_formed_on, is_well_formed_copy, IsWellFormed}
 use Rattle.session_local.proofs.Distinct.{both, joined}
 use Rattle.session_local.proofs.Fitting.{no_more, as_many, fits_if, value_fits-given_bytes, values_after-fit}
-use Rattle.session_local.proofs.Records.{all_found, all_filtered, by_number, values_of-fit, stands-in, all_with_values, sums_at_zero-stand, sums_at_zero-small}
+use Rattle.common_lemmas.proofs.Found.{all_found}
+use Rattle.session_local.proofs.Records.{all_filtered, by_number, values_of-fit, stands-in, all_with_values, sums_at_zero-stand, sums_at_zero-small}
 
 -- ---- the parts of a schema
 

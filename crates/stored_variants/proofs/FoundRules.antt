@@ -12,14 +12,6 @@ use Rattle.database_state.specs.Conflicts.{yields_key}
 use Rattle.table_trees.specs.StoredTables.{StoredIndex, is_index}
 use Rattle.stored_variants.specs.PutRecords.{HasKeysOf, record_keys}
 
-pub found_all : {X : Type 0} (P : X → Type 0) (q : X → Bool) (x : X) (xs : List X) → AllByRecursion P xs → find q xs ≡ Some x → P x
-found_all P q x [] all e = cc
-found_all {X} P q x (y ∷ xs) all e = by (q y) e (found_all P q x xs all.1)
-  where
-    by : (b : Bool) → cond b (Some y) (find q xs) ≡ Some x → (find q xs ≡ Some x → P x) → P x
-    by true e rest = subst P (ap (λ (o : Option X). unwrap_or o y) e) all.0
-    by false e rest = rest e
-
 found_rule : (index : ℕ) (rules : List IndexRule) (rule : IndexRule) → find (λ (r : IndexRule). r.id.0 == index) rules ≡ Some rule → rule.id.0 ≡ index
 found_rule index [] rule e = cc
 found_rule index (r ∷ rules) rule e = by (r.id.0 == index) refl e (found_rule index rules rule)

@@ -9,7 +9,7 @@ use Rattle.index_derive.specs.Derived.{is_above, next_in}
 use Rattle.record_changes.proofs.Tests.{impossible, refuted}
 use Rattle.versioned_tables.proofs.Neighbours.{fewer, found_in}
 use Rattle.versioned_tables.proofs.Order.{lt_lt, not_below_itself}
-use Rattle.stored_variants.proofs.FoundRules.{found_all}
+use Rattle.common_lemmas.proofs.Found.{of_found}
 use Rattle.table_versions.proofs.WithKey.{filter_alike}
 
 abbrev pub Rise : List (List ℕ) → Type 0
@@ -43,7 +43,7 @@ key_beyond test after (x ∷ xs) rise = by (is_above after x) refl (key_beyond t
     later : (o : Option (List ℕ)) → find (is_above after) xs ≡ o → key_from test xs o ≡ key_from test (x ∷ xs) o
     later None f = refl
     later (Some k) f =
-        let less : slice_cmp nat_cmp x k ≡ Less = found_all (λ y. slice_cmp nat_cmp x y ≡ Less) (is_above after) k xs rise.0 f in
+        let less : slice_cmp nat_cmp x k ≡ Less = of_found (λ y. slice_cmp nat_cmp x y ≡ Less) (is_above after) xs k f rise.0 in
         let not_above : is_above (Some k) x ≡ false = refuted (is_above (Some k) x) (λ back. not_below_itself x (lt_lt x k x (ap is_lt less) back)) in
         sym (ap (λ b. test k || list_any test (cond b (x ∷ filter (is_above (Some k)) xs) (filter (is_above (Some k)) xs))) not_above)
 

@@ -15,12 +15,12 @@ use Rattle.stored_variants.specs.StoredVersions.{StoredVersions}
 use Rattle.stored_variants.specs.VersionsKept.{AreKept, IsKeptTable, IsStoredRule, only_secondary}
 use Rattle.stored_variants.specs.VersionsView.{stored_versions, with_newest}
 use Rattle.stored_variants.proofs.Tables.{table_at}
-use Rattle.stored_variants.proofs.FoundRules.{found_all}
+use Rattle.common_lemmas.proofs.Found.{of_found}
 
 -- an index that is found is one of the table's
 pub stored_rule : (table : Table) (index : ℕ) (rule : IndexRule) → AllByRecursion (IsStoredRule table) table.indexes → rule_with_id (schema_of table) index ≡ Some rule → IsStoredRule table rule
-stored_rule table index rule all =
-    found_all (IsStoredRule table) (λ r. r.id.0 == index) rule (schema_of table).indexes
+stored_rule table index rule all e =
+    of_found (IsStoredRule table) (λ r. r.id.0 == index) (schema_of table).indexes rule e
     (all_append (IsStoredRule table) (filter (λ r. r.flags.primary) table.indexes) (filter (λ r. not r.flags.primary) table.indexes)
     (all_filter (IsStoredRule table) (λ r. r.flags.primary) table.indexes all) (all_filter (IsStoredRule table) (λ r. not r.flags.primary) table.indexes all))
 

@@ -20,7 +20,7 @@ use Rattle.version_keys.proofs.IndexNumbers.{all_primary_first}
 use Rattle.version_keys.proofs.SameColumns.{entries_same, legal_same, primary_key_same}
 use Rattle.version_keys.proofs.SchemaKeys.{each_column, found_has}
 use Rattle.stored_variants.specs.VersionsKept.{IsBookmarkOf, IsStoredRule}
-use Rattle.stored_variants.proofs.FoundRules.{found_all}
+use Rattle.common_lemmas.proofs.Found.{of_found}
 
 abbrev pub with_columns : List Column → GreatestColumns → Rows → Table → Table
 with_columns columns greatest rows t = record t { columns = columns; greatest = greatest; rows = rows }
@@ -84,7 +84,7 @@ own_then columns greatest rows t left right same bookmark own = by (primary_rule
     by None e h = h
     by (Some rule) e h =
         h ∙ sym (primary_key_same rule (schema_of (with_columns columns greatest rows t)) (schema_of t) left right
-        (found_all (SameFields columns t left right) (λ r. r.flags.primary) rule (primary_first t.indexes) (all_primary_first (SameFields columns t left right) t.indexes same) e))
+        (of_found (SameFields columns t left right) (λ r. r.flags.primary) (primary_first t.indexes) rule e (all_primary_first (SameFields columns t left right) t.indexes same)))
 
 -- ---- a new column
 

@@ -37,7 +37,7 @@ use Rattle.variant_trees.proofs.ChangedColumns.{SameColumns, SameFields, indexab
 use Rattle.variant_trees.proofs.EntryTrees.{other_number}
 use Rattle.variant_trees.proofs.LostRows.{RowLaws, all_records, fits_without, got_without, record_without, row_is, rows_lost, under_without, values_elsewhere}
 use Rattle.variant_trees.proofs.Stepping.{IsSettled, StepsTo, changed_at, is_made, kept_of, moved, newest_same, plain_table, settled_of}
-use Rattle.stored_variants.proofs.FoundRules.{found_all}
+use Rattle.common_lemmas.proofs.Found.{of_found}
 use Rattle.stored_variants.proofs.Tables.{found_number}
 
 -- no index reads the column
@@ -142,7 +142,7 @@ column_lost laws trees other column t unused records nodes indexes k = subst (λ
     each index (Some rule) e h = by rule.flags.primary h
       where
         apart : IsUnread column rule
-        apart = found_all (IsUnread column) (λ r. r.id.0 == index) rule (primary_first t.indexes) (all_primary_first (IsUnread column) t.indexes unused) e
+        apart = of_found (IsUnread column) (λ r. r.id.0 == index) (primary_first t.indexes) rule e (all_primary_first (IsUnread column) t.indexes unused)
 
         by : (b : Bool) → IfSome (cond b None (Some rule)) (λ rule. HoldsVariants (rows_of_nodes were) [] rule (schema_of t) t.id (index_entries trees t.id index))
             → IfSome (cond b None (Some rule)) (λ rule. HoldsVariants (rows_of_nodes (map (node_without column) were)) [] rule (schema_of (without_column column t)) t.id (index_entries other t.id index))

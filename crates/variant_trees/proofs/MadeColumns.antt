@@ -29,7 +29,7 @@ use Rattle.stored_variants.specs.VersionsView.{with_newest}
 use Rattle.variant_trees.proofs.ChangedColumns.{SameColumns, SameFields, added_columns, fits_with, indexable_then, own_then, rules_then}
 use Rattle.stored_variants.proofs.NodeRecords.{record_at}
 use Rattle.variant_trees.proofs.Stepping.{IsSettled, StepsTo, changed_at, is_made, kept_of, map_table, plain_table, settled_of}
-use Rattle.stored_variants.proofs.FoundRules.{found_all}
+use Rattle.common_lemmas.proofs.Found.{of_found}
 use Rattle.stored_variants.proofs.Tables.{table_at}
 
 -- ---- a column comes
@@ -125,7 +125,7 @@ column_added trees column t sorted empty k = record {
         by false h = λ key bookmark. h key bookmark ∙ ap (λ b. b || false) (same_key column t rule same_rule key (row_at (rows_of_nodes (table_nodes trees t.id)) bookmark))
           where
             same_rule : SameColumns (columns_with column t.columns) t rule
-            same_rule = found_all (SameColumns (columns_with column t.columns) t) (λ r. r.id.0 == index) rule (primary_first t.indexes) (all_primary_first (SameColumns (columns_with column t.columns) t) t.indexes same) e
+            same_rule = of_found (SameColumns (columns_with column t.columns) t) (λ r. r.id.0 == index) (primary_first t.indexes) rule e (all_primary_first (SameColumns (columns_with column t.columns) t) t.indexes same)
 
 -- the tables and the trees with a new column
 pub column_comes : (id : TableId) (column : Column) (tables : List Table) (trees : List StoredTable) → ((table : ℕ) → are_sorted (bookmark_entries (table_nodes trees table)) ≡ true)

@@ -1,11 +1,11 @@
 -- The keys of a record, each the next after the one before it.
-use Rattle.std.proofs.Common.{◌≡◌, ℕ, suc, ◌<◌, Bool, true, false, cond, List, [], ◌∷◌, length, Option, Some, None, filter, find, refl, sym, ap, subst, ◌∙◌, arith}
-use Rattle.std.specs.Prelude.{unwrap_or}
+use Rattle.std.proofs.Common.{◌≡◌, ℕ, suc, ◌<◌, Bool, true, false, cond, List, [], ◌∷◌, length, Option, Some, None, filter, refl, sym, ap, subst, ◌∙◌, arith}
 use Rattle.std.specs.List.{AllByRecursion}
 use Rattle.std.specs.List.Sorted.{IsStrictlySortedBy}
 use Rattle.std.specs.declared.cmp.Ordering.TheVariants.{Less}
 use Rattle.std.specs.Ordering.{nat_cmp, is_lt}
 use Rattle.std.specs.Cmp.Lexicographic.{slice_cmp, nat_list_cmp_total}
+use Rattle.common_lemmas.proofs.Found.{of_found}
 use Rattle.common_lemmas.proofs.Orders.{less-asymmetric, less-irreflexive}
 use Rattle.index_derive.specs.Derived.{is_above, next_in}
 use Rattle.record_changes.proofs.Tests.{refuted}
@@ -44,17 +44,6 @@ all_behind : (x : List ℕ) (ys : List (List ℕ)) → AllByRecursion (λ y. IsL
 all_behind x [] low = tt
 all_behind x (y ∷ ys) low = (ap is_lt low.0, all_behind x ys low.1)
 
-none_some : {A : Type 0} (x : List ℕ) → None ≡ Some x → A
-none_some x e = cc
-
-found_passes : (P : List ℕ → Type 0) (q : List ℕ → Bool) (x : List ℕ) (xs : List (List ℕ)) → AllByRecursion P xs → find q xs ≡ Some x → P x
-found_passes P q x [] all e = none_some x e
-found_passes P q x (y ∷ xs) all e = by (q y) e (found_passes P q x xs all.1)
-  where
-    by : (b : Bool) → cond b (Some y) (find q xs) ≡ Some x → (find q xs ≡ Some x → P x) → P x
-    by true e rest = subst P (ap (λ (o : Option (List ℕ)). unwrap_or o y) e) all.0
-    by false e rest = rest e
-
 -- the keys above one are those from the next on
 pub keys_after : (last : Option (List ℕ)) (keys : List (List ℕ)) → Rise keys → filter (is_above last) keys ≡ keys_from keys (next_in keys last)
 unfolding IsStrictlySortedBy
@@ -68,7 +57,7 @@ keys_after last (x ∷ xs) rise = by (is_above last x) refl (keys_after last xs 
     later None e = refl
     later (Some key) e =
         sym (ap (λ b. key ∷ cond b (x ∷ filter (is_above (Some key)) xs) (filter (is_above (Some key)) xs))
-        (not_back x key (found_passes (λ y. IsLess x y) (is_above last) key xs rise.0 e)))
+        (not_back x key (of_found (λ y. IsLess x y) (is_above last) xs key e rise.0)))
 
     by : (b : Bool) → is_above last x ≡ b → filter (is_above last) xs ≡ keys_from xs (next_in xs last) → cond b (x ∷ filter (is_above last) xs) (filter (is_above last) xs) ≡ keys_from (x ∷ xs) (cond b (Some x) (next_in xs last))
     by true e rest = ap (λ ys. x ∷ ys) (filter_all (is_above last) xs (all_above last x xs e rise.0) ∙ sym behind)

@@ -47,7 +47,7 @@ use Rattle.stored_variants.proofs.RowRecords.{row-formed}
 use Rattle.stored_variants.proofs.NodeRecords.{record_at}
 use Rattle.variant_trees.proofs.PutBack.{rows_filled}
 use Rattle.variant_trees.proofs.Refilled.{Fills, filled, record_filled, room_filled, row_filled, same_index, there_filled}
-use Rattle.stored_variants.proofs.FoundRules.{found_all}
+use Rattle.common_lemmas.proofs.Found.{of_found}
 use Rattle.stored_variants.proofs.Tables.{found_number}
 use Rattle.variant_trees.proofs.UndoneThere.{fills, node_of_row}
 
@@ -232,8 +232,8 @@ table_summed laws trees id bookmark row column amount now sums own escrow under 
         alike key here =
             let escrow_here : is_escrow_column (schema_of t) column ≡ true = subst (λ (x : Table). is_escrow_column (schema_of x) column ≡ true) (which here) escrow in
             yields_same rule (schema_of t) (schema_of t) key (with_sum (record_of row) column amount) (record_of row)
-            (found_all (SameFields t.columns t (with_sum (record_of row) column amount) (record_of row)) (λ r. r.id.0 == index) rule (primary_first t.indexes)
-            (all_primary_first (SameFields t.columns t (with_sum (record_of row) column amount) (record_of row)) t.indexes (all_same t column amount escrow_here kept.rules (record_of row))) e)
+            (of_found (SameFields t.columns t (with_sum (record_of row) column amount) (record_of row)) (λ r. r.id.0 == index) (primary_first t.indexes) rule e
+            (all_primary_first (SameFields t.columns t (with_sum (record_of row) column amount) (record_of row)) t.indexes (all_same t column amount escrow_here kept.rules (record_of row))))
 
         by : (b : Bool) → IfSome (cond b None (Some rule)) (λ rule. HoldsVariants (rows_of_nodes (table_nodes trees t.id)) held rule (schema_of t) t.id (index_entries trees t.id index))
             → IfSome (cond b None (Some rule)) (λ rule. HoldsVariants (rows_of_nodes (table_nodes (filled trees id bookmark now) t.id)) held rule (schema_of t) t.id (index_entries (filled trees id bookmark now) t.id index))

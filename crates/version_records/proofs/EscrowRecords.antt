@@ -24,6 +24,7 @@ use Rattle.database_state.specs.View.{view}
 use Rattle.database_state.specs.Step.{applied, every_change, is_at_level, state_after}
 use Rattle.database_state.specs.Lawful.{has_number, is_lawful, is_lawful_at, is_lawful_kind, is_lawful_put, keeps_escrow}
 use Rattle.database_state.proofs.Columns.{list_all-columns_with}
+use Rattle.common_lemmas.proofs.Found.{all_found, found_passes}
 use Rattle.record_changes.specs.Records.{Records, after_item, records_of}
 use Rattle.record_changes.proofs.Tests.{and_both, and_left, and_right, and_second, impossible, same_bytes, same_number}
 use Rattle.version_history.specs.History.{IsHistory, IsPlaced, without_rows}
@@ -69,17 +70,8 @@ abbrev is_escrow : Option Column → Bool
 is_escrow found = elim found [ Some column ↦ column.escrow | None ↦ false ]
 
 found_all : (p : Column → Bool) (columns : List Column) (id : ℕ) (c : Column) → list_all p columns ≡ true → column_of_id columns id ≡ Some c → (p c ≡ true) × (c.id.0 ≡ id)
-found_all p [] id c h e = absurd (nothing e)
-  where
-    nothing : None ≡ Some c → ⊥
-    nothing e = cc
-found_all p (x ∷ columns) id c h e = elim (x.id.0 == id) as (λ b. (x.id.0 == id) ≡ b → cond b (Some x) (column_of_id columns id) ≡ Some c → (p c ≡ true) × (c.id.0 ≡ id)) [
-  | true ↦ λ f g. let is = same x c g in (ap p (sym is) ∙ and_left (p x) (list_all p columns) h, ap (λ (y : Column). y.id.0) (sym is) ∙ same_number x.id.0 id f)
-  | false ↦ λ f g. found_all p columns id c (and_right (p x) (list_all p columns) h) g
-] refl e
-  where
-    same : (a b : Column) → Some a ≡ Some b → a ≡ b
-    same a b e = cc
+found_all p columns id c h e =
+    let at = λ (x : Column). x.id.0 == id in (all_found p at columns c h e, same_number c.id.0 id (found_passes at columns c e))
 
 abbrev fits_at : List Column → ℕ × List (List ℕ) → Bool
 fits_at columns field = elim (column_of_id columns field.0) [ Some column ↦ values_fit column field.1 | None ↦ false ]

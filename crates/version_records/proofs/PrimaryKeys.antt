@@ -1,6 +1,6 @@
 -- The key of a record in the primary index.
-use Rattle.std.proofs.Common.{◌≡◌, Bool, true, false, not, ◌&&◌, ◌||◌, cond, List, [], ◌∷◌, Some, None, Ok, Err, refl, sym, ap, subst, ◌∙◌, bytes_eq}
-use Rattle.std.specs.Prelude.{find, flat_map}
+use Rattle.std.proofs.Common.{◌≡◌, Bool, true, false, not, ◌&&◌, ◌||◌, List, [], ◌∷◌, Ok, Err, refl, sym, ap, ◌∙◌, bytes_eq}
+use Rattle.std.specs.Prelude.{flat_map}
 use Rattle.std.specs.List.{AllByRecursion, list_any}
 use Rattle.jet_base.specs.declared.replies.Jet.TheVariants as jet
 use Rattle.column_set.specs.RecordValues.{RecordFields, has_value}
@@ -13,34 +13,6 @@ use Rattle.database_state.specs.Refusals.{Refusals}
 use Rattle.database_state.specs.Puts.{is_cut_refusal, is_null_refusal}
 use Rattle.record_changes.proofs.Tests.{equal_bytes, impossible}
 use Rattle.version_keys.proofs.BookmarkKeys.{HasOneEntry}
-
--- what holds of all holds of the one that was found
-pub of_found : {X : Type 0} (P : X → Type 0) (test : X → Bool) (xs : List X) (x : X) → find test xs ≡ Some x → AllByRecursion P xs → P x
-of_found P test [] x e h = absurd (none x e)
-  where
-    none : {X : Type 0} (x : X) → None ≡ Some x → ⊥
-    none x e = cc
-of_found {X = X} P test (y ∷ xs) x e h = elim (test y) as (λ b. (cond b (Some y) (find test xs)) ≡ Some x → P x) [
-  | true ↦ λ f. subst P (same y x f) h.0
-  | false ↦ λ f. of_found P test xs x f h.1
-] e
-  where
-    same : (a b : X) → Some a ≡ Some b → a ≡ b
-    same a b e = cc
-
--- and passes the test
-pub found_passes : {X : Type 0} (test : X → Bool) (xs : List X) (x : X) → find test xs ≡ Some x → test x ≡ true
-found_passes test [] x e = absurd (none x e)
-  where
-    none : {X : Type 0} (x : X) → None ≡ Some x → ⊥
-    none x e = cc
-found_passes {X = X} test (y ∷ xs) x e = elim (test y) as (λ b. test y ≡ b → cond b (Some y) (find test xs) ≡ Some x → test x ≡ true) [
-  | true ↦ λ f g. ap test (sym (same y x g)) ∙ f
-  | false ↦ λ f g. found_passes test xs x g
-] refl e
-  where
-    same : (a b : X) → Some a ≡ Some b → a ≡ b
-    same a b e = cc
 
 abbrev pub AreUnrefused : Refusals → Type 0
 AreUnrefused refusals = AllByRecursion (λ refusal. refusal.0 ≡ false) refusals

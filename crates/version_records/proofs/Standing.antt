@@ -45,7 +45,8 @@ use Rattle.version_records.specs.Bookmarks.{HasBookmarks, StandsUnder, is_bookma
 use Rattle.version_records.specs.EachRecord.{EachRecordHas}
 use Rattle.version_records.proofs.EachRecord.{GoesOn, PutsHave, RowsHave, SumKeeps, SumsKeep, any_put, each_begun, each_by_kind, each_changed, each_cleaned_where, each_row, each_viewed}
 use Rattle.version_records.proofs.EntryNumbers.{entry_number-own, entry_number-stays}
-use Rattle.version_records.proofs.PrimaryKeys.{each_null, found_passes, of_found, primary_listed}
+use Rattle.common_lemmas.proofs.Found.{found_passes, of_found}
+use Rattle.version_records.proofs.PrimaryKeys.{each_null, primary_listed}
 use Rattle.version_records.proofs.Touching.{touched_after}
 
 -- ---- as the number of entries goes on
