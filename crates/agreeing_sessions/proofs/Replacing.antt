@@ -24,7 +24,7 @@ use Rattle.record_changes.proofs.Tests.{and_both, equal_bytes, impossible, self_
 use Rattle.version_history.specs.History.{IsHistory}
 use Rattle.version_history.specs.KeptSteps.{new_change, with_next_number}
 use Rattle.version_sums.specs.EscrowNumbers.{ColumnsRise}
-use Rattle.version_records.specs.EscrowNumbers.{HoldsNumbers}
+use Rattle.version_records.specs.RecordNumbers.{HoldsNumbers}
 use Rattle.version_records.specs.StoredRecords.{IsStored}
 use Rattle.version_records.proofs.EscrowRecords.{numbers_seen}
 use Rattle.session_local.specs.declared.request.Request.TheVariants as call

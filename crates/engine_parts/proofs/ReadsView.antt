@@ -17,7 +17,7 @@ use Rattle.version_keys.proofs.EscrowSums.{unseen_now}
 use Rattle.version_keys.proofs.IndexNumbers.{all_primary_first}
 use Rattle.version_keys.proofs.UniqueKept.{id_of}
 use Rattle.version_records.specs.EachRecord.{EachRecordHas}
-use Rattle.version_records.specs.EscrowNumbers.{HasEscrowNumbers, HoldsNumbers}
+use Rattle.version_records.specs.RecordNumbers.{HasEscrowNumbers, HoldsNumbers}
 use Rattle.version_records.specs.StoredRecords.{IsStored}
 use Rattle.version_store.specs.declared.calls.Reader.{Reader}
 use Rattle.version_cleanup.specs.Cleaning.{reader_in}

@@ -29,7 +29,7 @@ use Rattle.version_keys.specs.UniqueKeys.{HasUniqueIndexes, IsSoundIndex, IsUniq
 use Rattle.version_keys.proofs.IndexNumbers.{all_primary_first}
 use Rattle.version_keys.proofs.EscrowSums.{unseen_now}
 use Rattle.version_records.specs.Bookmarks.{is_bookmark}
-use Rattle.version_records.specs.EscrowNumbers.{HoldsNumbers as HoldsNumbersUnder}
+use Rattle.version_records.specs.RecordNumbers.{HoldsNumbers as HoldsNumbersUnder}
 use Rattle.version_records.proofs.EntryNumbers.{entry_number-own}
 use Rattle.version_records.proofs.EscrowRecords.{numbers_seen, put_numbers}
 use Rattle.common_lemmas.proofs.Found.{found_passes, of_found}

@@ -15,7 +15,7 @@ use Rattle.record_changes.proofs.Tests.{and_right, same_number}
 use Rattle.session_local.specs.Local.{LocalState}
 use Rattle.version_history.specs.History.{EachTwo, LabelsRise}
 use Rattle.version_history.proofs.LawfulEntries.{outside}
-use Rattle.version_records.specs.EscrowNumbers.{HasItsType}
+use Rattle.version_records.specs.RecordNumbers.{HasItsType}
 use Rattle.version_cleanup.specs.declared.live.Transaction.{Transaction}
 use Rattle.version_cleanup.specs.LiveSessions.{LiveState, began, ended, live_state, with_session, without_snapshot}
 use Rattle.built_calls.specs.BuiltTables.{makes_built}

@@ -11,7 +11,7 @@ use Rattle.database_state.specs.Lawful.{is_lawful}
 use Rattle.version_history.specs.KeptSteps.{base_after, dropped_after, kept_after, with_next_number}
 use Rattle.version_history.proofs.Labels.{labels_rise}
 use Rattle.version_keys.proofs.BookmarkKeys.{HasOneEntry}
-use Rattle.version_records.specs.EscrowNumbers.{HasItsType}
+use Rattle.version_records.specs.RecordNumbers.{HasItsType}
 use Rattle.version_records.specs.StoredRecords.{leaves_records_short}
 use Rattle.version_records.proofs.StoredSums.{stored_kept_with_sums}
 use Rattle.version_cleanup.specs.LiveSessions.{levels_in, live_state, sessions_after}

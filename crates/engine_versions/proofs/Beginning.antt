@@ -12,7 +12,7 @@ use Rattle.version_keys.specs.KeySums.{IsPlainIndex}
 use Rattle.version_keys.specs.TableOrder.{HasTablesInOrder}
 use Rattle.version_keys.specs.UniqueKeys.{IsUniqueTable}
 use Rattle.version_records.specs.Bookmarks.{StandsUnder}
-use Rattle.version_records.specs.EscrowNumbers.{HasSingleSums, HoldsNumbers}
+use Rattle.version_records.specs.RecordNumbers.{HasSingleSums, HoldsNumbers}
 use Rattle.version_records.specs.StoredRecords.{IsStored}
 use Rattle.version_records.proofs.EachRecord.{each_begun}
 use Rattle.version_cleanup.specs.LiveSessions.{live_state}

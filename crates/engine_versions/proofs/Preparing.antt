@@ -20,7 +20,7 @@ use Rattle.record_changes.specs.Records.{records_of}
 use Rattle.record_changes.proofs.Tests.{and_left, and_right, and_both, impossible, self_equal}
 use Rattle.version_sums.specs.EscrowNumbers.{ColumnsRise}
 use Rattle.version_records.specs.StoredRecords.{IsStored}
-use Rattle.version_records.specs.EscrowNumbers.{HoldsNumbers}
+use Rattle.version_records.specs.RecordNumbers.{HoldsNumbers}
 use Rattle.version_records.proofs.EscrowRecords.{numbers_seen}
 use Rattle.version_records.proofs.StoredSums.{IsStoredWithNumbers, stored_seen_with_sums}
 use Rattle.version_keys.proofs.SchemaKeys.{unrefused}

@@ -17,7 +17,7 @@ use Rattle.version_history.proofs.Lists.{each_map, all_true}
 use Rattle.version_cleanup.specs.declared.live.Transaction.{Transaction}
 use Rattle.version_cleanup.specs.LiveSessions.{LiveState, at_levels, began, ended, entered, insert_session, left, levels_in, levels_of, live_state, lowered, new_session, opened, saved, session_in, sessions_after, shut, with_session}
 use Rattle.lawful_answers.specs.LawfulSteps.{AreLawful}
-use Rattle.version_records.specs.EscrowNumbers.{HasItsType}
+use Rattle.version_records.specs.RecordNumbers.{HasItsType}
 use Rattle.lawful_answers.specs.EntryTypes.{AreOfTheirTypes}
 use Rattle.built_calls.specs.BuiltTables.{AllMakeBuilt, makes_built}
 use Rattle.engine_versions.specs.EngineState.{EngineState, HasRoomForEnds, ends_in, ends_of}

@@ -8,7 +8,7 @@ ghost use Rattle.version_keys.specs.KeySums.{IsPlainIndex};
 ghost use Rattle.version_keys.specs.TableOrder.{HasTablesInOrder};
 ghost use Rattle.version_keys.specs.UniqueKeys.{IsUniqueTable};
 ghost use Rattle.version_records.specs.Bookmarks.{StandsUnder};
-ghost use Rattle.version_records.specs.EscrowNumbers.{HoldsNumbers};
+ghost use Rattle.version_records.specs.RecordNumbers.{HoldsNumbers};
 ghost use Rattle.version_records.specs.StoredRecords.{IsStored};
 ghost use Rattle.lawful_answers.specs.ColumnNumbers.{have_own_numbers};
 ghost use Rattle.session_local.specs.Local.{no_session};

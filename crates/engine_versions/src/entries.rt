@@ -7,7 +7,7 @@ ghost use Rattle.index_derive.specs.Steps.{entries_of_step};
 ghost use Rattle.database_state.specs.State.{DatabaseState};
 ghost use Rattle.database_state.specs.Step.{state_after, state_after_all};
 ghost use Rattle.database_state.specs.Lawful.{is_lawful};
-ghost use Rattle.version_records.specs.EscrowNumbers.{HasItsType};
+ghost use Rattle.version_records.specs.RecordNumbers.{HasItsType};
 ghost use Rattle.lawful_answers.specs.EntryTypes.{AreOfTheirTypes};
 ghost use Rattle.lawful_answers.specs.LawfulSteps.{AreLawful};
 ghost use Rattle.built_calls.specs.BuiltTables.{AllMakeBuilt, makes_built};

@@ -18,7 +18,7 @@ use Rattle.version_history.specs.History.{HasBefores}
 use Rattle.version_history.specs.Readers.{is_rewrite, is_standing}
 use Rattle.version_history.proofs.Keeping.{some_map}
 use Rattle.version_keys.proofs.UniqueKept.{id_of}
-use Rattle.version_records.specs.EscrowNumbers.{AddsToEscrow}
+use Rattle.version_records.specs.RecordNumbers.{AddsToEscrow}
 use Rattle.version_records.specs.SumBefores.{AreSameButForSums, HasSumBefores}
 use Rattle.version_records.proofs.ClearedSums.{IsOfEscrow, sum_same}
 use Rattle.version_store.specs.declared.calls.ChangeKind.{ChangeKind}

@@ -21,7 +21,7 @@ use Rattle.version_keys.proofs.EscrowSums.{sums_begin, sums_cleaned, sums_kept, 
 use Rattle.version_keys.proofs.OrderedTables.{order_kept}
 use Rattle.version_keys.proofs.UniqueLaws.{keys_begin, keys_cleaned, keys_kept}
 use Rattle.version_records.specs.Bookmarks.{StandsUnder}
-use Rattle.version_records.specs.EscrowNumbers.{HasItsType, HasSingleSums, HoldsNumbers}
+use Rattle.version_records.specs.RecordNumbers.{HasItsType, HasSingleSums, HoldsNumbers}
 use Rattle.version_records.proofs.EachRecord.{RowsHave}
 use Rattle.version_records.proofs.EscrowRecords.{numbers_begin, numbers_cleaned, numbers_kept as escrow_kept}
 use Rattle.version_records.proofs.SumBefores.{sum_befores_begin, sum_befores_cleaned, sum_befores_kept}

@@ -12,7 +12,7 @@ use Rattle.version_keys.specs.KeySums.{HasEscrowSums}
 use Rattle.version_keys.specs.TableOrder.{HasTablesInOrder}
 use Rattle.version_keys.specs.UniqueKeys.{HasUniqueKeys}
 use Rattle.version_records.specs.Bookmarks.{HasBookmarks}
-use Rattle.version_records.specs.EscrowNumbers.{HasEscrowNumbers}
+use Rattle.version_records.specs.RecordNumbers.{HasEscrowNumbers}
 use Rattle.version_records.specs.SumBefores.{HaveSumBefores}
 use Rattle.session_local.specs.Outcome.{Outcome}
 use Rattle.lawful_answers.specs.ColumnNumbers.{have_own_numbers}

@@ -15,7 +15,7 @@ ghost use Rattle.version_keys.specs.KeySums.{IsPlainIndex};
 ghost use Rattle.version_keys.specs.TableOrder.{HasTablesInOrder};
 ghost use Rattle.version_keys.specs.UniqueKeys.{IsUniqueTable};
 ghost use Rattle.version_records.specs.Bookmarks.{StandsUnder};
-ghost use Rattle.version_records.specs.EscrowNumbers.{HasItsType, HasSingleSums, HoldsNumbers};
+ghost use Rattle.version_records.specs.RecordNumbers.{HasItsType, HasSingleSums, HoldsNumbers};
 ghost use Rattle.lawful_answers.specs.ColumnNumbers.{have_own_numbers};
 ghost use Rattle.lawful_answers.specs.EntryTypes.{AreOfTheirTypes};
 ghost use Rattle.lawful_answers.specs.LawfulSteps.{AreLawful, IsReached, IsReachedState};

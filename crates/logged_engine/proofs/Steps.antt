@@ -8,7 +8,7 @@ use Rattle.index_derive.specs.Steps.{entries_of_step}
 use Rattle.database_state.specs.State.{DatabaseState}
 use Rattle.database_state.specs.Step.{state_after}
 use Rattle.database_state.specs.Lawful.{is_lawful}
-use Rattle.version_records.specs.EscrowNumbers.{HasItsType}
+use Rattle.version_records.specs.RecordNumbers.{HasItsType}
 use Rattle.lawful_answers.specs.EntryTypes.{AreOfTheirTypes}
 use Rattle.lawful_answers.specs.LawfulSteps.{AreLawful}
 use Rattle.built_calls.specs.BuiltTables.{AllMakeBuilt, makes_built}

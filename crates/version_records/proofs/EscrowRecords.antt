@@ -39,7 +39,7 @@ use Rattle.version_sums.proofs.VeryRecords.{one_value, sum_holds, sum_rises}
 use Rattle.version_keys.proofs.KeysOfEntries.{changes_records}
 use Rattle.version_keys.proofs.SchemaKeys.{at_found, at_table, mapped_row, no_rows, other_column, other_values, with_last, without_table}
 use Rattle.version_keys.proofs.UniqueKept.{same_defined, same_tables}
-use Rattle.version_records.specs.EscrowNumbers.{AddsToEscrow, HasEscrowNumbers, HasItsType, HasSingleSums, HoldsNumbers}
+use Rattle.version_records.specs.RecordNumbers.{AddsToEscrow, HasEscrowNumbers, HasItsType, HasSingleSums, HoldsNumbers}
 use Rattle.version_records.proofs.EachRecord.{GoesOn, KeepsRecords, PutHas, RowsHave, SumKeeps, SumsKeep, commit_keeps, each_begun, each_by_kind, each_changed, each_cleaned_where, each_row, each_viewed, lower_keeps, undone_keeps}
 
 numbers_go_on : GoesOn HoldsNumbers

@@ -34,7 +34,7 @@ use Rattle.version_sums.proofs.Puts.{all_put, found_has, sum_put}
 use Rattle.version_sums.proofs.StoredSums.{values_seen}
 use Rattle.version_sums.proofs.VeryRecords.{one_value, sum_is_number}
 use Rattle.version_records.specs.EachRecord.{EachRecordHas, HasBoth}
-use Rattle.version_records.specs.EscrowNumbers.{AddsToEscrow, HasEscrowNumbers, HasItsType, HoldsNumbers}
+use Rattle.version_records.specs.RecordNumbers.{AddsToEscrow, HasEscrowNumbers, HasItsType, HoldsNumbers}
 use Rattle.version_records.specs.StoredRecords.{IsStored, leaves_records_short}
 use Rattle.version_records.proofs.EachRecord.{AtChange, AtFirst, GoesOn, PutHas, RowsHave, SumKeeps, SumsKeep, each_begun, each_by_kind, each_changed, each_cleaned_where, each_row, each_viewed}
 use Rattle.version_records.proofs.EscrowRecords.{AtSum, put_numbers, sum_keeps}

@@ -28,7 +28,7 @@ use Rattle.version_history.proofs.Lists.{all_both, all_true, all_weaker}
 use Rattle.version_history.proofs.SeenRecords.{newest_records}
 use Rattle.version_keys.proofs.KeysOfEntries.{changes_records}
 use Rattle.version_keys.proofs.UniqueKept.{id_of, same_defined, same_tables, some_at}
-use Rattle.version_records.specs.EscrowNumbers.{AddsToEscrow}
+use Rattle.version_records.specs.RecordNumbers.{AddsToEscrow}
 use Rattle.version_records.specs.SumBefores.{AreSameButForSums, HaveSumBefores, HasSumBefores}
 use Rattle.version_records.proofs.ClearedSums.{IsOfEscrow, after_same, sum_same}
 

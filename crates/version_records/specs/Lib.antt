@@ -1,5 +1,5 @@
 pub mod EachRecord
 pub mod Bookmarks
 pub mod StoredRecords
-pub mod EscrowNumbers
+pub mod RecordNumbers
 pub mod SumBefores

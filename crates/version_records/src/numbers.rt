@@ -11,7 +11,7 @@ ghost use Rattle.record_changes.specs.Records.{Records, records_of, after_item};
 ghost use Rattle.version_history.specs.Readers.{is_standing};
 ghost use Rattle.version_history.specs.History.{IsHistory};
 ghost use Rattle.version_history.specs.KeptSteps.{kept_after, base_after};
-ghost use Rattle.version_records.specs.EscrowNumbers.{HasEscrowNumbers, HasItsType, HasSingleSums, HoldsNumbers};
+ghost use Rattle.version_records.specs.RecordNumbers.{HasEscrowNumbers, HasItsType, HasSingleSums, HoldsNumbers};
 
 /// Where no change is kept, every record holds numbers in its escrow columns if those of the tables do, and no escrow column is
 /// multi-valued. So it is in a database without a table.

@@ -13,7 +13,7 @@ ghost use Rattle.version_history.specs.History.{IsHistory};
 ghost use Rattle.version_history.specs.KeptSteps.{kept_after, base_after};
 ghost use Rattle.version_keys.specs.Variants.{HasNoSums};
 ghost use Rattle.version_records.specs.EachRecord.{EachRecordHas};
-ghost use Rattle.version_records.specs.EscrowNumbers.{HasEscrowNumbers, HasItsType};
+ghost use Rattle.version_records.specs.RecordNumbers.{HasEscrowNumbers, HasItsType};
 ghost use Rattle.version_records.specs.StoredRecords.{IsStored, leaves_records_short};
 
 /// Where no change is kept, every record fits if those of the tables do.

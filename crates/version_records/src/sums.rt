@@ -8,7 +8,7 @@ ghost use Rattle.record_changes.specs.Records.{Records, records_of, after_item};
 ghost use Rattle.version_history.specs.Readers.{is_standing};
 ghost use Rattle.version_history.specs.History.{IsHistory};
 ghost use Rattle.version_history.specs.KeptSteps.{kept_after, base_after};
-ghost use Rattle.version_records.specs.EscrowNumbers.{HasEscrowNumbers};
+ghost use Rattle.version_records.specs.RecordNumbers.{HasEscrowNumbers};
 ghost use Rattle.version_records.specs.SumBefores.{HaveSumBefores};
 
 /// The record before each sum that stands is, but for its sums, the one that the standing changes before it leave: so it is where

@@ -14,7 +14,7 @@ use Rattle.version_history.specs.History.{IsPlaced}
 use Rattle.version_keys.specs.Variants.{HasNoSums}
 use Rattle.version_sums.proofs.VeryRecords.{very_record}
 use Rattle.version_records.specs.EachRecord.{HasBoth}
-use Rattle.version_records.specs.EscrowNumbers.{AddsToEscrow, HasEscrowNumbers, HoldsNumbers}
+use Rattle.version_records.specs.RecordNumbers.{AddsToEscrow, HasEscrowNumbers, HoldsNumbers}
 use Rattle.version_records.proofs.EscrowRecords.{sum_keeps}
 use Rattle.versioned_tables.proofs.TakingBack.{GoesBack, TakesBack}
 

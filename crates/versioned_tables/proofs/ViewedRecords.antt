@@ -22,7 +22,7 @@ use Rattle.version_sums.specs.EscrowSums.{amounts_to, escrow_value, seen_value, 
 use Rattle.version_sums.proofs.StoredRecord.{found_with_sums}
 use Rattle.version_sums.proofs.StoredSums.{all_sums, minus, number_in, other_columns, plus, signed_minus}
 use Rattle.version_sums.proofs.VeryRecords.{very_record}
-use Rattle.version_records.specs.EscrowNumbers.{AddsToEscrow, HasEscrowNumbers, HoldsNumbers}
+use Rattle.version_records.specs.RecordNumbers.{AddsToEscrow, HasEscrowNumbers, HoldsNumbers}
 use Rattle.version_records.proofs.EscrowRecords.{numbers_seen}
 use Rattle.version_store.specs.declared.calls.Reader.{Reader}
 use Rattle.versioned_tables.specs.HeldRecords.{seen_record}

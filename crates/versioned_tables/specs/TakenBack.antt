@@ -3,7 +3,7 @@ use Rattle.std.specs.Prelude.{List, ◌⊎◌}
 use Rattle.database_state.specs.State.{DatabaseState, PastChange}
 use Rattle.record_changes.specs.Records.{Records}
 use Rattle.version_keys.specs.Variants.{HasNoSums}
-use Rattle.version_records.specs.EscrowNumbers.{HasEscrowNumbers}
+use Rattle.version_records.specs.RecordNumbers.{HasEscrowNumbers}
 
 -- No escrow column was changed, or each holds a number in every record: then the opposite sum gives the very record back. Every
 -- state that lawful entries reach is of the second kind. The first asks nothing of the records: it is wider than the types, by data

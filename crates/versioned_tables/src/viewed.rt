@@ -8,7 +8,7 @@ ghost use Rattle.database_state.specs.State.{DatabaseState, PastChange, transact
 ghost use Rattle.database_state.specs.Table.{record_in, table_with_id};
 ghost use Rattle.database_state.specs.View.{view};
 ghost use Rattle.record_changes.specs.Records.{Records};
-ghost use Rattle.version_records.specs.EscrowNumbers.{HasEscrowNumbers};
+ghost use Rattle.version_records.specs.RecordNumbers.{HasEscrowNumbers};
 ghost use Rattle.version_store.specs.declared.calls.Reader.{Reader};
 ghost use Rattle.version_store.specs.HeldChanges.{HeldChange};
 ghost use Rattle.version_store.specs.Sums.{unseen_sum};
