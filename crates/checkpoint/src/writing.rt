@@ -98,18 +98,30 @@ pub fn write<V: Volume>(
         start,
         catalog_root: image.catalog_root,
     };
-    write_parts(
+    match write_parts(
         volume,
         head,
         &image.pages,
         &mut image.slots,
         &image.live,
         standing,
-    )?;
+    ) {
+        Ok(()) => {
+            take_over(image, head.number, start, standing);
+            Ok(())
+        }
+        Err(Failed) => Err(Failed),
+    }
+}
+
+/// The image that was written is the one that stands, and has what stood before.
+fn take_over(image: &mut Image, number: u64, start: LogStart, standing: &mut Standing)
+    ensures image { image.new ≡ record image.old { pages = standing.old.pages; slots = standing.old.slots } }
+    ensures standing { standing.new ≡ record { number = number; format = 1; start = start; pages = image.old.pages; slots = image.old.slots } }
+{
     mem::swap(&mut image.pages, &mut standing.pages);
     mem::swap(&mut image.slots, &mut standing.slots);
-    standing.number = head.number;
+    standing.number = number;
     standing.format = FORMAT;
     standing.start = start;
-    Ok(())
 }

@@ -177,15 +177,14 @@ opened_by step table schema = record {
 }
 
 -- the decision that the code makes, by what its parts are
-pub opened-as : (decision : Decision) (step : Step) (session : Session) (id table : TableId) (schema : Schema) (label : ℕ) (t : Table)
-    → decision ≡ record { step = Some step; reply = record { jet = jet.Success; value = value.Nothing }; table = None; copied = None; buffers = None; flush = false }
-    → step ≡ One (record { session = session; kind = entry.Open id }) → session.0 ≡ label → id.0 ≡ t.id → table.0 ≡ t.id → schema ≡ schema_of t
-    → record decision { table = Some (table, schema) } ≡ opened_with label t.id (schema_of t)
-opened-as decision step session id table schema label t is stepped by first second shown =
-    let F : Decision → Decision = λ d. record d { table = Some (table, schema) } in
+pub opened-as : (decision : Decision) (session : Session) (id : TableId) (schema : Schema) (label : ℕ) (t : Table)
+    → decision ≡ record { step = Some (One (record { session = session; kind = entry.Open id })); reply = record { jet = jet.Success; value = value.Nothing }; table = Some (id, schema); copied = None; buffers = None; flush = false }
+    → session.0 ≡ label → id.0 ≡ t.id → schema ≡ schema_of t
+    → decision ≡ opened_with label t.id (schema_of t)
+opened-as decision session id schema label t is by number shown =
     let by_label : ℕ → Session = λ n. record { 0 = n } in
     let by_number : ℕ → TableId = λ n. record { 0 = n } in
     let made : Session → TableId → Step = λ s i. One (record { session = s; kind = entry.Open i }) in
-    ap F is ∙ ap (λ s. opened_by s table schema) (stepped ∙ ap (λ n. made (by_label n) id) by ∙ ap (λ n. made (by_label label) (by_number n)) first)
-    ∙ ap (λ n. opened_by (made (by_label label) (by_number t.id)) (by_number n) schema) second
+    is ∙ ap (λ n. opened_by (made (by_label n) id) id schema) by
+    ∙ ap (λ n. opened_by (made (by_label label) (by_number n)) (by_number n) schema) number
     ∙ ap (λ s. opened_by (made (by_label label) (by_number t.id)) (by_number t.id) s) shown

@@ -1,6 +1,7 @@
 //! Cursors and navigation.
 
-ghost use Rattle.std.specs.Prelude.{◌≡◌, true, false, None, length, IfOk, IfSome, IsSome, IsTrue};
+ghost use Rattle.std.specs.Prelude.{◌≡◌, true, false, None, Some, length, IfOk, IfSome, IsSome, IsTrue};
+ghost use Rattle.session_local.specs.declared.reply.Value.TheVariants.{Nothing};
 ghost use Rattle.session_local.specs.declared.request.Request.{Request};
 ghost use Rattle.session_local.specs.declared.request.Request.TheVariants as call;
 ghost use Rattle.session_local.specs.LocalCalls.{is_answered_locally};
@@ -17,11 +18,20 @@ use crate::engine::{Engine, LOG_LIMIT};
 use crate::laws::a_session_reads_its_view;
 use crate::record_calls::show_bytes;
 use crate::view::EngineView;
-use index_derive::{EntryKind, Place};
-use jet_base::{CursorId, Jet, Name, OutOfMemory};
+use index_derive::{EntryKind, Place, Schema, Step};
+use jet_base::{CursorId, Jet, Name, OutOfMemory, Session, TableId};
 use key_normal::Key;
 use lawful_answers::{the_step_of_a_close_is_lawful, the_step_of_an_open_is_lawful};
 use session_local::{Decision, Local, MOST_CURSORS, OpenCursor, Request, Value};
+
+// A cursor is opened on a table of this schema.
+fn opened(session: Session, table: TableId, schema: Schema) -> Decision
+    ensures { result ≡ record { step = Some (Step.One (record { session = session; kind = EntryKind.Open table })); reply = record { jet = Jet.Success; value = Nothing }; table = Some (table, schema); copied = None; buffers = None; flush = false } }
+{
+    let mut decision = done(one(session, EntryKind::Open(table)), false);
+    decision.table = Some((table, schema));
+    decision
+}
 
 impl Engine {
     /// OpenTable with a label that is free.
@@ -46,9 +56,10 @@ impl Engine {
         if self.number >= LOG_LIMIT {
             return Ok(refused(Jet::LogSequenceEnd));
         }
-        let mut decision = done(one(local.session(), EntryKind::Open(found.id())), false);
-        decision.table = Some((found.id(), found.schema().copy()?));
-        Ok(decision)
+        match found.schema().copy() {
+            Ok(schema) => Ok(opened(local.session(), found.id(), schema)),
+            Err(fault) => Err(fault),
+        }
     }
 
     /// CloseTable: the label is free again. It is made at any number of the log.

@@ -2,8 +2,11 @@
 
 ghost use Rattle.std.specs.Prelude.{◌≡◌, ◌<◌, ◌≤◌, ◌^◌, Some, None, IfOk};
 ghost use Rattle.std.specs.Int.{w16, w32};
+ghost use Rattle.jet_base.specs.Ids.{table_id};
 ghost use Rattle.column_set.specs.Rows.{record_values_in_order};
-ghost use Rattle.log_grammar.specs.EntryReading.{add_at, grouped, kind_at, next_at, put_at, record_at, rest_at, table_at, value_at, values_at};
+ghost use Rattle.column_set.specs.declared.changes.Change.TheVariants as change;
+ghost use Rattle.index_derive.specs.declared.log.EntryKind.TheVariants as kind;
+ghost use Rattle.log_grammar.specs.EntryReading.{add_at, changed, grouped, kind_at, next_at, number_at, put_at, record_at, rest_at, schema_at, table_at, value_at, values_at};
 ghost use Rattle.log_record.specs.EntrySeen.{Gives};
 
 use crate::decoding_schema::schema_of;
@@ -76,10 +79,26 @@ fn table_of(alloc: Global, bytes: &[u8]) -> Result<((u32, Bookmark), &[u8]), Ent
     Ok(((table, bookmark), rest))
 }
 
+/// A table that is opened.
+fn open_of(bytes: &[u8]) -> Result<(EntryKind, &[u8]), EntryFault>
+    ensures { Gives (λ x. (x.0, x.1.now)) result (changed (λ table. kind.Open (table_id table)) (number_at w32) bytes.now) }
+{
+    let (table, rest) = read_u32(bytes)?;
+    Ok((EntryKind::Open(TableId(table)), rest))
+}
+
+/// A table that is shut.
+fn shut_of(bytes: &[u8]) -> Result<(EntryKind, &[u8]), EntryFault>
+    ensures { Gives (λ x. (x.0, x.1.now)) result (changed (λ table. kind.Shut (table_id table)) (number_at w32) bytes.now) }
+{
+    let (table, rest) = read_u32(bytes)?;
+    Ok((EntryKind::Shut(TableId(table)), rest))
+}
+
 /// A record that is put.
 #[tactic(auto, unfolding(log_grammar::specs::EntryReading::put_at))]
-fn put_of(alloc: Global, bytes: &[u8]) -> Result<(Change, &[u8]), EntryFault>
-    ensures { Gives (λ x. (x.0, x.1.now)) result (put_at bytes.now) }
+fn put_of(alloc: Global, bytes: &[u8]) -> Result<(EntryKind, &[u8]), EntryFault>
+    ensures { Gives (λ x. (x.0, x.1.now)) result (changed (λ change. kind.Change change) put_at bytes.now) }
 {
     let ((table, bookmark), rest) = table_of(alloc, bytes)?;
     let (copied, rest) = copied_of(alloc, rest)?;
@@ -90,13 +109,22 @@ fn put_of(alloc: Global, bytes: &[u8]) -> Result<(Change, &[u8]), EntryFault>
         copied,
         values,
     };
-    Ok((change, rest))
+    Ok((EntryKind::Change(change), rest))
+}
+
+/// A record that is dropped.
+fn drop_of(alloc: Global, bytes: &[u8]) -> Result<(EntryKind, &[u8]), EntryFault>
+    ensures { Gives (λ x. (x.0, x.1.now)) result (changed (λ x. kind.Change (change.Drop (table_id x.0) x.1)) table_at bytes.now) }
+{
+    let ((table, bookmark), rest) = table_of(alloc, bytes)?;
+    let table = TableId(table);
+    Ok((EntryKind::Change(Change::Drop { table, bookmark }), rest))
 }
 
 /// An amount that is added.
 #[tactic(auto, unfolding(log_grammar::specs::EntryReading::add_at))]
-fn add_of(alloc: Global, bytes: &[u8]) -> Result<(Change, &[u8]), EntryFault>
-    ensures { Gives (λ x. (x.0, x.1.now)) result (add_at bytes.now) }
+fn add_of(alloc: Global, bytes: &[u8]) -> Result<(EntryKind, &[u8]), EntryFault>
+    ensures { Gives (λ x. (x.0, x.1.now)) result (changed (λ change. kind.Change change) add_at bytes.now) }
 {
     let ((table, bookmark), rest) = table_of(alloc, bytes)?;
     let (column, rest) = read_u16(rest)?;
@@ -107,7 +135,24 @@ fn add_of(alloc: Global, bytes: &[u8]) -> Result<(Change, &[u8]), EntryFault>
         column: ColumnId(column),
         amount: amount.cast_signed(),
     };
-    Ok((change, rest))
+    Ok((EntryKind::Change(change), rest))
+}
+
+/// A record that is held.
+fn hold_of(alloc: Global, bytes: &[u8]) -> Result<(EntryKind, &[u8]), EntryFault>
+    ensures { Gives (λ x. (x.0, x.1.now)) result (changed (λ x. kind.Change (change.Hold (table_id x.0) x.1)) table_at bytes.now) }
+{
+    let ((table, bookmark), rest) = table_of(alloc, bytes)?;
+    let table = TableId(table);
+    Ok((EntryKind::Change(Change::Hold { table, bookmark }), rest))
+}
+
+/// A step that changes the schema.
+fn step_of(alloc: Global, bytes: &[u8]) -> Result<(EntryKind, &[u8]), EntryFault>
+    ensures { Gives (λ x. (x.0, x.1.now)) result (changed (λ step. kind.Schema step) schema_at bytes.now) }
+{
+    let (step, rest) = schema_of(alloc, bytes)?;
+    Ok((EntryKind::Schema(step), rest))
 }
 
 /// The fields of an entry with the tag.
@@ -118,42 +163,19 @@ fn kind_of(alloc: Global, tag: u8, bytes: &[u8]) -> Result<(EntryKind, &[u8]), E
     match tag {
         1 => Ok((EntryKind::Enter, bytes)),
         2 => Ok((EntryKind::Leave, bytes)),
-        3 => {
-            let (table, rest) = read_u32(bytes)?;
-            Ok((EntryKind::Open(TableId(table)), rest))
-        }
-        4 => {
-            let (table, rest) = read_u32(bytes)?;
-            Ok((EntryKind::Shut(TableId(table)), rest))
-        }
+        3 => open_of(bytes),
+        4 => shut_of(bytes),
         5 => Ok((EntryKind::Begin, bytes)),
         6 => Ok((EntryKind::Save, bytes)),
-        7 => {
-            let (change, rest) = put_of(alloc, bytes)?;
-            Ok((EntryKind::Change(change), rest))
-        }
-        8 => {
-            let ((table, bookmark), rest) = table_of(alloc, bytes)?;
-            let table = TableId(table);
-            Ok((EntryKind::Change(Change::Drop { table, bookmark }), rest))
-        }
-        9 => {
-            let (change, rest) = add_of(alloc, bytes)?;
-            Ok((EntryKind::Change(change), rest))
-        }
-        10 => {
-            let ((table, bookmark), rest) = table_of(alloc, bytes)?;
-            let table = TableId(table);
-            Ok((EntryKind::Change(Change::Hold { table, bookmark }), rest))
-        }
+        7 => put_of(alloc, bytes),
+        8 => drop_of(alloc, bytes),
+        9 => add_of(alloc, bytes),
+        10 => hold_of(alloc, bytes),
         11 => Ok((EntryKind::Release, bytes)),
         12 => Ok((EntryKind::Undo, bytes)),
         13 => Ok((EntryKind::UndoAll, bytes)),
         14 => Ok((EntryKind::Commit, bytes)),
-        15 => {
-            let (step, rest) = schema_of(alloc, bytes)?;
-            Ok((EntryKind::Schema(step), rest))
-        }
+        15 => step_of(alloc, bytes),
         _ => Err(EntryFault::BadEntry),
     }
 }

@@ -221,6 +221,47 @@ fn index_of(alloc: Global, id: u16, bytes: &[u8]) -> Result<(IndexRule, &[u8]), 
     Ok((index, rest))
 }
 
+/// A table that is made.
+#[tactic(auto, unfolding(log_grammar::specs::EntryReading::step_at))]
+fn table_step(
+    alloc: Global,
+    table: TableId,
+    bytes: &[u8],
+) -> Result<(SchemaStep, &[u8]), EntryFault>
+    ensures { Gives (λ x. (x.0, x.1.now)) result (step_at 1 table.0 bytes.now) }
+{
+    let (name, rest) = read_name(alloc, bytes)?;
+    Ok((SchemaStep::CreateTable { table, name }, rest))
+}
+
+/// A column that is added.
+#[tactic(auto, unfolding(log_grammar::specs::EntryReading::step_at))]
+fn column_step(
+    alloc: Global,
+    table: TableId,
+    bytes: &[u8],
+) -> Result<(SchemaStep, &[u8]), EntryFault>
+    ensures { Gives (λ x. (x.0, x.1.now)) result (step_at 3 table.0 bytes.now) }
+{
+    let (id, rest) = read_u16(bytes)?;
+    let (column, rest) = read_column(alloc, id, rest)?;
+    Ok((SchemaStep::AddColumn { table, column }, rest))
+}
+
+/// An index that is made.
+#[tactic(auto, unfolding(log_grammar::specs::EntryReading::step_at))]
+fn index_step(
+    alloc: Global,
+    table: TableId,
+    bytes: &[u8],
+) -> Result<(SchemaStep, &[u8]), EntryFault>
+    ensures { Gives (λ x. (x.0, x.1.now)) result (step_at 5 table.0 bytes.now) }
+{
+    let (id, rest) = read_u16(bytes)?;
+    let (index, rest) = index_of(alloc, id, rest)?;
+    Ok((SchemaStep::CreateIndex { table, index }, rest))
+}
+
 /// What a kind of schema change has behind its table.
 #[tactic(auto, unfolding(log_grammar::specs::EntryReading::step_at))]
 fn step_of(
@@ -233,26 +274,15 @@ fn step_of(
 {
     let table = TableId(table);
     match number {
-        1 => {
-            let (name, rest) = read_name(alloc, bytes)?;
-            Ok((SchemaStep::CreateTable { table, name }, rest))
-        }
+        1 => table_step(alloc, table, bytes),
         2 => Ok((SchemaStep::DeleteTable { table }, bytes)),
-        3 => {
-            let (id, rest) = read_u16(bytes)?;
-            let (column, rest) = read_column(alloc, id, rest)?;
-            Ok((SchemaStep::AddColumn { table, column }, rest))
-        }
+        3 => column_step(alloc, table, bytes),
         4 => {
             let (id, rest) = read_u16(bytes)?;
             let column = ColumnId(id);
             Ok((SchemaStep::DeleteColumn { table, column }, rest))
         }
-        5 => {
-            let (id, rest) = read_u16(bytes)?;
-            let (index, rest) = index_of(alloc, id, rest)?;
-            Ok((SchemaStep::CreateIndex { table, index }, rest))
-        }
+        5 => index_step(alloc, table, bytes),
         6 => {
             let (id, rest) = read_u16(bytes)?;
             let index = IndexId(id);

@@ -7,8 +7,8 @@ use Rattle.session_local.specs.declared.request.Request.{Request}
 use Rattle.session_local.specs.declared.request.Request.TheVariants as call
 use Rattle.session_local.specs.declared.decision.Decision.{Decision}
 use Rattle.session_local.specs.declared.prepared.Prepared.{Prepared}
-use Rattle.session_local.specs.Local.{LocalState, cursor_labelled}
-use Rattle.session_local.specs.Finishing.{Decided}
+use Rattle.session_local.specs.Local.{LocalState, PreparedUpdate, cursor_labelled}
+use Rattle.session_local.specs.Finishing.{Decided, with_copied}
 use Rattle.session_local.specs.Preparing.{update_of, FitsCursor}
 
 abbrev pub table_of : TableId × Schema → ℕ × Schema
@@ -23,12 +23,19 @@ decided_in decision = record {
 }
 
 -- a step without a copied update
-abbrev pub decided_at : Step → Option (TableId × Schema) → Option (List ℕ) → Decided
-decided_at step table buffers = record { step = Some step; table = option_map table_of table; copied = None; buffers = is_some buffers }
+abbrev pub decided_at : Option Step → Option (TableId × Schema) → Option (List ℕ) → Decided
+decided_at step table buffers = record { step = step; table = option_map table_of table; copied = None; buffers = is_some buffers }
 
-abbrev pub is_prepare : Request → Bool
-is_prepare (call.PrepareUpdate cursor how) = true
-is_prepare _ = false
+-- the copied update of a PrepareUpdate is prepared
+abbrev pub with_copied_by : LocalState → Request → Option PreparedUpdate → LocalState
+with_copied_by local (call.PrepareUpdate cursor how) copied = with_copied local cursor.0 copied
+with_copied_by local _ copied = local
+
+-- the calls whose step takes the memory of a session or a table with it
+abbrev pub begins_or_opens : Request → Bool
+begins_or_opens call.BeginSession = true
+begins_or_opens (call.OpenTable cursor table) = true
+begins_or_opens _ = false
 
 -- the copied update has the columns of the table of its cursor
 abbrev pub CopiedFits : LocalState → Request → Option Prepared → Type 0

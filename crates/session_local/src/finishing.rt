@@ -1,15 +1,18 @@
 //! What becomes of a session's own state once a call is decided and its step is taken.
 
-ghost use Rattle.std.specs.Prelude.{◌≡◌, false, Option, Some, None};
-ghost use Rattle.session_local.specs.Finishing.{finished, is_release};
-ghost use Rattle.session_local.specs.Deciding.{CopiedFits, decided_at, decided_in, is_prepare, reply_after};
+ghost use Rattle.std.specs.Prelude.{◌≡◌, false, Option, Some, None, is_some, option_map, unwrap_or};
+ghost use Rattle.session_local.specs.Local.{cursor_labelled};
+ghost use Rattle.session_local.specs.Finishing.{after_step, begun_with, finished, is_release, with_copied, with_opened};
+ghost use Rattle.session_local.specs.Deciding.{CopiedFits, begins_or_opens, bytes_after_step, decided_at, decided_in, reply_after, table_of, with_copied_by};
+ghost use Rattle.session_local.specs.Preparing.{FitsCursor, update_of};
 
 use crate::buffers::Buffers;
 use crate::decision::Decision;
 use crate::local::Local;
+use crate::prepared::Prepared;
 use crate::request::Request;
 use index_derive::{EntryKind, Schema, Step};
-use jet_base::TableId;
+use jet_base::{CursorId, TableId};
 
 /// Brings the session's own state to what the definitions say after the call. It takes no memory.
 ///
@@ -28,36 +31,87 @@ pub fn finish(local: &mut Local, request: &Request, decision: Decision)
         buffers,
         ..
     } = decision;
-    if let Request::PrepareUpdate { cursor, .. } = request {
-        if let Some(prepared) = copied {
-            local.prepare(*cursor, Some(prepared));
-        }
-        return;
-    }
-    if let Some(step) = step {
-        take_step(local, request, &step, table, buffers);
+    take_copied(local, request, copied);
+    take_step(local, request, &step, table, buffers);
+}
+
+// What the copied update of a PrepareUpdate leaves.
+fn take_copied(local: &mut Local, request: &Request, copied: Option<Prepared>)
+    requires { CopiedFits local.old.state request.now copied }
+    ensures state { local.new.state ≡ with_copied_by local.old.state request.now (option_map update_of copied) }
+    ensures session { local.new.session ≡ local.old.session }
+    ensures reply { local.new.reply ≡ local.old.reply }
+{
+    match request {
+        Request::PrepareUpdate { cursor, .. } => prepare_copied(local, *cursor, copied),
+        _ => {}
     }
 }
 
-// What the step leaves.
+// The copied update is prepared on the cursor with this label, where there is one.
+fn prepare_copied(local: &mut Local, label: CursorId, copied: Option<Prepared>)
+    requires { FitsCursor (cursor_labelled local.old.state label.0) copied }
+    ensures { local.new ≡ record local.old { state = with_copied local.old.state label.0 (option_map update_of copied) } }
+{
+    if copied.is_some() {
+        local.prepare(label, copied);
+    }
+}
+
+// What the step leaves of each call but a PrepareUpdate.
 fn take_step(
     local: &mut Local,
     request: &Request,
-    step: &Step,
+    step: &Option<Step>,
     table: Option<(TableId, Schema)>,
     buffers: Option<Buffers>,
 )
-    requires { is_prepare request.now ≡ false }
     ensures state { local.new.state ≡ finished local.old.state request.now (decided_at step.now table buffers) }
     ensures session { local.new.session ≡ local.old.session }
-    ensures reply { local.new.reply ≡ reply_after local.old.reply request.now (Some step.now) buffers }
+    ensures reply { local.new.reply ≡ reply_after local.old.reply request.now step.now buffers }
 {
     match request {
-        Request::BeginSession => {
-            if let Some(buffers) = buffers {
-                local.begin(buffers);
-            }
-        }
+        Request::BeginSession => begin(local, step, buffers),
+        Request::OpenTable { cursor, .. } => open(local, *cursor, step, table),
+        _ => go_on(local, request, step),
+    }
+}
+
+// The session begins, where its memory was taken.
+fn begin(local: &mut Local, step: &Option<Step>, buffers: Option<Buffers>)
+    ensures state { local.new.state ≡ after_step step.now local.old.state (begun_with (is_some buffers) local.old.state) }
+    ensures session { local.new.session ≡ local.old.session }
+    ensures reply { local.new.reply ≡ bytes_after_step step.now local.old.reply (unwrap_or buffers local.old.reply) }
+{
+    if step.is_some()
+        && let Some(buffers) = buffers
+    {
+        local.begin(buffers);
+    }
+}
+
+// A cursor is opened on the table that was found.
+fn open(local: &mut Local, cursor: CursorId, step: &Option<Step>, table: Option<(TableId, Schema)>)
+    ensures { local.new ≡ record local.old { state = after_step step.now local.old.state (with_opened local.old.state cursor.0 (option_map table_of table)) } }
+{
+    if step.is_some()
+        && let Some((table, schema)) = table
+    {
+        local.open(cursor, table, schema);
+    }
+}
+
+// What the step of another call leaves.
+fn go_on(local: &mut Local, request: &Request, step: &Option<Step>)
+    requires { begins_or_opens request.now ≡ false }
+    ensures state { local.new.state ≡ finished local.old.state request.now (decided_at step.now None None) }
+    ensures session { local.new.session ≡ local.old.session }
+    ensures reply { local.new.reply ≡ reply_after local.old.reply request.now step.now None }
+{
+    if step.is_none() {
+        return;
+    }
+    match request {
         Request::EndSession => local.end(),
         Request::CommitTransaction { .. } => {
             if !is_release(step) {
@@ -65,11 +119,6 @@ fn take_step(
             }
         }
         Request::Rollback { .. } => local.drop_prepared(),
-        Request::OpenTable { cursor, .. } => {
-            if let Some((table, schema)) = table {
-                local.open(*cursor, table, schema);
-            }
-        }
         Request::CloseTable { cursor } => local.close(*cursor),
         Request::Update { cursor } => local.prepare(*cursor, None),
         _ => {}
@@ -77,11 +126,11 @@ fn take_step(
 }
 
 // Whether the step is the commit of an inner level.
-fn is_release(step: &Step) -> bool
-    ensures { result ≡ is_release (Some step.now) }
+fn is_release(step: &Option<Step>) -> bool
+    ensures { result ≡ is_release step.now }
 {
     match step {
-        Step::One(entry) => matches!(entry.kind, EntryKind::Release),
-        Step::Alone(_) => false,
+        Some(Step::One(entry)) => matches!(entry.kind, EntryKind::Release),
+        Some(Step::Alone(_)) | None => false,
     }
 }

@@ -64,6 +64,20 @@ impl<J: Naming> Log<J> {
             return Ok(false);
         }
         self.list.reserve(3)?;
+        let (number, count) = self.make(word, member, alone);
+        for _ in 0..count {
+            self.list.push(member.session.0)?;
+        }
+        Ok(seen == length && number == length)
+    }
+
+    // Makes a step of the session, and answers the number and the count of its entries.
+    fn make(&mut self, word: &Word, member: &mut Member<J>, alone: bool) -> (u64, u64)
+        requires word { word.now ≡ J.word }
+        requires room { (length self.old < 2 ^ 62) × (member.old.made < 2 ^ 62) }
+        ensures number { result.0 ≡ length self.old }
+        ensures session { member.new.session ≡ member.old.session }
+    {
         let entry = Entry {
             session: member.session,
             kind: EntryKind::Begin,
@@ -73,15 +87,11 @@ impl<J: Naming> Log<J> {
         } else {
             Step::One(entry)
         };
-        let number = self.make(word, member, &step);
-        for _ in 0..step.len() {
-            self.list.push(member.session.0)?;
-        }
-        drop(step);
-        Ok(seen == length && number == length)
+        let number = self.put(word, member, &step);
+        (number, step.len())
     }
 
-    fn make(&mut self, word: &Word, member: &mut Member<J>, step: &Step) -> u64
+    fn put(&mut self, word: &Word, member: &mut Member<J>, step: &Step) -> u64
         requires word { word.now ≡ J.word }
         requires right { are_own (member.old.session ∷ []) (entries_of_step (Some step.now)) ≡ true }
         requires room { (length self.old < 2 ^ 62) × (member.old.made < 2 ^ 62) }

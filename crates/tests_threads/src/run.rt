@@ -67,23 +67,40 @@ pub fn take_turns<J: Naming>(
     let mut at: u32 = 1;
     for _ in 0..400u32 {
         at = (at % 65_537 * 75 + 74) % 65_537;
-        match at % 7 {
-            0 | 1 => agrees &= log.append(&word, &mut one, at % 2 == 0)?,
-            2 | 3 => agrees &= log.append(&word, &mut two, at % 2 == 0)?,
-            4 => {
-                let seen = store.store(&word, &mut log, at % 100, at % 50 == 0);
-                agrees &= seen == log.list.len() as u64;
-            }
-            5 => store.tell(&word, &mut one),
-            _ => {
-                store.tell(&word, &mut two);
-                agrees &= log.show(&word, &mut two) == log.list.len() as u64;
-            }
-        }
+        agrees &= take_turn(&word, &mut log, &mut store, &mut one, &mut two, at)?;
     }
     store.hear(&word, &mut one);
     store.hear(&word, &mut two);
     Ok(finish(&word, &mut log, one, two, agrees))
+}
+
+// One of the turns, by what the number leaves.
+fn take_turn<J: Naming>(
+    word: &Word,
+    log: &mut Log<J>,
+    store: &mut StoreSeat<J>,
+    one: &mut Member<J>,
+    two: &mut Member<J>,
+    at: u32,
+) -> Result<bool, OutOfMemory>
+    requires { word.now ≡ J.word }
+{
+    match at % 7 {
+        0 | 1 => log.append(word, one, at % 2 == 0),
+        2 | 3 => log.append(word, two, at % 2 == 0),
+        4 => {
+            let seen = store.store(word, log, at % 100, at % 50 == 0);
+            Ok(seen == log.list.len() as u64)
+        }
+        5 => {
+            store.tell(word, one);
+            Ok(true)
+        }
+        _ => {
+            store.tell(word, two);
+            Ok(log.show(word, two) == log.list.len() as u64)
+        }
+    }
 }
 
 fn finish<J: Naming>(

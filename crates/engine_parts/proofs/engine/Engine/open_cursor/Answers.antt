@@ -38,20 +38,20 @@ returns-then-self-ge-LOG_LIMIT-clause-answer c =
     (open_table-late c.args.self.now c.args.local.now c.args.cursor c.args.table.now c.in-Some.found.now c.requires.shared (omega (arith, ap length c.cursors.ensures.cursors, c.if-cursors-ge-MOST_CURSORS.false))
     (c.in-Some.ensures ∙ same_found c.as_bytes.result.now c.args.table.now c.self.inside.tables (tables_of c.args.self.now) c.as_bytes.ensures (ap tables_of c.self.view_is)) (omega (arith, ap (λ (e : EngineState). e.number) c.self.view_is, c.if-self-ge-LOG_LIMIT.true)))
 
-pub returns-clause-answer : goal.returns-clause-answer
-returns-clause-answer c =
+pub returns-in-Ok-clause-answer : goal.returns-in-Ok-clause-answer
+returns-in-Ok-clause-answer c =
     subst (Answers c.args.self.now c.args.local.now c.args.cursor c.args.table.now)
-    (sym (opened-as c.done-decision.result c.one.result c.session.result c.id.result c.id-2.result c.in_ok-copy.field-0 c.args.local.now.session c.in-Some.found.now
-    c.done-decision.ensures c.one.ensures c.session.ensures c.id.ensures c.id-2.ensures (c.in_ok-copy.ensures ∙ c.schema.ensures)))
+    (sym (opened-as c.opened.result c.session.result c.id.result c.in-Ok.schema c.args.local.now.session c.in-Some.found.now
+    c.opened.ensures c.session.ensures c.id.ensures (c.in-Ok.ensures ∙ c.schema.ensures)))
     (open_table-done c.args.self.now c.args.local.now c.args.cursor c.args.table.now c.in-Some.found.now c.requires.shared (omega (arith, ap length c.cursors.ensures.cursors, c.if-cursors-ge-MOST_CURSORS.false))
     (c.in-Some.ensures ∙ same_found c.as_bytes.result.now c.args.table.now c.self.inside.tables (tables_of c.args.self.now) c.as_bytes.ensures (ap tables_of c.self.view_is))
     (omega (arith, ap (λ (e : EngineState). e.number) c.self.view_is, c.if-self-ge-LOG_LIMIT.false)))
 
-pub returns-clause-decided : goal.returns-clause-decided
-returns-clause-decided c =
+pub returns-in-Ok-clause-decided : goal.returns-in-Ok-clause-decided
+returns-in-Ok-clause-decided c =
     subst (IsDecision c.args.self.now c.args.local.now (call.OpenTable c.args.cursor c.args.table.now) c.args.local.now)
-    (sym (opened-as c.done-decision.result c.one.result c.session.result c.id.result c.id-2.result c.in_ok-copy.field-0 c.args.local.now.session c.in-Some.found.now
-    c.done-decision.ensures c.one.ensures c.session.ensures c.id.ensures c.id-2.ensures (c.in_ok-copy.ensures ∙ c.schema.ensures)))
+    (sym (opened-as c.opened.result c.session.result c.id.result c.in-Ok.schema c.args.local.now.session c.in-Some.found.now
+    c.opened.ensures c.session.ensures c.id.ensures (c.in-Ok.ensures ∙ c.schema.ensures)))
     (open_table-lawful c.the_step_of_an_open_is_lawful.ensures c.args.self.now c.args.local.now c.args.cursor c.args.table.now c.in-Some.found.now c.requires.shared (omega (arith, ap length c.cursors.ensures.cursors, c.if-cursors-ge-MOST_CURSORS.false))
     (c.in-Some.ensures ∙ same_found c.as_bytes.result.now c.args.table.now c.self.inside.tables (tables_of c.args.self.now) c.as_bytes.ensures (ap tables_of c.self.view_is))
     (omega (arith, ap (λ (e : EngineState). e.number) c.self.view_is, c.if-self-ge-LOG_LIMIT.false)))
