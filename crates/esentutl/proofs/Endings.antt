@@ -1,6 +1,7 @@
 -- How a call ends where no script runs.
-use Rattle.std.proofs.Common.{◌≡◌, inl, inr, refl, ℕ, List, [], Option, Some, None, Err, arith}
-use Rattle.std.specs.Io.KnownBytes.{prepend_known}
+use Rattle.std.proofs.Common.{◌≡◌, inl, inr, refl, ℕ, List, [], Option, Some, None, Err, arith, ap, sym}
+use Rattle.std.proofs.lemmas.List.{append-nil}
+use Rattle.std.specs.Io.KnownBytes.{append_known, prepend_known}
 use Rattle.esentutl.specs.declared.reading.ReadScriptFault.{ReadScriptFault}
 use Rattle.esentutl.specs.declared.reading.ReadScriptFault.TheVariants as fault
 use Rattle.esentutl.specs.declared.words.Form.TheVariants as form
@@ -8,6 +9,11 @@ use Rattle.esentutl.specs.declared.words.Topic.{Topic}
 use Rattle.esentutl.specs.About.{text_about, Tells}
 use Rattle.esentutl.specs.Reading.{ReadsAs, line_of_fault, status_of_fault}
 use Rattle.esentutl.specs.TopCall.{Outside, Ending, told, sink_failed_telling, too_long, source_failed, want_of_memory, not_built, SaysOnly, SourceIsSound, SinkIsSound, Took, EndsBy, status_of, form_of_ending}
+
+-- nothing is written
+pub append_nothing : (known : Option (List ℕ)) → known ≡ append_known known []
+append_nothing None = refl
+append_nothing (Some bytes) = ap (λ (l : List ℕ). Some l) (sym (append-nil bytes))
 
 -- nothing is put in front
 pub prepend_nothing : (known : Option (List ℕ)) → known ≡ prepend_known [] known

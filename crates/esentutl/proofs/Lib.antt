@@ -1,13 +1,4 @@
-pub mod Pieces
-pub mod LineText
-pub mod RunLaws
 pub mod Endings
 pub mod RunEndings
 pub mod Completeness
 pub mod Processes
-pub mod SessionRuns
-pub mod WrittenSessions
-pub mod SessionCalls
-pub mod SessionWrites
-pub mod SessionServes
-pub mod BuiltRequests

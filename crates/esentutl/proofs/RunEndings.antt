@@ -1,11 +1,11 @@
 -- How a call ends that runs a script.
 use Rattle.std.proofs.Common.{◌≡◌, ℕ, List, inl, inr, refl, sym, subst, ◌∙◌}
 use Rattle.session_local.specs.Run.{Line}
-use Rattle.esentutl.specs.declared.session_engine.SessionEngine.{SessionEngine}
+use Rattle.ordered_run.specs.declared.session_engine.SessionEngine.{SessionEngine}
 use Rattle.esentutl.specs.declared.words.Form.TheVariants as form
 use Rattle.esentutl.specs.RunEnds.{RunEndsBy, RunsBy}
 use Rattle.esentutl.specs.TopCall.{Outside, Ending, done, bad_words, told, sink_failed_telling, too_long, source_failed, sink_failed, want_of_memory, not_built, SourceIsSound, IsScript, EndsBy, form_of_ending}
-use Rattle.esentutl.proofs.Pieces.{append_none}
+use Rattle.esentutl.proofs.Endings.{append_nothing}
 
 -- the run of a script's calls ends the call
 ends_by_run_over : (limit : ℕ) (o : Outside) (text : List ℕ) (lines : List Line) (engine : SessionEngine) (ending : Ending) → SourceIsSound o → IsScript o text lines
@@ -28,5 +28,5 @@ pub ends_by_run : (limit : ℕ) (o : Outside) (text : List ℕ) (lines : List Li
     → RunsBy limit lines o.taken_before o.taken_after o.sink_before o.sink_after ending
     → (form.OrderedRun limit ≡ form_of_ending limit ending) × EndsBy limit o text ending
 ends_by_run limit o text lines ending sound script (inl none) =
-    subst (λ (e : Ending). (form.OrderedRun limit ≡ form_of_ending limit e) × EndsBy limit o text e) (sym none.0) (refl, (sound, none.2, inl (none.1 ∙ append_none o.taken_before)))
+    subst (λ (e : Ending). (form.OrderedRun limit ≡ form_of_ending limit e) × EndsBy limit o text e) (sym none.0) (refl, (sound, none.2, inl (none.1 ∙ append_nothing o.taken_before)))
 ends_by_run limit o text lines ending sound script (inr run) = ends_by_run_over limit o text lines run.0 ending sound script run.1

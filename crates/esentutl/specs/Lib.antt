@@ -2,8 +2,5 @@ pub mod Words
 pub mod About
 pub mod TopCall
 pub mod Reading
-pub mod SessionRun
-pub mod Serving
-pub mod Lines
 pub mod RunEnds
 pub mod Process

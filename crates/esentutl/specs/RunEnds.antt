@@ -1,16 +1,10 @@
 -- How the run of a script's calls ends.
 use Rattle.std.specs.Prelude.{◌≡◌, ℕ, ◌<◌, ◌⊎◌, List, [], length, take, drop, Option}
 use Rattle.std.specs.Io.KnownBytes.{append_known}
-use Rattle.database_state.specs.State.{empty_state}
-use Rattle.session_local.specs.Run.{Line, LineOutcome, run_from, run_after_all}
-use Rattle.esentutl.specs.declared.session_engine.SessionEngine.{SessionEngine}
-use Rattle.esentutl.specs.Serving.{IsReady}
-use Rattle.esentutl.specs.TopCall.{Ending, done, bad_words, told, sink_failed_telling, too_long, source_failed, sink_failed, want_of_memory, not_built, AreOutcomesOf, run_transcript}
-
--- The engine has served exactly these lines, each with its outcome: it is in the state that their run comes to, with this
--- limit, and can serve the rest.
-abbrev pub HasServed : ℕ → SessionEngine → List (Line × LineOutcome) → List Line → Type 0
-HasServed limit engine pairs rest = IsReady limit engine (run_after_all limit (run_from empty_state) pairs) rest
+use Rattle.session_local.specs.Run.{Line, LineOutcome}
+use Rattle.ordered_run.specs.declared.session_engine.SessionEngine.{SessionEngine}
+use Rattle.esentutl.specs.TopCall.{Ending, done, bad_words, told, sink_failed_telling, too_long, source_failed, sink_failed, want_of_memory, not_built}
+use Rattle.ordered_run.specs.Outcomes.{AreOutcomesOf, run_transcript, HasServed}
 
 -- With all lines run the sink has their transcript. Where it failed, it has a front of the transcript of the lines that were
 -- served. Where memory was wanted, it has the whole transcript of the lines that were served: no line is served and not

@@ -1,11 +1,9 @@
 -- What a call of the program comes to.
-use Rattle.std.specs.Prelude.{◌≡◌, ℕ, ◌<◌, ◌≤◌, ◌⊎◌, Bool, true, false, List, [], length, map, take, codes, Option, Ok, Err, IfSome}
-use Rattle.std.specs.List.{list_all}
+use Rattle.std.specs.Prelude.{◌≡◌, ℕ, ◌<◌, ◌≤◌, ◌⊎◌, List, [], length, take, codes, Option, Ok, Err, IfSome}
 use Rattle.std.specs.Io.KnownBytes.{append_known}
-use Rattle.database_state.specs.State.{empty_state}
-use Rattle.session_local.specs.Run.{Line, LineOutcome, served, no_memory, flush_failed, unserved, run_from, rows_from, outcomes_may_come}
+use Rattle.session_local.specs.Run.{Line, LineOutcome}
 use Rattle.script_text.specs.Built.{built_lines}
-use Rattle.script_transcript.specs.TranscriptLine.{transcript_of}
+use Rattle.ordered_run.specs.Outcomes.{AreOutcomesOf, run_transcript}
 use Rattle.esentutl.specs.declared.words.Form.{Form}
 use Rattle.esentutl.specs.declared.words.Form.TheVariants as form
 use Rattle.esentutl.specs.declared.words.Topic.{Topic}
@@ -15,26 +13,6 @@ use Rattle.esentutl.specs.About.{text_about}
 -- the most bytes of a script
 abbrev pub script_limit : ℕ
 script_limit = 16777216
-
--- ---- runs, with a limit of the version store's span
-
--- in this run a line is served, or finds no memory
-abbrev pub is_plain : LineOutcome → Bool
-is_plain served = true
-is_plain no_memory = true
-is_plain (flush_failed reply) = false
-is_plain unserved = false
-
--- these lines, each with an outcome that it may have
-abbrev pub AreOutcomesOf : ℕ → List Line → List (Line × LineOutcome) → Type 0
-AreOutcomesOf limit lines pairs =
-    (map (λ pair. pair.0) pairs ≡ lines)
-    × (list_all (λ pair. is_plain pair.1) pairs ≡ true)
-    × (outcomes_may_come limit (run_from empty_state) pairs ≡ true)
-
--- the transcript of the lines with these outcomes, from the empty database
-abbrev pub run_transcript : ℕ → List (Line × LineOutcome) → List ℕ
-run_transcript limit pairs = transcript_of (rows_from limit (run_from empty_state) pairs)
 
 -- ---- the outside
 

@@ -8,15 +8,14 @@ ghost use Rattle.script_text.specs.Built.{are_built};
 ghost use Rattle.script_text.specs.Parsed.{calls_of};
 ghost use Rattle.esentutl.specs.Reading.{line_of_fault, status_of_fault};
 ghost use Rattle.esentutl.specs.TopCall.{Ending, Says, status_of};
-ghost use Rattle.esentutl.specs.Serving.{span_limit, IsReady};
+ghost use Rattle.ordered_run.specs.Serving.{span_limit, IsReady};
 ghost use Rattle.esentutl.specs.RunEnds.{RunEndsBy, RunsBy};
 
 use crate::reading::ReadScriptFault;
 use crate::report::{make_last_line, make_not_built_line, say_only};
-use crate::run::{LineFault, run_lines};
-use crate::session_engine::SessionEngine;
 use jet_base::{OutOfMemory, Session};
 use jet_io::Sink;
+use ordered_run::{LineFault, SessionEngine, run_lines};
 use session_local::Request;
 use std::alloc::Global;
 

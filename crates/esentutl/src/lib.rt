@@ -7,9 +7,6 @@ pub mod examples;
 mod process;
 mod reading;
 mod report;
-mod run;
-mod served;
-mod session_engine;
 mod top;
 mod words;
 

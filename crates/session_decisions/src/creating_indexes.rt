@@ -34,6 +34,24 @@ pub fn create_index(
     ensures answer { IfOk result (λ decision. Decides engine.now local.now request.now local.now decision) }
     ensures decided { IfOk result (λ decision. IsDecision engine.now local.now request.now local.now decision) }
 {
+    let call = index_call(engine.alloc, request)?;
+    decide_index(engine, local, request, &call)
+}
+
+// What the call that makes an index is answered.
+fn decide_index(
+    engine: &Engine,
+    local: &Local,
+    request: &Request,
+    call: &SchemaCall,
+) -> Result<Decision, OutOfMemory>
+    requires index { makes_index request.now ≡ true }
+    requires built { is_built_request request.now ≡ true }
+    requires shared { local.now.state.begun ≡ true }
+    requires called { Some call.now ≡ schema_call_of request.now }
+    ensures answer { IfOk result (λ decision. Decides engine.now local.now request.now local.now decision) }
+    ensures decided { IfOk result (λ decision. IsDecision engine.now local.now request.now local.now decision) }
+{
     refusals_of_a_call();
     calls_ask_the_same_without_records();
     tables_are_found_without_records();
@@ -42,12 +60,11 @@ pub fn create_index(
     tables_are_told();
     an_answer_is_lawful_and_stays_in_step();
     let session = local.session();
-    let call = index_call(engine.alloc, request)?;
     let catalog = engine.tables().catalog();
-    let found = called_table(catalog, &call);
-    match sessions_refusal(engine, session, &call, found) {
+    let found = called_table(catalog, call);
+    match sessions_refusal(engine, session, call, found) {
         Some(refusal) => Ok(refused(refusal)),
-        None => match catalog.decide(&call, has_records(engine, session, found))? {
+        None => match catalog.decide(call, has_records(engine, session, found))? {
             Err(refusal) => Ok(refused(refusal)),
             Ok(made) => match step_refusal(engine, session, found, &made)? {
                 Some(refusal) => Ok(refused(refusal)),

@@ -35,6 +35,24 @@ pub fn change_schema(
     ensures answer { IfOk result (λ decision. Decides engine.now local.now request.now local.now decision) }
     ensures decided { IfOk result (λ decision. IsDecision engine.now local.now request.now local.now decision) }
 {
+    let call = schema_call(request)?;
+    decide_call(engine, local, request, &call)
+}
+
+// What the call is answered.
+fn decide_call(
+    engine: &Engine,
+    local: &Local,
+    request: &Request,
+    call: &SchemaCall,
+) -> Result<Decision, OutOfMemory>
+    requires schema { is_schema_request request.now ≡ true }
+    requires named { makes_named request.now ≡ true }
+    requires shared { local.now.state.begun ≡ true }
+    requires called { Some call.now ≡ schema_call_of request.now }
+    ensures answer { IfOk result (λ decision. Decides engine.now local.now request.now local.now decision) }
+    ensures decided { IfOk result (λ decision. IsDecision engine.now local.now request.now local.now decision) }
+{
     refusals_of_a_call();
     calls_ask_the_same_without_records();
     tables_are_found_without_records();
@@ -45,12 +63,11 @@ pub fn change_schema(
     steps_of_columns_are_lawful();
     steps_of_indexes_are_lawful();
     let session = local.session();
-    let call = schema_call(request)?;
     let catalog = engine.tables().catalog();
-    let found = called_table(catalog, &call);
-    match sessions_refusal(engine, session, &call, found) {
+    let found = called_table(catalog, call);
+    match sessions_refusal(engine, session, call, found) {
         Some(refusal) => Ok(refused(refusal)),
-        None => match catalog.decide(&call, has_records(engine, session, found))? {
+        None => match catalog.decide(call, has_records(engine, session, found))? {
             Err(refusal) => Ok(refused(refusal)),
             Ok(made) => {
                 if engine.is_full() {

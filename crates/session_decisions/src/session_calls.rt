@@ -1,12 +1,13 @@
 //! Sessions and transactions.
 
-ghost use Rattle.std.specs.Prelude.{◌≡◌, true, false, IfOk};
+ghost use Rattle.std.specs.Prelude.{◌≡◌, true, false, IfOk, None, Some};
+ghost use Rattle.session_local.specs.declared.reply.Value.TheVariants.{Nothing};
 ghost use Rattle.session_local.specs.declared.request.Request.TheVariants as call;
 ghost use Rattle.engine_parts.specs.Deciding.{Decides, IsDecision};
 
 use engine_parts::{Engine, done, one, refused};
-use index_derive::EntryKind;
-use jet_base::{Jet, OutOfMemory};
+use index_derive::{EntryKind, Step};
+use jet_base::{Jet, OutOfMemory, Session};
 use lawful_answers::{
     steps_of_sessions_are_lawful, steps_of_transactions_are_lawful, the_step_of_a_commit_is_lawful,
 };
@@ -26,14 +27,19 @@ pub fn begin_session(engine: &Engine, local: &Local) -> Result<Decision, OutOfMe
     if engine.is_full() {
         return Ok(refused(Jet::LogSequenceEnd));
     }
-    let mut decision = done(one(local.session(), EntryKind::Enter), false);
     match Buffers::take(engine.alloc) {
-        Ok(buffers) => {
-            decision.buffers = Some(buffers);
-            Ok(decision)
-        }
+        Ok(buffers) => Ok(begun(local.session(), buffers)),
         Err(fault) => Err(fault),
     }
+}
+
+// The session begins with its buffers.
+fn begun(session: Session, buffers: Buffers) -> Decision
+    ensures { result ≡ record { step = Some (Step.One (record { session = session; kind = EntryKind.Enter })); reply = record { jet = Jet.Success; value = Nothing }; table = None; copied = None; buffers = Some buffers; flush = false } }
+{
+    let mut decision = done(one(session, EntryKind::Enter), false);
+    decision.buffers = Some(buffers);
+    decision
 }
 
 /// EndSession. It is never refused.

@@ -21,14 +21,14 @@ pub returns-in-Ok-clause-answer : goal.returns-in-Ok-clause-answer
 returns-in-Ok-clause-answer c =
     let count : c.len.result ≡ length c.args.engine.now.sessions = c.len.ensures.count ∙ ap (λ (l : List LiveState). length l) c.sessions.ensures in
     let label : c.session.result ≡ session_of c.args.local.now.session = ap session_of c.session.ensures in
-    rw (c.done-decision.ensures, c.one.ensures, label)
+    rw (c.begun.ensures, label)
     (begin_session-done c.args.engine.now c.args.local.now c.in-Ok.buffers c.requires.shared (room (length c.args.engine.now.sessions) 64 (omega (arith, count))) (sym c.is_full.ensures ∙ c.if-is_full.false))
 
 pub returns-in-Ok-clause-decided : goal.returns-in-Ok-clause-decided
 returns-in-Ok-clause-decided c =
     let count : c.len.result ≡ length c.args.engine.now.sessions = c.len.ensures.count ∙ ap (λ (l : List LiveState). length l) c.sessions.ensures in
     let label : c.session.result ≡ session_of c.args.local.now.session = ap session_of c.session.ensures in
-    rw (c.done-decision.ensures, c.one.ensures, label)
+    rw (c.begun.ensures, label)
     (decision-stepped c.args.engine.now c.args.local.now call.BeginSession (one_by c.args.local.now.session entry.Enter) (Some c.in-Ok.buffers) false
     (begin_session-done c.args.engine.now c.args.local.now c.in-Ok.buffers c.requires.shared (room (length c.args.engine.now.sessions) 64 (omega (arith, count))) (sym c.is_full.ensures ∙ c.if-is_full.false))
     (λ state h step. c.steps_of_sessions_are_lawful.ensures.begin (asked_by c.args.engine.now state c.args.local.now) step.agrees) refl)

@@ -1,0 +1,9 @@
+pub mod Pieces
+pub mod LineText
+pub mod RunLaws
+pub mod SessionRuns
+pub mod WrittenSessions
+pub mod SessionCalls
+pub mod SessionWrites
+pub mod SessionServes
+pub mod BuiltRequests

@@ -1,0 +1,9 @@
+use Rattle.std.proofs.Common.{length}
+use Rattle.run_sessions.specs.Sessions.{session_at}
+use Rattle.ordered_run.proofs.SessionServes.{short_buffer}
+use Rattle.ordered_run.proofs.session_engine.SessionEngine.reply.Goals as goal
+
+pub returns-clause-short : goal.returns-clause-short
+returns-clause-short c =
+    let local = (session_at c.args.self.now.sessions c.args.session.0).local in
+    short_buffer local.state.begun (length local.reply) c.reply.ensures.count

@@ -1,0 +1,4 @@
+pub mod SessionRun
+pub mod Serving
+pub mod Outcomes
+pub mod Lines

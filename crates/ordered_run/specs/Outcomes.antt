@@ -1,0 +1,31 @@
+-- The outcomes of a run's lines, and what was served.
+use Rattle.std.specs.Prelude.{◌≡◌, ℕ, Bool, true, false, List, map}
+use Rattle.std.specs.List.{list_all}
+use Rattle.database_state.specs.State.{empty_state}
+use Rattle.session_local.specs.Run.{Line, LineOutcome, served, no_memory, flush_failed, unserved, run_from, run_after_all, rows_from, outcomes_may_come}
+use Rattle.script_transcript.specs.TranscriptLine.{transcript_of}
+use Rattle.ordered_run.specs.declared.session_engine.SessionEngine.{SessionEngine}
+use Rattle.ordered_run.specs.Serving.{IsReady}
+
+-- in this run a line is served, or finds no memory
+abbrev pub is_plain : LineOutcome → Bool
+is_plain served = true
+is_plain no_memory = true
+is_plain (flush_failed reply) = false
+is_plain unserved = false
+
+-- these lines, each with an outcome that it may have
+abbrev pub AreOutcomesOf : ℕ → List Line → List (Line × LineOutcome) → Type 0
+AreOutcomesOf limit lines pairs =
+    (map (λ pair. pair.0) pairs ≡ lines)
+    × (list_all (λ pair. is_plain pair.1) pairs ≡ true)
+    × (outcomes_may_come limit (run_from empty_state) pairs ≡ true)
+
+-- the transcript of the lines with these outcomes, from the empty database
+abbrev pub run_transcript : ℕ → List (Line × LineOutcome) → List ℕ
+run_transcript limit pairs = transcript_of (rows_from limit (run_from empty_state) pairs)
+
+-- The engine has served exactly these lines, each with its outcome: it is in the state that their run comes to, with this
+-- limit, and can serve the rest.
+abbrev pub HasServed : ℕ → SessionEngine → List (Line × LineOutcome) → List Line → Type 0
+HasServed limit engine pairs rest = IsReady limit engine (run_after_all limit (run_from empty_state) pairs) rest

@@ -1,0 +1,114 @@
+//! The ordered run of a script's lines.
+
+ghost use Rattle.std.specs.Prelude.{◌≡◌, ◌<◌, ℕ, List, [], ◌∷◌, true, length, take, drop, OnOk, IsErrOf};
+ghost use Rattle.std.specs.Io.KnownBytes.{append_known};
+ghost use Rattle.database_state.specs.State.{empty_state};
+ghost use Rattle.session_local.specs.Run.{RunState, Line, LineOutcome, run_from, rows_of_line, run_after, may_come};
+ghost use Rattle.script_transcript.specs.TranscriptLine.{transcript_of};
+ghost use Rattle.script_text.specs.Parsed.{calls_of};
+ghost use Rattle.ordered_run.specs.Outcomes.{AreOutcomesOf, run_transcript, HasServed};
+ghost use Rattle.ordered_run.specs.Serving.{span_limit, IsReady};
+ghost use Rattle.ordered_run.specs.Lines.{RunsLine, BreaksLine};
+
+use crate::session_engine::SessionEngine;
+use jet_base::{OutOfMemory, Session};
+use jet_io::{Failed, Sink, write_all};
+use script_transcript::Transcript;
+use session_local::Request;
+use std::alloc::Global;
+use thiserror::Error;
+
+/// Why a run stopped before its last line had run.
+#[derive(Clone, Copy, Debug, PartialEq, Eq, Error)]
+pub enum LineFault {
+    /// There was no memory for a transcript line.
+    #[error("out of memory")]
+    Memory,
+    /// The sink failed.
+    #[error("the sink failed")]
+    Sink,
+}
+
+impl From<OutOfMemory> for LineFault {
+    ghost use Rattle.ordered_run.specs.declared.run.LineFault.TheVariants.{Memory};
+
+    ghost from_gives = { λ _ e. e ≡ Memory };
+
+    fn from(_: OutOfMemory) -> LineFault {
+        LineFault::Memory
+    }
+}
+
+impl From<Failed> for LineFault {
+    ghost use Rattle.ordered_run.specs.declared.run.LineFault.TheVariants as fault;
+
+    ghost from_gives = { λ _ e. e ≡ fault.Sink };
+
+    fn from(_: Failed) -> LineFault {
+        LineFault::Sink
+    }
+}
+
+/// Runs one line and prints it. The text is empty before, and after success.
+///
+/// The room for the longest line is made before the line is served, so that no line is served and not printed.
+fn run_line<K: Sink>(
+    engine: &mut SessionEngine,
+    transcript: &mut Transcript,
+    session: Session,
+    request: &Request,
+    out: &mut K,
+) -> Result<(), LineFault>
+    requires next { (limit : ℕ) × (run : RunState) × (rest : List Line) × IsReady limit engine.old run ((session.0, request.now) ∷ rest) }
+    requires empty { transcript.old.text ≡ [] }
+    ensures empty { OnOk result (transcript.new.text ≡ []) }
+    ensures served { OnOk result ((outcome : LineOutcome) × RunsLine engine.old engine.new (session.0, request.now) outcome (K.taken out.old) (K.taken out.new)) }
+    ensures sound { OnOk result (K.faults out.new ≡ K.faults out.old) }
+    ensures memory { IsErrOf result LineFault.Memory → (engine.new ≡ engine.old) × (K.taken out.new ≡ K.taken out.old) × (K.faults out.new ≡ K.faults out.old) }
+    ensures sink { IsErrOf result LineFault.Sink → (outcome : LineOutcome) × BreaksLine engine.old engine.new (session.0, request.now) outcome (K.taken out.old) (K.taken out.new) }
+    ensures failed { IsErrOf result LineFault.Sink → K.faults out.old < K.faults out.new }
+{
+    transcript.make_room()?;
+    let served = engine.serve(session, request);
+    transcript.line(
+        served.n,
+        session,
+        request,
+        &served.reply,
+        engine.reply(session),
+    );
+    write_all(out, transcript.text())?;
+    transcript.clear();
+    Ok(())
+}
+
+/// Runs the lines in their order, and prints each before the next runs.
+pub fn run_lines<K: Sink>(
+    alloc: Global,
+    engine: &mut SessionEngine,
+    lines: &[(Session, Request)],
+    out: &mut K,
+) -> Result<(), LineFault>
+    requires { IsReady (span_limit engine.old) engine.old (run_from empty_state) (calls_of lines.now) }
+    ensures done { OnOk result ((pairs : List (Line × LineOutcome)) × AreOutcomesOf (span_limit engine.old) (calls_of lines.now) pairs
+        × (K.taken out.new ≡ append_known (K.taken out.old) (run_transcript (span_limit engine.old) pairs)) × HasServed (span_limit engine.old) engine.new pairs []) }
+    ensures sound { OnOk result (K.faults out.new ≡ K.faults out.old) }
+    // The whole transcript of some first lines, and no other line was served.
+    ensures memory { IsErrOf result LineFault.Memory → (count : ℕ) × (pairs : List (Line × LineOutcome)) × AreOutcomesOf (span_limit engine.old) (take count (calls_of lines.now)) pairs
+        × (K.taken out.new ≡ append_known (K.taken out.old) (run_transcript (span_limit engine.old) pairs)) × HasServed (span_limit engine.old) engine.new pairs (drop count (calls_of lines.now)) }
+    ensures memory_sound { IsErrOf result LineFault.Memory → K.faults out.new ≡ K.faults out.old }
+    // A front of the transcript of some first lines, and no other line was served.
+    ensures sink { IsErrOf result LineFault.Sink → (count n : ℕ) × (pairs : List (Line × LineOutcome)) × AreOutcomesOf (span_limit engine.old) (take count (calls_of lines.now)) pairs
+        × (n < length (run_transcript (span_limit engine.old) pairs)) × (K.taken out.new ≡ append_known (K.taken out.old) (take n (run_transcript (span_limit engine.old) pairs)))
+        × HasServed (span_limit engine.old) engine.new pairs (drop count (calls_of lines.now)) }
+    ensures failed { IsErrOf result LineFault.Sink → K.faults out.old < K.faults out.new }
+{
+    let mut transcript = Transcript::new(alloc);
+    for line in lines {
+        match run_line(engine, &mut transcript, line.0, &line.1, out) {
+            Ok(()) => {}
+            Err(fault) => return Err(fault),
+        }
+    }
+    Ok(())
+}

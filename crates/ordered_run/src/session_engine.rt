@@ -1,0 +1,184 @@
+//! The engine that a script's lines are served by.
+
+ghost use Rattle.std.specs.Prelude.{◌≡◌, ◌≤◌, ℕ, true, false, List, [], ◌∷◌, length, if◌then◌else◌, OnErr, OnOk, IfOk, Some};
+ghost use Rattle.index_derive.specs.declared.log.Step.{Step};
+ghost use Rattle.database_state.specs.State.{empty_state};
+ghost use Rattle.session_local.specs.Calls.{is_local};
+ghost use Rattle.session_local.specs.LocalCalls.{is_answered_locally};
+ghost use Rattle.session_local.specs.Answer.{answered_by};
+ghost use Rattle.session_local.specs.Run.{RunState, Line, run_from, rows_of_line, run_after, may_come};
+ghost use Rattle.built_calls.specs.BuiltCalls.{is_built_request};
+ghost use Rattle.script_text.specs.Built.{are_built};
+ghost use Rattle.script_transcript.specs.TranscriptLine.{NamesNoMore};
+ghost use Rattle.run_sessions.specs.Sessions.{last_label, session_at};
+ghost use Rattle.engine_versions.specs.EngineState.{HasRoomForEnds};
+ghost use Rattle.engine_versions.specs.EngineSteps.{engine_after_answer};
+ghost use Rattle.engine_steps.specs.Steps.{MayTake};
+ghost use Rattle.ordered_run.specs.SessionRun.{no_memory_reply, outcome_told, row_told, LacksMemory, StaysOrCleans};
+ghost use Rattle.ordered_run.specs.Serving.{span_limit, reply_of, IsAt, IsReady, Goes};
+
+use crate::served::Served;
+use engine_core::{
+    Engine, a_run_is_held_after_its_lines, a_session_of_a_run_is_beside,
+    an_empty_engine_holds_an_empty_run, apply, decide, no_answer_is_want_of_memory,
+    steps_of_a_run_may_be_taken, steps_of_calls_without_memory_lack_none,
+};
+use index_derive::Step;
+use jet_base::{Jet, OutOfMemory, Session};
+use run_sessions::{RunSessions, a_run_begins_with_fresh_sessions, sessions_follow_a_line};
+use session_local::{
+    Reply, Request, Value, finish, is_local, local_calls_take_no_step, local_step,
+};
+use std::alloc::Global;
+
+/// An engine with versions, and the sessions of a script by their labels.
+///
+/// A session answers by itself what needs its own state alone. Any other call is decided on what the engine holds; its step
+/// is made, and only then the session's own state is brought to what the call leaves.
+#[derive(Drop)]
+pub struct SessionEngine {
+    engine: Engine,
+    sessions: RunSessions,
+}
+
+impl SessionEngine {
+    /// An engine over an empty database, of whose sessions none was begun. The limit is that of the version store's span, in
+    /// bytes.
+    pub fn new(alloc: Global, limit: u64) -> Result<SessionEngine, OutOfMemory>
+        ensures span { IfOk result (λ made. span_limit made ≡ limit) }
+        // It is ready for the lines of every script that is built.
+        ensures ready { IfOk result (λ made. (lines : List Line) → are_built lines ≡ true → IsReady limit made (run_from empty_state) lines) }
+    {
+        an_empty_engine_holds_an_empty_run();
+        a_run_begins_with_fresh_sessions();
+        match RunSessions::new(alloc) {
+            Ok(sessions) => Ok(SessionEngine {
+                engine: Engine::new(alloc, limit),
+                sessions,
+            }),
+            Err(fault) => Err(fault),
+        }
+    }
+
+    /// Serves the next line. Its reply is want of memory only where the call may find none, and then nothing changes.
+    pub fn serve(&mut self, session: Session, request: &Request) -> Served
+        requires { (limit : ℕ) × (run : RunState) × (rest : List Line) × IsReady limit self.old run ((session.0, request.now) ∷ rest) }
+        ensures row { (limit : ℕ) (run : RunState) (rest : List Line) → IsReady limit self.old run ((session.0, request.now) ∷ rest)
+            → rows_of_line limit run (session.0, request.now) (outcome_told result.reply) ≡ row_told result.n session request.now (answered_by result.reply (reply_of self.new session)) ∷ [] }
+        ensures outcome { (limit : ℕ) (run : RunState) (rest : List Line) → IsReady limit self.old run ((session.0, request.now) ∷ rest)
+            → may_come limit run (session.0, request.now) (outcome_told result.reply) ≡ true }
+        ensures state { (limit : ℕ) (run : RunState) (rest : List Line) → IsReady limit self.old run ((session.0, request.now) ∷ rest)
+            → IsReady limit self.new (run_after limit run (session.0, request.now) (outcome_told result.reply)) rest }
+        ensures named { NamesNoMore result.reply (length (reply_of self.new session)) }
+    {
+        self.serve_call(session, request)
+    }
+
+    /// The bytes that the last reply to the session names: the front of its reply buffer.
+    pub fn reply(&self, session: Session) -> &[u8]
+        ensures bytes { result.now ≡ reply_of self.now session }
+        ensures short { length (reply_of self.now session) ≤ 1048576 }
+    {
+        self.sessions.reply(session)
+    }
+
+    // Serves a call of a session.
+    #[tactic(none)]
+    fn serve_call(&mut self, session: Session, request: &Request) -> Served
+        requires ready { (limit : ℕ) × (run : RunState) × IsAt limit self.old run }
+        requires built { is_built_request request.now ≡ true }
+        requires labelled { session.0 ≤ last_label }
+        ensures line { (limit : ℕ) (run : RunState) → IsAt limit self.old run → Goes limit self.new run session request.now result }
+        ensures named { NamesNoMore result.reply (length (reply_of self.new session)) }
+    {
+        a_session_of_a_run_is_beside();
+        a_run_is_held_after_its_lines();
+        local_calls_take_no_step();
+        no_answer_is_want_of_memory();
+        sessions_follow_a_line();
+        match local_step(self.sessions.local_mut(session), request) {
+            Ok(Some(reply)) => self.tell(session, self.sessions.last(session), reply),
+            Ok(None) => self.serve_shared(session, request),
+            Err(OutOfMemory) => self.without_memory(session),
+        }
+    }
+
+    // Serves a call that looks at the shared state.
+    #[tactic(none)]
+    fn serve_shared(&mut self, session: Session, request: &Request) -> Served
+        requires ready { (limit : ℕ) × (run : RunState) × IsAt limit self.old run }
+        requires built { is_built_request request.now ≡ true }
+        requires labelled { session.0 ≤ last_label }
+        requires shared { is_answered_locally (session_at self.old.sessions session.0).local.state request.now ≡ false }
+        ensures line { (limit : ℕ) (run : RunState) → IsAt limit self.old run → Goes limit self.new run session request.now result }
+        ensures named { NamesNoMore result.reply (length (reply_of self.new session)) }
+    {
+        a_session_of_a_run_is_beside();
+        a_run_is_held_after_its_lines();
+        steps_of_a_run_may_be_taken();
+        no_answer_is_want_of_memory();
+        steps_of_calls_without_memory_lack_none();
+        sessions_follow_a_line();
+        let Ok(decision) = decide(&self.engine, self.sessions.local_mut(session), request) else {
+            return self.without_memory(session);
+        };
+        let reply = decision.reply;
+        let n = self.number_for(session, request, reply.jet);
+        if make_step(&mut self.engine, &decision.step).is_err() {
+            return self.without_memory(session);
+        }
+        finish(self.sessions.local_mut(session), request, decision);
+        let last = self.number_for(session, request, reply.jet);
+        self.sessions.set_last(session, last);
+        self.tell(session, n, reply)
+    }
+
+    // A line that was served. The reply buffer has its bytes where the session was begun.
+    fn tell(&self, session: Session, n: u64, reply: Reply) -> Served
+        ensures line { result ≡ record { n = n; reply = reply } }
+        ensures buffer { length (reply_of self.now session) ≡ (if (session_at self.now.sessions session.0).local.state.begun then 1048576 else 0) }
+    {
+        let _buffer = self.sessions.reply(session);
+        Served { n, reply }
+    }
+
+    // The number of the line of a call that was answered so: for a local call that after the session's last look at the
+    // shared state, and else that of the last log entry.
+    fn number_for(&self, session: Session, request: &Request, jet: Jet) -> u64
+        ensures { result ≡ (if is_local request.now jet then (session_at self.now.sessions session.0).last else self.now.engine.number) }
+    {
+        if is_local(request, jet) {
+            self.sessions.last(session)
+        } else {
+            self.engine.number()
+        }
+    }
+
+    // A line that found no memory.
+    fn without_memory(&self, session: Session) -> Served
+        ensures n { result.n ≡ (session_at self.now.sessions session.0).last }
+        ensures reply { result.reply ≡ no_memory_reply }
+    {
+        Served {
+            n: self.sessions.last(session),
+            reply: Reply {
+                jet: Jet::OutOfMemory,
+                value: Value::Nothing,
+            },
+        }
+    }
+}
+
+// Makes the step of a call, if it has one. Where there is no memory the engine holds what it held.
+fn make_step(engine: &mut Engine, step: &Option<Step>) -> Result<(), OutOfMemory>
+    requires lawful { (made : Step) → step.now ≡ Some made → MayTake engine.old made }
+    requires room { HasRoomForEnds engine.old }
+    ensures done { OnOk result (engine.new ≡ engine_after_answer engine.old step.now) }
+    ensures kept { OnErr result (StaysOrCleans engine.old engine.new) }
+    ensures memory { OnErr result (LacksMemory step.now) }
+{
+    match step {
+        Some(step) => apply(engine, step),
+        None => Ok(()),
+    }
+}
