@@ -3,6 +3,7 @@
 ghost use Rattle.std.specs.Prelude.{◌≡◌, ◌≤◌, ℕ, Some, None, IfOk, IsTrue, false, true, length};
 ghost use Rattle.column_set.specs.RecordValues.{value_fits, values_of};
 ghost use Rattle.column_set.specs.Rows.{here_fields};
+ghost use Rattle.cursor_nav.specs.Places.{is_on};
 ghost use Rattle.index_derive.specs.Entries.{is_escrow_column};
 ghost use Rattle.session_local.specs.declared.request.Request.TheVariants as call;
 ghost use Rattle.session_local.specs.Answer.{Bytes, answered_by, shown_by};
@@ -92,6 +93,7 @@ impl Engine {
         column: &Column,
         sequence: u32,
     ) -> Result<Shown<'a>, Jet>
+        requires on { IsTrue (is_on cursor.now.cursor.place) }
         requires row { IsRowAt self.now session.0 cursor.now (here_fields row.now) }
         requires column { IsColumnOf cursor.now.schema column.now }
         requires values { AreReadable column.now.kind (values_of (here_fields row.now) column.now.id.0) }
@@ -113,6 +115,7 @@ impl Engine {
         row: &RowRef<'_>,
         column: &Column,
     ) -> i32
+        requires on { IsTrue (is_on cursor.now.cursor.place) }
         requires row { IsRowAt self.now session.0 cursor.now (here_fields row.now) }
         requires sum { is_escrow_column cursor.now.schema column.now.id.0 ≡ true }
         ensures { result ≡ escrow_value (fields_at self.now session.0 cursor.now) column.now.id.0 }
@@ -122,7 +125,7 @@ impl Engine {
             Place::On(_, bookmark) => {
                 self.seen_sum(session, table, bookmark.as_bytes(), row, column.id)
             }
-            _ => self.seen_sum(session, table, &[], row, column.id),
+            _ => unreachable!(),
         }
     }
 }

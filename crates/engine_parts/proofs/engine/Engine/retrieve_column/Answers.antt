@@ -25,6 +25,9 @@ own_record engine session own c same found is = subst (λ (n : ℕ). IsRecordAt 
 own_row : (engine : EngineState) (session own : ℕ) (c : OpenCursor) (row : RecordFields) → session ≡ own → IsRowAt engine own c row → IsRowAt engine session c row
 own_row engine session own c row same is = subst (λ (n : ℕ). IsRowAt engine n c row) (sym same) is
 
+pub value_seen-requires-clause-on : goal.value_seen-requires-clause-on
+value_seen-requires-clause-on c = c.in-Ok.ensures.0
+
 pub value_seen-requires-clause-row : goal.value_seen-requires-clause-row
 value_seen-requires-clause-row c =
     own_row c.args.self.now c.session-session.result.0 c.args.local.now.session c.in-Some.found.now (here_fields c.in-Ok.row) c.session-session.ensures
