@@ -1,5 +1,5 @@
 -- Where no session is in a transaction, each is shown the committed tables.
-use Rattle.std.proofs.Common.{◌≡◌, ℕ, Bool, true, false, ◌&&◌, cond, List, [], ◌∷◌, map, Option, Some, None, refl, sym, ap, ◌∙◌}
+use Rattle.std.proofs.Common.{◌≡◌, ℕ, Bool, true, false, ◌&&◌, cond, List, [], ◌∷◌, map, Option, Some, None, refl, ap, ◌∙◌}
 use Rattle.std.specs.Prelude.{◌==◌, is_none}
 use Rattle.std.specs.List.{AllByRecursion}
 use Rattle.database_state.specs.Table.{Rows, Table}
