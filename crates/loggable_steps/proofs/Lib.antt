@@ -1,0 +1,5 @@
+pub mod RecordBytes
+pub mod Bookmarks
+pub mod ChangeBytes
+pub mod SchemaBytes
+pub mod Spelled
