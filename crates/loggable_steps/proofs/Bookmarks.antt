@@ -1,5 +1,5 @@
 -- The bookmark of a record that a session sees, and of one that it may put, has 1 to 255 bytes.
-use Rattle.std.proofs.Common.{◌≡◌, ℕ, zero, suc, ◌+◌, ◌<◌, ◌≤◌, Bool, true, false, not, ◌&&◌, ◌||◌, List, [], ◌∷◌, ◌++◌, map, length, Option, Some, None, refl, sym, ap, subst, ◌∙◌, arith}
+use Rattle.std.proofs.Common.{◌≡◌, ℕ, zero, suc, ◌<◌, ◌≤◌, Bool, true, false, not, ◌&&◌, ◌||◌, List, [], ◌∷◌, ◌++◌, map, length, Option, Some, None, refl, sym, ap, subst, ◌∙◌, arith}
 use Rattle.std.specs.Prelude.{◌==◌, nat_le, take, count_by, bytes_eq, is_some, IfSome}
 use Rattle.std.specs.List.{AllByRecursion, list_any}
 use Rattle.std.proofs.lemmas.Bool.{and_from}
@@ -12,9 +12,8 @@ use Rattle.index_derive.specs.declared.rules.IndexRule.{IndexRule}
 use Rattle.index_derive.specs.declared.rules.Schema.{Schema}
 use Rattle.index_derive.specs.declared.rules.Segment.{Segment}
 use Rattle.index_derive.specs.Entries.{condition_columns, first_or_null, has_double_number, has_ignore_flag, is_escrow_column, is_legal, is_legal_primary, is_legal_tuples, is_multi_column, key_columns, primary_key, type_of_column}
-use Rattle.database_state.specs.Table.{Rows, Table, primary_rule, record_in, row_at, rows_of, schema_of, table_with_id}
+use Rattle.database_state.specs.Table.{Rows, Table, primary_rule, record_in, row_at, schema_of, table_with_id}
 use Rattle.database_state.specs.State.{DatabaseState, PastChange, transaction_of}
-use Rattle.database_state.specs.Conflicts.{yields_key}
 use Rattle.database_state.specs.View.{view}
 use Rattle.database_state.specs.Lawful.{is_bookmark_of}
 use Rattle.record_changes.specs.Records.{Records, records_of}

@@ -1,25 +1,22 @@
 -- A lawful change can be written.
-use Rattle.std.proofs.Common.{◌≡◌, ℕ, suc, ◌+◌, ◌*◌, ◌^◌, ◌<◌, ◌≤◌, Bool, true, false, not, ◌&&◌, ◌||◌, List, [], ◌∷◌, ◌++◌, length, Option, Some, None, refl, sym, ap, subst, ◌∙◌, arith}
+use Rattle.std.proofs.Common.{◌≡◌, ℕ, suc, ◌+◌, ◌^◌, ◌<◌, ◌≤◌, true, not, ◌&&◌, ◌||◌, List, ◌++◌, length, Option, Some, None, refl, sym, ap, subst, ◌∙◌, arith}
 use Rattle.std.specs.Prelude.{ℤ, pos, negsuc, ◌==◌, nat_le, nat_lt, is_some, IfSome, FitsSigned}
 use Rattle.std.specs.Int.{w16, w32, to_le_bytes, cast_unsigned}
 use Rattle.std.specs.List.{flat_map, list_all}
 use Rattle.std.proofs.lemmas.Bool.{and_from, and_parts}
 use Rattle.std.proofs.lemmas.Bool.Decides.{nat_tests}
 use Rattle.std.proofs.lemmas.List.{length-append}
+use Rattle.jet_base.specs.declared.ids.ColumnId.{ColumnId}
 use Rattle.jet_base.specs.declared.ids.TableId.{TableId}
 use Rattle.column_set.specs.declared.changes.Change.{Change}
 use Rattle.column_set.specs.declared.changes.Change.TheVariants.{Put, Drop, Hold, Add}
 use Rattle.column_set.specs.Record.{is_record}
 use Rattle.column_set.specs.RecordValues.{RecordFields, has_value, is_kept_column, is_missing_a_value, record_fits as record_fits_columns, record_size}
 use Rattle.column_set.specs.Rows.{record_values_in_order}
-use Rattle.index_derive.specs.declared.rules.IndexRule.{IndexRule}
-use Rattle.index_derive.specs.declared.rules.Schema.{Schema}
 use Rattle.database_state.specs.Table.{Rows, Table, primary_rule, record_in, row_at, rows_of, schema_of, table_with_id}
-use Rattle.database_state.specs.State.{DatabaseState, PastChange, levels}
-use Rattle.database_state.specs.Changes.{changed_table}
-use Rattle.database_state.specs.Conflicts.{has_write_conflict}
+use Rattle.database_state.specs.State.{DatabaseState, PastChange}
 use Rattle.database_state.specs.View.{view}
-use Rattle.database_state.specs.Lawful.{has_free_keys, is_bookmark_of, is_copied_in, is_indexable, is_lawful_at, is_lawful_change, is_lawful_put, keeps_escrow}
+use Rattle.database_state.specs.Lawful.{has_free_keys, is_bookmark_of, is_copied_in, is_indexable, is_lawful_at, is_lawful_change, keeps_escrow}
 use Rattle.record_changes.specs.Records.{Records}
 use Rattle.record_changes.proofs.Tests.{and_left, and_right, impossible, same_number}
 use Rattle.version_keys.proofs.BookmarkKeys.{HasOneEntry}
@@ -99,6 +96,14 @@ put_spelled table bookmark copied values low marked from is small =
   where
     counted : (n : ℕ) → n ≤ 1700 → nat_lt n (2 ^ 16) ≡ true
     counted n h = grind (arith, nat_tests)
+
+add_spelled : (table : TableId) (bookmark : List ℕ) (column : ColumnId) (amount : ℤ) → nat_lt table.0 (2 ^ 32) ≡ true → bookmark_fits bookmark ≡ true → nat_lt column.0 (2 ^ 16) ≡ true → amount_fits amount ≡ true → IsSpelled (Add table bookmark column amount)
+add_spelled table bookmark column amount low marked numbered fits = record {
+  fits = and_from (nat_lt table.0 (2 ^ 32)) (bookmark_fits bookmark && (nat_lt column.0 (2 ^ 16) && amount_fits amount)) low
+      (and_from (bookmark_fits bookmark) (nat_lt column.0 (2 ^ 16) && amount_fits amount) marked (and_from (nat_lt column.0 (2 ^ 16)) (amount_fits amount) numbered fits));
+  short = with_table table.0 (bookmark_bytes bookmark ++ (to_le_bytes w16 column.0 ++ to_le_bytes w32 (cast_unsigned w32 amount))) (257 + 6)
+      (both_most (bookmark_bytes bookmark) (to_le_bytes w16 column.0 ++ to_le_bytes w32 (cast_unsigned w32 amount)) 257 6 (bookmark_most bookmark marked) (omega arith)) (omega arith);
+}
 
 -- ---- the table of a change
 
@@ -181,9 +186,4 @@ change_spelled state asked session (Add table bookmark column amount) lawful typ
     let may = allowed state session table.0 (Add table bookmark column amount) (and_right _ _ lawful) in
     let both = and_parts (nat_lt table.0 (2 ^ 32)) (nat_lt column.0 (2 ^ 16)) sized in
     let marked : bookmark_fits bookmark ≡ true = seen state asked session table.0 may.table may.found may.same bookmark (and_left (is_some (record_in (view state session) may.table.id bookmark)) _ may.is) in
-    record {
-      fits = and_from (nat_lt table.0 (2 ^ 32)) (bookmark_fits bookmark && (nat_lt column.0 (2 ^ 16) && amount_fits amount)) both.0
-          (and_from (bookmark_fits bookmark) (nat_lt column.0 (2 ^ 16) && amount_fits amount) marked (and_from (nat_lt column.0 (2 ^ 16)) (amount_fits amount) both.1 (amount_spelled amount typed)));
-      short = with_table table.0 (bookmark_bytes bookmark ++ (to_le_bytes w16 column.0 ++ to_le_bytes w32 (cast_unsigned w32 amount))) (257 + 6)
-          (both_most (bookmark_bytes bookmark) (to_le_bytes w16 column.0 ++ to_le_bytes w32 (cast_unsigned w32 amount)) 257 6 (bookmark_most bookmark marked) (omega arith)) (omega arith);
-    }
+    add_spelled table bookmark column amount both.0 marked both.1 (amount_spelled amount typed)

@@ -3,3 +3,5 @@ pub mod Bookmarks
 pub mod ChangeBytes
 pub mod SchemaBytes
 pub mod Spelled
+pub mod Replaying
+pub mod Opened

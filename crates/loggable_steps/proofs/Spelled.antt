@@ -1,5 +1,5 @@
 -- Lawful entries, and those of lawful steps, can be written.
-use Rattle.std.proofs.Common.{◌≡◌, ℕ, suc, ◌+◌, ◌^◌, ◌<◌, ◌≤◌, Bool, true, false, ◌&&◌, List, [], ◌∷◌, ◌++◌, length, Some, refl, sym, ap, subst, ◌∙◌, arith}
+use Rattle.std.proofs.Common.{◌≡◌, ℕ, suc, ◌+◌, ◌^◌, ◌≤◌, true, ◌&&◌, List, [], ◌∷◌, length, Some, refl, ap, arith}
 use Rattle.std.specs.Prelude.{nat_le, nat_lt, is_none}
 use Rattle.std.specs.Int.{w32, to_le_bytes}
 use Rattle.std.proofs.lemmas.Bool.{and_from}
@@ -23,7 +23,7 @@ use Rattle.version_records.specs.EscrowNumbers.{HasItsType}
 use Rattle.lawful_answers.specs.EntryTypes.{AreOfTheirTypes}
 use Rattle.lawful_answers.specs.LawfulSteps.{AreLawful, IsReached, IsReachedState}
 use Rattle.built_calls.specs.BuiltTables.{AllMakeBuilt, makes_built}
-use Rattle.log_grammar.specs.EntryBytes.{entry_bytes, entry_rest, entry_tag, has_spelling, kind_bytes, kind_fits, schema_bytes}
+use Rattle.log_grammar.specs.EntryBytes.{entry_bytes, entry_rest, has_spelling, kind_bytes, kind_fits, schema_bytes}
 use Rattle.log_grammar.specs.EntryStreams.{stream_fits}
 use Rattle.loggable_steps.specs.Loggable.{fits_types, is_label, is_loggable, made_by}
 use Rattle.loggable_steps.proofs.ChangeBytes.{IsAsked, change_spelled}
