@@ -5,3 +5,4 @@ pub mod SchemaBytes
 pub mod Spelled
 pub mod Replaying
 pub mod Opened
+pub mod Closing

@@ -18,10 +18,15 @@ ghost use Rattle.loggable_steps.specs.Loggable.{is_loggable, made_by};
 ghost use Rattle.loggable_steps.specs.Replays.{HasLogged, closed, opened_state};
 
 use crate::entries::lawful_steps_can_be_logged;
-use engine_versions::{a_lawful_entry_makes_the_next_state, a_lawful_step_makes_the_next_state};
+use engine_versions::{
+    a_lawful_entry_makes_the_next_state, a_lawful_step_makes_the_next_state,
+    an_engine_of_tables_alone_holds_their_state,
+};
 use entry_log::what_is_kept_goes_on_with_its_stream;
 use held_states::states_that_one_engine_holds_answer_alike;
+use index_derive::{a_primary_index_has_one_entry, entries_rise};
 use log_grammar::streams_are_read_back;
+use version_records::every_record_seen_is_stored;
 
 /// A log begins with an engine of any state, by no entry. It goes on by each step that is lawful in a state that the engine holds
 /// and whose entry can be written. Whatever leaves the states that the engine holds, as a clean does, leaves its log, and so does
@@ -61,3 +66,14 @@ pub fn an_engine_without_sessions_tells_its_state()
     ensures cleaned { (engine : EngineState) (state : DatabaseState) → HoldsState engine state → engine.sessions ≡ [] → cleaned engine ≡ engine_of engine.limit (closed state) }
     ensures opened { (limit : ℕ) (state : DatabaseState) → opened_state (engine_of limit state) ≡ closed state }
 {}
+
+/// What is left once all sessions are given up is a state that an engine of its tables holds. So an engine that was read back and
+/// replayed goes on from there.
+pub fn a_closed_state_is_held_by_its_tables()
+    ensures holds { (engine : EngineState) (state : DatabaseState) → HoldsState engine state → (limit : ℕ) → HoldsState (engine_of limit (closed state)) (closed state) }
+{
+    a_primary_index_has_one_entry();
+    entries_rise();
+    every_record_seen_is_stored();
+    an_engine_of_tables_alone_holds_their_state();
+}

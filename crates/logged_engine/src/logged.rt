@@ -149,8 +149,9 @@ impl LoggedEngine {
     }
 
     /// Makes a step that was decided in this state, or that is lawful in a replay, as `engine_core::apply` does, and writes its
-    /// entries behind the log, each once. Its session has a label, 1 to 99. After want of memory no byte of the log has changed, and the engine is as it was, but
-    /// that a clean may stand. What ends something takes no memory: the room for its entry is kept from its begin on.
+    /// entries behind the log, each once. Its session has a label, 1 to 99, so that each of them can be written, by less than
+    /// 134,217,728 bytes. After want of memory no byte of the log has changed, and the engine is as it was, but that a clean may
+    /// stand. What ends something takes no memory: the room for its entry is kept from its begin on.
     pub fn apply(&mut self, step: &Step) -> Result<(), OutOfMemory>
         requires lawful { MayTake self.old.engine step.now }
         requires room { HasRoomForEnds self.old.engine }
@@ -160,6 +161,7 @@ impl LoggedEngine {
         ensures cleaned { OnErr result (MayBeCleaned self.old.engine self.new.engine) }
         ensures kept { OnErr result (self.new.stream ≡ self.old.stream) }
         ensures memory { OnErr result (logged_step_may_lack_memory step.now ≡ true) }
+        ensures loggable { is_loggable (made_by step.now) ≡ true }
     {
         what_is_begun_keeps_the_bytes_of_its_end();
         ends_always_find_room();
