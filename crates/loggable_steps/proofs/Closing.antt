@@ -104,12 +104,12 @@ pub unique_table : KeyLaws → (base : Records) (dropped kept : List PastChange)
 unique_table laws base dropped kept state reached id t found same rise =
     all_both (λ rule. IsSoundIndex t rule × IsUniqueIndex (transaction_of state) base kept t rule) (λ rule. SeesNoSum rule t.id kept) _
     (λ rule known plain. (
-        known.0,
-        λ unique. (
-          no_double_key laws.rise rule (schema_of t) t.rows rise (unique_rows base dropped kept state reached id t found same rule plain (known.1 unique).0),
-          λ primary bookmark. own_keys laws.one state.number rule (schema_of t) (known.0.2 primary).0 (known.0.2 primary).1 primary bookmark (row_at t.rows bookmark) (stands bookmark),
-        ),
-      ))
+      known.0,
+      λ unique. (
+        no_double_key laws.rise rule (schema_of t) t.rows rise (unique_rows base dropped kept state reached id t found same rule plain (known.1 unique).0),
+        λ primary bookmark. own_keys laws.one state.number rule (schema_of t) (known.0.2 primary).0 (known.0.2 primary).1 primary bookmark (row_at t.rows bookmark) (stands bookmark),
+      ),
+    ))
     t.indexes (subst (λ (o : Option Table). IfSome o (HasUniqueIndexes (transaction_of state) base kept)) found (reached.unique.tables id)) (seen_by kept state (unseen_now base kept state reached.sums) id t found)
   where
     stands : (bookmark : List ℕ) → IfSome (row_at t.rows bookmark) (StandsUnder state.number (schema_of t) bookmark)
