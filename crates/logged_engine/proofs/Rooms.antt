@@ -13,8 +13,9 @@ use Rattle.engine_steps.specs.Steps.{may_lack_memory}
 use Rattle.entry_log.specs.LogState.{LogState, appended, stream_end}
 use Rattle.log_grammar.specs.EntryBytes.{entry_bytes}
 use Rattle.log_grammar.specs.EntryStreams.{stream_bytes}
-use Rattle.logged_engine.specs.Ends.{begun_bytes, end_bytes, ended_bytes, ends_something, made_by}
-use Rattle.logged_engine.specs.LoggedState.{HasRoom, MayLackMemory, is_loggable, logged_step_may_lack_memory}
+use Rattle.loggable_steps.specs.Loggable.{is_loggable, made_by}
+use Rattle.logged_engine.specs.Ends.{begun_bytes, end_bytes, ended_bytes, ends_something}
+use Rattle.logged_engine.specs.LoggedState.{HasRoom, MayLackMemory, logged_step_may_lack_memory}
 use Rattle.logged_engine.proofs.StepBytes.{alone_size, end_appended, loggable_parts, one_size}
 use Rattle.logged_engine.proofs.Steps.{same_sessions}
 

@@ -12,7 +12,7 @@ use Rattle.jet_base.specs.declared.ids.Session.{Session}
 use Rattle.entry_log.specs.LogState.{KeptStream, appended, stream_end}
 use Rattle.log_grammar.specs.EntryBytes.{entry_bytes, entry_rest, has_spelling, kind_fits}
 use Rattle.log_grammar.specs.EntryStreams.{stream_bytes}
-use Rattle.logged_engine.specs.LoggedState.{is_loggable}
+use Rattle.loggable_steps.specs.Loggable.{is_loggable}
 
 pub stream-one : (made : Entry) → stream_bytes (made ∷ []) ≡ entry_bytes made
 stream-one made = flat_map-cons entry_bytes made [] ∙ append-nil (entry_bytes made)

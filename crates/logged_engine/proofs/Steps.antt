@@ -15,7 +15,8 @@ use Rattle.built_calls.specs.BuiltTables.{AllMakeBuilt, makes_built}
 use Rattle.engine_versions.specs.EngineState.{EngineState, cleaned}
 use Rattle.engine_versions.specs.EngineSteps.{cleaned_for, cleans_first, engine_after, engine_after_step}
 use Rattle.engine_versions.specs.HoldsState.{HoldsState}
-use Rattle.logged_engine.specs.Ends.{begun_bytes, end_bytes, ended_bytes, made_by}
+use Rattle.loggable_steps.specs.Loggable.{made_by}
+use Rattle.logged_engine.specs.Ends.{begun_bytes, end_bytes, ended_bytes}
 use Rattle.logged_engine.proofs.Ends.{entry_keeps}
 
 abbrev pub EntryHolds : Type 0

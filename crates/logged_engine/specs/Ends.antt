@@ -1,10 +1,7 @@
 -- The bytes of the entries that end what is begun.
 use Rattle.std.specs.Prelude.{ℕ, ◌+◌, ◌*◌, Bool, true, false, List, [], ◌∷◌, length}
-use Rattle.index_derive.specs.declared.log.Entry.{Entry}
 use Rattle.index_derive.specs.declared.log.EntryKind.{EntryKind}
 use Rattle.index_derive.specs.declared.log.EntryKind.TheVariants as entry
-use Rattle.index_derive.specs.declared.log.Step.{Step}
-use Rattle.index_derive.specs.declared.log.Step.TheVariants.{One, Alone}
 use Rattle.version_cleanup.specs.LiveSessions.{LiveState, levels_of}
 
 -- a session ends by 9 bytes, each of its open tables by 13 and each of its levels by 9
@@ -41,8 +38,3 @@ ends_something entry.Undo = true
 ends_something entry.UndoAll = true
 ends_something entry.Commit = true
 ends_something _ = false
-
--- the entry of a step that is not its begin or its commit
-abbrev pub made_by : Step → Entry
-made_by (One made) = made
-made_by (Alone made) = made

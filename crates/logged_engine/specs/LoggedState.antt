@@ -1,13 +1,11 @@
 -- An engine with the bytes of its log entries.
-use Rattle.std.specs.Prelude.{◌≡◌, ◌≤◌, ◌<◌, ◌*◌, ◌^◌, ◌⊎◌, ℕ, Bool, ◌&&◌, not, true, length, nat_lt}
-use Rattle.index_derive.specs.declared.log.Entry.{Entry}
+use Rattle.std.specs.Prelude.{◌≡◌, ◌≤◌, ◌<◌, ◌*◌, ◌^◌, ◌⊎◌, ℕ, Bool, not, true}
 use Rattle.index_derive.specs.declared.log.Step.{Step}
 use Rattle.index_derive.specs.declared.log.Step.TheVariants.{One, Alone}
 use Rattle.engine_versions.specs.EngineState.{EngineState}
 use Rattle.engine_versions.specs.EngineSteps.{cleaned_for}
 use Rattle.engine_steps.specs.Steps.{step_may_lack_memory}
 use Rattle.entry_log.specs.LogState.{KeptStream, LogState, stream_end}
-use Rattle.log_grammar.specs.EntryBytes.{entry_bytes, has_spelling}
 use Rattle.logged_engine.specs.Ends.{end_bytes, ends_something}
 
 -- What the engine holds, and what is kept of the bytes of the entries that it has made since its log began.
@@ -21,10 +19,6 @@ pub record HasRoom (engine : EngineState) (log : LogState) (ends : ℕ) : Type 0
   pub room : ends ≤ log.room
   pub few : ends ≤ 16 * engine.number
   pub short : stream_end log.stream ≤ 2 ^ 27 * engine.number
-
--- whether an entry can be written, by less than 2^27 bytes
-abbrev pub is_loggable : Entry → Bool
-is_loggable made = has_spelling made && nat_lt (length (entry_bytes made)) (2 ^ 27)
 
 -- A clean may have been made.
 abbrev pub MayBeCleaned : EngineState → EngineState → Type 0

@@ -9,8 +9,9 @@ ghost use Rattle.engine_versions.specs.EngineState.{EngineState, HasRoomForEnds}
 ghost use Rattle.engine_versions.specs.EngineSteps.{cleaned_for, engine_after, engine_after_step};
 ghost use Rattle.engine_versions.specs.HoldsState.{HoldsState};
 ghost use Rattle.engine_steps.specs.Steps.{MayTake};
+ghost use Rattle.loggable_steps.specs.Loggable.{made_by};
 ghost use Rattle.logged_engine.specs.Bounds.{IsBounded};
-ghost use Rattle.logged_engine.specs.Ends.{begun_bytes, end_bytes, ended_bytes, made_by};
+ghost use Rattle.logged_engine.specs.Ends.{begun_bytes, end_bytes, ended_bytes};
 
 use engine_versions::{
     a_clean_leaves_the_state, a_lawful_entry_makes_the_next_state, ends_always_find_room,

@@ -3,8 +3,9 @@
 
 mod laws;
 mod logged;
+mod types;
 mod writing;
 
 pub use laws::{the_number_stays_bounded, what_is_begun_keeps_the_bytes_of_its_end};
 pub use logged::LoggedEngine;
-pub use writing::is_loggable;
+pub use writing::has_label;

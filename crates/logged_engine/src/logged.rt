@@ -14,10 +14,12 @@ ghost use Rattle.engine_steps.specs.Cleans.{CanGo, without_oldest_held};
 ghost use Rattle.engine_steps.specs.Steps.{MayTake};
 ghost use Rattle.log_grammar.specs.EntryStreams.{stream_bytes};
 ghost use Rattle.entry_log.specs.LogState.{appended, bytes_from, empty_stream, stream_end, trimmed_to};
-ghost use Rattle.logged_engine.specs.Ends.{end_bytes, made_by};
-ghost use Rattle.logged_engine.specs.LoggedState.{MayBeCleaned, MayLackMemory, is_loggable, logged_step_may_lack_memory};
+ghost use Rattle.loggable_steps.specs.Loggable.{is_label, is_loggable, made_by};
+ghost use Rattle.logged_engine.specs.Ends.{end_bytes};
+ghost use Rattle.logged_engine.specs.LoggedState.{MayBeCleaned, MayLackMemory, logged_step_may_lack_memory};
 
 use crate::laws::what_is_begun_keeps_the_bytes_of_its_end;
+use crate::types::the_step_can_be_logged;
 use crate::writing::{ends_after, step_size, write};
 use engine_core::Engine;
 use engine_versions::ends_always_find_room;
@@ -147,20 +149,23 @@ impl LoggedEngine {
     }
 
     /// Makes a step that was decided in this state, or that is lawful in a replay, as `engine_core::apply` does, and writes its
-    /// entries behind the log, each once. After want of memory no byte of the log has changed, and the engine is as it was, but
-    /// that a clean may stand. What ends something takes no memory: the room for its entry is kept from its begin on.
+    /// entries behind the log, each once. Its session has a label, 1 to 99, so that each of them can be written, by less than
+    /// 134,217,728 bytes. After want of memory no byte of the log has changed, and the engine is as it was, but that a clean may
+    /// stand. What ends something takes no memory: the room for its entry is kept from its begin on.
     pub fn apply(&mut self, step: &Step) -> Result<(), OutOfMemory>
         requires lawful { MayTake self.old.engine step.now }
         requires room { HasRoomForEnds self.old.engine }
-        requires loggable { IsTrue (is_loggable (made_by step.now)) }
+        requires label { is_label (made_by step.now).session.0 ≡ true }
         ensures engine { OnOk result (self.new.engine ≡ engine_after_step self.old.engine step.now) }
         ensures stream { OnOk result (self.new.stream ≡ appended (stream_bytes (entries_of_step (Some step.now))) self.old.stream) }
         ensures cleaned { OnErr result (MayBeCleaned self.old.engine self.new.engine) }
         ensures kept { OnErr result (self.new.stream ≡ self.old.stream) }
         ensures memory { OnErr result (logged_step_may_lack_memory step.now ≡ true) }
+        ensures loggable { is_loggable (made_by step.now) ≡ true }
     {
         what_is_begun_keeps_the_bytes_of_its_end();
         ends_always_find_room();
+        the_step_can_be_logged(&self.engine, step);
         let ends = ends_after(self.ends, step);
         match make(&mut self.engine, &mut self.log, step, ends) {
             Ok(()) => {

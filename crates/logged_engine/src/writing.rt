@@ -6,16 +6,13 @@ ghost use Rattle.index_derive.specs.Steps.{entries_of_step};
 ghost use Rattle.log_grammar.specs.EntryBytes.{entry_bytes};
 ghost use Rattle.log_grammar.specs.EntryStreams.{stream_bytes};
 ghost use Rattle.entry_log.specs.LogState.{appended, stream_end};
-ghost use Rattle.logged_engine.specs.Ends.{begun_bytes, ended_bytes, made_by};
-ghost use Rattle.logged_engine.specs.LoggedState.{is_loggable};
+ghost use Rattle.loggable_steps.specs.Loggable.{is_label, is_loggable, made_by};
+ghost use Rattle.logged_engine.specs.Ends.{begun_bytes, ended_bytes};
 
 use entry_log::EntryLog;
 use index_derive::{Entry, EntryKind, Step};
 use jet_base::Session;
-use log_record::{entry_size, has_spelling};
-
-/// One more than the most bytes of an entry.
-const ENTRY_LIMIT: usize = 134_217_728;
+use log_record::entry_size;
 
 /// The bytes of an entry without fields.
 const PLAIN_BYTES: usize = 9;
@@ -33,12 +30,12 @@ fn made_by(step: &Step) -> &Entry
     }
 }
 
-/// Whether a step can be logged: its entry can be written, by less than 134,217,728 bytes.
-pub fn is_loggable(step: &Step) -> bool
-    ensures { result ≡ is_loggable (made_by step.now) }
+/// Whether the session that takes a step has a label, 1 to 99.
+pub fn has_label(step: &Step) -> bool
+    ensures { result ≡ is_label (made_by step.now).session.0 }
 {
-    let made = made_by(step);
-    has_spelling(made) && entry_size(made) < ENTRY_LIMIT
+    let label = made_by(step).session.0;
+    1 <= label && label <= 99
 }
 
 /// How many bytes the entries of a step have.

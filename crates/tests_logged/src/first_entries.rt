@@ -10,7 +10,7 @@ use engine_core::Engine;
 use engine_versions::an_empty_engine_holds_the_empty_state;
 use index_derive::{Entry, EntryKind, Step};
 use jet_base::Session;
-use logged_engine::{LoggedEngine, is_loggable};
+use logged_engine::{LoggedEngine, has_label};
 use std::alloc::Global;
 use std::process::Abort;
 use std::test::*;
@@ -37,7 +37,7 @@ fn entered(rt: &impl Abort, alloc: Global) -> LoggedEngine {
     an_empty_engine_holds_the_empty_state();
     let mut engine = empty(alloc);
     let step = enter();
-    assert!(rt; is_loggable(&step));
+    assert!(rt; has_label(&step));
     engine.apply(&step).expect(rt, "memory");
     engine
 }

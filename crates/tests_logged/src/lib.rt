@@ -3,3 +3,5 @@
 
 #[cfg(test)]
 mod first_entries;
+#[cfg(test)]
+mod sending;

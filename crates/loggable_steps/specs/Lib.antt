@@ -1,0 +1,2 @@
+pub mod Loggable
+pub mod Replays

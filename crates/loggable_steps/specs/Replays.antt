@@ -1,0 +1,30 @@
+-- An engine beside the log from which a replay makes it.
+use Rattle.std.specs.Prelude.{◌≡◌, true, List, []}
+use Rattle.index_derive.specs.declared.log.Entry.{Entry}
+use Rattle.database_state.specs.State.{DatabaseState}
+use Rattle.database_state.specs.Step.{state_after_all}
+use Rattle.lawful_answers.specs.EntryTypes.{AreOfTheirTypes}
+use Rattle.lawful_answers.specs.LawfulSteps.{AreLawful}
+use Rattle.built_calls.specs.BuiltTables.{AllMakeBuilt}
+use Rattle.engine_versions.specs.EngineState.{EngineState}
+use Rattle.engine_versions.specs.HoldsState.{HoldsState}
+use Rattle.log_grammar.specs.EntryStreams.{stream_bytes, stream_fits}
+use Rattle.entry_log.specs.LogState.{IsKeptOf, KeptStream}
+
+-- the database state of an engine without sessions: its tables are the committed ones
+abbrev pub opened_state : EngineState → DatabaseState
+opened_state engine = record { number = engine.number; greatest_table = engine.greatest_table; tables = engine.store.tables; sessions = []; past = [] }
+
+-- what is left of a state once all sessions are given up: its number, and the committed tables with the numbers that were given
+abbrev pub closed : DatabaseState → DatabaseState
+closed state = record state { sessions = []; past = [] }
+
+-- The engine came from the opening state by these entries, each lawful in its turn, holds the state after them, and keeps their
+-- bytes from some position on. Each of them can be written.
+pub record HasLogged (opening : DatabaseState) (entries : List Entry) (engine : EngineState) (stream : KeptStream) : Type 0 where
+  pub lawful : AreLawful opening entries
+  pub built : AllMakeBuilt entries
+  pub typed : AreOfTheirTypes entries
+  pub spelled : stream_fits entries ≡ true
+  pub kept : IsKeptOf (stream_bytes entries) stream
+  pub holds : HoldsState engine (state_after_all opening entries)

@@ -1,0 +1,79 @@
+//! What a log gives when it is read back and replayed.
+
+ghost use Rattle.std.specs.Prelude.{◌≡◌, ◌≤◌, ◌++◌, [], ℕ, true, List, Some};
+ghost use Rattle.index_derive.specs.declared.log.Entry.{Entry};
+ghost use Rattle.index_derive.specs.declared.log.Step.{Step};
+ghost use Rattle.index_derive.specs.Steps.{entries_of_step};
+ghost use Rattle.database_state.specs.State.{DatabaseState};
+ghost use Rattle.database_state.specs.Step.{state_after_all};
+ghost use Rattle.lawful_answers.specs.EntryTypes.{AreOfTheirTypes};
+ghost use Rattle.lawful_answers.specs.LawfulSteps.{AreLawful};
+ghost use Rattle.built_calls.specs.BuiltTables.{AllMakeBuilt};
+ghost use Rattle.engine_versions.specs.EngineState.{EngineState, cleaned, engine_of};
+ghost use Rattle.engine_versions.specs.EngineSteps.{engine_after_step};
+ghost use Rattle.engine_versions.specs.HoldsState.{HoldsState};
+ghost use Rattle.log_grammar.specs.EntryStreams.{Holds, stream_bytes};
+ghost use Rattle.entry_log.specs.LogState.{KeptStream, appended, empty_stream, stream_end, trimmed_to};
+ghost use Rattle.loggable_steps.specs.Loggable.{is_loggable, made_by};
+ghost use Rattle.loggable_steps.specs.Replays.{HasLogged, closed, opened_state};
+
+use crate::entries::lawful_steps_can_be_logged;
+use engine_versions::{
+    a_lawful_entry_makes_the_next_state, a_lawful_step_makes_the_next_state,
+    an_engine_of_tables_alone_holds_their_state,
+};
+use entry_log::what_is_kept_goes_on_with_its_stream;
+use held_states::states_that_one_engine_holds_answer_alike;
+use index_derive::{a_primary_index_has_one_entry, entries_rise};
+use log_grammar::streams_are_read_back;
+use version_records::every_record_seen_is_stored;
+
+/// A log begins with an engine of any state, by no entry. It goes on by each step that is lawful in a state that the engine holds
+/// and whose entry can be written. Whatever leaves the states that the engine holds, as a clean does, leaves its log, and so does
+/// a trim.
+pub fn a_log_goes_on_with_its_engine()
+    ensures first { (opening : DatabaseState) (engine : EngineState) → HoldsState engine opening → HasLogged opening [] engine empty_stream }
+    ensures step { (opening : DatabaseState) (entries : List Entry) (engine : EngineState) (stream : KeptStream) → HasLogged opening entries engine stream
+        → (state : DatabaseState) (step : Step) → HoldsState engine state → AreLawful state (entries_of_step (Some step)) → AllMakeBuilt (entries_of_step (Some step)) → AreOfTheirTypes (entries_of_step (Some step)) → is_loggable (made_by step) ≡ true
+        → HasLogged opening (entries ++ entries_of_step (Some step)) (engine_after_step engine step) (appended (stream_bytes (entries_of_step (Some step))) stream) }
+    ensures same { (opening : DatabaseState) (entries : List Entry) (engine other : EngineState) (stream : KeptStream) → HasLogged opening entries engine stream
+        → ((state : DatabaseState) → HoldsState engine state → HoldsState other state) → HasLogged opening entries other stream }
+    ensures trimmed { (opening : DatabaseState) (entries : List Entry) (engine : EngineState) (stream : KeptStream) (position : ℕ) → HasLogged opening entries engine stream
+        → position ≤ stream_end stream → HasLogged opening entries engine (trimmed_to position stream) }
+{
+    lawful_steps_can_be_logged();
+    a_lawful_entry_makes_the_next_state();
+    a_lawful_step_makes_the_next_state();
+    states_that_one_engine_holds_answer_alike();
+    what_is_kept_goes_on_with_its_stream();
+}
+
+/// The entries that are read back from the bytes of a whole log are those that were made, up to the last byte. So they are lawful
+/// in turn from the opening state, and their replay from there gives the state that the engine holds.
+pub fn a_log_is_read_back_and_replayed()
+    ensures read { (opening : DatabaseState) (entries : List Entry) (engine : EngineState) (stream : KeptStream) → HasLogged opening entries engine stream → stream.from ≡ 0
+        → (read : List Entry) (rest : List ℕ) → Holds stream.bytes read rest → (read ≡ entries) × (rest ≡ []) }
+    ensures replay { (opening : DatabaseState) (entries : List Entry) (engine : EngineState) (stream : KeptStream) → HasLogged opening entries engine stream → stream.from ≡ 0
+        → (read : List Entry) (rest : List ℕ) → Holds stream.bytes read rest → AreLawful opening read × HoldsState engine (state_after_all opening read) }
+{
+    streams_are_read_back();
+}
+
+/// An engine without sessions tells its state: the tables are the committed ones, and nothing of its past matters. Once it is
+/// cleaned it is the very engine that is made of these tables.
+pub fn an_engine_without_sessions_tells_its_state()
+    ensures state { (engine : EngineState) (state : DatabaseState) → HoldsState engine state → engine.sessions ≡ [] → opened_state engine ≡ closed state }
+    ensures cleaned { (engine : EngineState) (state : DatabaseState) → HoldsState engine state → engine.sessions ≡ [] → cleaned engine ≡ engine_of engine.limit (closed state) }
+    ensures opened { (limit : ℕ) (state : DatabaseState) → opened_state (engine_of limit state) ≡ closed state }
+{}
+
+/// What is left once all sessions are given up is a state that an engine of its tables holds. So an engine that was read back and
+/// replayed goes on from there.
+pub fn a_closed_state_is_held_by_its_tables()
+    ensures holds { (engine : EngineState) (state : DatabaseState) → HoldsState engine state → (limit : ℕ) → HoldsState (engine_of limit (closed state)) (closed state) }
+{
+    a_primary_index_has_one_entry();
+    entries_rise();
+    every_record_seen_is_stored();
+    an_engine_of_tables_alone_holds_their_state();
+}

@@ -1,0 +1,102 @@
+//! What the types of the program say of a step.
+
+ghost use Rattle.std.specs.Prelude.{◌≡◌, ◌^◌, true, nat_lt};
+ghost use Rattle.engine_steps.specs.Steps.{MayTake};
+ghost use Rattle.loggable_steps.specs.Loggable.{change_fits_types, fits_types, is_label, is_loggable, made_by, schema_fits_types};
+
+use column_set::Change;
+use engine_core::Engine;
+use index_derive::{EntryKind, SchemaStep, Step};
+use jet_base::{ColumnId, IndexId, TableId};
+use loggable_steps::lawful_steps_can_be_logged;
+
+/// A step that may be taken, by a session with a label, can be written.
+pub(crate) fn the_step_can_be_logged(engine: &Engine, step: &Step)
+    requires lawful { MayTake engine.now step.now }
+    requires label { is_label (made_by step.now).session.0 ≡ true }
+    ensures { is_loggable (made_by step.now) ≡ true }
+{
+    lawful_steps_can_be_logged();
+    match step {
+        Step::One(made) => numbers_fit(&made.kind),
+        Step::Alone(made) => numbers_fit(&made.kind),
+    }
+}
+
+fn numbers_fit(kind: &EntryKind)
+    ensures { fits_types kind.now ≡ true }
+{
+    match kind {
+        EntryKind::Open(table) | EntryKind::Shut(table) => table_fits(*table),
+        EntryKind::Change(change) => change_fits(change),
+        EntryKind::Schema(made) => schema_fits(made),
+        _ => {}
+    }
+}
+
+fn change_fits(change: &Change)
+    ensures { change_fits_types change.now ≡ true }
+{
+    match change {
+        Change::Put { table, values, .. } => {
+            table_fits(*table);
+            let _ = values.fields();
+        }
+        Change::Drop { table, .. } | Change::Hold { table, .. } => table_fits(*table),
+        Change::Add { table, column, .. } => {
+            table_fits(*table);
+            column_fits(*column);
+        }
+    }
+}
+
+fn schema_fits(made: &SchemaStep)
+    ensures { schema_fits_types made.now ≡ true }
+{
+    match made {
+        SchemaStep::CreateTable { table, .. } | SchemaStep::DeleteTable { table } => {
+            table_fits(*table)
+        }
+        SchemaStep::AddColumn { table, column } => {
+            table_fits(*table);
+            column_fits(column.id);
+        }
+        SchemaStep::DeleteColumn { table, column } => {
+            table_fits(*table);
+            column_fits(*column);
+        }
+        SchemaStep::CreateIndex { table, index } => {
+            table_fits(*table);
+            index_fits(index.id);
+            order_fits(index.order);
+        }
+        SchemaStep::DeleteIndex { table, index } => {
+            table_fits(*table);
+            index_fits(*index);
+        }
+    }
+}
+
+fn table_fits(table: TableId)
+    ensures { nat_lt table.0 (2 ^ 32) ≡ true }
+{
+    let _ = table.0;
+}
+
+fn column_fits(column: ColumnId)
+    ensures { nat_lt column.0 (2 ^ 16) ≡ true }
+{
+    let _ = column.0;
+}
+
+fn index_fits(index: IndexId)
+    ensures { nat_lt index.0 (2 ^ 16) ≡ true }
+{
+    let _ = index.0;
+}
+
+fn order_fits(order: u32)
+    ensures { nat_lt order (2 ^ 32) ≡ true }
+{
+    let _ = order;
+}
