@@ -1,5 +1,5 @@
 -- A catalog that stands beside trees that change.
-use Rattle.std.proofs.Common.{◌≡◌, ℕ, ◌+◌, ◌≤◌, Option, Some, None, List, refl, arith}
+use Rattle.std.proofs.Common.{◌≡◌, ℕ, ◌+◌, ◌≤◌, Option, Some, None, List, refl}
 use Rattle.page_space.specs.Frames.{Frames}
 use Rattle.btree_inplace.specs.Trees.{AreApart, Exchanges}
 use Rattle.catalog_tree.specs.CatalogTrees.{IsCatalogTree, nodes_in, own_pages}
