@@ -8,6 +8,7 @@ pub mod FoundEntries
 pub mod NodeChanges
 pub mod TableChanges
 pub mod LongChanges
+pub mod Catalogs
 pub mod Places
 pub mod IndexChanges
 pub mod StoreChanges

@@ -6,7 +6,7 @@ use Rattle.btree_inplace.specs.Trees.{Exchanges}
 use Rattle.long_value.specs.Stores.{HasValues, HoldsValue, id_bytes, own_pages}
 use Rattle.long_value.specs.Values.{LongValue, Values, put_value, released, value_of, with_reference, without_reference}
 use Rattle.long_value.specs.declared.values.LongId.{LongId}
-use Rattle.table_trees.specs.LongTrees.{IsLongTree, LongBecomes, long_pages, long_values_in}
+use Rattle.table_trees.specs.LongTrees.{IsLongTree, LongBecomes, long_pages, long_root, long_values_in}
 use Rattle.table_trees.specs.declared.long_values.LongTree.{LongTree}
 use Rattle.table_trees.proofs.NodeChanges.{TreePagesAreOwn}
 use Rattle.table_trees.proofs.Pages.{rearranged}
@@ -57,9 +57,10 @@ unreferred id value values e = ap (λ (o : Option LongValue). unwrap_or (option_
 -- ---- what the tree becomes
 
 pub becomes : ValuesAreShown → TreePagesAreOwn → (old : Frames) (was : LongTree) (new : Frames) (is : LongTree) (before after : Values) → HasValues old was.store before → HasValues new is.store after → Exchanges old new (own_pages old was.store) (own_pages new is.store)
-    → LongBecomes old was new is after
-becomes shown own old was new is before after had has e = record {
+    → long_root is ≡ long_root was → LongBecomes old was new is after
+becomes shown own old was new is before after had has e root = record {
   tree = has_shown shown new is.store after has;
   values_are = shown new is.store after has;
   pages = rearranged old new (long_pages old was) (long_pages new is) e (own old was.store.tree had.tree) (own new is.store.tree has.tree);
+  root = root;
 }

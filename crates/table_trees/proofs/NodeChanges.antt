@@ -21,7 +21,7 @@ use Rattle.index_derive.specs.declared.entries.Place.{Place}
 use Rattle.cursor_nav.specs.Places.{Pair, are_sorted, entry_after, entry_before, is_beyond, is_short_of, pair_lt}
 use Rattle.table_trees.specs.Pages.{AreOwn}
 use Rattle.table_trees.specs.StoredNodes.{IsShortNode, bookmark_entries, node_after, node_before}
-use Rattle.table_trees.specs.NodeTrees.{NodesBecome}
+use Rattle.table_trees.specs.NodeTrees.{NodesBecome, node_root}
 use Rattle.table_trees.specs.declared.nodes.NodeTree.{NodeTree}
 use Rattle.table_trees.proofs.BookmarkOrder.{order, own_pairs_rise, same_either_way}
 use Rattle.table_trees.proofs.Finding.{find_map, find_reverse, last_map}
@@ -203,8 +203,8 @@ abbrev pub TreePagesAreOwn : Type 0
 TreePagesAreOwn = (frames : Frames) (tree : Tree) → IsTree frames tree → AreOwn frames (pages_of frames tree)
 
 pub become : TreePagesAreOwn → (old : Frames) (was : NodeTree) (new : Frames) (is : NodeTree) (list : List Node) → IsTree old was.tree → IsTree new is.tree → nodes_of new is.tree ≡ list
-    → Exchanges old new (pages_of old was.tree) (pages_of new is.tree) → are_sorted (bookmark_entries list) ≡ true → All IsShortNode list → NodesBecome old was new is list
-become own old was new is list before after has e sorted short = record {
+    → Exchanges old new (pages_of old was.tree) (pages_of new is.tree) → are_sorted (bookmark_entries list) ≡ true → All IsShortNode list → node_root is ≡ node_root was → NodesBecome old was new is list
+become own old was new is list before after has e sorted short root = record {
   tree = record {
     tree = after;
     in_order = ap (λ (l : List Node). are_sorted (bookmark_entries l)) has ∙ sorted;
@@ -212,6 +212,7 @@ become own old was new is list before after has e sorted short = record {
   };
   nodes = has;
   pages = rearranged old new (pages_of old was.tree) (pages_of new is.tree) e (own old was.tree before) (own new is.tree after);
+  root = root;
 }
 
 pub some_of : {X Y : Type 0} (f : X → Y) (P : Y → Type 0) (o : Option X) → IsSomeAnd (option_map f o) P → IsSome o

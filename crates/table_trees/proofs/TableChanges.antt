@@ -18,9 +18,10 @@ use Rattle.long_value.specs.Shown.{values_in}
 use Rattle.long_value.specs.Values.{Values}
 use Rattle.long_value.specs.declared.values.LongValues.{LongValues}
 use Rattle.table_trees.specs.StoredTables.{StoredIndex, is_index, new_table, put_indexes, put_long_values, put_nodes}
-use Rattle.table_trees.specs.LongTrees.{IsLongTree, LongBecomes, long_pages, long_values_in}
-use Rattle.table_trees.specs.NodeTrees.{IsNodeTree, NodesBecome, node_pages, nodes_in}
-use Rattle.table_trees.specs.TableParts.{IsIndex, IsTable, TableBecomes, index_pages, record_pages, stored_index, stored_table, table_pages}
+use Rattle.table_trees.specs.StoredTrees.{put_index_roots}
+use Rattle.table_trees.specs.LongTrees.{IsLongTree, LongBecomes, long_pages, long_root, long_values_in}
+use Rattle.table_trees.specs.NodeTrees.{IsNodeTree, NodesBecome, node_pages, node_root, nodes_in}
+use Rattle.table_trees.specs.TableParts.{IsIndex, IsTable, TableBecomes, index_pages, index_root, record_pages, stored_index, stored_table, table_pages, tree_roots}
 use Rattle.table_trees.specs.declared.long_values.LongTree.{LongTree}
 use Rattle.table_trees.specs.declared.nodes.NodeTree.{NodeTree}
 use Rattle.table_trees.specs.declared.table.TableIndex.{TableIndex}
@@ -41,7 +42,7 @@ OtherEntriesStay =
     (old new : Frames) (before after : List ℕ) (index : IndexTree) → Exchanges old new before after → IsIndexTree old index → AreApart (own_pages old index) before
     → IsIndexTree new index × (entries_of new index ≡ entries_of old index) × (own_pages new index ≡ own_pages old index) × AreApart (own_pages new index) after
 
-before_own : (old : Frames) (pages before : List ℕ) → ((p : ℕ) → copies p pages + copies p before ≤ times_taken old p) → AreOwn old before
+pub before_own : (old : Frames) (pages before : List ℕ) → ((p : ℕ) → copies p pages + copies p before ≤ times_taken old p) → AreOwn old before
 before_own old pages before bound p = omega (arith, bound p)
 
 pub nodes_stay : OtherTreeStays → OthersStay IsNodeTree node_pages nodes_in
@@ -115,7 +116,7 @@ tables_stay stays old new before after table r is bound =
 -- ---- its nodes change
 
 pub nodes_change : TreesStay → (old new : Frames) (table : Table) (nodes : NodeTree) (list : List Node) → IsTable old table → NodesBecome old table.nodes new nodes list
-    → TableBecomes old table new (record table { nodes = nodes }) (put_nodes list (stored_table old table))
+    → TableBecomes old table new (record table { nodes = nodes }) (put_nodes list (stored_table old table)) (tree_roots table)
 nodes_change stays old new table nodes list is b =
     let items = table.indexes.items in
     let before = node_pages old table.nodes in
@@ -137,12 +138,13 @@ nodes_change stays old new table nodes list is b =
       };
       stored = (λ i. record { number = table.table.0; nodes = b.nodes i; indexes = indexes.1 i; long_values = long.1 i });
       pages = pages;
+      roots_are = (λ i. record { number = table.table.0; records = b.root i; long_values = long_root table.long_values; indexes = map index_root items });
     }
 
 -- ---- its long values change
 
 pub long_change : TreesStay → (old new : Frames) (table : Table) (long : LongTree) (values : Values) → IsTable old table → LongBecomes old table.long_values new long values
-    → TableBecomes old table new (record table { long_values = long }) (put_long_values values (stored_table old table))
+    → TableBecomes old table new (record table { long_values = long }) (put_long_values values (stored_table old table)) (tree_roots table)
 long_change stays old new table long values is b =
     let items = table.indexes.items in
     let before = long_pages old table.long_values in
@@ -164,6 +166,7 @@ long_change stays old new table long values is b =
       };
       stored = (λ i. record { number = table.table.0; nodes = nodes.1 i; indexes = indexes.1 i; long_values = b.values_are i });
       pages = pages;
+      roots_are = (λ i. record { number = table.table.0; records = node_root table.nodes; long_values = b.root i; indexes = map index_root items });
     }
 
 -- ---- its indexes change
@@ -178,9 +181,9 @@ pub record HasIndexes (was is : Table) (items : List TableIndex) : Type 0 where
 abbrev pub IndexesStep : Frames → Frames → List TableIndex → List TableIndex → List StoredIndex → Type 0
 IndexesStep old new was is values = Steps IsIndex index_pages stored_index old new was is values
 
-pub indexes_change : TreesStay → (old new : Frames) (was is : Table) (items : List TableIndex) (values : List StoredIndex) → IsTable old was → HasIndexes was is items → IndexesStep old new was.indexes.items items values
-    → ((index : ℕ) → count_by (is_index index) values ≤ 1) → TableBecomes old was new is (put_indexes values (stored_table old was))
-indexes_change stays old new was is items values good has s once =
+pub indexes_change : TreesStay → (old new : Frames) (was is : Table) (items : List TableIndex) (values : List StoredIndex) (roots : List (ℕ × ℕ)) → IsTable old was → HasIndexes was is items → IndexesStep old new was.indexes.items items values
+    → ((index : ℕ) → count_by (is_index index) values ≤ 1) → map index_root items ≡ roots → TableBecomes old was new is (put_indexes values (stored_table old was)) (put_index_roots roots (tree_roots was))
+indexes_change stays old new was is items values roots good has s once rooted =
     let before = flat_map (index_pages old) was.indexes.items in
     let after = flat_map (index_pages new) is.indexes.items in
     let r : Rearranges old new before after = subst (λ (l : List TableIndex). Rearranges old new before (flat_map (index_pages new) l)) (sym has.items_are) s.rearranges in
@@ -203,10 +206,11 @@ indexes_change stays old new was is items values good has s once =
       };
       stored = (λ i. record { number = (has.table i).0; nodes = (ap (nodes_in new) has.nodes ∙ nodes.1) i; indexes = shows i; long_values = (ap (long_values_in new) has.long_values ∙ long.1) i });
       pages = pages;
+      roots_are = (λ i. record { number = (has.table i).0; records = node_root (has.nodes i); long_values = long_root (has.long_values i); indexes = (ap (map index_root) has.items_are ∙ rooted) i });
     }
 
 -- nothing has changed
-pub table_same : (frames : Frames) (table : Table) → IsTable frames table → (is : Table) → HasIndexes table is table.indexes.items → TableBecomes frames table frames is (stored_table frames table)
+pub table_same : (frames : Frames) (table : Table) → IsTable frames table → (is : Table) → HasIndexes table is table.indexes.items → TableBecomes frames table frames is (stored_table frames table) (tree_roots table)
 table_same frames table good is has =
     let pages : table_pages frames is ≡ table_pages frames table = (λ i. (node_pages frames (has.nodes i) ++ long_pages frames (has.long_values i)) ++ flat_map (index_pages frames) (has.items_are i)) in
     record {
@@ -219,6 +223,7 @@ table_same frames table good is has =
       };
       stored = (λ i. record { number = (has.table i).0; nodes = nodes_in frames (has.nodes i); indexes = map (stored_index frames) (has.items_are i); long_values = long_values_in frames (has.long_values i) });
       pages = record { balance = λ p. let same : copies p (table_pages frames is) ≡ copies p (table_pages frames table) = ap (copies p) pages in omega (arith, same); others = λ p none gone. refl };
+      roots_are = (λ i. record { number = (has.table i).0; records = node_root (has.nodes i); long_values = long_root (has.long_values i); indexes = map index_root (has.items_are i) });
     }
 
 -- ---- a table is made, or is not

@@ -1,7 +1,9 @@
 pub mod StoredTables
+pub mod StoredTrees
 pub mod StoredNodes
 pub mod Pages
 pub mod NodeTrees
 pub mod LongTrees
+pub mod KeptCatalogs
 pub mod TableParts
 pub mod TreesView

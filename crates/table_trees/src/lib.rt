@@ -1,6 +1,7 @@
 //! All tables of an engine: the nodes, the long values and the index entries of each, in B-trees of one space.
 #![tactic(auto)]
 
+mod catalog;
 mod laws;
 mod long_values;
 mod nodes;

@@ -1,6 +1,6 @@
 //! The trees of one table: that of its nodes, that of its long values, and those of its indexes.
 
-ghost use Rattle.std.specs.Prelude.{◌≡◌, ◌==◌, ◌≤◌, false, true, [], ◌∷◌, ◌++◌, length, IfOk, OnErr, OnOk};
+ghost use Rattle.std.specs.Prelude.{◌≡◌, ℕ, ◌==◌, ◌≤◌, false, true, [], ◌∷◌, ◌++◌, length, IfOk, OnErr, OnOk};
 ghost use Rattle.std.specs.List.{list_any, position_from};
 ghost use Rattle.std.specs.Option.{option_map};
 ghost use Rattle.index_derive.specs.Entries.{insert_entry};
@@ -10,12 +10,15 @@ ghost use Rattle.index_tree.specs.Entries.{IsApartFromAll};
 ghost use Rattle.page_space.specs.Frames.{Frames};
 ghost use Rattle.table_trees.specs.Pages.{AreOwn, OthersStay, Rearranges};
 ghost use Rattle.table_trees.specs.StoredTables.{changed_where, is_index, new_table, part_of, put_entries, put_indexes, without_where};
-ghost use Rattle.table_trees.specs.LongTrees.{IsLongTree, long_pages, long_values_in};
-ghost use Rattle.table_trees.specs.NodeTrees.{IsNodeTree, node_pages, nodes_in};
+ghost use Rattle.table_trees.specs.StoredTrees.{new_roots, with_index_root, without_index_root};
+ghost use Rattle.table_trees.specs.KeptCatalogs.{IsKeptCatalog, kept_nodes, kept_pages};
+ghost use Rattle.table_trees.specs.LongTrees.{IsLongTree, long_pages, long_root, long_values_in};
+ghost use Rattle.table_trees.specs.NodeTrees.{IsNodeTree, node_pages, node_root, nodes_in};
 ghost use Rattle.table_trees.specs.declared.nodes.NodeTree.{NodeTree};
 ghost use Rattle.table_trees.specs.declared.table.TableIndex.{TableIndex};
-ghost use Rattle.table_trees.specs.TableParts.{IsIndex, IsTable, TableBecomes, index_pages, stored_index, stored_table, table_pages};
+ghost use Rattle.table_trees.specs.TableParts.{IsIndex, IsTable, TableBecomes, index_pages, stored_index, stored_table, table_pages, tree_roots};
 
+use crate::catalog::catalogs_stay;
 use crate::long_values::LongTree;
 use crate::nodes::{NodeTree, tree_pages_are_own};
 use btree_inplace::other_tree_stays;
@@ -46,6 +49,7 @@ impl Table {
     /// A table without a node, a long value and an index. After a refusal all its pages are free again.
     pub fn new(alloc: Global, space: &mut Space, table: TableId) -> Result<Table, OutOfMemory>
         ensures made { IfOk result (λ made. IsTable space.new made × (stored_table space.new made ≡ new_table table.0) × Rearranges space.old space.new [] (table_pages space.new made)) }
+        ensures roots { IfOk result (λ made. tree_roots made ≡ new_roots table.0 (node_root made.nodes) (long_root made.long_values)) }
         ensures err { OnErr result (Rearranges space.old space.new [] []) }
     {
         trees_stay();
@@ -75,8 +79,8 @@ impl Table {
     pub fn add_index(&mut self, space: &mut Space, index: IndexId) -> Result<(), OutOfMemory>
         requires table { IsTable space.old self.old }
         requires absent { list_any (is_index index.0) (stored_table space.old self.old).indexes ≡ false }
-        ensures ok { OnOk result (TableBecomes space.old self.old space.new self.new (put_indexes ((stored_table space.old self.old).indexes ++ (index.0, []) ∷ []) (stored_table space.old self.old))) }
-        ensures err { OnErr result (TableBecomes space.old self.old space.new self.new (stored_table space.old self.old)) }
+        ensures ok { OnOk result ((root : ℕ) × TableBecomes space.old self.old space.new self.new (put_indexes ((stored_table space.old self.old).indexes ++ (index.0, []) ∷ []) (stored_table space.old self.old)) (with_index_root index.0 root (tree_roots self.old))) }
+        ensures err { OnErr result (TableBecomes space.old self.old space.new self.new (stored_table space.old self.old) (tree_roots self.old)) }
     {
         trees_stay();
         self.indexes.reserve(1)?;
@@ -89,7 +93,7 @@ impl Table {
     pub fn remove_index(&mut self, space: &mut Space, index: IndexId)
         requires table { IsTable space.old self.old }
         requires there { list_any (is_index index.0) (stored_table space.old self.old).indexes ≡ true }
-        ensures { TableBecomes space.old self.old space.new self.new (put_indexes (without_where (is_index index.0) (stored_table space.old self.old).indexes) (stored_table space.old self.old)) }
+        ensures { TableBecomes space.old self.old space.new self.new (put_indexes (without_where (is_index index.0) (stored_table space.old self.old).indexes) (stored_table space.old self.old)) (without_index_root index.0 (tree_roots self.old)) }
     {
         trees_stay();
         match index_place(self.indexes.as_slice(), index) {
@@ -115,8 +119,8 @@ impl Table {
         requires apart { IsApartFromAll key.now (part_of (is_index index.0) (λ x. x.1) (stored_table space.old self.old).indexes) }
         requires key { length key.now ≤ 255 }
         requires bookmark { length bookmark.now ≤ 255 }
-        ensures ok { OnOk result (TableBecomes space.old self.old space.new self.new (put_indexes (changed_where (is_index index.0) (put_entries (insert_entry (key.now, bookmark.now) (part_of (is_index index.0) (λ x. x.1) (stored_table space.old self.old).indexes))) (stored_table space.old self.old).indexes) (stored_table space.old self.old))) }
-        ensures err { OnErr result (TableBecomes space.old self.old space.new self.new (stored_table space.old self.old)) }
+        ensures ok { OnOk result (TableBecomes space.old self.old space.new self.new (put_indexes (changed_where (is_index index.0) (put_entries (insert_entry (key.now, bookmark.now) (part_of (is_index index.0) (λ x. x.1) (stored_table space.old self.old).indexes))) (stored_table space.old self.old).indexes) (stored_table space.old self.old)) (tree_roots self.old)) }
+        ensures err { OnErr result (TableBecomes space.old self.old space.new self.new (stored_table space.old self.old) (tree_roots self.old)) }
     {
         trees_stay();
         match index_place(self.indexes.as_slice(), index) {
@@ -132,7 +136,7 @@ impl Table {
     pub fn remove_entry(&mut self, space: &mut Space, index: IndexId, key: &[u8], bookmark: &[u8])
         requires table { IsTable space.old self.old }
         requires there { has_entry key.now bookmark.now (part_of (is_index index.0) (λ x. x.1) (stored_table space.old self.old).indexes) ≡ true }
-        ensures { TableBecomes space.old self.old space.new self.new (put_indexes (changed_where (is_index index.0) (put_entries (without_entry key.now bookmark.now (part_of (is_index index.0) (λ x. x.1) (stored_table space.old self.old).indexes))) (stored_table space.old self.old).indexes) (stored_table space.old self.old)) }
+        ensures { TableBecomes space.old self.old space.new self.new (put_indexes (changed_where (is_index index.0) (put_entries (without_entry key.now bookmark.now (part_of (is_index index.0) (λ x. x.1) (stored_table space.old self.old).indexes))) (stored_table space.old self.old).indexes) (stored_table space.old self.old)) (tree_roots self.old) }
     {
         trees_stay();
         match index_place(self.indexes.as_slice(), index) {
@@ -237,12 +241,14 @@ fn trees_stay()
     values_are_shown();
 }
 
-/// A change of pages leaves each table that has none of them, and each tree of a table.
+/// A change of pages leaves each table that has none of them, each tree of a table, and the catalog.
 pub fn tables_stay()
     ensures nodes { OthersStay IsNodeTree node_pages nodes_in }
     ensures long_values { OthersStay IsLongTree long_pages long_values_in }
     ensures indexes { OthersStay IsIndex index_pages stored_index }
     ensures tables { OthersStay IsTable table_pages stored_table }
+    ensures catalog { OthersStay IsKeptCatalog kept_pages kept_nodes }
 {
     trees_stay();
+    catalogs_stay();
 }

@@ -13,7 +13,10 @@ ghost use Rattle.long_value.specs.Stores.{id_bytes, read_upto};
 ghost use Rattle.long_value.specs.Values.{AreLong, put_value, with_reference, without_reference};
 ghost use Rattle.table_trees.specs.StoredNodes.{IsShortNode, bookmark_entries, node_after, node_before};
 ghost use Rattle.table_trees.specs.StoredTables.{has_index, has_table, index_entries, long_value_of, new_table, table_long_values, table_nodes, with_entries, with_long_values, with_new_index, with_nodes, without_index, without_table};
+ghost use Rattle.table_trees.specs.StoredTrees.{with_root_of, with_table_roots, without_root_of, without_table_roots};
+ghost use Rattle.catalog_grammar.specs.Catalogs.{catalog_nodes};
 
+use crate::catalog::KeptCatalog;
 use crate::table::{Table, tables_stay};
 use btree_inplace::nodes_fit_their_space;
 use index_derive::Place;
@@ -24,7 +27,7 @@ use page_space::Space;
 use std::alloc::Global;
 use std::marker::Model;
 
-/// All tables: the nodes of each, its long values, and the entries of its indexes.
+/// All tables: the nodes of each, its long values, and the entries of its indexes. Beside them stands the catalog.
 ///
 /// A node is a row under a bookmark of 1 to 255 bytes. The row may be empty: so a node stands for a record that the
 /// newest state does not have. So many bytes are kept for a row as its extent says, 1,700 at most.
@@ -33,20 +36,24 @@ use std::marker::Model;
 /// values from its making on, one page where it has none.
 ///
 /// Contracts see the tables in the order in which they were made, each with its number, its nodes, which rise by their
-/// bookmarks, its indexes with their entries, which rise, and its long values, which rise by their identifiers. A call goes over the tables to the one that is named,
-/// over that table's indexes to the one that is named, and down one path of its tree. Look-ups and moves take no memory,
-/// and neither does a call that says so. Where another finds none it is refused, and everything is as it was.
+/// bookmarks, its indexes with their entries, which rise, and its long values, which rise by their identifiers. Beside the
+/// tables they see the nodes of the catalog, and the numbers of the root pages of all tables' trees, which are to stand in
+/// these nodes: a root page stays the same while its tree stands.
+///
+/// A call goes over the tables to the one that is named, over that table's indexes to the one that is named, and down one
+/// path of its tree. Look-ups and moves take no memory, and neither does a call that says so. Where another finds none it
+/// is refused, and everything is as it was.
 #[derive(Drop)]
 pub struct TableTrees {
     space: Space,
+    catalog: KeptCatalog,
     tables: Vec<Table>,
 }
 
 impl Model for TableTrees {
-    ghost use Rattle.std.specs.Prelude.{List};
-    ghost use Rattle.table_trees.specs.StoredTables.{StoredTable};
+    ghost use Rattle.table_trees.specs.StoredTrees.{StoredTrees};
 
-    ghost Value = { List StoredTable };
+    ghost Value = { StoredTrees };
 
     ghost use Rattle.table_trees.specs.TreesView.{IsKept, stored};
 
@@ -58,26 +65,30 @@ impl Model for TableTrees {
 impl TableTrees {
     /// No table. It takes no memory.
     pub fn new(alloc: Global) -> TableTrees
-        ensures { result ≡ [] }
+        ensures tables { result.tables ≡ [] }
+        ensures catalog { result.catalog ≡ record { nodes = catalog_nodes 0 []; roots = [] } }
     {
         TableTrees {
             space: Space::new(alloc),
+            catalog: KeptCatalog::new(),
             tables: Vec::new(alloc),
         }
     }
 
     /// Whether a table is there.
     pub fn has_table(&self, table: TableId) -> bool
-        ensures { result ≡ has_table self.now table.0 }
+        ensures { result ≡ has_table self.now.tables table.0 }
     {
         table_place(self.tables.as_slice(), table).is_some()
     }
 
     /// Adds a table without a node, an index and a long value, behind the others.
     pub fn add_table(&mut self, table: TableId) -> Result<(), OutOfMemory>
-        requires { has_table self.old table.0 ≡ false }
-        ensures ok { OnOk result (self.new ≡ self.old ++ new_table table.0 ∷ []) }
-        ensures err { OnErr result (self.new ≡ self.old) }
+        requires { has_table self.old.tables table.0 ≡ false }
+        ensures ok { OnOk result (self.new.tables ≡ self.old.tables ++ new_table table.0 ∷ []) }
+        ensures err { OnErr result (self.new.tables ≡ self.old.tables) }
+        ensures rooted { OnOk result ((records long_values : ℕ) × (self.new.catalog ≡ with_table_roots table.0 records long_values self.old.catalog)) }
+        ensures kept { OnErr result (self.new.catalog ≡ self.old.catalog) }
     {
         tables_stay();
         self.tables.reserve(1)?;
@@ -90,8 +101,9 @@ impl TableTrees {
     /// Takes out a table with its nodes, its indexes and its long values. The other tables keep their order. It takes no memory, and the
     /// pages of the table are free for other trees.
     pub fn remove_table(&mut self, table: TableId)
-        requires { has_table self.old table.0 ≡ true }
-        ensures { self.new ≡ without_table table.0 self.old }
+        requires { has_table self.old.tables table.0 ≡ true }
+        ensures tables { self.new.tables ≡ without_table table.0 self.old.tables }
+        ensures catalog { self.new.catalog ≡ without_table_roots table.0 self.old.catalog }
     {
         tables_stay();
         match table_place(self.tables.as_slice(), table) {
@@ -105,7 +117,7 @@ impl TableTrees {
 
     /// The row under a bookmark of a table, if there is a node: the bytes as they lie in their page.
     pub fn get(&self, table: TableId, bookmark: &[u8]) -> Option<&[u8]>
-        ensures { option_copied result ≡ get_in (table_nodes self.now table.0) bookmark.now }
+        ensures { option_copied result ≡ get_in (table_nodes self.now.tables table.0) bookmark.now }
     {
         match table_place(self.tables.as_slice(), table) {
             Some(i) => self.tables[i].nodes.get(&self.space, bookmark),
@@ -115,7 +127,7 @@ impl TableTrees {
 
     /// How many bytes are kept for the row under a bookmark of a table, if there is a node.
     pub fn extent(&self, table: TableId, bookmark: &[u8]) -> Option<usize>
-        ensures { result ≡ extent_in (table_nodes self.now table.0) bookmark.now }
+        ensures { result ≡ extent_in (table_nodes self.now.tables table.0) bookmark.now }
     {
         match table_place(self.tables.as_slice(), table) {
             Some(i) => self.tables[i].nodes.extent(&self.space, bookmark),
@@ -131,14 +143,15 @@ impl TableTrees {
         row: &[u8],
         extent: usize,
     ) -> Result<(), OutOfMemory>
-        requires there { has_table self.old table.0 ≡ true }
-        requires absent { get_in (table_nodes self.old table.0) bookmark.now ≡ None }
+        requires there { has_table self.old.tables table.0 ≡ true }
+        requires absent { get_in (table_nodes self.old.tables table.0) bookmark.now ≡ None }
         requires some { 0 < length bookmark.now }
         requires short { length bookmark.now ≤ 255 }
         requires fits { length row.now ≤ extent }
         requires small { extent ≤ 1700 }
-        ensures ok { OnOk result (self.new ≡ with_nodes table.0 (inserted (table_nodes self.old table.0) (record { key = bookmark.now; extent = extent; «data» = row.now })) self.old) }
-        ensures err { OnErr result (self.new ≡ self.old) }
+        ensures ok { OnOk result (self.new.tables ≡ with_nodes table.0 (inserted (table_nodes self.old.tables table.0) (record { key = bookmark.now; extent = extent; «data» = row.now })) self.old.tables) }
+        ensures err { OnErr result (self.new.tables ≡ self.old.tables) }
+        ensures catalog { self.new.catalog ≡ self.old.catalog }
     {
         tables_stay();
         match table_place(self.tables.as_slice(), table) {
@@ -157,10 +170,11 @@ impl TableTrees {
         bookmark: &[u8],
         extent: usize,
     ) -> Result<(), OutOfMemory>
-        requires fits { IsSomeAnd (get_in (table_nodes self.old table.0) bookmark.now) (λ row. length row ≤ extent) }
+        requires fits { IsSomeAnd (get_in (table_nodes self.old.tables table.0) bookmark.now) (λ row. length row ≤ extent) }
         requires small { extent ≤ 1700 }
-        ensures ok { OnOk result (self.new ≡ with_nodes table.0 (with_extent_at (table_nodes self.old table.0) bookmark.now extent) self.old) }
-        ensures err { OnErr result (self.new ≡ self.old) }
+        ensures ok { OnOk result (self.new.tables ≡ with_nodes table.0 (with_extent_at (table_nodes self.old.tables table.0) bookmark.now extent) self.old.tables) }
+        ensures err { OnErr result (self.new.tables ≡ self.old.tables) }
+        ensures catalog { self.new.catalog ≡ self.old.catalog }
     {
         tables_stay();
         match table_place(self.tables.as_slice(), table) {
@@ -174,8 +188,9 @@ impl TableTrees {
 
     /// Puts another row under a bookmark that has a node, no longer than what is kept for it. It takes no memory.
     pub fn replace(&mut self, table: TableId, bookmark: &[u8], row: &[u8])
-        requires { IsSomeAnd (extent_in (table_nodes self.old table.0) bookmark.now) (λ extent. length row.now ≤ extent) }
-        ensures { self.new ≡ with_nodes table.0 (with_data_at (table_nodes self.old table.0) bookmark.now row.now) self.old }
+        requires { IsSomeAnd (extent_in (table_nodes self.old.tables table.0) bookmark.now) (λ extent. length row.now ≤ extent) }
+        ensures tables { self.new.tables ≡ with_nodes table.0 (with_data_at (table_nodes self.old.tables table.0) bookmark.now row.now) self.old.tables }
+        ensures catalog { self.new.catalog ≡ self.old.catalog }
     {
         tables_stay();
         match table_place(self.tables.as_slice(), table) {
@@ -189,8 +204,9 @@ impl TableTrees {
 
     /// Takes out the node under a bookmark that has one. It takes no memory.
     pub fn remove(&mut self, table: TableId, bookmark: &[u8])
-        requires { IsSome (get_in (table_nodes self.old table.0) bookmark.now) }
-        ensures { self.new ≡ with_nodes table.0 (without_key (table_nodes self.old table.0) bookmark.now) self.old }
+        requires { IsSome (get_in (table_nodes self.old.tables table.0) bookmark.now) }
+        ensures tables { self.new.tables ≡ with_nodes table.0 (without_key (table_nodes self.old.tables table.0) bookmark.now) self.old.tables }
+        ensures catalog { self.new.catalog ≡ self.old.catalog }
     {
         tables_stay();
         match table_place(self.tables.as_slice(), table) {
@@ -205,7 +221,7 @@ impl TableTrees {
     /// The node of a table with the least bookmark beyond a place among its bookmarks, each of which is its own key
     /// there: its bookmark and its row, as they lie in their page.
     pub fn node_after(&self, table: TableId, place: &Place) -> Option<(&[u8], &[u8])>
-        ensures node { option_map (λ found. (found.0.now, found.1.now)) result ≡ node_after place.now (table_nodes self.now table.0) }
+        ensures node { option_map (λ found. (found.0.now, found.1.now)) result ≡ node_after place.now (table_nodes self.now.tables table.0) }
         ensures short { IfSome result (λ found. length found.0.now ≤ 255) }
     {
         match table_place(self.tables.as_slice(), table) {
@@ -217,7 +233,7 @@ impl TableTrees {
     /// The node of a table with the greatest bookmark before a place among its bookmarks, each of which is its own key
     /// there: its bookmark and its row, as they lie in their page.
     pub fn node_before(&self, table: TableId, place: &Place) -> Option<(&[u8], &[u8])>
-        ensures node { option_map (λ found. (found.0.now, found.1.now)) result ≡ node_before place.now (table_nodes self.now table.0) }
+        ensures node { option_map (λ found. (found.0.now, found.1.now)) result ≡ node_before place.now (table_nodes self.now.tables table.0) }
         ensures short { IfSome result (λ found. length found.0.now ≤ 255) }
     {
         match table_place(self.tables.as_slice(), table) {
@@ -228,7 +244,7 @@ impl TableTrees {
 
     /// Whether an index of a table is there.
     pub fn has_index(&self, table: TableId, index: IndexId) -> bool
-        ensures { result ≡ has_index self.now table.0 index.0 }
+        ensures { result ≡ has_index self.now.tables table.0 index.0 }
     {
         match table_place(self.tables.as_slice(), table) {
             Some(i) => self.tables[i].has_index(index),
@@ -238,10 +254,12 @@ impl TableTrees {
 
     /// Adds an index without an entry to a table, behind its others.
     pub fn add_index(&mut self, table: TableId, index: IndexId) -> Result<(), OutOfMemory>
-        requires there { has_table self.old table.0 ≡ true }
-        requires absent { has_index self.old table.0 index.0 ≡ false }
-        ensures ok { OnOk result (self.new ≡ with_new_index table.0 index.0 self.old) }
-        ensures err { OnErr result (self.new ≡ self.old) }
+        requires there { has_table self.old.tables table.0 ≡ true }
+        requires absent { has_index self.old.tables table.0 index.0 ≡ false }
+        ensures ok { OnOk result (self.new.tables ≡ with_new_index table.0 index.0 self.old.tables) }
+        ensures err { OnErr result (self.new.tables ≡ self.old.tables) }
+        ensures rooted { OnOk result ((root : ℕ) × (self.new.catalog ≡ with_root_of table.0 index.0 root self.old.catalog)) }
+        ensures kept { OnErr result (self.new.catalog ≡ self.old.catalog) }
     {
         tables_stay();
         match table_place(self.tables.as_slice(), table) {
@@ -255,8 +273,9 @@ impl TableTrees {
 
     /// Takes out an index with its entries. It takes no memory, and the pages of the index are free for other trees.
     pub fn remove_index(&mut self, table: TableId, index: IndexId)
-        requires { has_index self.old table.0 index.0 ≡ true }
-        ensures { self.new ≡ without_index table.0 index.0 self.old }
+        requires { has_index self.old.tables table.0 index.0 ≡ true }
+        ensures tables { self.new.tables ≡ without_index table.0 index.0 self.old.tables }
+        ensures catalog { self.new.catalog ≡ without_root_of table.0 index.0 self.old.catalog }
     {
         tables_stay();
         match table_place(self.tables.as_slice(), table) {
@@ -276,13 +295,14 @@ impl TableTrees {
         key: &[u8],
         bookmark: &[u8],
     ) -> Result<(), OutOfMemory>
-        requires there { has_index self.old table.0 index.0 ≡ true }
-        requires absent { has_entry key.now bookmark.now (index_entries self.old table.0 index.0) ≡ false }
-        requires apart { IsApartFromAll key.now (index_entries self.old table.0 index.0) }
+        requires there { has_index self.old.tables table.0 index.0 ≡ true }
+        requires absent { has_entry key.now bookmark.now (index_entries self.old.tables table.0 index.0) ≡ false }
+        requires apart { IsApartFromAll key.now (index_entries self.old.tables table.0 index.0) }
         requires key { length key.now ≤ 255 }
         requires bookmark { length bookmark.now ≤ 255 }
-        ensures ok { OnOk result (self.new ≡ with_entries table.0 index.0 (insert_entry (key.now, bookmark.now) (index_entries self.old table.0 index.0)) self.old) }
-        ensures err { OnErr result (self.new ≡ self.old) }
+        ensures ok { OnOk result (self.new.tables ≡ with_entries table.0 index.0 (insert_entry (key.now, bookmark.now) (index_entries self.old.tables table.0 index.0)) self.old.tables) }
+        ensures err { OnErr result (self.new.tables ≡ self.old.tables) }
+        ensures catalog { self.new.catalog ≡ self.old.catalog }
     {
         tables_stay();
         match table_place(self.tables.as_slice(), table) {
@@ -296,8 +316,9 @@ impl TableTrees {
 
     /// Takes out an entry that is there. It takes no memory.
     pub fn remove_entry(&mut self, table: TableId, index: IndexId, key: &[u8], bookmark: &[u8])
-        requires { has_entry key.now bookmark.now (index_entries self.old table.0 index.0) ≡ true }
-        ensures { self.new ≡ with_entries table.0 index.0 (without_entry key.now bookmark.now (index_entries self.old table.0 index.0)) self.old }
+        requires { has_entry key.now bookmark.now (index_entries self.old.tables table.0 index.0) ≡ true }
+        ensures tables { self.new.tables ≡ with_entries table.0 index.0 (without_entry key.now bookmark.now (index_entries self.old.tables table.0 index.0)) self.old.tables }
+        ensures catalog { self.new.catalog ≡ self.old.catalog }
     {
         tables_stay();
         match table_place(self.tables.as_slice(), table) {
@@ -313,7 +334,7 @@ impl TableTrees {
     pub fn has_entry(&self, table: TableId, index: IndexId, key: &[u8], bookmark: &[u8]) -> bool
         requires key { length key.now ≤ 255 }
         requires bookmark { length bookmark.now ≤ 255 }
-        ensures { result ≡ has_entry key.now bookmark.now (index_entries self.now table.0 index.0) }
+        ensures { result ≡ has_entry key.now bookmark.now (index_entries self.now.tables table.0 index.0) }
     {
         match table_place(self.tables.as_slice(), table) {
             Some(i) => self.tables[i].has_entry(&self.space, index, key, bookmark),
@@ -323,7 +344,7 @@ impl TableTrees {
 
     /// Whether an index has an entry with a key.
     pub fn has_key(&self, table: TableId, index: IndexId, key: &[u8]) -> bool
-        ensures { result ≡ has_key key.now (index_entries self.now table.0 index.0) }
+        ensures { result ≡ has_key key.now (index_entries self.now.tables table.0 index.0) }
     {
         match table_place(self.tables.as_slice(), table) {
             Some(i) => self.tables[i].has_key(&self.space, index, key),
@@ -338,7 +359,7 @@ impl TableTrees {
         index: IndexId,
         place: &Place,
     ) -> Option<(&[u8], &[u8])>
-        ensures entry { option_map (λ found. (found.0.now, found.1.now)) result ≡ entry_after place.now (index_entries self.now table.0 index.0) }
+        ensures entry { option_map (λ found. (found.0.now, found.1.now)) result ≡ entry_after place.now (index_entries self.now.tables table.0 index.0) }
         ensures short { IfSome result (λ found. (length found.0.now ≤ 255) × (length found.1.now ≤ 255)) }
     {
         match table_place(self.tables.as_slice(), table) {
@@ -354,7 +375,7 @@ impl TableTrees {
         index: IndexId,
         place: &Place,
     ) -> Option<(&[u8], &[u8])>
-        ensures entry { option_map (λ found. (found.0.now, found.1.now)) result ≡ entry_before place.now (index_entries self.now table.0 index.0) }
+        ensures entry { option_map (λ found. (found.0.now, found.1.now)) result ≡ entry_before place.now (index_entries self.now.tables table.0 index.0) }
         ensures short { IfSome result (λ found. (length found.0.now ≤ 255) × (length found.1.now ≤ 255)) }
     {
         match table_place(self.tables.as_slice(), table) {
@@ -365,7 +386,7 @@ impl TableTrees {
 
     /// Whether a table has a long value.
     pub fn has_long(&self, table: TableId, id: LongId) -> bool
-        ensures { result ≡ is_some (long_value_of self.now table.0 (id_bytes id)) }
+        ensures { result ≡ is_some (long_value_of self.now.tables table.0 (id_bytes id)) }
     {
         match table_place(self.tables.as_slice(), table) {
             Some(i) => self.tables[i].long_values.has(&self.space, id),
@@ -375,8 +396,8 @@ impl TableTrees {
 
     /// How many references a long value of a table has.
     pub fn long_count(&self, table: TableId, id: LongId) -> u32
-        requires { IsSome (long_value_of self.now table.0 (id_bytes id)) }
-        ensures { IsSomeAnd (long_value_of self.now table.0 (id_bytes id)) (λ value. result ≡ value.count) }
+        requires { IsSome (long_value_of self.now.tables table.0 (id_bytes id)) }
+        ensures { IsSomeAnd (long_value_of self.now.tables table.0 (id_bytes id)) (λ value. result ≡ value.count) }
     {
         match table_place(self.tables.as_slice(), table) {
             Some(i) => self.tables[i].long_values.count(&self.space, id),
@@ -386,8 +407,8 @@ impl TableTrees {
 
     /// How many bytes a long value of a table has.
     pub fn long_length(&self, table: TableId, id: LongId) -> u32
-        requires { IsSome (long_value_of self.now table.0 (id_bytes id)) }
-        ensures { IsSomeAnd (long_value_of self.now table.0 (id_bytes id)) (λ value. result ≡ length value.bytes) }
+        requires { IsSome (long_value_of self.now.tables table.0 (id_bytes id)) }
+        ensures { IsSomeAnd (long_value_of self.now.tables table.0 (id_bytes id)) (λ value. result ≡ length value.bytes) }
     {
         match table_place(self.tables.as_slice(), table) {
             Some(i) => self.tables[i].long_values.length(&self.space, id),
@@ -397,8 +418,8 @@ impl TableTrees {
 
     /// The first bytes of a long value of a table, at most 1,024, as they lie in their page.
     pub fn first_part(&self, table: TableId, id: LongId) -> &[u8]
-        requires { IsSome (long_value_of self.now table.0 (id_bytes id)) }
-        ensures { IsSomeAnd (long_value_of self.now table.0 (id_bytes id)) (λ value. result.now ≡ take 1024 value.bytes) }
+        requires { IsSome (long_value_of self.now.tables table.0 (id_bytes id)) }
+        ensures { IsSomeAnd (long_value_of self.now.tables table.0 (id_bytes id)) (λ value. result.now ≡ take 1024 value.bytes) }
     {
         match table_place(self.tables.as_slice(), table) {
             Some(i) => self.tables[i].long_values.first_part(&self.space, id),
@@ -409,9 +430,9 @@ impl TableTrees {
     /// Reads the first bytes of a long value of a table, as many as there is room for, and says how many. What is behind
     /// them in the slice stays.
     pub fn read_long(&self, table: TableId, id: LongId, into: &mut [u8]) -> usize
-        requires { IsSome (long_value_of self.now table.0 (id_bytes id)) }
-        ensures bytes { IsSomeAnd (long_value_of self.now table.0 (id_bytes id)) (λ value. into.new ≡ read_upto result value.bytes into.old) }
-        ensures count { IsSomeAnd (long_value_of self.now table.0 (id_bytes id)) (λ value. result ≡ (if nat_lt (length into.old) (length value.bytes) then length into.old else length value.bytes)) }
+        requires { IsSome (long_value_of self.now.tables table.0 (id_bytes id)) }
+        ensures bytes { IsSomeAnd (long_value_of self.now.tables table.0 (id_bytes id)) (λ value. into.new ≡ read_upto result value.bytes into.old) }
+        ensures count { IsSomeAnd (long_value_of self.now.tables table.0 (id_bytes id)) (λ value. result ≡ (if nat_lt (length into.old) (length value.bytes) then length into.old else length value.bytes)) }
     {
         match table_place(self.tables.as_slice(), table) {
             Some(i) => self.tables[i].long_values.read(&self.space, id, into),
@@ -421,12 +442,13 @@ impl TableTrees {
 
     /// Puts a long value of 256 to 1,048,576 bytes that a table does not have, with one reference to it.
     pub fn put_long(&mut self, table: TableId, id: LongId, bytes: &[u8]) -> Result<(), OutOfMemory>
-        requires there { has_table self.old table.0 ≡ true }
-        requires absent { long_value_of self.old table.0 (id_bytes id) ≡ None }
+        requires there { has_table self.old.tables table.0 ≡ true }
+        requires absent { long_value_of self.old.tables table.0 (id_bytes id) ≡ None }
         requires long { 256 ≤ length bytes.now }
         requires short { length bytes.now ≤ 1048576 }
-        ensures ok { OnOk result (self.new ≡ with_long_values table.0 (put_value (id_bytes id) (record { count = 1; bytes = bytes.now }) (table_long_values self.old table.0)) self.old) }
-        ensures err { OnErr result (self.new ≡ self.old) }
+        ensures ok { OnOk result (self.new.tables ≡ with_long_values table.0 (put_value (id_bytes id) (record { count = 1; bytes = bytes.now }) (table_long_values self.old.tables table.0)) self.old.tables) }
+        ensures err { OnErr result (self.new.tables ≡ self.old.tables) }
+        ensures catalog { self.new.catalog ≡ self.old.catalog }
     {
         tables_stay();
         match table_place(self.tables.as_slice(), table) {
@@ -440,8 +462,9 @@ impl TableTrees {
 
     /// One reference more to a long value of a table, which has fewer than 4,294,967,295. It takes no memory.
     pub fn share_long(&mut self, table: TableId, id: LongId)
-        requires { IsSomeAnd (long_value_of self.old table.0 (id_bytes id)) (λ value. value.count < 4294967295) }
-        ensures { self.new ≡ with_long_values table.0 (with_reference (id_bytes id) (table_long_values self.old table.0)) self.old }
+        requires { IsSomeAnd (long_value_of self.old.tables table.0 (id_bytes id)) (λ value. value.count < 4294967295) }
+        ensures tables { self.new.tables ≡ with_long_values table.0 (with_reference (id_bytes id) (table_long_values self.old.tables table.0)) self.old.tables }
+        ensures catalog { self.new.catalog ≡ self.old.catalog }
     {
         tables_stay();
         match table_place(self.tables.as_slice(), table) {
@@ -455,8 +478,9 @@ impl TableTrees {
 
     /// One reference less to a long value of a table, which is gone with its last one. It takes no memory.
     pub fn release_long(&mut self, table: TableId, id: LongId)
-        requires { IsSome (long_value_of self.old table.0 (id_bytes id)) }
-        ensures { self.new ≡ with_long_values table.0 (without_reference (id_bytes id) (table_long_values self.old table.0)) self.old }
+        requires { IsSome (long_value_of self.old.tables table.0 (id_bytes id)) }
+        ensures tables { self.new.tables ≡ with_long_values table.0 (without_reference (id_bytes id) (table_long_values self.old.tables table.0)) self.old.tables }
+        ensures catalog { self.new.catalog ≡ self.old.catalog }
     {
         tables_stay();
         match table_place(self.tables.as_slice(), table) {
@@ -470,8 +494,8 @@ impl TableTrees {
 
     /// The nodes of each table rise by their bookmarks, none of which stands twice, and are short.
     pub fn nodes_are_in_order(&self)
-        ensures sorted { (table : ℕ) → are_sorted (bookmark_entries (table_nodes self.now table)) ≡ true }
-        ensures short { (table : ℕ) → All IsShortNode (table_nodes self.now table) }
+        ensures sorted { (table : ℕ) → are_sorted (bookmark_entries (table_nodes self.now.tables table)) ≡ true }
+        ensures short { (table : ℕ) → All IsShortNode (table_nodes self.now.tables table) }
     {
         let _ = &self.tables;
     }
@@ -479,16 +503,16 @@ impl TableTrees {
     /// The long values of each table rise by their identifiers, none of which stands twice. Each has 256 to 1,048,576
     /// bytes and at least one reference.
     pub fn long_values_are_whole(&self)
-        ensures { (table : ℕ) → AreLong (table_long_values self.now table) }
+        ensures { (table : ℕ) → AreLong (table_long_values self.now.tables table) }
     {
         let _ = &self.tables;
     }
 
     /// The entries of each index rise, and are short. No key of one begins the key of another.
     pub fn entries_are_in_order(&self)
-        ensures sorted { (table index : ℕ) → are_sorted (index_entries self.now table index) ≡ true }
-        ensures short { (table index : ℕ) → All IsShort (index_entries self.now table index) }
-        ensures apart { (table index : ℕ) → AreApart (index_entries self.now table index) }
+        ensures sorted { (table index : ℕ) → are_sorted (index_entries self.now.tables table index) ≡ true }
+        ensures short { (table index : ℕ) → All IsShort (index_entries self.now.tables table index) }
+        ensures apart { (table index : ℕ) → AreApart (index_entries self.now.tables table index) }
     {
         let _ = &self.tables;
     }
@@ -496,8 +520,8 @@ impl TableTrees {
     /// No table has as many nodes as a count can come to, and no index as many entries: a page holds few nodes, and a
     /// space few pages.
     pub fn nodes_and_entries_are_few(&self)
-        ensures nodes { (table : ℕ) → length (table_nodes self.now table) < 2 ^ 34 }
-        ensures entries { (table index : ℕ) → length (index_entries self.now table index) < 2 ^ 34 }
+        ensures nodes { (table : ℕ) → length (table_nodes self.now.tables table) < 2 ^ 34 }
+        ensures entries { (table index : ℕ) → length (index_entries self.now.tables table index) < 2 ^ 34 }
     {
         nodes_fit_their_space();
         entries_fit_their_space();

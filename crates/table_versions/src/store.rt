@@ -36,9 +36,9 @@ impl Model for TableVersions {
     ghost use Rattle.stored_variants.specs.VersionsView.{stored_versions};
     ghost use Rattle.stored_variants.specs.VersionsKept.{AreKept};
 
-    ghost view = { λ a. stored_versions a.catalog a.trees a.versions };
+    ghost view = { λ a. stored_versions a.catalog a.trees.tables a.versions };
 
-    ghost invariant = { λ a. AreKept a.catalog.tables a.trees a.versions };
+    ghost invariant = { λ a. AreKept a.catalog.tables a.trees.tables a.versions };
 }
 
 impl TableVersions {

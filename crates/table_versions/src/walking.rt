@@ -260,7 +260,7 @@ pub(crate) fn entry_behind<'a>(
 ) -> Option<(&'a [u8], &'a [u8])>
     requires key { length key.now ≤ 255 }
     requires bookmark { length bookmark.now ≤ 255 }
-    ensures entry { option_map (λ found. (found.0.now, found.1.now)) result ≡ entry_after (On key.now bookmark.now) (index_entries trees.now table.0 index.0) }
+    ensures entry { option_map (λ found. (found.0.now, found.1.now)) result ≡ entry_after (On key.now bookmark.now) (index_entries trees.now.tables table.0 index.0) }
     ensures short { IfSome result (λ found. (length found.0.now ≤ 255) × (length found.1.now ≤ 255)) }
 {
     let last = Place::On(Key::from_slice(key), Key::from_slice(bookmark));
@@ -277,7 +277,7 @@ fn entry_in_front<'a>(
 ) -> Option<(&'a [u8], &'a [u8])>
     requires key { length key.now ≤ 255 }
     requires bookmark { length bookmark.now ≤ 255 }
-    ensures entry { option_map (λ found. (found.0.now, found.1.now)) result ≡ entry_before (On key.now bookmark.now) (index_entries trees.now table.0 index.0) }
+    ensures entry { option_map (λ found. (found.0.now, found.1.now)) result ≡ entry_before (On key.now bookmark.now) (index_entries trees.now.tables table.0 index.0) }
     ensures short { IfSome result (λ found. (length found.0.now ≤ 255) × (length found.1.now ≤ 255)) }
 {
     let last = Place::On(Key::from_slice(key), Key::from_slice(bookmark));
@@ -291,7 +291,7 @@ fn node_behind<'a>(
     bookmark: &[u8],
 ) -> Option<(&'a [u8], &'a [u8])>
     requires { length bookmark.now ≤ 255 }
-    ensures node { option_map (λ found. (found.0.now, found.1.now)) result ≡ node_after (On bookmark.now bookmark.now) (table_nodes trees.now table.0) }
+    ensures node { option_map (λ found. (found.0.now, found.1.now)) result ≡ node_after (On bookmark.now bookmark.now) (table_nodes trees.now.tables table.0) }
     ensures short { IfSome result (λ found. length found.0.now ≤ 255) }
 {
     let last = Place::On(Key::from_slice(bookmark), Key::from_slice(bookmark));
@@ -305,7 +305,7 @@ fn node_in_front<'a>(
     bookmark: &[u8],
 ) -> Option<(&'a [u8], &'a [u8])>
     requires { length bookmark.now ≤ 255 }
-    ensures node { option_map (λ found. (found.0.now, found.1.now)) result ≡ node_before (On bookmark.now bookmark.now) (table_nodes trees.now table.0) }
+    ensures node { option_map (λ found. (found.0.now, found.1.now)) result ≡ node_before (On bookmark.now bookmark.now) (table_nodes trees.now.tables table.0) }
     ensures short { IfSome result (λ found. length found.0.now ≤ 255) }
 {
     let last = Place::On(Key::from_slice(bookmark), Key::from_slice(bookmark));

@@ -15,7 +15,7 @@ const INDEX: IndexId = IndexId(2);
 
 /// One table with one index.
 fn one_table(alloc: Global) -> Result<TableTrees, OutOfMemory>
-    ensures { IfOk result (λ made. made ≡ record { number = 1; nodes = []; indexes = (2, []) ∷ []; long_values = [] } ∷ []) }
+    ensures { IfOk result (λ made. made.tables ≡ record { number = 1; nodes = []; indexes = (2, []) ∷ []; long_values = [] } ∷ []) }
 {
     let mut tables = TableTrees::new(alloc);
     tables.add_table(TABLE)?;

@@ -29,11 +29,11 @@ pub fn create_index(
     table: TableId,
     rule: &IndexRule,
 ) -> Result<(), OutOfMemory>
-    requires kept { AreKept catalog.old.tables trees.old [] }
+    requires kept { AreKept catalog.old.tables trees.old.tables [] }
     requires step { made.now ≡ step.CreateIndex table rule.now }
-    requires fits { IsSomeAnd (table_with_id (map (with_newest trees.old) catalog.old.tables) table.0) (IsIndexFor rule.now) }
-    ensures ok { OnOk result (IsMade made.now catalog.old trees.old catalog.new trees.new) }
-    ensures err { OnErr result ((catalog.new ≡ catalog.old) × (trees.new ≡ trees.old)) }
+    requires fits { IsSomeAnd (table_with_id (map (with_newest trees.old.tables) catalog.old.tables) table.0) (IsIndexFor rule.now) }
+    ensures ok { OnOk result (IsMade made.now catalog.old trees.old.tables catalog.new trees.new.tables) }
+    ensures err { OnErr result ((catalog.new ≡ catalog.old) × (trees.new.tables ≡ trees.old.tables)) }
 {
     if rule.flags.primary {
         create_primary(catalog, trees, made, table, rule)
@@ -50,11 +50,11 @@ fn create_primary(
     table: TableId,
     rule: &IndexRule,
 ) -> Result<(), OutOfMemory>
-    requires kept { AreKept catalog.old.tables trees.now [] }
+    requires kept { AreKept catalog.old.tables trees.now.tables [] }
     requires step { made.now ≡ step.CreateIndex table rule.now }
     requires primary { rule.now.flags.primary ≡ true }
-    requires fits { IsSomeAnd (table_with_id (map (with_newest trees.now) catalog.old.tables) table.0) (IsIndexFor rule.now) }
-    ensures ok { OnOk result (IsMade made.now catalog.old trees.now catalog.new trees.now) }
+    requires fits { IsSomeAnd (table_with_id (map (with_newest trees.now.tables) catalog.old.tables) table.0) (IsIndexFor rule.now) }
+    ensures ok { OnOk result (IsMade made.now catalog.old trees.now.tables catalog.new trees.now.tables) }
     ensures err { OnErr result (catalog.new ≡ catalog.old) }
 {
     trees.nodes_are_in_order();
@@ -70,12 +70,12 @@ fn create_secondary(
     table: TableId,
     rule: &IndexRule,
 ) -> Result<(), OutOfMemory>
-    requires kept { AreKept catalog.old.tables trees.old [] }
+    requires kept { AreKept catalog.old.tables trees.old.tables [] }
     requires step { made.now ≡ step.CreateIndex table rule.now }
     requires secondary { rule.now.flags.primary ≡ false }
-    requires fits { IsSomeAnd (table_with_id (map (with_newest trees.old) catalog.old.tables) table.0) (IsIndexFor rule.now) }
-    ensures ok { OnOk result (IsMade made.now catalog.old trees.old catalog.new trees.new) }
-    ensures err { OnErr result ((catalog.new ≡ catalog.old) × (trees.new ≡ trees.old)) }
+    requires fits { IsSomeAnd (table_with_id (map (with_newest trees.old.tables) catalog.old.tables) table.0) (IsIndexFor rule.now) }
+    ensures ok { OnOk result (IsMade made.now catalog.old trees.old.tables catalog.new trees.new.tables) }
+    ensures err { OnErr result ((catalog.new ≡ catalog.old) × (trees.new.tables ≡ trees.old.tables)) }
 {
     indexes_after_a_change();
     indexes_beside_a_new_one();
@@ -104,11 +104,11 @@ fn fill_and_make(
     rule: &IndexRule,
 ) -> Result<(), OutOfMemory>
     requires step { made.now ≡ step.CreateIndex table rule.now }
-    requires there { has_index trees.old table.0 rule.now.id.0 ≡ true }
-    requires empty { index_entries trees.old table.0 rule.now.id.0 ≡ [] }
-    requires fits { IsSomeAnd (table_with_id catalog.old.tables table.0) (CanFill rule.now (table_nodes trees.old table.0)) }
-    ensures only { OnlyEntries table.0 rule.now.id.0 trees.old trees.new }
-    ensures filled { OnOk result (IfSome (table_with_id catalog.old.tables table.0) (λ t. HasNewestKeys rule.now (table_nodes trees.old table.0) (index_entries trees.new table.0 rule.now.id.0) (schema_of t))) }
+    requires there { has_index trees.old.tables table.0 rule.now.id.0 ≡ true }
+    requires empty { index_entries trees.old.tables table.0 rule.now.id.0 ≡ [] }
+    requires fits { IsSomeAnd (table_with_id catalog.old.tables table.0) (CanFill rule.now (table_nodes trees.old.tables table.0)) }
+    ensures only { OnlyEntries table.0 rule.now.id.0 trees.old.tables trees.new.tables }
+    ensures filled { OnOk result (IfSome (table_with_id catalog.old.tables table.0) (λ t. HasNewestKeys rule.now (table_nodes trees.old.tables table.0) (index_entries trees.new.tables table.0 rule.now.id.0) (schema_of t))) }
     ensures made { OnOk result (catalog.new ≡ catalog_after catalog.old made.now) }
     ensures err { OnErr result (catalog.new ≡ catalog.old) }
 {
@@ -126,11 +126,11 @@ fn fill_table(
     table: TableId,
     rule: &IndexRule,
 ) -> Result<(), OutOfMemory>
-    requires there { has_index trees.old table.0 rule.now.id.0 ≡ true }
-    requires empty { index_entries trees.old table.0 rule.now.id.0 ≡ [] }
-    requires fits { IsSomeAnd (table_with_id catalog.now.tables table.0) (CanFill rule.now (table_nodes trees.old table.0)) }
-    ensures only { OnlyEntries table.0 rule.now.id.0 trees.old trees.new }
-    ensures filled { OnOk result (IfSome (table_with_id catalog.now.tables table.0) (λ t. HasNewestKeys rule.now (table_nodes trees.old table.0) (index_entries trees.new table.0 rule.now.id.0) (schema_of t))) }
+    requires there { has_index trees.old.tables table.0 rule.now.id.0 ≡ true }
+    requires empty { index_entries trees.old.tables table.0 rule.now.id.0 ≡ [] }
+    requires fits { IsSomeAnd (table_with_id catalog.now.tables table.0) (CanFill rule.now (table_nodes trees.old.tables table.0)) }
+    ensures only { OnlyEntries table.0 rule.now.id.0 trees.old.tables trees.new.tables }
+    ensures filled { OnOk result (IfSome (table_with_id catalog.now.tables table.0) (λ t. HasNewestKeys rule.now (table_nodes trees.old.tables table.0) (index_entries trees.new.tables table.0 rule.now.id.0) (schema_of t))) }
 {
     match catalog.by_id(table) {
         Some(known) => fill(alloc, trees, table, known.schema(), rule),

@@ -21,10 +21,10 @@ use version_store::Versions;
 /// variant has, and the node where no variant is left. The newest records stay. The change itself is still held: the caller
 /// gives it up. It takes no memory.
 pub fn forget_oldest(catalog: &Catalog, trees: &mut TableTrees, versions: &Versions)
-    requires kept { AreKept catalog.now.tables trees.old versions.now }
+    requires kept { AreKept catalog.now.tables trees.old.tables versions.now }
     requires some { 0 < length versions.now }
-    ensures kept { AreKept catalog.now.tables trees.new (drop 1 versions.now) }
-    ensures newest { map (with_newest trees.new) catalog.now.tables ≡ map (with_newest trees.old) catalog.now.tables }
+    ensures kept { AreKept catalog.now.tables trees.new.tables (drop 1 versions.now) }
+    ensures newest { map (with_newest trees.new.tables) catalog.now.tables ≡ map (with_newest trees.old.tables) catalog.now.tables }
 {
     match versions.oldest_table() {
         Some(table) => forget_of(catalog, trees, versions, table),
@@ -34,10 +34,10 @@ pub fn forget_oldest(catalog: &Catalog, trees: &mut TableTrees, versions: &Versi
 
 // The same where the change's table is known.
 fn forget_of(catalog: &Catalog, trees: &mut TableTrees, versions: &Versions, table: TableId)
-    requires kept { AreKept catalog.now.tables trees.old versions.now }
+    requires kept { AreKept catalog.now.tables trees.old.tables versions.now }
     requires first { first_table versions.now ≡ Some table.0 }
-    ensures kept { AreKept catalog.now.tables trees.new (drop 1 versions.now) }
-    ensures newest { map (with_newest trees.new) catalog.now.tables ≡ map (with_newest trees.old) catalog.now.tables }
+    ensures kept { AreKept catalog.now.tables trees.new.tables (drop 1 versions.now) }
+    ensures newest { map (with_newest trees.new.tables) catalog.now.tables ≡ map (with_newest trees.old.tables) catalog.now.tables }
 {
     let _ = catalog.tables();
     match catalog.by_id(table) {
@@ -50,9 +50,9 @@ fn forget_of(catalog: &Catalog, trees: &mut TableTrees, versions: &Versions, tab
 fn forget_in(trees: &mut TableTrees, versions: &Versions, table: TableId, schema: &Schema)
     requires can { CanForget schema.now table.0 versions.now }
     requires rows { AreRows versions.now }
-    requires newest { (bookmark : List ℕ) → IfSome (row_under (table_nodes trees.old table.0) bookmark) IsRecordRow }
-    ensures kept { (tables : List Table) → DistinctIds tables → IfSome (table_with_id tables table.0) (λ t. schema.now ≡ schema_of t) → AreKept tables trees.old versions.now → AreKept tables trees.new (drop 1 versions.now) }
-    ensures newest { (tables : List Table) → map (with_newest trees.new) tables ≡ map (with_newest trees.old) tables }
+    requires newest { (bookmark : List ℕ) → IfSome (row_under (table_nodes trees.old.tables table.0) bookmark) IsRecordRow }
+    ensures kept { (tables : List Table) → DistinctIds tables → IfSome (table_with_id tables table.0) (λ t. schema.now ≡ schema_of t) → AreKept tables trees.old.tables versions.now → AreKept tables trees.new.tables (drop 1 versions.now) }
+    ensures newest { (tables : List Table) → map (with_newest trees.new.tables) tables ≡ map (with_newest trees.old.tables) tables }
 {
     match in_place(versions.before_at(0)) {
         Some(row) => {

@@ -35,11 +35,11 @@ pub(crate) fn take_keys<R: Values>(
     gone: &R,
 )
     requires rules { AllByRecursion (HasKeysOf schema.now (R.fields gone.now)) schema.now.indexes }
-    requires newest { IfSome (row_under (table_nodes trees.old table.0) bookmark.now) IsRecordRow }
+    requires newest { IfSome (row_under (table_nodes trees.old.tables table.0) bookmark.now) IsRecordRow }
     requires rows { AreRows versions.now }
     requires bookmark { length bookmark.now ≤ 255 }
-    ensures others { ChangesEntries table.0 trees.old trees.new }
-    ensures keys { LosesRecord (option_map record_of (row_under (table_nodes trees.old table.0) bookmark.now)) (held_from from versions.now) schema.now table.0 bookmark.now (R.fields gone.now) trees.old trees.new }
+    ensures others { ChangesEntries table.0 trees.old.tables trees.new.tables }
+    ensures keys { LosesRecord (option_map record_of (row_under (table_nodes trees.old.tables table.0) bookmark.now)) (held_from from versions.now) schema.now table.0 bookmark.now (R.fields gone.now) trees.old.tables trees.new.tables }
 {
     for rule in schema.indexes.as_slice() {
         if !rule.flags.primary {
@@ -60,12 +60,12 @@ fn take_keys_of<R: Values>(
     gone: &R,
 )
     requires rule { HasKeysOf schema.now (R.fields gone.now) rule.now }
-    requires newest { IfSome (row_under (table_nodes trees.old table.0) bookmark.now) IsRecordRow }
+    requires newest { IfSome (row_under (table_nodes trees.old.tables table.0) bookmark.now) IsRecordRow }
     requires rows { AreRows versions.now }
     requires bookmark { length bookmark.now ≤ 255 }
-    ensures others { ChangesEntries table.0 trees.old trees.new }
-    ensures indexes { OthersKeep table.0 rule.now.id.0 trees.old trees.new }
-    ensures keys { LosesKeys (option_map record_of (row_under (table_nodes trees.old table.0) bookmark.now)) (held_from from versions.now) rule.now schema.now table.0 bookmark.now (R.fields gone.now) (index_entries trees.old table.0 rule.now.id.0) (index_entries trees.new table.0 rule.now.id.0) }
+    ensures others { ChangesEntries table.0 trees.old.tables trees.new.tables }
+    ensures indexes { OthersKeep table.0 rule.now.id.0 trees.old.tables trees.new.tables }
+    ensures keys { LosesKeys (option_map record_of (row_under (table_nodes trees.old.tables table.0) bookmark.now)) (held_from from versions.now) rule.now schema.now table.0 bookmark.now (R.fields gone.now) (index_entries trees.old.tables table.0 rule.now.id.0) (index_entries trees.new.tables table.0 rule.now.id.0) }
 {
     entries_rise();
     let mut next = next_entry(rule, schema, gone, None);
@@ -88,12 +88,12 @@ fn take_key(
 )
     requires legal { is_legal rule.now schema.now ≡ true }
     requires short { rule.now.key_most ≤ 255 }
-    requires newest { IfSome (row_under (table_nodes trees.old table.0) bookmark.now) IsRecordRow }
+    requires newest { IfSome (row_under (table_nodes trees.old.tables table.0) bookmark.now) IsRecordRow }
     requires rows { AreRows versions.now }
     requires bookmark { length bookmark.now ≤ 255 }
-    ensures others { ChangesEntries table.0 trees.old trees.new }
-    ensures indexes { OthersKeep table.0 rule.now.id.0 trees.old trees.new }
-    ensures key { LosesKey (λ (k : List ℕ). is_variant_key (option_map record_of (row_under (table_nodes trees.old table.0) bookmark.now)) (held_from from versions.now) rule.now schema.now table.0 k bookmark.now) key.now bookmark.now (index_entries trees.old table.0 rule.now.id.0) (index_entries trees.new table.0 rule.now.id.0) }
+    ensures others { ChangesEntries table.0 trees.old.tables trees.new.tables }
+    ensures indexes { OthersKeep table.0 rule.now.id.0 trees.old.tables trees.new.tables }
+    ensures key { LosesKey (λ (k : List ℕ). is_variant_key (option_map record_of (row_under (table_nodes trees.old.tables table.0) bookmark.now)) (held_from from versions.now) rule.now schema.now table.0 k bookmark.now) key.now bookmark.now (index_entries trees.old.tables table.0 rule.now.id.0) (index_entries trees.new.tables table.0 rule.now.id.0) }
 {
     if !is_variant_key(trees, versions, from, table, schema, rule, bookmark, key) {
         take_entry(trees, table, rule.id, key, bookmark);
@@ -103,9 +103,9 @@ fn take_key(
 // Takes an entry out of an index, where it is there.
 fn take_entry(trees: &mut TableTrees, table: TableId, index: IndexId, key: &Key, bookmark: &[u8])
     requires { length bookmark.now ≤ 255 }
-    ensures others { ChangesEntries table.0 trees.old trees.new }
-    ensures indexes { OthersKeep table.0 index.0 trees.old trees.new }
-    ensures entry { (k own : List ℕ) → has_entry k own (index_entries trees.new table.0 index.0) ≡ (has_entry k own (index_entries trees.old table.0 index.0) && not (bytes_eq own bookmark.now && bytes_eq k key.now)) }
+    ensures others { ChangesEntries table.0 trees.old.tables trees.new.tables }
+    ensures indexes { OthersKeep table.0 index.0 trees.old.tables trees.new.tables }
+    ensures entry { (k own : List ℕ) → has_entry k own (index_entries trees.new.tables table.0 index.0) ≡ (has_entry k own (index_entries trees.old.tables table.0 index.0) && not (bytes_eq own bookmark.now && bytes_eq k key.now)) }
 {
     entries_after_a_change();
     indexes_after_a_change();
@@ -128,9 +128,9 @@ fn is_variant_key(
 ) -> bool
     requires legal { is_legal rule.now schema.now ≡ true }
     requires short { rule.now.key_most ≤ 255 }
-    requires newest { IfSome (row_under (table_nodes trees.now table.0) bookmark.now) IsRecordRow }
+    requires newest { IfSome (row_under (table_nodes trees.now.tables table.0) bookmark.now) IsRecordRow }
     requires rows { AreRows versions.now }
-    ensures { result ≡ is_variant_key (option_map record_of (row_under (table_nodes trees.now table.0) bookmark.now)) (held_from from versions.now) rule.now schema.now table.0 key.now bookmark.now }
+    ensures { result ≡ is_variant_key (option_map record_of (row_under (table_nodes trees.now.tables table.0) bookmark.now)) (held_from from versions.now) rule.now schema.now table.0 key.now bookmark.now }
 {
     let newest = row_in_node(trees.get(table, bookmark));
     has_key(rule, schema, newest, key)

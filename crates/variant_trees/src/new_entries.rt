@@ -32,13 +32,13 @@ pub(crate) fn fill(
     schema: &Schema,
     rule: &IndexRule,
 ) -> Result<(), OutOfMemory>
-    requires there { has_index trees.old table.0 rule.now.id.0 ≡ true }
-    requires empty { index_entries trees.old table.0 rule.now.id.0 ≡ [] }
+    requires there { has_index trees.old.tables table.0 rule.now.id.0 ≡ true }
+    requires empty { index_entries trees.old.tables table.0 rule.now.id.0 ≡ [] }
     requires legal { is_legal rule.now schema.now ≡ true }
     requires short { rule.now.key_most ≤ 255 }
-    requires rows { (bookmark : List ℕ) → IfSome (row_under (table_nodes trees.old table.0) bookmark) (IsTakenRow rule.now schema.now) }
-    ensures only { OnlyEntries table.0 rule.now.id.0 trees.old trees.new }
-    ensures ok { OnOk result (HasNewestKeys rule.now (table_nodes trees.old table.0) (index_entries trees.new table.0 rule.now.id.0) schema.now) }
+    requires rows { (bookmark : List ℕ) → IfSome (row_under (table_nodes trees.old.tables table.0) bookmark) (IsTakenRow rule.now schema.now) }
+    ensures only { OnlyEntries table.0 rule.now.id.0 trees.old.tables trees.new.tables }
+    ensures ok { OnOk result (HasNewestKeys rule.now (table_nodes trees.old.tables table.0) (index_entries trees.new.tables table.0 rule.now.id.0) schema.now) }
 {
     derived_keys_are_apart();
     trees.nodes_are_in_order();
@@ -90,13 +90,13 @@ fn put_entries(
     keys: &[Key],
     bookmark: &[u8],
 ) -> Result<(), OutOfMemory>
-    requires there { has_index trees.old table.0 index.0 ≡ true }
+    requires there { has_index trees.old.tables table.0 index.0 ≡ true }
     requires rising { IsStrictlySortedBy (slice_cmp nat_cmp) keys.now }
-    requires fresh { (key : List ℕ) → has_entry key bookmark.now (index_entries trees.old table.0 index.0) ≡ false }
-    requires apart { (one other : List ℕ) → IsAmong keys.now (index_entries trees.old table.0 index.0) one → IsAmong keys.now (index_entries trees.old table.0 index.0) other → IsApart one other }
+    requires fresh { (key : List ℕ) → has_entry key bookmark.now (index_entries trees.old.tables table.0 index.0) ≡ false }
+    requires apart { (one other : List ℕ) → IsAmong keys.now (index_entries trees.old.tables table.0 index.0) one → IsAmong keys.now (index_entries trees.old.tables table.0 index.0) other → IsApart one other }
     requires short { length bookmark.now ≤ 255 }
-    ensures only { OnlyEntries table.0 index.0 trees.old trees.new }
-    ensures ok { OnOk result ((key own : List ℕ) → has_entry key own (index_entries trees.new table.0 index.0) ≡ (has_entry key own (index_entries trees.old table.0 index.0) || (bytes_eq own bookmark.now && list_any (bytes_eq key) keys.now))) }
+    ensures only { OnlyEntries table.0 index.0 trees.old.tables trees.new.tables }
+    ensures ok { OnOk result ((key own : List ℕ) → has_entry key own (index_entries trees.new.tables table.0 index.0) ≡ (has_entry key own (index_entries trees.old.tables table.0 index.0) || (bytes_eq own bookmark.now && list_any (bytes_eq key) keys.now))) }
 {
     indexes_after_a_change();
     entries_after_a_change();

@@ -41,11 +41,11 @@ fn put_keys(
     bookmark: &[u8],
     values: &Record,
 ) -> Result<(), OutOfMemory>
-    requires rules { AllByRecursion (CanTake schema.now values.now table.0 trees.old) schema.now.indexes }
+    requires rules { AllByRecursion (CanTake schema.now values.now table.0 trees.old.tables) schema.now.indexes }
     requires fits { record_fits schema.now.columns values.now ≡ true }
     requires short { length bookmark.now ≤ 255 }
-    ensures ok { OnOk result (HasKeys table.0 bookmark.now (record_keys schema.now.indexes schema.now values.now) trees.old trees.new) }
-    ensures err { OnErr result (MayHaveKeys table.0 bookmark.now (record_keys schema.now.indexes schema.now values.now) trees.old trees.new) }
+    ensures ok { OnOk result (HasKeys table.0 bookmark.now (record_keys schema.now.indexes schema.now values.now) trees.old.tables trees.new.tables) }
+    ensures err { OnErr result (MayHaveKeys table.0 bookmark.now (record_keys schema.now.indexes schema.now values.now) trees.old.tables trees.new.tables) }
 {
     for rule in schema.indexes.as_slice() {
         if !rule.flags.primary {
@@ -69,12 +69,12 @@ fn put_keys_of(
     values: &Record,
 ) -> Result<(), OutOfMemory>
     requires rule { HasKeysOf schema.now values.now rule.now }
-    requires there { has_index trees.old table.0 rule.now.id.0 ≡ true }
-    requires derived { AreKeysOfRecords rule.now schema.now (index_entries trees.old table.0 rule.now.id.0) }
+    requires there { has_index trees.old.tables table.0 rule.now.id.0 ≡ true }
+    requires derived { AreKeysOfRecords rule.now schema.now (index_entries trees.old.tables table.0 rule.now.id.0) }
     requires fits { record_fits schema.now.columns values.now ≡ true }
     requires short { length bookmark.now ≤ 255 }
-    ensures ok { OnOk result (HasKeys table.0 bookmark.now (rule_keys schema.now values.now rule.now) trees.old trees.new) }
-    ensures err { OnErr result (MayHaveKeys table.0 bookmark.now (rule_keys schema.now values.now rule.now) trees.old trees.new) }
+    ensures ok { OnOk result (HasKeys table.0 bookmark.now (rule_keys schema.now values.now rule.now) trees.old.tables trees.new.tables) }
+    ensures err { OnErr result (MayHaveKeys table.0 bookmark.now (rule_keys schema.now values.now rule.now) trees.old.tables trees.new.tables) }
 {
     derived_keys_are_apart();
     let keys = match entries(alloc, rule, schema, values) {
@@ -98,11 +98,11 @@ fn put_key(
     key: &Key,
     bookmark: &[u8],
 ) -> Result<(), OutOfMemory>
-    requires there { has_index trees.old table.0 index.0 ≡ true }
-    requires apart { IsApartFromAll key.now (index_entries trees.old table.0 index.0) }
+    requires there { has_index trees.old.tables table.0 index.0 ≡ true }
+    requires apart { IsApartFromAll key.now (index_entries trees.old.tables table.0 index.0) }
     requires short { length bookmark.now ≤ 255 }
-    ensures ok { OnOk result (HasKeys table.0 bookmark.now (one_key index.0 key.now) trees.old trees.new) }
-    ensures err { OnErr result (trees.new ≡ trees.old) }
+    ensures ok { OnOk result (HasKeys table.0 bookmark.now (one_key index.0 key.now) trees.old.tables trees.new.tables) }
+    ensures err { OnErr result (trees.new.tables ≡ trees.old.tables) }
 {
     indexes_after_a_change();
     entries_after_a_change();
@@ -123,13 +123,13 @@ fn insert_row(
     bookmark: &[u8],
     row: &[u8],
 ) -> Result<(), OutOfMemory>
-    requires there { has_table trees.old table.0 ≡ true }
-    requires absent { get_in (table_nodes trees.old table.0) bookmark.now ≡ None }
+    requires there { has_table trees.old.tables table.0 ≡ true }
+    requires absent { get_in (table_nodes trees.old.tables table.0) bookmark.now ≡ None }
     requires some { 0 < length bookmark.now }
     requires short { length bookmark.now ≤ 255 }
     requires small { length row.now ≤ 1700 }
-    ensures ok { OnOk result (HasNewRow table.0 bookmark.now row.now trees.old trees.new) }
-    ensures err { OnErr result (trees.new ≡ trees.old) }
+    ensures ok { OnOk result (HasNewRow table.0 bookmark.now row.now trees.old.tables trees.new.tables) }
+    ensures err { OnErr result (trees.new.tables ≡ trees.old.tables) }
 {
     nodes_after_a_change();
     nodes_by_bookmark();
@@ -147,11 +147,11 @@ fn make_room(
     extent: usize,
     size: usize,
 ) -> Result<(), OutOfMemory>
-    requires there { has_table trees.old table.0 ≡ true }
-    requires node { extent_in (table_nodes trees.old table.0) bookmark.now ≡ Some extent }
+    requires there { has_table trees.old.tables table.0 ≡ true }
+    requires node { extent_in (table_nodes trees.old.tables table.0) bookmark.now ≡ Some extent }
     requires small { size ≤ 1700 }
-    ensures ok { OnOk result (HasRoom table.0 bookmark.now size trees.old trees.new) }
-    ensures err { OnErr result (trees.new ≡ trees.old) }
+    ensures ok { OnOk result (HasRoom table.0 bookmark.now size trees.old.tables trees.new.tables) }
+    ensures err { OnErr result (trees.new.tables ≡ trees.old.tables) }
 {
     nodes_after_a_change();
     nodes_by_bookmark();
@@ -180,15 +180,15 @@ fn take_back(
     is_new: bool,
 )
     requires rules { AllByRecursion (HasKeysOf schema.now values.now) schema.now.indexes }
-    requires newest { IfSome (row_under (table_nodes trees.old table.0) bookmark.now) IsRecordRow }
+    requires newest { IfSome (row_under (table_nodes trees.old.tables table.0) bookmark.now) IsRecordRow }
     requires rows { AreRows versions.now }
     requires short { length bookmark.now ≤ 255 }
-    requires there { has_table trees.old table.0 ≡ true }
-    requires new_node { is_new ≡ true → is_some (get_in (table_nodes trees.old table.0) bookmark.now) ≡ true }
-    ensures { (base : List StoredTable) → IsHalfPut table.0 bookmark.now (record_keys schema.now.indexes schema.now values.now) base trees.old
+    requires there { has_table trees.old.tables table.0 ≡ true }
+    requires new_node { is_new ≡ true → is_some (get_in (table_nodes trees.old.tables table.0) bookmark.now) ≡ true }
+    ensures { (base : List StoredTable) → IsHalfPut table.0 bookmark.now (record_keys schema.now.indexes schema.now values.now) base trees.old.tables
         → is_new ≡ is_none (get_in (table_nodes base table.0) bookmark.now)
         → HasVariantKeys (option_map record_of (row_under (table_nodes base table.0) bookmark.now)) (held_from 0 versions.now) schema.now table.0 bookmark.now base
-        → IsSame table.0 schema.now base trees.new }
+        → IsSame table.0 schema.now base trees.new.tables }
 {
     nodes_after_a_change();
     nodes_by_bookmark();
@@ -210,12 +210,12 @@ fn take_back_new(
     requires rules { AllByRecursion (HasKeysOf schema.now values.now) schema.now.indexes }
     requires rows { AreRows versions.now }
     requires short { length bookmark.now ≤ 255 }
-    requires there { has_table trees.old table.0 ≡ true }
-    requires node { is_some (get_in (table_nodes trees.old table.0) bookmark.now) ≡ true }
-    ensures { (base : List StoredTable) (row : List ℕ) → IsNewPut table.0 bookmark.now row (record_keys schema.now.indexes schema.now values.now) base trees.old
+    requires there { has_table trees.old.tables table.0 ≡ true }
+    requires node { is_some (get_in (table_nodes trees.old.tables table.0) bookmark.now) ≡ true }
+    ensures { (base : List StoredTable) (row : List ℕ) → IsNewPut table.0 bookmark.now row (record_keys schema.now.indexes schema.now values.now) base trees.old.tables
         → get_in (table_nodes base table.0) bookmark.now ≡ None
         → HasVariantKeys None (held_from 0 versions.now) schema.now table.0 bookmark.now base
-        → IsSame table.0 schema.now base trees.new }
+        → IsSame table.0 schema.now base trees.new.tables }
 {
     nodes_after_a_change();
     nodes_by_bookmark();
@@ -239,20 +239,20 @@ pub fn put_record(
     bookmark: &[u8],
     values: &Record,
 ) -> Result<(), VersionFault>
-    requires there { has_table trees.old table.0 ≡ true }
-    requires rules { AllByRecursion (CanTake schema.now values.now table.0 trees.old) schema.now.indexes }
+    requires there { has_table trees.old.tables table.0 ≡ true }
+    requires rules { AllByRecursion (CanTake schema.now values.now table.0 trees.old.tables) schema.now.indexes }
     requires fits { record_fits schema.now.columns values.now ≡ true }
     requires here { IsTrue (is_all_here values.now) }
     requires some { 0 < length bookmark.now }
     requires short { length bookmark.now ≤ 255 }
-    requires newest { IfSome (row_under (table_nodes trees.old table.0) bookmark.now) IsRecordRow }
+    requires newest { IfSome (row_under (table_nodes trees.old.tables table.0) bookmark.now) IsRecordRow }
     requires rows { AreRows versions.old }
-    requires keys { HasVariantKeys (option_map record_of (row_under (table_nodes trees.old table.0) bookmark.now)) (held_from 0 versions.old) schema.now table.0 bookmark.now trees.old }
-    requires room { has_room by change.now (row_under (table_nodes trees.old table.0) bookmark.now) versions.old ≡ true }
+    requires keys { HasVariantKeys (option_map record_of (row_under (table_nodes trees.old.tables table.0) bookmark.now)) (held_from 0 versions.old) schema.now table.0 bookmark.now trees.old.tables }
+    requires room { has_room by change.now (row_under (table_nodes trees.old.tables table.0) bookmark.now) versions.old ≡ true }
     ensures fault { IsErrOf result fault.OverSpan → ⊥ }
-    ensures put { OnOk result (IsPut table.0 bookmark.now (row_bytes (all_here values.now)) (record_keys schema.now.indexes schema.now values.now) trees.old trees.new) }
-    ensures held { OnOk result (versions.new ≡ versions.old ++ new_change by change.now (row_under (table_nodes trees.old table.0) bookmark.now) ∷ []) }
-    ensures same { OnErr result (IsSame table.0 schema.now trees.old trees.new) }
+    ensures put { OnOk result (IsPut table.0 bookmark.now (row_bytes (all_here values.now)) (record_keys schema.now.indexes schema.now values.now) trees.old.tables trees.new.tables) }
+    ensures held { OnOk result (versions.new ≡ versions.old ++ new_change by change.now (row_under (table_nodes trees.old.tables table.0) bookmark.now) ∷ []) }
+    ensures same { OnErr result (IsSame table.0 schema.now trees.old.tables trees.new.tables) }
     ensures unheld { OnErr result (versions.new ≡ versions.old) }
 {
     let row = match encode_record(alloc, values) {
@@ -283,20 +283,20 @@ fn put_new(
     values: &Record,
     row: &[u8],
 ) -> Result<(), VersionFault>
-    requires there { has_table trees.old table.0 ≡ true }
-    requires rules { AllByRecursion (CanTake schema.now values.now table.0 trees.old) schema.now.indexes }
+    requires there { has_table trees.old.tables table.0 ≡ true }
+    requires rules { AllByRecursion (CanTake schema.now values.now table.0 trees.old.tables) schema.now.indexes }
     requires fits { record_fits schema.now.columns values.now ≡ true }
     requires some { 0 < length bookmark.now }
     requires short { length bookmark.now ≤ 255 }
     requires small { length row.now ≤ 1700 }
-    requires absent { get_in (table_nodes trees.old table.0) bookmark.now ≡ None }
+    requires absent { get_in (table_nodes trees.old.tables table.0) bookmark.now ≡ None }
     requires rows { AreRows versions.old }
-    requires keys { HasVariantKeys None (held_from 0 versions.old) schema.now table.0 bookmark.now trees.old }
+    requires keys { HasVariantKeys None (held_from 0 versions.old) schema.now table.0 bookmark.now trees.old.tables }
     requires room { has_room by change.now None versions.old ≡ true }
     ensures fault { IsErrOf result fault.OverSpan → ⊥ }
-    ensures put { OnOk result (IsPut table.0 bookmark.now row.now (record_keys schema.now.indexes schema.now values.now) trees.old trees.new) }
+    ensures put { OnOk result (IsPut table.0 bookmark.now row.now (record_keys schema.now.indexes schema.now values.now) trees.old.tables trees.new.tables) }
     ensures held { OnOk result (versions.new ≡ versions.old ++ new_change by change.now None ∷ []) }
-    ensures same { OnErr result (IsSame table.0 schema.now trees.old trees.new) }
+    ensures same { OnErr result (IsSame table.0 schema.now trees.old.tables trees.new.tables) }
     ensures unheld { OnErr result (versions.new ≡ versions.old) }
 {
     match insert_row(trees, table, bookmark, row) {
@@ -333,20 +333,20 @@ fn put_over(
     row: &[u8],
     extent: usize,
 ) -> Result<(), VersionFault>
-    requires there { has_table trees.old table.0 ≡ true }
-    requires rules { AllByRecursion (CanTake schema.now values.now table.0 trees.old) schema.now.indexes }
+    requires there { has_table trees.old.tables table.0 ≡ true }
+    requires rules { AllByRecursion (CanTake schema.now values.now table.0 trees.old.tables) schema.now.indexes }
     requires fits { record_fits schema.now.columns values.now ≡ true }
     requires short { length bookmark.now ≤ 255 }
     requires small { length row.now ≤ 1700 }
-    requires node { extent_in (table_nodes trees.old table.0) bookmark.now ≡ Some extent }
-    requires newest { IfSome (row_under (table_nodes trees.old table.0) bookmark.now) IsRecordRow }
+    requires node { extent_in (table_nodes trees.old.tables table.0) bookmark.now ≡ Some extent }
+    requires newest { IfSome (row_under (table_nodes trees.old.tables table.0) bookmark.now) IsRecordRow }
     requires rows { AreRows versions.old }
-    requires keys { HasVariantKeys (option_map record_of (row_under (table_nodes trees.old table.0) bookmark.now)) (held_from 0 versions.old) schema.now table.0 bookmark.now trees.old }
-    requires room { has_room by change.now (row_under (table_nodes trees.old table.0) bookmark.now) versions.old ≡ true }
+    requires keys { HasVariantKeys (option_map record_of (row_under (table_nodes trees.old.tables table.0) bookmark.now)) (held_from 0 versions.old) schema.now table.0 bookmark.now trees.old.tables }
+    requires room { has_room by change.now (row_under (table_nodes trees.old.tables table.0) bookmark.now) versions.old ≡ true }
     ensures fault { IsErrOf result fault.OverSpan → ⊥ }
-    ensures put { OnOk result (IsPut table.0 bookmark.now row.now (record_keys schema.now.indexes schema.now values.now) trees.old trees.new) }
-    ensures held { OnOk result (versions.new ≡ versions.old ++ new_change by change.now (row_under (table_nodes trees.old table.0) bookmark.now) ∷ []) }
-    ensures same { OnErr result (IsSame table.0 schema.now trees.old trees.new) }
+    ensures put { OnOk result (IsPut table.0 bookmark.now row.now (record_keys schema.now.indexes schema.now values.now) trees.old.tables trees.new.tables) }
+    ensures held { OnOk result (versions.new ≡ versions.old ++ new_change by change.now (row_under (table_nodes trees.old.tables table.0) bookmark.now) ∷ []) }
+    ensures same { OnErr result (IsSame table.0 schema.now trees.old.tables trees.new.tables) }
     ensures unheld { OnErr result (versions.new ≡ versions.old) }
 {
     nodes_after_a_change();

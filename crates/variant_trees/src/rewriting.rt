@@ -28,11 +28,11 @@ pub fn drop_column(
     table: TableId,
     column: ColumnId,
 ) -> Result<(), OutOfMemory>
-    requires kept { AreKept catalog.old.tables trees.old [] }
+    requires kept { AreKept catalog.old.tables trees.old.tables [] }
     requires step { made.now ≡ step.DeleteColumn table column }
     requires unused { IsSomeAnd (table_with_id catalog.old.tables table.0) (λ t. column_is_used column t.indexes ≡ false) }
-    ensures ok { OnOk result (IsMade made.now catalog.old trees.old catalog.new trees.new) }
-    ensures err { OnErr result ((catalog.new ≡ catalog.old) × (trees.new ≡ trees.old)) }
+    ensures ok { OnOk result (IsMade made.now catalog.old trees.old.tables catalog.new trees.new.tables) }
+    ensures err { OnErr result ((catalog.new ≡ catalog.old) × (trees.new.tables ≡ trees.old.tables)) }
 {
     rows_without_a_column();
     rows_are_read_back();
@@ -48,8 +48,8 @@ pub fn drop_column(
 
 // The values of a column go from each row of a table. It takes no memory: no row becomes longer.
 fn remove_values(trees: &mut TableTrees, table: TableId, column: ColumnId)
-    requires { AllByRecursion HoldsRecord (table_nodes trees.old table.0) }
-    ensures { HasNodes table.0 (map (node_without column.0) (table_nodes trees.old table.0)) trees.old trees.new }
+    requires { AllByRecursion HoldsRecord (table_nodes trees.old.tables table.0) }
+    ensures { HasNodes table.0 (map (node_without column.0) (table_nodes trees.old.tables table.0)) trees.old.tables trees.new.tables }
 {
     nodes_after_a_change();
     rows_without_a_column();

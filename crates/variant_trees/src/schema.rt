@@ -24,11 +24,11 @@ pub fn create_table(
     made: &SchemaStep,
     table: TableId,
 ) -> Result<(), OutOfMemory>
-    requires kept { AreKept catalog.old.tables trees.old [] }
+    requires kept { AreKept catalog.old.tables trees.old.tables [] }
     requires step { (name : List ℕ) × (made.now ≡ step.CreateTable table name) }
     requires new_id { catalog.old.greatest_table < table.0 }
-    ensures ok { OnOk result (IsMade made.now catalog.old trees.old catalog.new trees.new) }
-    ensures err { OnErr result ((catalog.new ≡ catalog.old) × (trees.new ≡ trees.old)) }
+    ensures ok { OnOk result (IsMade made.now catalog.old trees.old.tables catalog.new trees.new.tables) }
+    ensures err { OnErr result ((catalog.new ≡ catalog.old) × (trees.new.tables ≡ trees.old.tables)) }
 {
     tables_beside_a_new_one();
     catalog.tables();
@@ -51,11 +51,11 @@ pub fn drop_table(
     made: &SchemaStep,
     table: TableId,
 ) -> Result<(), OutOfMemory>
-    requires kept { AreKept catalog.old.tables trees.old [] }
+    requires kept { AreKept catalog.old.tables trees.old.tables [] }
     requires step { made.now ≡ step.DeleteTable table }
     requires there { is_some (table_with_id catalog.old.tables table.0) ≡ true }
-    ensures ok { OnOk result (IsMade made.now catalog.old trees.old catalog.new trees.new) }
-    ensures err { OnErr result ((catalog.new ≡ catalog.old) × (trees.new ≡ trees.old)) }
+    ensures ok { OnOk result (IsMade made.now catalog.old trees.old.tables catalog.new trees.new.tables) }
+    ensures err { OnErr result ((catalog.new ≡ catalog.old) × (trees.new.tables ≡ trees.old.tables)) }
 {
     tables_without_one();
     match catalog.make(made) {
@@ -76,10 +76,10 @@ pub fn add_column(
     table: TableId,
     column: &Column,
 ) -> Result<(), OutOfMemory>
-    requires kept { AreKept catalog.old.tables trees.now [] }
+    requires kept { AreKept catalog.old.tables trees.now.tables [] }
     requires step { made.now ≡ step.AddColumn table column.now }
-    requires taken { IfSome (table_with_id (map (with_newest trees.now) catalog.old.tables) table.0) (TakesColumn column.now) }
-    ensures ok { OnOk result (IsMade made.now catalog.old trees.now catalog.new trees.now) }
+    requires taken { IfSome (table_with_id (map (with_newest trees.now.tables) catalog.old.tables) table.0) (TakesColumn column.now) }
+    ensures ok { OnOk result (IsMade made.now catalog.old trees.now.tables catalog.new trees.now.tables) }
     ensures err { OnErr result (catalog.new ≡ catalog.old) }
 {
     trees.nodes_are_in_order();
@@ -94,11 +94,11 @@ pub fn drop_index(
     table: TableId,
     index: IndexId,
 ) -> Result<(), OutOfMemory>
-    requires kept { AreKept catalog.old.tables trees.old [] }
+    requires kept { AreKept catalog.old.tables trees.old.tables [] }
     requires step { made.now ≡ step.DeleteIndex table index }
     requires there { IsSomeAnd (table_with_id catalog.old.tables table.0) (λ t. is_some (secondary_rule t index.0) ≡ true) }
-    ensures ok { OnOk result (IsMade made.now catalog.old trees.old catalog.new trees.new) }
-    ensures err { OnErr result ((catalog.new ≡ catalog.old) × (trees.new ≡ trees.old)) }
+    ensures ok { OnOk result (IsMade made.now catalog.old trees.old.tables catalog.new trees.new.tables) }
+    ensures err { OnErr result ((catalog.new ≡ catalog.old) × (trees.new.tables ≡ trees.old.tables)) }
 {
     indexes_after_a_change();
     indexes_without_one();

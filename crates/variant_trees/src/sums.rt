@@ -21,11 +21,11 @@ use table_trees::{TableTrees, nodes_after_a_change, nodes_by_bookmark};
 /// Makes a sum in its record: adds the amount to the number in the escrow column, which is one of 32 bits and wraps; nothing
 /// where there is no record. Any other change leaves the trees as they are. It takes no memory.
 pub fn add_sum(trees: &mut TableTrees, change: &Change)
-    requires { IfSome (row_under (table_nodes trees.old (changed_table change.now)) (changed_bookmark change.now)) IsRecordRow }
-    ensures kept { (tables : List Table) (held : List HeldChange) → IsSomeAnd (table_with_id tables (changed_table change.now)) (λ t. AddsToEscrow (schema_of t) (kind_of change.now)) → AreKept tables trees.old held → AreKept tables trees.new held }
-    ensures shown { (tables : List Table) (held : List HeldChange) → is_sum change.now ≡ true → IsSomeAnd (table_with_id tables (changed_table change.now)) (λ t. AddsToEscrow (schema_of t) (kind_of change.now)) → AreKept tables trees.old held
-        → map (with_newest trees.new) tables ≡ tables_after (map (with_newest trees.old) tables) change.now }
-    ensures other { is_sum change.now ≡ false → trees.new ≡ trees.old }
+    requires { IfSome (row_under (table_nodes trees.old.tables (changed_table change.now)) (changed_bookmark change.now)) IsRecordRow }
+    ensures kept { (tables : List Table) (held : List HeldChange) → IsSomeAnd (table_with_id tables (changed_table change.now)) (λ t. AddsToEscrow (schema_of t) (kind_of change.now)) → AreKept tables trees.old.tables held → AreKept tables trees.new.tables held }
+    ensures shown { (tables : List Table) (held : List HeldChange) → is_sum change.now ≡ true → IsSomeAnd (table_with_id tables (changed_table change.now)) (λ t. AddsToEscrow (schema_of t) (kind_of change.now)) → AreKept tables trees.old.tables held
+        → map (with_newest trees.new.tables) tables ≡ tables_after (map (with_newest trees.old.tables) tables) change.now }
+    ensures other { is_sum change.now ≡ false → trees.new.tables ≡ trees.old.tables }
 {
     match change {
         Change::Add {
@@ -62,10 +62,10 @@ pub(crate) fn add_in_place(
     column: ColumnId,
     addend: u32,
 )
-    requires { IfSome (row_under (table_nodes trees.old table.0) bookmark.now) IsRecordRow }
-    ensures kept { (tables : List Table) (held : List HeldChange) → IsSomeAnd (table_with_id tables table.0) (λ t. is_escrow_column (schema_of t) column.0 ≡ true) → AreKept tables trees.old held → AreKept tables trees.new held }
-    ensures shown { (tables : List Table) (held : List HeldChange) → IsSomeAnd (table_with_id tables table.0) (λ t. is_escrow_column (schema_of t) column.0 ≡ true) → AreKept tables trees.old held
-        → (amount : ℤ) → cast_unsigned w32 amount ≡ addend → map (with_newest trees.new) tables ≡ tables_after (map (with_newest trees.old) tables) (Add table bookmark.now column amount) }
+    requires { IfSome (row_under (table_nodes trees.old.tables table.0) bookmark.now) IsRecordRow }
+    ensures kept { (tables : List Table) (held : List HeldChange) → IsSomeAnd (table_with_id tables table.0) (λ t. is_escrow_column (schema_of t) column.0 ≡ true) → AreKept tables trees.old.tables held → AreKept tables trees.new.tables held }
+    ensures shown { (tables : List Table) (held : List HeldChange) → IsSomeAnd (table_with_id tables table.0) (λ t. is_escrow_column (schema_of t) column.0 ≡ true) → AreKept tables trees.old.tables held
+        → (amount : ℤ) → cast_unsigned w32 amount ≡ addend → map (with_newest trees.new.tables) tables ≡ tables_after (map (with_newest trees.old.tables) tables) (Add table bookmark.now column amount) }
 {
     rows_are_read_back();
     rows_with_another_value();

@@ -32,8 +32,8 @@ pub fn put_back(
     table: TableId,
     place: usize,
 )
-    requires { (held : List HeldChange) × ((h : HeldChange) × WasOpen catalog.now.tables trees.old versions.now place table.0 held h) }
-    ensures { (held : List HeldChange) (h : HeldChange) → WasOpen catalog.now.tables trees.old versions.now place table.0 held h → IsBack catalog.now.tables trees.old trees.new versions.now h }
+    requires { (held : List HeldChange) × ((h : HeldChange) × WasOpen catalog.now.tables trees.old.tables versions.now place table.0 held h) }
+    ensures { (held : List HeldChange) (h : HeldChange) → WasOpen catalog.now.tables trees.old.tables versions.now place table.0 held h → IsBack catalog.now.tables trees.old.tables trees.new.tables versions.now h }
 {
     let what = versions.kind_at(place);
     if is_rewrite(what) {
@@ -52,8 +52,8 @@ fn take_sum_out(
     what: ChangeKind,
 )
     requires within { place < length versions.now }
-    requires newest { (bookmark : List ℕ) → IfSome (row_under (table_nodes trees.old table.0) bookmark) IsRecordRow }
-    ensures { (tables : List Table) (held : List HeldChange) (h : HeldChange) → WasOpen tables trees.old versions.now place table.0 held h → h.kind ≡ what → is_rewrite h.kind ≡ false → IsBack tables trees.old trees.new versions.now h }
+    requires newest { (bookmark : List ℕ) → IfSome (row_under (table_nodes trees.old.tables table.0) bookmark) IsRecordRow }
+    ensures { (tables : List Table) (held : List HeldChange) (h : HeldChange) → WasOpen tables trees.old.tables versions.now place table.0 held h → h.kind ≡ what → is_rewrite h.kind ≡ false → IsBack tables trees.old.tables trees.new.tables versions.now h }
 {
     match what {
         ChangeKind::Add(column, amount) => {
@@ -86,9 +86,9 @@ fn put_back_of(
     table: TableId,
     place: usize,
 )
-    requires was { (held : List HeldChange) × ((h : HeldChange) × WasOpen catalog.now.tables trees.old versions.now place table.0 held h) }
+    requires was { (held : List HeldChange) × ((h : HeldChange) × WasOpen catalog.now.tables trees.old.tables versions.now place table.0 held h) }
     requires rewrites { (h : HeldChange) → slice_get versions.now place ≡ Some h → is_rewrite h.kind ≡ true }
-    ensures { (held : List HeldChange) (h : HeldChange) → WasOpen catalog.now.tables trees.old versions.now place table.0 held h → IsBack catalog.now.tables trees.old trees.new versions.now h }
+    ensures { (held : List HeldChange) (h : HeldChange) → WasOpen catalog.now.tables trees.old.tables versions.now place table.0 held h → IsBack catalog.now.tables trees.old.tables trees.new.tables versions.now h }
 {
     let _ = catalog.tables();
     match catalog.by_id(table) {
@@ -105,10 +105,10 @@ fn put_back_in(
     schema: &Schema,
     place: usize,
 )
-    requires can { (h : HeldChange) × CanPutBack schema.now table.0 trees.old versions.now place h }
+    requires can { (h : HeldChange) × CanPutBack schema.now table.0 trees.old.tables versions.now place h }
     requires rows { AreRows versions.now }
-    ensures kept { (tables : List Table) (held : List HeldChange) (h : HeldChange) → DistinctIds tables → IfSome (table_with_id tables table.0) (λ t. schema.now ≡ schema_of t) → IsUndone held place h versions.now → h.table ≡ table.0 → AreKept tables trees.old held → AreKept tables trees.new versions.now }
-    ensures shown { (tables : List Table) (h : HeldChange) → slice_get versions.now place ≡ Some h → map (with_newest trees.new) tables ≡ tables_put_back (map (with_newest trees.old) tables) h }
+    ensures kept { (tables : List Table) (held : List HeldChange) (h : HeldChange) → DistinctIds tables → IfSome (table_with_id tables table.0) (λ t. schema.now ≡ schema_of t) → IsUndone held place h versions.now → h.table ≡ table.0 → AreKept tables trees.old.tables held → AreKept tables trees.new.tables versions.now }
+    ensures shown { (tables : List Table) (h : HeldChange) → slice_get versions.now place ≡ Some h → map (with_newest trees.new.tables) tables ≡ tables_put_back (map (with_newest trees.old.tables) tables) h }
 {
     nodes_after_a_change();
     nodes_by_bookmark();
@@ -147,7 +147,7 @@ pub(crate) fn copied_row(
     table: TableId,
     bookmark: &[u8],
 ) -> Option<ArrayVec<u8, MAX_ROW_SIZE>>
-    ensures { option_map (λ copy. copy.items) result ≡ row_under (table_nodes trees.now table.0) bookmark.now }
+    ensures { option_map (λ copy. copy.items) result ≡ row_under (table_nodes trees.now.tables table.0) bookmark.now }
 {
     trees.nodes_are_in_order();
     match row_in_node(trees.get(table, bookmark)) {

@@ -32,11 +32,11 @@ pub(crate) fn take_variant<R: Values>(
     gone: &R,
 )
     requires rules { AllByRecursion (HasKeysOf schema.now (R.fields gone.now)) schema.now.indexes }
-    requires newest { IfSome (row_under (table_nodes trees.old table.0) bookmark.now) IsRecordRow }
+    requires newest { IfSome (row_under (table_nodes trees.old.tables table.0) bookmark.now) IsRecordRow }
     requires rows { AreRows versions.now }
     requires bookmark { length bookmark.now ≤ 255 }
-    ensures kept { (tables : List Table) → DistinctIds tables → IfSome (table_with_id tables table.0) (λ t. schema.now ≡ schema_of t) → AreLeft tables trees.old (drop from versions.now) table.0 bookmark.now (R.fields gone.now) → AreKept tables trees.new (drop from versions.now) }
-    ensures newest { (tables : List Table) → map (with_newest trees.new) tables ≡ map (with_newest trees.old) tables }
+    ensures kept { (tables : List Table) → DistinctIds tables → IfSome (table_with_id tables table.0) (λ t. schema.now ≡ schema_of t) → AreLeft tables trees.old.tables (drop from versions.now) table.0 bookmark.now (R.fields gone.now) → AreKept tables trees.new.tables (drop from versions.now) }
+    ensures newest { (tables : List Table) → map (with_newest trees.new.tables) tables ≡ map (with_newest trees.old.tables) tables }
 {
     trees.nodes_are_in_order();
     take_keys(trees, versions, from, table, schema, bookmark, gone);
@@ -52,7 +52,7 @@ fn take_node(
     table: TableId,
     bookmark: &[u8],
 )
-    ensures { LosesNode (has_variant (option_map record_of (row_under (table_nodes trees.old table.0) bookmark.now)) (held_from from versions.now) table.0 bookmark.now) table.0 bookmark.now trees.old trees.new }
+    ensures { LosesNode (has_variant (option_map record_of (row_under (table_nodes trees.old.tables table.0) bookmark.now)) (held_from from versions.now) table.0 bookmark.now) table.0 bookmark.now trees.old.tables trees.new.tables }
 {
     nodes_after_a_change();
     nodes_by_bookmark();
@@ -66,7 +66,7 @@ fn take_node(
 
 // Whether the node under a bookmark has no byte.
 fn has_empty_node(trees: &TableTrees, table: TableId, bookmark: &[u8]) -> bool
-    ensures { result ≡ is_empty_node (get_in (table_nodes trees.now table.0) bookmark.now) }
+    ensures { result ≡ is_empty_node (get_in (table_nodes trees.now.tables table.0) bookmark.now) }
 {
     match trees.get(table, bookmark) {
         Some(bytes) => bytes.is_empty(),

@@ -4,4 +4,4 @@ use Rattle.table_trees.specs.StoredTables.{StoredTable, new_table, with_new_inde
 use Rattle.tests_tables.proofs.calls.one_table.Goals as goal
 
 pub returns : goal.returns
-returns c = c.in_ok-add_index.ensures.ok ∙ ap (with_new_index 1 2) (c.in_ok-add_table.ensures.ok ∙ ap (λ (s : List StoredTable). s ++ new_table 1 ∷ []) c.new-tables.ensures)
+returns c = c.in_ok-add_index.ensures.ok ∙ ap (with_new_index 1 2) (c.in_ok-add_table.ensures.ok ∙ ap (λ (s : List StoredTable). s ++ new_table 1 ∷ []) c.new-tables.ensures.tables)

@@ -8,33 +8,33 @@ use Rattle.variant_trees.proofs.filling.create_secondary.Goals as goal
 
 pub add_index-requires-clause-there : goal.add_index-requires-clause-there
 add_index-requires-clause-there c =
-    a_tree c.args.catalog.now.tables c.args.trees.now c.requires.kept c.args.table.0 (in_trees c.args.table.0 c.args.rule.now c.args.catalog.now.tables c.args.trees.now c.requires.fits)
+    a_tree c.args.catalog.now.tables c.args.trees.now.tables c.requires.kept c.args.table.0 (in_trees c.args.table.0 c.args.rule.now c.args.catalog.now.tables c.args.trees.now.tables c.requires.fits)
 
 pub add_index-requires-clause-absent : goal.add_index-requires-clause-absent
-add_index-requires-clause-absent c = no_index c.args.table.0 c.args.rule.now c.args.catalog.now.tables c.args.trees.now c.requires.kept c.requires.fits
+add_index-requires-clause-absent c = no_index c.args.table.0 c.args.rule.now c.args.catalog.now.tables c.args.trees.now.tables c.requires.kept c.requires.fits
 
 pub fill_and_make-requires-clause-there : goal.fill_and_make-requires-clause-there
 fill_and_make-requires-clause-there c =
-    let tables = c.args.catalog.now.tables in let trees = c.args.trees.now in let id = c.args.table.0 in let rule = c.args.rule.now in
+    let tables = c.args.catalog.now.tables in let trees = c.args.trees.now.tables in let id = c.args.table.0 in let rule = c.args.rule.now in
     let there : has_table trees id ≡ true = a_tree tables trees c.requires.kept id (in_trees id rule tables trees c.requires.fits) in
     ap (λ (t : List StoredTable). has_index t id rule.id.0) c.in-Ok.ensures.ok ∙ new_is_there c.indexes_beside_a_new_one.ensures.there id rule tables trees there c.requires.kept c.requires.fits
 
 pub fill_and_make-requires-clause-empty : goal.fill_and_make-requires-clause-empty
 fill_and_make-requires-clause-empty c =
     let id = c.args.table.0 in let rule = c.args.rule.now in
-    ap (λ (t : List StoredTable). index_entries t id rule.id.0) c.in-Ok.ensures.ok ∙ new_is_empty c.indexes_beside_a_new_one.ensures.entries id rule c.args.catalog.now.tables c.args.trees.now c.requires.kept c.requires.fits
+    ap (λ (t : List StoredTable). index_entries t id rule.id.0) c.in-Ok.ensures.ok ∙ new_is_empty c.indexes_beside_a_new_one.ensures.entries id rule c.args.catalog.now.tables c.args.trees.now.tables c.requires.kept c.requires.fits
 
 pub fill_and_make-requires-clause-fits : goal.fill_and_make-requires-clause-fits
 fill_and_make-requires-clause-fits c =
-    let trees = c.args.trees.now in let id = c.args.table.0 in let rule = c.args.rule.now in
-    can_fill id rule c.args.catalog.now.tables trees c.add_index.new.self c.nodes_are_in_order.ensures.sorted
+    let trees = c.args.trees.now.tables in let id = c.args.table.0 in let rule = c.args.rule.now in
+    can_fill id rule c.args.catalog.now.tables trees c.add_index.new.self.tables c.nodes_are_in_order.ensures.sorted
     (λ table. ap (λ (t : List StoredTable). table_nodes t table) c.in-Ok.ensures.ok ∙ new_nodes c.indexes_after_a_change.ensures.nodes trees id rule.id.0 table) c.requires.kept c.requires.fits
 
 pub remove_index-requires : goal.remove_index-requires
 remove_index-requires c =
-    let tables = c.args.catalog.now.tables in let trees = c.args.trees.now in let id = c.args.table.0 in let rule = c.args.rule.now in
+    let tables = c.args.catalog.now.tables in let trees = c.args.trees.now.tables in let id = c.args.table.0 in let rule = c.args.rule.now in
     let there : has_table trees id ≡ true = a_tree tables trees c.requires.kept id (in_trees id rule tables trees c.requires.fits) in
-    still_there id rule.id.0 c.add_index.new.self c.fill_and_make.new.trees c.in-Err-fill_and_make.ensures.only
+    still_there id rule.id.0 c.add_index.new.self.tables c.fill_and_make.new.trees.tables c.in-Err-fill_and_make.ensures.only
     (ap (λ (t : List StoredTable). has_index t id rule.id.0) c.in-Ok.ensures.ok ∙ new_is_there c.indexes_beside_a_new_one.ensures.there id rule tables trees there c.requires.kept c.requires.fits)
 
 pub returns-in-Ok-fill_and_make-clause-ok : goal.returns-in-Ok-fill_and_make-clause-ok
@@ -46,16 +46,16 @@ returns-in-Ok-fill_and_make-clause-ok c =
       entries = c.indexes_beside_a_new_one.ensures.entries;
       without = c.indexes_without_one.ensures.others;
     })
-    c.args.made.now c.args.table c.args.rule.now c.requires.step c.args.catalog.now c.args.trees.now c.nodes_are_in_order.ensures.sorted c.tables.ensures.numbered c.requires.secondary c.requires.fits c.requires.kept
-    c.fill_and_make.new.catalog c.in-Ok-fill_and_make.ensures.made c.add_index.new.self c.fill_and_make.new.trees c.in-Ok.ensures.ok c.in-Ok-fill_and_make.ensures.only c.in-Ok-fill_and_make.ensures.filled
+    c.args.made.now c.args.table c.args.rule.now c.requires.step c.args.catalog.now c.args.trees.now.tables c.nodes_are_in_order.ensures.sorted c.tables.ensures.numbered c.requires.secondary c.requires.fits c.requires.kept
+    c.fill_and_make.new.catalog c.in-Ok-fill_and_make.ensures.made c.add_index.new.self.tables c.fill_and_make.new.trees.tables c.in-Ok.ensures.ok c.in-Ok-fill_and_make.ensures.only c.in-Ok-fill_and_make.ensures.filled
 
 pub returns-in-Err-fill_and_make-clause-err : goal.returns-in-Err-fill_and_make-clause-err
 returns-in-Err-fill_and_make-clause-err c =
-    let tables = c.args.catalog.now.tables in let trees = c.args.trees.now in let id = c.args.table.0 in let rule = c.args.rule.now in
+    let tables = c.args.catalog.now.tables in let trees = c.args.trees.now.tables in let id = c.args.table.0 in let rule = c.args.rule.now in
     let there : has_table trees id ≡ true = a_tree tables trees c.requires.kept id (in_trees id rule tables trees c.requires.fits) in (
       c.in-Err-fill_and_make.ensures.err,
-      c.remove_index.ensures
-          ∙ taken_back c.indexes_after_a_change.ensures.named id rule.id.0 c.args.catalog.now.greatest_table tables trees c.fill_and_make.new.trees c.tables.ensures.numbered c.requires.kept there
+      c.remove_index.ensures.tables
+          ∙ taken_back c.indexes_after_a_change.ensures.named id rule.id.0 c.args.catalog.now.greatest_table tables trees c.fill_and_make.new.trees.tables c.tables.ensures.numbered c.requires.kept there
           (no_index id rule tables trees c.requires.kept c.requires.fits)
-          (subst (λ (base : List StoredTable). OnlyEntries id rule.id.0 base c.fill_and_make.new.trees) c.in-Ok.ensures.ok c.in-Err-fill_and_make.ensures.only),
+          (subst (λ (base : List StoredTable). OnlyEntries id rule.id.0 base c.fill_and_make.new.trees.tables) c.in-Ok.ensures.ok c.in-Err-fill_and_make.ensures.only),
     )

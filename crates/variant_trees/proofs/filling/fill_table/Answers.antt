@@ -11,5 +11,5 @@ pub returns-clause-filled : goal.returns-clause-filled
 returns-clause-filled c =
     on_ok c.fill.result c.fill.ensures.ok
     (λ has.
-    subst (λ (o : Option Table). IfSome o (λ t. HasNewestKeys c.args.rule.now (table_nodes c.args.trees.now c.args.table.0) (index_entries c.fill.new.trees c.args.table.0 c.args.rule.now.id.0) (schema_of t))) c.in-Some.ensures
-    (subst (λ (schema : Schema). HasNewestKeys c.args.rule.now (table_nodes c.args.trees.now c.args.table.0) (index_entries c.fill.new.trees c.args.table.0 c.args.rule.now.id.0) schema) c.schema.ensures has))
+    subst (λ (o : Option Table). IfSome o (λ t. HasNewestKeys c.args.rule.now (table_nodes c.args.trees.now.tables c.args.table.0) (index_entries c.fill.new.trees.tables c.args.table.0 c.args.rule.now.id.0) (schema_of t))) c.in-Some.ensures
+    (subst (λ (schema : Schema). HasNewestKeys c.args.rule.now (table_nodes c.args.trees.now.tables c.args.table.0) (index_entries c.fill.new.trees.tables c.args.table.0 c.args.rule.now.id.0) schema) c.schema.ensures has))

@@ -30,9 +30,9 @@ pub returns-in-Some-clause-kept : goal.returns-in-Some-clause-kept
 returns-in-Some-clause-kept c = λ tables ids same kept.
     let gone : Some (here_fields c.in-Some.row) ≡ option_map record_of (option_copied c.before_at.result) = sym (ap (option_map here_fields) c.in-Some.is) ∙ c.in_place.ensures in
     c.take_variant.ensures.kept tables ids same
-    (forgotten_left c.args.schema.now c.args.table.0 c.args.versions.now c.requires.can (option_copied c.before_at.result) c.bookmark_at-bookmark.result.now (here_fields c.in-Some.row) c.before_at.ensures c.bookmark_at-bookmark.ensures gone tables c.args.trees.now kept)
+    (forgotten_left c.args.schema.now c.args.table.0 c.args.versions.now c.requires.can (option_copied c.before_at.result) c.bookmark_at-bookmark.result.now (here_fields c.in-Some.row) c.before_at.ensures c.bookmark_at-bookmark.ensures gone tables c.args.trees.now.tables kept)
 
 pub returns-in-None-clause-kept : goal.returns-in-None-clause-kept
 returns-in-None-clause-kept c = λ tables ids same kept.
     nothing_left c.args.schema.now c.args.table.0 c.args.versions.now c.requires.can (option_copied c.before_at.result) c.before_at.ensures
-    (sym (ap (option_map here_fields) c.in-None.is) ∙ c.in_place.ensures) tables c.args.trees.now kept
+    (sym (ap (option_map here_fields) c.in-None.is) ∙ c.in_place.ensures) tables c.args.trees.now.tables kept

@@ -10,9 +10,9 @@ forget_in-requires c =
     let found : Some c.in-Some.named.now ≡ table_with_id c.args.catalog.now.tables c.args.table.0 = sym (ap option_copied c.in-Some.is) ∙ c.by_id.ensures in
     let same : IsSomeAnd (table_with_id c.args.catalog.now.tables c.args.table.0) (λ t. c.schema.result.now ≡ schema_of t) = subst (λ (o : Option Table). IsSomeAnd o (λ t. c.schema.result.now ≡ schema_of t)) found c.schema.ensures in
     record {
-      can = can_forget c.args.catalog.now.tables c.args.trees.now c.args.versions.now c.args.table.0 c.schema.result.now c.requires.kept (sym c.requires.first) same;
-      rows = are_rows c.args.catalog.now.tables c.args.trees.now c.args.versions.now c.requires.kept;
-      newest = λ bookmark. newest_is_row c.args.catalog.now.tables c.args.trees.now c.args.versions.now c.requires.kept c.args.table.0 bookmark;
+      can = can_forget c.args.catalog.now.tables c.args.trees.now.tables c.args.versions.now c.args.table.0 c.schema.result.now c.requires.kept (sym c.requires.first) same;
+      rows = are_rows c.args.catalog.now.tables c.args.trees.now.tables c.args.versions.now c.requires.kept;
+      newest = λ bookmark. newest_is_row c.args.catalog.now.tables c.args.trees.now.tables c.args.versions.now c.requires.kept c.args.table.0 bookmark;
     }
 
 pub returns-in-Some-clause-kept : goal.returns-in-Some-clause-kept
@@ -25,4 +25,4 @@ pub returns-in-Some-clause-newest : goal.returns-in-Some-clause-newest
 returns-in-Some-clause-newest c = c.forget_in.ensures.newest c.args.catalog.now.tables
 
 pub returns-in-None-clause-kept : goal.returns-in-None-clause-kept
-returns-in-None-clause-kept c = always_named c.args.catalog.now.tables c.args.trees.now c.args.versions.now c.args.table.0 c.requires.kept (sym c.requires.first) (sym (ap option_copied c.in-None.is) ∙ c.by_id.ensures)
+returns-in-None-clause-kept c = always_named c.args.catalog.now.tables c.args.trees.now.tables c.args.versions.now c.args.table.0 c.requires.kept (sym c.requires.first) (sym (ap option_copied c.in-None.is) ∙ c.by_id.ensures)

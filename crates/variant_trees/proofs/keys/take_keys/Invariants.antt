@@ -6,4 +6,4 @@ use Rattle.variant_trees.proofs.LostKeys.{LosesUpTo}
 use Rattle.variant_trees.proofs.keys.take_keys.Given as goal
 
 abbrev pub invariant-loop-rule : goal.invariant-loop-rule
-invariant-loop-rule g l = LosesUpTo (option_map record_of (row_under (table_nodes l.initial.trees l.table.0) l.bookmark)) (held_from l.from l.versions) l.schema l.table.0 l.bookmark (g.R.Values.fields l.gone) l.rule-index l.initial.trees l.trees
+invariant-loop-rule g l = LosesUpTo (option_map record_of (row_under (table_nodes l.initial.trees.tables l.table.0) l.bookmark)) (held_from l.from l.versions) l.schema l.table.0 l.bookmark (g.R.Values.fields l.gone) l.rule-index l.initial.trees.tables l.trees.tables

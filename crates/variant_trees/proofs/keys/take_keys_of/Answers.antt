@@ -13,9 +13,9 @@ use Rattle.variant_trees.proofs.keys.take_keys_of.Goals as goal
 
 pub loop-next-init : goal.loop-next-init
 loop-next-init g c = record {
-  others = entries_stay c.args.table.0 c.args.trees.now;
+  others = entries_stay c.args.table.0 c.args.trees.now.tables;
   indexes = λ other apart. refl;
-  keys = keys_begin (key_list c.args.rule.now c.args.schema.now (g.R.Values.fields c.args.gone.now)) (λ (k : List ℕ). is_variant_key (option_map record_of (row_under (table_nodes c.args.trees.now c.args.table.0) c.args.bookmark.now)) (held_from c.args.from c.args.versions.now) c.args.rule.now c.args.schema.now c.args.table.0 k c.args.bookmark.now) c.args.bookmark.now (index_entries c.args.trees.now c.args.table.0 c.args.rule.now.id.0) c.next_entry-next.result (c.entries_rise.ensures c.args.rule.now c.args.schema.now (g.R.Values.fields c.args.gone.now)) c.next_entry-next.ensures;
+  keys = keys_begin (key_list c.args.rule.now c.args.schema.now (g.R.Values.fields c.args.gone.now)) (λ (k : List ℕ). is_variant_key (option_map record_of (row_under (table_nodes c.args.trees.now.tables c.args.table.0) c.args.bookmark.now)) (held_from c.args.from c.args.versions.now) c.args.rule.now c.args.schema.now c.args.table.0 k c.args.bookmark.now) c.args.bookmark.now (index_entries c.args.trees.now.tables c.args.table.0 c.args.rule.now.id.0) c.next_entry-next.result (c.entries_rise.ensures c.args.rule.now c.args.schema.now (g.R.Values.fields c.args.gone.now)) c.next_entry-next.ensures;
 }
 
 pub take_key-requires-clause-newest : goal.take_key-requires-clause-newest
@@ -29,12 +29,12 @@ loop-next-smaller g c =
 
 pub loop-next-preserved : goal.loop-next-preserved
 loop-next-preserved g c = record {
-  others = entries_then c.args.table.0 c.args.trees.now c.loop-next.trees c.take_key.new.trees c.loop-next.invariant.others c.take_key.ensures.others;
+  others = entries_then c.args.table.0 c.args.trees.now.tables c.loop-next.trees.tables c.take_key.new.trees.tables c.loop-next.invariant.others c.take_key.ensures.others;
   indexes = λ other apart. c.take_key.ensures.indexes other apart ∙ c.loop-next.invariant.indexes other apart;
   keys =
-      keys_go_on (key_list c.args.rule.now c.args.schema.now (g.R.Values.fields c.args.gone.now)) (λ (k : List ℕ). is_variant_key (option_map record_of (row_under (table_nodes c.args.trees.now c.args.table.0) c.args.bookmark.now)) (held_from c.args.from c.args.versions.now) c.args.rule.now c.args.schema.now c.args.table.0 k c.args.bookmark.now) c.args.bookmark.now (index_entries c.args.trees.now c.args.table.0 c.args.rule.now.id.0) (index_entries c.loop-next.trees c.args.table.0 c.args.rule.now.id.0) (index_entries c.take_key.new.trees c.args.table.0 c.args.rule.now.id.0) c.in-Some.key c.next_entry-next-in-Some.result (c.entries_rise.ensures c.args.rule.now c.args.schema.now (g.R.Values.fields c.args.gone.now))
-      (subst (LosesSoFar (key_list c.args.rule.now c.args.schema.now (g.R.Values.fields c.args.gone.now)) (λ (k : List ℕ). is_variant_key (option_map record_of (row_under (table_nodes c.args.trees.now c.args.table.0) c.args.bookmark.now)) (held_from c.args.from c.args.versions.now) c.args.rule.now c.args.schema.now c.args.table.0 k c.args.bookmark.now) c.args.bookmark.now (index_entries c.args.trees.now c.args.table.0 c.args.rule.now.id.0) (index_entries c.loop-next.trees c.args.table.0 c.args.rule.now.id.0)) c.in-Some.is c.loop-next.invariant.keys)
-      (subst (λ (nodes : List Node). LosesKey (λ (k : List ℕ). is_variant_key (option_map record_of (row_under nodes c.args.bookmark.now)) (held_from c.args.from c.args.versions.now) c.args.rule.now c.args.schema.now c.args.table.0 k c.args.bookmark.now) c.in-Some.key c.args.bookmark.now (index_entries c.loop-next.trees c.args.table.0 c.args.rule.now.id.0) (index_entries c.take_key.new.trees c.args.table.0 c.args.rule.now.id.0))
+      keys_go_on (key_list c.args.rule.now c.args.schema.now (g.R.Values.fields c.args.gone.now)) (λ (k : List ℕ). is_variant_key (option_map record_of (row_under (table_nodes c.args.trees.now.tables c.args.table.0) c.args.bookmark.now)) (held_from c.args.from c.args.versions.now) c.args.rule.now c.args.schema.now c.args.table.0 k c.args.bookmark.now) c.args.bookmark.now (index_entries c.args.trees.now.tables c.args.table.0 c.args.rule.now.id.0) (index_entries c.loop-next.trees.tables c.args.table.0 c.args.rule.now.id.0) (index_entries c.take_key.new.trees.tables c.args.table.0 c.args.rule.now.id.0) c.in-Some.key c.next_entry-next-in-Some.result (c.entries_rise.ensures c.args.rule.now c.args.schema.now (g.R.Values.fields c.args.gone.now))
+      (subst (LosesSoFar (key_list c.args.rule.now c.args.schema.now (g.R.Values.fields c.args.gone.now)) (λ (k : List ℕ). is_variant_key (option_map record_of (row_under (table_nodes c.args.trees.now.tables c.args.table.0) c.args.bookmark.now)) (held_from c.args.from c.args.versions.now) c.args.rule.now c.args.schema.now c.args.table.0 k c.args.bookmark.now) c.args.bookmark.now (index_entries c.args.trees.now.tables c.args.table.0 c.args.rule.now.id.0) (index_entries c.loop-next.trees.tables c.args.table.0 c.args.rule.now.id.0)) c.in-Some.is c.loop-next.invariant.keys)
+      (subst (λ (nodes : List Node). LosesKey (λ (k : List ℕ). is_variant_key (option_map record_of (row_under nodes c.args.bookmark.now)) (held_from c.args.from c.args.versions.now) c.args.rule.now c.args.schema.now c.args.table.0 k c.args.bookmark.now) c.in-Some.key c.args.bookmark.now (index_entries c.loop-next.trees.tables c.args.table.0 c.args.rule.now.id.0) (index_entries c.take_key.new.trees.tables c.args.table.0 c.args.rule.now.id.0))
       (c.loop-next.invariant.others.nodes c.args.table.0) c.take_key.ensures.key)
       c.next_entry-next-in-Some.ensures;
 }
@@ -47,4 +47,4 @@ returns-clause-indexes g c = c.loop-next.invariant.indexes
 
 pub returns-clause-keys : goal.returns-clause-keys
 returns-clause-keys g c =
-    keys_end (key_list c.args.rule.now c.args.schema.now (g.R.Values.fields c.args.gone.now)) (λ (k : List ℕ). is_variant_key (option_map record_of (row_under (table_nodes c.args.trees.now c.args.table.0) c.args.bookmark.now)) (held_from c.args.from c.args.versions.now) c.args.rule.now c.args.schema.now c.args.table.0 k c.args.bookmark.now) c.args.bookmark.now (index_entries c.args.trees.now c.args.table.0 c.args.rule.now.id.0) (index_entries c.loop-next.trees c.args.table.0 c.args.rule.now.id.0) (subst (LosesSoFar (key_list c.args.rule.now c.args.schema.now (g.R.Values.fields c.args.gone.now)) (λ (k : List ℕ). is_variant_key (option_map record_of (row_under (table_nodes c.args.trees.now c.args.table.0) c.args.bookmark.now)) (held_from c.args.from c.args.versions.now) c.args.rule.now c.args.schema.now c.args.table.0 k c.args.bookmark.now) c.args.bookmark.now (index_entries c.args.trees.now c.args.table.0 c.args.rule.now.id.0) (index_entries c.loop-next.trees c.args.table.0 c.args.rule.now.id.0)) c.in_default.is c.loop-next.invariant.keys)
+    keys_end (key_list c.args.rule.now c.args.schema.now (g.R.Values.fields c.args.gone.now)) (λ (k : List ℕ). is_variant_key (option_map record_of (row_under (table_nodes c.args.trees.now.tables c.args.table.0) c.args.bookmark.now)) (held_from c.args.from c.args.versions.now) c.args.rule.now c.args.schema.now c.args.table.0 k c.args.bookmark.now) c.args.bookmark.now (index_entries c.args.trees.now.tables c.args.table.0 c.args.rule.now.id.0) (index_entries c.loop-next.trees.tables c.args.table.0 c.args.rule.now.id.0) (subst (LosesSoFar (key_list c.args.rule.now c.args.schema.now (g.R.Values.fields c.args.gone.now)) (λ (k : List ℕ). is_variant_key (option_map record_of (row_under (table_nodes c.args.trees.now.tables c.args.table.0) c.args.bookmark.now)) (held_from c.args.from c.args.versions.now) c.args.rule.now c.args.schema.now c.args.table.0 k c.args.bookmark.now) c.args.bookmark.now (index_entries c.args.trees.now.tables c.args.table.0 c.args.rule.now.id.0) (index_entries c.loop-next.trees.tables c.args.table.0 c.args.rule.now.id.0)) c.in_default.is c.loop-next.invariant.keys)

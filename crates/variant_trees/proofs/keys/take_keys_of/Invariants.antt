@@ -11,10 +11,10 @@ use Rattle.variant_trees.proofs.keys.take_keys_of.Given as goal
 -- the keys before the next one are gone, but for those that a variant has
 abbrev pub invariant-loop-next : goal.invariant-loop-next
 invariant-loop-next g l = record {
-  others : ChangesEntries l.table.0 l.initial.trees l.trees;
-  indexes : OthersKeep l.table.0 l.rule.id.0 l.initial.trees l.trees;
-  keys : LosesSoFar (key_list l.rule l.schema (g.R.Values.fields l.gone)) (λ (k : List ℕ). is_variant_key (option_map record_of (row_under (table_nodes l.initial.trees l.table.0) l.bookmark)) (held_from l.from l.versions) l.rule l.schema l.table.0 k l.bookmark)
-      l.bookmark (index_entries l.initial.trees l.table.0 l.rule.id.0) (index_entries l.trees l.table.0 l.rule.id.0) l.next;
+  others : ChangesEntries l.table.0 l.initial.trees.tables l.trees.tables;
+  indexes : OthersKeep l.table.0 l.rule.id.0 l.initial.trees.tables l.trees.tables;
+  keys : LosesSoFar (key_list l.rule l.schema (g.R.Values.fields l.gone)) (λ (k : List ℕ). is_variant_key (option_map record_of (row_under (table_nodes l.initial.trees.tables l.table.0) l.bookmark)) (held_from l.from l.versions) l.rule l.schema l.table.0 k l.bookmark)
+      l.bookmark (index_entries l.initial.trees.tables l.table.0 l.rule.id.0) (index_entries l.trees.tables l.table.0 l.rule.id.0) l.next;
 }
 
 abbrev pub decreases-loop-next : goal.decreases-loop-next

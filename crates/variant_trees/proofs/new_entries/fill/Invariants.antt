@@ -4,7 +4,7 @@ use Rattle.stored_variants.proofs.NodeWalks.{nodes_left}
 use Rattle.variant_trees.proofs.new_entries.fill.Given as goal
 
 abbrev pub invariant-loop-bookmark : goal.invariant-loop-bookmark
-invariant-loop-bookmark l = IsFilledTo l.table.0 l.rule l.schema l.place l.fn.trees l.trees
+invariant-loop-bookmark l = IsFilledTo l.table.0 l.rule l.schema l.place l.fn.trees.tables l.trees.tables
 
 abbrev pub decreases-loop-bookmark : goal.decreases-loop-bookmark
-decreases-loop-bookmark l = nodes_left l.place (table_nodes l.fn.trees l.table.0)
+decreases-loop-bookmark l = nodes_left l.place (table_nodes l.fn.trees.tables l.table.0)

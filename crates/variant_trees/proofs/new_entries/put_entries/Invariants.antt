@@ -2,4 +2,4 @@ use Rattle.variant_trees.proofs.NewEntries.{HasSome}
 use Rattle.variant_trees.proofs.new_entries.put_entries.Given as goal
 
 abbrev pub invariant-loop-key : goal.invariant-loop-key
-invariant-loop-key l = HasSome l.table.0 l.index.0 l.keys l.bookmark l.key-index l.fn.trees l.trees
+invariant-loop-key l = HasSome l.table.0 l.index.0 l.keys l.bookmark l.key-index l.fn.trees.tables l.trees.tables

@@ -4,4 +4,4 @@ use Rattle.std.proofs.Common.{take}
 use Rattle.variant_trees.proofs.putting.put_keys.Given as goal
 
 abbrev pub invariant-loop-rule : goal.invariant-loop-rule
-invariant-loop-rule l = HasKeys l.table.0 l.bookmark (record_keys (take l.rule-index l.rule-items) l.schema l.values) l.fn.trees l.trees
+invariant-loop-rule l = HasKeys l.table.0 l.bookmark (record_keys (take l.rule-index l.rule-items) l.schema l.values) l.fn.trees.tables l.trees.tables

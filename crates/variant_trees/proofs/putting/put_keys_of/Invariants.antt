@@ -3,4 +3,4 @@ use Rattle.std.proofs.Common.{take}
 use Rattle.variant_trees.proofs.putting.put_keys_of.Given as goal
 
 abbrev pub invariant-loop-key : goal.invariant-loop-key
-invariant-loop-key l = HasKeys l.table.0 l.bookmark (some_keys l.rule.id.0 (take l.key-index l.key-items)) l.fn.trees l.trees
+invariant-loop-key l = HasKeys l.table.0 l.bookmark (some_keys l.rule.id.0 (take l.key-index l.key-items)) l.fn.trees.tables l.trees.tables

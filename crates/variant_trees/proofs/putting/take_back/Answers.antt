@@ -12,21 +12,21 @@ use Rattle.variant_trees.proofs.putting.take_back.Goals as goal
 pub returns-then-is_new : goal.returns-then-is_new
 returns-then-is_new c =
     λ base half is variants.
-    subst (λ (trees : List StoredTable). IsSame c.args.table.0 c.args.schema.now base trees) (sym c.remove.ensures)
+    subst (λ (trees : List StoredTable). IsSame c.args.table.0 c.args.schema.now base trees) (sym c.remove.ensures.tables)
     (taken_back_with_node (record { named = c.nodes_after_a_change.ensures.named; others = c.nodes_after_a_change.ensures.others; indexes = c.nodes_after_a_change.ensures.indexes; put = c.nodes_by_bookmark.ensures.put; removed = c.nodes_by_bookmark.ensures.removed; replaced = c.nodes_by_bookmark.ensures.replaced; widened = c.nodes_by_bookmark.ensures.widened })
-    c.args.schema.now c.args.values.now c.args.table.0 c.args.bookmark.now (option_map record_of (row_under (table_nodes base c.args.table.0) c.args.bookmark.now)) (held_from 0 c.args.versions.now) base c.args.trees.now c.take_keys.new.trees
+    c.args.schema.now c.args.values.now c.args.table.0 c.args.bookmark.now (option_map record_of (row_under (table_nodes base c.args.table.0) c.args.bookmark.now)) (held_from 0 c.args.versions.now) base c.args.trees.now.tables c.take_keys.new.trees.tables
     c.requires.rules half c.take_keys.ensures.others
-    (subst (λ (newest : Option RecordFields). LosesRecord newest (held_from 0 c.args.versions.now) c.args.schema.now c.args.table.0 c.args.bookmark.now c.args.values.now c.args.trees.now c.take_keys.new.trees)
-    (ap (option_map record_of) (row_stays c.args.table.0 c.args.bookmark.now (record_keys c.args.schema.now.indexes c.args.schema.now c.args.values.now) base c.args.trees.now half)) c.take_keys.ensures.keys)
-    variants (table_stays c.args.table.0 c.args.trees.now c.take_keys.new.trees c.take_keys.ensures.others.numbers ∙ c.requires.there) (sym c.if-is_new.true ∙ is))
+    (subst (λ (newest : Option RecordFields). LosesRecord newest (held_from 0 c.args.versions.now) c.args.schema.now c.args.table.0 c.args.bookmark.now c.args.values.now c.args.trees.now.tables c.take_keys.new.trees.tables)
+    (ap (option_map record_of) (row_stays c.args.table.0 c.args.bookmark.now (record_keys c.args.schema.now.indexes c.args.schema.now c.args.values.now) base c.args.trees.now.tables half)) c.take_keys.ensures.keys)
+    variants (table_stays c.args.table.0 c.args.trees.now.tables c.take_keys.new.trees.tables c.take_keys.ensures.others.numbers ∙ c.requires.there) (sym c.if-is_new.true ∙ is))
 
 -- src/putting.rt:158:1
 pub returns-else-is_new : goal.returns-else-is_new
 returns-else-is_new c =
     λ base half is variants.
     taken_back
-    c.args.schema.now c.args.values.now c.args.table.0 c.args.bookmark.now (option_map record_of (row_under (table_nodes base c.args.table.0) c.args.bookmark.now)) (held_from 0 c.args.versions.now) base c.args.trees.now c.take_keys.new.trees
+    c.args.schema.now c.args.values.now c.args.table.0 c.args.bookmark.now (option_map record_of (row_under (table_nodes base c.args.table.0) c.args.bookmark.now)) (held_from 0 c.args.versions.now) base c.args.trees.now.tables c.take_keys.new.trees.tables
     c.requires.rules half c.take_keys.ensures.others
-    (subst (λ (newest : Option RecordFields). LosesRecord newest (held_from 0 c.args.versions.now) c.args.schema.now c.args.table.0 c.args.bookmark.now c.args.values.now c.args.trees.now c.take_keys.new.trees)
-    (ap (option_map record_of) (row_stays c.args.table.0 c.args.bookmark.now (record_keys c.args.schema.now.indexes c.args.schema.now c.args.values.now) base c.args.trees.now half)) c.take_keys.ensures.keys)
+    (subst (λ (newest : Option RecordFields). LosesRecord newest (held_from 0 c.args.versions.now) c.args.schema.now c.args.table.0 c.args.bookmark.now c.args.values.now c.args.trees.now.tables c.take_keys.new.trees.tables)
+    (ap (option_map record_of) (row_stays c.args.table.0 c.args.bookmark.now (record_keys c.args.schema.now.indexes c.args.schema.now c.args.values.now) base c.args.trees.now.tables half)) c.take_keys.ensures.keys)
     variants (sym c.if-is_new.false ∙ is)

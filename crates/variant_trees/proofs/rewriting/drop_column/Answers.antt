@@ -6,7 +6,7 @@ use Rattle.variant_trees.proofs.rewriting.drop_column.Goals as goal
 
 pub remove_values-requires : goal.remove_values-requires
 remove_values-requires c =
-    table_holds c.args.catalog.now.tables c.args.trees.now c.args.table.0 (λ t. column_is_used c.args.column t.indexes ≡ false) c.requires.kept c.nodes_are_in_order.ensures.sorted c.requires.unused
+    table_holds c.args.catalog.now.tables c.args.trees.now.tables c.args.table.0 (λ t. column_is_used c.args.column t.indexes ≡ false) c.requires.kept c.nodes_are_in_order.ensures.sorted c.requires.unused
 
 pub returns-in-Ok-clause-ok : goal.returns-in-Ok-clause-ok
 returns-in-Ok-clause-ok c =
@@ -17,5 +17,5 @@ returns-in-Ok-clause-ok c =
       shown = c.rows_without_a_column.ensures.shown;
       whole = c.rows_without_a_column.ensures.whole;
     } in
-    column_deleted laws c.args.made.now c.args.table c.args.column c.requires.step c.args.catalog.now c.args.trees.now c.remove_values.new.trees c.nodes_are_in_order.ensures.sorted
+    column_deleted laws c.args.made.now c.args.table c.args.column c.requires.step c.args.catalog.now c.args.trees.now.tables c.remove_values.new.trees.tables c.nodes_are_in_order.ensures.sorted
     c.requires.unused c.remove_values.ensures c.requires.kept c.make.new.self c.in-Ok.ensures.made

@@ -6,7 +6,7 @@ use Rattle.variant_trees.proofs.rewriting.remove_values.Given as goal
 
 -- the rows up to the place are written anew
 abbrev pub invariant-loop-bookmark : goal.invariant-loop-bookmark
-invariant-loop-bookmark l = HasNodes l.table.0 (rewritten l.place l.column.0 (table_nodes l.fn.trees l.table.0)) l.fn.trees l.trees
+invariant-loop-bookmark l = HasNodes l.table.0 (rewritten l.place l.column.0 (table_nodes l.fn.trees.tables l.table.0)) l.fn.trees.tables l.trees.tables
 
 abbrev pub decreases-loop-bookmark : goal.decreases-loop-bookmark
-decreases-loop-bookmark l = nodes_left l.place (table_nodes l.fn.trees l.table.0)
+decreases-loop-bookmark l = nodes_left l.place (table_nodes l.fn.trees.tables l.table.0)

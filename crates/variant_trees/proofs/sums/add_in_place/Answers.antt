@@ -12,9 +12,9 @@ pub replace-requires : goal.replace-requires
 replace-requires c =
     let text = c.as_slice.ensures.value ∙ written_over c.in-Some.row.items c.add_to_number.new.row (c.add_to_number.ensures.length ∙ ap length c.as_mut_slice.ensures.value) in
     let long : length c.as_slice.result.now ≡ length c.in-Some.row.items = ap length text ∙ c.add_to_number.ensures.length ∙ ap length c.as_mut_slice.ensures.value in
-    subst (λ n. IsSomeAnd (extent_in (table_nodes c.args.trees.now c.args.table.0) c.args.bookmark.now) (λ extent. n ≤ extent)) (sym long)
-    (subst (λ (o : Option (List ℕ)). IfSome o (λ row. IsSomeAnd (extent_in (table_nodes c.args.trees.now c.args.table.0) c.args.bookmark.now) (λ extent. length row ≤ extent))) (sym c.in-Some.ensures)
-    (room_in (table_nodes c.args.trees.now c.args.table.0) (c.nodes_are_in_order.ensures.short c.args.table.0) c.args.bookmark.now))
+    subst (λ n. IsSomeAnd (extent_in (table_nodes c.args.trees.now.tables c.args.table.0) c.args.bookmark.now) (λ extent. n ≤ extent)) (sym long)
+    (subst (λ (o : Option (List ℕ)). IfSome o (λ row. IsSomeAnd (extent_in (table_nodes c.args.trees.now.tables c.args.table.0) c.args.bookmark.now) (λ extent. length row ≤ extent))) (sym c.in-Some.ensures)
+    (room_in (table_nodes c.args.trees.now.tables c.args.table.0) (c.nodes_are_in_order.ensures.short c.args.table.0) c.args.bookmark.now))
 
 pub returns-in-Some-clause-kept : goal.returns-in-Some-clause-kept
 returns-in-Some-clause-kept c = λ tables held named kept.
@@ -35,7 +35,7 @@ returns-in-Some-clause-kept c = λ tables held named kept.
     let row = c.in-Some.row.items in
     let is : IsRecordRow row = subst (λ (o : Option (List ℕ)). IfSome o IsRecordRow) (sym c.in-Some.ensures) c.requires in
     let text = c.as_slice.ensures.value ∙ written_over row c.add_to_number.new.row (c.add_to_number.ensures.length ∙ ap length c.as_mut_slice.ensures.value) in
-    (sum_done rows laws c.args.trees.now c.replace.new.self c.args.table c.args.bookmark.now row c.args.column c.args.addend c.as_slice.result.now (sym c.in-Some.ensures) c.nodes_are_in_order.ensures.sorted c.nodes_are_in_order-in-Some.ensures.sorted c.replace.ensures
+    (sum_done rows laws c.args.trees.now.tables c.replace.new.self.tables c.args.table c.args.bookmark.now row c.args.column c.args.addend c.as_slice.result.now (sym c.in-Some.ensures) c.nodes_are_in_order.ensures.sorted c.nodes_are_in_order-in-Some.ensures.sorted c.replace.ensures.tables
     (λ number found long. text ∙ c.add_to_number.ensures.sum (row_in row) number is.formed (c.as_mut_slice.ensures.value ∙ is.spelled) found long) tables held named kept (pos c.args.addend) refl).0
 
 pub returns-in-Some-clause-shown : goal.returns-in-Some-clause-shown
@@ -57,8 +57,8 @@ returns-in-Some-clause-shown c = λ tables held named kept amount told.
     let row = c.in-Some.row.items in
     let is : IsRecordRow row = subst (λ (o : Option (List ℕ)). IfSome o IsRecordRow) (sym c.in-Some.ensures) c.requires in
     let text = c.as_slice.ensures.value ∙ written_over row c.add_to_number.new.row (c.add_to_number.ensures.length ∙ ap length c.as_mut_slice.ensures.value) in
-    (sum_done rows laws c.args.trees.now c.replace.new.self c.args.table c.args.bookmark.now row c.args.column c.args.addend c.as_slice.result.now (sym c.in-Some.ensures) c.nodes_are_in_order.ensures.sorted c.nodes_are_in_order-in-Some.ensures.sorted c.replace.ensures
+    (sum_done rows laws c.args.trees.now.tables c.replace.new.self.tables c.args.table c.args.bookmark.now row c.args.column c.args.addend c.as_slice.result.now (sym c.in-Some.ensures) c.nodes_are_in_order.ensures.sorted c.nodes_are_in_order-in-Some.ensures.sorted c.replace.ensures.tables
     (λ number found long. text ∙ c.add_to_number.ensures.sum (row_in row) number is.formed (c.as_mut_slice.ensures.value ∙ is.spelled) found long) tables held named kept amount told).1
 
 pub returns-in-None-clause-shown : goal.returns-in-None-clause-shown
-returns-in-None-clause-shown c = λ tables held named kept amount is. no_sum_shown c.args.trees.now c.nodes_are_in_order.ensures.sorted c.args.table c.args.bookmark.now c.args.column amount (sym c.in-None.ensures) tables
+returns-in-None-clause-shown c = λ tables held named kept amount is. no_sum_shown c.args.trees.now.tables c.nodes_are_in_order.ensures.sorted c.args.table c.args.bookmark.now c.args.column amount (sym c.in-None.ensures) tables

@@ -20,8 +20,8 @@ pub returns-in-Add-clause-shown : goal.returns-in-Add-clause-shown
 returns-in-Add-clause-shown c = λ tables held sum named kept.
     let fits : FitsSigned w32 c.in-Add.amount = search rules in
     c.add_in_place.ensures.shown tables held (subst (λ (x : Change). IsSomeAnd (table_with_id tables (changed_table x)) (λ t. AddsToEscrow (schema_of t) (kind_of x))) c.in-Add.is named) kept c.in-Add.amount (sym (c.cast_unsigned.ensures ∙ ap (λ (z : ℤ). cast_unsigned w32 z) (to_z-of_z w32 c.in-Add.amount fits)))
-    ∙ ap (λ bookmark. tables_after (map (with_newest c.args.trees.now) tables) (Add c.in-Add.table bookmark c.in-Add.column c.in-Add.amount)) c.as_bytes.ensures
-    ∙ ap (tables_after (map (with_newest c.args.trees.now) tables)) (sym c.in-Add.is)
+    ∙ ap (λ bookmark. tables_after (map (with_newest c.args.trees.now.tables) tables) (Add c.in-Add.table bookmark c.in-Add.column c.in-Add.amount)) c.as_bytes.ensures
+    ∙ ap (tables_after (map (with_newest c.args.trees.now.tables) tables)) (sym c.in-Add.is)
 
 pub returns-in-Add-clause-other : goal.returns-in-Add-clause-other
 returns-in-Add-clause-other c = λ e. impossible (sym e ∙ ap is_sum c.in-Add.is)

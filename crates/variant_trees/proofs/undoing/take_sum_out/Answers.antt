@@ -14,12 +14,12 @@ pub returns-in-Add : goal.returns-in-Add
 returns-in-Add c = λ tables held h was is other.
     let sum : h.kind ≡ kind.Add c.in-Add.column c.in-Add.amount = is ∙ c.in-Add.is in
     let fits : FitsSigned w32 c.in-Add.amount = search rules in
-    let named = sum_column tables c.args.trees.now c.args.versions.now c.args.place c.args.table.0 held h was c.in-Add.column c.in-Add.amount sum in
-    let kept = kept_alike tables c.args.trees.now c.args.versions.now c.args.place c.args.table.0 held h was other in
-    sum_back tables c.args.trees.now c.add_in_place.new.trees c.args.versions.now c.args.place c.args.table held h was c.in-Add.column c.in-Add.amount sum c.bookmark_at-bookmark.result.now
-    (mapped_at (λ (x : HeldChange). x.bookmark) c.args.versions.now c.args.place (with_status undone h) c.bookmark_at-bookmark.result.now (place_now tables c.args.trees.now c.args.versions.now c.args.place c.args.table.0 held h was) c.bookmark_at-bookmark.ensures)
+    let named = sum_column tables c.args.trees.now.tables c.args.versions.now c.args.place c.args.table.0 held h was c.in-Add.column c.in-Add.amount sum in
+    let kept = kept_alike tables c.args.trees.now.tables c.args.versions.now c.args.place c.args.table.0 held h was other in
+    sum_back tables c.args.trees.now.tables c.add_in_place.new.trees.tables c.args.versions.now c.args.place c.args.table held h was c.in-Add.column c.in-Add.amount sum c.bookmark_at-bookmark.result.now
+    (mapped_at (λ (x : HeldChange). x.bookmark) c.args.versions.now c.args.place (with_status undone h) c.bookmark_at-bookmark.result.now (place_now tables c.args.trees.now.tables c.args.versions.now c.args.place c.args.table.0 held h was) c.bookmark_at-bookmark.ensures)
     (c.add_in_place.ensures.kept tables c.args.versions.now named kept)
     (c.add_in_place.ensures.shown tables c.args.versions.now named kept (neg_ℤ c.in-Add.amount) (sym (c.opposite.ensures ∙ ap (λ (z : ℤ). cast_unsigned w32 (neg_ℤ z)) (to_z-of_z w32 c.in-Add.amount fits))))
 
 pub returns-in-Hold : goal.returns-in-Hold
-returns-in-Hold c = λ tables held h was is other. lock_back tables c.args.trees.now c.args.versions.now c.args.place c.args.table.0 held h was (is ∙ c.in-Hold.is)
+returns-in-Hold c = λ tables held h was is other. lock_back tables c.args.trees.now.tables c.args.versions.now c.args.place c.args.table.0 held h was (is ∙ c.in-Hold.is)

@@ -17,7 +17,7 @@ returns-then-not-is_record_before c =
       indexes = c.nodes_after_a_change.ensures.indexes;
       replaced = c.nodes_by_bookmark.ensures.replaced;
     } in
-    subst (λ (trees : List StoredTable). LosesNode (has_variant (option_map record_of (row_under (table_nodes c.args.trees.now c.args.table.0) c.args.bookmark.now)) (held_from c.args.from c.args.versions.now) c.args.table.0 c.args.bookmark.now) c.args.table.0 c.args.bookmark.now c.args.trees.now trees)
-    (sym c.remove.ensures)
-    (node_goes laws c.nodes_by_bookmark.ensures.removed c.args.table.0 c.args.bookmark.now (held_from c.args.from c.args.versions.now) c.args.trees.now (c.nodes_are_in_order.ensures.sorted c.args.table.0)
+    subst (λ (trees : List StoredTable). LosesNode (has_variant (option_map record_of (row_under (table_nodes c.args.trees.now.tables c.args.table.0) c.args.bookmark.now)) (held_from c.args.from c.args.versions.now) c.args.table.0 c.args.bookmark.now) c.args.table.0 c.args.bookmark.now c.args.trees.now.tables trees)
+    (sym c.remove.ensures.tables)
+    (node_goes laws c.nodes_by_bookmark.ensures.removed c.args.table.0 c.args.bookmark.now (held_from c.args.from c.args.versions.now) c.args.trees.now.tables (c.nodes_are_in_order.ensures.sorted c.args.table.0)
     (sym c.has_empty_node.ensures ∙ c.if-has_empty_node.true) (sym c.is_record_before.ensures ∙ c.if-not-is_record_before.true))

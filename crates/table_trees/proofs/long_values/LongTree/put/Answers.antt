@@ -13,12 +13,12 @@ pub returns-clause-ok : goal.returns-clause-ok
 returns-clause-ok c =
     let values = long_values_in c.args.space.now c.args.self.now in
     on_ok c.put.result
-    (λ has. becomes c.values_are_shown.ensures c.tree_pages_are_own.ensures c.args.space.now c.args.self.now c.put.new.space (record { store = c.put.new.self }) values (put_value (id_bytes c.args.id) (record { count = 1; bytes = c.args.bytes.now }) values) c.requires.tree (has values c.requires.tree) c.put.ensures.pages)
+    (λ has. becomes c.values_are_shown.ensures c.tree_pages_are_own.ensures c.args.space.now c.args.self.now c.put.new.space (record { store = c.put.new.self }) values (put_value (id_bytes c.args.id) (record { count = 1; bytes = c.args.bytes.now }) values) c.requires.tree (has values c.requires.tree) c.put.ensures.pages c.put.ensures.root)
     c.put.ensures.ok
 
 pub returns-clause-err : goal.returns-clause-err
 returns-clause-err c =
     let values = long_values_in c.args.space.now c.args.self.now in
     on_err c.put.result
-    (λ has. becomes c.values_are_shown.ensures c.tree_pages_are_own.ensures c.args.space.now c.args.self.now c.put.new.space (record { store = c.put.new.self }) values values c.requires.tree (has values c.requires.tree) c.put.ensures.pages)
+    (λ has. becomes c.values_are_shown.ensures c.tree_pages_are_own.ensures c.args.space.now c.args.self.now c.put.new.space (record { store = c.put.new.self }) values values c.requires.tree (has values c.requires.tree) c.put.ensures.pages c.put.ensures.root)
     c.put.ensures.err

@@ -15,4 +15,4 @@ returns c =
     let values = long_values_in c.args.space.now c.args.self.now in
     let found = some_is (value_of id values) c.requires.there in
     becomes c.values_are_shown.ensures c.tree_pages_are_own.ensures c.args.space.now c.args.self.now c.release.new.space (record { store = c.release.new.self }) values (without_reference id values) c.requires.tree
-    (subst (HasValues c.release.new.space c.release.new.self) (unreferred id found.0 values found.1) (c.release.ensures.values values found.0 c.requires.tree found.1)) c.release.ensures.pages
+    (subst (HasValues c.release.new.space c.release.new.self) (unreferred id found.0 values found.1) (c.release.ensures.values values found.0 c.requires.tree found.1)) c.release.ensures.pages c.release.ensures.root

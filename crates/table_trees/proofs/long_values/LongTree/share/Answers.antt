@@ -15,4 +15,4 @@ returns c =
     let values = long_values_in c.args.space.now c.args.self.now in
     let found = some_has (value_of id values) (λ value. value.count < 4294967295) c.requires.few in
     becomes c.values_are_shown.ensures c.tree_pages_are_own.ensures c.args.space.now c.args.self.now c.share.new.space (record { store = c.share.new.self }) values (with_reference id values) c.requires.tree
-    (subst (HasValues c.share.new.space c.share.new.self) (referred id found.0 values found.1) (c.share.ensures.values values found.0 c.requires.tree found.1)) c.share.ensures.pages
+    (subst (HasValues c.share.new.space c.share.new.self) (referred id found.0 values found.1) (c.share.ensures.values values found.0 c.requires.tree found.1)) c.share.ensures.pages c.share.ensures.root

@@ -18,7 +18,7 @@ returns-clause-ok c =
     on_ok c.insert.result
     (λ has. become c.tree_pages_are_own.ensures c.args.space.now c.args.self.now c.insert.new.space (record { tree = c.insert.new.self }) (inserted nodes node) c.requires.tree.tree c.insert.ensures.tree has c.insert.ensures.pages
     (inserted_in_order nodes node absent c.requires.tree.in_order)
-    (inserted_short IsShortNode nodes node (record { some = c.requires.some; bookmark = c.requires.short; row = c.requires.fits; extent = c.requires.small }) c.requires.tree.short))
+    (inserted_short IsShortNode nodes node (record { some = c.requires.some; bookmark = c.requires.short; row = c.requires.fits; extent = c.requires.small }) c.requires.tree.short) c.insert.ensures.root)
     c.insert.ensures.ok
 
 pub returns-clause-err : goal.returns-clause-err
@@ -26,5 +26,5 @@ returns-clause-err c =
     let nodes = nodes_in c.args.space.now c.args.self.now in
     on_err c.insert.result
     (λ has. become c.tree_pages_are_own.ensures c.args.space.now c.args.self.now c.insert.new.space (record { tree = c.insert.new.self }) nodes c.requires.tree.tree c.insert.ensures.tree has c.insert.ensures.pages
-    c.requires.tree.in_order c.requires.tree.short)
+    c.requires.tree.in_order c.requires.tree.short c.insert.ensures.root)
     c.insert.ensures.err

@@ -14,4 +14,4 @@ returns c =
     let key = c.args.bookmark.now in
     become c.tree_pages_are_own.ensures c.args.space.now c.args.self.now c.remove.new.space (record { tree = c.remove.new.self }) (without_key nodes key) c.requires.tree.tree c.remove.ensures.tree c.remove.ensures.nodes c.remove.ensures.pages
     (without_in_order nodes key c.requires.tree.in_order)
-    (All-filter (λ n. not (has_key key n)) IsShortNode nodes c.requires.tree.short)
+    (All-filter (λ n. not (has_key key n)) IsShortNode nodes c.requires.tree.short) c.remove.ensures.root

@@ -4,6 +4,7 @@ use Rattle.page_image.specs.Page.{Node}
 use Rattle.btree_inplace.specs.Changes.{with_data_at}
 use Rattle.btree_inplace.specs.Order.{has_key}
 use Rattle.btree_inplace.specs.Trees.{Exchanges, pages_of}
+use Rattle.btree_inplace.specs.declared.Tree.{Tree}
 use Rattle.cursor_nav.specs.Places.{are_sorted}
 use Rattle.table_trees.specs.NodeTrees.{nodes_in}
 use Rattle.table_trees.specs.StoredNodes.{IsShortNode}
@@ -25,3 +26,4 @@ returns c =
     (changed_short IsShortNode change key nodes
     (λ n e is. record { some = is.some; bookmark = is.bookmark; row = found_and (λ (m : Node). m.extent) (λ extent. length c.args.row.now ≤ extent) (find (has_key key) nodes) n c.requires.fits e; extent = is.extent })
     c.requires.tree.in_order c.requires.tree.short)
+    (ap (λ (t : Tree). t.root) c.replace.ensures.same)

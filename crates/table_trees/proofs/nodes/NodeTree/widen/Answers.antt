@@ -26,7 +26,7 @@ returns-clause-ok c =
     (ap are_sorted (changed-entries change key nodes (λ n. refl)) ∙ c.requires.tree.in_order)
     (changed_short IsShortNode change key nodes
     (λ n e is. record { some = is.some; bookmark = is.bookmark; row = found_and (λ (m : Node). m.data) (λ row. length row ≤ c.args.extent) (find (has_key key) nodes) n c.requires.fits e; extent = c.requires.small })
-    c.requires.tree.in_order c.requires.tree.short))
+    c.requires.tree.in_order c.requires.tree.short) c.widen.ensures.root)
     c.widen.ensures.ok
 
 pub returns-clause-err : goal.returns-clause-err
@@ -34,5 +34,5 @@ returns-clause-err c =
     let nodes = nodes_in c.args.space.now c.args.self.now in
     on_err c.widen.result
     (λ has. become c.tree_pages_are_own.ensures c.args.space.now c.args.self.now c.widen.new.space (record { tree = c.widen.new.self }) nodes c.requires.tree.tree c.widen.ensures.tree has c.widen.ensures.pages
-    c.requires.tree.in_order c.requires.tree.short)
+    c.requires.tree.in_order c.requires.tree.short c.widen.ensures.root)
     c.widen.ensures.err

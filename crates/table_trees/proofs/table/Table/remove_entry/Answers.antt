@@ -29,7 +29,7 @@ returns-in-Some c =
     let place = place_of (is_numbered c.args.index.0) c.args.self.now.indexes.items c.as_slice.result.now c.in-Some.i c.index_mut-named.result.now c.as_slice.ensures.value c.in-Some.ensures c.index_mut-named.ensures.value in
     let is : Table = record { table = c.args.self.now.table; nodes = c.args.self.now.nodes; long_values = c.args.self.now.long_values; indexes = with_item c.args.self.now.indexes c.in-Some.i (record { index = c.index_mut-named.result.now.index; tree = c.remove.new.self }) } in
     let change : Changes c.args.space.now c.args.self.now c.remove.new.space c.args.index.0 c.in-Some.i c.index_mut-named.result.now c.remove.new.self =
-    record { table_is = c.requires.table; place = place; good = c.remove.ensures.index; pages = c.remove.ensures.pages } in
+    record { table_is = c.requires.table; place = place; good = c.remove.ensures.index; pages = c.remove.ensures.pages; root = c.remove.ensures.root } in
     let others : HasIndexes c.args.self.now is is.indexes.items = record { table = refl; nodes = refl; long_values = refl; items_are = refl } in
     let stay : TreesStay = record { nodes = c.trees_stay.ensures.nodes; long_values = c.trees_stay.ensures.long_values; indexes = c.trees_stay.ensures.indexes } in
     let listed = found_entries c.args.space.now c.args.self.now c.args.index.0 c.in-Some.i c.index_mut-named.result.now c.requires.table place in

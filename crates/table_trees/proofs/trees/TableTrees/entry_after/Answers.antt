@@ -23,7 +23,7 @@ returns-in-Some-clause-entry c =
 
 pub returns-in-Some-clause-short : goal.returns-in-Some-clause-short
 returns-in-Some-clause-short c =
-    entry_after_short (λ found. (found.0.now, found.1.now)) c.entry_after.result c.args.place.now (index_entries c.args.self.now c.args.table.0 c.args.index.0)
+    entry_after_short (λ found. (found.0.now, found.1.now)) c.entry_after.result c.args.place.now (index_entries c.args.self.now.tables c.args.table.0 c.args.index.0)
     (
     c.entry_after.ensures
     ∙ ap (λ (l : List StoredIndex). entry_after c.args.place.now (part_of (is_index c.args.index.0) (λ x. x.1) l))
@@ -34,4 +34,4 @@ returns-in-Some-clause-short c =
 pub returns-in-None-clause-entry : goal.returns-in-None-clause-entry
 returns-in-None-clause-entry c =
     ap (λ (l : List StoredIndex). entry_after c.args.place.now (part_of (is_index c.args.index.0) (λ x. x.1) l))
-    (sym (no_indexes c.self.inside.space c.self.inside.tables.items c.as_slice.result.now c.args.table.0 c.args.self.now c.as_slice.ensures.value c.in-None.ensures c.self.view_is))
+    (sym (no_indexes c.self.inside.space c.self.inside.catalog c.self.inside.tables.items c.as_slice.result.now c.args.table.0 c.args.self.now c.as_slice.ensures.value c.in-None.ensures c.self.view_is))

@@ -16,4 +16,4 @@ pub returns-in-Some : goal.returns-in-Some
 returns-in-Some c = c.has.ensures ∙ ap (λ (l : Values). is_some (value_of (id_bytes c.args.id) l)) (sym (found_long c.self.inside.space c.self.inside.tables.items c.args.table.0 c.in-Some.i c.index.result.now c.args.self.now c.self.invariant (place_of (is_named c.args.table.0) c.self.inside.tables.items c.as_slice.result.now c.in-Some.i c.index.result.now c.as_slice.ensures.value c.in-Some.ensures c.index.ensures) c.self.view_is))
 
 pub returns-in-None : goal.returns-in-None
-returns-in-None c = ap (λ (l : Values). is_some (value_of (id_bytes c.args.id) l)) (sym (no_long c.self.inside.space c.self.inside.tables.items c.as_slice.result.now c.args.table.0 c.args.self.now c.as_slice.ensures.value c.in-None.ensures c.self.view_is))
+returns-in-None c = ap (λ (l : Values). is_some (value_of (id_bytes c.args.id) l)) (sym (no_long c.self.inside.space c.self.inside.catalog c.self.inside.tables.items c.as_slice.result.now c.args.table.0 c.args.self.now c.as_slice.ensures.value c.in-None.ensures c.self.view_is))

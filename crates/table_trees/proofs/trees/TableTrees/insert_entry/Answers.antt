@@ -8,7 +8,7 @@ use Rattle.table_trees.specs.StoredTables.{StoredIndex, changed_where, is_index,
 use Rattle.table_trees.specs.TableParts.{stored_table}
 use Rattle.table_trees.proofs.Outcomes.{either_way, on_err, on_ok}
 use Rattle.table_trees.proofs.Places.{place_of, within_of}
-use Rattle.table_trees.proofs.StoreChanges.{found_indexes, found_table, indexes_shown, is_named, kept, no_indexes, shown_same}
+use Rattle.table_trees.proofs.StoreChanges.{catalog_same, found_indexes, found_table, indexes_shown, is_named, kept, no_indexes, shown_same, tables_same}
 use Rattle.table_trees.proofs.trees.TableTrees.insert_entry.Goals as goal
 
 pub index_mut-named-requires : goal.index_mut-named-requires
@@ -29,21 +29,28 @@ insert_entry-requires-clause-apart c = subst (λ (l : List StoredIndex). IsApart
 pub invariant_of-self : goal.invariant_of-self
 invariant_of-self c =
     either_way c.insert_entry.result
-    (λ b. kept c.tables_stay.ensures.tables c.self.inside.space c.self.inside.tables.items c.insert_entry.new.space c.args.table.0 c.in-Some.i c.index_mut-named.result.now c.insert_entry.new.self (let l = (stored_table c.self.inside.space c.index_mut-named.result.now).indexes in put_indexes (changed_where (is_index c.args.index.0) (put_entries (insert_entry (c.args.key.now, c.args.bookmark.now) (part_of (is_index c.args.index.0) (λ x. x.1) l))) l) (stored_table c.self.inside.space c.index_mut-named.result.now)) (record { are = c.self.invariant; place = place_of (is_named c.args.table.0) c.self.inside.tables.items c.as_slice.result.now c.in-Some.i c.index_mut-named.result.now c.as_slice.ensures.value c.in-Some.ensures c.index_mut-named.ensures.value; becomes = b; number = refl }))
-    (λ b. kept c.tables_stay.ensures.tables c.self.inside.space c.self.inside.tables.items c.insert_entry.new.space c.args.table.0 c.in-Some.i c.index_mut-named.result.now c.insert_entry.new.self (stored_table c.self.inside.space c.index_mut-named.result.now) (record { are = c.self.invariant; place = place_of (is_named c.args.table.0) c.self.inside.tables.items c.as_slice.result.now c.in-Some.i c.index_mut-named.result.now c.as_slice.ensures.value c.in-Some.ensures c.index_mut-named.ensures.value; becomes = b; number = refl }))
+    (λ b. kept (record { tables = c.tables_stay.ensures.tables; catalog = c.tables_stay.ensures.catalog }) c.self.inside.space c.self.inside.tables.items c.insert_entry.new.space c.args.table.0 c.in-Some.i c.index_mut-named.result.now c.insert_entry.new.self (let l = (stored_table c.self.inside.space c.index_mut-named.result.now).indexes in put_indexes (changed_where (is_index c.args.index.0) (put_entries (insert_entry (c.args.key.now, c.args.bookmark.now) (part_of (is_index c.args.index.0) (λ x. x.1) l))) l) (stored_table c.self.inside.space c.index_mut-named.result.now)) (record { are = c.self.invariant; place = place_of (is_named c.args.table.0) c.self.inside.tables.items c.as_slice.result.now c.in-Some.i c.index_mut-named.result.now c.as_slice.ensures.value c.in-Some.ensures c.index_mut-named.ensures.value; becomes = b; number = refl }))
+    (λ b. kept (record { tables = c.tables_stay.ensures.tables; catalog = c.tables_stay.ensures.catalog }) c.self.inside.space c.self.inside.tables.items c.insert_entry.new.space c.args.table.0 c.in-Some.i c.index_mut-named.result.now c.insert_entry.new.self (stored_table c.self.inside.space c.index_mut-named.result.now) (record { are = c.self.invariant; place = place_of (is_named c.args.table.0) c.self.inside.tables.items c.as_slice.result.now c.in-Some.i c.index_mut-named.result.now c.as_slice.ensures.value c.in-Some.ensures c.index_mut-named.ensures.value; becomes = b; number = refl }))
     c.insert_entry.ensures.ok c.insert_entry.ensures.err
 
 pub returns-in-Some-clause-ok : goal.returns-in-Some-clause-ok
 returns-in-Some-clause-ok c =
     on_ok c.insert_entry.result
-    (λ b. indexes_shown c.tables_stay.ensures.tables c.self.inside.space c.self.inside.tables.items c.insert_entry.new.space c.args.table.0 c.in-Some.i c.index_mut-named.result.now c.insert_entry.new.self (λ (l : List StoredIndex). changed_where (is_index c.args.index.0) (put_entries (insert_entry (c.args.key.now, c.args.bookmark.now) (part_of (is_index c.args.index.0) (λ x. x.1) l))) l) c.args.self.now c.self.invariant (place_of (is_named c.args.table.0) c.self.inside.tables.items c.as_slice.result.now c.in-Some.i c.index_mut-named.result.now c.as_slice.ensures.value c.in-Some.ensures c.index_mut-named.ensures.value) c.self.view_is b)
+    (λ b. tables_same (indexes_shown (record { tables = c.tables_stay.ensures.tables; catalog = c.tables_stay.ensures.catalog }) c.self.inside.space c.self.inside.tables.items c.insert_entry.new.space c.args.table.0 c.in-Some.i c.index_mut-named.result.now c.insert_entry.new.self (λ (l : List StoredIndex). changed_where (is_index c.args.index.0) (put_entries (insert_entry (c.args.key.now, c.args.bookmark.now) (part_of (is_index c.args.index.0) (λ x. x.1) l))) l) c.args.self.now c.self.invariant (place_of (is_named c.args.table.0) c.self.inside.tables.items c.as_slice.result.now c.in-Some.i c.index_mut-named.result.now c.as_slice.ensures.value c.in-Some.ensures c.index_mut-named.ensures.value) c.self.view_is b))
     c.insert_entry.ensures.ok
 
 pub returns-in-Some-clause-err : goal.returns-in-Some-clause-err
 returns-in-Some-clause-err c =
     on_err c.insert_entry.result
-    (λ b. shown_same c.tables_stay.ensures.tables c.self.inside.space c.self.inside.tables.items c.insert_entry.new.space c.args.table.0 c.in-Some.i c.index_mut-named.result.now c.insert_entry.new.self c.args.self.now (record { are = c.self.invariant; place = place_of (is_named c.args.table.0) c.self.inside.tables.items c.as_slice.result.now c.in-Some.i c.index_mut-named.result.now c.as_slice.ensures.value c.in-Some.ensures c.index_mut-named.ensures.value; becomes = b; number = refl }) c.self.view_is)
+    (λ b. tables_same (shown_same (record { tables = c.tables_stay.ensures.tables; catalog = c.tables_stay.ensures.catalog }) c.self.inside.space c.self.inside.tables.items c.insert_entry.new.space c.args.table.0 c.in-Some.i c.index_mut-named.result.now c.insert_entry.new.self c.args.self.now (record { are = c.self.invariant; place = place_of (is_named c.args.table.0) c.self.inside.tables.items c.as_slice.result.now c.in-Some.i c.index_mut-named.result.now c.as_slice.ensures.value c.in-Some.ensures c.index_mut-named.ensures.value; becomes = b; number = refl }) c.self.view_is))
     c.insert_entry.ensures.err
 
 pub returns-in-None-clause-ok : goal.returns-in-None-clause-ok
-returns-in-None-clause-ok c = absurd (true≢false (sym c.requires.there ∙ ap (λ (l : List StoredIndex). list_any (is_index c.args.index.0) l) (no_indexes c.self.inside.space c.self.inside.tables.items c.as_slice.result.now c.args.table.0 c.args.self.now c.as_slice.ensures.value c.in-None.ensures c.self.view_is)))
+returns-in-None-clause-ok c = absurd (true≢false (sym c.requires.there ∙ ap (λ (l : List StoredIndex). list_any (is_index c.args.index.0) l) (no_indexes c.self.inside.space c.self.inside.catalog c.self.inside.tables.items c.as_slice.result.now c.args.table.0 c.args.self.now c.as_slice.ensures.value c.in-None.ensures c.self.view_is)))
+
+pub returns-in-Some-clause-catalog : goal.returns-in-Some-clause-catalog
+returns-in-Some-clause-catalog c =
+    either_way c.insert_entry.result
+    (λ b. catalog_same (indexes_shown (record { tables = c.tables_stay.ensures.tables; catalog = c.tables_stay.ensures.catalog }) c.self.inside.space c.self.inside.tables.items c.insert_entry.new.space c.args.table.0 c.in-Some.i c.index_mut-named.result.now c.insert_entry.new.self (λ (l : List StoredIndex). changed_where (is_index c.args.index.0) (put_entries (insert_entry (c.args.key.now, c.args.bookmark.now) (part_of (is_index c.args.index.0) (λ x. x.1) l))) l) c.args.self.now c.self.invariant (place_of (is_named c.args.table.0) c.self.inside.tables.items c.as_slice.result.now c.in-Some.i c.index_mut-named.result.now c.as_slice.ensures.value c.in-Some.ensures c.index_mut-named.ensures.value) c.self.view_is b))
+    (λ b. catalog_same (shown_same (record { tables = c.tables_stay.ensures.tables; catalog = c.tables_stay.ensures.catalog }) c.self.inside.space c.self.inside.tables.items c.insert_entry.new.space c.args.table.0 c.in-Some.i c.index_mut-named.result.now c.insert_entry.new.self c.args.self.now (record { are = c.self.invariant; place = place_of (is_named c.args.table.0) c.self.inside.tables.items c.as_slice.result.now c.in-Some.i c.index_mut-named.result.now c.as_slice.ensures.value c.in-Some.ensures c.index_mut-named.ensures.value; becomes = b; number = refl }) c.self.view_is))
+    c.insert_entry.ensures.ok c.insert_entry.ensures.err

@@ -22,7 +22,7 @@ pub returns-in-Some-clause-count : goal.returns-in-Some-clause-count
 returns-in-Some-clause-count c = subst (λ (l : Values). IsSomeAnd (value_of (id_bytes c.args.id) l) (λ value. c.read.result ≡ (if nat_lt (length c.args.into.now) (length value.bytes) then length c.args.into.now else length value.bytes))) (sym (found_long c.self.inside.space c.self.inside.tables.items c.args.table.0 c.in-Some.i c.index.result.now c.args.self.now c.self.invariant (place_of (is_named c.args.table.0) c.self.inside.tables.items c.as_slice.result.now c.in-Some.i c.index.result.now c.as_slice.ensures.value c.in-Some.ensures c.index.ensures) c.self.view_is)) c.read.ensures.count
 
 pub returns-in-None-clause-bytes : goal.returns-in-None-clause-bytes
-returns-in-None-clause-bytes c = absurd (true≢false (sym (subst (λ (l : Values). IsSome (value_of (id_bytes c.args.id) l)) (no_long c.self.inside.space c.self.inside.tables.items c.as_slice.result.now c.args.table.0 c.args.self.now c.as_slice.ensures.value c.in-None.ensures c.self.view_is) c.requires)))
+returns-in-None-clause-bytes c = absurd (true≢false (sym (subst (λ (l : Values). IsSome (value_of (id_bytes c.args.id) l)) (no_long c.self.inside.space c.self.inside.catalog c.self.inside.tables.items c.as_slice.result.now c.args.table.0 c.args.self.now c.as_slice.ensures.value c.in-None.ensures c.self.view_is) c.requires)))
 
 pub returns-in-None-clause-count : goal.returns-in-None-clause-count
-returns-in-None-clause-count c = absurd (true≢false (sym (subst (λ (l : Values). IsSome (value_of (id_bytes c.args.id) l)) (no_long c.self.inside.space c.self.inside.tables.items c.as_slice.result.now c.args.table.0 c.args.self.now c.as_slice.ensures.value c.in-None.ensures c.self.view_is) c.requires)))
+returns-in-None-clause-count c = absurd (true≢false (sym (subst (λ (l : Values). IsSome (value_of (id_bytes c.args.id) l)) (no_long c.self.inside.space c.self.inside.catalog c.self.inside.tables.items c.as_slice.result.now c.args.table.0 c.args.self.now c.as_slice.ensures.value c.in-None.ensures c.self.view_is) c.requires)))

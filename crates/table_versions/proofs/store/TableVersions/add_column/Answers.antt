@@ -7,24 +7,24 @@ use Rattle.table_versions.proofs.StepInStore.{in_catalog, is_after, settled_part
 use Rattle.table_versions.proofs.store.TableVersions.add_column.Goals as goal
 
 pub add_column-requires-clause-kept : goal.add_column-requires-clause-kept
-add_column-requires-clause-kept c = settled_parts c.self.inside.catalog c.self.inside.trees c.self.inside.versions c.self.invariant c.args.self.now c.self.view_is c.requires.settled
+add_column-requires-clause-kept c = settled_parts c.self.inside.catalog c.self.inside.trees.tables c.self.inside.versions c.self.invariant c.args.self.now c.self.view_is c.requires.settled
 
 pub add_column-requires-clause-taken : goal.add_column-requires-clause-taken
 add_column-requires-clause-taken c =
-    subst (λ (o : Option Table). IfSome o (TakesColumn c.args.column.now)) (in_catalog c.self.inside.catalog c.self.inside.trees c.self.inside.versions c.args.self.now c.self.view_is c.args.table.0) c.requires.taken
+    subst (λ (o : Option Table). IfSome o (TakesColumn c.args.column.now)) (in_catalog c.self.inside.catalog c.self.inside.trees.tables c.self.inside.versions c.args.self.now c.self.view_is c.args.table.0) c.requires.taken
 
 pub invariant_of-self : goal.invariant_of-self
 invariant_of-self c =
     either c.add_column.result c.add_column.ensures.ok c.add_column.ensures.err
-    (λ is. (is_after c.self.inside.catalog c.self.inside.trees c.self.inside.versions c.args.self.now c.self.view_is c.requires.settled c.args.made.now c.add_column.new.catalog c.self.inside.trees is).kept)
-    (λ e. unchanged_kept c.self.inside.catalog c.add_column.new.catalog c.self.inside.trees c.self.inside.trees c.self.inside.versions (e, refl) c.self.invariant)
+    (λ is. (is_after c.self.inside.catalog c.self.inside.trees.tables c.self.inside.versions c.args.self.now c.self.view_is c.requires.settled c.args.made.now c.add_column.new.catalog c.self.inside.trees.tables is).kept)
+    (λ e. unchanged_kept c.self.inside.catalog c.add_column.new.catalog c.self.inside.trees.tables c.self.inside.trees.tables c.self.inside.versions (e, refl) c.self.invariant)
 
 pub returns-clause-ok : goal.returns-clause-ok
 returns-clause-ok c =
     on_ok c.add_column.result c.add_column.ensures.ok
-    (λ is. (is_after c.self.inside.catalog c.self.inside.trees c.self.inside.versions c.args.self.now c.self.view_is c.requires.settled c.args.made.now c.add_column.new.catalog c.self.inside.trees is).shown)
+    (λ is. (is_after c.self.inside.catalog c.self.inside.trees.tables c.self.inside.versions c.args.self.now c.self.view_is c.requires.settled c.args.made.now c.add_column.new.catalog c.self.inside.trees.tables is).shown)
 
 pub returns-clause-err : goal.returns-clause-err
 returns-clause-err c =
     on_err c.add_column.result c.add_column.ensures.err
-    (λ e. unchanged_shown c.self.inside.catalog c.add_column.new.catalog c.self.inside.trees c.self.inside.trees c.self.inside.versions c.args.self.now (e, refl) c.self.view_is)
+    (λ e. unchanged_shown c.self.inside.catalog c.add_column.new.catalog c.self.inside.trees.tables c.self.inside.trees.tables c.self.inside.versions c.args.self.now (e, refl) c.self.view_is)

@@ -8,7 +8,7 @@ use Rattle.table_versions.proofs.store.TableVersions.by_id.Goals as goal
 pub returns : goal.returns
 returns c =
     let tables = c.self.inside.catalog.tables in
-    let trees = c.self.inside.trees in
+    let trees = c.self.inside.trees.tables in
     let id = c.args.table.0 in
     c.by_id.ensures
     ∙ ap (λ (ts : List Table). table_with_id ts id) (sym c.self.invariant.plain)

@@ -12,7 +12,7 @@ use Rattle.table_versions.proofs.store.TableVersions.commit.Goals as goal
 pub invariant_of-self : goal.invariant_of-self
 invariant_of-self c =
     let tables = c.self.inside.catalog.tables in
-    let trees = c.self.inside.trees in
+    let trees = c.self.inside.trees.tables in
     let held = c.self.inside.versions in
     let session = c.args.session.0 in
     let number = c.args.number in
@@ -25,7 +25,7 @@ pub returns : goal.returns
 returns c =
     let session = c.args.session.0 in
     let number = c.args.number in
-    ap (λ (held : List HeldChange). stored_versions c.self.inside.catalog c.self.inside.trees held) c.commit.ensures
-    ∙ ap (λ (held : List HeldRecord). record { greatest_table = c.self.inside.catalog.greatest_table; store = record { tables = map (with_newest c.self.inside.trees) c.self.inside.catalog.tables; held = held } })
+    ap (λ (held : List HeldChange). stored_versions c.self.inside.catalog c.self.inside.trees.tables held) c.commit.ensures
+    ∙ ap (λ (held : List HeldRecord). record { greatest_table = c.self.inside.catalog.greatest_table; store = record { tables = map (with_newest c.self.inside.trees.tables) c.self.inside.catalog.tables; held = held } })
     (map_held (committed_change session number) (committed_record session number) (committed_same session number) c.self.inside.versions)
     ∙ ap (λ (v : StoredVersions). record v { store = with_session_committed session number v.store }) c.self.view_is

@@ -9,8 +9,8 @@ use Rattle.table_versions.proofs.store.TableVersions.conflict_at_entries.Given a
 
 abbrev pub invariant-loop-found : goal.invariant-loop-found
 invariant-loop-found l =
-    KeyWalk (OfRecord l.reader l.self l.table.0 l.rule l.schema l.key) l.key (index_entries l.self-inside.trees l.table.0 l.rule.id.0) (parts_of l.found)
+    KeyWalk (OfRecord l.reader l.self l.table.0 l.rule l.schema l.key) l.key (index_entries l.self-inside.trees.tables l.table.0 l.rule.id.0) (parts_of l.found)
     × IfSome (parts_of l.found) IsShortPair
 
 abbrev pub decreases-loop-found : goal.decreases-loop-found
-decreases-loop-found l = left_from (index_entries l.self-inside.trees l.table.0 l.rule.id.0) (parts_of l.found)
+decreases-loop-found l = left_from (index_entries l.self-inside.trees.tables l.table.0 l.rule.id.0) (parts_of l.found)

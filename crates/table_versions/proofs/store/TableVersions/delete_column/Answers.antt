@@ -3,23 +3,23 @@ use Rattle.table_versions.proofs.StepInStore.{unused_in_catalog, is_after, settl
 use Rattle.table_versions.proofs.store.TableVersions.delete_column.Goals as goal
 
 pub drop_column-requires-clause-kept : goal.drop_column-requires-clause-kept
-drop_column-requires-clause-kept c = settled_parts c.self.inside.catalog c.self.inside.trees c.self.inside.versions c.self.invariant c.args.self.now c.self.view_is c.requires.settled
+drop_column-requires-clause-kept c = settled_parts c.self.inside.catalog c.self.inside.trees.tables c.self.inside.versions c.self.invariant c.args.self.now c.self.view_is c.requires.settled
 
 pub drop_column-requires-clause-unused : goal.drop_column-requires-clause-unused
-drop_column-requires-clause-unused c = unused_in_catalog c.self.inside.catalog c.self.inside.trees c.self.inside.versions c.args.self.now c.self.view_is c.args.table.0 c.args.column c.requires.unused
+drop_column-requires-clause-unused c = unused_in_catalog c.self.inside.catalog c.self.inside.trees.tables c.self.inside.versions c.args.self.now c.self.view_is c.args.table.0 c.args.column c.requires.unused
 
 pub invariant_of-self : goal.invariant_of-self
 invariant_of-self c =
     either c.drop_column.result c.drop_column.ensures.ok c.drop_column.ensures.err
-    (λ is. (is_after c.self.inside.catalog c.self.inside.trees c.self.inside.versions c.args.self.now c.self.view_is c.requires.settled c.args.made.now c.drop_column.new.catalog c.drop_column.new.trees is).kept)
-    (λ e. unchanged_kept c.self.inside.catalog c.drop_column.new.catalog c.self.inside.trees c.drop_column.new.trees c.self.inside.versions e c.self.invariant)
+    (λ is. (is_after c.self.inside.catalog c.self.inside.trees.tables c.self.inside.versions c.args.self.now c.self.view_is c.requires.settled c.args.made.now c.drop_column.new.catalog c.drop_column.new.trees.tables is).kept)
+    (λ e. unchanged_kept c.self.inside.catalog c.drop_column.new.catalog c.self.inside.trees.tables c.drop_column.new.trees.tables c.self.inside.versions e c.self.invariant)
 
 pub returns-clause-ok : goal.returns-clause-ok
 returns-clause-ok c =
     on_ok c.drop_column.result c.drop_column.ensures.ok
-    (λ is. (is_after c.self.inside.catalog c.self.inside.trees c.self.inside.versions c.args.self.now c.self.view_is c.requires.settled c.args.made.now c.drop_column.new.catalog c.drop_column.new.trees is).shown)
+    (λ is. (is_after c.self.inside.catalog c.self.inside.trees.tables c.self.inside.versions c.args.self.now c.self.view_is c.requires.settled c.args.made.now c.drop_column.new.catalog c.drop_column.new.trees.tables is).shown)
 
 pub returns-clause-err : goal.returns-clause-err
 returns-clause-err c =
     on_err c.drop_column.result c.drop_column.ensures.err
-    (λ e. unchanged_shown c.self.inside.catalog c.drop_column.new.catalog c.self.inside.trees c.drop_column.new.trees c.self.inside.versions c.args.self.now e c.self.view_is)
+    (λ e. unchanged_shown c.self.inside.catalog c.drop_column.new.catalog c.self.inside.trees.tables c.drop_column.new.trees.tables c.self.inside.versions c.args.self.now e c.self.view_is)

@@ -18,7 +18,7 @@ pub pop_oldest-requires : goal.pop_oldest-requires
 pop_oldest-requires c = some_held c.self.inside.versions (subst (λ (v : StoredVersions). 0 < length v.store.held) (sym c.self.view_is) c.requires)
 
 pub invariant_of-self : goal.invariant_of-self
-invariant_of-self c = subst (λ (held : List HeldChange). AreKept c.self.inside.catalog.tables c.forget_oldest.new.trees held) (sym c.pop_oldest.ensures) c.forget_oldest.ensures.kept
+invariant_of-self c = subst (λ (held : List HeldChange). AreKept c.self.inside.catalog.tables c.forget_oldest.new.trees.tables held) (sym c.pop_oldest.ensures) c.forget_oldest.ensures.kept
 
 pub returns : goal.returns
 returns c =

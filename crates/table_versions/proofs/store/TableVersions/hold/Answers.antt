@@ -15,7 +15,7 @@ use Rattle.table_versions.proofs.store.TableVersions.hold.Goals as goal
 pub invariant_of-self : goal.invariant_of-self
 invariant_of-self c =
     let tables = c.self.inside.catalog.tables in
-    let trees = c.self.inside.trees in
+    let trees = c.self.inside.trees.tables in
     let held = c.self.inside.versions in
     let P : List HeldChange → Type 0 = λ changed. AreKept tables trees changed in
     let named = named_in_catalog trees tables (changed_table c.args.change.now) (subst (λ (v : StoredVersions). is_some (table_with_id v.store.tables (changed_table c.args.change.now)) ≡ true) (sym c.self.view_is) c.requires.named) in
@@ -32,12 +32,12 @@ pub returns-clause-ok : goal.returns-clause-ok
 returns-clause-ok c =
     on_ok c.push.result c.push.ensures.ok
     (λ e.
-    ap (λ (held : List HeldChange). stored_versions c.self.inside.catalog c.self.inside.trees held) e
+    ap (λ (held : List HeldChange). stored_versions c.self.inside.catalog c.self.inside.trees.tables held) e
     ∙ ap (λ (store : VersionedTables). record { greatest_table = c.self.inside.catalog.greatest_table; store = store })
-    (lock_shown (map (with_newest c.self.inside.trees) c.self.inside.catalog.tables) c.self.inside.versions c.args.by c.args.change.now c.requires.lock)
+    (lock_shown (map (with_newest c.self.inside.trees.tables) c.self.inside.catalog.tables) c.self.inside.versions c.args.by c.args.change.now c.requires.lock)
     ∙ ap (λ (v : StoredVersions). record v { store = with_change c.args.by c.args.change.now v.store }) c.self.view_is)
 
 pub returns-clause-err : goal.returns-clause-err
 returns-clause-err c =
     on_err c.push.result c.push.ensures.err
-    (λ e. ap (λ (held : List HeldChange). stored_versions c.self.inside.catalog c.self.inside.trees held) e ∙ c.self.view_is)
+    (λ e. ap (λ (held : List HeldChange). stored_versions c.self.inside.catalog c.self.inside.trees.tables held) e ∙ c.self.view_is)

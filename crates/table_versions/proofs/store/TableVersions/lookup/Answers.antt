@@ -8,7 +8,7 @@ use Rattle.table_versions.proofs.store.TableVersions.lookup.Goals as goal
 pub returns : goal.returns
 returns c =
     let tables = c.self.inside.catalog.tables in
-    let trees = c.self.inside.trees in
+    let trees = c.self.inside.trees.tables in
     let name = c.args.name.now in
     c.lookup.ensures
     ∙ ap (λ (ts : List Table). table_named ts name) (sym c.self.invariant.plain)

@@ -15,7 +15,7 @@ use Rattle.table_versions.proofs.store.TableVersions.next_seen.Goals as goal
 
 pub loop-found-init : goal.loop-found-init
 loop-found-init c =
-    let trees = c.self.inside.trees in
+    let trees = c.self.inside.trees.tables in
     let nodes : List Node = table_nodes trees c.args.table.0 in
     let test : Pair → Bool = is_seen c.args.reader c.args.self.now.store c.args.table.0 in
     stands_at c.neighbours_are_those_of_bookmarks.ensures.after test c.args.place.now c.args.place.now nodes (parts_of c.node_after-found.result) (c.nodes_are_in_order.ensures.sorted c.args.table.0) refl
@@ -23,7 +23,7 @@ loop-found-init c =
 
 pub returns-then-is_shown_in_place : goal.returns-then-is_shown_in_place
 returns-then-is_shown_in_place c =
-    let trees = c.self.inside.trees in
+    let trees = c.self.inside.trees.tables in
     let nodes : List Node = table_nodes trees c.args.table.0 in
     let test : Pair → Bool = is_seen c.args.reader c.args.self.now.store c.args.table.0 in
     let stands : StandsAt test c.args.place.now nodes (Some (c.in-Some.bookmark.now, c.in-Some.row.now)) =
@@ -39,7 +39,7 @@ returns-then-is_shown_in_place c =
 
 pub loop-found-smaller : goal.loop-found-smaller
 loop-found-smaller c =
-    let trees = c.self.inside.trees in
+    let trees = c.self.inside.trees.tables in
     let nodes : List Node = table_nodes trees c.args.table.0 in
     let test : Pair → Bool = is_seen c.args.reader c.args.self.now.store c.args.table.0 in
     let next : Option Pair = parts_of c.node_behind-found.result in
@@ -49,7 +49,7 @@ loop-found-smaller c =
 
 pub loop-found-preserved : goal.loop-found-preserved
 loop-found-preserved c =
-    let trees = c.self.inside.trees in
+    let trees = c.self.inside.trees.tables in
     let nodes : List Node = table_nodes trees c.args.table.0 in
     let test : Pair → Bool = is_seen c.args.reader c.args.self.now.store c.args.table.0 in
     let stands : StandsAt test c.args.place.now nodes (Some (c.in-Some.bookmark.now, c.in-Some.row.now)) =
@@ -63,7 +63,7 @@ loop-found-preserved c =
 
 pub returns : goal.returns
 returns c =
-    let trees = c.self.inside.trees in
+    let trees = c.self.inside.trees.tables in
     let nodes : List Node = table_nodes trees c.args.table.0 in
     let test : Pair → Bool = is_seen c.args.reader c.args.self.now.store c.args.table.0 in
     let seen = seen_of_nodes (record { same = c.entries_in_order_are_told_by_those_that_are_there.ensures.same; some = c.entries_in_order_are_told_by_those_that_are_there.ensures.some; seen = c.a_reader_is_shown_the_records_that_it_sees.ensures })

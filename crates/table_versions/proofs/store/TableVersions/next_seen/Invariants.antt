@@ -7,7 +7,7 @@ use Rattle.table_versions.proofs.store.TableVersions.next_seen.Given as goal
 
 -- the node that was found, or else the next one that is shown, is the one that is looked for
 abbrev pub invariant-loop-found : goal.invariant-loop-found
-invariant-loop-found l = StandsAt (is_seen l.reader l.self.store l.table.0) l.place (table_nodes l.self-inside.trees l.table.0) (parts_of l.found)
+invariant-loop-found l = StandsAt (is_seen l.reader l.self.store l.table.0) l.place (table_nodes l.self-inside.trees.tables l.table.0) (parts_of l.found)
 
 abbrev pub decreases-loop-found : goal.decreases-loop-found
-decreases-loop-found l = left_from (bookmark_entries (table_nodes l.self-inside.trees l.table.0)) (entry_at (parts_of l.found))
+decreases-loop-found l = left_from (bookmark_entries (table_nodes l.self-inside.trees.tables l.table.0)) (entry_at (parts_of l.found))

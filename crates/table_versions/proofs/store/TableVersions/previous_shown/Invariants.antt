@@ -10,8 +10,8 @@ use Rattle.table_versions.proofs.store.TableVersions.previous_shown.Given as goa
 -- the entry that was found, or else the next one that is shown, is the one that is looked for
 abbrev pub invariant-loop-found : goal.invariant-loop-found
 invariant-loop-found l =
-    StandsOn (entry_before l.place (filter (is_shown l.reader l.self.store l.table.0 l.schema (Some l.rule)) (index_entries l.self-inside.trees l.table.0 l.rule.id.0)))
-    (shown_to (is_shown l.reader l.self.store l.table.0 l.schema (Some l.rule)) (index_entries l.self-inside.trees l.table.0 l.rule.id.0)) (index_entries l.self-inside.trees l.table.0 l.rule.id.0) (parts_of l.found)
+    StandsOn (entry_before l.place (filter (is_shown l.reader l.self.store l.table.0 l.schema (Some l.rule)) (index_entries l.self-inside.trees.tables l.table.0 l.rule.id.0)))
+    (shown_to (is_shown l.reader l.self.store l.table.0 l.schema (Some l.rule)) (index_entries l.self-inside.trees.tables l.table.0 l.rule.id.0)) (index_entries l.self-inside.trees.tables l.table.0 l.rule.id.0) (parts_of l.found)
 
 abbrev pub decreases-loop-found : goal.decreases-loop-found
-decreases-loop-found l = left_to (index_entries l.self-inside.trees l.table.0 l.rule.id.0) (parts_of l.found)
+decreases-loop-found l = left_to (index_entries l.self-inside.trees.tables l.table.0 l.rule.id.0) (parts_of l.found)

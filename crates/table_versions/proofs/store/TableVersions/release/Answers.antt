@@ -12,7 +12,7 @@ use Rattle.table_versions.proofs.store.TableVersions.release.Goals as goal
 pub invariant_of-self : goal.invariant_of-self
 invariant_of-self c =
     let tables = c.self.inside.catalog.tables in
-    let trees = c.self.inside.trees in
+    let trees = c.self.inside.trees.tables in
     let held = c.self.inside.versions in
     let session = c.args.session.0 in
     let level = c.args.level in
@@ -25,7 +25,7 @@ pub returns : goal.returns
 returns c =
     let session = c.args.session.0 in
     let level = c.args.level in
-    ap (λ (held : List HeldChange). stored_versions c.self.inside.catalog c.self.inside.trees held) c.release.ensures
-    ∙ ap (λ (held : List HeldRecord). record { greatest_table = c.self.inside.catalog.greatest_table; store = record { tables = map (with_newest c.self.inside.trees) c.self.inside.catalog.tables; held = held } })
+    ap (λ (held : List HeldChange). stored_versions c.self.inside.catalog c.self.inside.trees.tables held) c.release.ensures
+    ∙ ap (λ (held : List HeldRecord). record { greatest_table = c.self.inside.catalog.greatest_table; store = record { tables = map (with_newest c.self.inside.trees.tables) c.self.inside.catalog.tables; held = held } })
     (map_held (released_change session level) (released_record session level) (released_same session level) c.self.inside.versions)
     ∙ ap (λ (v : StoredVersions). record v { store = with_level_released session level v.store }) c.self.view_is

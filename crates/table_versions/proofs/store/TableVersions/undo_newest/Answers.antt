@@ -15,7 +15,7 @@ put_back-requires c =
     let last : last_place (is_open_at c.args.session.0 c.args.level) c.self.inside.versions ≡ Some c.in-Some.undone.place = sym c.undo_level.ensures.place ∙ ap (option_map (λ (u : Undone). u.place)) c.in-Some.is in
     let there = newest_there (is_open_at c.args.session.0 c.args.level) c.self.inside.versions c.in-Some.undone.place last in
     let after : c.undo_level.new.self ≡ undone_at (Some c.in-Some.undone.place) c.self.inside.versions = c.undo_level.ensures.changes ∙ ap (λ (o : Option ℕ). undone_at o c.self.inside.versions) last in
-    let was : WasOpen c.self.inside.catalog.tables c.self.inside.trees c.undo_level.new.self c.in-Some.undone.place c.in-Some.undone.table.0 c.self.inside.versions there.0 = record {
+    let was : WasOpen c.self.inside.catalog.tables c.self.inside.trees.tables c.undo_level.new.self c.in-Some.undone.place c.in-Some.undone.table.0 c.self.inside.versions there.0 = record {
       at = there.1;
       is_uncommitted = open_there c.args.session.0 c.args.level there.0 there.2;
       after = after;
@@ -29,7 +29,7 @@ invariant_of-self c =
     let last : last_place (is_open_at c.args.session.0 c.args.level) c.self.inside.versions ≡ Some c.in-Some.undone.place = sym c.undo_level.ensures.place ∙ ap (option_map (λ (u : Undone). u.place)) c.in-Some.is in
     let there = newest_there (is_open_at c.args.session.0 c.args.level) c.self.inside.versions c.in-Some.undone.place last in
     let after : c.undo_level.new.self ≡ undone_at (Some c.in-Some.undone.place) c.self.inside.versions = c.undo_level.ensures.changes ∙ ap (λ (o : Option ℕ). undone_at o c.self.inside.versions) last in
-    let was : WasOpen c.self.inside.catalog.tables c.self.inside.trees c.undo_level.new.self c.in-Some.undone.place c.in-Some.undone.table.0 c.self.inside.versions there.0 = record {
+    let was : WasOpen c.self.inside.catalog.tables c.self.inside.trees.tables c.undo_level.new.self c.in-Some.undone.place c.in-Some.undone.table.0 c.self.inside.versions there.0 = record {
       at = there.1;
       is_uncommitted = open_there c.args.session.0 c.args.level there.0 there.2;
       after = after;
@@ -41,21 +41,21 @@ invariant_of-self c =
 pub invariant_of-self-in-None : goal.invariant_of-self-in-None
 invariant_of-self-in-None c =
     let last : last_place (is_open_at c.args.session.0 c.args.level) c.self.inside.versions ≡ None = sym c.undo_level.ensures.place ∙ ap (option_map (λ (u : Undone). u.place)) c.in-None.is in
-    subst (λ (held : List HeldChange). AreKept c.self.inside.catalog.tables c.self.inside.trees held) (sym (c.undo_level.ensures.changes ∙ ap (λ (o : Option ℕ). undone_at o c.self.inside.versions) last ∙ nothing_undone c.self.inside.versions)) c.self.invariant
+    subst (λ (held : List HeldChange). AreKept c.self.inside.catalog.tables c.self.inside.trees.tables held) (sym (c.undo_level.ensures.changes ∙ ap (λ (o : Option ℕ). undone_at o c.self.inside.versions) last ∙ nothing_undone c.self.inside.versions)) c.self.invariant
 
 pub returns-in-Some-clause-store : goal.returns-in-Some-clause-store
 returns-in-Some-clause-store c =
     let last : last_place (is_open_at c.args.session.0 c.args.level) c.self.inside.versions ≡ Some c.in-Some.undone.place = sym c.undo_level.ensures.place ∙ ap (option_map (λ (u : Undone). u.place)) c.in-Some.is in
     let there = newest_there (is_open_at c.args.session.0 c.args.level) c.self.inside.versions c.in-Some.undone.place last in
     let after : c.undo_level.new.self ≡ undone_at (Some c.in-Some.undone.place) c.self.inside.versions = c.undo_level.ensures.changes ∙ ap (λ (o : Option ℕ). undone_at o c.self.inside.versions) last in
-    let was : WasOpen c.self.inside.catalog.tables c.self.inside.trees c.undo_level.new.self c.in-Some.undone.place c.in-Some.undone.table.0 c.self.inside.versions there.0 = record {
+    let was : WasOpen c.self.inside.catalog.tables c.self.inside.trees.tables c.undo_level.new.self c.in-Some.undone.place c.in-Some.undone.table.0 c.self.inside.versions there.0 = record {
       at = there.1;
       is_uncommitted = open_there c.args.session.0 c.args.level there.0 there.2;
       after = after;
       named = same_table c.self.inside.versions (last_place (is_open_at c.args.session.0 c.args.level) c.self.inside.versions) c.in-Some.undone.place there.0 c.in-Some.undone.table.0 last there.1 (sym (ap (option_map (λ (u : Undone). u.table.0)) c.in-Some.is) ∙ c.undo_level.ensures.table);
       kept = c.self.invariant;
     } in
-    last_shown c.args.session.0 c.args.level c.self.inside.catalog c.self.inside.trees c.put_back.new.trees c.self.inside.versions c.undo_level.new.self c.in-Some.undone.place there.0 c.args.self.now c.self.view_is last there.1 after (c.put_back.ensures c.self.inside.versions there.0 was)
+    last_shown c.args.session.0 c.args.level c.self.inside.catalog c.self.inside.trees.tables c.put_back.new.trees.tables c.self.inside.versions c.undo_level.new.self c.in-Some.undone.place there.0 c.args.self.now c.self.view_is last there.1 after (c.put_back.ensures c.self.inside.versions there.0 was)
 
 pub returns-in-Some-clause-found : goal.returns-in-Some-clause-found
 returns-in-Some-clause-found c =
@@ -66,7 +66,7 @@ returns-in-Some-clause-found c =
 pub returns-in-None-clause-store : goal.returns-in-None-clause-store
 returns-in-None-clause-store c =
     let last : last_place (is_open_at c.args.session.0 c.args.level) c.self.inside.versions ≡ None = sym c.undo_level.ensures.place ∙ ap (option_map (λ (u : Undone). u.place)) c.in-None.is in
-    none_shown c.args.session.0 c.args.level c.self.inside.catalog c.self.inside.trees c.self.inside.versions c.undo_level.new.self c.args.self.now c.self.view_is last c.undo_level.ensures.changes
+    none_shown c.args.session.0 c.args.level c.self.inside.catalog c.self.inside.trees.tables c.self.inside.versions c.undo_level.new.self c.args.self.now c.self.view_is last c.undo_level.ensures.changes
 
 pub returns-in-None-clause-found : goal.returns-in-None-clause-found
 returns-in-None-clause-found c =

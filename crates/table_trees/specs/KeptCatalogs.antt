@@ -1,0 +1,36 @@
+-- The catalog that stands beside the tables. While it is empty it may have no page.
+use Rattle.std.specs.Prelude.{◌≡◌, ℕ, Option, Some, None, List, []}
+use Rattle.page_image.specs.Page.{Node}
+use Rattle.page_space.specs.Frames.{Frames}
+use Rattle.catalog_grammar.specs.Catalogs.{catalog_nodes}
+use Rattle.catalog_tree.specs.CatalogTrees.{IsCatalogTree, nodes_in, own_pages}
+use Rattle.catalog_tree.specs.declared.tree.CatalogTree.{CatalogTree}
+use Rattle.table_trees.specs.Pages.{Rearranges}
+use Rattle.table_trees.specs.declared.catalog.KeptCatalog.{KeptCatalog}
+
+abbrev pub nodes_of_tree : Frames → Option CatalogTree → List Node
+nodes_of_tree frames None = catalog_nodes 0 []
+nodes_of_tree frames (Some tree) = nodes_in frames tree
+
+abbrev pub pages_of_tree : Frames → Option CatalogTree → List ℕ
+pages_of_tree frames None = []
+pages_of_tree frames (Some tree) = own_pages frames tree
+
+abbrev pub IsTreeOrNone : Frames → Option CatalogTree → Type 0
+IsTreeOrNone frames None = Unit {0}
+IsTreeOrNone frames (Some tree) = IsCatalogTree frames tree
+
+abbrev pub kept_nodes : Frames → KeptCatalog → List Node
+kept_nodes frames kept = nodes_of_tree frames kept.tree
+
+abbrev pub kept_pages : Frames → KeptCatalog → List ℕ
+kept_pages frames kept = pages_of_tree frames kept.tree
+
+abbrev pub IsKeptCatalog : Frames → KeptCatalog → Type 0
+IsKeptCatalog frames kept = IsTreeOrNone frames kept.tree
+
+-- The catalog has become another with these nodes.
+pub record KeptBecomes (old : Frames) (was : KeptCatalog) (new : Frames) (is : KeptCatalog) (list : List Node) : Type 0 where
+  pub tree : IsKeptCatalog new is
+  pub nodes : kept_nodes new is ≡ list
+  pub pages : Rearranges old new (kept_pages old was) (kept_pages new is)
