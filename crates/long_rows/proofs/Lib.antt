@@ -1,0 +1,4 @@
+pub mod Named
+pub mod Keeping
+pub mod Steps
+pub mod AllHere
