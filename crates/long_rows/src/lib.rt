@@ -4,6 +4,8 @@
 
 mod examples;
 mod standing;
+mod storing;
 
 pub use examples::{rows_that_are_kept, values_that_are_shared, values_that_are_taken};
 pub use standing::{rows_stand_as_values_change, rows_without_long_values};
+pub use storing::form_of_a_kept_row;
