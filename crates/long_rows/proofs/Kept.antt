@@ -59,7 +59,7 @@ and_three true true false e = absurd (true≢false (sym e))
 and_three true false c e = absurd (true≢false (sym e))
 and_three false b c e = absurd (true≢false (sym e))
 
-three_and : (a b c : Bool) → a ≡ true → b ≡ true → c ≡ true → (a && b && c) ≡ true
+pub three_and : (a b c : Bool) → a ≡ true → b ≡ true → c ≡ true → (a && b && c) ≡ true
 three_and true true true e f g = refl
 three_and true true false e f g = absurd (true≢false (sym g))
 three_and true false c e f g = absurd (true≢false (sym f))

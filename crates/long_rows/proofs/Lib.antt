@@ -3,3 +3,7 @@ pub mod Keeping
 pub mod Steps
 pub mod AllHere
 pub mod Kept
+pub mod Given
+pub mod Reading
+pub mod Formed
+pub mod Stored

@@ -1,10 +1,11 @@
 -- The row that a put makes of a record, and the long values that it takes.
-use Rattle.std.specs.Prelude.{ℕ, suc, Bool, false, ◌&&◌, List, [], ◌∷◌, length, Option, Some, None, nat_lt, if◌then◌else◌, bytes_eq}
-use Rattle.std.specs.List.{list_any}
+use Rattle.std.specs.Prelude.{◌≡◌, ℕ, suc, ◌<◌, ◌≤◌, ◌^◌, Bool, false, ◌&&◌, List, [], ◌∷◌, length, Option, Some, None, IsTrue, nat_le, nat_lt, if◌then◌else◌, bytes_eq}
+use Rattle.std.specs.List.{list_all, list_any}
 use Rattle.column_set.specs.declared.rows.RowValue.{RowValue}
 use Rattle.column_set.specs.declared.rows.RowValue.TheVariants.{Here, Apart}
-use Rattle.column_set.specs.RecordValues.{RecordFields}
-use Rattle.column_set.specs.Rows.{RowFields, apart_at, record_values_in_order, values_in_order}
+use Rattle.column_set.specs.Record.{is_record}
+use Rattle.column_set.specs.RecordValues.{RecordFields, record_size}
+use Rattle.column_set.specs.Rows.{RowFields, apart_at, is_row, largest_row, record_values_in_order, values_in_order}
 use Rattle.long_value.specs.Values.{LongValue, Values, value_of}
 use Rattle.long_references.specs.RowReferences.{identifier}
 
@@ -102,3 +103,27 @@ given_by (x ∷ xs) (value ∷ values) = with_value_given x.1 value.1 (given_by 
 
 abbrev pub given_values : RowFields → RecordFields → List (List ℕ × List ℕ)
 given_values row fields = given_by (values_in_order row) (record_values_in_order fields)
+
+-- ---- what a put asks
+
+-- A value with its bytes may be taken: one that is there has these bytes and takes one reference more, and one that is not there has 256 to 1,048,576.
+abbrev pub Takes : List ℕ → Option LongValue → Type 0
+Takes bytes None = (256 ≤ length bytes) × (length bytes ≤ 1048576)
+Takes bytes (Some value) = (value.bytes ≡ bytes) × (value.count < most_references)
+
+abbrev pub MayTake : Values → List ℕ × List ℕ → Type 0
+MayTake values given = Takes given.1 (value_of given.0 values)
+
+-- whether each value of a record has at most 1,048,576 bytes
+abbrev pub are_values : List (List ℕ) → Bool
+are_values values = list_all (λ value. nat_le (length value) 1048576) values
+
+-- A put may make a row of the record: the row fits its page, and no value of the table has the number of the put's entry.
+pub record MayKeep (found : Found) (fields : RecordFields) : Type 0 where
+  pub formed : IsTrue (is_record fields)
+  pub columns : IsTrue (list_all (λ field. nat_lt field.0 (2 ^ 16)) fields)
+  pub short : IsTrue (list_all (λ field. are_values field.1) fields)
+  pub small : record_size fields ≤ largest_row
+  pub number : found.number < 2 ^ 64
+  pub rows : IsTrue (list_all is_row found.rows)
+  pub fresh : (place : ℕ) → place < 2 ^ 32 → value_of (identifier found.number place) found.values ≡ None

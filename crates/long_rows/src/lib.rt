@@ -8,4 +8,4 @@ mod storing;
 
 pub use examples::{rows_that_are_kept, values_that_are_shared, values_that_are_taken};
 pub use standing::{rows_stand_as_values_change, rows_without_long_values};
-pub use storing::form_of_a_kept_row;
+pub use storing::{form_of_a_kept_row, kept_rows_stand_for_their_records};
