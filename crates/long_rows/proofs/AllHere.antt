@@ -1,12 +1,12 @@
 -- Rows that keep each of their values.
-use Rattle.std.proofs.Common.{◌≡◌, ℕ, suc, ◌≤◌, Bool, true, false, ◌&&◌, Some, List, [], ◌∷◌, ◌++◌, length, map, refl, sym, ap, ◌∙◌, arith}
-use Rattle.std.specs.Prelude.{nat_le, nat_lt}
+use Rattle.std.proofs.Common.{◌≡◌, ℕ, suc, true, false, Some, List, [], ◌∷◌, ◌++◌, length, map, refl, ap, ◌∙◌, arith}
+use Rattle.std.specs.Prelude.{nat_le}
 use Rattle.std.specs.List.{list_all}
 use Rattle.std.proofs.lemmas.Bool.Decides.{nat_tests}
 use Rattle.column_set.specs.declared.rows.RowValue.{RowValue}
 use Rattle.column_set.specs.declared.rows.RowValue.TheVariants.{Here}
 use Rattle.column_set.specs.RecordValues.{RecordFields}
-use Rattle.column_set.specs.Rows.{RowFields, all_here, are_short, here_fields, is_all_here, values_in_order}
+use Rattle.column_set.specs.Rows.{RowFields, all_here, are_short, is_all_here, values_in_order}
 use Rattle.long_value.specs.Values.{Values}
 use Rattle.long_references.specs.RowReferences.{identifiers, named_by}
 use Rattle.long_rows.specs.WholeRows.{is_there, is_whole, record_in, whole_value}

@@ -1,18 +1,17 @@
 -- What a put makes of a record is a row.
-use Rattle.std.proofs.Common.{◌≡◌, ◌⊎◌, inl, inr, ℕ, suc, ◌+◌, ◌*◌, ◌<◌, ◌≤◌, ◌^◌, Bool, true, false, ◌&&◌, List, [], ◌∷◌, ◌++◌, length, map, refl, sym, ap, subst, ◌∙◌, arith, length-append}
+use Rattle.std.proofs.Common.{◌≡◌, ◌⊎◌, inl, inr, ℕ, suc, ◌+◌, ◌*◌, ◌<◌, ◌≤◌, ◌^◌, Bool, true, ◌&&◌, List, [], ◌∷◌, length, map, refl, ap, ◌∙◌, arith, length-append}
 use Rattle.std.specs.Prelude.{nat_le, nat_lt, ltb, sum_by}
 use Rattle.std.specs.List.{list_all}
 use Rattle.std.specs.Ordering.{is_lt, nat_cmp}
 use Rattle.std.specs.FinMap.Entries.{below_all, is_sorted}
-use Rattle.std.proofs.lemmas.Bool.{leb-true, le-leb, lt-ltb, ltb-true}
+use Rattle.std.proofs.lemmas.Bool.{le-leb, lt-ltb, ltb-true}
 use Rattle.std.proofs.lemmas.List.{length-map}
 use Rattle.std.proofs.lemmas.List.Sums.{sum_by-cons}
 use Rattle.column_set.specs.declared.rows.RowValue.{RowValue}
 use Rattle.column_set.specs.declared.rows.RowValue.TheVariants.{Here, Apart}
-use Rattle.column_set.specs.Record.{is_record}
 use Rattle.column_set.specs.RecordValues.{RecordFields, record_size}
-use Rattle.column_set.specs.Rows.{RowFields, field_fits_row, is_row, is_well_formed, largest_row, record_values_in_order, room_in_row, row_size, value_fits_row, values_in_order}
-use Rattle.long_rows.specs.KeptRows.{Found, MayKeep, are_values, is_long, kept_fields, kept_row, kept_value, kept_values, next_place, place_after}
+use Rattle.column_set.specs.Rows.{field_fits_row, is_row, is_well_formed, largest_row, record_values_in_order, room_in_row, row_size, value_fits_row, values_in_order}
+use Rattle.long_rows.specs.KeptRows.{Found, MayKeep, are_values, kept_fields, kept_row, kept_value, kept_values, next_place, place_after}
 use Rattle.long_rows.proofs.Keeping.{and_both, and_left, and_right}
 use Rattle.long_rows.proofs.Kept.{AreKept, IsKept, IsNew, IsShared, fields_kept, is_kept, three_and}
 use Rattle.long_rows.proofs.Given.{next_bound}

@@ -52,18 +52,20 @@ values_kept old new column (Apart entry place size ∷ vs) ys named whole =
     let was = found_one size (value_of id old) (and_left (has_length size (value_of id old)) (list_all (is_there old) vs) whole) in
     let is = kept_one size was.0 (value_of id new) (named.0 was.0 was.1) was.2 in
     let rest = values_kept old new column vs ys named.1 (and_right (has_length size (value_of id old)) (list_all (is_there old) vs) whole) in
-    let same : bytes_of_value (value_of id new) ≡ bytes_of_value (value_of id old) = is.0 ∙ sym (ap bytes_of_value was.1) in
-    (ap (λ (b : List ℕ). b ∷ map (whole_value new) vs) same ∙ ap (λ (l : List (List ℕ)). bytes_of_value (value_of id old) ∷ l) rest.0,
-    and_both (has_length size (value_of id new)) (list_all (is_there new) vs) is.1 rest.1,
-    rest.2)
+    let same : bytes_of_value (value_of id new) ≡ bytes_of_value (value_of id old) = is.0 ∙ sym (ap bytes_of_value was.1) in (
+      ap (λ (b : List ℕ). b ∷ map (whole_value new) vs) same ∙ ap (λ (l : List (List ℕ)). bytes_of_value (value_of id old) ∷ l) rest.0,
+      and_both (has_length size (value_of id new)) (list_all (is_there new) vs) is.1 rest.1,
+      rest.2,
+    )
 
 pub fields_kept : (old new : Values) (row : RowFields) → AllNamed (Keeps old new) (values_in_order row) → is_whole old row ≡ true → (record_in new row ≡ record_in old row) × (is_whole new row ≡ true)
 fields_kept old new [] named whole = (refl, refl)
 fields_kept old new ((column, vs) ∷ row) named whole =
     let one = values_kept old new column vs (values_in_order row) named (and_left (list_all (is_there old) vs) (is_whole old row) whole) in
-    let rest = fields_kept old new row one.2 (and_right (list_all (is_there old) vs) (is_whole old row) whole) in
-    (ap (λ (l : List (List ℕ)). (column, l) ∷ record_in new row) one.0 ∙ ap (λ (fs : RecordFields). (column, map (whole_value old) vs) ∷ fs) rest.0,
-    and_both (list_all (is_there new) vs) (is_whole new row) one.1 rest.1)
+    let rest = fields_kept old new row one.2 (and_right (list_all (is_there old) vs) (is_whole old row) whole) in (
+      ap (λ (l : List (List ℕ)). (column, l) ∷ record_in new row) one.0 ∙ ap (λ (fs : RecordFields). (column, map (whole_value old) vs) ∷ fs) rest.0,
+      and_both (list_all (is_there new) vs) (is_whole new row) one.1 rest.1,
+    )
 
 pub still_stands : (old new : Values) (row : RowFields) (fields : RecordFields) → ((id : List ℕ) → 0 < references id (Some row) → Keeps old new id) → StandsFor old row fields → StandsFor new row fields
 still_stands old new row fields keeps stands =

@@ -1,6 +1,6 @@
 -- How each value of a record stands in the row that a put makes of it.
-use Rattle.std.proofs.Common.{◌≡◌, ◌⊎◌, inl, inr, ℕ, zero, suc, ◌+◌, ◌<◌, ◌≤◌, ◌==◌, ◌^◌, Bool, true, false, ◌&&◌, if◌then◌else◌, Option, Some, None, List, [], ◌∷◌, ◌++◌, length, map, refl, sym, ap, subst, ◌∙◌, arith, true≢false}
-use Rattle.std.specs.Prelude.{bytes_eq, nat_le, nat_lt, slice_get, unwrap_or, cond}
+use Rattle.std.proofs.Common.{◌≡◌, ◌⊎◌, inl, inr, ℕ, zero, suc, ◌<◌, ◌==◌, ◌^◌, Bool, true, false, ◌&&◌, if◌then◌else◌, Option, Some, None, List, [], ◌∷◌, ◌++◌, length, map, refl, sym, ap, subst, ◌∙◌, arith, true≢false}
+use Rattle.std.specs.Prelude.{bytes_eq, nat_le, nat_lt, slice_get, unwrap_or}
 use Rattle.std.specs.List.{list_all}
 use Rattle.std.specs.Ordering.{eq_by_cmp, nat_cmp}
 use Rattle.std.specs.FinMap.Entries.{is_sorted}
@@ -100,9 +100,12 @@ none_some o x none some = absurd cc
 
 may_share_is : (bytes : List ℕ) (o : Option LongValue) → may_share bytes o ≡ true → (value : LongValue) × (o ≡ Some value) × (value.bytes ≡ bytes) × (value.count < most_references)
 may_share_is bytes None e = absurd (true≢false (sym e))
-may_share_is bytes (Some value) e =
-    (value, refl, equal_bytes value.bytes bytes (and_left (bytes_eq value.bytes bytes) (nat_lt value.count most_references) e),
-    ltb-true value.count most_references (and_right (bytes_eq value.bytes bytes) (nat_lt value.count most_references) e))
+may_share_is bytes (Some value) e = (
+  value,
+  refl,
+  equal_bytes value.bytes bytes (and_left (bytes_eq value.bytes bytes) (nat_lt value.count most_references) e),
+  ltb-true value.count most_references (and_right (bytes_eq value.bytes bytes) (nat_lt value.count most_references) e),
+)
 
 shared_one_is : (values : Values) (bytes : List ℕ) (o : Option (ℕ × ℕ × ℕ)) (id : ℕ × ℕ) → shared_one values bytes o ≡ Some id → (size : ℕ) × (o ≡ Some (id.0, id.1, size)) × (may_share bytes (value_of (identifier id.0 id.1) values) ≡ true)
 shared_one_is values bytes None id e = absurd cc
@@ -118,6 +121,7 @@ shared_one_is values bytes (Some there) id e =
 
     no : may_share bytes (value_of (identifier there.0 there.1) values) ≡ false → shared_one values bytes (Some there) ≡ None
     no f = rw f refl
+
 in_first : (values : Values) (row : RowFields) (rows : List RowFields) (column at : ℕ) (bytes : List ℕ) (id : ℕ × ℕ) → shared_one values bytes (apart_at row column at) ≡ Some id → IsShared values (row ∷ rows) id.0 id.1 bytes
 in_first values row rows column at bytes id one =
     let from = shared_one_is values bytes (apart_at row column at) id one in
@@ -163,9 +167,10 @@ is_kept found column at place bytes =
 pub values_kept : (found : Found) (column at place : ℕ) (vs : List (List ℕ)) (ys : List (ℕ × RowValue)) (ws : List (ℕ × List ℕ)) → AreKept found (place_after found column at place vs) ys ws
     → AreKept found place (map (λ v. (column, v)) (kept_values found column at place vs) ++ ys) (map (λ v. (column, v)) vs ++ ws)
 values_kept found column at place [] ys ws rest = rest
-values_kept found column at place (v ∷ vs) ys ws rest =
-    (next_place found column at place v,
-    (refl, is_kept found column at place v, values_kept found column (suc at) (next_place found column at place v) vs ys ws rest))
+values_kept found column at place (v ∷ vs) ys ws rest = (
+  next_place found column at place v,
+  (refl, is_kept found column at place v, values_kept found column (suc at) (next_place found column at place v) vs ys ws rest),
+)
 
 pub fields_kept : (found : Found) (place : ℕ) (fields : RecordFields) → AreKept found place (values_in_order (kept_fields found place fields)) (record_values_in_order fields)
 fields_kept found place [] = tt

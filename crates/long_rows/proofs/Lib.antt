@@ -7,3 +7,4 @@ pub mod Given
 pub mod Reading
 pub mod Formed
 pub mod Stored
+pub mod InUse

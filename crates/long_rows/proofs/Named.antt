@@ -1,5 +1,5 @@
 -- What holds of each long value that a row names.
-use Rattle.std.proofs.Common.{◌≡◌, ℕ, ◌<◌, ◌≤◌, Bool, true, false, List, [], ◌∷◌, ◌++◌, map, sym, subst, refl, arith, true≢false}
+use Rattle.std.proofs.Common.{◌≡◌, ℕ, ◌<◌, ◌≤◌, true, false, List, [], ◌∷◌, sym, subst, refl, arith, true≢false}
 use Rattle.std.specs.Prelude.{bytes_eq}
 use Rattle.std.specs.List.{list_any}
 use Rattle.column_set.specs.declared.rows.RowValue.{RowValue}
@@ -44,6 +44,7 @@ own_named id ids =
 pub all_named : (P : List ℕ → Type 0) (xs : List (ℕ × RowValue)) → ((id : List ℕ) → 0 < times_among id (named_by xs) → P id) → AllNamed P xs
 all_named P [] h = tt
 all_named P ((column, Here bytes) ∷ xs) h = all_named P xs h
-all_named P ((column, Apart entry place size) ∷ xs) h =
-    (h (identifier entry place) (own_named (identifier entry place) (named_by xs)),
-    all_named P xs (λ k lt. let more = more_named k (identifier entry place) (named_by xs) in h k (omega (arith, lt, more))))
+all_named P ((column, Apart entry place size) ∷ xs) h = (
+  h (identifier entry place) (own_named (identifier entry place) (named_by xs)),
+  all_named P xs (λ k lt. let more = more_named k (identifier entry place) (named_by xs) in h k (omega (arith, lt, more))),
+)

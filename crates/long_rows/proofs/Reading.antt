@@ -1,19 +1,19 @@
 -- The row that a put makes is read back as its record once its values are taken.
-use Rattle.std.proofs.Common.{◌≡◌, ◌≢◌, ◌⊎◌, inl, inr, ℕ, suc, ◌+◌, ◌<◌, ◌≤◌, ◌==◌, ◌^◌, Bool, true, false, Option, Some, None, List, [], ◌∷◌, ◌++◌, length, map, refl, sym, ap, subst, ◌∙◌, arith, true≢false}
-use Rattle.std.specs.Prelude.{bytes_eq, is_some}
+use Rattle.std.proofs.Common.{◌≡◌, ◌≢◌, ◌⊎◌, inl, inr, ℕ, suc, ◌+◌, ◌<◌, ◌≤◌, ◌^◌, true, false, Option, Some, None, List, [], ◌∷◌, ◌++◌, length, map, refl, sym, ap, subst, ◌∙◌, arith, true≢false}
+use Rattle.std.specs.Prelude.{is_some}
 use Rattle.std.specs.List.{list_all}
 use Rattle.std.proofs.lemmas.Bool.{eq-eqb}
 use Rattle.column_set.specs.declared.rows.RowValue.{RowValue}
 use Rattle.column_set.specs.declared.rows.RowValue.TheVariants.{Here, Apart}
 use Rattle.column_set.specs.RecordValues.{RecordFields}
-use Rattle.column_set.specs.Rows.{RowFields, record_values_in_order, values_in_order}
+use Rattle.column_set.specs.Rows.{record_values_in_order, values_in_order}
 use Rattle.long_value.specs.Values.{LongValue, Values, put_value, value_of, with_reference}
 use Rattle.long_references.specs.RowReferences.{identifier}
 use Rattle.long_references.specs.ReferenceCounts.{with_all_taken, with_taken}
 use Rattle.long_references.proofs.Taken.{ValueLaws}
 use Rattle.long_references.proofs.Totals.{by_test}
-use Rattle.long_rows.specs.WholeRows.{bytes_of_value, has_length, is_there, is_whole, record_in, whole_value}
-use Rattle.long_rows.specs.KeptRows.{Found, given_by, kept_fields, kept_value, kept_values, next_place, place_after, with_given}
+use Rattle.long_rows.specs.WholeRows.{is_there, is_whole, record_in, whole_value}
+use Rattle.long_rows.specs.KeptRows.{Found, given_by, kept_fields, kept_value, kept_values, next_place, place_after}
 use Rattle.long_rows.proofs.Keeping.{Keeps, and_both, bytes_in, kept_one}
 use Rattle.long_rows.proofs.Steps.{joined, keeps_all_taken, keeps_taken}
 use Rattle.long_rows.proofs.Kept.{AreKept, IsNew, IsShared, fields_kept}
@@ -157,9 +157,10 @@ fields_read found values place [] read = (refl, refl)
 fields_read found values place ((column, vs) ∷ fields) read =
     let behind = place_after found column 0 place vs in
     let one = column_read found values column 0 place vs (values_in_order (kept_fields found behind fields)) (record_values_in_order fields) read in
-    let rest = fields_read found values behind fields one.2 in
-    (ap (λ (l : List (List ℕ)). (column, l) ∷ record_in values (kept_fields found behind fields)) one.0 ∙ ap (λ (fs : RecordFields). (column, vs) ∷ fs) rest.0,
-    and_both (list_all (is_there values) (kept_values found column 0 place vs)) (is_whole values (kept_fields found behind fields)) one.1 rest.1)
+    let rest = fields_read found values behind fields one.2 in (
+      ap (λ (l : List (List ℕ)). (column, l) ∷ record_in values (kept_fields found behind fields)) one.0 ∙ ap (λ (fs : RecordFields). (column, vs) ∷ fs) rest.0,
+      and_both (list_all (is_there values) (kept_values found column 0 place vs)) (is_whole values (kept_fields found behind fields)) one.1 rest.1,
+    )
 
 pub row_read : ValueLaws → IdLaw → (found : Found) → IsFresh found → (fields : RecordFields) → length (values_in_order (kept_fields found 0 fields)) < 2 ^ 32
     → let now = with_all_taken (given_by (values_in_order (kept_fields found 0 fields)) (record_values_in_order fields)) found.values in

@@ -1,12 +1,12 @@
 -- Values keep their bytes as references come and go.
-use Rattle.std.proofs.Common.{◌≡◌, ◌≢◌, ℕ, suc, ◌-◌, ◌<◌, ◌==◌, Bool, true, false, if◌then◌else◌, Option, Some, None, List, [], ◌∷◌, option_map, refl, sym, ap, subst, ◌∙◌, arith, true≢false}
+use Rattle.std.proofs.Common.{◌≡◌, ◌≢◌, ℕ, ◌-◌, ◌<◌, ◌==◌, Bool, true, false, if◌then◌else◌, Option, Some, None, List, [], ◌∷◌, refl, sym, ap, subst, ◌∙◌, arith, true≢false}
 use Rattle.std.specs.Prelude.{bytes_eq, is_some}
 use Rattle.std.proofs.lemmas.Bool.{eqb-true}
 use Rattle.column_set.specs.RecordValues.{RecordFields}
 use Rattle.column_set.specs.Rows.{RowFields}
 use Rattle.long_value.specs.Values.{LongValue, Values, put_value, value_of, with_reference, without_reference}
 use Rattle.long_references.specs.RowReferences.{references}
-use Rattle.long_references.specs.ReferenceCounts.{with_all_released, with_all_taken, with_taken}
+use Rattle.long_references.specs.ReferenceCounts.{with_all_taken, with_taken}
 use Rattle.long_references.proofs.Taken.{ValueLaws}
 use Rattle.long_references.proofs.Totals.{by_test, equal_bytes, itself}
 use Rattle.long_rows.specs.WholeRows.{StandsFor}

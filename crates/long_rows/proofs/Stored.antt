@@ -1,5 +1,5 @@
 -- The row that a put makes stands for its record.
-use Rattle.std.proofs.Common.{◌≡◌, ◌≤◌, ◌<◌, ◌+◌, ◌^◌, ℕ, Bool, true, false, ◌&&◌, List, [], ◌∷◌, ◌++◌, length, map, refl, ap, ◌∙◌, arith}
+use Rattle.std.proofs.Common.{◌≡◌, ℕ, true, List, [], ◌∷◌, ◌++◌, length, map, refl, arith}
 use Rattle.std.specs.Prelude.{IsTrue, nat_le}
 use Rattle.std.specs.List.{AllByRecursion, list_all}
 use Rattle.column_set.specs.RecordValues.{RecordFields, record_size}
