@@ -143,7 +143,7 @@ cleaned_counts laws values rows oldest held has id =
 
 -- ---- none stands at 0
 
-some_counted : (id : List ℕ) (value : LongValue) (values : Values) → All IsLong values → value_of id values ≡ Some value → 1 ≤ value.count
+pub some_counted : (id : List ℕ) (value : LongValue) (values : Values) → All IsLong values → value_of id values ≡ Some value → 1 ≤ value.count
 some_counted id value [] whole e = absurd cc
 some_counted id value (row ∷ values) whole e =
     by_test (is_eq (order id row.0))

@@ -8,3 +8,4 @@ pub mod Reading
 pub mod Putting
 pub mod AfterChanges
 pub mod Shown
+pub mod Comparing

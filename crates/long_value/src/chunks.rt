@@ -51,7 +51,7 @@ pub fn chunk_count(size: usize) -> u32
 }
 
 /// A chunk of bytes, counted from 0.
-fn chunk_of(bytes: &[u8], k: u32) -> &[u8]
+pub fn chunk_of(bytes: &[u8], k: u32) -> &[u8]
     requires { 1024 * k < length bytes.now }
     ensures chunk { result.now ≡ chunk_of bytes.now k }
     ensures short { length result.now ≤ 1024 }

@@ -1,6 +1,6 @@
 //! Long values in a tree of a space that it shares with other trees.
 
-ghost use Rattle.std.specs.Prelude.{◌≡◌, ◌≤◌, ◌<◌, ◌*◌, ℕ, suc, List, true, false, Some, is_some, [], length, take, nat_lt, if◌then◌else◌, IfOk, OnErr, OnOk};
+ghost use Rattle.std.specs.Prelude.{◌≡◌, ◌≤◌, ◌<◌, ◌*◌, ℕ, suc, List, true, false, Some, is_some, [], length, take, nat_lt, if◌then◌else◌, bytes_eq, IfOk, OnErr, OnOk};
 ghost use Rattle.page_space.specs.Frames.{Frames};
 ghost use Rattle.btree_inplace.specs.Trees.{AreApart, Exchanges};
 ghost use Rattle.long_value.specs.Values.{LongValue, Values, chunk_of, head_data, put_value, released, value_of, without_value};
@@ -9,7 +9,7 @@ ghost use Rattle.long_value.specs.Shown.{values_in};
 ghost use Rattle.long_value.specs.declared.values.LongValues.{LongValues};
 
 use crate::chunks::{
-    CHUNK_BYTES, chunk_count, chunk_key, copy_chunk, head_bytes, put_value, take_chunks,
+    CHUNK_BYTES, chunk_count, chunk_key, chunk_of, copy_chunk, head_bytes, put_value, take_chunks,
 };
 use btree_inplace::{Tree, other_tree_stays};
 use byteorder::{ByteOrder, LittleEndian};
@@ -155,6 +155,22 @@ impl LongValues {
             copy_chunk(into, start, end, chunk);
         }
         wanted
+    }
+
+    /// Whether a value has these bytes: chunk by chunk, so that none is copied.
+    pub fn equals(&self, space: &Space, id: LongId, bytes: &[u8]) -> bool
+        requires { (value : LongValue) × HoldsValue space.now self.now id value }
+        ensures { (value : LongValue) → HoldsValue space.now self.now id value → result ≡ bytes_eq value.bytes bytes.now }
+    {
+        if self.length(space, id) as usize != bytes.len() {
+            return false;
+        }
+        for k in 0..chunk_count(bytes.len()) {
+            if self.chunk(space, id, k) != chunk_of(bytes, k) {
+                return false;
+            }
+        }
+        true
     }
 
     /// The head of a value.

@@ -1,6 +1,6 @@
 //! The long values of one table: a tree in the space that all trees share.
 
-ghost use Rattle.std.specs.Prelude.{◌≡◌, ◌≤◌, ◌<◌, None, [], length, nat_lt, if◌then◌else◌, is_some, take, IfOk, IsSome, IsSomeAnd, OnErr, OnOk};
+ghost use Rattle.std.specs.Prelude.{◌≡◌, ◌≤◌, ◌<◌, None, [], length, nat_lt, if◌then◌else◌, bytes_eq, is_some, take, IfOk, IsSome, IsSomeAnd, OnErr, OnOk};
 ghost use Rattle.long_value.specs.Stores.{id_bytes, read_upto};
 ghost use Rattle.long_value.specs.Values.{put_value, value_of, with_reference, without_reference};
 ghost use Rattle.table_trees.specs.Pages.{Rearranges};
@@ -74,6 +74,15 @@ impl LongTree {
         ensures count { IsSomeAnd (value_of (id_bytes id) (long_values_in space.now self.now)) (λ value. result ≡ (if nat_lt (length into.old) (length value.bytes) then length into.old else length value.bytes)) }
     {
         self.store.read(space, id, into)
+    }
+
+    /// Whether a value has these bytes. None is copied.
+    pub fn equals(&self, space: &Space, id: LongId, bytes: &[u8]) -> bool
+        requires tree { IsLongTree space.now self.now }
+        requires there { IsSome (value_of (id_bytes id) (long_values_in space.now self.now)) }
+        ensures { IsSomeAnd (value_of (id_bytes id) (long_values_in space.now self.now)) (λ value. result ≡ bytes_eq value.bytes bytes.now) }
+    {
+        self.store.equals(space, id, bytes)
     }
 
     /// Puts a value that is not there, with one reference to it.

@@ -1,6 +1,6 @@
 //! All tables, in trees of one space.
 
-ghost use Rattle.std.specs.Prelude.{◌≡◌, ◌<◌, ◌≤◌, ◌^◌, ◌==◌, ℕ, None, true, false, [], ◌∷◌, ◌++◌, length, take, nat_lt, if◌then◌else◌, is_some, All, IfSome, IsSome, IsSomeAnd, OnErr, OnOk};
+ghost use Rattle.std.specs.Prelude.{◌≡◌, ◌<◌, ◌≤◌, ◌^◌, ◌==◌, ℕ, None, true, false, [], ◌∷◌, ◌++◌, length, take, nat_lt, if◌then◌else◌, bytes_eq, is_some, All, IfSome, IsSome, IsSomeAnd, OnErr, OnOk};
 ghost use Rattle.std.specs.List.{position_from};
 ghost use Rattle.std.specs.Option.{option_copied, option_map};
 ghost use Rattle.btree_inplace.specs.Changes.{inserted, with_data_at, with_extent_at, without_key};
@@ -437,6 +437,17 @@ impl TableTrees {
         match table_place(self.tables.as_slice(), table) {
             Some(i) => self.tables[i].long_values.read(&self.space, id, into),
             None => 0,
+        }
+    }
+
+    /// Whether a long value of a table has these bytes. It takes no memory.
+    pub fn long_equals(&self, table: TableId, id: LongId, bytes: &[u8]) -> bool
+        requires { IsSome (long_value_of self.now table.0 (id_bytes id)) }
+        ensures { IsSomeAnd (long_value_of self.now table.0 (id_bytes id)) (λ value. result ≡ bytes_eq value.bytes bytes.now) }
+    {
+        match table_place(self.tables.as_slice(), table) {
+            Some(i) => self.tables[i].long_values.equals(&self.space, id, bytes),
+            None => false,
         }
     }
 

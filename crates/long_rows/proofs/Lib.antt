@@ -1,0 +1,10 @@
+pub mod Named
+pub mod Keeping
+pub mod Steps
+pub mod AllHere
+pub mod Kept
+pub mod Given
+pub mod Reading
+pub mod Formed
+pub mod Stored
+pub mod InUse

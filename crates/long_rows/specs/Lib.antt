@@ -1,0 +1,4 @@
+pub mod WholeRows
+pub mod KeptRows
+pub mod RowsInUse
+pub mod Samples

@@ -1,0 +1,13 @@
+//! Laws of rows whose values of more than 255 bytes are kept apart: which record such a row stands for, which row a put makes of a
+//! record, and what becomes of both as long values come and go. The functions do nothing: their contracts are the laws.
+#![tactic(auto)]
+
+mod counting;
+mod examples;
+mod standing;
+mod storing;
+
+pub use counting::{counts_after_a_put, rows_in_use_stand, values_that_are_given_back};
+pub use examples::{rows_that_are_kept, values_that_are_shared, values_that_are_taken};
+pub use standing::{rows_stand_as_values_change, rows_without_long_values};
+pub use storing::{form_of_a_kept_row, kept_rows_stand_for_their_records};
