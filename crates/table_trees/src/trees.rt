@@ -442,8 +442,8 @@ impl TableTrees {
 
     /// Whether a long value of a table has these bytes. It takes no memory.
     pub fn long_equals(&self, table: TableId, id: LongId, bytes: &[u8]) -> bool
-        requires { IsSome (long_value_of self.now table.0 (id_bytes id)) }
-        ensures { IsSomeAnd (long_value_of self.now table.0 (id_bytes id)) (λ value. result ≡ bytes_eq value.bytes bytes.now) }
+        requires { IsSome (long_value_of self.now.tables table.0 (id_bytes id)) }
+        ensures { IsSomeAnd (long_value_of self.now.tables table.0 (id_bytes id)) (λ value. result ≡ bytes_eq value.bytes bytes.now) }
     {
         match table_place(self.tables.as_slice(), table) {
             Some(i) => self.tables[i].long_values.equals(&self.space, id, bytes),

@@ -19,4 +19,4 @@ pub returns-in-Some : goal.returns-in-Some
 returns-in-Some c = subst (λ (l : Values). IsSomeAnd (value_of (id_bytes c.args.id) l) (λ value. c.equals.result ≡ bytes_eq value.bytes c.args.bytes.now)) (sym (found_long c.self.inside.space c.self.inside.tables.items c.args.table.0 c.in-Some.i c.index.result.now c.args.self.now c.self.invariant (place_of (is_named c.args.table.0) c.self.inside.tables.items c.as_slice.result.now c.in-Some.i c.index.result.now c.as_slice.ensures.value c.in-Some.ensures c.index.ensures) c.self.view_is)) c.equals.ensures
 
 pub returns-in-None : goal.returns-in-None
-returns-in-None c = absurd (true≢false (sym (subst (λ (l : Values). IsSome (value_of (id_bytes c.args.id) l)) (no_long c.self.inside.space c.self.inside.tables.items c.as_slice.result.now c.args.table.0 c.args.self.now c.as_slice.ensures.value c.in-None.ensures c.self.view_is) c.requires)))
+returns-in-None c = absurd (true≢false (sym (subst (λ (l : Values). IsSome (value_of (id_bytes c.args.id) l)) (no_long c.self.inside.space c.self.inside.catalog c.self.inside.tables.items c.as_slice.result.now c.args.table.0 c.args.self.now c.as_slice.ensures.value c.in-None.ensures c.self.view_is) c.requires)))
