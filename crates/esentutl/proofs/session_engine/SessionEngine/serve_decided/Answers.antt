@@ -17,7 +17,7 @@ use Rattle.esentutl.proofs.SessionWrites.{IsFinished, IsSame, after_finish, answ
 use Rattle.esentutl.proofs.WrittenSessions.{found_again, place_of, place-with_local, put-all}
 use Rattle.esentutl.specs.declared.served.Served.{Served}
 use Rattle.esentutl.specs.SessionRun.{GoesOn, IsInRun, outcome_told, reply_bytes}
-use Rattle.esentutl.proofs.session_engine.SessionEngine.serve_shared.Goals as goal
+use Rattle.esentutl.proofs.session_engine.SessionEngine.serve_decided.Goals as goal
 
 pub local_mut-requires : goal.local_mut-requires
 local_mut-requires c = place_of c.args.self.now.sessions c.args.session.0 c.requires.labelled c.requires.ready.2.places
