@@ -5,16 +5,17 @@ ghost use Rattle.session_local.specs.LocalCalls.{is_answered_locally};
 ghost use Rattle.session_local.specs.Run.{takes_no_memory};
 ghost use Rattle.session_local.specs.declared.request.Request.TheVariants as call;
 ghost use Rattle.built_calls.specs.BuiltCalls.{is_built_request};
-ghost use Rattle.engine_parts.specs.Deciding.{Decides, IsBeside, IsDecision};
+ghost use Rattle.engine_parts.specs.Deciding.{Decides, IsBeside, IsDecision, only_reply};
+ghost use Rattle.engine_core.specs.Reading.{is_reading};
 
-use engine_parts::Engine;
+use engine_parts::{Engine, replied};
 use jet_base::{CursorId, OutOfMemory, Prepare};
 use record_decisions::{delete, escrow_update, get_lock, prepare_copy, prepare_replace, update};
 use session_decisions::{
     begin_session, begin_transaction, change_schema, commit_transaction, create_index, end_session,
     rollback,
 };
-use session_local::{Decision, Local, Request};
+use session_local::{Decision, Local, Reply, Request};
 
 /// Decides a call that looks at the shared state: the reply, the step, and what `finish` needs for the session's own state. Of
 /// that it writes the reply buffer alone, but that a call that moves a cursor has moved it.
@@ -48,23 +49,15 @@ pub fn decide(
         Request::CreateIndex { .. } => create_index(engine, local, request),
         Request::OpenTable { cursor, table } => engine.open_cursor(local, *cursor, table),
         Request::CloseTable { cursor } => Ok(engine.close_cursor(local, *cursor)),
-        Request::Move { cursor, .. }
-        | Request::Seek { cursor, .. }
-        | Request::SetIndexRange { cursor, .. }
-        | Request::SetCurrentIndex { cursor, .. }
-        | Request::GotoBookmark { cursor, .. } => Ok(engine.navigate(local, *cursor, request)),
-        Request::IndexRecordCount { cursor, most } => {
-            Ok(engine.index_record_count(local, *cursor, *most))
-        }
-        Request::RetrieveKey { cursor } => Ok(engine.retrieve_key(local, *cursor)),
-        Request::GetBookmark { cursor } => Ok(engine.get_bookmark(local, *cursor)),
-        Request::RetrieveColumn {
-            cursor,
-            column,
-            sequence,
-            most,
-            ..
-        } => Ok(engine.retrieve_column(local, *cursor, column, *sequence, *most)),
+        Request::Move { .. }
+        | Request::Seek { .. }
+        | Request::SetIndexRange { .. }
+        | Request::SetCurrentIndex { .. }
+        | Request::GotoBookmark { .. }
+        | Request::IndexRecordCount { .. }
+        | Request::RetrieveKey { .. }
+        | Request::GetBookmark { .. }
+        | Request::RetrieveColumn { .. } => Ok(replied(read(engine, local, request))),
         Request::PrepareUpdate { cursor, how } => prepare(engine, local, *cursor, *how),
         Request::Update { cursor } => update(engine, local, *cursor),
         Request::Delete { cursor } => delete(engine, local, *cursor),
@@ -76,6 +69,56 @@ pub fn decide(
         } => escrow_update(engine, local, *cursor, column, *amount),
         Request::MakeKey { .. } | Request::RemoveIndexRange { .. } | Request::SetColumn { .. } =>
             unreachable!(),
+    }
+}
+
+/// Whether a call moves a cursor or reads, and does nothing else: it has no step and takes no memory.
+pub fn is_reading(request: &Request) -> bool
+    ensures { result ≡ is_reading request.now }
+{
+    matches!(
+        request,
+        Request::Move { .. }
+            | Request::Seek { .. }
+            | Request::SetIndexRange { .. }
+            | Request::SetCurrentIndex { .. }
+            | Request::GotoBookmark { .. }
+            | Request::IndexRecordCount { .. }
+            | Request::RetrieveKey { .. }
+            | Request::GetBookmark { .. }
+            | Request::RetrieveColumn { .. }
+    )
+}
+
+/// Answers a call that moves a cursor or reads: the cursor has moved, and the reply buffer has what is shown. The call is
+/// decided by its reply alone, which is smaller than a decision.
+pub fn read(engine: &Engine, local: &mut Local, request: &Request) -> Reply
+    requires beside { IsBeside engine.now local.old }
+    requires shared { is_answered_locally local.old.state request.now ≡ false }
+    requires reading { is_reading request.now ≡ true }
+    ensures answer { Decides engine.now local.old request.now local.new (only_reply result) }
+    ensures decided { IsDecision engine.now local.old request.now local.new (only_reply result) }
+    ensures session { local.new.session ≡ local.old.session }
+{
+    match request {
+        Request::Move { cursor, .. }
+        | Request::Seek { cursor, .. }
+        | Request::SetIndexRange { cursor, .. }
+        | Request::SetCurrentIndex { cursor, .. }
+        | Request::GotoBookmark { cursor, .. } => engine.navigate(local, *cursor, request),
+        Request::IndexRecordCount { cursor, most } => {
+            engine.index_record_count(local, *cursor, *most)
+        }
+        Request::RetrieveKey { cursor } => engine.retrieve_key(local, *cursor),
+        Request::GetBookmark { cursor } => engine.get_bookmark(local, *cursor),
+        Request::RetrieveColumn {
+            cursor,
+            column,
+            sequence,
+            most,
+            ..
+        } => engine.retrieve_column(local, *cursor, column, *sequence, *most),
+        _ => unreachable!(),
     }
 }
 

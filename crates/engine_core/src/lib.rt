@@ -4,7 +4,7 @@
 mod deciding;
 mod laws;
 
-pub use deciding::decide;
+pub use deciding::{decide, is_reading, read};
 pub use engine_parts::Engine;
 pub use engine_steps::{apply, clean};
 pub use laws::{

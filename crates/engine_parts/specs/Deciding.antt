@@ -3,6 +3,7 @@ use Rattle.std.specs.Prelude.{◌≡◌, ◌≢◌, ℕ, ◌==◌, Bool, true, f
 use Rattle.database_state.specs.State.{DatabaseState}
 use Rattle.index_derive.specs.Steps.{entries_of_step}
 use Rattle.session_local.specs.declared.decision.Decision.{Decision}
+use Rattle.session_local.specs.declared.reply.Reply.{Reply}
 use Rattle.session_local.specs.declared.request.Request.{Request}
 use Rattle.session_local.specs.declared.request.Request.TheVariants as call
 use Rattle.session_local.specs.Answer.{answered_by}
@@ -42,6 +43,10 @@ is_navigation label (call.SetCurrentIndex cursor index) = cursor.0 == label
 is_navigation label _ = false
 
 -- ---- decisions
+
+-- a reply alone, after which all is as it was
+abbrev pub only_reply : Reply → Decision
+only_reply reply = record { step = None; reply = reply; table = None; copied = None; buffers = None; flush = false }
 
 -- The decision is the answer to the call: its reply, its step, and what is left of the session's own state once it is
 -- finished.

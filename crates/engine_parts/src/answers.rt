@@ -2,18 +2,19 @@
 
 ghost use Rattle.std.specs.Prelude.{◌≡◌, None, Some, false};
 ghost use Rattle.session_local.specs.declared.reply.Value.TheVariants.{Nothing};
+ghost use Rattle.engine_parts.specs.Deciding.{only_reply};
 
 use index_derive::{Entry, EntryKind, Step};
 use jet_base::{Jet, Session};
 use session_local::{Decision, Reply, Value};
 
-/// A reply after which all is as it was.
-pub fn said(jet: Jet, value: Value) -> Decision
-    ensures { result ≡ record { step = None; reply = record { jet = jet; value = value }; table = None; copied = None; buffers = None; flush = false } }
+/// The decision of a reply after which all is as it was.
+pub fn replied(reply: Reply) -> Decision
+    ensures { result ≡ only_reply reply }
 {
     Decision {
         step: None,
-        reply: Reply { jet, value },
+        reply,
         table: None,
         copied: None,
         buffers: None,
@@ -25,7 +26,17 @@ pub fn said(jet: Jet, value: Value) -> Decision
 pub fn refused(jet: Jet) -> Decision
     ensures { result ≡ record { step = None; reply = record { jet = jet; value = Nothing }; table = None; copied = None; buffers = None; flush = false } }
 {
-    said(jet, Value::Nothing)
+    replied(refusal(jet))
+}
+
+/// The reply of a refusal.
+pub fn refusal(jet: Jet) -> Reply
+    ensures { result ≡ record { jet = jet; value = Nothing } }
+{
+    Reply {
+        jet,
+        value: Value::Nothing,
+    }
 }
 
 /// Success with a step.

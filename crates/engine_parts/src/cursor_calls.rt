@@ -9,11 +9,11 @@ ghost use Rattle.session_local.specs.Answer.{Bytes, answered_by};
 ghost use Rattle.session_local.specs.Local.{cursor_labelled};
 ghost use Rattle.session_local.specs.Showing.{names_within};
 ghost use Rattle.version_cleanup.specs.Cleaning.{reader_in};
-ghost use Rattle.engine_parts.specs.Deciding.{Decides, IsBeside, IsDecision, is_navigation};
+ghost use Rattle.engine_parts.specs.Deciding.{Decides, IsBeside, IsDecision, is_navigation, only_reply};
 ghost use Rattle.engine_parts.specs.Parts.{tables_of};
 ghost use Rattle.engine_parts.specs.Reading.{CurrentEntry, records_for};
 
-use crate::answers::{done, one, refused, said};
+use crate::answers::{done, one, refusal, refused};
 use crate::engine::{Engine, LOG_LIMIT};
 use crate::laws::a_session_reads_its_view;
 use crate::record_calls::show_bytes;
@@ -22,7 +22,7 @@ use index_derive::{EntryKind, Place, Schema, Step};
 use jet_base::{CursorId, Jet, Name, OutOfMemory, Session, TableId};
 use key_normal::Key;
 use lawful_answers::{the_step_of_a_close_is_lawful, the_step_of_an_open_is_lawful};
-use session_local::{Decision, Local, MOST_CURSORS, OpenCursor, Request, Value};
+use session_local::{Decision, Local, MOST_CURSORS, OpenCursor, Reply, Request, Value};
 
 // A cursor is opened on a table of this schema.
 fn opened(session: Session, table: TableId, schema: Schema) -> Decision
@@ -86,29 +86,29 @@ impl Engine {
     }
 
     /// A call that moves a cursor: the cursor has moved when it is decided.
-    pub fn navigate(&self, local: &mut Local, cursor: CursorId, request: &Request) -> Decision
+    pub fn navigate(&self, local: &mut Local, cursor: CursorId, request: &Request) -> Reply
         requires beside { IsBeside self.now local.old }
         requires navigation { is_navigation cursor.0 request.now ≡ true }
         requires shared { is_answered_locally local.old.state request.now ≡ false }
-        ensures answer { Decides self.now local.old request.now local.new result }
-        ensures decided { IsDecision self.now local.old request.now local.new result }
+        ensures answer { Decides self.now local.old request.now local.new (only_reply result) }
+        ensures decided { IsDecision self.now local.old request.now local.new (only_reply result) }
         ensures session { local.new.session ≡ local.old.session }
     {
         a_session_reads_its_view();
         let view = self.view(local);
         match local.navigate(cursor, &view, request) {
-            Some(jet) => refused(jet),
-            None => refused(Jet::InvalidTableId),
+            Some(jet) => refusal(jet),
+            None => refusal(Jet::InvalidTableId),
         }
     }
 
     /// IndexRecordCount: how many entries are not below the cursor's, within an upper limit; at most so many, where a most
     /// is given.
-    pub fn index_record_count(&self, local: &Local, cursor: CursorId, most: Option<u32>) -> Decision
+    pub fn index_record_count(&self, local: &Local, cursor: CursorId, most: Option<u32>) -> Reply
         requires beside { IsBeside self.now local.now }
         requires shared { is_answered_locally local.now.state (call.IndexRecordCount cursor most) ≡ false }
-        ensures answer { Decides self.now local.now (call.IndexRecordCount cursor most) local.now result }
-        ensures decided { IsDecision self.now local.now (call.IndexRecordCount cursor most) local.now result }
+        ensures answer { Decides self.now local.now (call.IndexRecordCount cursor most) local.now (only_reply result) }
+        ensures decided { IsDecision self.now local.now (call.IndexRecordCount cursor most) local.now (only_reply result) }
     {
         a_session_reads_its_view();
         let Some(found) = local.cursor(cursor) else {
@@ -117,38 +117,41 @@ impl Engine {
         let view = self.view(local);
         self.tables.seen_entries_are_in_order();
         match found.cursor().count(&view, most) {
-            Ok(counted) => said(Jet::Success, Value::Count(counted.number)),
-            Err(refusal) => refused(refusal),
+            Ok(counted) => Reply {
+                jet: Jet::Success,
+                value: Value::Count(counted.number),
+            },
+            Err(jet) => refusal(jet),
         }
     }
 
     /// RetrieveKey: the key of the entry at the cursor.
-    pub fn retrieve_key(&self, local: &mut Local, cursor: CursorId) -> Decision
+    pub fn retrieve_key(&self, local: &mut Local, cursor: CursorId) -> Reply
         requires beside { IsBeside self.now local.old }
         requires shared { is_answered_locally local.old.state (call.RetrieveKey cursor) ≡ false }
-        ensures answer { Decides self.now local.old (call.RetrieveKey cursor) local.new result }
-        ensures decided { IsDecision self.now local.old (call.RetrieveKey cursor) local.new result }
+        ensures answer { Decides self.now local.old (call.RetrieveKey cursor) local.new (only_reply result) }
+        ensures decided { IsDecision self.now local.old (call.RetrieveKey cursor) local.new (only_reply result) }
         ensures session { local.new.session ≡ local.old.session }
     {
         a_session_reads_its_view();
         match self.current_entry(local, cursor) {
             Ok((key, _)) => show_key(local, &key),
-            Err(refusal) => refused(refusal),
+            Err(jet) => refusal(jet),
         }
     }
 
     /// GetBookmark: the bookmark of the record at the cursor.
-    pub fn get_bookmark(&self, local: &mut Local, cursor: CursorId) -> Decision
+    pub fn get_bookmark(&self, local: &mut Local, cursor: CursorId) -> Reply
         requires beside { IsBeside self.now local.old }
         requires shared { is_answered_locally local.old.state (call.GetBookmark cursor) ≡ false }
-        ensures answer { Decides self.now local.old (call.GetBookmark cursor) local.new result }
-        ensures decided { IsDecision self.now local.old (call.GetBookmark cursor) local.new result }
+        ensures answer { Decides self.now local.old (call.GetBookmark cursor) local.new (only_reply result) }
+        ensures decided { IsDecision self.now local.old (call.GetBookmark cursor) local.new (only_reply result) }
         ensures session { local.new.session ≡ local.old.session }
     {
         a_session_reads_its_view();
         match self.current_entry(local, cursor) {
             Ok((_, bookmark)) => show_key(local, &bookmark),
-            Err(refusal) => refused(refusal),
+            Err(jet) => refusal(jet),
         }
     }
 
@@ -175,16 +178,18 @@ impl Engine {
 }
 
 // Success, and the whole key.
-fn show_key(local: &mut Local, key: &Key) -> Decision
+fn show_key(local: &mut Local, key: &Key) -> Reply
     requires { IsTrue local.old.state.begun }
-    ensures shown { answered_by result.reply local.new.reply ≡ record { jet = Jet.Success; shown = Bytes key.now (length key.now) } }
-    ensures nothing { result ≡ record { step = None; reply = result.reply; table = None; copied = None; buffers = None; flush = false } }
+    ensures shown { answered_by result local.new.reply ≡ record { jet = Jet.Success; shown = Bytes key.now (length key.now) } }
     ensures room { length local.new.reply ≡ length local.old.reply }
-    ensures named { IsTrue (names_within result.reply.value (length local.new.reply)) }
+    ensures named { IsTrue (names_within result.value (length local.new.reply)) }
     ensures state { local.new.state ≡ local.old.state }
     ensures session { local.new.session ≡ local.old.session }
 {
     let bytes = key.as_bytes();
     let value = show_bytes(local, bytes, bytes.len() as u64);
-    said(Jet::Success, value)
+    Reply {
+        jet: Jet::Success,
+        value,
+    }
 }

@@ -10,6 +10,6 @@ mod record_calls;
 mod sums;
 mod view;
 
-pub use answers::{done, one, refused, said};
+pub use answers::{done, one, refusal, refused, replied};
 pub use engine::{Engine, LOG_LIMIT};
 pub use laws::a_session_reads_its_view;

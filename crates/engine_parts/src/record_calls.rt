@@ -11,18 +11,18 @@ ghost use Rattle.session_local.specs.LocalCalls.{is_answered_locally};
 ghost use Rattle.session_local.specs.Outcome.{Asked};
 ghost use Rattle.session_local.specs.RecordCalls.{column_shown, value_shown};
 ghost use Rattle.session_local.specs.Showing.{names_within, bytes_answered};
-ghost use Rattle.engine_parts.specs.Deciding.{Decides, IsBeside, IsDecision};
+ghost use Rattle.engine_parts.specs.Deciding.{Decides, IsBeside, IsDecision, only_reply};
 ghost use Rattle.version_sums.specs.EscrowSums.{escrow_value};
 ghost use Rattle.engine_parts.specs.Reading.{IsRowAt, fields_at, shown_for};
 ghost use Rattle.engine_parts.specs.Retrieving.{AreReadable, HasRoom, IsColumnOf, IsRecordAt, answered_or, answered_with};
 
-use crate::answers::{refused, said};
+use crate::answers::refusal;
 use crate::engine::Engine;
 use crate::laws::a_session_reads_its_view;
 use column_set::{Column, RowRef, Values, column_named};
 use index_derive::Place;
 use jet_base::{CursorId, Jet, Name, Session};
-use session_local::{Decision, Local, OpenCursor, Value};
+use session_local::{Local, OpenCursor, Reply, Value};
 use stored_value::{is_number_type, number_of};
 
 /// A value that is shown.
@@ -42,11 +42,11 @@ impl Engine {
         column: &Name,
         sequence: u32,
         most: u32,
-    ) -> Decision
+    ) -> Reply
         requires beside { IsBeside self.now local.old }
         requires shared { is_answered_locally local.old.state (call.RetrieveColumn cursor column.now sequence false most) ≡ false }
-        ensures answer { Decides self.now local.old (call.RetrieveColumn cursor column.now sequence false most) local.new result }
-        ensures decided { IsDecision self.now local.old (call.RetrieveColumn cursor column.now sequence false most) local.new result }
+        ensures answer { Decides self.now local.old (call.RetrieveColumn cursor column.now sequence false most) local.new (only_reply result) }
+        ensures decided { IsDecision self.now local.old (call.RetrieveColumn cursor column.now sequence false most) local.new (only_reply result) }
         ensures session { local.new.session ≡ local.old.session }
     {
         a_session_reads_its_view();
@@ -56,14 +56,14 @@ impl Engine {
         let session = local.session();
         let row = match self.current_row(session, found) {
             Ok(row) => row,
-            Err(refusal) => return refused(refusal),
+            Err(jet) => return refusal(jet),
         };
         let Some(column) = column_named(&found.schema().columns, column) else {
-            return refused(Jet::ColumnNotFound);
+            return refusal(Jet::ColumnNotFound);
         };
         match self.value_seen(session, found, &row, column, sequence) {
             Ok(value) => show_value(local, value, most),
-            Err(refusal) => refused(refusal),
+            Err(jet) => refusal(jet),
         }
     }
 
@@ -160,29 +160,30 @@ fn shown_value<'a>(column: &Column, value: &'a [u8]) -> Shown<'a>
 }
 
 // What is answered with the value, of whose bytes so many are shown.
-fn show_value(local: &mut Local, value: Shown<'_>, most: u32) -> Decision
+fn show_value(local: &mut Local, value: Shown<'_>, most: u32) -> Reply
     requires begun { IsTrue local.old.state.begun }
     requires room { HasRoom value }
-    ensures shown { answered_by result.reply local.new.reply ≡ answered_with most value.entry }
-    ensures nothing { result ≡ record { step = None; reply = result.reply; table = None; copied = None; buffers = None; flush = false } }
-    ensures named { IsTrue (names_within result.reply.value (length local.new.reply)) }
+    ensures shown { answered_by result local.new.reply ≡ answered_with most value.entry }
+    ensures named { IsTrue (names_within result.value (length local.new.reply)) }
     ensures room { length local.new.reply ≡ length local.old.reply }
     ensures state { local.new.state ≡ local.old.state }
     ensures session { local.new.session ≡ local.old.session }
 {
     match value {
-        Shown::Number(number) => said(Jet::Success, Value::Number(number)),
+        Shown::Number(number) => Reply {
+            jet: Jet::Success,
+            value: Value::Number(number),
+        },
         Shown::Bytes(bytes) => show_front(local, bytes, most as usize),
     }
 }
 
 // Success or a truncated value: its first bytes, and the length of the whole.
-fn show_front(local: &mut Local, value: &[u8], most: usize) -> Decision
+fn show_front(local: &mut Local, value: &[u8], most: usize) -> Reply
     requires begun { IsTrue local.old.state.begun }
     requires room { length value.now ≤ 1048576 }
-    ensures shown { answered_by result.reply local.new.reply ≡ bytes_answered most value.now }
-    ensures nothing { result ≡ record { step = None; reply = result.reply; table = None; copied = None; buffers = None; flush = false } }
-    ensures named { IsTrue (names_within result.reply.value (length local.new.reply)) }
+    ensures shown { answered_by result local.new.reply ≡ bytes_answered most value.now }
+    ensures named { IsTrue (names_within result.value (length local.new.reply)) }
     ensures room { length local.new.reply ≡ length local.old.reply }
     ensures state { local.new.state ≡ local.old.state }
     ensures session { local.new.session ≡ local.old.session }
@@ -193,8 +194,8 @@ fn show_front(local: &mut Local, value: &[u8], most: usize) -> Decision
     } else {
         Jet::Success
     };
-    let shown = show_bytes(local, front, value.len() as u64);
-    said(jet, shown)
+    let value = show_bytes(local, front, value.len() as u64);
+    Reply { jet, value }
 }
 
 // The bytes at the front of the reply buffer, as the front of a value of so many.

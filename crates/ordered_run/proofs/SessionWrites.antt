@@ -1,10 +1,12 @@
 -- What a session's own state that is written leaves of the run.
-use Rattle.std.proofs.Common.{◌≡◌, ◌≢◌, ◌≤◌, ℕ, Bool, List, length, Option, Some, None, sym, ap, subst, ◌∙◌}
+use Rattle.std.proofs.Common.{◌≡◌, ◌≢◌, ◌≤◌, ℕ, Bool, List, length, Option, Some, None, refl, sym, ap, subst, ◌∙◌}
 use Rattle.std.specs.Prelude.{if◌then◌else◌}
 use Rattle.jet_base.specs.declared.ids.Session.{Session}
 use Rattle.index_derive.specs.declared.log.Step.{Step}
 use Rattle.session_local.specs.declared.decision.Decision.{Decision}
 use Rattle.session_local.specs.declared.request.Request.{Request}
+use Rattle.session_local.specs.declared.request.Request.TheVariants as call
+use Rattle.session_local.specs.declared.reply.Reply.{Reply}
 use Rattle.session_local.specs.Calls.{is_local}
 use Rattle.session_local.specs.Deciding.{decided_in, reply_after}
 use Rattle.session_local.specs.Finishing.{finished}
@@ -15,12 +17,12 @@ use Rattle.run_sessions.specs.declared.sessions.RunSession.{RunSession}
 use Rattle.run_sessions.specs.Sessions.{last_label, session_at, HasPlace, with_local, with_last, in_run}
 use Rattle.engine_versions.specs.EngineState.{EngineState}
 use Rattle.engine_versions.specs.EngineSteps.{engine_after_answer}
-use Rattle.engine_parts.specs.Deciding.{Decides, IsAnswer, IsBeside, IsDecision}
+use Rattle.engine_parts.specs.Deciding.{Decides, IsAnswer, IsBeside, IsDecision, only_reply}
 use Rattle.engine_core.specs.Runs.{HoldsRun, IsInRun as IsPartOf}
 use Rattle.ordered_run.specs.SessionRun.{HasItsBuffer, LacksMemory, IsInRun}
 use Rattle.ordered_run.proofs.SessionRuns.{IsBrought, in_run-kept}
 use Rattle.ordered_run.proofs.SessionCalls.{WasMade, part_of}
-use Rattle.ordered_run.proofs.WrittenSessions.{IsPut, place_of, place-put, place-with_local, put-all, put-local}
+use Rattle.ordered_run.proofs.WrittenSessions.{IsPut, place_of, place-put, place-with_local, put-all, put-local, put-read}
 
 -- ---- one session is written
 
@@ -139,4 +141,49 @@ was_made limit engine after_engine before run session request side made left cou
       counts = ap (λ (s : RunSession). s.last) put.0 ∙ f.counts
           ∙ last-kept one label after_engine.number left itself (place-with_local before label label made place place)
           ∙ last-kept before label after_engine.number made itself place;
+    }
+
+-- ---- a call that a reply alone decides
+
+finished-reply : (local : LocalState) (request : Request) (reply : Reply) → finished local request (decided_in (only_reply reply)) ≡ local
+finished-reply local call.BeginSession reply = refl
+finished-reply local call.EndSession reply = refl
+finished-reply local (call.CommitTransaction lazy) reply = refl
+finished-reply local (call.Rollback all) reply = refl
+finished-reply local (call.OpenTable cursor table) reply = refl
+finished-reply local (call.CloseTable cursor) reply = refl
+finished-reply local (call.PrepareUpdate cursor how) reply = refl
+finished-reply local (call.Update cursor) reply = refl
+finished-reply local _ reply = refl
+
+buffer-reply : (bytes : List ℕ) (request : Request) → reply_after bytes request None None ≡ bytes
+buffer-reply bytes call.BeginSession = refl
+buffer-reply bytes call.EndSession = refl
+buffer-reply bytes _ = refl
+
+abbrev pub after_read : List RunSession → Session → SessionSide → ℕ → List RunSession
+after_read before session made n = with_last (with_local before session.0 made) session.0 n
+
+-- the session's own state is written once, and then its number
+pub was_read : (limit : ℕ) (engine : EngineState) (before : List RunSession) (run : RunState) (session : Session) (request : Request) (side made : SessionSide) (n : ℕ) (reply : Reply)
+    → IsInRun limit engine before run → session.0 ≤ last_label → side ≡ (session_at before session.0).local
+    → IsAnswer (asked_in limit run session.0) request made (only_reply reply) → IsDecision engine side request made (only_reply reply)
+    → length made.reply ≡ (if made.state.begun then 1048576 else 0)
+    → n ≡ (if is_local request reply.jet then (session_at (with_local before session.0 made) session.0).last else engine.number)
+    → WasMade limit engine engine before (after_read before session made n) run session request made n (only_reply reply)
+was_read limit engine before run session request side made n reply is within same answers decided count number =
+    let label = session.0 in
+    let place = place_of before label within is.places in
+    let put = put-read before label n made place in
+    let label_is = decided.session ∙ ap (λ (s : SessionSide). s.session) same ∙ is.labels label in
+    let numbered = number ∙ last-kept before label engine.number made (is_local request reply.jet) place in
+    record {
+      answers = answers;
+      named = decided.named;
+      brought = brought-put before (after_read before session made n) label (record { local = made; last = n }) put is.places label_is (its_buffer made count);
+      local = ap (λ (s : RunSession). s.local.state) put.0 ∙ sym (finished-reply made.state request reply);
+      buffer = ap (λ (s : RunSession). s.local.reply) put.0 ∙ sym (buffer-reply made.reply request);
+      engine_is = refl;
+      number = numbered;
+      counts = ap (λ (s : RunSession). s.last) put.0 ∙ numbered;
     }

@@ -47,6 +47,17 @@ pub place-with_local : (sessions : List RunSession) (label place : ℕ) (made : 
 place-with_local sessions label place made own has =
     place-put sessions (with_local sessions label made) label place (record (session_at sessions label) { local = made }) (put-local sessions label made own) has
 
+-- an own state that is written, and then the number
+pub put-read : (sessions : List RunSession) (label last : ℕ) (made : SessionSide) → HasPlace sessions label
+    → IsPut sessions (with_last (with_local sessions label made) label last) label (record { local = made; last = last })
+put-read sessions label last made place =
+    let one = with_local sessions label made in
+    let all = with_last one label last in
+    let first = put-local sessions label made place in
+    let second = put-last one label last (place-with_local sessions label label made place place) in
+    let put = put-twice sessions one all label (record (session_at sessions label) { local = made }) (record (session_at one label) { last = last }) first second in
+    (put.0 ∙ ap (λ (s : RunSession). record s { last = last }) first.0, put.1, put.2)
+
 -- an own state that is written twice, and then the number
 pub put-all : (sessions : List RunSession) (label last : ℕ) (made left : SessionSide) → HasPlace sessions label
     → IsPut sessions (with_last (with_local (with_local sessions label made) label left) label last) label (record { local = left; last = last })

@@ -13,6 +13,7 @@ ghost use Rattle.script_transcript.specs.TranscriptLine.{NamesNoMore};
 ghost use Rattle.run_sessions.specs.Sessions.{last_label, session_at};
 ghost use Rattle.engine_versions.specs.EngineState.{HasRoomForEnds};
 ghost use Rattle.engine_versions.specs.EngineSteps.{engine_after_answer};
+ghost use Rattle.engine_core.specs.Reading.{is_reading};
 ghost use Rattle.engine_steps.specs.Steps.{MayTake};
 ghost use Rattle.ordered_run.specs.SessionRun.{no_memory_reply, outcome_told, row_told, LacksMemory, StaysOrCleans};
 ghost use Rattle.ordered_run.specs.Serving.{span_limit, reply_of, IsAt, IsReady, Goes};
@@ -20,8 +21,8 @@ ghost use Rattle.ordered_run.specs.Serving.{span_limit, reply_of, IsAt, IsReady,
 use crate::served::Served;
 use engine_core::{
     Engine, a_run_is_held_after_its_lines, a_session_of_a_run_is_beside,
-    an_empty_engine_holds_an_empty_run, apply, decide, no_answer_is_want_of_memory,
-    steps_of_a_run_may_be_taken, steps_of_calls_without_memory_lack_none,
+    an_empty_engine_holds_an_empty_run, apply, decide, is_reading, no_answer_is_want_of_memory,
+    read, steps_of_a_run_may_be_taken, steps_of_calls_without_memory_lack_none,
 };
 use index_derive::Step;
 use jet_base::{Jet, OutOfMemory, Session};
@@ -104,8 +105,45 @@ impl SessionEngine {
     }
 
     // Serves a call that looks at the shared state.
-    #[tactic(none)]
     fn serve_shared(&mut self, session: Session, request: &Request) -> Served
+        requires ready { (limit : ℕ) × (run : RunState) × IsAt limit self.old run }
+        requires built { is_built_request request.now ≡ true }
+        requires labelled { session.0 ≤ last_label }
+        requires shared { is_answered_locally (session_at self.old.sessions session.0).local.state request.now ≡ false }
+        ensures line { (limit : ℕ) (run : RunState) → IsAt limit self.old run → Goes limit self.new run session request.now result }
+        ensures named { NamesNoMore result.reply (length (reply_of self.new session)) }
+    {
+        if is_reading(request) {
+            self.serve_reading(session, request)
+        } else {
+            self.serve_decided(session, request)
+        }
+    }
+
+    // Serves a call that moves a cursor or reads.
+    #[tactic(none)]
+    fn serve_reading(&mut self, session: Session, request: &Request) -> Served
+        requires ready { (limit : ℕ) × (run : RunState) × IsAt limit self.old run }
+        requires built { is_built_request request.now ≡ true }
+        requires labelled { session.0 ≤ last_label }
+        requires shared { is_answered_locally (session_at self.old.sessions session.0).local.state request.now ≡ false }
+        requires reading { is_reading request.now ≡ true }
+        ensures line { (limit : ℕ) (run : RunState) → IsAt limit self.old run → Goes limit self.new run session request.now result }
+        ensures named { NamesNoMore result.reply (length (reply_of self.new session)) }
+    {
+        a_session_of_a_run_is_beside();
+        a_run_is_held_after_its_lines();
+        no_answer_is_want_of_memory();
+        sessions_follow_a_line();
+        let reply = read(&self.engine, self.sessions.local_mut(session), request);
+        let number = self.number_for(session, request, reply.jet);
+        self.sessions.set_last(session, number);
+        self.tell(session, number, reply)
+    }
+
+    // Serves any other call that looks at the shared state.
+    #[tactic(none)]
+    fn serve_decided(&mut self, session: Session, request: &Request) -> Served
         requires ready { (limit : ℕ) × (run : RunState) × IsAt limit self.old run }
         requires built { is_built_request request.now ≡ true }
         requires labelled { session.0 ≤ last_label }

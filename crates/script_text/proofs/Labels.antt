@@ -1,5 +1,5 @@
 -- The label of a line of the grammar is one of a session.
-use Rattle.std.proofs.Common.{◌≡◌, ℕ, Bool, true, false, ◌&&◌, List, Option, Some, None, refl}
+use Rattle.std.proofs.Common.{◌≡◌, ℕ, Bool, true, false, List, Option, Some, None, refl}
 use Rattle.std.specs.Prelude.{if◌then◌else◌, IfSome}
 use Rattle.session_local.specs.declared.request.Request.{Request}
 use Rattle.script_words.specs.Words.{◌>>=◌, first_word, label_of, number_of, number_within, where_within, words_of}

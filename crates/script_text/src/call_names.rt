@@ -1,9 +1,9 @@
 //! The names of the calls.
 
-ghost use Rattle.std.specs.Prelude.{◌≡◌, List, ℕ};
+ghost use Rattle.std.specs.Prelude.{◌≡◌, IfSome, List, ℕ};
 ghost use Rattle.jet_base.specs.declared.ids.CursorId.{CursorId};
 ghost use Rattle.script_text.specs.Calls as calls;
-ghost use Rattle.script_text.specs.CallNames.{read_by, cursor_read_by};
+ghost use Rattle.script_text.specs.CallNames.{read_by, reading, cursor_read_by};
 
 use script_words::texts::is_word;
 
@@ -145,9 +145,9 @@ fn schema_call(name: &[u8]) -> Option<CallName>
     }
 }
 
-/// The call of a name, where it is the name of one.
+/// A call of sessions and transactions, or else any other.
 #[tactic(auto, unfolding(crate::specs::Calls::named_call))]
-pub fn call_named(name: &[u8]) -> Option<CallName>
+fn any_call(name: &[u8]) -> Option<CallName>
     ensures { (words : List (List ℕ)) → calls.named_call name.now words ≡ read_by result words }
 {
     if is_word(name, b"BeginSession") {
@@ -162,5 +162,33 @@ pub fn call_named(name: &[u8]) -> Option<CallName>
         Some(CallName::Rollback)
     } else {
         schema_call(name)
+    }
+}
+
+/// The calls that a script makes for each record, found by the length of their names before any name is compared.
+fn frequent_call(name: &[u8]) -> Option<CallName>
+    ensures { IfSome result (λ call. (words : List (List ℕ)) → calls.named_call name.now words ≡ reading call words) }
+{
+    match name.len() {
+        4 if is_word(name, b"Move") => Some(CallName::OfCursor(CursorCall::Move)),
+        6 if is_word(name, b"Update") => Some(CallName::OfCursor(CursorCall::Update)),
+        9 if is_word(name, b"SetColumn") => Some(CallName::OfCursor(CursorCall::SetColumn)),
+        13 if is_word(name, b"PrepareUpdate") => {
+            Some(CallName::OfCursor(CursorCall::PrepareUpdate))
+        }
+        14 if is_word(name, b"RetrieveColumn") => {
+            Some(CallName::OfCursor(CursorCall::RetrieveColumn))
+        }
+        _ => None,
+    }
+}
+
+/// The call of a name, where it is the name of one.
+pub fn call_named(name: &[u8]) -> Option<CallName>
+    ensures { (words : List (List ℕ)) → calls.named_call name.now words ≡ read_by result words }
+{
+    match frequent_call(name) {
+        Some(call) => Some(call),
+        None => any_call(name),
     }
 }

@@ -5,13 +5,14 @@ use Rattle.jet_base.specs.declared.replies.Jet.{Jet}
 use Rattle.column_set.specs.declared.columns.Column.{Column}
 use Rattle.column_set.specs.RecordValues.{RecordFields, column_named}
 use Rattle.column_set.specs.Rows.{RowFields, here_fields}
+use Rattle.session_local.specs.declared.reply.Reply.{Reply}
 use Rattle.session_local.specs.Answer.{Answered}
 use Rattle.session_local.specs.Outcome.{Asked}
 use Rattle.session_local.specs.RecordCalls.{column_shown}
 use Rattle.session_local.specs.Local.{OpenCursor}
 use Rattle.engine_versions.specs.EngineState.{EngineState}
 use Rattle.session_local.specs.declared.request.Request.TheVariants as call
-use Rattle.engine_parts.specs.Deciding.{Decides}
+use Rattle.engine_parts.specs.Deciding.{Decides, only_reply}
 use Rattle.engine_parts.proofs.Refusing.{refused_with}
 use Rattle.engine_parts.specs.Reading.{IsRowAt, fields_at, shown_for}
 use Rattle.engine_parts.specs.Retrieving.{IsRecordAt}
@@ -58,8 +59,8 @@ own_answer engine session own c sequence column asked most answered same is = sy
 pub returns-in-Err-clause-answer : goal.returns-in-Err-clause-answer
 returns-in-Err-clause-answer c =
     let begun = (retrieve-shared c.args.local.now.state c.args.cursor c.args.column.now c.args.sequence c.args.most c.requires.shared).0 in
-    subst (Decides c.args.self.now c.args.local.now (call.RetrieveColumn c.args.cursor c.args.column.now c.args.sequence false c.args.most) c.args.local.now) (sym c.refused.ensures)
-    (retrieve-refused c.a_session_reads_its_view.ensures.records c.args.self.now c.args.local.now c.args.cursor c.args.column.now c.args.sequence c.args.most c.in-Some.found.now c.in-Err.refusal begun c.in-Some.ensures (own_record c.args.self.now c.session-session.result.0 c.args.local.now.session c.in-Some.found.now c.session-session.ensures (Err c.in-Err.refusal) c.in-Err.ensures))
+    subst (λ (reply : Reply). Decides c.args.self.now c.args.local.now (call.RetrieveColumn c.args.cursor c.args.column.now c.args.sequence false c.args.most) c.args.local.now (only_reply reply)) (sym c.refusal.ensures)
+    (retrieve-refused c.a_session_reads_its_view.ensures.records c.args.self.now c.args.local.now c.args.cursor c.args.column.now c.args.sequence c.args.most c.in-Some.found.now c.in-Err.jet begun c.in-Some.ensures (own_record c.args.self.now c.session-session.result.0 c.args.local.now.session c.in-Some.found.now c.session-session.ensures (Err c.in-Err.jet) c.in-Err.ensures))
 
 pub returns-in_default-column_named-clause-answer : goal.returns-in_default-column_named-clause-answer
 returns-in_default-column_named-clause-answer c =
@@ -67,7 +68,7 @@ returns-in_default-column_named-clause-answer c =
     let begun = (retrieve-shared c.args.local.now.state c.args.cursor c.args.column.now c.args.sequence c.args.most c.requires.shared).0 in
     let named : column_named found.schema.columns c.args.column.now ≡ None =
     ap (λ (s : Schema). column_named s.columns c.args.column.now) (sym c.schema.ensures) ∙ sym c.column_named.ensures ∙ ap option_copied c.in_default-column_named.is in
-    subst (Decides c.args.self.now c.args.local.now (call.RetrieveColumn c.args.cursor c.args.column.now c.args.sequence false c.args.most) c.args.local.now) (sym c.refused-in_default-column_named.ensures)
+    subst (λ (reply : Reply). Decides c.args.self.now c.args.local.now (call.RetrieveColumn c.args.cursor c.args.column.now c.args.sequence false c.args.most) c.args.local.now (only_reply reply)) (sym c.refusal-in_default-column_named.ensures)
     (retrieve-no_column c.a_session_reads_its_view.ensures.records c.args.self.now c.args.local.now c.args.cursor c.args.column.now c.args.sequence c.args.most found c.in-Ok.row begun c.in-Some.ensures (own_record c.args.self.now c.session-session.result.0 c.args.local.now.session c.in-Some.found.now c.session-session.ensures (Ok c.in-Ok.row) c.in-Ok.ensures) named)
 
 pub returns-in-Ok-value_seen-clause-answer : goal.returns-in-Ok-value_seen-clause-answer
@@ -77,9 +78,9 @@ returns-in-Ok-value_seen-clause-answer c =
     let begun = (retrieve-shared c.args.local.now.state c.args.cursor c.args.column.now c.args.sequence c.args.most c.requires.shared).0 in
     let named : column_named found.schema.columns c.args.column.now ≡ Some column =
     ap (λ (s : Schema). column_named s.columns c.args.column.now) (sym c.schema.ensures) ∙ sym c.column_named.ensures ∙ ap option_copied c.in-Some-column_named.is in
-    retrieve-shown c.a_session_reads_its_view.ensures.records c.args.self.now c.args.local.now c.show_value.new.local c.args.cursor c.args.column.now c.args.sequence c.args.most found c.in-Ok.row column c.show_value.result
+    retrieve-shown c.a_session_reads_its_view.ensures.records c.args.self.now c.args.local.now c.show_value.new.local c.args.cursor c.args.column.now c.args.sequence c.args.most found c.in-Ok.row column (only_reply c.show_value.result)
     begun c.in-Some.ensures (own_record c.args.self.now c.session-session.result.0 c.args.local.now.session c.in-Some.found.now c.session-session.ensures (Ok c.in-Ok.row) c.in-Ok.ensures) named
-    (λ asked. c.show_value.ensures.shown ∙ own_answer c.args.self.now c.session-session.result.0 c.args.local.now.session found c.args.sequence column asked c.args.most _ c.session-session.ensures (c.in-Ok-value_seen.ensures.answer asked c.args.most)) c.show_value.ensures.nothing c.show_value.ensures.state
+    (λ asked. c.show_value.ensures.shown ∙ own_answer c.args.self.now c.session-session.result.0 c.args.local.now.session found c.args.sequence column asked c.args.most _ c.session-session.ensures (c.in-Ok-value_seen.ensures.answer asked c.args.most)) refl c.show_value.ensures.state
 
 pub returns-in-Err-value_seen-clause-answer : goal.returns-in-Err-value_seen-clause-answer
 returns-in-Err-value_seen-clause-answer c =
@@ -88,7 +89,7 @@ returns-in-Err-value_seen-clause-answer c =
     let begun = (retrieve-shared c.args.local.now.state c.args.cursor c.args.column.now c.args.sequence c.args.most c.requires.shared).0 in
     let named : column_named found.schema.columns c.args.column.now ≡ Some column =
     ap (λ (s : Schema). column_named s.columns c.args.column.now) (sym c.schema.ensures) ∙ sym c.column_named.ensures ∙ ap option_copied c.in-Some-column_named.is in
-    subst (Decides c.args.self.now c.args.local.now (call.RetrieveColumn c.args.cursor c.args.column.now c.args.sequence false c.args.most) c.args.local.now) (sym c.refused-in-Err-value_seen.ensures)
-    (retrieve-shown c.a_session_reads_its_view.ensures.records c.args.self.now c.args.local.now c.args.local.now c.args.cursor c.args.column.now c.args.sequence c.args.most found c.in-Ok.row column (refused_with c.in-Err-value_seen.refusal)
+    subst (λ (reply : Reply). Decides c.args.self.now c.args.local.now (call.RetrieveColumn c.args.cursor c.args.column.now c.args.sequence false c.args.most) c.args.local.now (only_reply reply)) (sym c.refusal-in-Err-value_seen.ensures)
+    (retrieve-shown c.a_session_reads_its_view.ensures.records c.args.self.now c.args.local.now c.args.local.now c.args.cursor c.args.column.now c.args.sequence c.args.most found c.in-Ok.row column (refused_with c.in-Err-value_seen.jet)
     begun c.in-Some.ensures (own_record c.args.self.now c.session-session.result.0 c.args.local.now.session c.in-Some.found.now c.session-session.ensures (Ok c.in-Ok.row) c.in-Ok.ensures) named
     (λ asked. own_answer c.args.self.now c.session-session.result.0 c.args.local.now.session found c.args.sequence column asked c.args.most _ c.session-session.ensures (c.in-Err-value_seen.ensures.answer asked c.args.most)) refl refl)

@@ -17,7 +17,7 @@ use Rattle.ordered_run.proofs.SessionWrites.{IsFinished, IsSame, after_finish, a
 use Rattle.ordered_run.proofs.WrittenSessions.{found_again, place_of, place-with_local, put-all}
 use Rattle.ordered_run.specs.declared.served.Served.{Served}
 use Rattle.ordered_run.specs.SessionRun.{GoesOn, IsInRun, outcome_told, reply_bytes}
-use Rattle.ordered_run.proofs.session_engine.SessionEngine.serve_shared.Goals as goal
+use Rattle.ordered_run.proofs.session_engine.SessionEngine.serve_decided.Goals as goal
 
 pub local_mut-requires : goal.local_mut-requires
 local_mut-requires c = place_of c.args.self.now.sessions c.args.session.0 c.requires.labelled c.requires.ready.2.places
