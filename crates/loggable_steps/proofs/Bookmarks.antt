@@ -25,7 +25,7 @@ use Rattle.version_keys.proofs.EscrowSums.{unseen_now}
 use Rattle.version_keys.proofs.IndexNumbers.{all_primary_first}
 use Rattle.version_records.specs.Bookmarks.{is_bookmark}
 use Rattle.version_records.proofs.EntryNumbers.{entry_number-own}
-use Rattle.version_records.proofs.PrimaryKeys.{found_passes, of_found}
+use Rattle.common_lemmas.proofs.Found.{found_passes, of_found}
 use Rattle.version_records.proofs.Standing.{bookmarks_seen}
 use Rattle.lawful_answers.specs.LawfulSteps.{IsReached}
 use Rattle.log_grammar.specs.EntryBytes.{bookmark_fits}

@@ -20,7 +20,7 @@ use Rattle.database_state.specs.Lawful.{has_free_keys, is_bookmark_of, is_copied
 use Rattle.record_changes.specs.Records.{Records}
 use Rattle.record_changes.proofs.Tests.{and_left, and_right, impossible, same_number}
 use Rattle.version_keys.proofs.BookmarkKeys.{HasOneEntry}
-use Rattle.version_records.proofs.PrimaryKeys.{found_passes}
+use Rattle.common_lemmas.proofs.Found.{found_passes}
 use Rattle.version_sums.specs.EscrowNumbers.{IsOfItsType}
 use Rattle.lawful_answers.specs.ColumnNumbers.{are_in_range, has_own_numbers, is_given_number}
 use Rattle.lawful_answers.specs.LawfulSteps.{IsReached}

@@ -30,7 +30,7 @@ use Rattle.version_keys.proofs.UniqueKept.{some_at}
 use Rattle.version_keys.proofs.UniqueLaws.{rows_found}
 use Rattle.version_records.specs.Bookmarks.{StandsUnder, is_bookmark}
 use Rattle.version_records.proofs.EachRecord.{RowsHave}
-use Rattle.version_records.proofs.PrimaryKeys.{found_passes, of_found}
+use Rattle.common_lemmas.proofs.Found.{found_passes, of_found}
 use Rattle.version_records.proofs.Standing.{bookmarks_seen}
 use Rattle.lawful_answers.specs.LawfulSteps.{IsReached}
 use Rattle.loggable_steps.specs.Replays.{closed}

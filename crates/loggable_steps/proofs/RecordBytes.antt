@@ -15,7 +15,7 @@ use Rattle.column_set.specs.RecordValues.{record_size}
 use Rattle.column_set.specs.Rows.{record_values_in_order}
 use Rattle.log_grammar.specs.EntryBytes.{value_bytes, value_fits as value_fits_entry}
 use Rattle.record_changes.proofs.Tests.{impossible, same_number}
-use Rattle.version_records.proofs.PrimaryKeys.{found_passes}
+use Rattle.common_lemmas.proofs.Found.{found_passes}
 use Rattle.database_state.specs.Table.{GreatestColumns}
 use Rattle.lawful_answers.specs.ColumnNumbers.{are_in_range, is_given_number}
 
