@@ -6,3 +6,4 @@ pub mod Spelled
 pub mod Replaying
 pub mod Opened
 pub mod Closing
+pub mod Fronts

@@ -1,5 +1,5 @@
 -- An engine beside the log from which a replay makes it.
-use Rattle.std.specs.Prelude.{◌≡◌, true, List, []}
+use Rattle.std.specs.Prelude.{◌≡◌, ℕ, true, List, [], ◌++◌}
 use Rattle.index_derive.specs.declared.log.Entry.{Entry}
 use Rattle.database_state.specs.State.{DatabaseState}
 use Rattle.database_state.specs.Step.{state_after_all}
@@ -8,6 +8,7 @@ use Rattle.lawful_answers.specs.LawfulSteps.{AreLawful}
 use Rattle.built_calls.specs.BuiltTables.{AllMakeBuilt}
 use Rattle.engine_versions.specs.EngineState.{EngineState}
 use Rattle.engine_versions.specs.HoldsState.{HoldsState}
+use Rattle.log_grammar.specs.EntryBytes.{IsCut}
 use Rattle.log_grammar.specs.EntryStreams.{stream_bytes, stream_fits}
 use Rattle.entry_log.specs.LogState.{IsKeptOf, KeptStream}
 
@@ -28,3 +29,14 @@ pub record HasLogged (opening : DatabaseState) (entries : List Entry) (engine : 
   pub spelled : stream_fits entries ≡ true
   pub kept : IsKeptOf (stream_bytes entries) stream
   pub holds : HoldsState engine (state_after_all opening entries)
+
+-- the bytes of a whole log from its beginning on
+abbrev pub whole_stream : List Entry → KeptStream
+whole_stream entries = record { from = 0; bytes = stream_bytes entries }
+
+-- What is read back where the bytes of a log were cut: the first of its entries, and a rest that is cut from an entry or has no
+-- byte.
+pub record IsCutLog (entries read : List Entry) (rest : List ℕ) : Type 0 where
+  pub others : List Entry
+  pub split : entries ≡ read ++ others
+  pub cut : IsCut rest

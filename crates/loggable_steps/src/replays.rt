@@ -10,12 +10,12 @@ ghost use Rattle.lawful_answers.specs.EntryTypes.{AreOfTheirTypes};
 ghost use Rattle.lawful_answers.specs.LawfulSteps.{AreLawful};
 ghost use Rattle.built_calls.specs.BuiltTables.{AllMakeBuilt};
 ghost use Rattle.engine_versions.specs.EngineState.{EngineState, cleaned, engine_of};
-ghost use Rattle.engine_versions.specs.EngineSteps.{engine_after_step};
+ghost use Rattle.engine_versions.specs.EngineSteps.{engine_after_all, engine_after_step};
 ghost use Rattle.engine_versions.specs.HoldsState.{HoldsState};
 ghost use Rattle.log_grammar.specs.EntryStreams.{Holds, stream_bytes};
 ghost use Rattle.entry_log.specs.LogState.{KeptStream, appended, empty_stream, stream_end, trimmed_to};
 ghost use Rattle.loggable_steps.specs.Loggable.{is_loggable, made_by};
-ghost use Rattle.loggable_steps.specs.Replays.{HasLogged, closed, opened_state};
+ghost use Rattle.loggable_steps.specs.Replays.{HasLogged, IsCutLog, closed, opened_state, whole_stream};
 
 use crate::entries::lawful_steps_can_be_logged;
 use engine_versions::{
@@ -25,7 +25,9 @@ use engine_versions::{
 use entry_log::what_is_kept_goes_on_with_its_stream;
 use held_states::states_that_one_engine_holds_answer_alike;
 use index_derive::{a_primary_index_has_one_entry, entries_rise};
-use log_grammar::streams_are_read_back;
+use log_grammar::{
+    cut_bytes_begin_with_no_entry, fronts_of_streams_hold_the_first, streams_are_read_back,
+};
 use version_records::every_record_seen_is_stored;
 
 /// A log begins with an engine of any state, by no entry. It goes on by each step that is lawful in a state that the engine holds
@@ -56,6 +58,24 @@ pub fn a_log_is_read_back_and_replayed()
     ensures replay { (opening : DatabaseState) (entries : List Entry) (engine : EngineState) (stream : KeptStream) → HasLogged opening entries engine stream → stream.from ≡ 0
         → (read : List Entry) (rest : List ℕ) → Holds stream.bytes read rest → AreLawful opening read × HoldsState engine (state_after_all opening read) }
 {
+    streams_are_read_back();
+}
+
+/// Any front of the bytes of a whole log, as a crash leaves it, is read back in one way: as the first of the entries, up to a rest
+/// that is cut from an entry or has no byte. These entries are a whole log of their own. So they are lawful in turn from the
+/// opening state, and an engine of that state that takes them holds the state after them.
+pub fn a_front_of_a_log_is_a_log_of_its_first_entries()
+    ensures read { (opening : DatabaseState) (entries : List Entry) (engine : EngineState) (stream : KeptStream) → HasLogged opening entries engine stream → stream.from ≡ 0
+        → (front behind : List ℕ) → stream.bytes ≡ front ++ behind → (read : List Entry) × (rest : List ℕ) × Holds front read rest }
+    ensures first { (opening : DatabaseState) (entries : List Entry) (engine : EngineState) (stream : KeptStream) → HasLogged opening entries engine stream → stream.from ≡ 0
+        → (front behind : List ℕ) → stream.bytes ≡ front ++ behind → (read : List Entry) (rest : List ℕ) → Holds front read rest → IsCutLog entries read rest }
+    ensures replay { (opening : DatabaseState) (entries : List Entry) (engine : EngineState) (stream : KeptStream) → HasLogged opening entries engine stream → stream.from ≡ 0
+        → (front behind : List ℕ) → stream.bytes ≡ front ++ behind → (read : List Entry) (rest : List ℕ) → Holds front read rest
+        → (first : EngineState) → HoldsState first opening → HasLogged opening read (engine_after_all first read) (whole_stream read) }
+{
+    a_lawful_entry_makes_the_next_state();
+    cut_bytes_begin_with_no_entry();
+    fronts_of_streams_hold_the_first();
     streams_are_read_back();
 }
 
