@@ -1,0 +1,6 @@
+//! Rows whose values of more than 255 bytes are kept apart: the values that a row takes, and those that it gives up.
+#![tactic(auto)]
+
+mod named;
+
+pub use named::{first_named, names};
