@@ -1,1 +1,3 @@
 pub mod NamedBytes
+pub mod Changed
+pub mod GivingUp

@@ -1,1 +1,3 @@
 pub mod NamedValues
+pub mod FirstValues
+pub mod ValuesChanged

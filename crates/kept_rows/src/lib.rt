@@ -2,5 +2,8 @@
 #![tactic(auto)]
 
 mod named;
+mod releasing;
+mod taking;
 
-pub use named::{first_named, names};
+pub use releasing::release_values;
+pub use taking::take_values;

@@ -96,7 +96,7 @@ any_named : (id : List ℕ) (given : List (List ℕ × List ℕ)) → among id g
 any_named id [] = refl
 any_named id (one ∷ given) = ap (λ (b : Bool). bytes_eq id one.0 || b) (any_named id given)
 
-named_with : (id bytes : List ℕ) (given : List (List ℕ × List ℕ)) (ids : List (List ℕ)) → map (λ one. one.0) given ≡ ids → map (λ one. one.0) (with_given id bytes given) ≡ with_identifier id ids
+pub named_with : (id bytes : List ℕ) (given : List (List ℕ × List ℕ)) (ids : List (List ℕ)) → map (λ one. one.0) given ≡ ids → map (λ one. one.0) (with_given id bytes given) ≡ with_identifier id ids
 named_with id bytes given ids e =
     by_test (among id given)
     (λ t.
