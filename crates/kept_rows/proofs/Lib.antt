@@ -1,3 +1,4 @@
 pub mod NamedBytes
 pub mod Changed
 pub mod GivingUp
+pub mod TakingAll

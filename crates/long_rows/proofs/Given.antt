@@ -92,7 +92,7 @@ not_given law found fresh at ((column, Apart entry own size) ∷ xs) [] kept pla
 
 -- ---- names
 
-any_named : (id : List ℕ) (given : List (List ℕ × List ℕ)) → among id given ≡ list_any (bytes_eq id) (map (λ one. one.0) given)
+pub any_named : (id : List ℕ) (given : List (List ℕ × List ℕ)) → among id given ≡ list_any (bytes_eq id) (map (λ one. one.0) given)
 any_named id [] = refl
 any_named id (one ∷ given) = ap (λ (b : Bool). bytes_eq id one.0 || b) (any_named id given)
 
