@@ -2,3 +2,5 @@ pub mod NamedBytes
 pub mod Changed
 pub mod GivingUp
 pub mod TakingAll
+pub mod WholeRow
+pub mod Shared

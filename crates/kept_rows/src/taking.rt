@@ -48,12 +48,7 @@ fn take_first(
 }
 
 /// Takes one reference to a long value. One that is not there is put with these bytes.
-fn take(
-    trees: &mut TableTrees,
-    table: TableId,
-    id: LongId,
-    bytes: &[u8],
-) -> Result<(), OutOfMemory>
+fn take(trees: &mut TableTrees, table: TableId, id: LongId, bytes: &[u8]) -> Result<(), OutOfMemory>
     requires table { has_table trees.old table.0 ≡ true }
     requires may { MayTake (table_long_values trees.old table.0) (id_bytes id, bytes.now) }
     ensures ok { OnOk result (HasLongValues table.0 (with_taken (table_long_values trees.old table.0) (id_bytes id, bytes.now)) trees.old trees.new) }

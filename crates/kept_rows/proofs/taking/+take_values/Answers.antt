@@ -71,7 +71,7 @@ returns-in-Ok-take_values-clause-ok t c =
     let all = all_taken c.args.row.now (option_map id_bytes c.in-Some-first_named.named) c.in-Some-first_named.rest.now bytes (values_left others c.args.fields.now) c.args.table.0 c.args.trees.now c.take_first.new.trees c.take_values.new.trees
     (λ e. never _ (c.in-Some-first_named.ensures.end e)) c.in-Some-first_named.ensures.value c.in-Ok.ensures.ok c.in-Ok-take_values.ensures.ok in
     subst (λ (l : List (List ℕ)). (xs : List (ℕ × RowValue)) → StandIn c.args.row.now xs → length xs ≡ length (values_left l c.args.fields.now)
-        → HasLongValues c.args.table.0 (with_all_taken (given_of xs (values_left l c.args.fields.now)) (table_long_values c.args.trees.now c.args.table.0)) c.args.trees.now c.take_values.new.trees) (sym split) all
+    → HasLongValues c.args.table.0 (with_all_taken (given_of xs (values_left l c.args.fields.now)) (table_long_values c.args.trees.now c.args.table.0)) c.args.trees.now c.take_values.new.trees) (sym split) all
 
 pub returns-in-Err-take_values-clause-err : goal.returns-in-Err-take_values-clause-err
 returns-in-Err-take_values-clause-err t c =
@@ -92,5 +92,5 @@ returns-in-None-first_named-clause-ok t c =
     let others = c.in-Some.others.now in
     let value = c.in-Some.value.now in
     subst (λ (l : List (List ℕ)). (xs : List (ℕ × RowValue)) → StandIn c.args.row.now xs → length xs ≡ length (values_left l c.args.fields.now)
-        → HasLongValues c.args.table.0 (with_all_taken (given_of xs (values_left l c.args.fields.now)) (table_long_values c.args.trees.now c.args.table.0)) c.args.trees.now c.args.trees.now) (sym c.in-Some.ensures.cases.0)
+    → HasLongValues c.args.table.0 (with_all_taken (given_of xs (values_left l c.args.fields.now)) (table_long_values c.args.trees.now c.args.table.0)) c.args.trees.now c.args.trees.now) (sym c.in-Some.ensures.cases.0)
     (none_taken c.args.row.now value (values_left others c.args.fields.now) c.args.table.0 c.args.trees.now (λ v behind may is. let h = c.in-None-first_named.ensures.value v behind may is in h))
