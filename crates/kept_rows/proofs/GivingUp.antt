@@ -1,17 +1,16 @@
 -- Values that are given up one after the other.
-use Rattle.std.proofs.Common.{◌≡◌, ◌≢◌, ℕ, ◌<◌, ◌≤◌, Bool, true, false, if◌then◌else◌, Option, Some, None, option_map, List, [], ◌∷◌, ◌++◌, refl, sym, ap, subst, ◌∙◌, arith, true≢false}
-use Rattle.std.specs.Prelude.{IsSome, bytes_eq, is_some}
+use Rattle.std.proofs.Common.{◌≡◌, ◌≢◌, ℕ, ◌<◌, ◌≤◌, Bool, true, false, if◌then◌else◌, Option, Some, option_map, List, [], ◌∷◌, ◌++◌, refl, sym, ap, subst, ◌∙◌, arith, true≢false}
+use Rattle.std.specs.Prelude.{IsSome, bytes_eq}
 use Rattle.std.specs.List.{flat_map, list_any}
 use Rattle.column_set.specs.declared.rows.RowValue.{RowValue}
 use Rattle.column_set.specs.declared.rows.RowValue.TheVariants.{Here, Apart}
 use Rattle.column_set.specs.Rows.{value_bytes}
 use Rattle.long_value.specs.Values.{LongValue, Values, value_of, without_reference}
-use Rattle.long_references.specs.RowReferences.{identifier, named_by, times_among, with_identifier}
+use Rattle.long_references.specs.RowReferences.{identifier, named_by, times_among}
 use Rattle.long_references.specs.ReferenceCounts.{with_all_released}
 use Rattle.long_references.proofs.Taken.{ValueLaws}
-use Rattle.long_references.proofs.Totals.{among-no, by_test, equal_bytes, itself}
+use Rattle.long_references.proofs.Totals.{among-no, by_test}
 use Rattle.long_rows.proofs.Named.{more_named, own_named}
-use Rattle.long_rows.proofs.Steps.{unequal}
 use Rattle.row_edit.specs.OtherValues.{MayStand, StandIn}
 use Rattle.long_value.specs.Stores.{id_bytes}
 use Rattle.long_value.specs.declared.values.LongId.{LongId}

@@ -1,5 +1,5 @@
 -- The value that is shared with one of a row.
-use Rattle.std.proofs.Common.{◌≡◌, ℕ, Bool, true, false, if◌then◌else◌, Option, Some, None, List, [], ◌∷◌, refl, sym, ap, ◌∙◌}
+use Rattle.std.proofs.Common.{◌≡◌, ℕ, Bool, if◌then◌else◌, Option, Some, None, List, [], ◌∷◌, refl, sym, ap, ◌∙◌}
 use Rattle.column_set.specs.Rows.{RowFields, apart_at}
 use Rattle.long_value.specs.Values.{Values, value_of}
 use Rattle.long_references.specs.RowReferences.{identifier}

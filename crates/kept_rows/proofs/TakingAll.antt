@@ -1,5 +1,5 @@
 -- Values that are taken one after the other.
-use Rattle.std.proofs.Common.{◌≡◌, ◌≢◌, ℕ, suc, ◌<◌, Bool, true, false, if◌then◌else◌, Option, Some, None, option_map, List, [], ◌∷◌, ◌++◌, length, map, refl, sym, ap, subst, ◌∙◌, arith, true≢false}
+use Rattle.std.proofs.Common.{◌≡◌, ◌≢◌, ℕ, suc, Bool, true, false, if◌then◌else◌, Option, Some, None, List, [], ◌∷◌, ◌++◌, length, map, refl, sym, ap, subst, ◌∙◌, arith, true≢false}
 use Rattle.std.specs.Prelude.{IsSome, bytes_eq, is_some}
 use Rattle.std.specs.List.{AllByRecursion, flat_map, list_any}
 use Rattle.column_set.specs.declared.rows.RowValue.{RowValue}
@@ -9,8 +9,8 @@ use Rattle.long_value.specs.Values.{AreLong, LongValue, Values, put_value, value
 use Rattle.long_references.specs.RowReferences.{identifier, named_by}
 use Rattle.long_references.specs.ReferenceCounts.{with_all_taken, with_taken}
 use Rattle.long_references.proofs.Taken.{ValueLaws}
-use Rattle.long_references.proofs.Totals.{by_test, equal_bytes, itself}
-use Rattle.long_rows.specs.KeptRows.{MayTake, Takes, given_by}
+use Rattle.long_references.proofs.Totals.{by_test, itself}
+use Rattle.long_rows.specs.KeptRows.{MayTake, Takes}
 use Rattle.long_rows.proofs.Given.{added, among, any_named, named_with, there}
 use Rattle.long_rows.proofs.InUse.{given_back}
 use Rattle.long_rows.proofs.Reading.{taken_beside}
@@ -19,7 +19,7 @@ use Rattle.table_trees.specs.StoredTables.{StoredTable, has_table, table_long_va
 use Rattle.kept_rows.specs.FirstValues.{CanGiveUp, CanTake, with_first, without_first}
 use Rattle.kept_rows.specs.NamedValues.{given_of, name_of}
 use Rattle.kept_rows.specs.ValuesChanged.{HasLongValues}
-use Rattle.kept_rows.proofs.Changed.{ChangeLaw, changed, same, then_has}
+use Rattle.kept_rows.proofs.Changed.{ChangeLaw, changed, then_has}
 use Rattle.kept_rows.proofs.NamedBytes.{Told}
 
 -- ---- one value

@@ -1,5 +1,5 @@
 -- What becomes of the long values of a table as the first of some values of a row is taken or given up.
-use Rattle.std.specs.Prelude.{◌≡◌, Bool, false, List, Option, Some, None, IsSome, if◌then◌else◌, bytes_eq, ℕ}
+use Rattle.std.specs.Prelude.{◌≡◌, false, List, Option, Some, None, IsSome, if◌then◌else◌, bytes_eq, ℕ}
 use Rattle.std.specs.List.{list_any}
 use Rattle.long_value.specs.Values.{Values, value_of, without_reference}
 use Rattle.long_references.specs.ReferenceCounts.{with_taken}

@@ -1,4 +1,3 @@
-use Rattle.std.proofs.Common.{◌≡◌, ℕ, refl}
 use Rattle.kept_rows.proofs.NamedBytes.{named_is}
 use Rattle.kept_rows.proofs.named.named.Goals as goal
 

@@ -1,4 +1,4 @@
-use Rattle.std.proofs.Common.{◌≡◌, Option, Some, None, arith}
+use Rattle.std.proofs.Common.{◌≡◌, Some, None, arith}
 use Rattle.std.specs.Option.{option_map}
 use Rattle.long_references.proofs.Taken.{ValueLaws}
 use Rattle.long_value.specs.Stores.{id_bytes}

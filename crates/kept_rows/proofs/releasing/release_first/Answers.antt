@@ -1,4 +1,4 @@
-use Rattle.std.proofs.Common.{◌≡◌, false, sym, ◌∙◌}
+use Rattle.std.proofs.Common.{sym, ◌∙◌}
 use Rattle.long_references.specs.RowReferences.{named_by}
 use Rattle.kept_rows.proofs.GivingUp.{first_released}
 use Rattle.kept_rows.proofs.releasing.release_first.Goals as goal

@@ -1,4 +1,4 @@
-use Rattle.std.proofs.Common.{◌≡◌, Option, Some, None, List, ℕ, ◌∷◌, sym, ap, subst, ◌∙◌, arith, length}
+use Rattle.std.proofs.Common.{◌≡◌, Some, None, List, ℕ, ◌∷◌, sym, ap, subst, ◌∙◌, arith, length}
 use Rattle.std.specs.Option.{option_map}
 use Rattle.column_set.specs.declared.rows.RowValue.{RowValue}
 use Rattle.long_value.specs.Stores.{id_bytes}

@@ -1,4 +1,4 @@
-use Rattle.std.proofs.Common.{◌≡◌, Bool, Option, Some, None, if◌then◌else◌, ℕ, sym, ap, ◌∙◌}
+use Rattle.std.proofs.Common.{Bool, Some, None, if◌then◌else◌, sym, ap, ◌∙◌}
 use Rattle.column_set.specs.RowReading.{row_in}
 use Rattle.table_trees.specs.StoredTables.{table_long_values}
 use Rattle.kept_rows.proofs.Shared.{shared_found, shared_missing}
