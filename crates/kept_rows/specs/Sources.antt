@@ -19,7 +19,7 @@ place_of id = (id.entry, id.place)
 
 abbrev pub found_in : Sources → Found
 found_in sources = record {
-  values = table_long_values sources.trees.now sources.table.0;
+  values = table_long_values sources.trees.now.tables sources.table.0;
   rows = row_given (option_copied sources.before) ++ row_given (option_copied sources.copied);
   number = sources.number;
 }

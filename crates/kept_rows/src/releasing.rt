@@ -19,9 +19,10 @@ use table_trees::{TableTrees, long_values_after_a_change};
 
 /// Gives up one reference to the long value that is named, if one is, unless the values behind name it too. It takes no memory.
 pub fn release_first(trees: &mut TableTrees, table: TableId, named: Option<LongId>, rest: &[u8])
-    requires table { has_table trees.old table.0 ≡ true }
-    requires there { (xs : List (ℕ × RowValue)) × StandIn rest.now xs × CanGiveUp (option_map id_bytes named) (named_by xs) (table_long_values trees.old table.0) }
-    ensures { (xs : List (ℕ × RowValue)) → StandIn rest.now xs → HasLongValues table.0 (without_first (option_map id_bytes named) (named_by xs) (table_long_values trees.old table.0)) trees.old trees.new }
+    requires table { has_table trees.old.tables table.0 ≡ true }
+    requires there { (xs : List (ℕ × RowValue)) × StandIn rest.now xs × CanGiveUp (option_map id_bytes named) (named_by xs) (table_long_values trees.old.tables table.0) }
+    ensures tables { (xs : List (ℕ × RowValue)) → StandIn rest.now xs → HasLongValues table.0 (without_first (option_map id_bytes named) (named_by xs) (table_long_values trees.old.tables table.0)) trees.old.tables trees.new.tables }
+    ensures catalog { trees.new.catalog ≡ trees.old.catalog }
 {
     long_values_after_a_change();
     if let Some(id) = named {
@@ -33,9 +34,10 @@ pub fn release_first(trees: &mut TableTrees, table: TableId, named: Option<LongI
 
 /// Gives up one reference to each long value that some values of a row name. It takes no memory.
 pub fn release_values(trees: &mut TableTrees, table: TableId, values: &[u8])
-    requires table { has_table trees.old table.0 ≡ true }
-    requires there { (xs : List (ℕ × RowValue)) × StandIn values.now xs × ((id : List ℕ) → 0 < times_among id (named_by xs) → IsSome (value_of id (table_long_values trees.old table.0))) }
-    ensures { (xs : List (ℕ × RowValue)) → StandIn values.now xs → HasLongValues table.0 (with_all_released (named_by xs) (table_long_values trees.old table.0)) trees.old trees.new }
+    requires table { has_table trees.old.tables table.0 ≡ true }
+    requires there { (xs : List (ℕ × RowValue)) × StandIn values.now xs × ((id : List ℕ) → 0 < times_among id (named_by xs) → IsSome (value_of id (table_long_values trees.old.tables table.0))) }
+    ensures tables { (xs : List (ℕ × RowValue)) → StandIn values.now xs → HasLongValues table.0 (with_all_released (named_by xs) (table_long_values trees.old.tables table.0)) trees.old.tables trees.new.tables }
+    ensures catalog { trees.new.catalog ≡ trees.old.catalog }
 {
     references_after_a_change();
     values_after_a_change();

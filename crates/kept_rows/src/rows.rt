@@ -23,10 +23,11 @@ const COUNT_BYTES: usize = 2;
 /// Gives up one reference to each long value of a table that a row names, however often it does. A value that has no other
 /// reference is gone then. It takes no memory.
 pub fn release_row(trees: &mut TableTrees, table: TableId, row: &[u8])
-    requires table { has_table trees.old table.0 ≡ true }
+    requires table { has_table trees.old.tables table.0 ≡ true }
     requires row { IsRowBytes row.now }
-    requires there { (id : List ℕ) → 0 < references id (Some (row_in row.now)) → IsSome (value_of id (table_long_values trees.old table.0)) }
-    ensures { HasLongValues table.0 (with_all_released (identifiers (Some (row_in row.now))) (table_long_values trees.old table.0)) trees.old trees.new }
+    requires there { (id : List ℕ) → 0 < references id (Some (row_in row.now)) → IsSome (value_of id (table_long_values trees.old.tables table.0)) }
+    ensures tables { HasLongValues table.0 (with_all_released (identifiers (Some (row_in row.now))) (table_long_values trees.old.tables table.0)) trees.old.tables trees.new.tables }
+    ensures catalog { trees.new.catalog ≡ trees.old.catalog }
 {
     rows_are_read_back();
     release_values(trees, table, &row[COUNT_BYTES..]);
@@ -41,12 +42,13 @@ pub fn take_row(
     row: &[u8],
     values: &Record,
 ) -> Result<(), OutOfMemory>
-    requires table { has_table trees.old table.0 ≡ true }
+    requires table { has_table trees.old.tables table.0 ≡ true }
     requires row { IsRowBytes row.now }
     requires form { IsTrue (is_row_of (row_in row.now) values.now) }
-    requires may { AllByRecursion (MayTake (table_long_values trees.old table.0)) (given_values (row_in row.now) values.now) }
-    ensures ok { OnOk result (HasLongValues table.0 (with_all_taken (given_values (row_in row.now) values.now) (table_long_values trees.old table.0)) trees.old trees.new) }
-    ensures err { OnErr result (HasLongValues table.0 (table_long_values trees.old table.0) trees.old trees.new) }
+    requires may { AllByRecursion (MayTake (table_long_values trees.old.tables table.0)) (given_values (row_in row.now) values.now) }
+    ensures ok { OnOk result (HasLongValues table.0 (with_all_taken (given_values (row_in row.now) values.now) (table_long_values trees.old.tables table.0)) trees.old.tables trees.new.tables) }
+    ensures err { OnErr result (HasLongValues table.0 (table_long_values trees.old.tables table.0) trees.old.tables trees.new.tables) }
+    ensures catalog { trees.new.catalog ≡ trees.old.catalog }
 {
     rows_are_read_back();
     take_values(trees, table, &row[COUNT_BYTES..], &[], values.fields())

@@ -56,7 +56,7 @@ impl<'a> Sources<'a> {
         value: &[u8],
     ) -> Option<LongId>
         requires { IfSome (option_copied row) IsRowBytes }
-        ensures { option_map place_of result ≡ shared_in (table_long_values self.now.trees.now self.now.table.0) (row_given (option_copied row.entry)) column.0 at value.now }
+        ensures { option_map place_of result ≡ shared_in (table_long_values self.now.trees.now.tables self.now.table.0) (row_given (option_copied row.entry)) column.0 at value.now }
     {
         match row {
             Some(bytes) => self.shared_in_bytes(bytes, column, at, value),
@@ -73,7 +73,7 @@ impl<'a> Sources<'a> {
         value: &[u8],
     ) -> Option<LongId>
         requires { IsRowBytes row.now }
-        ensures { option_map place_of result ≡ shared_in (table_long_values self.now.trees.now self.now.table.0) (row_in row.now ∷ []) column.0 at value.now }
+        ensures { option_map place_of result ≡ shared_in (table_long_values self.now.trees.now.tables self.now.table.0) (row_in row.now ∷ []) column.0 at value.now }
     {
         rows_are_read_back();
         match RowRef::new(row).apart(column, at) {
@@ -91,7 +91,7 @@ impl<'a> Sources<'a> {
 
     /// Whether a value is there with these bytes and takes one reference more.
     fn may_share(&self, id: LongId, value: &[u8]) -> bool
-        ensures { result ≡ may_share value.now (value_of (id_bytes id) (table_long_values self.now.trees.now self.now.table.0)) }
+        ensures { result ≡ may_share value.now (value_of (id_bytes id) (table_long_values self.now.trees.now.tables self.now.table.0)) }
     {
         if !self.trees.has_long(self.table, id) {
             return false;

@@ -30,10 +30,11 @@ fn take_first(
     rest: &[u8],
     bytes: &[u8],
 ) -> Result<(), OutOfMemory>
-    requires table { has_table trees.old table.0 ≡ true }
-    requires may { (xs : List (ℕ × RowValue)) × StandIn rest.now xs × CanTake (option_map id_bytes named) (named_by xs) bytes.now (table_long_values trees.old table.0) }
-    ensures ok { OnOk result ((xs : List (ℕ × RowValue)) → StandIn rest.now xs → HasLongValues table.0 (with_first (option_map id_bytes named) (named_by xs) bytes.now (table_long_values trees.old table.0)) trees.old trees.new) }
-    ensures err { OnErr result (trees.new ≡ trees.old) }
+    requires table { has_table trees.old.tables table.0 ≡ true }
+    requires may { (xs : List (ℕ × RowValue)) × StandIn rest.now xs × CanTake (option_map id_bytes named) (named_by xs) bytes.now (table_long_values trees.old.tables table.0) }
+    ensures ok { OnOk result ((xs : List (ℕ × RowValue)) → StandIn rest.now xs → HasLongValues table.0 (with_first (option_map id_bytes named) (named_by xs) bytes.now (table_long_values trees.old.tables table.0)) trees.old.tables trees.new.tables) }
+    ensures err { OnErr result (trees.new.tables ≡ trees.old.tables) }
+    ensures catalog { trees.new.catalog ≡ trees.old.catalog }
 {
     match named {
         Some(id) => {
@@ -49,10 +50,11 @@ fn take_first(
 
 /// Takes one reference to a long value. One that is not there is put with these bytes.
 fn take(trees: &mut TableTrees, table: TableId, id: LongId, bytes: &[u8]) -> Result<(), OutOfMemory>
-    requires table { has_table trees.old table.0 ≡ true }
-    requires may { MayTake (table_long_values trees.old table.0) (id_bytes id, bytes.now) }
-    ensures ok { OnOk result (HasLongValues table.0 (with_taken (table_long_values trees.old table.0) (id_bytes id, bytes.now)) trees.old trees.new) }
-    ensures err { OnErr result (trees.new ≡ trees.old) }
+    requires table { has_table trees.old.tables table.0 ≡ true }
+    requires may { MayTake (table_long_values trees.old.tables table.0) (id_bytes id, bytes.now) }
+    ensures ok { OnOk result (HasLongValues table.0 (with_taken (table_long_values trees.old.tables table.0) (id_bytes id, bytes.now)) trees.old.tables trees.new.tables) }
+    ensures err { OnErr result (trees.new.tables ≡ trees.old.tables) }
+    ensures catalog { trees.new.catalog ≡ trees.old.catalog }
 {
     long_values_after_a_change();
     if trees.has_long(table, id) {
@@ -73,10 +75,11 @@ pub fn take_values(
     values: &[Octets],
     fields: &[Field],
 ) -> Result<(), OutOfMemory>
-    requires table { has_table trees.old table.0 ≡ true }
-    requires may { (xs : List (ℕ × RowValue)) × StandIn row.now xs × (length xs ≡ length (values_left values.now fields.now)) × AllByRecursion (MayTake (table_long_values trees.old table.0)) (given_of xs (values_left values.now fields.now)) }
-    ensures ok { OnOk result ((xs : List (ℕ × RowValue)) → StandIn row.now xs → length xs ≡ length (values_left values.now fields.now) → HasLongValues table.0 (with_all_taken (given_of xs (values_left values.now fields.now)) (table_long_values trees.old table.0)) trees.old trees.new) }
-    ensures err { OnErr result (HasLongValues table.0 (table_long_values trees.old table.0) trees.old trees.new) }
+    requires table { has_table trees.old.tables table.0 ≡ true }
+    requires may { (xs : List (ℕ × RowValue)) × StandIn row.now xs × (length xs ≡ length (values_left values.now fields.now)) × AllByRecursion (MayTake (table_long_values trees.old.tables table.0)) (given_of xs (values_left values.now fields.now)) }
+    ensures ok { OnOk result ((xs : List (ℕ × RowValue)) → StandIn row.now xs → length xs ≡ length (values_left values.now fields.now) → HasLongValues table.0 (with_all_taken (given_of xs (values_left values.now fields.now)) (table_long_values trees.old.tables table.0)) trees.old.tables trees.new.tables) }
+    ensures err { OnErr result (HasLongValues table.0 (table_long_values trees.old.tables table.0) trees.old.tables trees.new.tables) }
+    ensures catalog { trees.new.catalog ≡ trees.old.catalog }
 {
     references_after_a_change();
     values_after_a_change();

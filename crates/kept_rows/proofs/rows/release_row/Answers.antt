@@ -6,5 +6,5 @@ use Rattle.kept_rows.proofs.rows.release_row.Goals as goal
 pub release_values-requires-clause-there : goal.release_values-requires-clause-there
 release_values-requires-clause-there c = (values_in_order (row_in c.args.row.now), row_stands c.rows_are_read_back.ensures c.args.row.now c.requires.row, c.requires.there)
 
-pub returns : goal.returns
-returns c = c.release_values.ensures (values_in_order (row_in c.args.row.now)) (row_stands c.rows_are_read_back.ensures c.args.row.now c.requires.row)
+pub returns-clause-tables : goal.returns-clause-tables
+returns-clause-tables c = c.release_values.ensures.tables (values_in_order (row_in c.args.row.now)) (row_stands c.rows_are_read_back.ensures c.args.row.now c.requires.row)

@@ -17,16 +17,16 @@ on_ok (Err y) f a = tt
 
 pub take_values-requires-clause-may : goal.take_values-requires-clause-may
 take_values-requires-clause-may c =
-    subst (λ (f : RecordFields). MayAll (take (length c.args.row.now - 2) (drop 2 c.args.row.now)) (values_left [] f) (table_long_values c.args.trees.now c.args.table.0)) (sym c.fields.ensures.fields)
-    (may_left c.rows_are_read_back.ensures c.args.row.now c.args.values.now (table_long_values c.args.trees.now c.args.table.0) c.requires.row c.requires.form c.requires.may)
+    subst (λ (f : RecordFields). MayAll (take (length c.args.row.now - 2) (drop 2 c.args.row.now)) (values_left [] f) (table_long_values c.args.trees.now.tables c.args.table.0)) (sym c.fields.ensures.fields)
+    (may_left c.rows_are_read_back.ensures c.args.row.now c.args.values.now (table_long_values c.args.trees.now.tables c.args.table.0) c.requires.row c.requires.form c.requires.may)
 
 pub returns-clause-ok : goal.returns-clause-ok
 returns-clause-ok c =
     let row = row_in c.args.row.now in
     let fields = c.args.values.now in
-    let values = table_long_values c.args.trees.now c.args.table.0 in
+    let values = table_long_values c.args.trees.now.tables c.args.table.0 in
     let same : given_of (values_in_order row) (values_left [] c.fields.result.now) ≡ given_of (values_in_order row) (values_left [] fields) = ap (λ (f : RecordFields). given_of (values_in_order row) (values_left [] f)) c.fields.ensures.fields in
     on_ok c.take_values.result
-    (λ all. subst (λ (l : List (List ℕ × List ℕ)). HasLongValues c.args.table.0 (with_all_taken l values) c.args.trees.now c.take_values.new.trees) (same ∙ given_left row fields)
+    (λ all. subst (λ (l : List (List ℕ × List ℕ)). HasLongValues c.args.table.0 (with_all_taken l values) c.args.trees.now.tables c.take_values.new.trees.tables) (same ∙ given_left row fields)
     (all (values_in_order row) (row_stands c.rows_are_read_back.ensures c.args.row.now c.requires.row) (count_left row fields c.requires.form ∙ sym (ap (λ (f : RecordFields). length (values_left [] f)) c.fields.ensures.fields))))
     c.take_values.ensures.ok

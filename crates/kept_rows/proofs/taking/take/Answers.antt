@@ -13,10 +13,10 @@ pub returns-then-has_long-clause-ok : goal.returns-then-has_long-clause-ok
 returns-then-has_long-clause-ok c =
     let law = c.long_values_after_a_change.ensures in
     let own : ChangeLaw = record { named = law.named; others = law.others; nodes = law.nodes; indexes = law.indexes } in
-    take_shared own c.args.table.0 (id_bytes c.args.id, c.args.bytes.now) c.args.trees.now c.share_long.new.self c.requires.table (sym c.has_long.ensures ∙ c.if-has_long.true) c.share_long.ensures
+    take_shared own c.args.table.0 (id_bytes c.args.id, c.args.bytes.now) c.args.trees.now.tables c.share_long.new.self.tables c.requires.table (sym c.has_long.ensures ∙ c.if-has_long.true) c.share_long.ensures.tables
 
 pub returns-else-has_long-clause-ok : goal.returns-else-has_long-clause-ok
 returns-else-has_long-clause-ok c =
     let law = c.long_values_after_a_change.ensures in
     let own : ChangeLaw = record { named = law.named; others = law.others; nodes = law.nodes; indexes = law.indexes } in
-    on_ok c.put_long.result (take_put own c.args.table.0 (id_bytes c.args.id, c.args.bytes.now) c.args.trees.now c.put_long.new.self c.requires.table (sym c.has_long.ensures ∙ c.if-has_long.false)) c.put_long.ensures.ok
+    on_ok c.put_long.result (take_put own c.args.table.0 (id_bytes c.args.id, c.args.bytes.now) c.args.trees.now.tables c.put_long.new.self.tables c.requires.table (sym c.has_long.ensures ∙ c.if-has_long.false)) c.put_long.ensures.ok
