@@ -92,11 +92,11 @@ not_given law found fresh at ((column, Apart entry own size) ∷ xs) [] kept pla
 
 -- ---- names
 
-any_named : (id : List ℕ) (given : List (List ℕ × List ℕ)) → among id given ≡ list_any (bytes_eq id) (map (λ one. one.0) given)
+pub any_named : (id : List ℕ) (given : List (List ℕ × List ℕ)) → among id given ≡ list_any (bytes_eq id) (map (λ one. one.0) given)
 any_named id [] = refl
 any_named id (one ∷ given) = ap (λ (b : Bool). bytes_eq id one.0 || b) (any_named id given)
 
-named_with : (id bytes : List ℕ) (given : List (List ℕ × List ℕ)) (ids : List (List ℕ)) → map (λ one. one.0) given ≡ ids → map (λ one. one.0) (with_given id bytes given) ≡ with_identifier id ids
+pub named_with : (id bytes : List ℕ) (given : List (List ℕ × List ℕ)) (ids : List (List ℕ)) → map (λ one. one.0) given ≡ ids → map (λ one. one.0) (with_given id bytes given) ≡ with_identifier id ids
 named_with id bytes given ids e =
     by_test (among id given)
     (λ t.

@@ -46,7 +46,7 @@ AreKept found at (x ∷ xs) [] = ⊥
 
 -- ---- a value that is shared
 
-and_four : (a b c d : Bool) → (a && b && c && d) ≡ true → (a ≡ true) × (b ≡ true) × (c ≡ true) × (d ≡ true)
+pub and_four : (a b c d : Bool) → (a && b && c && d) ≡ true → (a ≡ true) × (b ≡ true) × (c ≡ true) × (d ≡ true)
 and_four true true true true e = (refl, refl, refl, refl)
 and_four true true true false e = absurd (true≢false (sym e))
 and_four true true false d e = absurd (true≢false (sym e))

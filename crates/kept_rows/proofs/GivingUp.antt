@@ -1,0 +1,115 @@
+-- Values that are given up one after the other.
+use Rattle.std.proofs.Common.{◌≡◌, ◌≢◌, ℕ, ◌<◌, ◌≤◌, Bool, true, false, if◌then◌else◌, Option, Some, option_map, List, [], ◌∷◌, ◌++◌, refl, sym, ap, subst, ◌∙◌, arith, true≢false}
+use Rattle.std.specs.Prelude.{IsSome, bytes_eq}
+use Rattle.std.specs.List.{flat_map, list_any}
+use Rattle.column_set.specs.declared.rows.RowValue.{RowValue}
+use Rattle.column_set.specs.declared.rows.RowValue.TheVariants.{Here, Apart}
+use Rattle.column_set.specs.Rows.{value_bytes}
+use Rattle.long_value.specs.Values.{LongValue, Values, value_of, without_reference}
+use Rattle.long_references.specs.RowReferences.{identifier, named_by, times_among}
+use Rattle.long_references.specs.ReferenceCounts.{with_all_released}
+use Rattle.long_references.proofs.Taken.{ValueLaws}
+use Rattle.long_references.proofs.Totals.{among-no, by_test}
+use Rattle.long_rows.proofs.Named.{more_named, own_named}
+use Rattle.row_edit.specs.OtherValues.{MayStand, StandIn}
+use Rattle.long_value.specs.Stores.{id_bytes}
+use Rattle.long_value.specs.declared.values.LongId.{LongId}
+use Rattle.table_trees.specs.StoredTables.{StoredTable, has_table, table_long_values, with_long_values}
+use Rattle.kept_rows.specs.FirstValues.{CanGiveUp, without_first}
+use Rattle.kept_rows.specs.NamedValues.{name_of}
+use Rattle.kept_rows.specs.ValuesChanged.{HasLongValues}
+use Rattle.kept_rows.proofs.Changed.{ChangeLaw, changed, same, then_has}
+use Rattle.kept_rows.proofs.NamedBytes.{Told}
+
+-- all values are given up where the first one is, and then the others
+pub first_then_others : (x : ℕ × RowValue) (xs : List (ℕ × RowValue)) (values : Values) → with_all_released (named_by xs) (without_first (name_of x.1) (named_by xs) values) ≡ with_all_released (named_by (x ∷ xs)) values
+first_then_others (column, Here bytes) xs values = refl
+first_then_others (column, Apart entry place size) xs values =
+    let id = identifier entry place in
+    by_test (list_any (bytes_eq id) (named_by xs))
+    (λ t. ap (λ (b : Bool). with_all_released (named_by xs) (if b then values else without_reference id values)) t ∙ sym (ap (λ (b : Bool). with_all_released (if b then named_by xs else id ∷ named_by xs) values) t))
+    (λ f. ap (λ (b : Bool). with_all_released (named_by xs) (if b then values else without_reference id values)) f ∙ sym (ap (λ (b : Bool). with_all_released (if b then named_by xs else id ∷ named_by xs) values) f))
+
+-- what is there of the values that are named
+abbrev pub AreThere : List (ℕ × RowValue) → Values → Type 0
+AreThere xs values = (id : List ℕ) → 0 < times_among id (named_by xs) → IsSome (value_of id values)
+
+pub first_there : (x : ℕ × RowValue) (xs : List (ℕ × RowValue)) (values : Values) → AreThere (x ∷ xs) values → CanGiveUp (name_of x.1) (named_by xs) values
+first_there (column, Here bytes) xs values there = tt
+first_there (column, Apart entry place size) xs values there = λ f. there (identifier entry place) (own_named (identifier entry place) (named_by xs))
+
+later_there : (x : ℕ × RowValue) (xs : List (ℕ × RowValue)) (id : List ℕ) → times_among id (named_by xs) ≤ times_among id (named_by (x ∷ xs))
+later_there (column, Here bytes) xs id = omega arith
+later_there (column, Apart entry place size) xs id = more_named id (identifier entry place) (named_by xs)
+
+none_named : (id : List ℕ) (ids : List (List ℕ)) → list_any (bytes_eq id) ids ≡ false → 0 < times_among id ids → ⊥
+none_named id [] f lt = omega (arith, lt)
+none_named id (x ∷ ids) f lt =
+    by_test (bytes_eq id x)
+    (λ t. absurd (true≢false (rw t at f)))
+    (λ n. let same = among-no id x ids n in none_named id ids (rw n at f) (omega (arith, lt, same)))
+
+pub others_there : ValueLaws → (x : ℕ × RowValue) (xs : List (ℕ × RowValue)) (values : Values) → AreThere (x ∷ xs) values → AreThere xs (without_first (name_of x.1) (named_by xs) values)
+others_there laws (column, Here bytes) xs values there = there
+others_there laws (column, Apart entry place size) xs values there = λ k lt.
+    let id = identifier entry place in
+    let more = later_there (column, Apart entry place size) xs k in
+    let was : IsSome (value_of k values) = there k (omega (arith, lt, more)) in
+    by_test (list_any (bytes_eq id) (named_by xs))
+    (λ t. subst (λ (b : Bool). IsSome (value_of k (if b then values else without_reference id values))) (sym t) was)
+    (λ f.
+    let apart : k ≢ id = λ e. none_named id (named_by xs) f (subst (λ (i : List ℕ). 0 < times_among i (named_by xs)) e lt) in
+    subst (λ (b : Bool). IsSome (value_of k (if b then values else without_reference id values))) (sym f)
+    (subst (λ (o : Option LongValue). IsSome o) (sym (laws.less_beside values id k apart)) was))
+
+-- ---- the calls
+
+pub first_released : ChangeLaw → (table : ℕ) (named : Option LongId) (id : LongId) (ids : List (List ℕ)) (old new : List StoredTable) → named ≡ Some id → list_any (bytes_eq (id_bytes id)) ids ≡ false → has_table old table ≡ true
+    → new ≡ with_long_values table (without_reference (id_bytes id) (table_long_values old table)) old → HasLongValues table (without_first (option_map id_bytes named) ids (table_long_values old table)) old new
+first_released law table named id ids old new is apart there changed_to =
+    let values = table_long_values old table in
+    let less : without_first (option_map id_bytes named) ids values ≡ without_reference (id_bytes id) values =
+    ap (λ (o : Option LongId). without_first (option_map id_bytes o) ids values) is ∙ ap (λ (b : Bool). if b then values else without_reference (id_bytes id) values) apart in
+    subst (λ (v : Values). HasLongValues table v old new) (sym less) (changed law table (without_reference (id_bytes id) values) old new there changed_to)
+
+pub first_can : (values : List ℕ) (named : Option (List ℕ)) (rest : List ℕ) (v : Values) → (values ≡ [] → ⊥) → Told values named rest → ((xs : List (ℕ × RowValue)) × StandIn values xs × AreThere xs v) → (ys : List (ℕ × RowValue)) × StandIn rest ys × CanGiveUp named (named_by ys) v
+first_can values named rest v some told has = by has.0 has.1 has.2
+  where
+    by : (xs : List (ℕ × RowValue)) → StandIn values xs → AreThere xs v → (ys : List (ℕ × RowValue)) × StandIn rest ys × CanGiveUp named (named_by ys) v
+    by [] stand there = absurd (some stand.spelled)
+    by (x ∷ xs) stand there =
+        let is = told x (flat_map value_bytes xs) stand.fit.0 stand.spelled in
+        (xs, record { fit = stand.fit.1; spelled = is.1 }, subst (λ (o : Option (List ℕ)). CanGiveUp o (named_by xs) v) (sym is.0) (first_there x xs v there))
+
+pub others_can : ValueLaws → (values : List ℕ) (named : Option (List ℕ)) (rest : List ℕ) (table : ℕ) (old new : List StoredTable) → (values ≡ [] → ⊥) → Told values named rest → ((xs : List (ℕ × RowValue)) × StandIn values xs × AreThere xs (table_long_values old table))
+    → ((ys : List (ℕ × RowValue)) → StandIn rest ys → HasLongValues table (without_first named (named_by ys) (table_long_values old table)) old new)
+    → (ys : List (ℕ × RowValue)) × StandIn rest ys × AreThere ys (table_long_values new table)
+others_can laws values named rest table old new some told has gave = by has.0 has.1 has.2
+  where
+    by : (xs : List (ℕ × RowValue)) → StandIn values xs → AreThere xs (table_long_values old table) → (ys : List (ℕ × RowValue)) × StandIn rest ys × AreThere ys (table_long_values new table)
+    by [] stand there = absurd (some stand.spelled)
+    by (x ∷ xs) stand there =
+        let is = told x (flat_map value_bytes xs) stand.fit.0 stand.spelled in
+        let st : StandIn rest xs = record { fit = stand.fit.1; spelled = is.1 } in
+        let now : table_long_values new table ≡ without_first (name_of x.1) (named_by xs) (table_long_values old table) =
+        (gave xs st).named ∙ ap (λ (o : Option (List ℕ)). without_first o (named_by xs) (table_long_values old table)) is.0 in
+        (xs, st, subst (AreThere xs) (sym now) (others_there laws x xs (table_long_values old table) there))
+
+pub all_released : (values : List ℕ) (named : Option (List ℕ)) (rest : List ℕ) (table : ℕ) (old mid new : List StoredTable) → (values ≡ [] → ⊥) → Told values named rest
+    → ((ys : List (ℕ × RowValue)) → StandIn rest ys → HasLongValues table (without_first named (named_by ys) (table_long_values old table)) old mid)
+    → ((ys : List (ℕ × RowValue)) → StandIn rest ys → HasLongValues table (with_all_released (named_by ys) (table_long_values mid table)) mid new)
+    → (xs : List (ℕ × RowValue)) → StandIn values xs → HasLongValues table (with_all_released (named_by xs) (table_long_values old table)) old new
+all_released values named rest table old mid new some told first others [] stand = absurd (some stand.spelled)
+all_released values named rest table old mid new some told first others (x ∷ xs) stand =
+    let is = told x (flat_map value_bytes xs) stand.fit.0 stand.spelled in
+    let st : StandIn rest xs = record { fit = stand.fit.1; spelled = is.1 } in
+    let one = first xs st in
+    let v = table_long_values old table in
+    let all : with_all_released (named_by xs) (table_long_values mid table) ≡ with_all_released (named_by (x ∷ xs)) v =
+    ap (with_all_released (named_by xs)) (one.named ∙ ap (λ (o : Option (List ℕ)). without_first o (named_by xs) v) is.0) ∙ first_then_others x xs v in
+    subst (λ (w : Values). HasLongValues table w old new) all (then_has table (without_first named (named_by xs) v) (with_all_released (named_by xs) (table_long_values mid table)) old mid new one (others xs st))
+
+pub none_released : (values : List ℕ) (table : ℕ) (old : List StoredTable) → ((value : ℕ × RowValue) (behind : List ℕ) → MayStand value → values ≡ value_bytes value ++ behind → ⊥) → (xs : List (ℕ × RowValue)) → StandIn values xs
+    → HasLongValues table (with_all_released (named_by xs) (table_long_values old table)) old old
+none_released values table old none [] stand = same table old
+none_released values table old none (x ∷ xs) stand = absurd (none x (flat_map value_bytes xs) stand.fit.0 stand.spelled)

@@ -1,0 +1,6 @@
+pub mod NamedBytes
+pub mod Changed
+pub mod GivingUp
+pub mod TakingAll
+pub mod WholeRow
+pub mod Shared

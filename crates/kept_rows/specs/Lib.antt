@@ -1,0 +1,4 @@
+pub mod NamedValues
+pub mod FirstValues
+pub mod ValuesChanged
+pub mod Sources

@@ -1,0 +1,51 @@
+//! The values that a row gives up.
+
+ghost use Rattle.std.specs.Prelude.{◌≡◌, ◌<◌, ℕ, List, true, Some, IsSome};
+ghost use Rattle.std.specs.Option.{option_map};
+ghost use Rattle.column_set.specs.declared.rows.RowValue.{RowValue};
+ghost use Rattle.long_value.specs.Stores.{id_bytes};
+ghost use Rattle.long_value.specs.Values.{value_of};
+ghost use Rattle.long_references.specs.RowReferences.{named_by, times_among};
+ghost use Rattle.long_references.specs.ReferenceCounts.{with_all_released};
+ghost use Rattle.row_edit.specs.OtherValues.{StandIn};
+ghost use Rattle.table_trees.specs.StoredTables.{has_table, table_long_values};
+ghost use Rattle.kept_rows.specs.FirstValues.{CanGiveUp, without_first};
+ghost use Rattle.kept_rows.specs.ValuesChanged.{HasLongValues};
+
+use crate::named::{first_named, names};
+use jet_base::TableId;
+use long_value::{LongId, references_after_a_change, values_after_a_change};
+use table_trees::{TableTrees, long_values_after_a_change};
+
+/// Gives up one reference to the long value that is named, if one is, unless the values behind name it too. It takes no memory.
+pub fn release_first(trees: &mut TableTrees, table: TableId, named: Option<LongId>, rest: &[u8])
+    requires table { has_table trees.old.tables table.0 ≡ true }
+    requires there { (xs : List (ℕ × RowValue)) × StandIn rest.now xs × CanGiveUp (option_map id_bytes named) (named_by xs) (table_long_values trees.old.tables table.0) }
+    ensures tables { (xs : List (ℕ × RowValue)) → StandIn rest.now xs → HasLongValues table.0 (without_first (option_map id_bytes named) (named_by xs) (table_long_values trees.old.tables table.0)) trees.old.tables trees.new.tables }
+    ensures catalog { trees.new.catalog ≡ trees.old.catalog }
+{
+    long_values_after_a_change();
+    if let Some(id) = named {
+        if !names(rest, id) {
+            trees.release_long(table, id);
+        }
+    }
+}
+
+/// Gives up one reference to each long value that some values of a row name. It takes no memory.
+pub fn release_values(trees: &mut TableTrees, table: TableId, values: &[u8])
+    requires table { has_table trees.old.tables table.0 ≡ true }
+    requires there { (xs : List (ℕ × RowValue)) × StandIn values.now xs × ((id : List ℕ) → 0 < times_among id (named_by xs) → IsSome (value_of id (table_long_values trees.old.tables table.0))) }
+    ensures tables { (xs : List (ℕ × RowValue)) → StandIn values.now xs → HasLongValues table.0 (with_all_released (named_by xs) (table_long_values trees.old.tables table.0)) trees.old.tables trees.new.tables }
+    ensures catalog { trees.new.catalog ≡ trees.old.catalog }
+{
+    references_after_a_change();
+    values_after_a_change();
+    match first_named(values) {
+        Some((named, rest)) => {
+            release_first(trees, table, named, rest);
+            release_values(trees, table, rest);
+        }
+        None => {}
+    }
+}

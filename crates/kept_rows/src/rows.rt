@@ -1,0 +1,55 @@
+//! The values that a whole row takes, and those that it gives up.
+
+ghost use Rattle.std.specs.Prelude.{◌≡◌, ◌<◌, ℕ, List, true, Some, IsSome, IsTrue, OnErr, OnOk};
+ghost use Rattle.std.specs.List.{AllByRecursion};
+ghost use Rattle.column_set.specs.Rows.{IsRowBytes, is_row_of};
+ghost use Rattle.column_set.specs.RowReading.{row_in};
+ghost use Rattle.long_value.specs.Values.{value_of};
+ghost use Rattle.long_references.specs.RowReferences.{identifiers, references};
+ghost use Rattle.long_references.specs.ReferenceCounts.{with_all_released, with_all_taken};
+ghost use Rattle.long_rows.specs.KeptRows.{MayTake, given_values};
+ghost use Rattle.table_trees.specs.StoredTables.{has_table, table_long_values};
+ghost use Rattle.kept_rows.specs.ValuesChanged.{HasLongValues};
+
+use crate::releasing::release_values;
+use crate::taking::take_values;
+use column_set::{Record, rows_are_read_back};
+use jet_base::{OutOfMemory, TableId};
+use table_trees::TableTrees;
+
+/// The bytes before the first value of a row: the count of its values.
+const COUNT_BYTES: usize = 2;
+
+/// Gives up one reference to each long value of a table that a row names, however often it does. A value that has no other
+/// reference is gone then. It takes no memory.
+pub fn release_row(trees: &mut TableTrees, table: TableId, row: &[u8])
+    requires table { has_table trees.old.tables table.0 ≡ true }
+    requires row { IsRowBytes row.now }
+    requires there { (id : List ℕ) → 0 < references id (Some (row_in row.now)) → IsSome (value_of id (table_long_values trees.old.tables table.0)) }
+    ensures tables { HasLongValues table.0 (with_all_released (identifiers (Some (row_in row.now))) (table_long_values trees.old.tables table.0)) trees.old.tables trees.new.tables }
+    ensures catalog { trees.new.catalog ≡ trees.old.catalog }
+{
+    rows_are_read_back();
+    release_values(trees, table, &row[COUNT_BYTES..]);
+}
+
+/// Takes one reference to each long value that a row of a record names, however often it does: to a value that is there, or to a
+/// new one that is put with the record's bytes. Each value is written once, in its chunks, and nothing else takes memory. Where
+/// there is none, all that was taken is given up again.
+pub fn take_row(
+    trees: &mut TableTrees,
+    table: TableId,
+    row: &[u8],
+    values: &Record,
+) -> Result<(), OutOfMemory>
+    requires table { has_table trees.old.tables table.0 ≡ true }
+    requires row { IsRowBytes row.now }
+    requires form { IsTrue (is_row_of (row_in row.now) values.now) }
+    requires may { AllByRecursion (MayTake (table_long_values trees.old.tables table.0)) (given_values (row_in row.now) values.now) }
+    ensures ok { OnOk result (HasLongValues table.0 (with_all_taken (given_values (row_in row.now) values.now) (table_long_values trees.old.tables table.0)) trees.old.tables trees.new.tables) }
+    ensures err { OnErr result (HasLongValues table.0 (table_long_values trees.old.tables table.0) trees.old.tables trees.new.tables) }
+    ensures catalog { trees.new.catalog ≡ trees.old.catalog }
+{
+    rows_are_read_back();
+    take_values(trees, table, &row[COUNT_BYTES..], &[], values.fields())
+}
