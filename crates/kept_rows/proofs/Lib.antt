@@ -4,3 +4,4 @@ pub mod GivingUp
 pub mod TakingAll
 pub mod WholeRow
 pub mod Shared
+pub mod Written

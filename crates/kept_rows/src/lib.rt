@@ -1,5 +1,5 @@
-//! Rows whose values of more than 255 bytes are kept apart: the values that a put shares, those that a row takes, and those that
-//! it gives up.
+//! Rows whose values of more than 255 bytes are kept apart: the values that a put shares, those that a row takes, those that it
+//! gives up, and the row that it writes.
 #![tactic(auto)]
 
 mod named;
@@ -7,6 +7,8 @@ mod releasing;
 mod rows;
 mod sharing;
 mod taking;
+mod writing;
 
 pub use rows::{release_row, take_row};
 pub use sharing::Sources;
+pub use writing::keep_row;

@@ -20,7 +20,7 @@ const VALUE_HEAD_BYTES: usize = 5;
 const FORM_AT: usize = 2;
 
 /// The form of a value that is kept apart.
-const APART: u8 = 1;
+pub const APART: u8 = 1;
 
 /// The bytes of a value that is kept apart, those of its head among them.
 const APART_VALUE_BYTES: usize = 21;
