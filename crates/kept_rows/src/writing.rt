@@ -185,11 +185,7 @@ fn count_of_values(fields: &[Field]) -> usize
 /// values have the places from 0 on. No long value is changed or copied: `take_row` takes those that the row names.
 ///
 /// The call answers `RecordTooBig` above 1,700 bytes.
-pub fn keep_row(
-    alloc: Global,
-    sources: &Sources<'_>,
-    values: &Record,
-) -> Result<Vec<u8>, RowFault>
+pub fn keep_row(alloc: Global, sources: &Sources<'_>, values: &Record) -> Result<Vec<u8>, RowFault>
     requires rows { HasRows sources.now }
     requires short { IsTrue (list_all (λ field. are_values field.1) values.now) }
     ensures ok { IfOk result (λ bytes. bytes.items ≡ row_bytes (kept_row (found_in sources.now) values.now)) }
