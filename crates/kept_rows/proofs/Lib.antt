@@ -5,3 +5,4 @@ pub mod TakingAll
 pub mod WholeRow
 pub mod Shared
 pub mod Written
+pub mod ReadWhole

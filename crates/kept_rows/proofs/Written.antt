@@ -1,5 +1,5 @@
 -- The row that is written value by value.
-use Rattle.std.proofs.Common.{◌≡◌, ℕ, suc, ◌+◌, ◌-◌, ◌<◌, ◌≤◌, ◌^◌, min, Bool, true, false, if◌then◌else◌, Option, Some, None, List, [], ◌∷◌, ◌++◌, length, map, refl, sym, ap, subst, ◌∙◌, arith, true≢false}
+use Rattle.std.proofs.Common.{◌≡◌, ℕ, suc, ◌+◌, ◌-◌, ◌≤◌, ◌^◌, min, Bool, true, false, if◌then◌else◌, Option, List, [], ◌∷◌, ◌++◌, length, map, refl, sym, ap, ◌∙◌, arith}
 use Rattle.std.specs.Prelude.{IfOk, OnOk, Result, Ok, Err, nat_lt, sum_by}
 use Rattle.std.specs.Int.{w16, to_le_bytes}
 use Rattle.std.specs.List.{flat_map}
@@ -7,12 +7,10 @@ use Rattle.std.proofs.lemmas.Grind.{flat_map-append}
 use Rattle.std.proofs.lemmas.List.{append_assoc}
 use Rattle.std.proofs.lemmas.List.Sums.{sum_by-cons}
 use Rattle.column_set.specs.declared.rows.RowValue.{RowValue}
-use Rattle.column_set.specs.declared.rows.RowValue.TheVariants.{Here, Apart}
+use Rattle.column_set.specs.declared.rows.RowValue.TheVariants.{Here}
 use Rattle.column_set.specs.RecordValues.{RecordFields, record_size, size_of_value, size_of_values}
 use Rattle.column_set.specs.Rows.{row_bytes, value_bytes, values_in_order}
-use Rattle.long_value.specs.declared.values.LongId.{LongId}
-use Rattle.long_rows.specs.KeptRows.{Found, is_long, kept_fields, kept_row, kept_value, kept_values, next_place, place_after, place_behind, shared, value_apart}
-use Rattle.kept_rows.specs.Sources.{place_of}
+use Rattle.long_rows.specs.KeptRows.{Found, kept_fields, kept_row, kept_value, kept_values, next_place, place_after, place_behind, shared, value_apart}
 
 pub if_ok : {X Y : Type 0} {A B : X → Type 0} (r : Result X Y) → ((x : X) → A x → B x) → IfOk r A → IfOk r B
 if_ok (Ok x) f a = f x a
