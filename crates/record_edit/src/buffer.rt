@@ -36,7 +36,7 @@ impl Model for CopyBuffer {
 }
 
 impl CopyBuffer {
-    /// The buffer of a record of a table with these columns, which are copied.
+    /// The buffer of a record of a table with these columns, which it shares.
     pub fn new(alloc: Global, columns: &Columns, values: Record) -> Result<CopyBuffer, OutOfMemory>
         ensures { IfOk result (λ made. made ≡ record { columns = columns.now; fields = values }) }
     {
@@ -189,9 +189,9 @@ fn apply(
 {
     match effect {
         Effect::Nothing => {}
-        Effect::Clear => values.clear(column),
-        Effect::Remove(place) => values.remove_value(column, place),
-        Effect::Set(place) => values.set_value(column, place, value.stored(alloc, kind)?),
+        Effect::Clear => values.clear(column)?,
+        Effect::Remove(place) => values.remove_value(column, place)?,
+        Effect::Set(place) => values.set_value(column, place, value.stored(alloc, kind)?)?,
         Effect::Only => values.set_only_value(column, value.stored(alloc, kind)?)?,
         Effect::Push => values.push_value(column, value.stored(alloc, kind)?)?,
     }
