@@ -6,3 +6,4 @@ pub mod RowReading
 pub mod RowSeen
 pub mod Rows
 pub mod Refusals
+pub mod Shared

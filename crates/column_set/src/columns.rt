@@ -1,10 +1,12 @@
 //! The columns of a table.
 
-ghost use Rattle.std.specs.Prelude.{◌≡◌, IfOk, option_copied};
+ghost use Rattle.std.specs.Prelude.{◌≡◌, [], ◌∷◌, ◌++◌, IfOk, is_ok, if◌then◌else◌, option_copied};
 ghost use Rattle.column_set.specs.RecordValues.{column_named, column_of_id};
 
-use jet_base::{ColType, ColumnId, Items, Name, OutOfMemory};
-use std::alloc::AllocError;
+use jet_base::{ColType, ColumnId, Name, OutOfMemory};
+use std::alloc::{AllocError, Global};
+use std::marker::Model;
+use std::sync::Arc;
 
 /// A column of a table.
 #[derive(Debug, Drop)]
@@ -56,8 +58,84 @@ impl Clone for Column {
     }
 }
 
-/// The columns of a table, in the order in which they were added.
-pub type Columns = Items<Column>;
+/// The columns of a table, in the order in which they were added. Copies share them until one of them changes.
+#[derive(Debug, Drop)]
+pub struct Columns {
+    alloc: Global,
+    // None where there never was a column.
+    shared: Option<Arc<Vec<Column>>>,
+}
+
+impl Model for Columns {
+    ghost use Rattle.std.specs.Prelude.{List};
+    ghost use Rattle.column_set.specs.declared.columns.Column.{Column};
+
+    ghost Value = { List Column };
+
+    ghost use Rattle.column_set.specs.Shared.{column_list};
+
+    ghost view = { column_list };
+}
+
+impl Columns {
+    /// No column. It takes no memory.
+    pub fn empty(alloc: Global) -> Columns
+        ensures { result ≡ [] }
+    {
+        Columns {
+            alloc,
+            shared: None,
+        }
+    }
+
+    /// These columns, which it takes over.
+    pub fn new(columns: Vec<Column>) -> Result<Columns, OutOfMemory>
+        ensures { IfOk result (λ made. made ≡ columns.items) }
+    {
+        let alloc = *columns.allocator();
+        let shared = Arc::new(alloc, columns)?;
+        Ok(Columns {
+            alloc,
+            shared: Some(shared),
+        })
+    }
+
+    /// The columns.
+    pub fn as_slice(&self) -> &[Column]
+        ensures { result.now ≡ self.now }
+    {
+        match &self.shared {
+            Some(columns) => columns.as_slice(),
+            None => &[],
+        }
+    }
+
+    /// Puts one more column at the end. Where there is no memory the columns stay and the new one is dropped.
+    pub fn push(&mut self, column: Column) -> Result<(), OutOfMemory>
+        ensures { self.new ≡ (if is_ok result then self.old ++ column ∷ [] else self.old) }
+    {
+        let mut columns = self.as_slice().to_vec(self.alloc)?;
+        columns.push(column)?;
+        self.shared = Some(Arc::new(self.alloc, columns)?);
+        Ok(())
+    }
+
+    /// The same columns, which the two share.
+    pub fn copy(&self) -> Result<Columns, OutOfMemory>
+        ensures { IfOk result (λ made. made ≡ self.now) }
+    {
+        match &self.shared {
+            Some(shared) => match shared.clone() {
+                Ok(shared) => Ok(Columns {
+                    alloc: self.alloc,
+                    shared: Some(shared),
+                }),
+                Err(_) => Err(OutOfMemory),
+            },
+            None => Ok(Columns::empty(self.alloc)),
+        }
+    }
+}
 
 /// The column of this name. Names are compared byte for byte.
 pub fn column_named<'a>(columns: &'a Columns, name: &Name) -> Option<&'a Column>

@@ -7,6 +7,7 @@ mod columns;
 mod decoding;
 mod encoding;
 mod encoding_records;
+mod field_list;
 mod fields;
 mod reading;
 mod records;

@@ -1,37 +1,36 @@
 //! Records: the values that a row of a table has.
 
-ghost use Rattle.std.specs.Prelude.{◌≡◌, ◌+◌, ◌-◌, ◌^◌, ◌<◌, ◌≤◌, ℕ, List, [], ◌∷◌, ◌++◌, length, min, remove, slice_get, slice_index_or, slice_set, IfOk, IfErr, IsTrue, MatchOption, if◌then◌else◌, is_ok, option_copied};
+ghost use Rattle.std.specs.Prelude.{◌≡◌, ◌+◌, ◌-◌, ◌^◌, ◌<◌, ◌≤◌, List, ℕ, [], ◌∷◌, ◌++◌, length, min, remove, slice_get, slice_index_or, slice_set, IfOk, IsTrue, MatchOption, if◌then◌else◌, is_ok, option_copied};
 ghost use Rattle.column_set.specs.Reading.{IsFront};
 ghost use Rattle.column_set.specs.Record.{is_record};
-ghost use Rattle.column_set.specs.RecordPlaces.{IsPlaceOf, IsGapFor};
 ghost use Rattle.column_set.specs.RecordValues.{values_of, with_values, record_size, size_of_values};
 
-use crate::fields::{Field, size_of_values};
+use crate::field_list::{COUNT_SIZE, FieldList};
+use crate::fields::Field;
 use crate::values::Values;
 use jet_base::{ColumnId, Octets, OutOfMemory};
 use std::alloc::Global;
 use std::marker::Model;
-
-// What a row takes for the count of its values.
-const COUNT_SIZE: usize = 2;
+use std::sync::Arc;
 
 /// A record: for each column that has a value, by rising number, its values in their order.
 ///
-/// A column without a value, which is NULL, does not stand in it.
+/// A column without a value, which is NULL, does not stand in it. Copies share their values until one of them changes.
 #[derive(Debug, Drop)]
 pub struct Record {
-    fields: Vec<Field>,
+    alloc: Global,
+    // None where no column ever had a value.
+    shared: Option<Arc<FieldList>>,
 }
 
 impl Model for Record {
-    ghost use Rattle.std.specs.Prelude.{List, ℕ, IsTrue};
-    ghost use Rattle.column_set.specs.Record.{is_record};
+    ghost use Rattle.std.specs.Prelude.{List, ℕ};
 
     ghost Value = { List (ℕ × List (List ℕ)) };
 
-    ghost view = { λ a. a.fields.items };
+    ghost use Rattle.column_set.specs.Shared.{record_fields};
 
-    ghost invariant = { λ a. IsTrue (is_record a.fields.items) };
+    ghost view = { record_fields };
 }
 
 impl Record {
@@ -40,17 +39,25 @@ impl Record {
         ensures { result ≡ [] }
     {
         Record {
-            fields: Vec::new(alloc),
+            alloc,
+            shared: None,
         }
     }
 
-    /// Another record of the same values.
+    /// Another record of the same values, which the two share.
     pub fn copy(&self) -> Result<Record, OutOfMemory>
         ensures { IfOk result (λ made. made ≡ self.now) }
     {
-        Ok(Record {
-            fields: self.fields.clone()?,
-        })
+        match &self.shared {
+            Some(shared) => match shared.clone() {
+                Ok(shared) => Ok(Record {
+                    alloc: self.alloc,
+                    shared: Some(shared),
+                }),
+                Err(_) => Err(OutOfMemory),
+            },
+            None => Ok(Record::new(self.alloc)),
+        }
     }
 
     /// The values of the column, none where it is NULL. The record with them is the record itself.
@@ -58,9 +65,9 @@ impl Record {
         ensures values { result.now ≡ values_of self.now column.0 }
         ensures same { with_values self.now column.0 (values_of self.now column.0) ≡ self.now }
     {
-        match self.search(column) {
-            Ok(place) => self.fields[place].values(),
-            Err(_) => &[],
+        match &self.shared {
+            Some(shared) => shared.values(column),
+            None => &[],
         }
     }
 
@@ -69,7 +76,10 @@ impl Record {
         ensures fields { result.now ≡ self.now }
         ensures formed { IsTrue (is_record self.now) }
     {
-        self.fields.as_slice()
+        match &self.shared {
+            Some(shared) => shared.fields(),
+            None => &[],
+        }
     }
 
     /// The in-page size of the record, in bytes: its row is refused where that is more than 1,700. Past the largest
@@ -77,11 +87,10 @@ impl Record {
     pub fn size(&self) -> usize
         ensures { result ≡ min (record_size self.now) (2 ^ 64 - 1) }
     {
-        let mut total = COUNT_SIZE;
-        for field in self.fields.iter() {
-            total = total.saturating_add(size_of_values(field.values()));
+        match &self.shared {
+            Some(shared) => shared.size(),
+            None => COUNT_SIZE,
         }
-        total
     }
 
     /// The size that the record has without the values of the column. With other values there it has their room on
@@ -90,22 +99,31 @@ impl Record {
         ensures size { result ≡ min (record_size (with_values self.now column.0 [])) (2 ^ 64 - 1) }
         ensures room { (values : List (List ℕ)) → record_size (with_values self.now column.0 values) ≡ record_size (with_values self.now column.0 []) + size_of_values values }
     {
-        let mut total = COUNT_SIZE;
-        for field in self.fields.iter() {
-            if field.column() != column.0 {
-                total = total.saturating_add(size_of_values(field.values()));
-            }
+        match &self.shared {
+            Some(shared) => shared.size_without(column),
+            None => COUNT_SIZE,
         }
-        total
     }
 
-    /// Puts the value in the place of another of the column. Places are counted from 0.
-    pub fn set_value(&mut self, column: ColumnId, at: usize, value: Octets)
+    /// Puts the value in the place of another of the column. Places are counted from 0. Where there is no memory all stays.
+    pub fn set_value(
+        &mut self,
+        column: ColumnId,
+        at: usize,
+        value: Octets,
+    ) -> Result<(), OutOfMemory>
         requires { at < length (values_of self.old column.0) }
-        ensures { self.new ≡ with_values self.old column.0 (slice_set (values_of self.old column.0) at value) }
+        ensures { self.new ≡ (if is_ok result then with_values self.old column.0 (slice_set (values_of self.old column.0) at value) else self.old) }
     {
-        if let Ok(place) = self.search(column) {
-            self.fields[place].set(at, value);
+        match &mut self.shared {
+            Some(shared) => match Arc::make_mut(shared) {
+                Ok(fields) => {
+                    fields.set_value(column, at, value);
+                    Ok(())
+                }
+                Err(_) => Err(OutOfMemory),
+            },
+            None => unreachable!(),
         }
     }
 
@@ -113,12 +131,12 @@ impl Record {
     pub fn set_only_value(&mut self, column: ColumnId, value: Octets) -> Result<(), OutOfMemory>
         ensures { self.new ≡ (if is_ok result then with_values self.old column.0 (value ∷ []) else self.old) }
     {
-        match self.search(column) {
-            Ok(place) => {
-                self.fields[place].set_only(value);
-                Ok(())
-            }
-            Err(place) => self.insert(place, column, value),
+        match &mut self.shared {
+            Some(shared) => match Arc::make_mut(shared) {
+                Ok(fields) => fields.set_only_value(column, value),
+                Err(_) => Err(OutOfMemory),
+            },
+            None => self.begin(column, value),
         }
     }
 
@@ -126,52 +144,65 @@ impl Record {
     pub fn push_value(&mut self, column: ColumnId, value: Octets) -> Result<(), OutOfMemory>
         ensures { self.new ≡ (if is_ok result then with_values self.old column.0 (values_of self.old column.0 ++ value ∷ []) else self.old) }
     {
-        match self.search(column) {
-            Ok(place) => self.fields[place].push(value),
-            Err(place) => self.insert(place, column, value),
+        match &mut self.shared {
+            Some(shared) => match Arc::make_mut(shared) {
+                Ok(fields) => fields.push_value(column, value),
+                Err(_) => Err(OutOfMemory),
+            },
+            None => self.begin(column, value),
         }
     }
 
-    /// Takes a value of the column out, and the later ones close up. Places are counted from 0.
-    pub fn remove_value(&mut self, column: ColumnId, at: usize)
+    /// Takes a value of the column out, and the later ones close up. Places are counted from 0. Where there is no memory all
+    /// stays.
+    pub fn remove_value(&mut self, column: ColumnId, at: usize) -> Result<(), OutOfMemory>
         requires { at < length (values_of self.old column.0) }
-        ensures { self.new ≡ with_values self.old column.0 (remove (values_of self.old column.0) at) }
+        ensures { self.new ≡ (if is_ok result then with_values self.old column.0 (remove (values_of self.old column.0) at) else self.old) }
     {
-        if let Ok(place) = self.search(column) {
-            if self.fields[place].values().len() > 1 {
-                self.fields[place].remove(at);
-            } else {
-                self.fields.remove(place);
-            }
+        match &mut self.shared {
+            Some(shared) => match Arc::make_mut(shared) {
+                Ok(fields) => {
+                    fields.remove_value(column, at);
+                    Ok(())
+                }
+                Err(_) => Err(OutOfMemory),
+            },
+            None => unreachable!(),
         }
     }
 
-    /// Takes all values of the column out, so that it is NULL.
-    pub fn clear(&mut self, column: ColumnId)
-        ensures { self.new ≡ with_values self.old column.0 [] }
+    /// Takes all values of the column out, so that it is NULL. Where there is no memory all stays.
+    pub fn clear(&mut self, column: ColumnId) -> Result<(), OutOfMemory>
+        ensures { self.new ≡ (if is_ok result then with_values self.old column.0 [] else self.old) }
     {
-        if let Ok(place) = self.search(column) {
-            self.fields.remove(place);
+        match &mut self.shared {
+            Some(shared) => match Arc::make_mut(shared) {
+                Ok(fields) => {
+                    fields.clear(column);
+                    Ok(())
+                }
+                Err(_) => Err(OutOfMemory),
+            },
+            None => Ok(()),
         }
     }
 
-    // Puts a column with one value into its gap.
-    fn insert(&mut self, place: usize, column: ColumnId, value: Octets) -> Result<(), OutOfMemory>
-        requires { IsGapFor self.old column.0 place }
+    // Puts the first value of all.
+    fn begin(&mut self, column: ColumnId, value: Octets) -> Result<(), OutOfMemory>
+        requires { self.old ≡ [] }
         ensures { self.new ≡ (if is_ok result then with_values self.old column.0 (value ∷ []) else self.old) }
     {
-        let field = Field::new(*self.fields.allocator(), column, value)?;
-        self.fields.insert(place, field)?;
-        Ok(())
-    }
-
-    // Where the column's field is, or where it would go.
-    fn search(&self, column: ColumnId) -> Result<usize, usize>
-        ensures found { IfOk result (IsPlaceOf self.now column.0) }
-        ensures absent { IfErr result (IsGapFor self.now column.0) }
-    {
-        self.fields
-            .binary_search_by_key(&column.0, |field| field.column())
+        let mut fields = FieldList::new(self.alloc);
+        match fields.set_only_value(column, value) {
+            Ok(()) => match Arc::new(self.alloc, fields) {
+                Ok(shared) => {
+                    self.shared = Some(shared);
+                    Ok(())
+                }
+                Err(_) => Err(OutOfMemory),
+            },
+            Err(fault) => Err(fault),
+        }
     }
 }
 

@@ -8,9 +8,9 @@ ghost use Rattle.jet_catalog.specs.Catalog.{catalog_after, has_new_id};
 
 use crate::catalog::Catalog;
 use crate::table::{TableDef, schema_indexes};
-use column_set::Column;
+use column_set::{Column, Columns};
 use index_derive::{IndexRule, SchemaStep};
-use jet_base::{ColumnId, IndexId, Items, Name, OutOfMemory, TableId};
+use jet_base::{ColumnId, IndexId, Name, OutOfMemory, TableId};
 
 impl TableDef {
     // Puts a copy of the column in its place by number, and takes note of its number.
@@ -22,7 +22,7 @@ impl TableDef {
         let mut columns = self.columns().to_vec(*self.indexes.allocator())?;
         let place = place_of(columns.as_slice(), column);
         columns.insert(place, column.copy()?)?;
-        self.schema.columns = Items::new(columns);
+        self.schema.columns = Columns::new(columns)?;
         self.greatest.give(column.id);
         Ok(())
     }
@@ -35,7 +35,8 @@ impl TableDef {
     {
         let mut columns = self.columns().to_vec(*self.indexes.allocator())?;
         columns.retain(|column| column.id != id);
-        self.schema.columns = Items::new(columns);
+        let shared = Columns::new(columns)?;
+        self.schema.columns = shared;
         Ok(())
     }
 

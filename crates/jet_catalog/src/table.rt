@@ -8,7 +8,7 @@ ghost use Rattle.database_state.specs.SchemaChanges.{new_table, has_column};
 ghost use Rattle.database_state.specs.SchemaSteps.{column_id_named, index_id_named};
 
 use crate::numbers::GreatestColumns;
-use column_set::Column;
+use column_set::{Column, Columns};
 use index_derive::{IndexRule, Schema};
 use jet_base::{ColumnId, IndexId, Items, Name, OutOfMemory, TableId};
 use std::alloc::Global;
@@ -47,7 +47,7 @@ impl TableDef {
             id,
             name,
             schema: Schema {
-                columns: Items::empty(alloc),
+                columns: Columns::empty(alloc),
                 indexes: Items::empty(alloc),
             },
             indexes: Vec::new(alloc),

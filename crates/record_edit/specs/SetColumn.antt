@@ -6,7 +6,7 @@ use Rattle.jet_base.specs.declared.words.Given.{Given}
 use Rattle.jet_base.specs.ColumnType.{largest_value}
 use Rattle.jet_base.specs.Given.{given_fits, given_bytes, given_length, given_is_null}
 use Rattle.column_set.specs.declared.columns.Column.{Column}
-use Rattle.column_set.specs.RecordValues.{RecordFields, values_of, with_values, record_size, column_of_id}
+use Rattle.column_set.specs.RecordValues.{RecordFields, values_of, with_values, record_size, column_named, column_of_id}
 use Rattle.column_set.specs.Refusals.{Refusals, first_refusal}
 use Rattle.record_edit.specs.Buffer.{Buffer}
 
@@ -57,6 +57,20 @@ set_refusal buffer column sequence value = elim (column_of_id buffer.columns col
 -- the buffer after a call that is not refused
 abbrev pub buffer_after : Buffer → ℕ → ℕ → Given → Buffer
 buffer_after buffer column sequence value = elim (column_of_id buffer.columns column) [
+  | None ↦ buffer
+  | Some found ↦ record buffer { fields = fields_after found sequence value buffer.fields }
+]
+
+-- ---- the same, which names its column by name
+
+abbrev pub named_refusal : Buffer → List ℕ → ℕ → Given → Option Jet
+named_refusal buffer name sequence value = elim (column_named buffer.columns name) [
+  | None ↦ Some jet.ColumnNotFound
+  | Some found ↦ refusal_in_column found sequence value buffer.fields
+]
+
+abbrev pub named_after : Buffer → List ℕ → ℕ → Given → Buffer
+named_after buffer name sequence value = elim (column_named buffer.columns name) [
   | None ↦ buffer
   | Some found ↦ record buffer { fields = fields_after found sequence value buffer.fields }
 ]

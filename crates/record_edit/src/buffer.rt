@@ -8,13 +8,13 @@ ghost use Rattle.record_edit.specs.Buffer.{Buffer, value_at};
 ghost use Rattle.record_edit.specs.Effects.{values_by, IsEffectOn, IsEffectOf};
 ghost use Rattle.record_edit.specs.Faults.{IsFaultOf};
 ghost use Rattle.record_edit.specs.NewValues.{given_of, given_of_bytes};
-ghost use Rattle.record_edit.specs.SetColumn.{buffer_after, refusal_in_column, set_refusal};
+ghost use Rattle.record_edit.specs.SetColumn.{buffer_after, fields_after, named_after, named_refusal, refusal_in_column, set_refusal};
 
 use crate::effect::Effect;
 use crate::fault::EditFault;
 use crate::new_value::NewValue;
-use column_set::{Column, Columns, MAX_ROW_SIZE, Record, column_of_id};
-use jet_base::{ColType, ColumnId, Given, Jet, OutOfMemory};
+use column_set::{Column, Columns, MAX_ROW_SIZE, Record, column_named, column_of_id};
+use jet_base::{ColType, ColumnId, Given, Jet, Name, OutOfMemory};
 use std::alloc::Global;
 use std::marker::Model;
 use stored_value::largest_value;
@@ -36,7 +36,7 @@ impl Model for CopyBuffer {
 }
 
 impl CopyBuffer {
-    /// The buffer of a record of a table with these columns, which are copied.
+    /// The buffer of a record of a table with these columns, which it shares.
     pub fn new(alloc: Global, columns: &Columns, values: Record) -> Result<CopyBuffer, OutOfMemory>
         ensures { IfOk result (λ made. made ≡ record { columns = columns.now; fields = values }) }
     {
@@ -119,6 +119,18 @@ impl CopyBuffer {
         self.put(column, sequence, NewValue::from_given(value))
     }
 
+    /// The same in the column of this name.
+    pub fn set_named(&mut self, name: &Name, sequence: u32, value: &Given) -> Result<(), EditFault>
+        ensures refusals { MatchResult result (λ _. named_refusal self.old name.now sequence value.now ≡ None) (IsFaultOf (named_refusal self.old name.now sequence value.now)) }
+        ensures after { self.new ≡ (if is_ok result then named_after self.old name.now sequence value.now else self.old) }
+    {
+        let Some(found) = column_named(&self.columns, name) else {
+            return Err(EditFault::Refused(Jet::ColumnNotFound));
+        };
+        let value = NewValue::from_given(value);
+        put_in(self.alloc, found, sequence, value, &mut self.values)
+    }
+
     fn put(&mut self, column: ColumnId, sequence: u32, value: NewValue) -> Result<(), EditFault>
         ensures refusals { MatchResult result (λ _. set_refusal self.old column.0 sequence (given_of value.entry) ≡ None) (IsFaultOf (set_refusal self.old column.0 sequence (given_of value.entry))) }
         ensures after { self.new ≡ (if is_ok result then buffer_after self.old column.0 sequence (given_of value.entry) else self.old) }
@@ -126,14 +138,27 @@ impl CopyBuffer {
         let Some(found) = column_of_id(self.columns.as_slice(), column) else {
             return Err(EditFault::Refused(Jet::ColumnNotFound));
         };
-        let effect = match checked(found, sequence, value, &self.values) {
-            Ok(effect) => effect,
-            Err(refusal) => return Err(EditFault::Refused(refusal)),
-        };
-        let (id, kind) = (found.id, found.kind);
-        apply(self.alloc, effect, id, kind, value, &mut self.values)?;
-        Ok(())
+        put_in(self.alloc, found, sequence, value, &mut self.values)
     }
+}
+
+// Sets a value of the column. Where that is refused, or there is no memory, all stays.
+fn put_in(
+    alloc: Global,
+    column: &Column,
+    sequence: u32,
+    value: NewValue,
+    values: &mut Record,
+) -> Result<(), EditFault>
+    ensures refusals { MatchResult result (λ _. refusal_in_column column.now sequence (given_of value.entry) values.old ≡ None) (IsFaultOf (refusal_in_column column.now sequence (given_of value.entry) values.old)) }
+    ensures after { values.new ≡ (if is_ok result then fields_after column.now sequence (given_of value.entry) values.old else values.old) }
+{
+    let effect = match checked(column, sequence, value, values) {
+        Ok(effect) => effect,
+        Err(refusal) => return Err(EditFault::Refused(refusal)),
+    };
+    apply(alloc, effect, column.id, column.kind, value, values)?;
+    Ok(())
 }
 
 // What the value does to the column, or why it is refused.
@@ -189,9 +214,9 @@ fn apply(
 {
     match effect {
         Effect::Nothing => {}
-        Effect::Clear => values.clear(column),
-        Effect::Remove(place) => values.remove_value(column, place),
-        Effect::Set(place) => values.set_value(column, place, value.stored(alloc, kind)?),
+        Effect::Clear => values.clear(column)?,
+        Effect::Remove(place) => values.remove_value(column, place)?,
+        Effect::Set(place) => values.set_value(column, place, value.stored(alloc, kind)?)?,
         Effect::Only => values.set_only_value(column, value.stored(alloc, kind)?)?,
         Effect::Push => values.push_value(column, value.stored(alloc, kind)?)?,
     }

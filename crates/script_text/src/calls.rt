@@ -18,7 +18,7 @@ use script_words::arity::{
 use script_words::numbers::{label, number_within, signed_number};
 use script_words::texts::{given, hex_bytes, is_word, name};
 use script_words::{Parts, Refusal};
-use session_local::Request;
+use session_local::{Apart, Request};
 use std::alloc::Global;
 
 /// `CommitTransaction`, with `lazy` or without.
@@ -120,11 +120,11 @@ pub fn create_index(alloc: Global, words: &mut Parts<'_>, kept: &mut Calls) -> R
         kept,
         Request::CreateIndex {
             table,
-            index,
+            index: Apart::new(alloc, index)?,
             flags: index_flags(words),
             key_most: 255,
-            segments: segments(alloc, words)?,
-            conditions: conditions(alloc, words)?,
+            segments: Apart::new(alloc, segments(alloc, words)?)?,
+            conditions: Apart::new(alloc, conditions(alloc, words)?)?,
         },
     )
 }

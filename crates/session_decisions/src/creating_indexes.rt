@@ -120,11 +120,11 @@ fn index_call(alloc: Global, request: &Request) -> Result<SchemaCall, OutOfMemor
             conditions,
         } => Ok(SchemaCall::CreateIndex {
             table: table.copy()?,
-            index: index.copy()?,
+            index: index.get().copy()?,
             flags: *flags,
             key_most: *key_most,
-            segments: copied_segments(alloc, segments)?,
-            conditions: copied_conditions(alloc, conditions)?,
+            segments: copied_segments(alloc, segments.get())?,
+            conditions: copied_conditions(alloc, conditions.get())?,
         }),
         _ => unreachable!(),
     }

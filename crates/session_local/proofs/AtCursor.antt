@@ -13,14 +13,14 @@ use Rattle.jet_base.specs.declared.words.Prepare.{Prepare}
 use Rattle.jet_base.specs.declared.words.Prepare.TheVariants as prepare
 use Rattle.jet_base.specs.Given.{given_fits}
 use Rattle.column_set.specs.declared.columns.Column.{Column}
-use Rattle.column_set.specs.RecordValues.{RecordFields, with_values, values_of, value_fits, column_named, column_of_id, record_size}
+use Rattle.column_set.specs.RecordValues.{RecordFields, with_values, values_of, value_fits, column_named, record_size}
 use Rattle.index_derive.specs.declared.rules.IndexRule.{IndexRule}
 use Rattle.index_derive.specs.declared.rules.Segment.{Segment}
 use Rattle.index_derive.specs.declared.rules.Schema.{Schema}
 use Rattle.cursor_nav.specs.Navigation.{MadeKey, CursorState, Navigated}
 use Rattle.cursor_nav.specs.MakingKeys.{begun_key, segment_kind, with_segment, key_made, key_made_in as made_in, segment_made as made_of, has_short_keys as is_short, rule_of_cursor}
 use Rattle.record_edit.specs.Buffer.{Buffer}
-use Rattle.record_edit.specs.SetColumn.{refusal_in_column, set_refusal, buffer_after, fields_after}
+use Rattle.record_edit.specs.SetColumn.{refusal_in_column, named_refusal, named_after, fields_after}
 use Rattle.session_local.specs.declared.request.Request.{Request}
 use Rattle.session_local.specs.declared.request.Request.TheVariants as call
 use Rattle.session_local.specs.declared.prepared.Prepared.{Prepared}
@@ -30,7 +30,7 @@ use Rattle.session_local.specs.RecordCalls.{with_sums_at_zero}
 use Rattle.session_local.specs.Changing.{Changed, cursor_if, with_key, key_made_at, new_update, update_prepared_at, value_set_at, value_set_on, value_set_in, changed_by, changed_to, changed_unless, refused_by, cursor_after, local_after, change_at, ChangesTo, ChangesBy}
 use Rattle.session_local.specs.SessionSide.{HeldState, label_of, are_distinct}
 use Rattle.session_local.specs.Holding.{begun_with_cursors}
-use Rattle.session_local.specs.WellFormed.{number_of_column, has_short_keys, is_well_formed_schema, is_well_formed_cursor, is_well_formed_update, stands_in}
+use Rattle.session_local.specs.WellFormed.{has_short_keys, is_well_formed_schema, is_well_formed_cursor, is_well_formed_update, stands_in}
 use Rattle.session_local.proofs.Distinct.{both, found-position, set-position}
 use Rattle.session_local.proofs.Labels.{labelled}
 use Rattle.common_lemmas.proofs.Found.{all_found}
@@ -113,12 +113,6 @@ pub no_value_at_0 : (sequence : ℕ) (values : List (List ℕ)) (value : List �
 no_value_at_0 sequence values value found =
     elim (sequence == 0) as (λ b. (if b then None else slice_get values (sequence - 1)) ≡ Some value → slice_get values (sequence - 1) ≡ Some value) [ true ↦ λ h. cc | false ↦ λ h. h ] found
 
--- ---- SetColumn
-
--- a value of the column that is named is set in the column of its number
-pub set_by_number : (buffer : Buffer) (name : List ℕ) (column : Column) → are_distinct (map number_of_column buffer.columns) ≡ true → column_named buffer.columns name ≡ Some column → column_of_id buffer.columns column.id.0 ≡ Some column
-set_by_number buffer name column distinct named = by_number (λ o. bytes_eq o.name name) buffer.columns column distinct named
-
 -- ---- the other calls
 
 pub no_change : (c : OpenCursor) (request : Request)
@@ -143,35 +137,45 @@ value_set_as c update name sequence value column reply named refused =
     ap (λ (o : Option Column). value_set_in (record c { prepared = Some update }) update sequence value o) named
     ∙ ap (λ (r : Option Jet). changed_unless r (record c { prepared = Some (record update { values = fields_after column sequence value update.values }) })) refused
 
-pub refusal_by_number : (buffer : Buffer) (column : Column) (sequence : ℕ) (value : Given) → column_of_id buffer.columns column.id.0 ≡ Some column → set_refusal buffer column.id.0 sequence value ≡ refusal_in_column column sequence value buffer.fields
-refusal_by_number buffer column sequence value its =
-    ap (λ (o : Option Column). elim o [ None ↦ Some jet.ColumnNotFound | Some found ↦ refusal_in_column found sequence value buffer.fields ]) its
+abbrev pub found_refusal : Option Column → ℕ → Given → Buffer → Option Jet
+found_refusal found sequence value buffer = elim found [ None ↦ Some jet.ColumnNotFound | Some column ↦ refusal_in_column column sequence value buffer.fields ]
 
-pub after_by_number : (buffer : Buffer) (column : Column) (sequence : ℕ) (value : Given) → column_of_id buffer.columns column.id.0 ≡ Some column → buffer_after buffer column.id.0 sequence value ≡ record buffer { fields = fields_after column sequence value buffer.fields }
-after_by_number buffer column sequence value its =
-    ap (λ (o : Option Column). elim o [ None ↦ buffer | Some found ↦ record buffer { fields = fields_after found sequence value buffer.fields } ]) its
+abbrev pub found_after : Option Column → ℕ → Given → Buffer → Buffer
+found_after found sequence value buffer = elim found [ None ↦ buffer | Some column ↦ record buffer { fields = fields_after column sequence value buffer.fields } ]
 
--- what a value that is set leaves
-pub set_ok : (o : OpenCursor) (old : Prepared) (new : Buffer) (name : List ℕ) (sequence : ℕ) (value : Given) (column : Column) → are_distinct (map number_of_column old.buffer.columns) ≡ true → o.schema.columns ≡ old.buffer.columns → column_named old.buffer.columns name ≡ Some column → set_refusal old.buffer column.id.0 sequence value ≡ None → new ≡ buffer_after old.buffer column.id.0 sequence value → ChangesTo (record o { prepared = Some (update_of old) }) (value_set_at (record o { prepared = Some (update_of old) }) name sequence value) (Ok jet.Success) (record o { prepared = Some (update_of (record old { buffer = new })) })
-set_ok o old new name sequence value column distinct same named none after =
-    let its = set_by_number old.buffer name column distinct named in
-    let here : column_named o.schema.columns name ≡ Some column = ap (λ cs. column_named cs name) same ∙ named in
-    let done = value_set_as o (update_of old) name sequence value column None here (sym (refusal_by_number old.buffer column sequence value its) ∙ none) in (
-      ap (λ (ch : Changed). ch.jet) (sym done),
-      ap (λ (b : Buffer). record o { prepared = Some (update_of (record old { buffer = b })) }) (after ∙ after_by_number old.buffer column sequence value its)
-          ∙ ap (λ (ch : Changed). cursor_after (record o { prepared = Some (update_of old) }) ch) (sym done),
-    )
+some-is : (a b : Jet) → Some a ≡ Some b → a ≡ b
+some-is a b same = cc
 
--- a value that is refused leaves all
-pub set_refused : (o : OpenCursor) (old : Prepared) (new : Buffer) (name : List ℕ) (sequence : ℕ) (value : Given) (column : Column) (reply : Jet) → are_distinct (map number_of_column old.buffer.columns) ≡ true → o.schema.columns ≡ old.buffer.columns → column_named old.buffer.columns name ≡ Some column → set_refusal old.buffer column.id.0 sequence value ≡ Some reply → new ≡ old.buffer → ChangesTo (record o { prepared = Some (update_of old) }) (value_set_at (record o { prepared = Some (update_of old) }) name sequence value) (Ok reply) (record o { prepared = Some (update_of (record old { buffer = new })) })
-set_refused o old new name sequence value column reply distinct same named refused after =
-    let its = set_by_number old.buffer name column distinct named in
-    let here : column_named o.schema.columns name ≡ Some column = ap (λ cs. column_named cs name) same ∙ named in
-    let done = value_set_as o (update_of old) name sequence value column (Some reply) here (sym (refusal_by_number old.buffer column sequence value its) ∙ refused) in (
+-- what a value that is set in the column that was found leaves
+set_found : (o : OpenCursor) (old : Prepared) (new : Buffer) (name : List ℕ) (sequence : ℕ) (value : Given) (found : Option Column) → column_named o.schema.columns name ≡ found → found_refusal found sequence value old.buffer ≡ None → new ≡ found_after found sequence value old.buffer → ChangesTo (record o { prepared = Some (update_of old) }) (value_set_at (record o { prepared = Some (update_of old) }) name sequence value) (Ok jet.Success) (record o { prepared = Some (update_of (record old { buffer = new })) })
+set_found o old new name sequence value None here none after = cc
+set_found o old new name sequence value (Some column) here none after =
+    let done = value_set_as o (update_of old) name sequence value column None here none in (
       ap (λ (ch : Changed). ch.jet) (sym done),
       ap (λ (b : Buffer). record o { prepared = Some (update_of (record old { buffer = b })) }) after
           ∙ ap (λ (ch : Changed). cursor_after (record o { prepared = Some (update_of old) }) ch) (sym done),
     )
+
+pub set_ok : (o : OpenCursor) (old : Prepared) (new : Buffer) (name : List ℕ) (sequence : ℕ) (value : Given) → o.schema.columns ≡ old.buffer.columns → named_refusal old.buffer name sequence value ≡ None → new ≡ named_after old.buffer name sequence value → ChangesTo (record o { prepared = Some (update_of old) }) (value_set_at (record o { prepared = Some (update_of old) }) name sequence value) (Ok jet.Success) (record o { prepared = Some (update_of (record old { buffer = new })) })
+set_ok o old new name sequence value same none after = set_found o old new name sequence value (column_named old.buffer.columns name) (ap (λ cs. column_named cs name) same) none after
+
+-- a value that is refused in the column that was found leaves all
+found_refused : (o : OpenCursor) (old : Prepared) (new : Buffer) (name : List ℕ) (sequence : ℕ) (value : Given) (reply : Jet) (found : Option Column) → column_named o.schema.columns name ≡ found → found_refusal found sequence value old.buffer ≡ Some reply → new ≡ old.buffer → ChangesTo (record o { prepared = Some (update_of old) }) (value_set_at (record o { prepared = Some (update_of old) }) name sequence value) (Ok reply) (record o { prepared = Some (update_of (record old { buffer = new })) })
+found_refused o old new name sequence value reply None here refused after =
+    let done = value_missing o (update_of old) name sequence value here in (
+      sym (some-is _ _ refused) ∙ ap (λ (ch : Changed). ch.jet) (sym done),
+      ap (λ (b : Buffer). record o { prepared = Some (update_of (record old { buffer = b })) }) after
+          ∙ ap (λ (ch : Changed). cursor_after (record o { prepared = Some (update_of old) }) ch) (sym done),
+    )
+found_refused o old new name sequence value reply (Some column) here refused after =
+    let done = value_set_as o (update_of old) name sequence value column (Some reply) here refused in (
+      ap (λ (ch : Changed). ch.jet) (sym done),
+      ap (λ (b : Buffer). record o { prepared = Some (update_of (record old { buffer = b })) }) after
+          ∙ ap (λ (ch : Changed). cursor_after (record o { prepared = Some (update_of old) }) ch) (sym done),
+    )
+
+pub set_refused : (o : OpenCursor) (old : Prepared) (new : Buffer) (name : List ℕ) (sequence : ℕ) (value : Given) (reply : Jet) → o.schema.columns ≡ old.buffer.columns → named_refusal old.buffer name sequence value ≡ Some reply → new ≡ old.buffer → ChangesTo (record o { prepared = Some (update_of old) }) (value_set_at (record o { prepared = Some (update_of old) }) name sequence value) (Ok reply) (record o { prepared = Some (update_of (record old { buffer = new })) })
+set_refused o old new name sequence value reply same refused after = found_refused o old new name sequence value reply (column_named old.buffer.columns name) (ap (λ cs. column_named cs name) same) refused after
 
 -- ---- labels
 

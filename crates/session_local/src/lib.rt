@@ -2,6 +2,7 @@
 #![tactic(auto)]
 
 mod answering;
+mod apart;
 mod begun;
 mod buffers;
 mod calls;
@@ -22,6 +23,7 @@ mod setting_columns;
 mod showing;
 
 pub use answering::local_step;
+pub use apart::Apart;
 pub use buffers::{Buffers, MOST_CURSORS};
 pub use calls::is_local;
 pub use decision::Decision;

@@ -1,10 +1,14 @@
 //! What a session asks for.
 
+use crate::apart::Apart;
 use cursor_nav::SeekBy;
 use index_derive::{IndexFlags, NamedCondition, NamedSegment};
 use jet_base::{ColType, ColumnFlags, CursorId, Given, Items, Name, Octets, Prepare, Way};
 
 /// A call of a session, as a line of a script writes it after the session's label.
+///
+/// A script's calls are kept in a list, so a call is no larger than those that come often: what few calls have besides lies
+/// apart.
 #[derive(Debug, Drop, PartialEq, Eq)]
 pub enum Request {
     BeginSession,
@@ -36,12 +40,12 @@ pub enum Request {
     },
     CreateIndex {
         table: Name,
-        index: Name,
+        index: Apart<Name>,
         flags: IndexFlags,
         /// Keys are cut at so many bytes: 255 unless another limit is written.
         key_most: u16,
-        segments: Items<NamedSegment>,
-        conditions: Items<NamedCondition>,
+        segments: Apart<Items<NamedSegment>>,
+        conditions: Apart<Items<NamedCondition>>,
     },
     DeleteIndex {
         table: Name,

@@ -1,15 +1,12 @@
 //! SetColumn.
 
-ghost use Rattle.std.specs.Prelude.{◌≡◌, true, Some, IsTrue, map};
+ghost use Rattle.std.specs.Prelude.{◌≡◌, Some};
 ghost use Rattle.session_local.specs.Changing.{value_set_at, ChangesTo};
 ghost use Rattle.session_local.specs.Local.{OpenCursor};
 ghost use Rattle.session_local.specs.Preparing.{update_of};
-ghost use Rattle.session_local.specs.SessionSide.{are_distinct};
-ghost use Rattle.session_local.specs.WellFormed.{number_of_column, is_well_formed_schema};
 
 use crate::open_cursor::OpenCursor;
 use crate::prepared::Prepared;
-use column_set::column_named;
 use jet_base::{Given, Jet, Name, OutOfMemory};
 use record_edit::EditFault;
 
@@ -21,7 +18,6 @@ impl OpenCursor {
         sequence: u32,
         value: &Given,
     ) -> Result<Jet, OutOfMemory>
-        requires { IsTrue (is_well_formed_schema self.old.schema) }
         ensures { ChangesTo self.old (value_set_at self.old name.now sequence value.now) result self.new }
     {
         let Some(prepared) = &mut self.prepared else {
@@ -34,15 +30,10 @@ impl OpenCursor {
 impl Prepared {
     // Sets a value of a column of the table.
     fn set_named(&mut self, name: &Name, sequence: u32, value: &Given) -> Result<Jet, OutOfMemory>
-        requires { are_distinct (map number_of_column self.old.buffer.columns) ≡ true }
         ensures set { (c : OpenCursor) → c.schema.columns ≡ self.old.buffer.columns → ChangesTo (record c { prepared = Some (update_of self.old) }) (value_set_at (record c { prepared = Some (update_of self.old) }) name.now sequence value.now) result (record c { prepared = Some (update_of self.new) }) }
         ensures columns { self.new.buffer.columns ≡ self.old.buffer.columns }
     {
-        let id = match column_named(self.buffer.columns(), name) {
-            Some(column) => column.id,
-            None => return Ok(Jet::ColumnNotFound),
-        };
-        match self.buffer.set_given(id, sequence, value) {
+        match self.buffer.set_named(name, sequence, value) {
             Ok(()) => Ok(Jet::Success),
             Err(EditFault::Refused(refusal)) => Ok(refusal),
             Err(EditFault::OutOfMemory) => Err(OutOfMemory),

@@ -1,6 +1,6 @@
 //! Moves, seeks, ranges and counts at a plain list.
 
-use column_set::Column;
+use column_set::{Column, Columns};
 use cursor_nav::{Cursor, Moved, SeekBy, SortedEntries};
 use index_derive::{IndexEntry, IndexFlags, IndexRule, Place, Schema, Segment};
 use jet_base::{ColType, ColumnId, Given, IndexId, Items, Jet, Name, TableId, Way};
@@ -32,8 +32,8 @@ fn three_ids(rt: &impl Abort, alloc: Global) -> SortedEntries {
     ids(rt, alloc, &[10, 20, 30]).expect(rt, "the ids rise")
 }
 
-fn columns(rt: &impl Abort, alloc: Global) -> Items<Column> {
-    let mut columns = Items::empty(alloc);
+fn columns(rt: &impl Abort, alloc: Global) -> Columns {
+    let mut columns = Columns::empty(alloc);
     let column = Column {
         id: ColumnId(1),
         name: Name::new(alloc, "id").expect(rt, "memory"),

@@ -3,7 +3,7 @@
 ghost use Rattle.std.specs.Prelude.{◌≡◌};
 ghost use Rattle.session_local.specs.WellFormed.{IsWellFormed};
 
-use column_set::Column;
+use column_set::{Column, Columns};
 use index_derive::{Entry, EntryKind, Schema, Step};
 use jet_base::{ColType, ColumnId, CursorId, Given, Items, Jet, Name, Prepare, Session, TableId};
 use session_local::{
@@ -81,7 +81,7 @@ fn prepare_insert() -> Request {
 fn with_cursor(rt: &impl Abort, alloc: Global, local: &mut Local, label: u32) {
     let mut decision = decided(EntryKind::Open(TableId(3)));
     let schema = Schema {
-        columns: Items::empty(alloc),
+        columns: Columns::empty(alloc),
         indexes: Items::empty(alloc),
     };
     decision.table = Some((TableId(3), schema));
@@ -128,7 +128,7 @@ fn an_open_cursor_has_its_label(rt: HostRuntime) {
 
 /// A table of one sum.
 fn schema_of_a_sum(rt: &impl Abort, alloc: Global) -> Schema {
-    let mut columns = Items::empty(alloc);
+    let mut columns = Columns::empty(alloc);
     let column = Column {
         id: ColumnId(1),
         name: Name::new(alloc, "sum").expect(rt, "memory"),

@@ -1,7 +1,7 @@
 //! What no script shows of copy buffers: sums, which no call sets, the calls of a buffer itself, and memory that fails.
 
-use column_set::{Column, Record};
-use jet_base::{ColType, ColumnId, Given, Items, Jet, Name};
+use column_set::{Column, Columns, Record};
+use jet_base::{ColType, ColumnId, Given, Jet, Name};
 use record_edit::{CopyBuffer, EditFault};
 use std::alloc::Global;
 use std::process::Abort;
@@ -27,7 +27,7 @@ fn column(rt: &impl Abort, alloc: Global, id: ColumnId, kind: ColType) -> Column
 
 /// A buffer of a table with a sum and with tags.
 fn buffer(rt: &impl Abort, alloc: Global) -> CopyBuffer {
-    let mut columns = Items::empty(alloc);
+    let mut columns = Columns::empty(alloc);
     columns
         .push(column(rt, alloc, TOTAL, ColType::Long))
         .expect(rt, "memory");

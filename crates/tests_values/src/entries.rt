@@ -6,7 +6,7 @@ ghost use Rattle.std.specs.Prelude.{◌≡◌, ◌≤◌, ◌∷◌, [], map};
 ghost use Rattle.column_set.specs.RecordValues.{values_of};
 
 use crate::entries::cases::{CASES, Case, PLAIN};
-use column_set::{Column, Values};
+use column_set::{Column, Columns, Values};
 use index_derive::derive::{entries, next_entry, yields};
 use index_derive::{
     Condition, DeriveFault, IndexFlags, IndexRule, Schema, Segment, a_primary_index_has_one_entry,
@@ -66,7 +66,7 @@ fn column(alloc: Global, id: u16, kind: ColType, multi: bool) -> Result<Column, 
 
 /// Columns 256 and 257 of the type, which may be multi-valued.
 fn schema(alloc: Global, kind: ColType, multi: bool) -> Result<Schema, OutOfMemory> {
-    let mut columns = Items::empty(alloc);
+    let mut columns = Columns::empty(alloc);
     columns.push(column(alloc, 256, kind, multi)?)?;
     columns.push(column(alloc, 257, kind, multi)?)?;
     Ok(Schema {

@@ -1,7 +1,7 @@
 //! Columns, bookmarks and the values of records.
 
-use column_set::{Bookmark, Column, Record, Values, column_named, column_of_id};
-use jet_base::{ColType, ColumnId, Items, Name, Octets};
+use column_set::{Bookmark, Column, Columns, Record, Values, column_named, column_of_id};
+use jet_base::{ColType, ColumnId, Name, Octets};
 use std::alloc::Global;
 use std::process::Abort;
 use std::test::*;
@@ -29,7 +29,7 @@ fn a_column_is_copied(rt: HostRuntime) {
 
 #[test]
 fn a_column_is_found(rt: HostRuntime) {
-    let mut columns = Items::empty(rt.alloc());
+    let mut columns = Columns::empty(rt.alloc());
     columns.push(column(&rt, rt.alloc())).expect(&rt, "memory");
     let name = Name::new(rt.alloc(), "id").expect(&rt, "memory");
     assert!(&rt; column_named(&columns, &name).is_some());
@@ -71,12 +71,12 @@ fn set_only(rt: &impl Abort, alloc: Global, record: &mut Record, column: ColumnI
 fn set(rt: &impl Abort, alloc: Global, record: &mut Record, at: usize, bytes: &[u8]) {
     assert!(rt; at < record.values(TAGS).len());
     let value = octets(rt, alloc, bytes);
-    record.set_value(TAGS, at, value);
+    record.set_value(TAGS, at, value).expect(rt, "memory");
 }
 
 fn remove(rt: &impl Abort, record: &mut Record, at: usize) {
     assert!(rt; at < record.values(TAGS).len());
-    record.remove_value(TAGS, at);
+    record.remove_value(TAGS, at).expect(rt, "memory");
 }
 
 /// A number, a text, and two tags of which the last is empty.
@@ -114,9 +114,9 @@ fn values_are_replaced_and_cleared(rt: HostRuntime) {
     let mut record = filled(&rt, rt.alloc());
     set_only(&rt, rt.alloc(), &mut record, TEXT, b"Bob");
     let copy = record.copy().expect(&rt, "memory");
+    record.clear(TEXT).expect(&rt, "memory");
+    record.clear(TAGS).expect(&rt, "memory");
     assert!(&rt; copy.value(TEXT, 0) == Some(b"Bob".as_slice()));
-    record.clear(TEXT);
-    record.clear(TAGS);
     assert!(&rt; record.values(TEXT).is_empty());
     assert!(&rt; record.size() == 2 + 9);
 }
@@ -129,4 +129,12 @@ fn a_value_past_255_bytes_takes_16(rt: HostRuntime) {
         push(&rt, rt.alloc(), &mut record, TAGS, &bytes[..length]);
         assert!(&rt; record.size() == size, "{length} bytes");
     }
+}
+
+fn crosses_threads<T: Send + Sync>(_: &T) {}
+
+#[test]
+fn records_and_columns_cross_threads(rt: HostRuntime) {
+    crosses_threads(&Record::new(rt.alloc()));
+    crosses_threads(&Columns::empty(rt.alloc()));
 }

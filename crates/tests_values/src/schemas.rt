@@ -1,6 +1,6 @@
 //! The schema of a table.
 
-use column_set::Column;
+use column_set::{Column, Columns};
 use index_derive::{IndexFlags, IndexRule, Schema, Segment};
 use jet_base::{ColType, ColumnId, IndexId, Items, Name};
 use std::alloc::Global;
@@ -24,8 +24,8 @@ fn name(rt: &impl Abort, alloc: Global, text: &str) -> Name {
     Name::new(alloc, text).expect(rt, "memory")
 }
 
-fn columns(rt: &impl Abort, alloc: Global) -> Items<Column> {
-    let mut columns = Items::empty(alloc);
+fn columns(rt: &impl Abort, alloc: Global) -> Columns {
+    let mut columns = Columns::empty(alloc);
     let column = Column {
         id: ColumnId(1),
         name: name(rt, alloc, "id"),

@@ -12,5 +12,5 @@ returns-clause-made c =
     filter_same _ stays _ (λ x b q k. search (rules, tests)) _ _ c.retain.ensures.filtered in
     let copied : c.in_ok-columns.columns.items ≡ c.self.inside.schema.columns =
     c.in_ok-columns.ensures.items_if_clones_equal (λ x y e. e) ∙ c.columns.ensures ∙ ap (λ (t : Table). t.columns) (sym c.self.view_is) in
-    let made : c.new.result ≡ filter stays c.self.inside.schema.columns = c.new.ensures ∙ kept ∙ ap (filter stays) copied in
+    let made : c.in_ok-shared.shared ≡ filter stays c.self.inside.schema.columns = c.in_ok-shared.ensures ∙ kept ∙ ap (filter stays) copied in
     rw (← c.self.view_is, made)

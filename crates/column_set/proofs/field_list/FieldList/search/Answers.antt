@@ -1,7 +1,7 @@
 use Rattle.std.proofs.Common.{rules}
 use Rattle.std.proofs.lemmas.List.Sorted.{answers_always}
 use Rattle.column_set.proofs.Places.{searched, rises}
-use Rattle.column_set.proofs.records.Record.search.Goals as goal
+use Rattle.column_set.proofs.field_list.FieldList.search.Goals as goal
 
 -- the closure gives a field's column, and the slice is the record's fields
 pub returns : goal.returns

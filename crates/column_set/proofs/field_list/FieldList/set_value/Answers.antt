@@ -2,7 +2,7 @@ use Rattle.std.proofs.Common.{ap, ◌≡◌, length, slice_set, arith}
 use Rattle.std.proofs.Math.ListN.{length-set}
 use Rattle.column_set.specs.RecordValues.{values_of}
 use Rattle.column_set.proofs.Edits.{field_at, written, is_record-changed, values_in_gap}
-use Rattle.column_set.proofs.records.Record.set_value.Goals as goal
+use Rattle.column_set.proofs.field_list.FieldList.set_value.Goals as goal
 
 pub set-requires : goal.set-requires
 set-requires c = rw (field_at _ _ c.self.view_is _ _ _ c.index_mut.ensures.value c.in-Ok.ensures.found) c.requires

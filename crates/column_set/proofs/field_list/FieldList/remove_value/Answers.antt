@@ -3,7 +3,7 @@ use Rattle.std.specs.List.{remove}
 use Rattle.std.proofs.lemmas.List.Edits.{length-remove}
 use Rattle.column_set.specs.RecordValues.{values_of, with_values}
 use Rattle.column_set.proofs.Edits.{field_at, written, removed, is_record-changed, values_in_gap, none_left}
-use Rattle.column_set.proofs.records.Record.remove_value.Goals as goal
+use Rattle.column_set.proofs.field_list.FieldList.remove_value.Goals as goal
 
 -- how many values the column has, from how many were read
 many : {seen values : List (List ℕ)} {field : ℕ × List (List ℕ)} {column : ℕ} → 1 < length seen → seen ≡ field.1 → field ≡ (column, values) → 1 < length values

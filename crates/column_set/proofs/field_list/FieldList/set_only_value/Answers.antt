@@ -1,6 +1,6 @@
 use Rattle.std.proofs.Common.{[], ◌∷◌, arith}
 use Rattle.column_set.proofs.Edits.{written, is_record-changed}
-use Rattle.column_set.proofs.records.Record.set_only_value.Goals as goal
+use Rattle.column_set.proofs.field_list.FieldList.set_only_value.Goals as goal
 
 pub returns-in-Ok : goal.returns-in-Ok
 returns-in-Ok c = written _ _ c.self.view_is _ _ _ _ (λ values. c.args.value ∷ []) c.index_mut.ensures.value c.in-Ok.ensures.found c.set_only.ensures (omega arith)

@@ -1,6 +1,6 @@
 use Rattle.std.proofs.Common.{sym, [], ◌∙◌}
 use Rattle.column_set.proofs.Edits.{removed, is_record-changed, no_values_in_gap}
-use Rattle.column_set.proofs.records.Record.clear.Goals as goal
+use Rattle.column_set.proofs.field_list.FieldList.clear.Goals as goal
 
 pub returns-in-Ok : goal.returns-in-Ok
 returns-in-Ok c = c.remove.ensures.items ∙ removed _ _ c.self.view_is _ _ c.in-Ok.ensures.found

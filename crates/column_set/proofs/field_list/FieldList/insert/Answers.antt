@@ -1,6 +1,6 @@
 use Rattle.std.proofs.Common.{◌∙◌, [], ◌∷◌}
 use Rattle.column_set.proofs.Edits.{inserted, is_record-changed}
-use Rattle.column_set.proofs.records.Record.insert.Goals as goal
+use Rattle.column_set.proofs.field_list.FieldList.insert.Goals as goal
 
 pub returns : goal.returns
 returns c = c.in_ok-insert.ensures.items ∙ inserted _ _ c.self.view_is _ _ _ _ c.requires c.in_ok-field.ensures

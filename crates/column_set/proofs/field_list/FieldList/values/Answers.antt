@@ -2,7 +2,7 @@ use Rattle.std.proofs.Common.{ap, sym, subst, ℕ, List, ◌∙◌}
 use Rattle.std.specs.Prelude.{IsTrue}
 use Rattle.column_set.specs.Record.{is_record}
 use Rattle.column_set.proofs.Edits.{field_at, values_in_gap, with_values-values_of}
-use Rattle.column_set.proofs.records.Record.values.Goals as goal
+use Rattle.column_set.proofs.field_list.FieldList.values.Goals as goal
 
 -- the field at the column's place has the values
 pub returns-in-Ok-clause-values : goal.returns-in-Ok-clause-values

@@ -1,0 +1,177 @@
+//! The columns of a record, each with its values.
+
+ghost use Rattle.std.specs.Prelude.{◌≡◌, ◌+◌, ◌-◌, ◌^◌, ◌<◌, ◌≤◌, ℕ, List, [], ◌∷◌, ◌++◌, length, min, remove, slice_set, IfOk, IfErr, IsTrue, if◌then◌else◌, is_ok};
+ghost use Rattle.column_set.specs.Record.{is_record};
+ghost use Rattle.column_set.specs.RecordPlaces.{IsPlaceOf, IsGapFor};
+ghost use Rattle.column_set.specs.RecordValues.{values_of, with_values, record_size, size_of_values};
+
+use crate::fields::{Field, size_of_values};
+use jet_base::{ColumnId, Octets, OutOfMemory};
+use std::alloc::{AllocError, Global};
+use std::marker::Model;
+
+// What a row takes for the count of its values.
+pub(crate) const COUNT_SIZE: usize = 2;
+
+/// For each column that has a value, by rising number, its values in their order.
+#[derive(Debug, Drop)]
+pub(crate) struct FieldList {
+    fields: Vec<Field>,
+}
+
+impl Model for FieldList {
+    ghost use Rattle.std.specs.Prelude.{List, ℕ, IsTrue};
+    ghost use Rattle.column_set.specs.Record.{is_record};
+
+    ghost Value = { List (ℕ × List (List ℕ)) };
+
+    ghost view = { λ a. a.fields.items };
+
+    ghost invariant = { λ a. IsTrue (is_record a.fields.items) };
+}
+
+impl FieldList {
+    /// The list without a column. It takes no memory.
+    pub(crate) fn new(alloc: Global) -> FieldList
+        ensures { result ≡ [] }
+    {
+        FieldList {
+            fields: Vec::new(alloc),
+        }
+    }
+
+    /// The values of the column, none where it is NULL. The record with them is the record itself.
+    pub(crate) fn values(&self, column: ColumnId) -> &[Octets]
+        ensures values { result.now ≡ values_of self.now column.0 }
+        ensures same { with_values self.now column.0 (values_of self.now column.0) ≡ self.now }
+    {
+        match self.search(column) {
+            Ok(place) => self.fields[place].values(),
+            Err(_) => &[],
+        }
+    }
+
+    /// The columns that have a value, by rising number, each with its values in their order.
+    pub(crate) fn fields(&self) -> &[Field]
+        ensures fields { result.now ≡ self.now }
+        ensures formed { IsTrue (is_record self.now) }
+    {
+        self.fields.as_slice()
+    }
+
+    /// The in-page size of the record, in bytes: its row is refused where that is more than 1,700. Past the largest
+    /// number it is that number.
+    pub(crate) fn size(&self) -> usize
+        ensures { result ≡ min (record_size self.now) (2 ^ 64 - 1) }
+    {
+        let mut total = COUNT_SIZE;
+        for field in self.fields.iter() {
+            total = total.saturating_add(size_of_values(field.values()));
+        }
+        total
+    }
+
+    /// The size that the record has without the values of the column. With other values there it has their room on
+    /// top.
+    pub(crate) fn size_without(&self, column: ColumnId) -> usize
+        ensures size { result ≡ min (record_size (with_values self.now column.0 [])) (2 ^ 64 - 1) }
+        ensures room { (values : List (List ℕ)) → record_size (with_values self.now column.0 values) ≡ record_size (with_values self.now column.0 []) + size_of_values values }
+    {
+        let mut total = COUNT_SIZE;
+        for field in self.fields.iter() {
+            if field.column() != column.0 {
+                total = total.saturating_add(size_of_values(field.values()));
+            }
+        }
+        total
+    }
+
+    /// Puts the value in the place of another of the column. Places are counted from 0.
+    pub(crate) fn set_value(&mut self, column: ColumnId, at: usize, value: Octets)
+        requires { at < length (values_of self.old column.0) }
+        ensures { self.new ≡ with_values self.old column.0 (slice_set (values_of self.old column.0) at value) }
+    {
+        if let Ok(place) = self.search(column) {
+            self.fields[place].set(at, value);
+        }
+    }
+
+    /// Puts the value in the place of all values of the column. Where there is no memory all stays.
+    pub(crate) fn set_only_value(
+        &mut self,
+        column: ColumnId,
+        value: Octets,
+    ) -> Result<(), OutOfMemory>
+        ensures { self.new ≡ (if is_ok result then with_values self.old column.0 (value ∷ []) else self.old) }
+    {
+        match self.search(column) {
+            Ok(place) => {
+                self.fields[place].set_only(value);
+                Ok(())
+            }
+            Err(place) => self.insert(place, column, value),
+        }
+    }
+
+    /// Puts one more value behind those of the column. Where there is no memory all stays.
+    pub(crate) fn push_value(&mut self, column: ColumnId, value: Octets) -> Result<(), OutOfMemory>
+        ensures { self.new ≡ (if is_ok result then with_values self.old column.0 (values_of self.old column.0 ++ value ∷ []) else self.old) }
+    {
+        match self.search(column) {
+            Ok(place) => self.fields[place].push(value),
+            Err(place) => self.insert(place, column, value),
+        }
+    }
+
+    /// Takes a value of the column out, and the later ones close up. Places are counted from 0.
+    pub(crate) fn remove_value(&mut self, column: ColumnId, at: usize)
+        requires { at < length (values_of self.old column.0) }
+        ensures { self.new ≡ with_values self.old column.0 (remove (values_of self.old column.0) at) }
+    {
+        if let Ok(place) = self.search(column) {
+            if self.fields[place].values().len() > 1 {
+                self.fields[place].remove(at);
+            } else {
+                self.fields.remove(place);
+            }
+        }
+    }
+
+    /// Takes all values of the column out, so that it is NULL.
+    pub(crate) fn clear(&mut self, column: ColumnId)
+        ensures { self.new ≡ with_values self.old column.0 [] }
+    {
+        if let Ok(place) = self.search(column) {
+            self.fields.remove(place);
+        }
+    }
+
+    // Puts a column with one value into its gap.
+    fn insert(&mut self, place: usize, column: ColumnId, value: Octets) -> Result<(), OutOfMemory>
+        requires { IsGapFor self.old column.0 place }
+        ensures { self.new ≡ (if is_ok result then with_values self.old column.0 (value ∷ []) else self.old) }
+    {
+        let field = Field::new(*self.fields.allocator(), column, value)?;
+        self.fields.insert(place, field)?;
+        Ok(())
+    }
+
+    // Where the column's field is, or where it would go.
+    fn search(&self, column: ColumnId) -> Result<usize, usize>
+        ensures found { IfOk result (IsPlaceOf self.now column.0) }
+        ensures absent { IfErr result (IsGapFor self.now column.0) }
+    {
+        self.fields
+            .binary_search_by_key(&column.0, |field| field.column())
+    }
+}
+
+impl Clone for FieldList {
+    ghost is_clone = { λ a b. b ≡ a };
+
+    fn clone(&self) -> Result<FieldList, AllocError> {
+        Ok(FieldList {
+            fields: self.fields.clone()?,
+        })
+    }
+}
