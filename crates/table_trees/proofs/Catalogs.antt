@@ -1,17 +1,23 @@
 -- A catalog that stands beside trees that change.
-use Rattle.std.proofs.Common.{◌≡◌, ℕ, ◌+◌, ◌≤◌, Bool, true, false, Option, Some, None, List, [], ◌∷◌, refl, sym, ap, subst, ◌∙◌, true≢false}
-use Rattle.database_state.specs.Table.{Table, table_with_id}
-use Rattle.jet_catalog.specs.Catalog.{CatalogState}
+use Rattle.std.proofs.Common.{◌≡◌, ℕ, ◌+◌, ◌≤◌, Bool, true, false, Option, Some, None, List, [], ◌∷◌, ◌++◌, refl, sym, ap, subst, ◌∙◌, true≢false}
+use Rattle.jet_base.specs.Ids.{table_id}
+use Rattle.jet_base.specs.declared.ids.TableId.{TableId}
+use Rattle.column_set.specs.declared.columns.Column.{Column}
+use Rattle.index_derive.specs.declared.schema_calls.SchemaStep.{SchemaStep}
+use Rattle.index_derive.specs.declared.schema_calls.SchemaStep.TheVariants as step
+use Rattle.database_state.specs.SchemaChanges.{new_table, with_column}
+use Rattle.database_state.specs.Table.{Table, table_with_id, with_table}
+use Rattle.jet_catalog.specs.Catalog.{CatalogState, catalog_after}
 use Rattle.page_image.specs.Page.{Node}
 use Rattle.catalog_grammar.specs.Catalogs.{catalog_nodes}
 use Rattle.catalog_changes.specs.CatalogSteps.{Roots, has_nodes, nodes_of_catalog}
 use Rattle.page_space.specs.Frames.{Frames}
 use Rattle.btree_inplace.specs.Trees.{AreApart, Exchanges}
 use Rattle.catalog_tree.specs.CatalogTrees.{CatalogBecomes, IsCatalogTree, nodes_in, own_pages}
-use Rattle.catalog_tree.specs.CatalogsKept.{HoldsCatalog}
+use Rattle.catalog_tree.specs.CatalogsKept.{HoldsCatalog, HoldsStep}
 use Rattle.catalog_tree.specs.declared.tree.CatalogTree.{CatalogTree}
 use Rattle.table_trees.specs.Pages.{Rearranges, copies, times_taken}
-use Rattle.table_trees.specs.KeptCatalogs.{HoldsKept, IsKeptCatalog, IsTreeOrNone, KeptBecomes, KeptFollows, kept_nodes, kept_pages, nodes_of_tree, pages_of_tree}
+use Rattle.table_trees.specs.KeptCatalogs.{HoldsKept, HoldsKeptStep, IsKeptCatalog, IsTreeOrNone, KeptBecomes, KeptFollows, kept_nodes, kept_pages, nodes_of_tree, pages_of_tree}
 use Rattle.table_trees.specs.declared.catalog.KeptCatalog.{KeptCatalog}
 use Rattle.table_trees.proofs.Pages.{apart, exchanged, nothing_own, rearranged, rearranged_twice, unchanged}
 use Rattle.table_trees.proofs.NodeChanges.{TreePagesAreOwn}
@@ -113,3 +119,31 @@ has_tree frames given roots catalog id t none h there =
         is_there : Option Table → Bool
         is_there None = false
         is_there (Some x) = true
+
+-- ---- a step that is taken back
+
+pub step_in_tree : (frames : Frames) (given : Option CatalogTree) (tree : CatalogTree) (roots : Roots) (catalog : CatalogState) (made : SchemaStep) → given ≡ Some tree → HoldsKeptStep frames (kept_tree given) roots catalog made → HoldsStep frames tree roots catalog made
+step_in_tree frames given tree roots catalog made e h = record {
+  tree = subst (IsTreeOrNone frames) e h.tree;
+  nodes = ap (nodes_of_tree frames) (sym e) ∙ h.nodes;
+  through = h.through;
+}
+
+-- a catalog without a tree has no table after a step
+none_after : (frames : Frames) (given : Option CatalogTree) (roots : Roots) (catalog : CatalogState) (made : SchemaStep) → given ≡ None → HoldsKeptStep frames (kept_tree given) roots catalog made → (catalog_after catalog made).tables ≡ []
+none_after frames given roots catalog made none h =
+    no_tables roots (catalog_after catalog made).greatest_table (catalog_after catalog made).tables (ap (nodes_of_tree frames) (sym none) ∙ h.nodes)
+
+pub new_table_has_tree : {A : Type 0} (frames : Frames) (given : Option CatalogTree) (roots : Roots) (catalog : CatalogState) (table : TableId) (name : List ℕ) → given ≡ None → HoldsKeptStep frames (kept_tree given) roots catalog (step.CreateTable table name) → A
+new_table_has_tree frames given roots catalog table name none h = absurd (one_more catalog.tables (none_after frames given roots catalog (step.CreateTable table name) none h))
+  where
+    one_more : (tables : List Table) → tables ++ new_table table.0 name ∷ [] ≡ [] → ⊥
+    one_more [] e = cc
+    one_more (t ∷ tables) e = cc
+
+pub column_has_tree : {A : Type 0} (frames : Frames) (given : Option CatalogTree) (roots : Roots) (catalog : CatalogState) (t : Table) (column : Column) → given ≡ None → HoldsKeptStep frames (kept_tree given) roots catalog (step.AddColumn (table_id t.id) column) → table_with_id catalog.tables t.id ≡ Some t → A
+column_has_tree frames given roots catalog t column none h there = absurd (some catalog.tables there (none_after frames given roots catalog (step.AddColumn (table_id t.id) column) none h))
+  where
+    some : (tables : List Table) → table_with_id tables t.id ≡ Some t → with_table t.id (with_column column) tables ≡ [] → ⊥
+    some [] there e = cc
+    some (x ∷ tables) there e = cc

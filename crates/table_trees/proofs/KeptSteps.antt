@@ -2,14 +2,15 @@
 use Rattle.std.proofs.Common.{◌≡◌, ℕ, suc, ◌+◌, ◌-◌, ◌==◌, ◌<◌, ◌≤◌, Bool, true, Option, Some, None, List, [], ◌∷◌, ◌++◌, get_or, map, find, option_map, unwrap_or, refl, sym, ap, subst, ◌∙◌, arith}
 use Rattle.std.specs.Prelude.{count_by}
 use Rattle.std.specs.List.{flat_map, position_from}
+use Rattle.index_derive.specs.declared.schema_calls.SchemaStep.{SchemaStep}
 use Rattle.jet_catalog.specs.Catalog.{CatalogState}
 use Rattle.page_image.specs.Page.{Node}
 use Rattle.page_space.specs.Frames.{Frames}
 use Rattle.table_trees.specs.Pages.{copies}
 use Rattle.table_trees.specs.StoredTables.{StoredTable, is_table}
 use Rattle.table_trees.specs.StoredTrees.{StoredCatalog, StoredRoots, StoredTrees, are_roots_of, no_roots, root_behind, roots_by_number, told_roots}
-use Rattle.table_trees.specs.ShownCatalogs.{ShowsCatalog}
-use Rattle.table_trees.specs.KeptCatalogs.{HoldsKept, KeptBecomes, KeptFollows, kept_nodes, kept_pages}
+use Rattle.table_trees.specs.ShownCatalogs.{ShowsCatalog, ShowsStep}
+use Rattle.table_trees.specs.KeptCatalogs.{HoldsKept, HoldsKeptStep, KeptBecomes, KeptFollows, kept_nodes, kept_pages}
 use Rattle.table_trees.specs.TableParts.{IsTable, index_root, stored_table, table_pages, tree_roots}
 use Rattle.table_trees.specs.TreesView.{AreTables, stored_catalog, stored_tables}
 use Rattle.table_trees.specs.declared.catalog.KeptCatalog.{KeptCatalog}
@@ -92,3 +93,8 @@ holds_shown frames cat tables s catalog are e shows =
 
 pub shows_after : {old new : Frames} {cat is : KeptCatalog} (tables : List Table) {after : CatalogState} → KeptFollows old cat new is (roots_by_number (map tree_roots tables)) after → ShowsCatalog (stored_catalog new is tables) after
 shows_after tables f = record { nodes = f.becomes.nodes; writable = f.writable }
+
+pub step_shown : (frames : Frames) (cat : KeptCatalog) (tables : List Table) (s : StoredTrees) (catalog : CatalogState) (made : SchemaStep) → AreTables frames cat tables → stored_trees frames cat tables ≡ s → ShowsStep s.catalog catalog made → HoldsKeptStep frames cat (roots_by_number (map tree_roots tables)) catalog made
+step_shown frames cat tables s catalog made are e shows =
+    let h : ShowsStep (stored_catalog frames cat tables) catalog made = subst (λ (c : StoredCatalog). ShowsStep c catalog made) (sym (catalog_same e)) shows in
+    record { tree = are.catalog; nodes = h.after.nodes; through = record { before = h.before; after = h.after.writable } }

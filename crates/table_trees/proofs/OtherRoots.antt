@@ -109,12 +109,15 @@ keeps_where i p f k = record {
     by_number : (r : StoredRoots) (b : Bool) → (if b then f r else r).number ≡ r.number
     by_number r true = k.number r
     by_number r false = refl
+
     by_records : (r : StoredRoots) (b : Bool) → (if b then f r else r).records ≡ r.records
     by_records r true = k.records r
     by_records r false = refl
+
     by_long : (r : StoredRoots) (b : Bool) → (if b then f r else r).long_values ≡ r.long_values
     by_long r true = k.long_values r
     by_long r false = refl
+
     by_others : (r : StoredRoots) (j : ℕ) → (j == i) ≡ false → (b : Bool) → root_behind j (if b then f r else r).indexes ≡ root_behind j r.indexes
     by_others r j other true = k.others r j other
     by_others r j other false = refl

@@ -1,12 +1,12 @@
 -- The catalog that the nodes beside the tables show, and what its schema steps ask of a new table, column or index.
 use Rattle.std.specs.Prelude.{◌≡◌, ℕ, ◌<◌, true, false, Some, List}
-use Rattle.jet_base.specs.declared.ids.ColumnId.{ColumnId}
 use Rattle.jet_base.specs.declared.ids.TableId.{TableId}
 use Rattle.column_set.specs.declared.columns.Column.{Column}
 use Rattle.index_derive.specs.declared.rules.IndexRule.{IndexRule}
+use Rattle.index_derive.specs.declared.schema_calls.SchemaStep.{SchemaStep}
 use Rattle.database_state.specs.SchemaChanges.{has_column, with_column}
 use Rattle.database_state.specs.Table.{GreatestColumns, Table, table_with_id}
-use Rattle.jet_catalog.specs.Catalog.{CatalogState, IsNumbered}
+use Rattle.jet_catalog.specs.Catalog.{CatalogState, IsNumbered, catalog_after}
 use Rattle.log_grammar.specs.EntryBytes.{column_fits, index_fits, name_fits}
 use Rattle.catalog_changes.specs.CatalogSteps.{has_index, has_nodes, nodes_of_catalog}
 use Rattle.table_trees.specs.StoredTrees.{StoredCatalog, roots_by_number}
@@ -15,6 +15,11 @@ use Rattle.table_trees.specs.StoredTrees.{StoredCatalog, roots_by_number}
 pub record ShowsCatalog (stored : StoredCatalog) (catalog : CatalogState) : Type 0 where
   pub nodes : stored.nodes ≡ nodes_of_catalog (roots_by_number stored.roots) catalog
   pub writable : has_nodes (roots_by_number stored.roots) catalog ≡ true
+
+-- They are those of a catalog after a step, which may be taken back: those before it can be written, too.
+pub record ShowsStep (stored : StoredCatalog) (catalog : CatalogState) (made : SchemaStep) : Type 0 where
+  pub after : ShowsCatalog stored (catalog_after catalog made)
+  pub before : has_nodes (roots_by_number stored.roots) catalog ≡ true
 
 -- ---- what a step asks of the catalog
 

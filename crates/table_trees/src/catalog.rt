@@ -1,14 +1,14 @@
 //! The catalog, in a tree beside those of the tables.
 
-ghost use Rattle.std.specs.Prelude.{◌≡◌, [], None, Some, true, is_some, OnErr, OnOk};
+ghost use Rattle.std.specs.Prelude.{◌≡◌, ℕ, List, [], None, Some, true, is_some, OnErr, OnOk};
 ghost use Rattle.jet_base.specs.Ids.{table_id};
 ghost use Rattle.index_derive.specs.declared.schema_calls.SchemaStep.TheVariants as step;
 ghost use Rattle.database_state.specs.Table.{table_with_id};
 ghost use Rattle.jet_catalog.specs.Catalog.{CatalogState, catalog_after};
 ghost use Rattle.catalog_changes.specs.CatalogSteps.{Roots};
-ghost use Rattle.catalog_tree.specs.CatalogsKept.{HasColumn, HasIndex, TakesColumn, TakesIndex, TakesTable};
+ghost use Rattle.catalog_tree.specs.CatalogsKept.{HasColumn, HasIndex, HasTable, TakesColumn, TakesIndex, TakesTable};
 ghost use Rattle.table_trees.specs.Pages.{OthersStay};
-ghost use Rattle.table_trees.specs.KeptCatalogs.{HoldsKept, IsKeptCatalog, KeptBecomes, KeptFollows, kept_nodes, kept_pages};
+ghost use Rattle.table_trees.specs.KeptCatalogs.{HoldsKept, HoldsKeptStep, IsKeptCatalog, KeptBecomes, KeptFollows, kept_nodes, kept_pages};
 
 use crate::nodes::tree_pages_are_own;
 use catalog_tree::{CatalogTree, other_catalogs_stay};
@@ -148,6 +148,37 @@ impl KeptCatalog {
         tree_pages_are_own();
         match &mut self.tree {
             Some(tree) => tree.delete_table(space, table),
+            None => {}
+        }
+    }
+
+    /// Takes back a table that was just created. It takes no memory.
+    pub fn take_back_table(&mut self, space: &mut Space, table: TableId, greatest: u32)
+        requires { (roots : Roots) × (catalog : CatalogState) × (name : List ℕ) × HoldsKeptStep space.old self.old roots catalog (step.CreateTable table name) × (catalog.greatest_table ≡ greatest) }
+        ensures { (roots : Roots) (catalog : CatalogState) (name : List ℕ) → HoldsKeptStep space.old self.old roots catalog (step.CreateTable table name) → catalog.greatest_table ≡ greatest → KeptFollows space.old self.old space.new self.new roots catalog }
+    {
+        tree_pages_are_own();
+        match &mut self.tree {
+            Some(tree) => tree.take_back_table(space, table, greatest),
+            None => {}
+        }
+    }
+
+    /// Takes back a column that was just added. It takes no memory.
+    pub fn take_back_column(
+        &mut self,
+        space: &mut Space,
+        table: &TableDef,
+        column: &Column,
+        records: u32,
+        long_values: u32,
+    )
+        requires { (roots : Roots) × (catalog : CatalogState) × HoldsKeptStep space.old self.old roots catalog (step.AddColumn (table_id table.now.id) column.now) × HasTable roots catalog table.now records long_values }
+        ensures { (roots : Roots) (catalog : CatalogState) → HoldsKeptStep space.old self.old roots catalog (step.AddColumn (table_id table.now.id) column.now) → HasTable roots catalog table.now records long_values → KeptFollows space.old self.old space.new self.new roots catalog }
+    {
+        tree_pages_are_own();
+        match &mut self.tree {
+            Some(tree) => tree.take_back_column(space, table, column, records, long_values),
             None => {}
         }
     }

@@ -1,13 +1,13 @@
 //! What schema steps write into the catalog beside the tables.
 
-ghost use Rattle.std.specs.Prelude.{◌≡◌, ℕ, true, false, Some, None, IfSome, OnErr, OnOk};
+ghost use Rattle.std.specs.Prelude.{◌≡◌, ℕ, List, true, false, Some, None, IfSome, OnErr, OnOk};
 ghost use Rattle.jet_base.specs.Ids.{table_id};
 ghost use Rattle.index_derive.specs.declared.schema_calls.SchemaStep.TheVariants as step;
 ghost use Rattle.database_state.specs.Table.{table_with_id};
 ghost use Rattle.jet_catalog.specs.Catalog.{CatalogState, catalog_after};
 ghost use Rattle.catalog_changes.specs.CatalogSteps.{has_index};
 ghost use Rattle.catalog_tree.specs.CatalogsKept.{HasColumn, HasIndex};
-ghost use Rattle.table_trees.specs.ShownCatalogs.{IsNewColumn, IsNewIndex, IsNewTable, ShowsCatalog};
+ghost use Rattle.table_trees.specs.ShownCatalogs.{IsNewColumn, IsNewIndex, IsNewTable, ShowsCatalog, ShowsStep};
 ghost use Rattle.table_trees.specs.StoredTables.{has_table};
 ghost use Rattle.table_trees.specs.StoredTrees.{StoredCatalog, with_root_of, with_table_roots, without_root_of, without_table_roots};
 
@@ -96,6 +96,41 @@ impl TableTrees {
                     .create_index(&mut self.space, table, root, rule)
             }
             None => Ok(()),
+        }
+    }
+
+    /// Takes back a table that was just kept: the catalog is the one before again, with its greatest number. It takes no
+    /// memory.
+    pub fn take_back_table(&mut self, table: TableId, greatest: u32)
+        requires { (catalog : CatalogState) × (name : List ℕ) × ShowsStep self.old.catalog catalog (step.CreateTable table name) × (catalog.greatest_table ≡ greatest) }
+        ensures shown { (catalog : CatalogState) (name : List ℕ) → ShowsStep self.old.catalog catalog (step.CreateTable table name) → catalog.greatest_table ≡ greatest → ShowsCatalog self.new.catalog catalog }
+        ensures tables { self.new.tables ≡ self.old.tables }
+        ensures roots { self.new.catalog.roots ≡ self.old.catalog.roots }
+    {
+        tables_stay();
+        self.catalog
+            .take_back_table(&mut self.space, table, greatest);
+    }
+
+    /// Takes back a column that was just kept: the catalog is the one before again. It takes no memory.
+    pub fn take_back_column(&mut self, table: &TableDef, column: &Column)
+        requires there { has_table self.old.tables table.now.id ≡ true }
+        requires step { (catalog : CatalogState) × ShowsStep self.old.catalog catalog (step.AddColumn (table_id table.now.id) column.now) × (table_with_id catalog.tables table.now.id ≡ Some table.now) }
+        ensures shown { (catalog : CatalogState) → ShowsStep self.old.catalog catalog (step.AddColumn (table_id table.now.id) column.now) → table_with_id catalog.tables table.now.id ≡ Some table.now → ShowsCatalog self.new.catalog catalog }
+        ensures tables { self.new.tables ≡ self.old.tables }
+        ensures roots { self.new.catalog.roots ≡ self.old.catalog.roots }
+    {
+        tables_stay();
+        let id = table.id();
+        match table_place(self.tables.as_slice(), id) {
+            Some(i) => {
+                let named = &self.tables[i];
+                let records = named.nodes.root();
+                let long_values = named.long_values.root();
+                self.catalog
+                    .take_back_column(&mut self.space, table, column, records, long_values);
+            }
+            None => {}
         }
     }
 
