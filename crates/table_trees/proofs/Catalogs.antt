@@ -10,7 +10,7 @@ use Rattle.database_state.specs.Table.{Table, table_with_id, with_table}
 use Rattle.jet_catalog.specs.Catalog.{CatalogState, catalog_after}
 use Rattle.page_image.specs.Page.{Node}
 use Rattle.catalog_grammar.specs.Catalogs.{catalog_nodes}
-use Rattle.catalog_changes.specs.CatalogSteps.{Roots, has_nodes, nodes_of_catalog}
+use Rattle.catalog_changes.specs.CatalogSteps.{Roots, nodes_of_catalog}
 use Rattle.page_space.specs.Frames.{Frames}
 use Rattle.btree_inplace.specs.Trees.{AreApart, Exchanges}
 use Rattle.catalog_tree.specs.CatalogTrees.{CatalogBecomes, IsCatalogTree, nodes_in, own_pages}

@@ -1,5 +1,5 @@
 -- The catalog beside the tables changes, and its schema steps find the roots of their trees.
-use Rattle.std.proofs.Common.{◌≡◌, ℕ, suc, ◌+◌, ◌-◌, ◌==◌, ◌<◌, ◌≤◌, Bool, true, Option, Some, None, List, [], ◌∷◌, ◌++◌, get_or, map, find, option_map, unwrap_or, refl, sym, ap, subst, ◌∙◌, arith}
+use Rattle.std.proofs.Common.{◌≡◌, ℕ, suc, ◌+◌, ◌-◌, ◌==◌, Bool, Option, Some, None, List, [], ◌∷◌, get_or, map, find, option_map, unwrap_or, sym, ap, subst, ◌∙◌, arith}
 use Rattle.std.specs.Prelude.{count_by}
 use Rattle.std.specs.List.{flat_map, position_from}
 use Rattle.index_derive.specs.declared.schema_calls.SchemaStep.{SchemaStep}
@@ -7,7 +7,7 @@ use Rattle.jet_catalog.specs.Catalog.{CatalogState}
 use Rattle.page_image.specs.Page.{Node}
 use Rattle.page_space.specs.Frames.{Frames}
 use Rattle.table_trees.specs.Pages.{copies}
-use Rattle.table_trees.specs.StoredTables.{StoredTable, is_table}
+use Rattle.table_trees.specs.StoredTables.{is_table}
 use Rattle.table_trees.specs.StoredTrees.{StoredCatalog, StoredRoots, StoredTrees, are_roots_of, no_roots, root_behind, roots_by_number, told_roots}
 use Rattle.table_trees.specs.ShownCatalogs.{ShowsCatalog, ShowsStep}
 use Rattle.table_trees.specs.KeptCatalogs.{HoldsKept, HoldsKeptStep, KeptBecomes, KeptFollows, kept_nodes, kept_pages}

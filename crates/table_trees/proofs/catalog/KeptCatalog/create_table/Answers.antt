@@ -1,5 +1,4 @@
 -- The tree is made first where there is none, and then does it.
-use Rattle.jet_base.specs.Ids.{table_id}
 use Rattle.index_derive.specs.declared.schema_calls.SchemaStep.TheVariants as step
 use Rattle.jet_catalog.specs.Catalog.{catalog_after}
 use Rattle.table_trees.proofs.Catalogs.{becomes_then, follows_then, holds_still, holds_tree, tree_follows, tree_same}

@@ -1,5 +1,4 @@
 -- The tree does it; a catalog that has the table has a tree.
-use Rattle.jet_base.specs.Ids.{table_id}
 use Rattle.index_derive.specs.declared.schema_calls.SchemaStep.TheVariants as step
 use Rattle.jet_catalog.specs.Catalog.{catalog_after}
 use Rattle.table_trees.proofs.Catalogs.{has_tree, holds_tree, tree_follows}

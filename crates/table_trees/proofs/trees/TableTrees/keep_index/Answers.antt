@@ -1,5 +1,5 @@
 -- The catalog has the node, with the roots of trees that stand, and all tables stay.
-use Rattle.std.proofs.Common.{map, sym, ap, subst, ◌∙◌, arith, true≢false}
+use Rattle.std.proofs.Common.{map, sym, ap, ◌∙◌, arith, true≢false}
 use Rattle.catalog_grammar.specs.Catalogs.{TableRoots}
 use Rattle.table_trees.specs.StoredTrees.{StoredCatalog, roots_by_number}
 use Rattle.table_trees.specs.TableParts.{tree_roots}
