@@ -111,6 +111,7 @@ fn fill_and_make(
     ensures filled { OnOk result (IfSome (table_with_id catalog.old.tables table.0) (λ t. HasNewestKeys rule.now (table_nodes trees.old.tables table.0) (index_entries trees.new.tables table.0 rule.now.id.0) (schema_of t))) }
     ensures made { OnOk result (catalog.new ≡ catalog_after catalog.old made.now) }
     ensures err { OnErr result (catalog.new ≡ catalog.old) }
+    ensures catalog { trees.new.catalog ≡ trees.old.catalog }
 {
     match fill_table(alloc, catalog, trees, table, rule) {
         Ok(()) => catalog.make(made),
@@ -131,6 +132,7 @@ fn fill_table(
     requires fits { IsSomeAnd (table_with_id catalog.now.tables table.0) (CanFill rule.now (table_nodes trees.old.tables table.0)) }
     ensures only { OnlyEntries table.0 rule.now.id.0 trees.old.tables trees.new.tables }
     ensures filled { OnOk result (IfSome (table_with_id catalog.now.tables table.0) (λ t. HasNewestKeys rule.now (table_nodes trees.old.tables table.0) (index_entries trees.new.tables table.0 rule.now.id.0) (schema_of t))) }
+    ensures catalog { trees.new.catalog ≡ trees.old.catalog }
 {
     match catalog.by_id(table) {
         Some(known) => fill(alloc, trees, table, known.schema(), rule),

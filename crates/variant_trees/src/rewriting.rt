@@ -49,7 +49,8 @@ pub fn drop_column(
 // The values of a column go from each row of a table. It takes no memory: no row becomes longer.
 fn remove_values(trees: &mut TableTrees, table: TableId, column: ColumnId)
     requires { AllByRecursion HoldsRecord (table_nodes trees.old.tables table.0) }
-    ensures { HasNodes table.0 (map (node_without column.0) (table_nodes trees.old.tables table.0)) trees.old.tables trees.new.tables }
+    ensures nodes { HasNodes table.0 (map (node_without column.0) (table_nodes trees.old.tables table.0)) trees.old.tables trees.new.tables }
+    ensures catalog { trees.new.catalog ≡ trees.old.catalog }
 {
     nodes_after_a_change();
     rows_without_a_column();

@@ -18,7 +18,7 @@ take_back-requires-clause-there c =
 
 pub returns-in-Err-put_keys-clause-same : goal.returns-in-Err-put_keys-clause-same
 returns-in-Err-put_keys-clause-same c =
-    c.take_back.ensures c.args.trees.now.tables
+    c.take_back.ensures.back c.args.trees.now.tables
     (half_put c.args.table.0 c.args.bookmark.now (length c.args.row.now) (record_keys c.args.schema.now.indexes c.args.schema.now c.args.values.now) c.args.trees.now.tables c.make_room.new.trees.tables c.put_keys.new.trees.tables c.in-Ok.ensures.ok c.in-Err-put_keys.ensures.err)
     (node_there (find (has_key c.args.bookmark.now) (table_nodes c.args.trees.now.tables c.args.table.0)) c.args.extent c.requires.node) c.requires.keys
 

@@ -18,4 +18,4 @@ returns-in-Ok-clause-ok c =
       whole = c.rows_without_a_column.ensures.whole;
     } in
     column_deleted laws c.args.made.now c.args.table c.args.column c.requires.step c.args.catalog.now c.args.trees.now.tables c.remove_values.new.trees.tables c.nodes_are_in_order.ensures.sorted
-    c.requires.unused c.remove_values.ensures c.requires.kept c.make.new.self c.in-Ok.ensures.made
+    c.requires.unused c.remove_values.ensures.nodes c.requires.kept c.make.new.self c.in-Ok.ensures.made

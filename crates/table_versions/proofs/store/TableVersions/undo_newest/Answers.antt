@@ -36,7 +36,7 @@ invariant_of-self c =
       named = same_table c.self.inside.versions (last_place (is_open_at c.args.session.0 c.args.level) c.self.inside.versions) c.in-Some.undone.place there.0 c.in-Some.undone.table.0 last there.1 (sym (ap (option_map (λ (u : Undone). u.table.0)) c.in-Some.is) ∙ c.undo_level.ensures.table);
       kept = c.self.invariant;
     } in
-    (c.put_back.ensures c.self.inside.versions there.0 was).kept
+    (c.put_back.ensures.back c.self.inside.versions there.0 was).kept
 
 pub invariant_of-self-in-None : goal.invariant_of-self-in-None
 invariant_of-self-in-None c =
@@ -55,7 +55,7 @@ returns-in-Some-clause-store c =
       named = same_table c.self.inside.versions (last_place (is_open_at c.args.session.0 c.args.level) c.self.inside.versions) c.in-Some.undone.place there.0 c.in-Some.undone.table.0 last there.1 (sym (ap (option_map (λ (u : Undone). u.table.0)) c.in-Some.is) ∙ c.undo_level.ensures.table);
       kept = c.self.invariant;
     } in
-    last_shown c.args.session.0 c.args.level c.self.inside.catalog c.self.inside.trees.tables c.put_back.new.trees.tables c.self.inside.versions c.undo_level.new.self c.in-Some.undone.place there.0 c.args.self.now c.self.view_is last there.1 after (c.put_back.ensures c.self.inside.versions there.0 was)
+    last_shown c.args.session.0 c.args.level c.self.inside.catalog c.self.inside.trees.tables c.put_back.new.trees.tables c.self.inside.versions c.undo_level.new.self c.in-Some.undone.place there.0 c.args.self.now c.self.view_is last there.1 after (c.put_back.ensures.back c.self.inside.versions there.0 was)
 
 pub returns-in-Some-clause-found : goal.returns-in-Some-clause-found
 returns-in-Some-clause-found c =
