@@ -2,6 +2,10 @@
 
 ghost use Rattle.std.specs.Prelude.{◌≡◌, ◌<◌, ℕ, [], List, map, true, is_some, IfSome, IsSomeAnd, OnErr, OnOk};
 ghost use Rattle.database_state.specs.Table.{table_with_id};
+ghost use Rattle.jet_catalog.specs.Catalog.{catalog_after};
+ghost use Rattle.log_grammar.specs.EntryBytes.{name_fits};
+ghost use Rattle.table_trees.specs.ShownCatalogs.{ShowsCatalog};
+ghost use Rattle.table_trees.specs.StoredTables.{has_table};
 ghost use Rattle.stored_variants.specs.SchemaSteps.{IsMade, TakesColumn};
 ghost use Rattle.stored_variants.specs.VersionsKept.{AreKept, secondary_rule};
 ghost use Rattle.stored_variants.specs.VersionsView.{with_newest};
@@ -9,34 +13,70 @@ ghost use Rattle.index_derive.specs.declared.schema_calls.SchemaStep.TheVariants
 
 use column_set::Column;
 use index_derive::SchemaStep;
-use jet_base::{IndexId, OutOfMemory, TableId};
+use jet_base::{IndexId, Name, OutOfMemory, TableId};
 use jet_catalog::Catalog;
 use table_trees::{
-    TableTrees, indexes_after_a_change, indexes_without_one, tables_beside_a_new_one,
-    tables_without_one,
+    TableTrees, indexes_after_a_change, indexes_without_one, other_roots_are_not_shown,
+    tables_beside_a_new_one, tables_without_one,
 };
 
-/// A table comes, with a number above all that were given, while no change is held: its trees first, which go again where the
-/// catalog has no memory for it. After want of memory all is as it was.
+/// A table comes, with a number above all that were given, while no change is held: its trees first, which go again where
+/// there is no memory for its node in the catalog's tree or in the catalog. After want of memory all is as it was.
 pub fn create_table(
     catalog: &mut Catalog,
     trees: &mut TableTrees,
     made: &SchemaStep,
     table: TableId,
+    name: &Name,
 ) -> Result<(), OutOfMemory>
     requires kept { AreKept catalog.old.tables trees.old.tables [] }
-    requires step { (name : List ℕ) × (made.now ≡ step.CreateTable table name) }
+    requires shown { ShowsCatalog trees.old.catalog catalog.old }
+    requires step { made.now ≡ step.CreateTable table name.now }
     requires new_id { catalog.old.greatest_table < table.0 }
+    requires named { name_fits name.now ≡ true }
     ensures ok { OnOk result (IsMade made.now catalog.old trees.old.tables catalog.new trees.new.tables) }
     ensures err { OnErr result ((catalog.new ≡ catalog.old) × (trees.new.tables ≡ trees.old.tables)) }
+    ensures shown { ShowsCatalog trees.new.catalog catalog.new }
 {
     tables_beside_a_new_one();
+    other_roots_are_not_shown();
     catalog.tables();
     match trees.add_table(table) {
-        Ok(()) => match catalog.make(made) {
+        Ok(()) => match keep_and_make(catalog, trees, made, table, name) {
             Ok(()) => Ok(()),
             Err(fault) => {
                 trees.remove_table(table);
+                Err(fault)
+            }
+        },
+        Err(fault) => Err(fault),
+    }
+}
+
+// A table whose trees are there comes into the catalog beside them, and into the one in memory.
+fn keep_and_make(
+    catalog: &mut Catalog,
+    trees: &mut TableTrees,
+    made: &SchemaStep,
+    table: TableId,
+    name: &Name,
+) -> Result<(), OutOfMemory>
+    requires there { has_table trees.old.tables table.0 ≡ true }
+    requires shown { ShowsCatalog trees.old.catalog catalog.old }
+    requires step { made.now ≡ step.CreateTable table name.now }
+    requires new_id { catalog.old.greatest_table < table.0 }
+    requires named { name_fits name.now ≡ true }
+    ensures made { OnOk result (catalog.new ≡ catalog_after catalog.old made.now) }
+    ensures err { OnErr result (catalog.new ≡ catalog.old) }
+    ensures shown { ShowsCatalog trees.new.catalog catalog.new }
+    ensures tables { trees.new.tables ≡ trees.old.tables }
+{
+    catalog.tables();
+    match trees.keep_table(table, name) {
+        Ok(()) => match catalog.make(made) {
+            Ok(()) => Ok(()),
+            Err(fault) => {
+                trees.take_back_table(table, catalog.greatest());
                 Err(fault)
             }
         },
