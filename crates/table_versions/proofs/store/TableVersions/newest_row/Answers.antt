@@ -16,4 +16,4 @@ pub returns-clause-row : goal.returns-clause-row
 returns-clause-row c =
     let P : Option (List ℕ) → Type 0 = λ row. IfSome row IsRecordRow in
     subst P (sym (c.row_in_node.ensures ∙ ap (option_and_then row_in_node) c.get.ensures))
-    (newest_is_row c.self.inside.catalog.tables c.self.inside.trees.tables c.self.inside.versions c.self.invariant c.args.table.0 c.args.bookmark.now)
+    (newest_is_row c.self.inside.catalog.tables c.self.inside.trees.tables c.self.inside.versions c.self.invariant.kept c.args.table.0 c.args.bookmark.now)
