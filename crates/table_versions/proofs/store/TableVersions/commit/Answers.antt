@@ -19,7 +19,7 @@ invariant_of-self c = record {
     let number = c.args.number in
     subst (λ (changed : List HeldChange). AreKept tables trees changed) (sym c.commit.ensures)
     (changes_kept tables trees held (map (committed_change session number) held) c.self.invariant.kept
-    (all_changed (IsKeptChange tables trees) (committed_change session number) (committed_kept tables trees session number) held c.self.invariant.changes)
+    (all_changed (IsKeptChange tables trees) (committed_change session number) (committed_kept tables trees session number) held c.self.invariant.kept.changes)
     (same_variants (committed_change session number) (committed_leaves session number) held))
   );
   shows = c.self.invariant.shows;

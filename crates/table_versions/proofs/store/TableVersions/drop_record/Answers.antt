@@ -61,7 +61,7 @@ returns-in-Ok-clause-over c =
     let room : has_room_for_row c.args.by c.args.change.now (option_copied c.row_in_node-before.result) c.self.inside.versions ≡ has_room c.args.by c.args.change.now c.args.self.now.store =
     same_room sizes c.args.by c.args.change.now (option_copied c.row_in_node-before.result) is_row c.self.inside.versions c.args.self.now.store (ap (λ (v : StoredVersions). v.store.held) c.self.view_is)
     (ap (option_map record_of) row_is
-    ∙ sym (newest_at c.self.inside.trees.tables c.self.inside.catalog.tables c.self.invariant.numbers c.nodes_are_in_order.ensures.sorted (changed_table c.args.change.now) (changed_bookmark c.args.change.now))
+    ∙ sym (newest_at c.self.inside.trees.tables c.self.inside.catalog.tables c.self.invariant.kept.numbers c.nodes_are_in_order.ensures.sorted (changed_table c.args.change.now) (changed_bookmark c.args.change.now))
     ∙ ap (λ (v : StoredVersions). record_in v.store.tables (changed_table c.args.change.now) (changed_bookmark c.args.change.now)) c.self.view_is) in
     (λ e. sym room ∙ c.in-Ok.ensures.over.0 e, λ e. c.in-Ok.ensures.over.1 (room ∙ e))
 
@@ -74,6 +74,6 @@ returns-in-Err-clause-over c =
     let room : has_room_for_row c.args.by c.args.change.now (option_copied c.row_in_node-before.result) c.self.inside.versions ≡ has_room c.args.by c.args.change.now c.args.self.now.store =
     same_room sizes c.args.by c.args.change.now (option_copied c.row_in_node-before.result) is_row c.self.inside.versions c.args.self.now.store (ap (λ (v : StoredVersions). v.store.held) c.self.view_is)
     (ap (option_map record_of) row_is
-    ∙ sym (newest_at c.self.inside.trees.tables c.self.inside.catalog.tables c.self.invariant.numbers c.nodes_are_in_order.ensures.sorted (changed_table c.args.change.now) (changed_bookmark c.args.change.now))
+    ∙ sym (newest_at c.self.inside.trees.tables c.self.inside.catalog.tables c.self.invariant.kept.numbers c.nodes_are_in_order.ensures.sorted (changed_table c.args.change.now) (changed_bookmark c.args.change.now))
     ∙ ap (λ (v : StoredVersions). record_in v.store.tables (changed_table c.args.change.now) (changed_bookmark c.args.change.now)) c.self.view_is) in
     (λ e. sym room ∙ c.in-Err.ensures.over.0 e, λ e. c.in-Err.ensures.over.1 (room ∙ e))

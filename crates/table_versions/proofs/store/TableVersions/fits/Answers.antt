@@ -21,5 +21,5 @@ returns-then-fits c =
     sym (longest_fits c.args.by c.args.change.now row is c.longest_row.result.now c.longest_row.ensures c.self.inside.versions (sym c.fits.ensures ∙ c.if-fits.true))
     ∙ same_room sizes c.args.by c.args.change.now row is c.self.inside.versions c.args.self.now.store
     (ap (λ (v : StoredVersions). v.store.held) c.self.view_is)
-    (sym (newest_at c.self.inside.trees.tables c.self.inside.catalog.tables c.self.invariant.numbers c.nodes_are_in_order.ensures.sorted table bookmark)
+    (sym (newest_at c.self.inside.trees.tables c.self.inside.catalog.tables c.self.invariant.kept.numbers c.nodes_are_in_order.ensures.sorted table bookmark)
     ∙ ap (λ (v : StoredVersions). record_in v.store.tables table bookmark) c.self.view_is)

@@ -19,7 +19,7 @@ invariant_of-self c = record {
     let level = c.args.level in
     subst (λ (changed : List HeldChange). AreKept tables trees changed) (sym c.release.ensures)
     (changes_kept tables trees held (map (released_change session level) held) c.self.invariant.kept
-    (all_changed (IsKeptChange tables trees) (released_change session level) (released_kept tables trees session level) held c.self.invariant.changes)
+    (all_changed (IsKeptChange tables trees) (released_change session level) (released_kept tables trees session level) held c.self.invariant.kept.changes)
     (same_variants (released_change session level) (released_leaves session level) held))
   );
   shows = c.self.invariant.shows;
