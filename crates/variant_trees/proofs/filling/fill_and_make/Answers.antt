@@ -1,6 +1,6 @@
-use Rattle.std.proofs.Common.{List, sym, ap, subst, ◌∙◌}
-use Rattle.std.specs.Prelude.{IfSome, Option}
-use Rattle.database_state.specs.Table.{Table, schema_of, table_with_id}
+use Rattle.std.proofs.Common.{List, sym, subst}
+use Rattle.std.specs.Prelude.{IfSome}
+use Rattle.database_state.specs.Table.{schema_of, table_with_id}
 use Rattle.table_trees.specs.StoredTables.{StoredTable, index_entries, table_nodes}
 use Rattle.variant_trees.specs.NewEntries.{HasNewestKeys, OnlyEntries}
 use Rattle.variant_trees.proofs.KeptSteps.{shows_in, tree_of_table}

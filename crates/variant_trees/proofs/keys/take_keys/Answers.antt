@@ -27,23 +27,23 @@ none_beyond n m h g = omega arith
 pub loop-rule-preserved : goal.loop-rule-preserved
 loop-rule-preserved g c = record {
   done = (
-    let items : c.as_slice-rule-items.result.now ≡ c.args.schema.now.indexes = c.as_slice-rule-items.ensures in
-    let low : c.loop-rule.rule-index < length c.args.schema.now.indexes = subst (λ (rules : List IndexRule). c.loop-rule.rule-index < length rules) items c.loop-rule-test.true in
-    let is : c.rule-item.result ≡ get_or c.args.schema.now.indexes c.loop-rule.rule-index c.rule-item.result = c.rule-item.is ∙ ap (λ (rules : List IndexRule). get_or rules c.loop-rule.rule-index c.rule-item.result) items in
-    let has : HasKeysOf c.args.schema.now (g.R.Values.fields c.args.gone.now) c.rule-item.result = all_at (HasKeysOf c.args.schema.now (g.R.Values.fields c.args.gone.now)) c.args.schema.now.indexes c.loop-rule.rule-index c.rule-item.result c.requires.rules low is in
-    subst (λ (n : ℕ). LosesUpTo (option_map record_of (row_under (table_nodes c.args.trees.now.tables c.args.table.0) c.args.bookmark.now)) (held_from c.args.from c.args.versions.now) c.args.schema.now c.args.table.0 c.args.bookmark.now (g.R.Values.fields c.args.gone.now) n c.args.trees.now.tables c.if-not-rule.trees.tables) (sym (one_more c.loop-rule.rule-index))
-    (elim c.if-not-rule.branch [
-      | then-not-rule w ↦
-          subst (λ (trees : List StoredTable). LosesUpTo (option_map record_of (row_under (table_nodes c.args.trees.now.tables c.args.table.0) c.args.bookmark.now)) (held_from c.args.from c.args.versions.now) c.args.schema.now c.args.table.0 c.args.bookmark.now (g.R.Values.fields c.args.gone.now) (suc c.loop-rule.rule-index) c.args.trees.now.tables trees) (ap (λ (s : StoredTrees). s.tables) (sym w.trees-is))
-          (indexes_lose (option_map record_of (row_under (table_nodes c.args.trees.now.tables c.args.table.0) c.args.bookmark.now)) (held_from c.args.from c.args.versions.now) c.args.schema.now c.args.table.0 c.args.bookmark.now (g.R.Values.fields c.args.gone.now) c.loop-rule.rule-index c.args.trees.now.tables c.loop-rule.trees.tables w.take_keys_of.new.trees.tables c.rule-item.result c.loop-rule.invariant.done has w.if-not-rule.true low is
-          w.take_keys_of.ensures.others w.take_keys_of.ensures.indexes
-          (subst (λ (nodes : List Node). LosesKeys (option_map record_of (row_under nodes c.args.bookmark.now)) (held_from c.args.from c.args.versions.now) c.rule-item.result c.args.schema.now c.args.table.0 c.args.bookmark.now (g.R.Values.fields c.args.gone.now) (index_entries c.loop-rule.trees.tables c.args.table.0 c.rule-item.result.id.0) (index_entries w.take_keys_of.new.trees.tables c.args.table.0 c.rule-item.result.id.0))
-          (c.loop-rule.invariant.done.others.nodes c.args.table.0) w.take_keys_of.ensures.keys))
-      | else-not-rule w ↦
-          subst (λ (trees : List StoredTable). LosesUpTo (option_map record_of (row_under (table_nodes c.args.trees.now.tables c.args.table.0) c.args.bookmark.now)) (held_from c.args.from c.args.versions.now) c.args.schema.now c.args.table.0 c.args.bookmark.now (g.R.Values.fields c.args.gone.now) (suc c.loop-rule.rule-index) c.args.trees.now.tables trees) (ap (λ (s : StoredTrees). s.tables) (sym w.trees-is))
-          (indexes_pass (option_map record_of (row_under (table_nodes c.args.trees.now.tables c.args.table.0) c.args.bookmark.now)) (held_from c.args.from c.args.versions.now) c.args.schema.now c.args.table.0 c.args.bookmark.now (g.R.Values.fields c.args.gone.now) c.loop-rule.rule-index c.args.trees.now.tables c.loop-rule.trees.tables c.rule-item.result c.loop-rule.invariant.done has w.if-not-rule.false low is)
-    ])
-  );
+      let items : c.as_slice-rule-items.result.now ≡ c.args.schema.now.indexes = c.as_slice-rule-items.ensures in
+      let low : c.loop-rule.rule-index < length c.args.schema.now.indexes = subst (λ (rules : List IndexRule). c.loop-rule.rule-index < length rules) items c.loop-rule-test.true in
+      let is : c.rule-item.result ≡ get_or c.args.schema.now.indexes c.loop-rule.rule-index c.rule-item.result = c.rule-item.is ∙ ap (λ (rules : List IndexRule). get_or rules c.loop-rule.rule-index c.rule-item.result) items in
+      let has : HasKeysOf c.args.schema.now (g.R.Values.fields c.args.gone.now) c.rule-item.result = all_at (HasKeysOf c.args.schema.now (g.R.Values.fields c.args.gone.now)) c.args.schema.now.indexes c.loop-rule.rule-index c.rule-item.result c.requires.rules low is in
+      subst (λ (n : ℕ). LosesUpTo (option_map record_of (row_under (table_nodes c.args.trees.now.tables c.args.table.0) c.args.bookmark.now)) (held_from c.args.from c.args.versions.now) c.args.schema.now c.args.table.0 c.args.bookmark.now (g.R.Values.fields c.args.gone.now) n c.args.trees.now.tables c.if-not-rule.trees.tables) (sym (one_more c.loop-rule.rule-index))
+      (elim c.if-not-rule.branch [
+        | then-not-rule w ↦
+            subst (λ (trees : List StoredTable). LosesUpTo (option_map record_of (row_under (table_nodes c.args.trees.now.tables c.args.table.0) c.args.bookmark.now)) (held_from c.args.from c.args.versions.now) c.args.schema.now c.args.table.0 c.args.bookmark.now (g.R.Values.fields c.args.gone.now) (suc c.loop-rule.rule-index) c.args.trees.now.tables trees) (ap (λ (s : StoredTrees). s.tables) (sym w.trees-is))
+            (indexes_lose (option_map record_of (row_under (table_nodes c.args.trees.now.tables c.args.table.0) c.args.bookmark.now)) (held_from c.args.from c.args.versions.now) c.args.schema.now c.args.table.0 c.args.bookmark.now (g.R.Values.fields c.args.gone.now) c.loop-rule.rule-index c.args.trees.now.tables c.loop-rule.trees.tables w.take_keys_of.new.trees.tables c.rule-item.result c.loop-rule.invariant.done has w.if-not-rule.true low is
+            w.take_keys_of.ensures.others w.take_keys_of.ensures.indexes
+            (subst (λ (nodes : List Node). LosesKeys (option_map record_of (row_under nodes c.args.bookmark.now)) (held_from c.args.from c.args.versions.now) c.rule-item.result c.args.schema.now c.args.table.0 c.args.bookmark.now (g.R.Values.fields c.args.gone.now) (index_entries c.loop-rule.trees.tables c.args.table.0 c.rule-item.result.id.0) (index_entries w.take_keys_of.new.trees.tables c.args.table.0 c.rule-item.result.id.0))
+            (c.loop-rule.invariant.done.others.nodes c.args.table.0) w.take_keys_of.ensures.keys))
+        | else-not-rule w ↦
+            subst (λ (trees : List StoredTable). LosesUpTo (option_map record_of (row_under (table_nodes c.args.trees.now.tables c.args.table.0) c.args.bookmark.now)) (held_from c.args.from c.args.versions.now) c.args.schema.now c.args.table.0 c.args.bookmark.now (g.R.Values.fields c.args.gone.now) (suc c.loop-rule.rule-index) c.args.trees.now.tables trees) (ap (λ (s : StoredTrees). s.tables) (sym w.trees-is))
+            (indexes_pass (option_map record_of (row_under (table_nodes c.args.trees.now.tables c.args.table.0) c.args.bookmark.now)) (held_from c.args.from c.args.versions.now) c.args.schema.now c.args.table.0 c.args.bookmark.now (g.R.Values.fields c.args.gone.now) c.loop-rule.rule-index c.args.trees.now.tables c.loop-rule.trees.tables c.rule-item.result c.loop-rule.invariant.done has w.if-not-rule.false low is)
+      ])
+      );
   catalog = elim c.if-not-rule.branch [
     | then-not-rule w ↦ ap (λ (s : StoredTrees). s.catalog) w.trees-is ∙ w.take_keys_of.ensures.catalog ∙ c.loop-rule.invariant.catalog
     | else-not-rule w ↦ ap (λ (s : StoredTrees). s.catalog) w.trees-is ∙ c.loop-rule.invariant.catalog

@@ -56,19 +56,19 @@ loop-bookmark-smaller c =
 pub loop-bookmark-preserved : goal.loop-bookmark-preserved
 loop-bookmark-preserved c = record {
   done = (
-    let was = c.args.trees.now.tables in let nodes = table_nodes was c.args.table.0 in let place = c.loop-bookmark.place in
-    let found : Option Pair = Some (c.in-Some.bookmark.now, c.in-Some.bytes.now) in
-    let next : node_after place nodes ≡ found = next_of_start c.args.table.0 c.args.rule.now c.args.schema.now place was c.loop-bookmark.trees.tables found c.loop-bookmark.invariant.done c.in-Some.ensures.node in
-    let bookmark_is : c.as_bytes.result.now ≡ c.in-Some.bookmark.now = c.as_bytes.ensures.value ∙ c.from_slice-bookmark.ensures in
-    subst (λ (p : Place). IsFilledTo c.args.table.0 c.args.rule.now c.args.schema.now p was c.put_entries.new.trees.tables) (λ i. On (sym (c.copy.ensures ∙ c.from_slice-bookmark.ensures) i) (sym c.from_slice-bookmark.ensures i))
-    (filled_more c.args.table.0 c.args.rule.now c.args.schema.now place was c.loop-bookmark.trees.tables c.put_entries.new.trees.tables c.in-Some.bookmark.now c.in-Some.bytes.now c.as_slice.result.now (c.nodes_are_in_order.ensures.sorted c.args.table.0) next
-    (λ key. ap (λ (keys : List (List ℕ)). list_any (bytes_eq key) keys) c.as_slice.ensures ∙ c.in-Ok.ensures.keys key)
-    c.in-Ok-put_entries.ensures.only
-    (λ key own.
-    c.in-Ok-put_entries.ensures.ok key own
-    ∙ ap (λ (bookmark : List ℕ). has_entry key own (index_entries c.loop-bookmark.trees.tables c.args.table.0 c.args.rule.now.id.0) || (bytes_eq own bookmark && list_any (bytes_eq key) c.as_slice.result.now)) bookmark_is)
-    c.loop-bookmark.invariant.done)
-  );
+      let was = c.args.trees.now.tables in let nodes = table_nodes was c.args.table.0 in let place = c.loop-bookmark.place in
+      let found : Option Pair = Some (c.in-Some.bookmark.now, c.in-Some.bytes.now) in
+      let next : node_after place nodes ≡ found = next_of_start c.args.table.0 c.args.rule.now c.args.schema.now place was c.loop-bookmark.trees.tables found c.loop-bookmark.invariant.done c.in-Some.ensures.node in
+      let bookmark_is : c.as_bytes.result.now ≡ c.in-Some.bookmark.now = c.as_bytes.ensures.value ∙ c.from_slice-bookmark.ensures in
+      subst (λ (p : Place). IsFilledTo c.args.table.0 c.args.rule.now c.args.schema.now p was c.put_entries.new.trees.tables) (λ i. On (sym (c.copy.ensures ∙ c.from_slice-bookmark.ensures) i) (sym c.from_slice-bookmark.ensures i))
+      (filled_more c.args.table.0 c.args.rule.now c.args.schema.now place was c.loop-bookmark.trees.tables c.put_entries.new.trees.tables c.in-Some.bookmark.now c.in-Some.bytes.now c.as_slice.result.now (c.nodes_are_in_order.ensures.sorted c.args.table.0) next
+      (λ key. ap (λ (keys : List (List ℕ)). list_any (bytes_eq key) keys) c.as_slice.ensures ∙ c.in-Ok.ensures.keys key)
+      c.in-Ok-put_entries.ensures.only
+      (λ key own.
+      c.in-Ok-put_entries.ensures.ok key own
+      ∙ ap (λ (bookmark : List ℕ). has_entry key own (index_entries c.loop-bookmark.trees.tables c.args.table.0 c.args.rule.now.id.0) || (bytes_eq own bookmark && list_any (bytes_eq key) c.as_slice.result.now)) bookmark_is)
+      c.loop-bookmark.invariant.done)
+      );
   catalog = c.put_entries.ensures.catalog ∙ c.loop-bookmark.invariant.catalog;
 }
 

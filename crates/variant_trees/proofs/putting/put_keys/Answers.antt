@@ -50,18 +50,18 @@ returns-in-Err-clause-err c =
 pub loop-rule-preserved : goal.loop-rule-preserved
 loop-rule-preserved c = record {
   done = (
-    let rules = c.as_slice-rule-items.result.now in
-    let more = more_rules rules c.args.schema.now c.args.values.now c.loop-rule.rule-index c.rule-item.result c.loop-rule-test.true c.rule-item.is in
-    let P : List StoredTable → Type 0 = λ trees. HasKeys c.args.table.0 c.args.bookmark.now (record_keys (take (c.loop-rule.rule-index + 1) rules) c.args.schema.now c.args.values.now) c.args.trees.now.tables trees in
-    elim c.if-not-rule.branch [
-      | then-not-rule+in-Ok w ↦ subst P (ap (λ (s : StoredTrees). s.tables) (sym w.trees-is))
-          (with_rule c.args.table.0 c.args.bookmark.now (record_keys (take c.loop-rule.rule-index rules) c.args.schema.now c.args.values.now) (rule_keys c.args.schema.now c.args.values.now c.rule-item.result) (record_keys (take (c.loop-rule.rule-index + 1) rules) c.args.schema.now c.args.values.now)
-          c.args.trees.now.tables c.loop-rule.trees.tables w.put_keys_of.new.trees.tables c.rule-item.result.flags.primary w.if-not-rule.true more c.loop-rule.invariant.done w.in-Ok.ensures.ok)
-      | else-not-rule w ↦ subst P (ap (λ (s : StoredTrees). s.tables) (sym w.trees-is))
-          (without_rule c.args.table.0 c.args.bookmark.now (record_keys (take c.loop-rule.rule-index rules) c.args.schema.now c.args.values.now) (rule_keys c.args.schema.now c.args.values.now c.rule-item.result) (record_keys (take (c.loop-rule.rule-index + 1) rules) c.args.schema.now c.args.values.now)
-          c.args.trees.now.tables c.loop-rule.trees.tables c.rule-item.result.flags.primary w.if-not-rule.false more c.loop-rule.invariant.done)
-    ]
-  );
+      let rules = c.as_slice-rule-items.result.now in
+      let more = more_rules rules c.args.schema.now c.args.values.now c.loop-rule.rule-index c.rule-item.result c.loop-rule-test.true c.rule-item.is in
+      let P : List StoredTable → Type 0 = λ trees. HasKeys c.args.table.0 c.args.bookmark.now (record_keys (take (c.loop-rule.rule-index + 1) rules) c.args.schema.now c.args.values.now) c.args.trees.now.tables trees in
+      elim c.if-not-rule.branch [
+        | then-not-rule+in-Ok w ↦ subst P (ap (λ (s : StoredTrees). s.tables) (sym w.trees-is))
+            (with_rule c.args.table.0 c.args.bookmark.now (record_keys (take c.loop-rule.rule-index rules) c.args.schema.now c.args.values.now) (rule_keys c.args.schema.now c.args.values.now c.rule-item.result) (record_keys (take (c.loop-rule.rule-index + 1) rules) c.args.schema.now c.args.values.now)
+            c.args.trees.now.tables c.loop-rule.trees.tables w.put_keys_of.new.trees.tables c.rule-item.result.flags.primary w.if-not-rule.true more c.loop-rule.invariant.done w.in-Ok.ensures.ok)
+        | else-not-rule w ↦ subst P (ap (λ (s : StoredTrees). s.tables) (sym w.trees-is))
+            (without_rule c.args.table.0 c.args.bookmark.now (record_keys (take c.loop-rule.rule-index rules) c.args.schema.now c.args.values.now) (rule_keys c.args.schema.now c.args.values.now c.rule-item.result) (record_keys (take (c.loop-rule.rule-index + 1) rules) c.args.schema.now c.args.values.now)
+            c.args.trees.now.tables c.loop-rule.trees.tables c.rule-item.result.flags.primary w.if-not-rule.false more c.loop-rule.invariant.done)
+      ]
+      );
   catalog = elim c.if-not-rule.branch [
     | then-not-rule+in-Ok w ↦ ap (λ (s : StoredTrees). s.catalog) w.trees-is ∙ w.put_keys_of.ensures.catalog ∙ c.loop-rule.invariant.catalog
     | else-not-rule w ↦ ap (λ (s : StoredTrees). s.catalog) w.trees-is ∙ c.loop-rule.invariant.catalog

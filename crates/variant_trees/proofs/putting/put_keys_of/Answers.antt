@@ -38,10 +38,10 @@ returns-in-Err-put_key-clause-err c =
 pub loop-key-preserved : goal.loop-key-preserved
 loop-key-preserved c = record {
   done = (
-    keys_then c.args.table.0 c.args.bookmark.now (some_keys c.args.rule.now.id.0 (take c.loop-key.key-index c.as_slice-key-items.result.now)) (one_key c.args.rule.now.id.0 c.key-item.result)
-    (some_keys c.args.rule.now.id.0 (take (c.loop-key.key-index + 1) c.as_slice-key-items.result.now)) c.args.trees.now.tables c.loop-key.trees.tables c.put_key.new.trees.tables
-    (more_keys c.args.rule.now.id.0 c.as_slice-key-items.result.now c.loop-key.key-index c.key-item.result c.loop-key-test.true c.key-item.is) c.loop-key.invariant.done c.in-Ok-put_key.ensures.ok
-  );
+      keys_then c.args.table.0 c.args.bookmark.now (some_keys c.args.rule.now.id.0 (take c.loop-key.key-index c.as_slice-key-items.result.now)) (one_key c.args.rule.now.id.0 c.key-item.result)
+      (some_keys c.args.rule.now.id.0 (take (c.loop-key.key-index + 1) c.as_slice-key-items.result.now)) c.args.trees.now.tables c.loop-key.trees.tables c.put_key.new.trees.tables
+      (more_keys c.args.rule.now.id.0 c.as_slice-key-items.result.now c.loop-key.key-index c.key-item.result c.loop-key-test.true c.key-item.is) c.loop-key.invariant.done c.in-Ok-put_key.ensures.ok
+      );
   catalog = c.put_key.ensures.catalog ∙ c.loop-key.invariant.catalog;
 }
 

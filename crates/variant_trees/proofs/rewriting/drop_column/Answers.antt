@@ -1,5 +1,5 @@
 use Rattle.index_derive.specs.Entries.{column_is_used}
-use Rattle.std.proofs.Common.{◌≡◌, false, map, List, sym, subst, ap}
+use Rattle.std.proofs.Common.{◌≡◌, false, map, List, sym, subst}
 use Rattle.std.specs.List.{AllByRecursion}
 use Rattle.index_derive.specs.declared.schema_calls.SchemaStep.TheVariants as step
 use Rattle.table_trees.specs.StoredTables.{StoredTable, table_nodes}

@@ -11,12 +11,15 @@ use Rattle.variant_trees.proofs.rewriting.remove_values.Goals.{In-Some}
 use Rattle.variant_trees.proofs.rewriting.remove_values.Goals as goal
 
 pub loop-bookmark-init : goal.loop-bookmark-init
-loop-bookmark-init c = record { done = record {
-  nodes = sym (none_rewritten c.args.column.0 (table_nodes c.args.trees.now.tables c.args.table.0));
-  others = λ id apart. refl;
-  indexes = λ id. refl;
-  numbers = refl;
-}; catalog = refl }
+loop-bookmark-init c = record {
+  done = record {
+    nodes = sym (none_rewritten c.args.column.0 (table_nodes c.args.trees.now.tables c.args.table.0));
+    others = λ id apart. refl;
+    indexes = λ id. refl;
+    numbers = refl;
+  };
+  catalog = refl;
+}
 
 -- the node that was found, and its row
 found_of : (c : In-Some) → node_after c.loop-bookmark.place (table_nodes c.args.trees.now.tables c.args.table.0) ≡ Some (c.in-Some.bookmark.now, c.in-Some.bytes.now)
@@ -54,15 +57,15 @@ loop-bookmark-smaller c =
 pub loop-bookmark-preserved : goal.loop-bookmark-preserved
 loop-bookmark-preserved c = record {
   done = (
-    let place = (goal.at.loop-bookmark-preserved c).In-Some in
-    let row = row_of place in
-    let laws : NodeLaws = record { named = c.nodes_after_a_change.ensures.named; others = c.nodes_after_a_change.ensures.others; indexes = c.nodes_after_a_change.ensures.indexes } in
-    let written : c.write_without_column.new.buffer.items ≡ row_without c.args.column.0 c.in-Some.bytes.now = c.write_without_column.ensures (row_in c.in-Some.bytes.now) row.formed row.spelled in
-    let key : c.as_bytes.result.now ≡ c.in-Some.bookmark.now = c.as_bytes.ensures.value ∙ c.own_entry-found.ensures.key in
-    replaced_next laws c.args.table.0 c.loop-bookmark.place c.args.column.0 c.args.trees.now.tables c.loop-bookmark.trees.tables c.in-Some.bookmark.now c.in-Some.bytes.now (next_of place) (c.nodes_are_in_order.ensures.sorted c.args.table.0) c.loop-bookmark.invariant.done
-    c.as_bytes.result.now c.own_entry-found.result.key c.own_entry-found.result.bookmark c.as_slice.result.now key c.own_entry-found.ensures.key c.own_entry-found.ensures.bookmark (c.as_slice.ensures.value ∙ written)
-    c.replace.new.self.tables c.replace.ensures.tables
-  );
+      let place = (goal.at.loop-bookmark-preserved c).In-Some in
+      let row = row_of place in
+      let laws : NodeLaws = record { named = c.nodes_after_a_change.ensures.named; others = c.nodes_after_a_change.ensures.others; indexes = c.nodes_after_a_change.ensures.indexes } in
+      let written : c.write_without_column.new.buffer.items ≡ row_without c.args.column.0 c.in-Some.bytes.now = c.write_without_column.ensures (row_in c.in-Some.bytes.now) row.formed row.spelled in
+      let key : c.as_bytes.result.now ≡ c.in-Some.bookmark.now = c.as_bytes.ensures.value ∙ c.own_entry-found.ensures.key in
+      replaced_next laws c.args.table.0 c.loop-bookmark.place c.args.column.0 c.args.trees.now.tables c.loop-bookmark.trees.tables c.in-Some.bookmark.now c.in-Some.bytes.now (next_of place) (c.nodes_are_in_order.ensures.sorted c.args.table.0) c.loop-bookmark.invariant.done
+      c.as_bytes.result.now c.own_entry-found.result.key c.own_entry-found.result.bookmark c.as_slice.result.now key c.own_entry-found.ensures.key c.own_entry-found.ensures.bookmark (c.as_slice.ensures.value ∙ written)
+      c.replace.new.self.tables c.replace.ensures.tables
+      );
   catalog = c.replace.ensures.catalog ∙ c.loop-bookmark.invariant.catalog;
 }
 

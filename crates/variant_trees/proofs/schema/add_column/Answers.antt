@@ -6,7 +6,7 @@ use Rattle.jet_catalog.specs.Catalog.{CatalogState}
 use Rattle.stored_variants.specs.SchemaSteps.{IsColumnFor, IsMade}
 use Rattle.table_trees.specs.StoredTables.{StoredTable, has_table}
 use Rattle.table_trees.specs.ShownCatalogs.{ShowsStep}
-use Rattle.variant_trees.proofs.KeptSteps.{column_for, shows_after, shows_in, shows_other, some_of}
+use Rattle.variant_trees.proofs.KeptSteps.{column_for, shows_after, shows_in, some_of}
 use Rattle.variant_trees.proofs.MadeColumns.{column_made}
 use Rattle.variant_trees.proofs.MadeTables.{a_tree}
 use Rattle.variant_trees.proofs.schema.add_column.Goals as goal

@@ -1,4 +1,4 @@
-use Rattle.std.proofs.Common.{List, ap, sym, ◌∙◌}
+use Rattle.std.proofs.Common.{List, ap, ◌∙◌}
 use Rattle.database_state.specs.Table.{table_with_id}
 use Rattle.jet_catalog.specs.Catalog.{CatalogState}
 use Rattle.table_trees.specs.StoredTables.{StoredTable, has_table, without_table}

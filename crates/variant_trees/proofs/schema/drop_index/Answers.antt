@@ -1,11 +1,10 @@
-use Rattle.std.proofs.Common.{◌≡◌, true, List, sym, ap, subst, ◌∙◌}
+use Rattle.std.proofs.Common.{List, ap, ◌∙◌}
 use Rattle.index_derive.specs.declared.schema_calls.SchemaStep.TheVariants as step
 use Rattle.jet_catalog.specs.Catalog.{CatalogState, catalog_after}
-use Rattle.database_state.specs.Table.{table_with_id}
 use Rattle.table_trees.specs.ShownCatalogs.{ShowsCatalog}
 use Rattle.table_trees.specs.StoredTables.{StoredTable, has_index, without_index}
 use Rattle.table_trees.specs.StoredTrees.{without_root_of}
-use Rattle.variant_trees.proofs.KeptSteps.{LacksIndex, index_gone, old_index, shows_after, shows_in, shows_other}
+use Rattle.variant_trees.proofs.KeptSteps.{index_gone, old_index, shows_after, shows_in, shows_other}
 use Rattle.variant_trees.proofs.MadeIndexes.{index_deleted, index_there}
 use Rattle.variant_trees.proofs.schema.drop_index.Goals as goal
 
