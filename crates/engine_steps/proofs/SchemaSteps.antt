@@ -30,7 +30,6 @@ use Rattle.versioned_tables.specs.HeldRecords.{HeldRecord}
 use Rattle.stored_variants.specs.SchemaSteps.{CanMake, IsColumnFor, IsIndexFor, TakesColumn}
 use Rattle.stored_variants.specs.StoredVersions.{StoredVersions}
 use Rattle.stored_variants.specs.VersionsKept.{only_secondary, secondary_rule}
-use Rattle.engine_versions.specs.HoldsState.{HoldsState}
 use Rattle.log_grammar.specs.EntryBytes.{column_fits, index_fits, schema_fits}
 use Rattle.loggable_steps.specs.Loggable.{schema_fits_types}
 use Rattle.loggable_steps.proofs.ChangeBytes.{IsAsked, columns_of}
@@ -173,18 +172,16 @@ can_make : (state : DatabaseState) → IsAsked state → (session : ℕ) (made :
 can_make state asked session (step.CreateTable table name) is built fits held =
     (above table.0 state.greatest_table (and_left (table.0 == (state.greatest_table + 1)) (is_name name) is.numbers), and_right (table.0 == (state.greatest_table + 1)) (is_name name) is.numbers)
 can_make state asked session (step.DeleteTable table) is built fits held = table_there state session (step.DeleteTable table) is.free refl
-can_make state asked session (step.AddColumn table column) is built fits held =
-    (
-      takes_column (table_with_id state.tables table.0) column built (λ t found. (at_found state session (step.AddColumn table column) t is.free found).1.1.1.0),
-      some_or (table_with_id state.tables table.0) (IsColumnFor column) (table_there state session (step.AddColumn table column) is.free refl) (column_for state asked session table column is (and_right _ (column_fits column) fits)),
-    )
-can_make state asked session (step.DeleteColumn table column) is built fits held =
-    (
-      some_or (table_with_id state.tables table.0) (λ t. column_is_used column t.indexes ≡ false) (table_there state session (step.DeleteColumn table column) is.free refl)
+can_make state asked session (step.AddColumn table column) is built fits held = (
+  takes_column (table_with_id state.tables table.0) column built (λ t found. (at_found state session (step.AddColumn table column) t is.free found).1.1.1.0),
+  some_or (table_with_id state.tables table.0) (IsColumnFor column) (table_there state session (step.AddColumn table column) is.free refl) (column_for state asked session table column is (and_right _ (column_fits column) fits)),
+)
+can_make state asked session (step.DeleteColumn table column) is built fits held = (
+  some_or (table_with_id state.tables table.0) (λ t. column_is_used column t.indexes ≡ false) (table_there state session (step.DeleteColumn table column) is.free refl)
       (λ t found. column_unused column t.indexes (at_found state session (step.DeleteColumn table column) t is.free found).1.0),
-      some_or (table_with_id state.tables table.0) (λ t. has_column t column.0 ≡ true) (table_there state session (step.DeleteColumn table column) is.free refl)
+  some_or (table_with_id state.tables table.0) (λ t. has_column t column.0 ≡ true) (table_there state session (step.DeleteColumn table column) is.free refl)
       (λ t found. there_if (has_column t column.0) (at_found state session (step.DeleteColumn table column) t is.free found).0),
-    )
+)
 can_make state asked session (step.CreateIndex table rule) is built fits held =
     some_or (table_with_id state.tables table.0) (IsIndexFor rule) (table_there state session (step.CreateIndex table rule) is.free refl)
     (λ t found. index_for state table rule t (at_found state session (step.CreateIndex table rule) t is.free found) (number t found) built (and_right _ (index_fits rule) fits))

@@ -19,15 +19,15 @@ add_sum-requires c = newest_is_row c.self.inside.catalog.tables c.self.inside.tr
 pub invariant_of-self : goal.invariant_of-self
 invariant_of-self c = record {
   kept = (
-    let P : Table → Type 0 = λ t. AddsToEscrow (schema_of t) (kind_of c.args.change.now) in
-    let named : IsSomeAnd (table_with_id c.self.inside.catalog.tables (changed_table c.args.change.now)) P =
-    asked_of (λ s. AddsToEscrow s (kind_of c.args.change.now)) c.self.inside.trees.tables c.self.inside.catalog.tables (changed_table c.args.change.now)
-    (subst (λ (v : StoredVersions). IsSomeAnd (table_with_id v.store.tables (changed_table c.args.change.now)) (λ t. AddsToEscrow (schema_of t) (kind_of c.args.change.now))) (sym c.self.view_is) c.requires.column) in
-    c.add_sum.ensures.kept c.self.inside.catalog.tables c.push.new.self named
-    (subst (AreKept c.self.inside.catalog.tables c.self.inside.trees.tables) (sym c.in-Ok.ensures.ok)
-    (is_held c.self.inside.catalog.tables c.self.inside.trees.tables c.self.inside.versions c.args.by c.args.change.now (plain_sum c.args.change.now c.requires.sum)
-    (some_of P (table_with_id c.self.inside.catalog.tables (changed_table c.args.change.now)) named) (if_of P (table_with_id c.self.inside.catalog.tables (changed_table c.args.change.now)) named) c.self.invariant.kept))
-  );
+      let P : Table → Type 0 = λ t. AddsToEscrow (schema_of t) (kind_of c.args.change.now) in
+      let named : IsSomeAnd (table_with_id c.self.inside.catalog.tables (changed_table c.args.change.now)) P =
+      asked_of (λ s. AddsToEscrow s (kind_of c.args.change.now)) c.self.inside.trees.tables c.self.inside.catalog.tables (changed_table c.args.change.now)
+      (subst (λ (v : StoredVersions). IsSomeAnd (table_with_id v.store.tables (changed_table c.args.change.now)) (λ t. AddsToEscrow (schema_of t) (kind_of c.args.change.now))) (sym c.self.view_is) c.requires.column) in
+      c.add_sum.ensures.kept c.self.inside.catalog.tables c.push.new.self named
+      (subst (AreKept c.self.inside.catalog.tables c.self.inside.trees.tables) (sym c.in-Ok.ensures.ok)
+      (is_held c.self.inside.catalog.tables c.self.inside.trees.tables c.self.inside.versions c.args.by c.args.change.now (plain_sum c.args.change.now c.requires.sum)
+      (some_of P (table_with_id c.self.inside.catalog.tables (changed_table c.args.change.now)) named) (if_of P (table_with_id c.self.inside.catalog.tables (changed_table c.args.change.now)) named) c.self.invariant.kept))
+      );
   shows = still_shown c.self.inside.catalog c.self.inside.trees.catalog c.add_sum.new.trees.catalog c.add_sum.ensures.catalog c.self.invariant.shows;
 }
 

@@ -16,9 +16,9 @@ add_column-requires-clause-taken c =
 pub invariant_of-self : goal.invariant_of-self
 invariant_of-self c = record {
   kept =
-    either c.add_column.result c.add_column.ensures.ok c.add_column.ensures.err
-    (λ is. (is_after c.self.inside.catalog c.self.inside.trees.tables c.self.inside.versions c.args.self.now c.self.view_is c.requires.settled c.args.made.now c.add_column.new.catalog c.add_column.new.trees.tables is).kept)
-    (λ e. unchanged_kept c.self.inside.catalog c.add_column.new.catalog c.self.inside.trees.tables c.add_column.new.trees.tables c.self.inside.versions e c.self.invariant.kept);
+      either c.add_column.result c.add_column.ensures.ok c.add_column.ensures.err
+      (λ is. (is_after c.self.inside.catalog c.self.inside.trees.tables c.self.inside.versions c.args.self.now c.self.view_is c.requires.settled c.args.made.now c.add_column.new.catalog c.add_column.new.trees.tables is).kept)
+      (λ e. unchanged_kept c.self.inside.catalog c.add_column.new.catalog c.self.inside.trees.tables c.add_column.new.trees.tables c.self.inside.versions e c.self.invariant.kept);
   shows = c.add_column.ensures.shown;
 }
 

@@ -11,9 +11,9 @@ drop_index-requires-clause-there c = index_in_catalog c.self.inside.catalog c.se
 pub invariant_of-self : goal.invariant_of-self
 invariant_of-self c = record {
   kept =
-    either c.drop_index.result c.drop_index.ensures.ok c.drop_index.ensures.err
-    (λ is. (is_after c.self.inside.catalog c.self.inside.trees.tables c.self.inside.versions c.args.self.now c.self.view_is c.requires.settled c.args.made.now c.drop_index.new.catalog c.drop_index.new.trees.tables is).kept)
-    (λ e. unchanged_kept c.self.inside.catalog c.drop_index.new.catalog c.self.inside.trees.tables c.drop_index.new.trees.tables c.self.inside.versions e c.self.invariant.kept);
+      either c.drop_index.result c.drop_index.ensures.ok c.drop_index.ensures.err
+      (λ is. (is_after c.self.inside.catalog c.self.inside.trees.tables c.self.inside.versions c.args.self.now c.self.view_is c.requires.settled c.args.made.now c.drop_index.new.catalog c.drop_index.new.trees.tables is).kept)
+      (λ e. unchanged_kept c.self.inside.catalog c.drop_index.new.catalog c.self.inside.trees.tables c.drop_index.new.trees.tables c.self.inside.versions e c.self.invariant.kept);
   shows = c.drop_index.ensures.shown;
 }
 

@@ -11,9 +11,9 @@ drop_table-requires-clause-there c = there_in_catalog c.self.inside.catalog c.se
 pub invariant_of-self : goal.invariant_of-self
 invariant_of-self c = record {
   kept =
-    either c.drop_table.result c.drop_table.ensures.ok c.drop_table.ensures.err
-    (λ is. (is_after c.self.inside.catalog c.self.inside.trees.tables c.self.inside.versions c.args.self.now c.self.view_is c.requires.settled c.args.made.now c.drop_table.new.catalog c.drop_table.new.trees.tables is).kept)
-    (λ e. unchanged_kept c.self.inside.catalog c.drop_table.new.catalog c.self.inside.trees.tables c.drop_table.new.trees.tables c.self.inside.versions e c.self.invariant.kept);
+      either c.drop_table.result c.drop_table.ensures.ok c.drop_table.ensures.err
+      (λ is. (is_after c.self.inside.catalog c.self.inside.trees.tables c.self.inside.versions c.args.self.now c.self.view_is c.requires.settled c.args.made.now c.drop_table.new.catalog c.drop_table.new.trees.tables is).kept)
+      (λ e. unchanged_kept c.self.inside.catalog c.drop_table.new.catalog c.self.inside.trees.tables c.drop_table.new.trees.tables c.self.inside.versions e c.self.invariant.kept);
   shows = c.drop_table.ensures.shown;
 }
 

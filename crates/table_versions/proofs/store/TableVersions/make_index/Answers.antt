@@ -16,9 +16,9 @@ create_index-requires-clause-fits c =
 pub invariant_of-self : goal.invariant_of-self
 invariant_of-self c = record {
   kept =
-    either c.create_index.result c.create_index.ensures.ok c.create_index.ensures.err
-    (λ is. (is_after c.self.inside.catalog c.self.inside.trees.tables c.self.inside.versions c.args.self.now c.self.view_is c.requires.settled c.args.made.now c.create_index.new.catalog c.create_index.new.trees.tables is).kept)
-    (λ e. unchanged_kept c.self.inside.catalog c.create_index.new.catalog c.self.inside.trees.tables c.create_index.new.trees.tables c.self.inside.versions e c.self.invariant.kept);
+      either c.create_index.result c.create_index.ensures.ok c.create_index.ensures.err
+      (λ is. (is_after c.self.inside.catalog c.self.inside.trees.tables c.self.inside.versions c.args.self.now c.self.view_is c.requires.settled c.args.made.now c.create_index.new.catalog c.create_index.new.trees.tables is).kept)
+      (λ e. unchanged_kept c.self.inside.catalog c.create_index.new.catalog c.self.inside.trees.tables c.create_index.new.trees.tables c.self.inside.versions e c.self.invariant.kept);
   shows = c.create_index.ensures.shown;
 }
 

@@ -13,9 +13,9 @@ create_table-requires-clause-new_id c = omega (arith, ap (λ (v : StoredVersions
 pub invariant_of-self : goal.invariant_of-self
 invariant_of-self c = record {
   kept =
-    either c.create_table.result c.create_table.ensures.ok c.create_table.ensures.err
-    (λ is. (is_after c.self.inside.catalog c.self.inside.trees.tables c.self.inside.versions c.args.self.now c.self.view_is c.requires.settled c.args.made.now c.create_table.new.catalog c.create_table.new.trees.tables is).kept)
-    (λ e. unchanged_kept c.self.inside.catalog c.create_table.new.catalog c.self.inside.trees.tables c.create_table.new.trees.tables c.self.inside.versions e c.self.invariant.kept);
+      either c.create_table.result c.create_table.ensures.ok c.create_table.ensures.err
+      (λ is. (is_after c.self.inside.catalog c.self.inside.trees.tables c.self.inside.versions c.args.self.now c.self.view_is c.requires.settled c.args.made.now c.create_table.new.catalog c.create_table.new.trees.tables is).kept)
+      (λ e. unchanged_kept c.self.inside.catalog c.create_table.new.catalog c.self.inside.trees.tables c.create_table.new.trees.tables c.self.inside.versions e c.self.invariant.kept);
   shows = c.create_table.ensures.shown;
 }
 

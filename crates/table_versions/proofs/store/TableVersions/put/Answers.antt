@@ -83,9 +83,9 @@ none c same held =
 pub invariant_of-self : goal.invariant_of-self
 invariant_of-self c = record {
   kept = (
-    on_both c.put_record-answer.result c.put_record-answer.ensures.put c.put_record-answer.ensures.held c.put_record-answer.ensures.same c.put_record-answer.ensures.unheld
-    (λ put held. (after c put held).kept) (λ same held. (none c same held).kept)
-  );
+      on_both c.put_record-answer.result c.put_record-answer.ensures.put c.put_record-answer.ensures.held c.put_record-answer.ensures.same c.put_record-answer.ensures.unheld
+      (λ put held. (after c put held).kept) (λ same held. (none c same held).kept)
+      );
   shows = still_shown c.self.inside.catalog c.self.inside.trees.catalog c.put_record-answer.new.trees.catalog c.put_record-answer.ensures.catalog c.self.invariant.shows;
 }
 
