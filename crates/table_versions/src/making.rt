@@ -25,7 +25,10 @@ impl TableVersions {
     {
         match made {
             SchemaStep::CreateTable { table, name } => self.make_table(made, *table, name),
-            SchemaStep::DeleteTable { table } => self.delete_table(made, *table),
+            SchemaStep::DeleteTable { table } => {
+                self.delete_table(made, *table);
+                Ok(())
+            }
             SchemaStep::AddColumn { table, column } => self.add_column(made, *table, column),
             SchemaStep::DeleteColumn { table, column } => {
                 self.delete_column(made, *table, *column)
@@ -94,15 +97,14 @@ impl TableVersions {
         create_table(&mut self.catalog, &mut self.trees, made, table, name)
     }
 
-    /// A table goes, with its records. After want of memory all is as it was.
-    pub fn delete_table(&mut self, made: &SchemaStep, table: TableId) -> Result<(), OutOfMemory>
+    /// A table goes, with its records. It takes no memory.
+    pub fn delete_table(&mut self, made: &SchemaStep, table: TableId)
         requires settled { self.old.store.held ≡ [] }
         requires step { made.now ≡ step.DeleteTable table }
         requires there { is_some (table_with_id self.old.store.tables table.0) ≡ true }
-        ensures ok { OnOk result (self.new ≡ after_step made.now self.old) }
-        ensures err { OnErr result (self.new ≡ self.old) }
+        ensures { self.new ≡ after_step made.now self.old }
     {
-        drop_table(&mut self.catalog, &mut self.trees, made, table)
+        drop_table(&mut self.catalog, &mut self.trees, made, table);
     }
 
     /// A column comes, one of which every record has a value only where there is no record. After want of memory all is as it

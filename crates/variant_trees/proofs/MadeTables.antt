@@ -109,7 +109,7 @@ stays id t = not (t.id == id)
 apart_from : (a b : ℕ) → (a == b) ≡ false → a ≢ b
 apart_from a b e same = impossible (sym e ∙ ap (λ n. n == b) same ∙ self_equal b)
 
-gone : (id : ℕ) (tables : List Table) → table_with_id (filter (stays id) tables) id ≡ None
+pub gone : (id : ℕ) (tables : List Table) → table_with_id (filter (stays id) tables) id ≡ None
 gone id [] = refl
 gone id (t ∷ tables) = by (t.id == id) refl (gone id tables)
   where

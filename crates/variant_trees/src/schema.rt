@@ -84,26 +84,37 @@ fn keep_and_make(
     }
 }
 
-/// A table goes, with its records and its indexes, while no change is held. After want of memory all is as it was.
+/// A table goes, with its records and its indexes, while no change is held. It takes no memory.
 pub fn drop_table(
     catalog: &mut Catalog,
     trees: &mut TableTrees,
     made: &SchemaStep,
     table: TableId,
-) -> Result<(), OutOfMemory>
+)
     requires kept { AreKept catalog.old.tables trees.old.tables [] }
+    requires shown { ShowsCatalog trees.old.catalog catalog.old }
     requires step { made.now ≡ step.DeleteTable table }
     requires there { is_some (table_with_id catalog.old.tables table.0) ≡ true }
-    ensures ok { OnOk result (IsMade made.now catalog.old trees.old.tables catalog.new trees.new.tables) }
-    ensures err { OnErr result ((catalog.new ≡ catalog.old) × (trees.new.tables ≡ trees.old.tables)) }
+    ensures made { IsMade made.now catalog.old trees.old.tables catalog.new trees.new.tables }
+    ensures shown { ShowsCatalog trees.new.catalog catalog.new }
 {
     tables_without_one();
-    match catalog.make(made) {
-        Ok(()) => {
-            trees.remove_table(table);
-            Ok(())
-        }
-        Err(fault) => Err(fault),
+    other_roots_are_not_shown();
+    forget_table(catalog, trees, table);
+    catalog.delete_table(table);
+    trees.remove_table(table);
+}
+
+// The nodes of a table go from the catalog beside the trees.
+fn forget_table(catalog: &Catalog, trees: &mut TableTrees, table: TableId)
+    requires shown { ShowsCatalog trees.old.catalog catalog.now }
+    requires there { is_some (table_with_id catalog.now.tables table.0) ≡ true }
+    ensures shown { ShowsCatalog trees.new.catalog (catalog_after catalog.now (step.DeleteTable table)) }
+    ensures tables { trees.new.tables ≡ trees.old.tables }
+{
+    match catalog.by_id(table) {
+        Some(known) => trees.forget_table(known),
+        None => unreachable!(),
     }
 }
 
