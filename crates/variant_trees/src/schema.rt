@@ -85,12 +85,7 @@ fn keep_and_make(
 }
 
 /// A table goes, with its records and its indexes, while no change is held. It takes no memory.
-pub fn drop_table(
-    catalog: &mut Catalog,
-    trees: &mut TableTrees,
-    made: &SchemaStep,
-    table: TableId,
-)
+pub fn drop_table(catalog: &mut Catalog, trees: &mut TableTrees, made: &SchemaStep, table: TableId)
     requires kept { AreKept catalog.old.tables trees.old.tables [] }
     requires shown { ShowsCatalog trees.old.catalog catalog.old }
     requires step { made.now ≡ step.DeleteTable table }
