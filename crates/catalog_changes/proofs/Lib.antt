@@ -7,3 +7,4 @@ pub mod OneTable
 pub mod Places
 pub mod StepFits
 pub mod StepNodes
+pub mod TakenBack

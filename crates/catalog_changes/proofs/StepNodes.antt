@@ -73,7 +73,7 @@ both_rise greatest others roots t fits =
     let a = and_parts (rise_above 0 (map columns_number t.columns)) (rise_above 0 (map indexes_number rules)) (parts_at greatest others (rooted roots t) fits) in
     (a.0, ap (rise_above 0) (sym (rule_numbers (roots_in roots t) (by_number t.indexes))) ∙ a.1)
 
-some_data : (nodes : List Node) (key : List ℕ) (n : Node) → find (has_key key) nodes ≡ Some n → IsSome (get_in nodes key)
+pub some_data : (nodes : List Node) (key : List ℕ) (n : Node) → find (has_key key) nodes ≡ Some n → IsSome (get_in nodes key)
 some_data nodes key n found = subst (λ (o : Option Node). IsSome (option_map (λ (m : Node). m.data) o)) (sym found) refl
 
 -- ---- a new table

@@ -16,9 +16,10 @@ pub mod examples;
 mod steps;
 
 pub use steps::{
-    add_column_adds_a_node, create_index_adds_a_node, create_table_adds_a_node,
-    delete_column_removes_a_node, delete_index_removes_a_node, delete_table_removes_its_nodes,
-    nodes_go_one_by_one, other_roots_do_not_count,
+    add_column_adds_a_node, add_column_is_taken_back, create_index_adds_a_node,
+    create_table_adds_a_node, create_table_is_taken_back, delete_column_removes_a_node,
+    delete_index_removes_a_node, delete_table_removes_its_nodes, nodes_go_one_by_one,
+    other_roots_do_not_count,
 };
 
 /// A new table, which has neither columns nor indexes, is one node more, and a table without them that goes is one node

@@ -88,6 +88,26 @@ pub fn delete_table_removes_its_nodes()
         → has_nodes roots (catalog_after catalog (step.DeleteTable table)) ≡ true }
 {}
 
+/// A new table is taken back: its node goes, and then the greatest number has the data that it had.
+pub fn create_table_is_taken_back()
+    ensures there { (roots : Roots) (catalog : CatalogState) (table : TableId) (name : List ℕ) → HasNodesThrough roots catalog (step.CreateTable table name)
+        → IsSome (get_in (nodes_of_catalog roots (catalog_after catalog (step.CreateTable table name))) (catalog_key 1 table.0 0)) }
+    ensures same_length { (roots : Roots) (catalog : CatalogState) (table : TableId) (name : List ℕ) → HasNodesThrough roots catalog (step.CreateTable table name)
+        → extent_in (without_key (nodes_of_catalog roots (catalog_after catalog (step.CreateTable table name))) (catalog_key 1 table.0 0)) (item_key (item.Greatest catalog.greatest_table)) ≡ Some (length (item_data (item.Greatest catalog.greatest_table))) }
+    ensures after { (roots : Roots) (catalog : CatalogState) (table : TableId) (name : List ℕ) → HasNodesThrough roots catalog (step.CreateTable table name)
+        → with_data_at (without_key (nodes_of_catalog roots (catalog_after catalog (step.CreateTable table name))) (catalog_key 1 table.0 0)) (item_key (item.Greatest catalog.greatest_table)) (item_data (item.Greatest catalog.greatest_table)) ≡ nodes_of_catalog roots catalog }
+{}
+
+/// A new column is taken back: its node goes, and then its table's node has the data that it had.
+pub fn add_column_is_taken_back()
+    ensures there { (roots : Roots) (catalog : CatalogState) (table : TableId) (column : Column) (t : Table) → table_with_id catalog.tables table.0 ≡ Some t → HasNodesThrough roots catalog (step.AddColumn table column)
+        → IsSome (get_in (nodes_of_catalog roots (catalog_after catalog (step.AddColumn table column))) (catalog_key 2 table.0 column.id.0)) }
+    ensures same_length { (roots : Roots) (catalog : CatalogState) (table : TableId) (column : Column) (t : Table) → table_with_id catalog.tables table.0 ≡ Some t → HasNodesThrough roots catalog (step.AddColumn table column)
+        → extent_in (without_key (nodes_of_catalog roots (catalog_after catalog (step.AddColumn table column))) (catalog_key 2 table.0 column.id.0)) (item_key (item_of_table roots t)) ≡ Some (length (item_data (item_of_table roots t))) }
+    ensures after { (roots : Roots) (catalog : CatalogState) (table : TableId) (column : Column) (t : Table) → table_with_id catalog.tables table.0 ≡ Some t → HasNodesThrough roots catalog (step.AddColumn table column)
+        → with_data_at (without_key (nodes_of_catalog roots (catalog_after catalog (step.AddColumn table column))) (catalog_key 2 table.0 column.id.0)) (item_key (item_of_table roots t)) (item_data (item_of_table roots t)) ≡ nodes_of_catalog roots catalog }
+{}
+
 /// Nodes go one after the other: a loop over the items of a table takes out one more each time.
 pub fn nodes_go_one_by_one()
     ensures { (items : List CatalogItem) (x : CatalogItem) (nodes : List Node) → without_items (items ++ x ∷ []) nodes ≡ without_key (without_items items nodes) (item_key x) }

@@ -7,10 +7,11 @@ use Rattle.jet_base.specs.Ids.{table_id}
 use Rattle.jet_base.specs.declared.ids.TableId.{TableId}
 use Rattle.column_set.specs.declared.columns.Column.{Column}
 use Rattle.index_derive.specs.declared.rules.IndexRule.{IndexRule}
+use Rattle.index_derive.specs.declared.schema_calls.SchemaStep.{SchemaStep}
 use Rattle.index_derive.specs.declared.schema_calls.SchemaStep.TheVariants as step
 use Rattle.database_state.specs.SchemaChanges.{new_table, with_column}
 use Rattle.database_state.specs.Table.{GreatestColumns, Table, table_with_id}
-use Rattle.jet_catalog.specs.Catalog.{CatalogState}
+use Rattle.jet_catalog.specs.Catalog.{CatalogState, catalog_after}
 use Rattle.page_image.specs.Page.{Node}
 use Rattle.page_space.specs.Frames.{Frames}
 use Rattle.btree_inplace.specs.Changes.{inserted, with_data_at, without_key}
@@ -28,8 +29,9 @@ use Rattle.catalog_changes.proofs.OneTable.{Added}
 use Rattle.catalog_changes.proofs.Places.{table_behind, table_front, tables_parted}
 use Rattle.catalog_changes.proofs.StepFits.{column_fits_in, index_fits_in, table_fits_in}
 use Rattle.catalog_changes.proofs.StepNodes.{here}
+use Rattle.catalog_changes.proofs.TakenBack.{TakenBack}
 use Rattle.catalog_tree.specs.CatalogTrees.{CatalogBecomes, nodes_in, own_pages}
-use Rattle.catalog_tree.specs.CatalogsKept.{HoldsCatalog, TakesColumn, TakesIndex, TakesTable}
+use Rattle.catalog_tree.specs.CatalogsKept.{HoldsCatalog, HoldsStep, TakesColumn, TakesIndex, TakesTable}
 use Rattle.catalog_tree.specs.declared.tree.CatalogTree.{CatalogTree}
 use Rattle.catalog_tree.proofs.Exchanging.{exchanges_then}
 
@@ -133,3 +135,32 @@ index_through roots catalog table root rule fits x = record { before = fits; aft
 pub on_ok : {A B : Type 0} {P Q : Type 0} (r : Result A B) → (P → Q) → OnOk r P → OnOk r Q
 on_ok (Ok v) to p = to p
 on_ok (Err e) to p = tt
+
+-- ---- a step that is taken back
+
+pub back_there : (old : Frames) (was : CatalogTree) (roots : Roots) (catalog : CatalogState) (made : SchemaStep) (key at : List ℕ) (now : CatalogItem) → HoldsStep old was roots catalog made → at ≡ key → TakenBack (nodes_of_catalog roots (catalog_after catalog made)) key now (nodes_of_catalog roots catalog) → IsSome (get_in (nodes_in old was) at)
+back_there old was roots catalog made key at now holds same back =
+    there_now old was roots (catalog_after catalog made) key at (record { tree = holds.tree; nodes = holds.nodes; writable = holds.through.after }) same back.there
+
+back_nodes : (old : Frames) (was : CatalogTree) (mid : Frames) (between : CatalogTree) (nodes : List Node) (key at : List ℕ) → nodes_in old was ≡ nodes → at ≡ key → CatalogBecomes old was mid between (without_key (nodes_in old was) at) → nodes_in mid between ≡ without_key nodes key
+back_nodes old was mid between nodes key at has same gone = gone.nodes ∙ ap (without_key (nodes_in old was)) same ∙ ap (λ (l : List Node). without_key l key) has
+
+pub back_length : (old : Frames) (was : CatalogTree) (mid : Frames) (between : CatalogTree) (roots : Roots) (catalog : CatalogState) (made : SchemaStep) (key at : List ℕ) (now : CatalogItem) (node : NodeText) → HoldsStep old was roots catalog made → at ≡ key → node ≡ text_of now
+    → TakenBack (nodes_of_catalog roots (catalog_after catalog made)) key now (nodes_of_catalog roots catalog) → CatalogBecomes old was mid between (without_key (nodes_in old was) at) → extent_in (nodes_in mid between) node.key ≡ Some (length node.bytes)
+back_length old was mid between roots catalog made key at now node holds same is back gone =
+    ap (λ (n : NodeText). extent_in (nodes_in mid between) n.key) is
+    ∙ ap (λ (l : List Node). extent_in l (item_key now)) (back_nodes old was mid between (nodes_of_catalog roots (catalog_after catalog made)) key at holds.nodes same gone)
+    ∙ back.same_length ∙ ap (λ (n : NodeText). Some (length n.bytes)) (sym is)
+
+pub back_now : (old : Frames) (was : CatalogTree) (mid : Frames) (between : CatalogTree) (new : Frames) (is : CatalogTree) (roots : Roots) (catalog : CatalogState) (made : SchemaStep) (key at : List ℕ) (now : CatalogItem) (node : NodeText) → HoldsStep old was roots catalog made → at ≡ key → node ≡ text_of now
+    → TakenBack (nodes_of_catalog roots (catalog_after catalog made)) key now (nodes_of_catalog roots catalog) → CatalogBecomes old was mid between (without_key (nodes_in old was) at) → CatalogBecomes mid between new is (with_data_at (nodes_in mid between) node.key node.bytes) → Follows old was new is roots catalog
+back_now old was mid between new is roots catalog made key at now node holds same written back gone put =
+    follows old was new is roots catalog (with_data_at (nodes_in mid between) node.key node.bytes)
+    (ap (λ (n : NodeText). with_data_at (nodes_in mid between) n.key n.bytes) written
+    ∙ ap (λ (l : List Node). with_data_at l (item_key now) (item_data now)) (back_nodes old was mid between (nodes_of_catalog roots (catalog_after catalog made)) key at holds.nodes same gone)
+    ∙ back.nodes)
+    (becomes_then old mid new was between is (without_key (nodes_in old was) at) (with_data_at (nodes_in mid between) node.key node.bytes) gone put) holds.through.before
+
+pub same_table_is : (roots : Roots) (t : Table) (id : TableId) (name : List ℕ) (greatest : GreatestColumns) (records long_values : ℕ) → id.0 ≡ t.id → name ≡ t.name → greatest ≡ t.greatest → (roots t.id).records ≡ records → (roots t.id).long_values ≡ long_values
+    → item.Table (record { id = id; name = name; greatest = greatest; records = records; long_values = long_values }) ≡ item_of_table roots t
+same_table_is roots t id name greatest records long_values e n g r l = λ i. item.Table (record { id = table_id (e i); name = n i; greatest = g i; records = sym r i; long_values = sym l i })

@@ -5,16 +5,17 @@ use Rattle.jet_base.specs.declared.ids.IndexId.{IndexId}
 use Rattle.jet_base.specs.declared.ids.TableId.{TableId}
 use Rattle.column_set.specs.declared.columns.Column.{Column}
 use Rattle.index_derive.specs.declared.rules.IndexRule.{IndexRule}
+use Rattle.index_derive.specs.declared.schema_calls.SchemaStep.{SchemaStep}
 use Rattle.index_derive.specs.declared.schema_calls.SchemaStep.TheVariants as step
 use Rattle.database_state.specs.SchemaChanges.{has_column, new_table, with_column}
 use Rattle.database_state.specs.Table.{GreatestColumns, Table, table_with_id}
-use Rattle.jet_catalog.specs.Catalog.{CatalogState, IsNumbered, has_new_id}
+use Rattle.jet_catalog.specs.Catalog.{CatalogState, IsNumbered, catalog_after, has_new_id}
 use Rattle.page_image.specs.Page.{Node}
 use Rattle.page_space.specs.Frames.{Frames}
 use Rattle.btree_inplace.specs.Order.{get_in}
 use Rattle.catalog_grammar.specs.CatalogBytes.{item_fits, item_key}
 use Rattle.catalog_grammar.specs.declared.items.CatalogItem.{CatalogItem}
-use Rattle.catalog_changes.specs.CatalogSteps.{Roots, has_index, has_nodes, item_of_column, item_of_index, item_of_table, nodes_of_catalog, without_items}
+use Rattle.catalog_changes.specs.CatalogSteps.{HasNodesThrough, Roots, has_index, has_nodes, item_of_column, item_of_index, item_of_table, nodes_of_catalog, without_items}
 use Rattle.catalog_tree.specs.CatalogTrees.{IsCatalogTree, nodes_in}
 use Rattle.catalog_tree.specs.declared.tree.CatalogTree.{CatalogTree}
 
@@ -23,6 +24,12 @@ pub record HoldsCatalog (frames : Frames) (kept : CatalogTree) (roots : Roots) (
   pub tree : IsCatalogTree frames kept
   pub nodes : nodes_in frames kept ≡ nodes_of_catalog roots catalog
   pub writable : has_nodes roots catalog ≡ true
+
+-- The tree has the nodes of a catalog after a step, which may be taken back: those before it can be written, too.
+pub record HoldsStep (frames : Frames) (kept : CatalogTree) (roots : Roots) (catalog : CatalogState) (made : SchemaStep) : Type 0 where
+  pub tree : IsCatalogTree frames kept
+  pub nodes : nodes_in frames kept ≡ nodes_of_catalog roots (catalog_after catalog made)
+  pub through : HasNodesThrough roots catalog made
 
 -- ---- what a step asks of the catalog
 
@@ -41,6 +48,12 @@ pub record TakesColumn (roots : Roots) (catalog : CatalogState) (t : Table) (col
   pub new : has_column t column.id.0 ≡ false
   pub number : 0 < column.id.0
   pub greatest_is : (with_column column t).greatest ≡ greatest
+  pub records_root : (roots t.id).records ≡ records
+  pub long_values_root : (roots t.id).long_values ≡ long_values
+
+-- a table of the catalog, with the roots of its trees
+pub record HasTable (roots : Roots) (catalog : CatalogState) (t : Table) (records long_values : ℕ) : Type 0 where
+  pub there : table_with_id catalog.tables t.id ≡ Some t
   pub records_root : (roots t.id).records ≡ records
   pub long_values_root : (roots t.id).long_values ≡ long_values
 

@@ -1,6 +1,6 @@
 //! The tree of a catalog through schema steps: what may want memory comes first, and alone.
 
-ghost use Rattle.std.specs.Prelude.{◌≡◌, Some, map, OnErr, OnOk};
+ghost use Rattle.std.specs.Prelude.{◌≡◌, ℕ, Some, List, map, OnErr, OnOk};
 ghost use Rattle.jet_base.specs.Ids.{table_id};
 ghost use Rattle.index_derive.specs.declared.schema_calls.SchemaStep.TheVariants as step;
 ghost use Rattle.database_state.specs.Table.{table_with_id};
@@ -8,7 +8,7 @@ ghost use Rattle.jet_catalog.specs.Catalog.{CatalogState, catalog_after};
 ghost use Rattle.catalog_grammar.specs.declared.items.CatalogItem.TheVariants as item;
 ghost use Rattle.catalog_changes.specs.CatalogSteps.{Roots, nodes_of_catalog, without_items};
 ghost use Rattle.catalog_tree.specs.CatalogTrees.{CatalogBecomes, IsCatalogTree, nodes_in};
-ghost use Rattle.catalog_tree.specs.CatalogsKept.{GoOneByOne, HasColumn, HasIndex, HoldsCatalog, TakesColumn, TakesIndex, TakesTable};
+ghost use Rattle.catalog_tree.specs.CatalogsKept.{GoOneByOne, HasColumn, HasIndex, HasTable, HoldsCatalog, HoldsStep, TakesColumn, TakesIndex, TakesTable};
 
 use crate::CatalogTree;
 use catalog_record::{NodeBuffer, key_of};
@@ -71,6 +71,40 @@ impl CatalogTree {
         node.write_table(table.id(), table.name(), greatest, records, long_values);
         self.replace(space, &node);
         Ok(())
+    }
+
+    /// Takes back a table that was just created: its node goes, and the greatest number is again the one before. It takes no
+    /// memory.
+    pub fn take_back_table(&mut self, space: &mut Space, table: TableId, greatest: u32)
+        requires { (roots : Roots) × (catalog : CatalogState) × (name : List ℕ) × HoldsStep space.old self.old roots catalog (step.CreateTable table name) × (catalog.greatest_table ≡ greatest) }
+        ensures { (roots : Roots) (catalog : CatalogState) (name : List ℕ) → HoldsStep space.old self.old roots catalog (step.CreateTable table name) → catalog.greatest_table ≡ greatest
+            → CatalogBecomes space.old self.old space.new self.new (nodes_of_catalog roots catalog) × HoldsCatalog space.new self.new roots catalog }
+    {
+        self.remove(space, &key_of(TABLE, table.0, 0));
+        let mut node = NodeBuffer::new();
+        node.write_greatest(greatest);
+        self.replace(space, &node);
+    }
+
+    /// Takes back a column that was just added to a table: its node goes, and the table's node has again the greatest columns
+    /// before. It takes no memory.
+    pub fn take_back_column(
+        &mut self,
+        space: &mut Space,
+        table: &TableDef,
+        column: &Column,
+        records: u32,
+        long_values: u32,
+    )
+        requires { (roots : Roots) × (catalog : CatalogState) × HoldsStep space.old self.old roots catalog (step.AddColumn (table_id table.now.id) column.now) × HasTable roots catalog table.now records long_values }
+        ensures { (roots : Roots) (catalog : CatalogState) → HoldsStep space.old self.old roots catalog (step.AddColumn (table_id table.now.id) column.now) → HasTable roots catalog table.now records long_values
+            → CatalogBecomes space.old self.old space.new self.new (nodes_of_catalog roots catalog) × HoldsCatalog space.new self.new roots catalog }
+    {
+        let id = table.id();
+        self.remove(space, &key_of(COLUMN, id.0, column.id.0));
+        let mut node = NodeBuffer::new();
+        node.write_table(id, table.name(), table.greatest(), records, long_values);
+        self.replace(space, &node);
     }
 
     /// Takes out the node of a column. It takes no memory.

@@ -6,4 +6,5 @@ pub mod PrimaryKeys
 pub mod Storable
 pub mod Turns
 pub mod Settled
+pub mod NewColumns
 pub mod SchemaSteps

@@ -14,9 +14,9 @@ use Rattle.index_derive.specs.declared.schema_calls.SchemaStep.TheVariants as st
 use Rattle.index_derive.specs.Entries.{column_is_used}
 use Rattle.database_state.specs.Table.{Table, primary_first, table_with_id}
 use Rattle.database_state.specs.State.{DatabaseState, levels}
-use Rattle.database_state.specs.SchemaChanges.{greatest_order, is_in_use, makes_table, new_table, next_index_id, rule_columns, schema_refusal, step_refusals, step_table}
+use Rattle.database_state.specs.SchemaChanges.{greatest_order, has_column, is_in_use, least_free_id, makes_table, new_table, next_column_id, next_index_id, rule_columns, schema_refusal, step_refusals, step_table}
 use Rattle.database_state.specs.Lawful.{is_name}
-use Rattle.record_changes.proofs.Tests.{and_left, and_second, impossible, same_number}
+use Rattle.record_changes.proofs.Tests.{and_left, and_right, and_second, impossible, same_number}
 use Rattle.version_keys.proofs.FreeKeys.{in_any_order}
 use Rattle.version_keys.proofs.IndexNumbers.{all_primary_first, none_of}
 use Rattle.version_keys.proofs.SchemaKeys.{IsNewIndex, at_found, new_index, unrefused}
@@ -27,9 +27,15 @@ use Rattle.engine_parts.specs.Parts.{tables_of}
 use Rattle.engine_versions.specs.EngineState.{EngineState}
 use Rattle.engine_versions.proofs.Telling.{tables_settled}
 use Rattle.versioned_tables.specs.HeldRecords.{HeldRecord}
-use Rattle.stored_variants.specs.SchemaSteps.{CanMake, IsIndexFor, TakesColumn}
+use Rattle.stored_variants.specs.SchemaSteps.{CanMake, IsColumnFor, IsIndexFor, TakesColumn}
 use Rattle.stored_variants.specs.StoredVersions.{StoredVersions}
 use Rattle.stored_variants.specs.VersionsKept.{only_secondary, secondary_rule}
+use Rattle.log_grammar.specs.EntryBytes.{column_fits, index_fits, schema_fits}
+use Rattle.loggable_steps.specs.Loggable.{schema_fits_types}
+use Rattle.loggable_steps.proofs.ChangeBytes.{IsAsked, columns_of}
+use Rattle.loggable_steps.proofs.SchemaBytes.{schema_spelled}
+use Rattle.version_keys.proofs.BookmarkKeys.{HasOneEntry}
+use Rattle.engine_steps.proofs.NewColumns.{column_is_new, next_is_some}
 use Rattle.engine_steps.specs.Steps.{MayCome, entry_by}
 use Rattle.engine_steps.proofs.Fitting.{at_most}
 use Rattle.engine_steps.proofs.Settled.{IsLawfulStep, lawful_step, none_open}
@@ -102,16 +108,49 @@ other_index t index there other = by (find (λ r. r.id.0 == index) (primary_firs
         let plain : r.flags.primary ≡ false = and_second (r.id.0 == index) r.flags.primary own (of_found (λ r. ((r.id.0 == index) && r.flags.primary) ≡ false) (λ r. r.id.0 == index) (primary_first t.indexes) r e (all_primary_first (λ r. ((r.id.0 == index) && r.flags.primary) ≡ false) t.indexes (none_of (λ r. (r.id.0 == index) && r.flags.primary) t.indexes other))) in
         ap (λ (b : Bool). is_some (cond b None (Some r))) plain
 
+-- what was denied is not there, and what was denied not to be there is
+there_if : (b : Bool) → not b ≡ false → b ≡ true
+there_if true h = refl
+there_if false h = sym h
+
+-- ---- a column comes
+
+column_for : (state : DatabaseState) → IsAsked state → (session : ℕ) (table : TableId) (column : Column) → IsLawfulStep state session (step.AddColumn table column) → column_fits column ≡ true → (t : Table) → table_with_id state.tables table.0 ≡ Some t → IsColumnFor column t
+column_for state asked session table column is fits t found =
+    let refused = at_found state session (step.AddColumn table column) t is.free found in
+    let are = columns_of asked.base asked.dropped asked.kept state asked.reached table.0 t found in
+    record {
+      new = column_is_new t column are.range are.given number (there_if _ refused.1.1.1.1.0);
+      positive = subst (λ (n : ℕ). 0 < n) (sym number) (next_is_some t.greatest column.kind column.tagged);
+      fits = fits;
+    }
+  where
+    numbers : Table → Bool
+    numbers t = (column.id.0 == next_column_id t.greatest column.kind column.tagged) && is_name column.name
+
+    number : column.id.0 ≡ next_column_id t.greatest column.kind column.tagged
+    number = same_number column.id.0 (next_column_id t.greatest column.kind column.tagged) (and_left _ _ (subst (λ (o : Option Table). numbers (unwrap_or o (new_table 0 [])) ≡ true) found is.numbers))
+
 -- ---- an index comes
+
+free_from : (indexes rest : List IndexRule) (id : ℕ) → 0 < id → 0 < least_free_id indexes rest id
+free_from indexes [] id h = h
+free_from indexes (made ∷ rest) id h = free_from indexes rest (cond (list_any (λ m. m.id.0 == id) indexes) (id + 1) id) (by (list_any (λ m. m.id.0 == id) indexes))
+  where
+    by : (b : Bool) → 0 < cond b (id + 1) id
+    by true = omega arith
+    by false = h
 
 abbrev AreUnrefused : DatabaseState → Table → SchemaStep → Type 0
 AreUnrefused state t made = AllByRecursion (λ refusal. refusal.0 ≡ false) (step_refusals state t made)
 
-index_for : (state : DatabaseState) (id : TableId) (rule : IndexRule) (t : Table) → AreUnrefused state t (step.CreateIndex id rule) → rule.id.0 ≡ next_index_id t.indexes → nat_le rule.key_most 255 ≡ true → IsIndexFor rule t
-index_for state id rule t refused number short =
+index_for : (state : DatabaseState) (id : TableId) (rule : IndexRule) (t : Table) → AreUnrefused state t (step.CreateIndex id rule) → rule.id.0 ≡ next_index_id t.indexes → nat_le rule.key_most 255 ≡ true → index_fits rule ≡ true → IsIndexFor rule t
+index_for state id rule t refused number short fits =
     let new : IsNewIndex t rule = new_index state id rule t refused number in
     record {
       number = any_none (λ made. made.id.0 == rule.id.0) t.indexes new.number;
+      positive = subst (λ (n : ℕ). 0 < n) (sym number) (free_from t.indexes t.indexes 1 (omega arith));
+      fits = fits;
       primary = λ primary. record {
         first = and_second rule.flags.primary (list_any (λ made. made.flags.primary) t.indexes) primary refused.1.1.0;
         empty = no_records t.rows (new.no_records primary);
@@ -129,32 +168,40 @@ index_for state id rule t refused number short =
 abbrev committed_store : DatabaseState → List HeldRecord → StoredVersions
 committed_store state held = record { greatest_table = state.greatest_table; store = record { tables = state.tables; held = held } }
 
-can_make : (state : DatabaseState) (session : ℕ) (made : SchemaStep) → IsLawfulStep state session made → makes_built (entry.Schema made) ≡ true → (held : List HeldRecord) → CanMake made (committed_store state held)
-can_make state session (step.CreateTable table name) is built held = above table.0 state.greatest_table (and_left (table.0 == (state.greatest_table + 1)) (is_name name) is.numbers)
-can_make state session (step.DeleteTable table) is built held = table_there state session (step.DeleteTable table) is.free refl
-can_make state session (step.AddColumn table column) is built held =
-    takes_column (table_with_id state.tables table.0) column built (λ t found. (at_found state session (step.AddColumn table column) t is.free found).1.1.1.0)
-can_make state session (step.DeleteColumn table column) is built held =
-    some_or (table_with_id state.tables table.0) (λ t. column_is_used column t.indexes ≡ false) (table_there state session (step.DeleteColumn table column) is.free refl)
-    (λ t found. column_unused column t.indexes (at_found state session (step.DeleteColumn table column) t is.free found).1.0)
-can_make state session (step.CreateIndex table rule) is built held =
+can_make : (state : DatabaseState) → IsAsked state → (session : ℕ) (made : SchemaStep) → IsLawfulStep state session made → makes_built (entry.Schema made) ≡ true → schema_fits made ≡ true → (held : List HeldRecord) → CanMake made (committed_store state held)
+can_make state asked session (step.CreateTable table name) is built fits held =
+    (above table.0 state.greatest_table (and_left (table.0 == (state.greatest_table + 1)) (is_name name) is.numbers), and_right (table.0 == (state.greatest_table + 1)) (is_name name) is.numbers)
+can_make state asked session (step.DeleteTable table) is built fits held = table_there state session (step.DeleteTable table) is.free refl
+can_make state asked session (step.AddColumn table column) is built fits held = (
+  takes_column (table_with_id state.tables table.0) column built (λ t found. (at_found state session (step.AddColumn table column) t is.free found).1.1.1.0),
+  some_or (table_with_id state.tables table.0) (IsColumnFor column) (table_there state session (step.AddColumn table column) is.free refl) (column_for state asked session table column is (and_right _ (column_fits column) fits)),
+)
+can_make state asked session (step.DeleteColumn table column) is built fits held = (
+  some_or (table_with_id state.tables table.0) (λ t. column_is_used column t.indexes ≡ false) (table_there state session (step.DeleteColumn table column) is.free refl)
+      (λ t found. column_unused column t.indexes (at_found state session (step.DeleteColumn table column) t is.free found).1.0),
+  some_or (table_with_id state.tables table.0) (λ t. has_column t column.0 ≡ true) (table_there state session (step.DeleteColumn table column) is.free refl)
+      (λ t found. there_if (has_column t column.0) (at_found state session (step.DeleteColumn table column) t is.free found).0),
+)
+can_make state asked session (step.CreateIndex table rule) is built fits held =
     some_or (table_with_id state.tables table.0) (IsIndexFor rule) (table_there state session (step.CreateIndex table rule) is.free refl)
-    (λ t found. index_for state table rule t (at_found state session (step.CreateIndex table rule) t is.free found) (number t found) built)
+    (λ t found. index_for state table rule t (at_found state session (step.CreateIndex table rule) t is.free found) (number t found) built (and_right _ (index_fits rule) fits))
   where
     has_numbers : Table → Bool
     has_numbers t = (rule.id.0 == next_index_id t.indexes) && (rule.order == (greatest_order t.indexes + 1)) && is_name rule.name
 
     number : (t : Table) → table_with_id state.tables table.0 ≡ Some t → rule.id.0 ≡ next_index_id t.indexes
     number t found = same_number rule.id.0 (next_index_id t.indexes) (and_left _ _ (and_left _ _ (subst (λ (o : Option Table). has_numbers (unwrap_or o (new_table 0 [])) ≡ true) found is.numbers)))
-can_make state session (step.DeleteIndex table index) is built held =
+can_make state asked session (step.DeleteIndex table index) is built fits held =
     some_or (table_with_id state.tables table.0) (λ t. is_some (secondary_rule t index.0) ≡ true) (table_there state session (step.DeleteIndex table index) is.free refl)
     (λ t found. let refused = at_found state session (step.DeleteIndex table index) t is.free found in other_index t index.0 refused.0 refused.1.0)
 
 -- no transaction is open, so that the engine's tables are the committed ones
-pub lawful_can_make : (engine : EngineState) (session : ℕ) (made : SchemaStep) → MayCome engine (entry_by session (entry.Schema made)) → CanMake made (tables_of engine)
-lawful_can_make engine session made may =
+pub lawful_can_make : HasOneEntry → (engine : EngineState) (session : ℕ) (made : SchemaStep) → MayCome engine (entry_by session (entry.Schema made)) → schema_fits_types made ≡ true → CanMake made (tables_of engine)
+lawful_can_make one engine session made may sized =
     let is = lawful_step may.state session made may.lawful in
+    let asked : IsAsked may.state = record { one = one; base = may.holds.base; dropped = may.holds.dropped; kept = may.holds.kept; reached = may.holds.reached } in
+    let fits : schema_fits made ≡ true = (schema_spelled may.state asked session made is.free is.numbers may.built sized).fits in
     let same : engine.store.tables ≡ may.state.tables = tables_settled engine may.state may.holds (none_open engine may.state may.holds session made is) in
     subst (λ (n : ℕ). CanMake made (record { greatest_table = n; store = engine.store })) may.holds.greatest
     (subst (λ (tables : List Table). CanMake made (record { greatest_table = may.state.greatest_table; store = record { tables = tables; held = engine.store.held } })) (sym same)
-    (can_make may.state session made is may.built engine.store.held))
+    (can_make may.state asked session made is may.built fits engine.store.held))

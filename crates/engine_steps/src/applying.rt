@@ -19,6 +19,7 @@ use crate::schema_steps::make;
 use crate::session_steps::{
     begin, commit, enter, leave, open, release, save, shut, undo, undo_all,
 };
+use crate::types::numbers_fit_their_types;
 use engine_parts::Engine;
 use engine_versions::ends_always_find_room;
 use index_derive::{EntryKind, Step};
@@ -130,7 +131,10 @@ fn apply_entry(engine: &mut Engine, session: Session, kind: &EntryKind) -> Resul
             changes_are_formed(made);
             change(engine, session, made)
         }
-        EntryKind::Schema(made) => make(engine, made),
+        EntryKind::Schema(made) => {
+            numbers_fit_their_types(made);
+            make(engine, made)
+        }
         _ => {
             apply_without_memory(engine, session, kind);
             Ok(())

@@ -1,6 +1,6 @@
 //! Laws: what a lawful entry in a state that the engine holds asks of the engine's parts. The functions do nothing.
 
-ghost use Rattle.std.specs.Prelude.{◌≡◌, ◌<◌, ◌≤◌, ℕ, false, length};
+ghost use Rattle.std.specs.Prelude.{◌≡◌, ◌<◌, ◌≤◌, ℕ, true, false, length};
 ghost use Rattle.column_set.specs.declared.changes.Change.{Change};
 ghost use Rattle.index_derive.specs.declared.log.EntryKind.TheVariants as entry;
 ghost use Rattle.index_derive.specs.declared.log.EntryKind.{EntryKind};
@@ -17,6 +17,7 @@ ghost use Rattle.engine_versions.specs.HoldsState.{HoldsAllInStep, HoldsState};
 ghost use Rattle.engine_steps.specs.Changing.{CanChange, IsFormed};
 ghost use Rattle.engine_steps.specs.Cleans.{CanGo, without_oldest_held};
 ghost use Rattle.engine_steps.specs.Steps.{IsSettledForStep, MayCome, MayTake, begin_taken_back, entry_by};
+ghost use Rattle.loggable_steps.specs.Loggable.{schema_fits_types};
 ghost use Rattle.stored_variants.specs.SchemaSteps.{CanMake};
 
 use column_set::values_here_are_the_record;
@@ -24,6 +25,7 @@ use engine_versions::{
     a_clean_leaves_the_state, a_lawful_entry_makes_the_next_state, ends_always_find_room,
     newest_records_are_told, sessions_are_told, tables_are_told,
 };
+use index_derive::a_primary_index_has_one_entry;
 use version_cleanup::needed_changes_are_kept;
 
 /// The oldest held changes, none of which a reader needs, go without a change of the state.
@@ -52,10 +54,12 @@ pub(crate) fn lawful_changes_can_be_made()
     newest_records_are_told();
 }
 
-/// The tables with versions can make each lawful schema step.
+/// The tables with versions can make each lawful schema step whose numbers have the bits of their types.
 pub(crate) fn lawful_schema_steps_can_be_made()
-    ensures { (engine : EngineState) (session : ℕ) (made : SchemaStep) → MayCome engine (entry_by session (entry.Schema made)) → CanMake made (tables_of engine) }
-{}
+    ensures { (engine : EngineState) (session : ℕ) (made : SchemaStep) → MayCome engine (entry_by session (entry.Schema made)) → schema_fits_types made ≡ true → CanMake made (tables_of engine) }
+{
+    a_primary_index_has_one_entry();
+}
 
 /// Of a step with a begin and a commit each entry may come in its turn, and there is room for it. The begin can be taken back.
 pub(crate) fn entries_of_a_step_alone_come_in_turn()

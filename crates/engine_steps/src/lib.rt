@@ -7,7 +7,9 @@ mod cleaning;
 mod laws;
 mod schema_steps;
 mod session_steps;
+mod types;
 
 pub use applying::apply;
 pub use cleaning::clean;
 pub use laws::a_clean_for_a_step_leaves_the_state;
+pub use types::numbers_fit_their_types;

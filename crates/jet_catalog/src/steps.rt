@@ -123,7 +123,8 @@ impl Catalog {
         Ok(())
     }
 
-    fn delete_table(&mut self, id: TableId)
+    /// Takes out the table of this number, if there is one. It takes no memory.
+    pub fn delete_table(&mut self, id: TableId)
         ensures { self.new ≡ record self.old { tables = filter (λ t. not (t.id == id.0)) self.old.tables } }
     {
         self.tables.retain(|table| table.id() != id);

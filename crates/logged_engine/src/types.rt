@@ -2,12 +2,13 @@
 
 ghost use Rattle.std.specs.Prelude.{◌≡◌, ◌^◌, true, nat_lt};
 ghost use Rattle.engine_steps.specs.Steps.{MayTake};
-ghost use Rattle.loggable_steps.specs.Loggable.{change_fits_types, fits_types, is_label, is_loggable, made_by, schema_fits_types};
+ghost use Rattle.loggable_steps.specs.Loggable.{change_fits_types, fits_types, is_label, is_loggable, made_by};
 
 use column_set::Change;
 use engine_core::Engine;
-use index_derive::{EntryKind, SchemaStep, Step};
-use jet_base::{ColumnId, IndexId, TableId};
+use engine_steps::numbers_fit_their_types;
+use index_derive::{EntryKind, Step};
+use jet_base::{ColumnId, TableId};
 use loggable_steps::lawful_steps_can_be_logged;
 
 /// A step that may be taken, by a session with a label, can be written.
@@ -29,7 +30,7 @@ fn numbers_fit(kind: &EntryKind)
     match kind {
         EntryKind::Open(table) | EntryKind::Shut(table) => table_fits(*table),
         EntryKind::Change(change) => change_fits(change),
-        EntryKind::Schema(made) => schema_fits(made),
+        EntryKind::Schema(made) => numbers_fit_their_types(made),
         _ => {}
     }
 }
@@ -50,33 +51,6 @@ fn change_fits(change: &Change)
     }
 }
 
-fn schema_fits(made: &SchemaStep)
-    ensures { schema_fits_types made.now ≡ true }
-{
-    match made {
-        SchemaStep::CreateTable { table, .. } | SchemaStep::DeleteTable { table } => {
-            table_fits(*table)
-        }
-        SchemaStep::AddColumn { table, column } => {
-            table_fits(*table);
-            column_fits(column.id);
-        }
-        SchemaStep::DeleteColumn { table, column } => {
-            table_fits(*table);
-            column_fits(*column);
-        }
-        SchemaStep::CreateIndex { table, index } => {
-            table_fits(*table);
-            index_fits(index.id);
-            order_fits(index.order);
-        }
-        SchemaStep::DeleteIndex { table, index } => {
-            table_fits(*table);
-            index_fits(*index);
-        }
-    }
-}
-
 fn table_fits(table: TableId)
     ensures { nat_lt table.0 (2 ^ 32) ≡ true }
 {
@@ -87,16 +61,4 @@ fn column_fits(column: ColumnId)
     ensures { nat_lt column.0 (2 ^ 16) ≡ true }
 {
     let _ = column.0;
-}
-
-fn index_fits(index: IndexId)
-    ensures { nat_lt index.0 (2 ^ 16) ≡ true }
-{
-    let _ = index.0;
-}
-
-fn order_fits(order: u32)
-    ensures { nat_lt order (2 ^ 32) ≡ true }
-{
-    let _ = order;
 }

@@ -10,9 +10,11 @@ use Rattle.database_state.specs.Table.{Table, row_at, primary_rule, rule_with_id
 use Rattle.index_derive.specs.declared.rules.IndexRule.{IndexRule}
 use Rattle.index_derive.specs.declared.rules.Schema.{Schema}
 use Rattle.index_derive.specs.Entries.{is_escrow_column, is_legal, primary_key}
-use Rattle.jet_catalog.specs.Catalog.{without_rows}
+use Rattle.jet_catalog.specs.Catalog.{CatalogState, without_rows}
 use Rattle.page_image.specs.Page.{Node}
+use Rattle.table_trees.specs.ShownCatalogs.{ShowsCatalog}
 use Rattle.table_trees.specs.StoredTables.{StoredTable, index_entries, table_nodes}
+use Rattle.table_trees.specs.StoredTrees.{StoredTrees}
 use Rattle.version_store.specs.declared.calls.ChangeKind.{ChangeKind}
 use Rattle.version_store.specs.declared.calls.ChangeKind.TheVariants as kind
 pub use Rattle.version_store.specs.HeldChanges.{is_standing}
@@ -112,3 +114,8 @@ pub record AreKept (tables : List Table) (trees : List StoredTable) (held : List
   pub numbers : map tree_numbers trees ≡ map needed_trees tables
   pub each : (table : ℕ) → IfSome (table_with_id tables table) (IsKeptTable trees (table_nodes trees table) (map held_record held))
   pub changes : AllByRecursion (IsKeptChange tables trees) held
+
+-- A catalog and its trees are kept, and the nodes of the catalog beside the trees are those of this catalog.
+pub record IsStore (catalog : CatalogState) (trees : StoredTrees) (held : List HeldChange) : Type 0 where
+  pub kept : AreKept catalog.tables trees.tables held
+  pub shows : ShowsCatalog trees.catalog catalog

@@ -12,4 +12,7 @@ pub mod Catalogs
 pub mod Places
 pub mod IndexChanges
 pub mod StoreChanges
+pub mod NewItems
+pub mod KeptSteps
+pub mod OtherRoots
 pub mod AfterChanges

@@ -1,5 +1,8 @@
 -- The catalog that stands beside the tables. While it is empty it may have no page.
-use Rattle.std.specs.Prelude.{◌≡◌, ℕ, Option, Some, None, List, []}
+use Rattle.std.specs.Prelude.{◌≡◌, ℕ, true, Option, Some, None, List, []}
+use Rattle.index_derive.specs.declared.schema_calls.SchemaStep.{SchemaStep}
+use Rattle.jet_catalog.specs.Catalog.{CatalogState, catalog_after}
+use Rattle.catalog_changes.specs.CatalogSteps.{HasNodesThrough, Roots, has_nodes, nodes_of_catalog}
 use Rattle.page_image.specs.Page.{Node}
 use Rattle.page_space.specs.Frames.{Frames}
 use Rattle.catalog_grammar.specs.Catalogs.{catalog_nodes}
@@ -34,3 +37,20 @@ pub record KeptBecomes (old : Frames) (was : KeptCatalog) (new : Frames) (is : K
   pub tree : IsKeptCatalog new is
   pub nodes : kept_nodes new is ≡ list
   pub pages : Rearranges old new (kept_pages old was) (kept_pages new is)
+
+-- It has the nodes of a catalog whose trees have these roots, and each of them can be written.
+pub record HoldsKept (frames : Frames) (kept : KeptCatalog) (roots : Roots) (catalog : CatalogState) : Type 0 where
+  pub tree : IsKeptCatalog frames kept
+  pub nodes : kept_nodes frames kept ≡ nodes_of_catalog roots catalog
+  pub writable : has_nodes roots catalog ≡ true
+
+-- It has the nodes of a catalog after a step, which may be taken back: those before it can be written, too.
+pub record HoldsKeptStep (frames : Frames) (kept : KeptCatalog) (roots : Roots) (catalog : CatalogState) (made : SchemaStep) : Type 0 where
+  pub tree : IsKeptCatalog frames kept
+  pub nodes : kept_nodes frames kept ≡ nodes_of_catalog roots (catalog_after catalog made)
+  pub through : HasNodesThrough roots catalog made
+
+-- It has become another, which has the nodes of this catalog.
+pub record KeptFollows (old : Frames) (was : KeptCatalog) (new : Frames) (is : KeptCatalog) (roots : Roots) (after : CatalogState) : Type 0 where
+  pub becomes : KeptBecomes old was new is (nodes_of_catalog roots after)
+  pub writable : has_nodes roots after ≡ true

@@ -1,5 +1,6 @@
 pub mod StoredTables
 pub mod StoredTrees
+pub mod ShownCatalogs
 pub mod StoredNodes
 pub mod Pages
 pub mod NodeTrees

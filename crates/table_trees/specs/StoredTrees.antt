@@ -1,6 +1,9 @@
 -- What a store of tables has: the tables, and beside them the catalog with the root pages of their trees.
-use Rattle.std.specs.Prelude.{ℕ, ◌==◌, Bool, List, [], ◌∷◌, ◌++◌}
+use Rattle.std.specs.Prelude.{ℕ, ◌==◌, Bool, List, [], ◌∷◌, ◌++◌, find, unwrap_or}
+use Rattle.std.specs.Option.{option_map}
 use Rattle.page_image.specs.Page.{Node}
+use Rattle.catalog_grammar.specs.Catalogs.{TableRoots}
+use Rattle.catalog_changes.specs.CatalogSteps.{Roots}
 use Rattle.table_trees.specs.StoredTables.{StoredTable, changed_where, without_where}
 
 -- The root pages of the trees of a table: that of its nodes, that of its long values, and those of its indexes, each behind
@@ -20,11 +23,27 @@ pub record StoredTrees : Type 0 where
   pub tables : List StoredTable
   pub catalog : StoredCatalog
 
--- ---- changes
+-- ---- the roots of the tables, by number
+
+-- what was found behind a number, 0 where nothing was
+abbrev pub root_behind : ℕ → List (ℕ × ℕ) → ℕ
+root_behind index roots = unwrap_or (option_map (λ x. x.1) (find (λ x. x.0 == index) roots)) 0
+
+-- the roots as the catalog's nodes have them: 0 for the primary index, which has no tree
+abbrev pub told_roots : StoredRoots → TableRoots
+told_roots roots = record { records = roots.records; long_values = roots.long_values; indexes = λ index. root_behind index roots.indexes }
+
+abbrev pub no_roots : TableRoots
+no_roots = record { records = 0; long_values = 0; indexes = λ index. 0 }
 
 -- whether these are the roots of the table of this number
 abbrev pub are_roots_of : ℕ → StoredRoots → Bool
 are_roots_of table roots = roots.number == table
+
+abbrev pub roots_by_number : List StoredRoots → Roots
+roots_by_number list table = unwrap_or (option_map told_roots (find (are_roots_of table) list)) no_roots
+
+-- ---- changes
 
 abbrev pub put_roots : List StoredRoots → StoredCatalog → StoredCatalog
 put_roots roots catalog = record catalog { roots = roots }

@@ -2,12 +2,14 @@
 #![tactic(auto)]
 
 mod catalog;
+mod keeping;
 mod laws;
 mod long_values;
 mod nodes;
 mod table;
 mod trees;
 
+pub use keeping::other_roots_are_not_shown;
 pub use laws::{
     entries_after_a_change, indexes_after_a_change, indexes_beside_a_new_one, indexes_without_one,
     long_values_after_a_change, neighbours_are_those_of_bookmarks, nodes_after_a_change,

@@ -4,7 +4,7 @@ ghost use Rattle.std.specs.Prelude.{◌≡◌, ◌≤◌, ◌<◌, None, [], len
 ghost use Rattle.long_value.specs.Stores.{id_bytes, read_upto};
 ghost use Rattle.long_value.specs.Values.{put_value, value_of, with_reference, without_reference};
 ghost use Rattle.table_trees.specs.Pages.{Rearranges};
-ghost use Rattle.table_trees.specs.LongTrees.{IsLongTree, LongBecomes, long_pages, long_values_in};
+ghost use Rattle.table_trees.specs.LongTrees.{IsLongTree, LongBecomes, long_pages, long_root, long_values_in};
 
 use crate::nodes::tree_pages_are_own;
 use jet_base::OutOfMemory;
@@ -29,6 +29,13 @@ impl LongTree {
             Ok(store) => Ok(LongTree { store }),
             Err(fault) => Err(fault),
         }
+    }
+
+    /// The number of the root page, which stays the same while the tree stands.
+    pub fn root(&self) -> u32
+        ensures { result ≡ long_root self.now }
+    {
+        self.store.root()
     }
 
     /// Whether a value is there.

@@ -9,7 +9,7 @@ ghost use Rattle.btree_inplace.specs.declared.Tree.{Tree};
 ghost use Rattle.page_space.specs.Frames.{Frames};
 ghost use Rattle.table_trees.specs.Pages.{AreOwn, Rearranges};
 ghost use Rattle.table_trees.specs.StoredNodes.{node_after, node_before};
-ghost use Rattle.table_trees.specs.NodeTrees.{IsNodeTree, NodesBecome, node_pages, nodes_in};
+ghost use Rattle.table_trees.specs.NodeTrees.{IsNodeTree, NodesBecome, node_pages, node_root, nodes_in};
 
 use btree_inplace::{Tree, taken_pages};
 use index_derive::Place;
@@ -33,6 +33,13 @@ impl NodeTree {
             Ok(tree) => Ok(NodeTree { tree }),
             Err(fault) => Err(fault),
         }
+    }
+
+    /// The number of the root page, which stays the same while the tree stands.
+    pub fn root(&self) -> u32
+        ensures { result ≡ node_root self.now }
+    {
+        self.tree.root()
     }
 
     /// The row under a bookmark, if there is a node: a part of its page.

@@ -10,7 +10,7 @@ ghost use Rattle.index_tree.specs.Entries.{IsApartFromAll};
 ghost use Rattle.page_space.specs.Frames.{Frames};
 ghost use Rattle.table_trees.specs.Pages.{AreOwn, OthersStay, Rearranges};
 ghost use Rattle.table_trees.specs.StoredTables.{changed_where, is_index, new_table, part_of, put_entries, put_indexes, without_where};
-ghost use Rattle.table_trees.specs.StoredTrees.{new_roots, with_index_root, without_index_root};
+ghost use Rattle.table_trees.specs.StoredTrees.{new_roots, root_behind, with_index_root, without_index_root};
 ghost use Rattle.table_trees.specs.KeptCatalogs.{IsKeptCatalog, kept_nodes, kept_pages};
 ghost use Rattle.table_trees.specs.LongTrees.{IsLongTree, long_pages, long_root, long_values_in};
 ghost use Rattle.table_trees.specs.NodeTrees.{IsNodeTree, node_pages, node_root, nodes_in};
@@ -145,6 +145,16 @@ impl Table {
                 named.tree.remove(space, key, bookmark);
             }
             None => {}
+        }
+    }
+
+    /// The number of the root page of an index's tree, 0 where the table has no such tree.
+    pub fn index_root(&self, index: IndexId) -> u32
+        ensures { result ≡ root_behind index.0 (tree_roots self.now).indexes }
+    {
+        match index_place(self.indexes.as_slice(), index) {
+            Some(i) => self.indexes[i].tree.root(),
+            None => 0,
         }
     }
 

@@ -45,9 +45,9 @@ use std::marker::Model;
 /// is refused, and everything is as it was.
 #[derive(Drop)]
 pub struct TableTrees {
-    space: Space,
-    catalog: KeptCatalog,
-    tables: Vec<Table>,
+    pub(crate) space: Space,
+    pub(crate) catalog: KeptCatalog,
+    pub(crate) tables: Vec<Table>,
 }
 
 impl Model for TableTrees {
@@ -541,7 +541,7 @@ impl TableTrees {
 }
 
 /// The place of a table among the tables.
-fn table_place(tables: &[Table], table: TableId) -> Option<usize>
+pub(crate) fn table_place(tables: &[Table], table: TableId) -> Option<usize>
     ensures { result ≡ position_from (λ t. t.table.0 == table.0) 0 tables.now }
 {
     tables.iter().position(|named| named.table == table)

@@ -1,10 +1,13 @@
 -- A schema step of the store, once no change is held.
 use Rattle.std.proofs.Common.{◌≡◌, ℕ, true, List, [], ◌∷◌, Option, Some, None, map, option_map, refl, sym, ap, subst, ◌∙◌, false}
 use Rattle.std.specs.Prelude.{IsSomeAnd, is_some}
+use Rattle.database_state.specs.SchemaChanges.{has_column}
 use Rattle.database_state.specs.Table.{Table, table_with_id}
 use Rattle.index_derive.specs.declared.schema_calls.SchemaStep.{SchemaStep}
 use Rattle.jet_catalog.specs.Catalog.{CatalogState}
+use Rattle.table_trees.specs.ShownCatalogs.{ShowsCatalog}
 use Rattle.table_trees.specs.StoredTables.{StoredTable}
+use Rattle.table_trees.specs.StoredTrees.{StoredCatalog}
 use Rattle.version_store.specs.HeldChanges.{HeldChange}
 use Rattle.stored_variants.specs.RecordRows.{held_record}
 use Rattle.stored_variants.specs.SchemaSteps.{IsMade, after_step}
@@ -83,3 +86,20 @@ unused_in_catalog catalog trees held now shows id column unused =
     by : (o : Option Table) → IsSomeAnd (option_map (with_newest trees) o) (λ t. column_is_used column t.indexes ≡ false) → IsSomeAnd o (λ t. column_is_used column t.indexes ≡ false)
     by None h = h
     by (Some t) h = h
+
+-- the column is there, in the catalog
+pub has_in_catalog : (catalog : CatalogState) (trees : List StoredTable) (held : List HeldChange) (now : StoredVersions) → stored_versions catalog trees held ≡ now → (id : ℕ) (column : ColumnId)
+    → IsSomeAnd (table_with_id now.store.tables id) (λ t. has_column t column.0 ≡ true) → IsSomeAnd (table_with_id catalog.tables id) (λ t. has_column t column.0 ≡ true)
+has_in_catalog catalog trees held now shows id column there =
+    by (table_with_id catalog.tables id)
+    (subst (λ (o : Option Table). IsSomeAnd o (λ t. has_column t column.0 ≡ true)) (in_catalog catalog trees held now shows id ∙ table_at trees catalog.tables id) there)
+  where
+    by : (o : Option Table) → IsSomeAnd (option_map (with_newest trees) o) (λ t. has_column t column.0 ≡ true) → IsSomeAnd o (λ t. has_column t column.0 ≡ true)
+    by None h = h
+    by (Some t) h = h
+
+-- ---- the catalog beside the trees
+
+-- its nodes have not changed
+pub still_shown : (catalog : CatalogState) (was is : StoredCatalog) → is ≡ was → ShowsCatalog was catalog → ShowsCatalog is catalog
+still_shown catalog was is same shows = subst (λ (s : StoredCatalog). ShowsCatalog s catalog) (sym same) shows

@@ -1,7 +1,9 @@
 //! Schema steps, once no change is held.
 
-ghost use Rattle.std.specs.Prelude.{◌≡◌, [], OnErr, OnOk, IsSomeAnd, false, ◌<◌, ℕ, List, true, is_some, IfSome};
-ghost use Rattle.stored_variants.specs.SchemaSteps.{CanMake, after_step, IsIndexFor, TakesColumn};
+ghost use Rattle.std.specs.Prelude.{◌≡◌, [], OnErr, OnOk, IsSomeAnd, false, ◌<◌, true, is_some, IfSome};
+ghost use Rattle.stored_variants.specs.SchemaSteps.{CanMake, after_step, IsColumnFor, IsIndexFor, TakesColumn};
+ghost use Rattle.database_state.specs.SchemaChanges.{has_column};
+ghost use Rattle.log_grammar.specs.EntryBytes.{name_fits};
 ghost use Rattle.database_state.specs.Table.{table_with_id};
 ghost use Rattle.index_derive.specs.Entries.{column_is_used};
 ghost use Rattle.stored_variants.specs.VersionsKept.{secondary_rule};
@@ -10,7 +12,7 @@ ghost use Rattle.index_derive.specs.declared.schema_calls.SchemaStep.TheVariants
 use crate::store::TableVersions;
 use column_set::Column;
 use index_derive::{IndexRule, SchemaStep};
-use jet_base::{ColumnId, IndexId, OutOfMemory, TableId};
+use jet_base::{ColumnId, IndexId, Name, OutOfMemory, TableId};
 use variant_trees::{add_column, create_index, create_table, drop_column, drop_index, drop_table};
 
 impl TableVersions {
@@ -22,8 +24,11 @@ impl TableVersions {
         ensures err { OnErr result (self.new ≡ self.old) }
     {
         match made {
-            SchemaStep::CreateTable { table, .. } => self.make_table(made, *table),
-            SchemaStep::DeleteTable { table } => self.delete_table(made, *table),
+            SchemaStep::CreateTable { table, name } => self.make_table(made, *table, name),
+            SchemaStep::DeleteTable { table } => {
+                self.delete_table(made, *table);
+                Ok(())
+            }
             SchemaStep::AddColumn { table, column } => self.add_column(made, *table, column),
             SchemaStep::DeleteColumn { table, column } => {
                 self.delete_column(made, *table, *column)
@@ -68,6 +73,7 @@ impl TableVersions {
         requires settled { self.old.store.held ≡ [] }
         requires step { made.now ≡ step.DeleteColumn table column }
         requires unused { IsSomeAnd (table_with_id self.old.store.tables table.0) (λ t. column_is_used column t.indexes ≡ false) }
+        requires there { IsSomeAnd (table_with_id self.old.store.tables table.0) (λ t. has_column t column.0 ≡ true) }
         ensures ok { OnOk result (self.new ≡ after_step made.now self.old) }
         ensures err { OnErr result (self.new ≡ self.old) }
     {
@@ -75,25 +81,30 @@ impl TableVersions {
     }
 
     /// A table comes, with a number above all that were given. After want of memory all is as it was.
-    pub fn make_table(&mut self, made: &SchemaStep, table: TableId) -> Result<(), OutOfMemory>
+    pub fn make_table(
+        &mut self,
+        made: &SchemaStep,
+        table: TableId,
+        name: &Name,
+    ) -> Result<(), OutOfMemory>
         requires settled { self.old.store.held ≡ [] }
-        requires step { (name : List ℕ) × (made.now ≡ step.CreateTable table name) }
+        requires step { made.now ≡ step.CreateTable table name.now }
         requires new_id { self.old.greatest_table < table.0 }
+        requires named { name_fits name.now ≡ true }
         ensures ok { OnOk result (self.new ≡ after_step made.now self.old) }
         ensures err { OnErr result (self.new ≡ self.old) }
     {
-        create_table(&mut self.catalog, &mut self.trees, made, table)
+        create_table(&mut self.catalog, &mut self.trees, made, table, name)
     }
 
-    /// A table goes, with its records. After want of memory all is as it was.
-    pub fn delete_table(&mut self, made: &SchemaStep, table: TableId) -> Result<(), OutOfMemory>
+    /// A table goes, with its records. It takes no memory.
+    pub fn delete_table(&mut self, made: &SchemaStep, table: TableId)
         requires settled { self.old.store.held ≡ [] }
         requires step { made.now ≡ step.DeleteTable table }
         requires there { is_some (table_with_id self.old.store.tables table.0) ≡ true }
-        ensures ok { OnOk result (self.new ≡ after_step made.now self.old) }
-        ensures err { OnErr result (self.new ≡ self.old) }
+        ensures { self.new ≡ after_step made.now self.old }
     {
-        drop_table(&mut self.catalog, &mut self.trees, made, table)
+        drop_table(&mut self.catalog, &mut self.trees, made, table);
     }
 
     /// A column comes, one of which every record has a value only where there is no record. After want of memory all is as it
@@ -107,10 +118,11 @@ impl TableVersions {
         requires settled { self.old.store.held ≡ [] }
         requires step { made.now ≡ step.AddColumn table column.now }
         requires taken { IfSome (table_with_id self.old.store.tables table.0) (TakesColumn column.now) }
+        requires fits { IsSomeAnd (table_with_id self.old.store.tables table.0) (IsColumnFor column.now) }
         ensures ok { OnOk result (self.new ≡ after_step made.now self.old) }
         ensures err { OnErr result (self.new ≡ self.old) }
     {
-        add_column(&mut self.catalog, &self.trees, made, table, column)
+        add_column(&mut self.catalog, &mut self.trees, made, table, column)
     }
 
     /// An index goes, any but the primary one. After want of memory all is as it was.

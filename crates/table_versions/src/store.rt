@@ -20,6 +20,8 @@ use version_store::Versions;
 /// Contracts see the greatest table id ever given, each table with its newest records, and the held changes, oldest first,
 /// each put or drop with the record before it while it is not undone. A node of a table stands as long as any of these is a
 /// record, and an index has the keys of all of them. Reading takes no memory.
+///
+/// The catalog stands in a tree beside those of the tables too: a schema step changes its nodes with the definitions.
 #[derive(Drop)]
 pub struct TableVersions {
     pub(crate) alloc: Global,
@@ -34,11 +36,11 @@ impl Model for TableVersions {
     ghost Value = { StoredVersions };
 
     ghost use Rattle.stored_variants.specs.VersionsView.{stored_versions};
-    ghost use Rattle.stored_variants.specs.VersionsKept.{AreKept};
+    ghost use Rattle.stored_variants.specs.VersionsKept.{IsStore};
 
     ghost view = { λ a. stored_versions a.catalog a.trees.tables a.versions };
 
-    ghost invariant = { λ a. AreKept a.catalog.tables a.trees.tables a.versions };
+    ghost invariant = { λ a. IsStore a.catalog a.trees a.versions };
 }
 
 impl TableVersions {

@@ -4,4 +4,6 @@
 #[cfg(test)]
 mod nodes;
 #[cfg(test)]
+mod steps;
+#[cfg(test)]
 mod tree;

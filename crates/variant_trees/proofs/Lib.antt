@@ -30,3 +30,4 @@ pub mod HalfPuts
 pub mod NewPuts
 pub mod SummedRows
 pub mod SumsUndone
+pub mod KeptSteps

@@ -1,5 +1,5 @@
 -- A table comes or goes.
-use Rattle.std.proofs.Common.{◌≡◌, ◌≢◌, ◌<◌, ℕ, Bool, true, false, not, cond, List, [], ◌∷◌, ◌++◌, Option, Some, None, filter, map, refl, sym, ap, subst, ◌∙◌, arith}
+use Rattle.std.proofs.Common.{◌≡◌, ◌≢◌, ◌<◌, ℕ, Bool, true, false, not, ◌||◌, cond, List, [], ◌∷◌, ◌++◌, Option, Some, None, filter, map, refl, sym, ap, subst, ◌∙◌, arith}
 use Rattle.std.specs.Prelude.{◌==◌, IfSome, is_some, nat_le, nat_lt}
 use Rattle.std.proofs.lemmas.Bool.Decides.{nat_tests}
 use Rattle.database_state.specs.SchemaChanges.{new_table}
@@ -82,6 +82,14 @@ table_comes laws id name tables trees kept none = record {
     empty : table_nodes other id.0 ≡ []
     empty = laws.nodes trees id.0 id.0 ∙ no_nodes trees tables id.0 kept.numbers none
 
+pub new_there : (trees : List StoredTable) (id : ℕ) → has_table (trees ++ new_tree id ∷ []) id ≡ true
+new_there [] id = ap (λ b. b || false) (self_equal id)
+new_there (x ∷ trees) id = ap (λ b. is_table id x || b) (new_there trees id) ∙ or_true (is_table id x)
+  where
+    or_true : (b : Bool) → (b || true) ≡ true
+    or_true true = refl
+    or_true false = refl
+
 -- and goes again where it may not stay
 pub given_back : (trees : List StoredTable) (id : ℕ) → has_table trees id ≡ false → without_table id (trees ++ new_tree id ∷ []) ≡ trees
 given_back [] id h = ap (λ b. cond (not b) (new_tree id ∷ []) []) (self_equal id)
@@ -101,7 +109,7 @@ stays id t = not (t.id == id)
 apart_from : (a b : ℕ) → (a == b) ≡ false → a ≢ b
 apart_from a b e same = impossible (sym e ∙ ap (λ n. n == b) same ∙ self_equal b)
 
-gone : (id : ℕ) (tables : List Table) → table_with_id (filter (stays id) tables) id ≡ None
+pub gone : (id : ℕ) (tables : List Table) → table_with_id (filter (stays id) tables) id ≡ None
 gone id [] = refl
 gone id (t ∷ tables) = by (t.id == id) refl (gone id tables)
   where

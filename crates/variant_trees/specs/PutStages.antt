@@ -1,5 +1,5 @@
 -- What the trees are while a record is put, once it is, and once a put is taken back.
-use Rattle.std.specs.Prelude.{◌≡◌, ℕ, ◌≤◌, ◌≢◌, ◌&&◌, Bool, true, not, List, Option, Some, IfSome, bytes_eq, ◌==◌, false, ◌||◌, [], None, IsSomeAnd, if◌then◌else◌}
+use Rattle.std.specs.Prelude.{◌≡◌, ℕ, ◌≤◌, ◌≢◌, ◌&&◌, Bool, true, List, Option, Some, IfSome, bytes_eq, ◌==◌, false, ◌||◌, [], None, IsSomeAnd, if◌then◌else◌}
 use Rattle.std.specs.List.{list_any}
 use Rattle.column_set.specs.RecordValues.{RecordFields, record_fits}
 use Rattle.cursor_nav.specs.Places.{Pair}

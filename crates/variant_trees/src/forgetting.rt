@@ -25,6 +25,7 @@ pub fn forget_oldest(catalog: &Catalog, trees: &mut TableTrees, versions: &Versi
     requires some { 0 < length versions.now }
     ensures kept { AreKept catalog.now.tables trees.new.tables (drop 1 versions.now) }
     ensures newest { map (with_newest trees.new.tables) catalog.now.tables ≡ map (with_newest trees.old.tables) catalog.now.tables }
+    ensures catalog { trees.new.catalog ≡ trees.old.catalog }
 {
     match versions.oldest_table() {
         Some(table) => forget_of(catalog, trees, versions, table),
@@ -38,6 +39,7 @@ fn forget_of(catalog: &Catalog, trees: &mut TableTrees, versions: &Versions, tab
     requires first { first_table versions.now ≡ Some table.0 }
     ensures kept { AreKept catalog.now.tables trees.new.tables (drop 1 versions.now) }
     ensures newest { map (with_newest trees.new.tables) catalog.now.tables ≡ map (with_newest trees.old.tables) catalog.now.tables }
+    ensures catalog { trees.new.catalog ≡ trees.old.catalog }
 {
     let _ = catalog.tables();
     match catalog.by_id(table) {
@@ -53,6 +55,7 @@ fn forget_in(trees: &mut TableTrees, versions: &Versions, table: TableId, schema
     requires newest { (bookmark : List ℕ) → IfSome (row_under (table_nodes trees.old.tables table.0) bookmark) IsRecordRow }
     ensures kept { (tables : List Table) → DistinctIds tables → IfSome (table_with_id tables table.0) (λ t. schema.now ≡ schema_of t) → AreKept tables trees.old.tables versions.now → AreKept tables trees.new.tables (drop 1 versions.now) }
     ensures newest { (tables : List Table) → map (with_newest trees.new.tables) tables ≡ map (with_newest trees.old.tables) tables }
+    ensures catalog { trees.new.catalog ≡ trees.old.catalog }
 {
     match in_place(versions.before_at(0)) {
         Some(row) => {

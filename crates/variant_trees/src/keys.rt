@@ -40,6 +40,7 @@ pub(crate) fn take_keys<R: Values>(
     requires bookmark { length bookmark.now ≤ 255 }
     ensures others { ChangesEntries table.0 trees.old.tables trees.new.tables }
     ensures keys { LosesRecord (option_map record_of (row_under (table_nodes trees.old.tables table.0) bookmark.now)) (held_from from versions.now) schema.now table.0 bookmark.now (R.fields gone.now) trees.old.tables trees.new.tables }
+    ensures catalog { trees.new.catalog ≡ trees.old.catalog }
 {
     for rule in schema.indexes.as_slice() {
         if !rule.flags.primary {
@@ -66,6 +67,7 @@ fn take_keys_of<R: Values>(
     ensures others { ChangesEntries table.0 trees.old.tables trees.new.tables }
     ensures indexes { OthersKeep table.0 rule.now.id.0 trees.old.tables trees.new.tables }
     ensures keys { LosesKeys (option_map record_of (row_under (table_nodes trees.old.tables table.0) bookmark.now)) (held_from from versions.now) rule.now schema.now table.0 bookmark.now (R.fields gone.now) (index_entries trees.old.tables table.0 rule.now.id.0) (index_entries trees.new.tables table.0 rule.now.id.0) }
+    ensures catalog { trees.new.catalog ≡ trees.old.catalog }
 {
     entries_rise();
     let mut next = next_entry(rule, schema, gone, None);
@@ -94,6 +96,7 @@ fn take_key(
     ensures others { ChangesEntries table.0 trees.old.tables trees.new.tables }
     ensures indexes { OthersKeep table.0 rule.now.id.0 trees.old.tables trees.new.tables }
     ensures key { LosesKey (λ (k : List ℕ). is_variant_key (option_map record_of (row_under (table_nodes trees.old.tables table.0) bookmark.now)) (held_from from versions.now) rule.now schema.now table.0 k bookmark.now) key.now bookmark.now (index_entries trees.old.tables table.0 rule.now.id.0) (index_entries trees.new.tables table.0 rule.now.id.0) }
+    ensures catalog { trees.new.catalog ≡ trees.old.catalog }
 {
     if !is_variant_key(trees, versions, from, table, schema, rule, bookmark, key) {
         take_entry(trees, table, rule.id, key, bookmark);
@@ -106,6 +109,7 @@ fn take_entry(trees: &mut TableTrees, table: TableId, index: IndexId, key: &Key,
     ensures others { ChangesEntries table.0 trees.old.tables trees.new.tables }
     ensures indexes { OthersKeep table.0 index.0 trees.old.tables trees.new.tables }
     ensures entry { (k own : List ℕ) → has_entry k own (index_entries trees.new.tables table.0 index.0) ≡ (has_entry k own (index_entries trees.old.tables table.0 index.0) && not (bytes_eq own bookmark.now && bytes_eq k key.now)) }
+    ensures catalog { trees.new.catalog ≡ trees.old.catalog }
 {
     entries_after_a_change();
     indexes_after_a_change();

@@ -39,6 +39,7 @@ pub(crate) fn fill(
     requires rows { (bookmark : List ℕ) → IfSome (row_under (table_nodes trees.old.tables table.0) bookmark) (IsTakenRow rule.now schema.now) }
     ensures only { OnlyEntries table.0 rule.now.id.0 trees.old.tables trees.new.tables }
     ensures ok { OnOk result (HasNewestKeys rule.now (table_nodes trees.old.tables table.0) (index_entries trees.new.tables table.0 rule.now.id.0) schema.now) }
+    ensures catalog { trees.new.catalog ≡ trees.old.catalog }
 {
     derived_keys_are_apart();
     trees.nodes_are_in_order();
@@ -97,6 +98,7 @@ fn put_entries(
     requires short { length bookmark.now ≤ 255 }
     ensures only { OnlyEntries table.0 index.0 trees.old.tables trees.new.tables }
     ensures ok { OnOk result ((key own : List ℕ) → has_entry key own (index_entries trees.new.tables table.0 index.0) ≡ (has_entry key own (index_entries trees.old.tables table.0 index.0) || (bytes_eq own bookmark.now && list_any (bytes_eq key) keys.now))) }
+    ensures catalog { trees.new.catalog ≡ trees.old.catalog }
 {
     indexes_after_a_change();
     entries_after_a_change();

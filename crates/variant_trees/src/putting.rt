@@ -46,6 +46,7 @@ fn put_keys(
     requires short { length bookmark.now ≤ 255 }
     ensures ok { OnOk result (HasKeys table.0 bookmark.now (record_keys schema.now.indexes schema.now values.now) trees.old.tables trees.new.tables) }
     ensures err { OnErr result (MayHaveKeys table.0 bookmark.now (record_keys schema.now.indexes schema.now values.now) trees.old.tables trees.new.tables) }
+    ensures catalog { trees.new.catalog ≡ trees.old.catalog }
 {
     for rule in schema.indexes.as_slice() {
         if !rule.flags.primary {
@@ -75,6 +76,7 @@ fn put_keys_of(
     requires short { length bookmark.now ≤ 255 }
     ensures ok { OnOk result (HasKeys table.0 bookmark.now (rule_keys schema.now values.now rule.now) trees.old.tables trees.new.tables) }
     ensures err { OnErr result (MayHaveKeys table.0 bookmark.now (rule_keys schema.now values.now rule.now) trees.old.tables trees.new.tables) }
+    ensures catalog { trees.new.catalog ≡ trees.old.catalog }
 {
     derived_keys_are_apart();
     let keys = match entries(alloc, rule, schema, values) {
@@ -103,6 +105,7 @@ fn put_key(
     requires short { length bookmark.now ≤ 255 }
     ensures ok { OnOk result (HasKeys table.0 bookmark.now (one_key index.0 key.now) trees.old.tables trees.new.tables) }
     ensures err { OnErr result (trees.new.tables ≡ trees.old.tables) }
+    ensures catalog { trees.new.catalog ≡ trees.old.catalog }
 {
     indexes_after_a_change();
     entries_after_a_change();
@@ -130,6 +133,7 @@ fn insert_row(
     requires small { length row.now ≤ 1700 }
     ensures ok { OnOk result (HasNewRow table.0 bookmark.now row.now trees.old.tables trees.new.tables) }
     ensures err { OnErr result (trees.new.tables ≡ trees.old.tables) }
+    ensures catalog { trees.new.catalog ≡ trees.old.catalog }
 {
     nodes_after_a_change();
     nodes_by_bookmark();
@@ -152,6 +156,7 @@ fn make_room(
     requires small { size ≤ 1700 }
     ensures ok { OnOk result (HasRoom table.0 bookmark.now size trees.old.tables trees.new.tables) }
     ensures err { OnErr result (trees.new.tables ≡ trees.old.tables) }
+    ensures catalog { trees.new.catalog ≡ trees.old.catalog }
 {
     nodes_after_a_change();
     nodes_by_bookmark();
@@ -185,10 +190,11 @@ fn take_back(
     requires short { length bookmark.now ≤ 255 }
     requires there { has_table trees.old.tables table.0 ≡ true }
     requires new_node { is_new ≡ true → is_some (get_in (table_nodes trees.old.tables table.0) bookmark.now) ≡ true }
-    ensures { (base : List StoredTable) → IsHalfPut table.0 bookmark.now (record_keys schema.now.indexes schema.now values.now) base trees.old.tables
+    ensures back { (base : List StoredTable) → IsHalfPut table.0 bookmark.now (record_keys schema.now.indexes schema.now values.now) base trees.old.tables
         → is_new ≡ is_none (get_in (table_nodes base table.0) bookmark.now)
         → HasVariantKeys (option_map record_of (row_under (table_nodes base table.0) bookmark.now)) (held_from 0 versions.now) schema.now table.0 bookmark.now base
         → IsSame table.0 schema.now base trees.new.tables }
+    ensures catalog { trees.new.catalog ≡ trees.old.catalog }
 {
     nodes_after_a_change();
     nodes_by_bookmark();
@@ -212,10 +218,11 @@ fn take_back_new(
     requires short { length bookmark.now ≤ 255 }
     requires there { has_table trees.old.tables table.0 ≡ true }
     requires node { is_some (get_in (table_nodes trees.old.tables table.0) bookmark.now) ≡ true }
-    ensures { (base : List StoredTable) (row : List ℕ) → IsNewPut table.0 bookmark.now row (record_keys schema.now.indexes schema.now values.now) base trees.old.tables
+    ensures back { (base : List StoredTable) (row : List ℕ) → IsNewPut table.0 bookmark.now row (record_keys schema.now.indexes schema.now values.now) base trees.old.tables
         → get_in (table_nodes base table.0) bookmark.now ≡ None
         → HasVariantKeys None (held_from 0 versions.now) schema.now table.0 bookmark.now base
         → IsSame table.0 schema.now base trees.new.tables }
+    ensures catalog { trees.new.catalog ≡ trees.old.catalog }
 {
     nodes_after_a_change();
     nodes_by_bookmark();
@@ -254,6 +261,7 @@ pub fn put_record(
     ensures held { OnOk result (versions.new ≡ versions.old ++ new_change by change.now (row_under (table_nodes trees.old.tables table.0) bookmark.now) ∷ []) }
     ensures same { OnErr result (IsSame table.0 schema.now trees.old.tables trees.new.tables) }
     ensures unheld { OnErr result (versions.new ≡ versions.old) }
+    ensures catalog { trees.new.catalog ≡ trees.old.catalog }
 {
     let row = match encode_record(alloc, values) {
         Ok(row) => row,
@@ -298,6 +306,7 @@ fn put_new(
     ensures held { OnOk result (versions.new ≡ versions.old ++ new_change by change.now None ∷ []) }
     ensures same { OnErr result (IsSame table.0 schema.now trees.old.tables trees.new.tables) }
     ensures unheld { OnErr result (versions.new ≡ versions.old) }
+    ensures catalog { trees.new.catalog ≡ trees.old.catalog }
 {
     match insert_row(trees, table, bookmark, row) {
         Ok(()) => {}
@@ -348,6 +357,7 @@ fn put_over(
     ensures held { OnOk result (versions.new ≡ versions.old ++ new_change by change.now (row_under (table_nodes trees.old.tables table.0) bookmark.now) ∷ []) }
     ensures same { OnErr result (IsSame table.0 schema.now trees.old.tables trees.new.tables) }
     ensures unheld { OnErr result (versions.new ≡ versions.old) }
+    ensures catalog { trees.new.catalog ≡ trees.old.catalog }
 {
     nodes_after_a_change();
     nodes_by_bookmark();

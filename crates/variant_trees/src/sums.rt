@@ -26,6 +26,7 @@ pub fn add_sum(trees: &mut TableTrees, change: &Change)
     ensures shown { (tables : List Table) (held : List HeldChange) → is_sum change.now ≡ true → IsSomeAnd (table_with_id tables (changed_table change.now)) (λ t. AddsToEscrow (schema_of t) (kind_of change.now)) → AreKept tables trees.old.tables held
         → map (with_newest trees.new.tables) tables ≡ tables_after (map (with_newest trees.old.tables) tables) change.now }
     ensures other { is_sum change.now ≡ false → trees.new.tables ≡ trees.old.tables }
+    ensures catalog { trees.new.catalog ≡ trees.old.catalog }
 {
     match change {
         Change::Add {
@@ -66,6 +67,7 @@ pub(crate) fn add_in_place(
     ensures kept { (tables : List Table) (held : List HeldChange) → IsSomeAnd (table_with_id tables table.0) (λ t. is_escrow_column (schema_of t) column.0 ≡ true) → AreKept tables trees.old.tables held → AreKept tables trees.new.tables held }
     ensures shown { (tables : List Table) (held : List HeldChange) → IsSomeAnd (table_with_id tables table.0) (λ t. is_escrow_column (schema_of t) column.0 ≡ true) → AreKept tables trees.old.tables held
         → (amount : ℤ) → cast_unsigned w32 amount ≡ addend → map (with_newest trees.new.tables) tables ≡ tables_after (map (with_newest trees.old.tables) tables) (Add table bookmark.now column amount) }
+    ensures catalog { trees.new.catalog ≡ trees.old.catalog }
 {
     rows_are_read_back();
     rows_with_another_value();

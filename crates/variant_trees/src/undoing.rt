@@ -33,7 +33,8 @@ pub fn put_back(
     place: usize,
 )
     requires { (held : List HeldChange) × ((h : HeldChange) × WasOpen catalog.now.tables trees.old.tables versions.now place table.0 held h) }
-    ensures { (held : List HeldChange) (h : HeldChange) → WasOpen catalog.now.tables trees.old.tables versions.now place table.0 held h → IsBack catalog.now.tables trees.old.tables trees.new.tables versions.now h }
+    ensures back { (held : List HeldChange) (h : HeldChange) → WasOpen catalog.now.tables trees.old.tables versions.now place table.0 held h → IsBack catalog.now.tables trees.old.tables trees.new.tables versions.now h }
+    ensures catalog { trees.new.catalog ≡ trees.old.catalog }
 {
     let what = versions.kind_at(place);
     if is_rewrite(what) {
@@ -53,7 +54,8 @@ fn take_sum_out(
 )
     requires within { place < length versions.now }
     requires newest { (bookmark : List ℕ) → IfSome (row_under (table_nodes trees.old.tables table.0) bookmark) IsRecordRow }
-    ensures { (tables : List Table) (held : List HeldChange) (h : HeldChange) → WasOpen tables trees.old.tables versions.now place table.0 held h → h.kind ≡ what → is_rewrite h.kind ≡ false → IsBack tables trees.old.tables trees.new.tables versions.now h }
+    ensures back { (tables : List Table) (held : List HeldChange) (h : HeldChange) → WasOpen tables trees.old.tables versions.now place table.0 held h → h.kind ≡ what → is_rewrite h.kind ≡ false → IsBack tables trees.old.tables trees.new.tables versions.now h }
+    ensures catalog { trees.new.catalog ≡ trees.old.catalog }
 {
     match what {
         ChangeKind::Add(column, amount) => {
@@ -88,7 +90,8 @@ fn put_back_of(
 )
     requires was { (held : List HeldChange) × ((h : HeldChange) × WasOpen catalog.now.tables trees.old.tables versions.now place table.0 held h) }
     requires rewrites { (h : HeldChange) → slice_get versions.now place ≡ Some h → is_rewrite h.kind ≡ true }
-    ensures { (held : List HeldChange) (h : HeldChange) → WasOpen catalog.now.tables trees.old.tables versions.now place table.0 held h → IsBack catalog.now.tables trees.old.tables trees.new.tables versions.now h }
+    ensures back { (held : List HeldChange) (h : HeldChange) → WasOpen catalog.now.tables trees.old.tables versions.now place table.0 held h → IsBack catalog.now.tables trees.old.tables trees.new.tables versions.now h }
+    ensures catalog { trees.new.catalog ≡ trees.old.catalog }
 {
     let _ = catalog.tables();
     match catalog.by_id(table) {
@@ -109,6 +112,7 @@ fn put_back_in(
     requires rows { AreRows versions.now }
     ensures kept { (tables : List Table) (held : List HeldChange) (h : HeldChange) → DistinctIds tables → IfSome (table_with_id tables table.0) (λ t. schema.now ≡ schema_of t) → IsUndone held place h versions.now → h.table ≡ table.0 → AreKept tables trees.old.tables held → AreKept tables trees.new.tables versions.now }
     ensures shown { (tables : List Table) (h : HeldChange) → slice_get versions.now place ≡ Some h → map (with_newest trees.new.tables) tables ≡ tables_put_back (map (with_newest trees.old.tables) tables) h }
+    ensures catalog { trees.new.catalog ≡ trees.old.catalog }
 {
     nodes_after_a_change();
     nodes_by_bookmark();

@@ -37,6 +37,7 @@ pub(crate) fn take_variant<R: Values>(
     requires bookmark { length bookmark.now ≤ 255 }
     ensures kept { (tables : List Table) → DistinctIds tables → IfSome (table_with_id tables table.0) (λ t. schema.now ≡ schema_of t) → AreLeft tables trees.old.tables (drop from versions.now) table.0 bookmark.now (R.fields gone.now) → AreKept tables trees.new.tables (drop from versions.now) }
     ensures newest { (tables : List Table) → map (with_newest trees.new.tables) tables ≡ map (with_newest trees.old.tables) tables }
+    ensures catalog { trees.new.catalog ≡ trees.old.catalog }
 {
     trees.nodes_are_in_order();
     take_keys(trees, versions, from, table, schema, bookmark, gone);
@@ -52,7 +53,8 @@ fn take_node(
     table: TableId,
     bookmark: &[u8],
 )
-    ensures { LosesNode (has_variant (option_map record_of (row_under (table_nodes trees.old.tables table.0) bookmark.now)) (held_from from versions.now) table.0 bookmark.now) table.0 bookmark.now trees.old.tables trees.new.tables }
+    ensures node { LosesNode (has_variant (option_map record_of (row_under (table_nodes trees.old.tables table.0) bookmark.now)) (held_from from versions.now) table.0 bookmark.now) table.0 bookmark.now trees.old.tables trees.new.tables }
+    ensures catalog { trees.new.catalog ≡ trees.old.catalog }
 {
     nodes_after_a_change();
     nodes_by_bookmark();

@@ -19,7 +19,7 @@ change-requires-clause-can c =
 pub make-requires-clause-can : goal.make-requires-clause-can
 make-requires-clause-can c =
     c.lawful_schema_steps_can_be_made.ensures c.args.engine.now c.args.session.0 c.in-Schema.made
-    (subst (λ (kind : EntryKind). MayCome c.args.engine.now (entry_by c.args.session.0 kind)) c.in-Schema.is c.requires.lawful)
+    (subst (λ (kind : EntryKind). MayCome c.args.engine.now (entry_by c.args.session.0 kind)) c.in-Schema.is c.requires.lawful) c.numbers_fit_their_types.ensures
 
 -- a schema step does the same for every session
 of_session : {X E : Type 0} (result : Result X E) (A : ℕ → Type 0) (session : ℕ) → OnOk result ((session : ℕ) → A session) → OnOk result (A session)

@@ -1,7 +1,11 @@
-use Rattle.std.proofs.Common.{◌≡◌, true, List, ap, subst, ◌∙◌}
+use Rattle.std.proofs.Common.{◌≡◌, true, List, ap, sym, subst, ◌∙◌}
+use Rattle.database_state.specs.Table.{table_with_id}
+use Rattle.jet_catalog.specs.Catalog.{CatalogState}
 use Rattle.table_trees.specs.StoredTables.{StoredTable, has_index, has_table, index_entries, table_nodes}
+use Rattle.table_trees.specs.StoredTrees.{with_root_of, without_root_of}
 use Rattle.variant_trees.specs.NewEntries.{OnlyEntries}
 use Rattle.variant_trees.proofs.IndexTrees.{can_fill, in_trees, new_created, new_is_empty, new_is_there, new_nodes, no_index, taken_back}
+use Rattle.variant_trees.proofs.KeptSteps.{LacksIndex, new_index, none_yet, shows_in}
 use Rattle.variant_trees.proofs.MadeTables.{a_tree}
 use Rattle.variant_trees.proofs.NewEntries.{still_there}
 use Rattle.variant_trees.proofs.filling.create_secondary.Goals as goal
@@ -18,6 +22,15 @@ fill_and_make-requires-clause-there c =
     let tables = c.args.catalog.now.tables in let trees = c.args.trees.now.tables in let id = c.args.table.0 in let rule = c.args.rule.now in
     let there : has_table trees id ≡ true = a_tree tables trees c.requires.kept id (in_trees id rule tables trees c.requires.fits) in
     ap (λ (t : List StoredTable). has_index t id rule.id.0) c.in-Ok.ensures.ok ∙ new_is_there c.indexes_beside_a_new_one.ensures.there id rule tables trees there c.requires.kept c.requires.fits
+
+pub fill_and_make-requires-clause-shown : goal.fill_and_make-requires-clause-shown
+fill_and_make-requires-clause-shown c =
+    let id = c.args.table.0 in let rule = c.args.rule.now in let was = c.args.catalog.now in let root = c.in-Ok.ensures.rooted.0 in
+    shows_in (with_root_of id rule.id.0 root c.args.trees.now.catalog) c.add_index.new.self.catalog was c.in-Ok.ensures.rooted.1
+    (c.other_roots_are_not_shown.ensures.index_comes c.args.trees.now.catalog was id rule.id.0 root c.requires.shown (none_yet was c.args.table rule (new_index c.args.table rule was c.args.trees.now.tables c.requires.fits)))
+
+pub fill_and_make-requires-clause-new : goal.fill_and_make-requires-clause-new
+fill_and_make-requires-clause-new c = new_index c.args.table c.args.rule.now c.args.catalog.now c.args.trees.now.tables c.requires.fits
 
 pub fill_and_make-requires-clause-empty : goal.fill_and_make-requires-clause-empty
 fill_and_make-requires-clause-empty c =
@@ -59,3 +72,13 @@ returns-in-Err-fill_and_make-clause-err c =
           (no_index id rule tables trees c.requires.kept c.requires.fits)
           (subst (λ (base : List StoredTable). OnlyEntries id rule.id.0 base c.fill_and_make.new.trees.tables) c.in-Ok.ensures.ok c.in-Err-fill_and_make.ensures.only),
     )
+
+pub returns-in-Err-fill_and_make-clause-shown : goal.returns-in-Err-fill_and_make-clause-shown
+returns-in-Err-fill_and_make-clause-shown c =
+    let id = c.args.table.0 in let rule = c.args.rule.now in let is = c.fill_and_make.new.catalog in
+    shows_in (without_root_of id rule.id.0 c.fill_and_make.new.trees.catalog) c.remove_index.new.self.catalog is c.remove_index.ensures.catalog
+    (c.other_roots_are_not_shown.ensures.index_goes c.fill_and_make.new.trees.catalog is id rule.id.0 c.fill_and_make.ensures.shown
+    (subst (λ (k : CatalogState). LacksIndex rule.id.0 (table_with_id k.tables id)) (sym c.in-Err-fill_and_make.ensures.err) (none_yet c.args.catalog.now c.args.table rule (new_index c.args.table rule c.args.catalog.now c.args.trees.now.tables c.requires.fits))))
+
+pub returns-in-Err-clause-shown : goal.returns-in-Err-clause-shown
+returns-in-Err-clause-shown c = shows_in c.args.trees.now.catalog c.add_index.new.self.catalog c.args.catalog.now c.in-Err.ensures.kept c.requires.shown

@@ -13,6 +13,7 @@ use Rattle.variant_trees.proofs.keys.take_keys_of.Goals as goal
 
 pub loop-next-init : goal.loop-next-init
 loop-next-init g c = record {
+  catalog = refl;
   others = entries_stay c.args.table.0 c.args.trees.now.tables;
   indexes = λ other apart. refl;
   keys = keys_begin (key_list c.args.rule.now c.args.schema.now (g.R.Values.fields c.args.gone.now)) (λ (k : List ℕ). is_variant_key (option_map record_of (row_under (table_nodes c.args.trees.now.tables c.args.table.0) c.args.bookmark.now)) (held_from c.args.from c.args.versions.now) c.args.rule.now c.args.schema.now c.args.table.0 k c.args.bookmark.now) c.args.bookmark.now (index_entries c.args.trees.now.tables c.args.table.0 c.args.rule.now.id.0) c.next_entry-next.result (c.entries_rise.ensures c.args.rule.now c.args.schema.now (g.R.Values.fields c.args.gone.now)) c.next_entry-next.ensures;
@@ -29,6 +30,7 @@ loop-next-smaller g c =
 
 pub loop-next-preserved : goal.loop-next-preserved
 loop-next-preserved g c = record {
+  catalog = c.take_key.ensures.catalog ∙ c.loop-next.invariant.catalog;
   others = entries_then c.args.table.0 c.args.trees.now.tables c.loop-next.trees.tables c.take_key.new.trees.tables c.loop-next.invariant.others c.take_key.ensures.others;
   indexes = λ other apart. c.take_key.ensures.indexes other apart ∙ c.loop-next.invariant.indexes other apart;
   keys =

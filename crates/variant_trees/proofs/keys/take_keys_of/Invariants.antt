@@ -1,4 +1,4 @@
-use Rattle.std.proofs.Common.{List, ℕ, length, option_map}
+use Rattle.std.proofs.Common.{◌≡◌, List, ℕ, length, option_map}
 use Rattle.index_derive.specs.Entries.{key_list}
 use Rattle.table_trees.specs.StoredTables.{index_entries, table_nodes}
 use Rattle.versioned_tables.specs.Variants.{is_variant_key}
@@ -11,6 +11,7 @@ use Rattle.variant_trees.proofs.keys.take_keys_of.Given as goal
 -- the keys before the next one are gone, but for those that a variant has
 abbrev pub invariant-loop-next : goal.invariant-loop-next
 invariant-loop-next g l = record {
+  catalog : l.trees.catalog ≡ l.initial.trees.catalog;
   others : ChangesEntries l.table.0 l.initial.trees.tables l.trees.tables;
   indexes : OthersKeep l.table.0 l.rule.id.0 l.initial.trees.tables l.trees.tables;
   keys : LosesSoFar (key_list l.rule l.schema (g.R.Values.fields l.gone)) (λ (k : List ℕ). is_variant_key (option_map record_of (row_under (table_nodes l.initial.trees.tables l.table.0) l.bookmark)) (held_from l.from l.versions) l.rule l.schema l.table.0 k l.bookmark)

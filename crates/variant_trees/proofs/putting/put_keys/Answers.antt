@@ -1,4 +1,4 @@
-use Rattle.std.proofs.Common.{List, ◌+◌, sym, ap, subst, take, ◌∙◌, arith}
+use Rattle.std.proofs.Common.{List, ◌+◌, sym, ap, subst, take, ◌∙◌, arith, refl}
 use Rattle.std.specs.List.{AllByRecursion}
 use Rattle.table_trees.specs.StoredTrees.{StoredTrees}
 use Rattle.table_trees.specs.StoredTables.{StoredTable}
@@ -20,13 +20,12 @@ rule_of c =
 
 -- src/putting.rt:50:5
 pub loop-rule-init : goal.loop-rule-init
-loop-rule-init c =
-    no_keys c.args.table.0 c.args.bookmark.now (record_keys (take 0 c.as_slice-rule-items.result.now) c.args.schema.now c.args.values.now) c.args.trees.now.tables (none_yet c.args.schema.now c.args.values.now c.as_slice-rule-items.result.now)
+loop-rule-init c = record { done = no_keys c.args.table.0 c.args.bookmark.now (record_keys (take 0 c.as_slice-rule-items.result.now) c.args.schema.now c.args.values.now) c.args.trees.now.tables (none_yet c.args.schema.now c.args.values.now c.as_slice-rule-items.result.now); catalog = refl }
 
 -- src/putting.rt:52:19
 pub put_keys_of-requires-clause-there : goal.put_keys_of-requires-clause-there
 put_keys_of-requires-clause-there c =
-    index_stays c.args.table.0 c.rule-item.result.id.0 c.args.trees.now.tables c.loop-rule.trees.tables (c.loop-rule.invariant.others.indexes c.args.table.0) ∙ (rule_of c).there c.if-not-rule.true
+    index_stays c.args.table.0 c.rule-item.result.id.0 c.args.trees.now.tables c.loop-rule.trees.tables (c.loop-rule.invariant.done.others.indexes c.args.table.0) ∙ (rule_of c).there c.if-not-rule.true
 
 -- src/putting.rt:52:19
 pub put_keys_of-requires-clause-derived : goal.put_keys_of-requires-clause-derived
@@ -35,7 +34,7 @@ put_keys_of-requires-clause-derived c =
     keys_of_records c.args.schema.now c.args.values.now c.rule-item.result c.args.table.0 c.args.bookmark.now (record_keys (take c.loop-rule.rule-index rules) c.args.schema.now c.args.values.now) c.args.trees.now.tables c.loop-rule.trees.tables c.requires.fits
     (record_yields c.args.schema.now c.args.values.now (take c.loop-rule.rule-index rules) c.rule-item.result
     (front_rules (HasKeysOf c.args.schema.now c.args.values.now) rules c.loop-rule.rule-index (taken_rules c.args.schema.now c.args.values.now c.args.table.0 c.args.trees.now.tables rules (all_rules c)))
-    (rule_of c).keys.found) c.loop-rule.invariant ((rule_of c).derived c.if-not-rule.true)
+    (rule_of c).keys.found) c.loop-rule.invariant.done ((rule_of c).derived c.if-not-rule.true)
 
 -- src/putting.rt:54:31
 pub returns-in-Err-clause-err : goal.returns-in-Err-clause-err
@@ -45,26 +44,33 @@ returns-in-Err-clause-err c =
     (may_then c.args.table.0 c.args.bookmark.now (record_keys (take c.loop-rule.rule-index rules) c.args.schema.now c.args.values.now) (rule_keys c.args.schema.now c.args.values.now c.rule-item.result) (record_keys rules c.args.schema.now c.args.values.now)
     c.args.trees.now.tables c.loop-rule.trees.tables c.put_keys_of.new.trees.tables (front_keys rules c.args.schema.now c.args.values.now c.loop-rule.rule-index)
     (rule_keys_within rules c.args.schema.now c.args.values.now c.loop-rule.rule-index c.rule-item.result c.loop-rule-test.true c.rule-item.is c.if-not-rule.true)
-    c.loop-rule.invariant c.in-Err.ensures.err)
+    c.loop-rule.invariant.done c.in-Err.ensures.err)
 
 -- src/putting.rt:50:5
 pub loop-rule-preserved : goal.loop-rule-preserved
-loop-rule-preserved c =
-    let rules = c.as_slice-rule-items.result.now in
-    let more = more_rules rules c.args.schema.now c.args.values.now c.loop-rule.rule-index c.rule-item.result c.loop-rule-test.true c.rule-item.is in
-    let P : List StoredTable → Type 0 = λ trees. HasKeys c.args.table.0 c.args.bookmark.now (record_keys (take (c.loop-rule.rule-index + 1) rules) c.args.schema.now c.args.values.now) c.args.trees.now.tables trees in
-    elim c.if-not-rule.branch [
-      | then-not-rule+in-Ok w ↦ subst P (ap (λ (s : StoredTrees). s.tables) (sym w.trees-is))
-          (with_rule c.args.table.0 c.args.bookmark.now (record_keys (take c.loop-rule.rule-index rules) c.args.schema.now c.args.values.now) (rule_keys c.args.schema.now c.args.values.now c.rule-item.result) (record_keys (take (c.loop-rule.rule-index + 1) rules) c.args.schema.now c.args.values.now)
-          c.args.trees.now.tables c.loop-rule.trees.tables w.put_keys_of.new.trees.tables c.rule-item.result.flags.primary w.if-not-rule.true more c.loop-rule.invariant w.in-Ok.ensures.ok)
-      | else-not-rule w ↦ subst P (ap (λ (s : StoredTrees). s.tables) (sym w.trees-is))
-          (without_rule c.args.table.0 c.args.bookmark.now (record_keys (take c.loop-rule.rule-index rules) c.args.schema.now c.args.values.now) (rule_keys c.args.schema.now c.args.values.now c.rule-item.result) (record_keys (take (c.loop-rule.rule-index + 1) rules) c.args.schema.now c.args.values.now)
-          c.args.trees.now.tables c.loop-rule.trees.tables c.rule-item.result.flags.primary w.if-not-rule.false more c.loop-rule.invariant)
-    ]
+loop-rule-preserved c = record {
+  done = (
+      let rules = c.as_slice-rule-items.result.now in
+      let more = more_rules rules c.args.schema.now c.args.values.now c.loop-rule.rule-index c.rule-item.result c.loop-rule-test.true c.rule-item.is in
+      let P : List StoredTable → Type 0 = λ trees. HasKeys c.args.table.0 c.args.bookmark.now (record_keys (take (c.loop-rule.rule-index + 1) rules) c.args.schema.now c.args.values.now) c.args.trees.now.tables trees in
+      elim c.if-not-rule.branch [
+        | then-not-rule+in-Ok w ↦ subst P (ap (λ (s : StoredTrees). s.tables) (sym w.trees-is))
+            (with_rule c.args.table.0 c.args.bookmark.now (record_keys (take c.loop-rule.rule-index rules) c.args.schema.now c.args.values.now) (rule_keys c.args.schema.now c.args.values.now c.rule-item.result) (record_keys (take (c.loop-rule.rule-index + 1) rules) c.args.schema.now c.args.values.now)
+            c.args.trees.now.tables c.loop-rule.trees.tables w.put_keys_of.new.trees.tables c.rule-item.result.flags.primary w.if-not-rule.true more c.loop-rule.invariant.done w.in-Ok.ensures.ok)
+        | else-not-rule w ↦ subst P (ap (λ (s : StoredTrees). s.tables) (sym w.trees-is))
+            (without_rule c.args.table.0 c.args.bookmark.now (record_keys (take c.loop-rule.rule-index rules) c.args.schema.now c.args.values.now) (rule_keys c.args.schema.now c.args.values.now c.rule-item.result) (record_keys (take (c.loop-rule.rule-index + 1) rules) c.args.schema.now c.args.values.now)
+            c.args.trees.now.tables c.loop-rule.trees.tables c.rule-item.result.flags.primary w.if-not-rule.false more c.loop-rule.invariant.done)
+      ]
+      );
+  catalog = elim c.if-not-rule.branch [
+    | then-not-rule+in-Ok w ↦ ap (λ (s : StoredTrees). s.catalog) w.trees-is ∙ w.put_keys_of.ensures.catalog ∙ c.loop-rule.invariant.catalog
+    | else-not-rule w ↦ ap (λ (s : StoredTrees). s.catalog) w.trees-is ∙ c.loop-rule.invariant.catalog
+  ];
+}
 
 -- src/putting.rt:36:1
 pub returns-clause-ok : goal.returns-clause-ok
 returns-clause-ok c =
     let rules = c.as_slice-rule-items.result.now in
     subst (λ (rs : List IndexRule). HasKeys c.args.table.0 c.args.bookmark.now (record_keys rs c.args.schema.now c.args.values.now) c.args.trees.now.tables c.loop-rule.trees.tables)
-    (whole rules c.loop-rule.rule-index (omega (arith, c.loop-rule-test.false)) ∙ c.as_slice-rule-items.ensures) c.loop-rule.invariant
+    (whole rules c.loop-rule.rule-index (omega (arith, c.loop-rule-test.false)) ∙ c.as_slice-rule-items.ensures) c.loop-rule.invariant.done

@@ -20,7 +20,7 @@ take_back_new-requires-clause-node c =
 
 pub returns-in-Err-put_keys-clause-same : goal.returns-in-Err-put_keys-clause-same
 returns-in-Err-put_keys-clause-same c =
-    c.take_back_new.ensures c.args.trees.now.tables c.args.row.now
+    c.take_back_new.ensures.back c.args.trees.now.tables c.args.row.now
     (new_put c.args.table.0 c.args.bookmark.now c.args.row.now (record_keys c.args.schema.now.indexes c.args.schema.now c.args.values.now) c.args.trees.now.tables c.insert_row.new.trees.tables c.put_keys.new.trees.tables c.in-Ok.ensures.ok c.in-Err-put_keys.ensures.err)
     c.requires.absent c.requires.keys
 
@@ -44,7 +44,7 @@ take_back_new-requires-in-Err-push-clause-node c =
 
 pub returns-in-Err-push-clause-same : goal.returns-in-Err-push-clause-same
 returns-in-Err-push-clause-same c =
-    c.take_back_new-in-Err-push.ensures c.args.trees.now.tables c.args.row.now
+    c.take_back_new-in-Err-push.ensures.back c.args.trees.now.tables c.args.row.now
     (new_put_with_keys c.args.table.0 c.args.bookmark.now c.args.row.now (record_keys c.args.schema.now.indexes c.args.schema.now c.args.values.now) c.args.trees.now.tables c.insert_row.new.trees.tables c.put_keys.new.trees.tables c.in-Ok.ensures.ok c.in-Ok-put_keys.ensures.ok)
     c.requires.absent
     (subst (λ (held : List HeldChange). HasVariantKeys None (held_from 0 held) c.args.schema.now c.args.table.0 c.args.bookmark.now c.args.trees.now.tables) (sym c.in-Err-push.ensures.err) c.requires.keys)

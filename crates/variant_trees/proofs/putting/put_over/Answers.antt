@@ -18,7 +18,7 @@ take_back-requires-clause-there c =
 
 pub returns-in-Err-put_keys-clause-same : goal.returns-in-Err-put_keys-clause-same
 returns-in-Err-put_keys-clause-same c =
-    c.take_back.ensures c.args.trees.now.tables
+    c.take_back.ensures.back c.args.trees.now.tables
     (half_put c.args.table.0 c.args.bookmark.now (length c.args.row.now) (record_keys c.args.schema.now.indexes c.args.schema.now c.args.values.now) c.args.trees.now.tables c.make_room.new.trees.tables c.put_keys.new.trees.tables c.in-Ok.ensures.ok c.in-Err-put_keys.ensures.err)
     (node_there (find (has_key c.args.bookmark.now) (table_nodes c.args.trees.now.tables c.args.table.0)) c.args.extent c.requires.node) c.requires.keys
 
@@ -42,7 +42,7 @@ take_back-requires-in-Err-push-clause-there c =
 
 pub returns-in-Err-push-clause-same : goal.returns-in-Err-push-clause-same
 returns-in-Err-push-clause-same c =
-    c.take_back-in-Err-push.ensures c.args.trees.now.tables (ready_put c.args.table.0 c.args.bookmark.now (length c.args.row.now) (record_keys c.args.schema.now.indexes c.args.schema.now c.args.values.now) c.args.trees.now.tables c.make_room.new.trees.tables c.put_keys.new.trees.tables c.in-Ok.ensures.ok c.in-Ok-put_keys.ensures.ok)
+    c.take_back-in-Err-push.ensures.back c.args.trees.now.tables (ready_put c.args.table.0 c.args.bookmark.now (length c.args.row.now) (record_keys c.args.schema.now.indexes c.args.schema.now c.args.values.now) c.args.trees.now.tables c.make_room.new.trees.tables c.put_keys.new.trees.tables c.in-Ok.ensures.ok c.in-Ok-put_keys.ensures.ok)
     (node_there (find (has_key c.args.bookmark.now) (table_nodes c.args.trees.now.tables c.args.table.0)) c.args.extent c.requires.node)
     (subst (λ (held : List HeldChange). HasVariantKeys (option_map record_of (row_under (table_nodes c.args.trees.now.tables c.args.table.0) c.args.bookmark.now)) (held_from 0 held) c.args.schema.now c.args.table.0 c.args.bookmark.now c.args.trees.now.tables)
     (sym c.in-Err-push.ensures.err) c.requires.keys)

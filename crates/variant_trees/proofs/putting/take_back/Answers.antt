@@ -9,8 +9,8 @@ use Rattle.variant_trees.proofs.HalfPuts.{row_stays, table_stays, taken_back, ta
 use Rattle.variant_trees.proofs.putting.take_back.Goals as goal
 
 -- src/putting.rt:158:1
-pub returns-then-is_new : goal.returns-then-is_new
-returns-then-is_new c =
+pub returns-then-is_new-clause-back : goal.returns-then-is_new-clause-back
+returns-then-is_new-clause-back c =
     λ base half is variants.
     subst (λ (trees : List StoredTable). IsSame c.args.table.0 c.args.schema.now base trees) (sym c.remove.ensures.tables)
     (taken_back_with_node (record { named = c.nodes_after_a_change.ensures.named; others = c.nodes_after_a_change.ensures.others; indexes = c.nodes_after_a_change.ensures.indexes; put = c.nodes_by_bookmark.ensures.put; removed = c.nodes_by_bookmark.ensures.removed; replaced = c.nodes_by_bookmark.ensures.replaced; widened = c.nodes_by_bookmark.ensures.widened })
@@ -21,8 +21,8 @@ returns-then-is_new c =
     variants (table_stays c.args.table.0 c.args.trees.now.tables c.take_keys.new.trees.tables c.take_keys.ensures.others.numbers ∙ c.requires.there) (sym c.if-is_new.true ∙ is))
 
 -- src/putting.rt:158:1
-pub returns-else-is_new : goal.returns-else-is_new
-returns-else-is_new c =
+pub returns-else-is_new-clause-back : goal.returns-else-is_new-clause-back
+returns-else-is_new-clause-back c =
     λ base half is variants.
     taken_back
     c.args.schema.now c.args.values.now c.args.table.0 c.args.bookmark.now (option_map record_of (row_under (table_nodes base c.args.table.0) c.args.bookmark.now)) (held_from 0 c.args.versions.now) base c.args.trees.now.tables c.take_keys.new.trees.tables

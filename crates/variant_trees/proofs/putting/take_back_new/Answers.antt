@@ -25,9 +25,9 @@ take_back-requires-clause-new_node c = λ is.
     ap (λ (trees : List StoredTable). is_some (get_in (table_nodes trees c.args.table.0) c.args.bookmark.now)) c.replace.ensures.tables
     ∙ ap is_some (emptied_at (record { named = c.nodes_after_a_change.ensures.named; others = c.nodes_after_a_change.ensures.others; indexes = c.nodes_after_a_change.ensures.indexes; put = c.nodes_by_bookmark.ensures.put; removed = c.nodes_by_bookmark.ensures.removed; replaced = c.nodes_by_bookmark.ensures.replaced; widened = c.nodes_by_bookmark.ensures.widened }) c.args.table.0 c.args.bookmark.now c.args.trees.now.tables c.requires.there c.requires.node)
 
-pub returns : goal.returns
-returns c = λ base row put absent variants.
-    c.take_back.ensures base
+pub returns-clause-back : goal.returns-clause-back
+returns-clause-back c = λ base row put absent variants.
+    c.take_back.ensures.back base
     (subst (λ (trees : List StoredTable). IsHalfPut c.args.table.0 c.args.bookmark.now (record_keys c.args.schema.now.indexes c.args.schema.now c.args.values.now) base trees) (sym c.replace.ensures.tables)
     (emptied (record { named = c.nodes_after_a_change.ensures.named; others = c.nodes_after_a_change.ensures.others; indexes = c.nodes_after_a_change.ensures.indexes; put = c.nodes_by_bookmark.ensures.put; removed = c.nodes_by_bookmark.ensures.removed; replaced = c.nodes_by_bookmark.ensures.replaced; widened = c.nodes_by_bookmark.ensures.widened }) c.args.table.0 c.args.bookmark.now row (record_keys c.args.schema.now.indexes c.args.schema.now c.args.values.now) base c.args.trees.now.tables c.requires.there absent put))
     (sym (ap is_none absent))

@@ -18,7 +18,7 @@ take_sum_out-requires-clause-within c = place_in c.args.versions.now c.args.plac
 pub take_sum_out-requires-clause-newest : goal.take_sum_out-requires-clause-newest
 take_sum_out-requires-clause-newest c = newest_now c.args.catalog.now.tables c.args.trees.now.tables c.args.versions.now c.args.place c.args.table.0 c.requires.0 c.requires.1.0 c.requires.1.1
 
-pub returns-else-is_rewrite : goal.returns-else-is_rewrite
-returns-else-is_rewrite c = λ held h was.
+pub returns-else-is_rewrite-clause-back : goal.returns-else-is_rewrite-clause-back
+returns-else-is_rewrite-clause-back c = λ held h was.
     let is = kind_now c.args.catalog.now.tables c.args.trees.now.tables c.args.versions.now c.args.place c.args.table.0 held h was c.kind_at-what.result c.kind_at-what.ensures in
-    c.take_sum_out.ensures c.args.catalog.now.tables held h was is (ap is_rewrite is ∙ sym c.is_rewrite.ensures ∙ c.if-is_rewrite.false)
+    c.take_sum_out.ensures.back c.args.catalog.now.tables held h was is (ap is_rewrite is ∙ sym c.is_rewrite.ensures ∙ c.if-is_rewrite.false)

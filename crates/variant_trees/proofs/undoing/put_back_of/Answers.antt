@@ -18,8 +18,8 @@ put_back_in-requires-clause-can c =
 pub put_back_in-requires-clause-rows : goal.put_back_in-requires-clause-rows
 put_back_in-requires-clause-rows c = rows_now c.args.catalog.now.tables c.args.trees.now.tables c.args.versions.now c.args.place c.args.table.0 c.requires.was.0 c.requires.was.1.0 c.requires.was.1.1
 
-pub returns-in-Some : goal.returns-in-Some
-returns-in-Some c = λ held h was.
+pub returns-in-Some-clause-back : goal.returns-in-Some-clause-back
+returns-in-Some-clause-back c = λ held h was.
     let found : Some c.in-Some.named.now ≡ table_with_id c.args.catalog.now.tables c.args.table.0 = sym (ap option_copied c.in-Some.is) ∙ c.by_id.ensures in
     let same : IfSome (table_with_id c.args.catalog.now.tables c.args.table.0) (λ t. c.schema.result.now ≡ schema_of t) = subst (λ (o : Option Table). IfSome o (λ t. c.schema.result.now ≡ schema_of t)) found c.schema.ensures in
     let rewrites : is_rewrite h.kind ≡ true = c.requires.rewrites (with_status undone h) (place_now c.args.catalog.now.tables c.args.trees.now.tables c.args.versions.now c.args.place c.args.table.0 held h was) in
@@ -28,5 +28,5 @@ returns-in-Some c = λ held h was.
       shown = c.put_back_in.ensures.shown c.args.catalog.now.tables (with_status undone h) (place_now c.args.catalog.now.tables c.args.trees.now.tables c.args.versions.now c.args.place c.args.table.0 held h was) ∙ sym (inverse_back (map (with_newest c.args.trees.now.tables) c.args.catalog.now.tables) h rewrites (before_is h rewrites was.is_uncommitted));
     }
 
-pub returns-in-None : goal.returns-in-None
-returns-in-None c = λ held h was. always_found c.args.catalog.now.tables c.args.trees.now.tables c.args.versions.now c.args.place c.args.table.0 held h was (sym (ap option_copied c.in-None.is) ∙ c.by_id.ensures)
+pub returns-in-None-clause-back : goal.returns-in-None-clause-back
+returns-in-None-clause-back c = λ held h was. always_found c.args.catalog.now.tables c.args.trees.now.tables c.args.versions.now c.args.place c.args.table.0 held h was (sym (ap option_copied c.in-None.is) ∙ c.by_id.ensures)

@@ -10,8 +10,8 @@ use Rattle.variant_trees.proofs.SumsUndone.{sum_back, sum_column}
 use Rattle.variant_trees.proofs.UndoneThere.{mapped_at}
 use Rattle.variant_trees.proofs.undoing.take_sum_out.Goals as goal
 
-pub returns-in-Add : goal.returns-in-Add
-returns-in-Add c = λ tables held h was is other.
+pub returns-in-Add-clause-back : goal.returns-in-Add-clause-back
+returns-in-Add-clause-back c = λ tables held h was is other.
     let sum : h.kind ≡ kind.Add c.in-Add.column c.in-Add.amount = is ∙ c.in-Add.is in
     let fits : FitsSigned w32 c.in-Add.amount = search rules in
     let named = sum_column tables c.args.trees.now.tables c.args.versions.now c.args.place c.args.table.0 held h was c.in-Add.column c.in-Add.amount sum in
@@ -21,5 +21,5 @@ returns-in-Add c = λ tables held h was is other.
     (c.add_in_place.ensures.kept tables c.args.versions.now named kept)
     (c.add_in_place.ensures.shown tables c.args.versions.now named kept (neg_ℤ c.in-Add.amount) (sym (c.opposite.ensures ∙ ap (λ (z : ℤ). cast_unsigned w32 (neg_ℤ z)) (to_z-of_z w32 c.in-Add.amount fits))))
 
-pub returns-in-Hold : goal.returns-in-Hold
-returns-in-Hold c = λ tables held h was is other. lock_back tables c.args.trees.now.tables c.args.versions.now c.args.place c.args.table.0 held h was (is ∙ c.in-Hold.is)
+pub returns-in-Hold-clause-back : goal.returns-in-Hold-clause-back
+returns-in-Hold-clause-back c = λ tables held h was is other. lock_back tables c.args.trees.now.tables c.args.versions.now c.args.place c.args.table.0 held h was (is ∙ c.in-Hold.is)

@@ -9,8 +9,8 @@ use Rattle.stored_variants.proofs.Dropped.{TreeLaws}
 use Rattle.variant_trees.proofs.LostNodes.{node_goes}
 use Rattle.variant_trees.proofs.variants.take_node.Goals as goal
 
-pub returns-then-not-is_record_before : goal.returns-then-not-is_record_before
-returns-then-not-is_record_before c =
+pub returns-then-not-is_record_before-clause-node : goal.returns-then-not-is_record_before-clause-node
+returns-then-not-is_record_before-clause-node c =
     let laws : TreeLaws = record {
       named = c.nodes_after_a_change.ensures.named;
       others = c.nodes_after_a_change.ensures.others;

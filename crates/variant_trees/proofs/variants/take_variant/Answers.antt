@@ -17,7 +17,7 @@ goes g c = record {
   keys = c.take_keys.ensures.keys;
   node =
       subst (λ (nodes : List Node). LosesNode (has_variant (option_map record_of (row_under nodes c.args.bookmark.now)) (held_from c.args.from c.args.versions.now) c.args.table.0 c.args.bookmark.now) c.args.table.0 c.args.bookmark.now c.take_keys.new.trees.tables c.take_node.new.trees.tables)
-      (c.take_keys.ensures.others.nodes c.args.table.0) c.take_node.ensures;
+      (c.take_keys.ensures.others.nodes c.args.table.0) c.take_node.ensures.node;
 }
 
 pub returns-clause-kept : goal.returns-clause-kept

@@ -10,21 +10,26 @@ use Rattle.stored_variants.specs.VersionsView.{stored_versions}
 use Rattle.table_versions.proofs.Held.{is_held, other_room}
 use Rattle.table_versions.proofs.SumsHeld.{asked_of, if_of, plain_sum, some_of, store_summed}
 use Rattle.stored_variants.proofs.Tables.{newest_is_row}
+use Rattle.table_versions.proofs.StepInStore.{still_shown}
 use Rattle.table_versions.proofs.store.TableVersions.add.Goals as goal
 
 pub add_sum-requires : goal.add_sum-requires
-add_sum-requires c = newest_is_row c.self.inside.catalog.tables c.self.inside.trees.tables c.self.inside.versions c.self.invariant (changed_table c.args.change.now) (changed_bookmark c.args.change.now)
+add_sum-requires c = newest_is_row c.self.inside.catalog.tables c.self.inside.trees.tables c.self.inside.versions c.self.invariant.kept (changed_table c.args.change.now) (changed_bookmark c.args.change.now)
 
 pub invariant_of-self : goal.invariant_of-self
-invariant_of-self c =
-    let P : Table → Type 0 = λ t. AddsToEscrow (schema_of t) (kind_of c.args.change.now) in
-    let named : IsSomeAnd (table_with_id c.self.inside.catalog.tables (changed_table c.args.change.now)) P =
-    asked_of (λ s. AddsToEscrow s (kind_of c.args.change.now)) c.self.inside.trees.tables c.self.inside.catalog.tables (changed_table c.args.change.now)
-    (subst (λ (v : StoredVersions). IsSomeAnd (table_with_id v.store.tables (changed_table c.args.change.now)) (λ t. AddsToEscrow (schema_of t) (kind_of c.args.change.now))) (sym c.self.view_is) c.requires.column) in
-    c.add_sum.ensures.kept c.self.inside.catalog.tables c.push.new.self named
-    (subst (AreKept c.self.inside.catalog.tables c.self.inside.trees.tables) (sym c.in-Ok.ensures.ok)
-    (is_held c.self.inside.catalog.tables c.self.inside.trees.tables c.self.inside.versions c.args.by c.args.change.now (plain_sum c.args.change.now c.requires.sum)
-    (some_of P (table_with_id c.self.inside.catalog.tables (changed_table c.args.change.now)) named) (if_of P (table_with_id c.self.inside.catalog.tables (changed_table c.args.change.now)) named) c.self.invariant))
+invariant_of-self c = record {
+  kept = (
+      let P : Table → Type 0 = λ t. AddsToEscrow (schema_of t) (kind_of c.args.change.now) in
+      let named : IsSomeAnd (table_with_id c.self.inside.catalog.tables (changed_table c.args.change.now)) P =
+      asked_of (λ s. AddsToEscrow s (kind_of c.args.change.now)) c.self.inside.trees.tables c.self.inside.catalog.tables (changed_table c.args.change.now)
+      (subst (λ (v : StoredVersions). IsSomeAnd (table_with_id v.store.tables (changed_table c.args.change.now)) (λ t. AddsToEscrow (schema_of t) (kind_of c.args.change.now))) (sym c.self.view_is) c.requires.column) in
+      c.add_sum.ensures.kept c.self.inside.catalog.tables c.push.new.self named
+      (subst (AreKept c.self.inside.catalog.tables c.self.inside.trees.tables) (sym c.in-Ok.ensures.ok)
+      (is_held c.self.inside.catalog.tables c.self.inside.trees.tables c.self.inside.versions c.args.by c.args.change.now (plain_sum c.args.change.now c.requires.sum)
+      (some_of P (table_with_id c.self.inside.catalog.tables (changed_table c.args.change.now)) named) (if_of P (table_with_id c.self.inside.catalog.tables (changed_table c.args.change.now)) named) c.self.invariant.kept))
+      );
+  shows = still_shown c.self.inside.catalog c.self.inside.trees.catalog c.add_sum.new.trees.catalog c.add_sum.ensures.catalog c.self.invariant.shows;
+}
 
 pub returns-in-Ok-clause-ok : goal.returns-in-Ok-clause-ok
 returns-in-Ok-clause-ok c =
@@ -32,7 +37,7 @@ returns-in-Ok-clause-ok c =
     (subst (λ (v : StoredVersions). IsSomeAnd (table_with_id v.store.tables (changed_table c.args.change.now)) (λ t. AddsToEscrow (schema_of t) (kind_of c.args.change.now))) (sym c.self.view_is) c.requires.column) in
     ap (λ (held : List HeldChange). stored_versions c.self.inside.catalog c.add_sum.new.trees.tables held) c.in-Ok.ensures.ok
     ∙ store_summed c.self.inside.catalog c.self.inside.trees.tables c.add_sum.new.trees.tables c.self.inside.versions c.args.by c.args.change.now c.requires.sum
-    (c.add_sum.ensures.shown c.self.inside.catalog.tables c.self.inside.versions c.requires.sum named c.self.invariant)
+    (c.add_sum.ensures.shown c.self.inside.catalog.tables c.self.inside.versions c.requires.sum named c.self.invariant.kept)
     ∙ ap (λ (v : StoredVersions). record v { store = with_change c.args.by c.args.change.now v.store }) c.self.view_is
 
 pub returns-in-Ok-clause-over : goal.returns-in-Ok-clause-over

@@ -11,7 +11,7 @@ returns c =
     let trees = c.self.inside.trees.tables in
     let id = c.args.table.0 in
     c.by_id.ensures
-    ∙ ap (λ (ts : List Table). table_with_id ts id) (sym c.self.invariant.plain)
+    ∙ ap (λ (ts : List Table). table_with_id ts id) (sym c.self.invariant.kept.plain)
     ∙ c.tables_are_found_without_records.ensures.numbered tables id
     ∙ sym (defined trees (table_with_id tables id))
     ∙ ap (option_map without_rows) (sym (table_at trees tables id))

@@ -8,5 +8,5 @@ use Rattle.table_versions.proofs.store.TableVersions.catalog.Goals as goal
 pub returns : goal.returns
 returns c =
     let made : ℕ → List Table → CatalogState = λ greatest tables. record { greatest_table = greatest; tables = tables } in
-    ap (made c.self.inside.catalog.greatest_table) (sym c.self.invariant.plain ∙ sym (definitions c.self.inside.trees.tables c.self.inside.catalog.tables))
+    ap (made c.self.inside.catalog.greatest_table) (sym c.self.invariant.kept.plain ∙ sym (definitions c.self.inside.trees.tables c.self.inside.catalog.tables))
     ∙ ap (λ (v : StoredVersions). made v.greatest_table (map without_rows v.store.tables)) c.self.view_is

@@ -10,16 +10,20 @@ use Rattle.table_versions.proofs.Ends.{committed_kept, committed_leaves, committ
 use Rattle.table_versions.proofs.store.TableVersions.commit.Goals as goal
 
 pub invariant_of-self : goal.invariant_of-self
-invariant_of-self c =
-    let tables = c.self.inside.catalog.tables in
-    let trees = c.self.inside.trees.tables in
-    let held = c.self.inside.versions in
-    let session = c.args.session.0 in
-    let number = c.args.number in
-    subst (λ (changed : List HeldChange). AreKept tables trees changed) (sym c.commit.ensures)
-    (changes_kept tables trees held (map (committed_change session number) held) c.self.invariant
-    (all_changed (IsKeptChange tables trees) (committed_change session number) (committed_kept tables trees session number) held c.self.invariant.changes)
-    (same_variants (committed_change session number) (committed_leaves session number) held))
+invariant_of-self c = record {
+  kept = (
+      let tables = c.self.inside.catalog.tables in
+      let trees = c.self.inside.trees.tables in
+      let held = c.self.inside.versions in
+      let session = c.args.session.0 in
+      let number = c.args.number in
+      subst (λ (changed : List HeldChange). AreKept tables trees changed) (sym c.commit.ensures)
+      (changes_kept tables trees held (map (committed_change session number) held) c.self.invariant.kept
+      (all_changed (IsKeptChange tables trees) (committed_change session number) (committed_kept tables trees session number) held c.self.invariant.kept.changes)
+      (same_variants (committed_change session number) (committed_leaves session number) held))
+      );
+  shows = c.self.invariant.shows;
+}
 
 pub returns : goal.returns
 returns c =

@@ -8,7 +8,7 @@ use Rattle.table_versions.proofs.StoredConflicts.{rows_before}
 use Rattle.table_versions.proofs.store.TableVersions.conflict_with_changes.Goals as goal
 
 pub conflict_in-requires-clause-rows : goal.conflict_in-requires-clause-rows
-conflict_in-requires-clause-rows c = rows_before c.self.inside.catalog.tables c.self.inside.trees.tables c.self.inside.versions c.self.invariant.changes
+conflict_in-requires-clause-rows c = rows_before c.self.inside.catalog.tables c.self.inside.trees.tables c.self.inside.versions c.self.invariant.kept.changes
 
 pub returns : goal.returns
 returns c =

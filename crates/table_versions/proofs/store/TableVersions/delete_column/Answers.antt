@@ -1,18 +1,21 @@
 use Rattle.stored_variants.proofs.Outcomes.{either, on_err, on_ok}
-use Rattle.table_versions.proofs.StepInStore.{unused_in_catalog, is_after, settled_parts, unchanged_kept, unchanged_shown}
+use Rattle.table_versions.proofs.StepInStore.{has_in_catalog, unused_in_catalog, is_after, settled_parts, unchanged_kept, unchanged_shown}
 use Rattle.table_versions.proofs.store.TableVersions.delete_column.Goals as goal
 
 pub drop_column-requires-clause-kept : goal.drop_column-requires-clause-kept
-drop_column-requires-clause-kept c = settled_parts c.self.inside.catalog c.self.inside.trees.tables c.self.inside.versions c.self.invariant c.args.self.now c.self.view_is c.requires.settled
+drop_column-requires-clause-kept c = settled_parts c.self.inside.catalog c.self.inside.trees.tables c.self.inside.versions c.self.invariant.kept c.args.self.now c.self.view_is c.requires.settled
 
 pub drop_column-requires-clause-unused : goal.drop_column-requires-clause-unused
 drop_column-requires-clause-unused c = unused_in_catalog c.self.inside.catalog c.self.inside.trees.tables c.self.inside.versions c.args.self.now c.self.view_is c.args.table.0 c.args.column c.requires.unused
 
 pub invariant_of-self : goal.invariant_of-self
-invariant_of-self c =
-    either c.drop_column.result c.drop_column.ensures.ok c.drop_column.ensures.err
-    (λ is. (is_after c.self.inside.catalog c.self.inside.trees.tables c.self.inside.versions c.args.self.now c.self.view_is c.requires.settled c.args.made.now c.drop_column.new.catalog c.drop_column.new.trees.tables is).kept)
-    (λ e. unchanged_kept c.self.inside.catalog c.drop_column.new.catalog c.self.inside.trees.tables c.drop_column.new.trees.tables c.self.inside.versions e c.self.invariant)
+invariant_of-self c = record {
+  kept =
+      either c.drop_column.result c.drop_column.ensures.ok c.drop_column.ensures.err
+      (λ is. (is_after c.self.inside.catalog c.self.inside.trees.tables c.self.inside.versions c.args.self.now c.self.view_is c.requires.settled c.args.made.now c.drop_column.new.catalog c.drop_column.new.trees.tables is).kept)
+      (λ e. unchanged_kept c.self.inside.catalog c.drop_column.new.catalog c.self.inside.trees.tables c.drop_column.new.trees.tables c.self.inside.versions e c.self.invariant.kept);
+  shows = c.drop_column.ensures.shown;
+}
 
 pub returns-clause-ok : goal.returns-clause-ok
 returns-clause-ok c =
@@ -23,3 +26,9 @@ pub returns-clause-err : goal.returns-clause-err
 returns-clause-err c =
     on_err c.drop_column.result c.drop_column.ensures.err
     (λ e. unchanged_shown c.self.inside.catalog c.drop_column.new.catalog c.self.inside.trees.tables c.drop_column.new.trees.tables c.self.inside.versions c.args.self.now e c.self.view_is)
+
+pub drop_column-requires-clause-shown : goal.drop_column-requires-clause-shown
+drop_column-requires-clause-shown c = c.self.invariant.shows
+
+pub drop_column-requires-clause-there : goal.drop_column-requires-clause-there
+drop_column-requires-clause-there c = has_in_catalog c.self.inside.catalog c.self.inside.trees.tables c.self.inside.versions c.args.self.now c.self.view_is c.args.table.0 c.args.column c.requires.there

@@ -10,19 +10,20 @@ use Rattle.stored_variants.proofs.Dropped.{TreeLaws, emptied}
 use Rattle.table_versions.proofs.DroppedRecords.{IsAfterDrop, after_drop, has_extent, row_there}
 use Rattle.table_versions.proofs.Span.{RowSizes, same_room, small_row}
 use Rattle.stored_variants.proofs.Tables.{newest_at, newest_is_row}
+use Rattle.table_versions.proofs.StepInStore.{still_shown}
 use Rattle.table_versions.proofs.store.TableVersions.drop_record.Goals as goal
 
 pub push-requires : goal.push-requires
 push-requires c =
     subst (λ (row : Option (List ℕ)). length (unwrap_or row []) ≤ 4096) (sym (c.row_in_node-before.ensures ∙ ap (option_and_then row_in_node) c.get.ensures))
     (small_row (row_under (table_nodes c.self.inside.trees.tables c.table_of-table.result.0) c.bookmark_of-bookmark.result.now)
-    (newest_is_row c.self.inside.catalog.tables c.self.inside.trees.tables c.self.inside.versions c.self.invariant c.table_of-table.result.0 c.bookmark_of-bookmark.result.now))
+    (newest_is_row c.self.inside.catalog.tables c.self.inside.trees.tables c.self.inside.versions c.self.invariant.kept c.table_of-table.result.0 c.bookmark_of-bookmark.result.now))
 
 pub replace-requires : goal.replace-requires
 replace-requires c =
     has_extent (table_nodes c.self.inside.trees.tables c.table_of-table.result.0) c.bookmark_of-bookmark.result.now
     ((λ i. is_some (row_under (table_nodes c.self.inside.trees.tables (c.table_of-table.ensures i)) (c.bookmark_of-bookmark.ensures i)))
-    ∙ row_there c.self.inside.catalog c.self.inside.trees.tables c.self.inside.versions c.self.invariant c.nodes_are_in_order.ensures.sorted c.args.self.now c.self.view_is
+    ∙ row_there c.self.inside.catalog c.self.inside.trees.tables c.self.inside.versions c.self.invariant.kept c.nodes_are_in_order.ensures.sorted c.args.self.now c.self.view_is
     (changed_table c.args.change.now) (changed_bookmark c.args.change.now) c.requires.there)
 
 after : (c : goal.After-nodes_are_in_order-in-Ok) → IsAfterDrop c.self.inside.catalog c.replace.new.self.tables c.push.new.self c.args.by c.args.change.now c.args.self.now
@@ -34,7 +35,7 @@ after c =
       indexes = c.nodes_after_a_change.ensures.indexes;
       replaced = c.nodes_by_bookmark.ensures.replaced;
     } in
-    after_drop sizes laws c.self.inside.catalog c.self.inside.trees.tables c.self.inside.versions c.self.invariant c.nodes_are_in_order.ensures.sorted c.nodes_are_in_order.ensures.short c.args.self.now c.self.view_is
+    after_drop sizes laws c.self.inside.catalog c.self.inside.trees.tables c.self.inside.versions c.self.invariant.kept c.nodes_are_in_order.ensures.sorted c.nodes_are_in_order.ensures.short c.args.self.now c.self.view_is
     c.args.by c.args.change.now c.requires.drop c.requires.there
     c.replace.new.self.tables (c.replace.ensures.tables ∙ (λ i. emptied c.self.inside.trees.tables (c.table_of-table.ensures i) (c.bookmark_of-bookmark.ensures i))) c.nodes_are_in_order-in-Ok.ensures.sorted
     c.push.new.self
@@ -43,7 +44,10 @@ after c =
     (c.row_in_node-before.ensures ∙ ap (option_and_then row_in_node) c.get.ensures ∙ (λ i. row_under (table_nodes c.self.inside.trees.tables (c.table_of-table.ensures i)) (c.bookmark_of-bookmark.ensures i))))
 
 pub invariant_of-self : goal.invariant_of-self
-invariant_of-self c = (after c).kept
+invariant_of-self c = record {
+  kept = (after c).kept;
+  shows = still_shown c.self.inside.catalog c.self.inside.trees.catalog c.replace.new.self.catalog c.replace.ensures.catalog c.self.invariant.shows;
+}
 
 pub returns-in-Ok-clause-ok : goal.returns-in-Ok-clause-ok
 returns-in-Ok-clause-ok c = (after c).shown
@@ -53,11 +57,11 @@ returns-in-Ok-clause-over c =
     let sizes : RowSizes = record { bytes = c.size_of_a_row.ensures.bytes; size = c.values_here_are_the_record.ensures.size } in
     let row_is = c.row_in_node-before.ensures ∙ ap (option_and_then row_in_node) c.get.ensures ∙ (λ i. row_under (table_nodes c.self.inside.trees.tables (c.table_of-table.ensures i)) (c.bookmark_of-bookmark.ensures i)) in
     let is_row : IfSome (option_copied c.row_in_node-before.result) IsRecordRow = subst (λ (row : Option (List ℕ)). IfSome row IsRecordRow) (sym row_is)
-    (newest_is_row c.self.inside.catalog.tables c.self.inside.trees.tables c.self.inside.versions c.self.invariant (changed_table c.args.change.now) (changed_bookmark c.args.change.now)) in
+    (newest_is_row c.self.inside.catalog.tables c.self.inside.trees.tables c.self.inside.versions c.self.invariant.kept (changed_table c.args.change.now) (changed_bookmark c.args.change.now)) in
     let room : has_room_for_row c.args.by c.args.change.now (option_copied c.row_in_node-before.result) c.self.inside.versions ≡ has_room c.args.by c.args.change.now c.args.self.now.store =
     same_room sizes c.args.by c.args.change.now (option_copied c.row_in_node-before.result) is_row c.self.inside.versions c.args.self.now.store (ap (λ (v : StoredVersions). v.store.held) c.self.view_is)
     (ap (option_map record_of) row_is
-    ∙ sym (newest_at c.self.inside.trees.tables c.self.inside.catalog.tables c.self.invariant.numbers c.nodes_are_in_order.ensures.sorted (changed_table c.args.change.now) (changed_bookmark c.args.change.now))
+    ∙ sym (newest_at c.self.inside.trees.tables c.self.inside.catalog.tables c.self.invariant.kept.numbers c.nodes_are_in_order.ensures.sorted (changed_table c.args.change.now) (changed_bookmark c.args.change.now))
     ∙ ap (λ (v : StoredVersions). record_in v.store.tables (changed_table c.args.change.now) (changed_bookmark c.args.change.now)) c.self.view_is) in
     (λ e. sym room ∙ c.in-Ok.ensures.over.0 e, λ e. c.in-Ok.ensures.over.1 (room ∙ e))
 
@@ -66,10 +70,10 @@ returns-in-Err-clause-over c =
     let sizes : RowSizes = record { bytes = c.size_of_a_row.ensures.bytes; size = c.values_here_are_the_record.ensures.size } in
     let row_is = c.row_in_node-before.ensures ∙ ap (option_and_then row_in_node) c.get.ensures ∙ (λ i. row_under (table_nodes c.self.inside.trees.tables (c.table_of-table.ensures i)) (c.bookmark_of-bookmark.ensures i)) in
     let is_row : IfSome (option_copied c.row_in_node-before.result) IsRecordRow = subst (λ (row : Option (List ℕ)). IfSome row IsRecordRow) (sym row_is)
-    (newest_is_row c.self.inside.catalog.tables c.self.inside.trees.tables c.self.inside.versions c.self.invariant (changed_table c.args.change.now) (changed_bookmark c.args.change.now)) in
+    (newest_is_row c.self.inside.catalog.tables c.self.inside.trees.tables c.self.inside.versions c.self.invariant.kept (changed_table c.args.change.now) (changed_bookmark c.args.change.now)) in
     let room : has_room_for_row c.args.by c.args.change.now (option_copied c.row_in_node-before.result) c.self.inside.versions ≡ has_room c.args.by c.args.change.now c.args.self.now.store =
     same_room sizes c.args.by c.args.change.now (option_copied c.row_in_node-before.result) is_row c.self.inside.versions c.args.self.now.store (ap (λ (v : StoredVersions). v.store.held) c.self.view_is)
     (ap (option_map record_of) row_is
-    ∙ sym (newest_at c.self.inside.trees.tables c.self.inside.catalog.tables c.self.invariant.numbers c.nodes_are_in_order.ensures.sorted (changed_table c.args.change.now) (changed_bookmark c.args.change.now))
+    ∙ sym (newest_at c.self.inside.trees.tables c.self.inside.catalog.tables c.self.invariant.kept.numbers c.nodes_are_in_order.ensures.sorted (changed_table c.args.change.now) (changed_bookmark c.args.change.now))
     ∙ ap (λ (v : StoredVersions). record_in v.store.tables (changed_table c.args.change.now) (changed_bookmark c.args.change.now)) c.self.view_is) in
     (λ e. sym room ∙ c.in-Err.ensures.over.0 e, λ e. c.in-Err.ensures.over.1 (room ∙ e))

@@ -17,9 +17,9 @@ returns-then-fits c =
     let table : ℕ = changed_table c.args.change.now in
     let bookmark : List ℕ = changed_bookmark c.args.change.now in
     let row : Option (List ℕ) = row_under (table_nodes c.self.inside.trees.tables table) bookmark in
-    let is = newest_is_row c.self.inside.catalog.tables c.self.inside.trees.tables c.self.inside.versions c.self.invariant table bookmark in
+    let is = newest_is_row c.self.inside.catalog.tables c.self.inside.trees.tables c.self.inside.versions c.self.invariant.kept table bookmark in
     sym (longest_fits c.args.by c.args.change.now row is c.longest_row.result.now c.longest_row.ensures c.self.inside.versions (sym c.fits.ensures ∙ c.if-fits.true))
     ∙ same_room sizes c.args.by c.args.change.now row is c.self.inside.versions c.args.self.now.store
     (ap (λ (v : StoredVersions). v.store.held) c.self.view_is)
-    (sym (newest_at c.self.inside.trees.tables c.self.inside.catalog.tables c.self.invariant.numbers c.nodes_are_in_order.ensures.sorted table bookmark)
+    (sym (newest_at c.self.inside.trees.tables c.self.inside.catalog.tables c.self.invariant.kept.numbers c.nodes_are_in_order.ensures.sorted table bookmark)
     ∙ ap (λ (v : StoredVersions). record_in v.store.tables table bookmark) c.self.view_is)

@@ -6,11 +6,12 @@ use Rattle.stored_variants.specs.RecordRows.{held_record}
 use Rattle.stored_variants.specs.StoredVersions.{StoredVersions}
 use Rattle.stored_variants.specs.VersionsKept.{AreKept}
 use Rattle.table_versions.proofs.OldestHeld.{rest_of_records, some_held}
+use Rattle.table_versions.proofs.StepInStore.{still_shown}
 use Rattle.table_versions.proofs.store.TableVersions.forget.Goals as goal
 
 pub forget_oldest-requires : goal.forget_oldest-requires
 forget_oldest-requires c = record {
-  kept = c.self.invariant;
+  kept = c.self.invariant.kept;
   some = some_held c.self.inside.versions (subst (λ (v : StoredVersions). 0 < length v.store.held) (sym c.self.view_is) c.requires);
 }
 
@@ -18,7 +19,10 @@ pub pop_oldest-requires : goal.pop_oldest-requires
 pop_oldest-requires c = some_held c.self.inside.versions (subst (λ (v : StoredVersions). 0 < length v.store.held) (sym c.self.view_is) c.requires)
 
 pub invariant_of-self : goal.invariant_of-self
-invariant_of-self c = subst (λ (held : List HeldChange). AreKept c.self.inside.catalog.tables c.forget_oldest.new.trees.tables held) (sym c.pop_oldest.ensures) c.forget_oldest.ensures.kept
+invariant_of-self c = record {
+  kept = subst (λ (held : List HeldChange). AreKept c.self.inside.catalog.tables c.forget_oldest.new.trees.tables held) (sym c.pop_oldest.ensures) c.forget_oldest.ensures.kept;
+  shows = still_shown c.self.inside.catalog c.self.inside.trees.catalog c.forget_oldest.new.trees.catalog c.forget_oldest.ensures.catalog c.self.invariant.shows;
+}
 
 pub returns : goal.returns
 returns c =

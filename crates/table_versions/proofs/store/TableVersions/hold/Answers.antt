@@ -13,15 +13,19 @@ use Rattle.table_versions.proofs.Held.{lock_is_kept, lock_room, lock_shown, name
 use Rattle.table_versions.proofs.store.TableVersions.hold.Goals as goal
 
 pub invariant_of-self : goal.invariant_of-self
-invariant_of-self c =
-    let tables = c.self.inside.catalog.tables in
-    let trees = c.self.inside.trees.tables in
-    let held = c.self.inside.versions in
-    let P : List HeldChange → Type 0 = λ changed. AreKept tables trees changed in
-    let named = named_in_catalog trees tables (changed_table c.args.change.now) (subst (λ (v : StoredVersions). is_some (table_with_id v.store.tables (changed_table c.args.change.now)) ≡ true) (sym c.self.view_is) c.requires.named) in
-    either c.push.result c.push.ensures.ok c.push.ensures.err
-    (λ e. subst P (sym e) (lock_is_kept tables trees held c.args.by c.args.change.now c.requires.lock named c.self.invariant))
-    (λ e. subst P (sym e) c.self.invariant)
+invariant_of-self c = record {
+  kept = (
+      let tables = c.self.inside.catalog.tables in
+      let trees = c.self.inside.trees.tables in
+      let held = c.self.inside.versions in
+      let P : List HeldChange → Type 0 = λ changed. AreKept tables trees changed in
+      let named = named_in_catalog trees tables (changed_table c.args.change.now) (subst (λ (v : StoredVersions). is_some (table_with_id v.store.tables (changed_table c.args.change.now)) ≡ true) (sym c.self.view_is) c.requires.named) in
+      either c.push.result c.push.ensures.ok c.push.ensures.err
+      (λ e. subst P (sym e) (lock_is_kept tables trees held c.args.by c.args.change.now c.requires.lock named c.self.invariant.kept))
+      (λ e. subst P (sym e) c.self.invariant.kept)
+      );
+  shows = c.self.invariant.shows;
+}
 
 pub returns-clause-over : goal.returns-clause-over
 returns-clause-over c =

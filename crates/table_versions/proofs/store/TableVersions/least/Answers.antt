@@ -10,10 +10,10 @@ pub next_entry-requires : goal.next_entry-requires
 next_entry-requires c =
     let rule = c.in-Some-secondary_rule.rule.now in
     let seen =
-    is_seen c.self.inside.catalog c.self.inside.trees.tables c.self.inside.versions c.self.invariant c.nodes_are_in_order.ensures.sorted c.nodes_are_in_order.ensures.short c.args.self.now c.self.view_is
+    is_seen c.self.inside.catalog c.self.inside.trees.tables c.self.inside.versions c.self.invariant.kept c.nodes_are_in_order.ensures.sorted c.nodes_are_in_order.ensures.short c.args.self.now c.self.view_is
     c.args.reader c.args.table.0 c.args.schema.now c.args.bookmark.now (here_fields c.in-Some.row) c.requires (sym c.in-Some.ensures) in
     let legal =
-    legal_in_store c.self.inside.catalog c.self.inside.trees.tables c.self.inside.versions c.self.invariant c.args.self.now c.self.view_is c.args.table.0 c.args.schema.now c.requires c.args.index.0
+    legal_in_store c.self.inside.catalog c.self.inside.trees.tables c.self.inside.versions c.self.invariant.kept c.args.self.now c.self.view_is c.args.table.0 c.args.schema.now c.requires c.args.index.0
     (Some rule) c.in-Some-secondary_rule.ensures in
     record {
       legal = legal.0;
@@ -23,7 +23,7 @@ next_entry-requires c =
 
 pub keyed-requires : goal.keyed-requires
 keyed-requires c =
-    (is_seen c.self.inside.catalog c.self.inside.trees.tables c.self.inside.versions c.self.invariant c.nodes_are_in_order.ensures.sorted c.nodes_are_in_order.ensures.short c.args.self.now c.self.view_is
+    (is_seen c.self.inside.catalog c.self.inside.trees.tables c.self.inside.versions c.self.invariant.kept c.nodes_are_in_order.ensures.sorted c.nodes_are_in_order.ensures.short c.args.self.now c.self.view_is
     c.args.reader c.args.table.0 c.args.schema.now c.args.bookmark.now (here_fields c.in-Some.row) c.requires (sym c.in-Some.ensures)).short
 
 pub returns-in-Some-secondary_rule : goal.returns-in-Some-secondary_rule
@@ -36,7 +36,7 @@ returns-in-Some-secondary_rule c =
 
 pub own_entry-requires : goal.own_entry-requires
 own_entry-requires c =
-    (is_seen c.self.inside.catalog c.self.inside.trees.tables c.self.inside.versions c.self.invariant c.nodes_are_in_order.ensures.sorted c.nodes_are_in_order.ensures.short c.args.self.now c.self.view_is
+    (is_seen c.self.inside.catalog c.self.inside.trees.tables c.self.inside.versions c.self.invariant.kept c.nodes_are_in_order.ensures.sorted c.nodes_are_in_order.ensures.short c.args.self.now c.self.view_is
     c.args.reader c.args.table.0 c.args.schema.now c.args.bookmark.now (here_fields c.in-Some.row) c.requires (sym c.in-Some.ensures)).short
 
 pub returns-in-None-secondary_rule : goal.returns-in-None-secondary_rule

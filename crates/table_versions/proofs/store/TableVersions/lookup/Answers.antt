@@ -11,7 +11,7 @@ returns c =
     let trees = c.self.inside.trees.tables in
     let name = c.args.name.now in
     c.lookup.ensures
-    ∙ ap (λ (ts : List Table). table_named ts name) (sym c.self.invariant.plain)
+    ∙ ap (λ (ts : List Table). table_named ts name) (sym c.self.invariant.kept.plain)
     ∙ c.tables_are_found_without_records.ensures.named tables name
     ∙ sym (defined trees (table_named tables name))
     ∙ ap (option_map without_rows) (sym (named_at trees tables name))

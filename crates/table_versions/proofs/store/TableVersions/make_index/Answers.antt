@@ -7,17 +7,20 @@ use Rattle.table_versions.proofs.StepInStore.{in_catalog, is_after, settled_part
 use Rattle.table_versions.proofs.store.TableVersions.make_index.Goals as goal
 
 pub create_index-requires-clause-kept : goal.create_index-requires-clause-kept
-create_index-requires-clause-kept c = settled_parts c.self.inside.catalog c.self.inside.trees.tables c.self.inside.versions c.self.invariant c.args.self.now c.self.view_is c.requires.settled
+create_index-requires-clause-kept c = settled_parts c.self.inside.catalog c.self.inside.trees.tables c.self.inside.versions c.self.invariant.kept c.args.self.now c.self.view_is c.requires.settled
 
 pub create_index-requires-clause-fits : goal.create_index-requires-clause-fits
 create_index-requires-clause-fits c =
     subst (λ (o : Option Table). IsSomeAnd o (IsIndexFor c.args.rule.now)) (in_catalog c.self.inside.catalog c.self.inside.trees.tables c.self.inside.versions c.args.self.now c.self.view_is c.args.table.0) c.requires.fits
 
 pub invariant_of-self : goal.invariant_of-self
-invariant_of-self c =
-    either c.create_index.result c.create_index.ensures.ok c.create_index.ensures.err
-    (λ is. (is_after c.self.inside.catalog c.self.inside.trees.tables c.self.inside.versions c.args.self.now c.self.view_is c.requires.settled c.args.made.now c.create_index.new.catalog c.create_index.new.trees.tables is).kept)
-    (λ e. unchanged_kept c.self.inside.catalog c.create_index.new.catalog c.self.inside.trees.tables c.create_index.new.trees.tables c.self.inside.versions e c.self.invariant)
+invariant_of-self c = record {
+  kept =
+      either c.create_index.result c.create_index.ensures.ok c.create_index.ensures.err
+      (λ is. (is_after c.self.inside.catalog c.self.inside.trees.tables c.self.inside.versions c.args.self.now c.self.view_is c.requires.settled c.args.made.now c.create_index.new.catalog c.create_index.new.trees.tables is).kept)
+      (λ e. unchanged_kept c.self.inside.catalog c.create_index.new.catalog c.self.inside.trees.tables c.create_index.new.trees.tables c.self.inside.versions e c.self.invariant.kept);
+  shows = c.create_index.ensures.shown;
+}
 
 pub returns-clause-ok : goal.returns-clause-ok
 returns-clause-ok c =
@@ -28,3 +31,6 @@ pub returns-clause-err : goal.returns-clause-err
 returns-clause-err c =
     on_err c.create_index.result c.create_index.ensures.err
     (λ e. unchanged_shown c.self.inside.catalog c.create_index.new.catalog c.self.inside.trees.tables c.create_index.new.trees.tables c.self.inside.versions c.args.self.now e c.self.view_is)
+
+pub create_index-requires-clause-shown : goal.create_index-requires-clause-shown
+create_index-requires-clause-shown c = c.self.invariant.shows

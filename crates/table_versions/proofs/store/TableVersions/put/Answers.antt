@@ -12,6 +12,7 @@ use Rattle.stored_variants.specs.RecordRows.{row_under}
 use Rattle.stored_variants.specs.StoredVersions.{StoredVersions}
 use Rattle.table_versions.proofs.PutDone.{IsAfterNone, IsAfterPut, PutGiven, RowLaws, after_none, after_put, on_both, on_errs, on_oks, put_as, put_given, row_room, same_as, storable_in}
 use Rattle.table_versions.proofs.Span.{RowSizes}
+use Rattle.table_versions.proofs.StepInStore.{still_shown}
 use Rattle.table_versions.proofs.store.TableVersions.put.Goals as goal
 
 found : (c : goal.After-schema) → table_with_id c.self.inside.catalog.tables (changed_table c.args.change.now) ≡ Some c.in-Some-by_id.def.now
@@ -24,7 +25,7 @@ storable c =
 
 given : (c : goal.After-schema) → PutGiven c.self.inside.catalog.tables c.self.inside.trees.tables c.self.inside.versions c.table_of-table.result.0 c.schema.result.now c.bookmark_of-bookmark.result.now c.in-Some.values.now
 given c =
-    put_given c.self.inside.catalog.tables c.self.inside.trees.tables c.self.inside.versions c.self.invariant c.nodes_are_in_order.ensures.sorted c.table_of-table.result.0 c.in-Some-by_id.def.now (sym c.in-Some-by_id.ensures) c.schema.result.now c.schema.ensures
+    put_given c.self.inside.catalog.tables c.self.inside.trees.tables c.self.inside.versions c.self.invariant.kept c.nodes_are_in_order.ensures.sorted c.table_of-table.result.0 c.in-Some-by_id.def.now (sym c.in-Some-by_id.ensures) c.schema.result.now c.schema.ensures
     c.bookmark_of-bookmark.result.now c.in-Some.values.now
     (subst (λ (bookmark : List ℕ). IsStorable c.in-Some-by_id.def.now bookmark c.in-Some.values.now) (sym c.bookmark_of-bookmark.ensures)
     (subst (λ (values : RecordFields). IsStorable c.in-Some-by_id.def.now (changed_bookmark c.args.change.now) values) (sym c.in-Some.ensures) (storable c)))
@@ -47,7 +48,7 @@ put_record-answer-requires-clause-keys c = (given c).keys
 pub put_record-answer-requires-clause-room : goal.put_record-answer-requires-clause-room
 put_record-answer-requires-clause-room c =
     let sizes : RowSizes = record { bytes = c.size_of_a_row.ensures.bytes; size = c.values_here_are_the_record.ensures.size } in
-    row_room sizes c.self.inside.catalog c.self.inside.trees.tables c.self.inside.versions c.self.invariant c.nodes_are_in_order.ensures.sorted c.args.self.now c.self.view_is
+    row_room sizes c.self.inside.catalog c.self.inside.trees.tables c.self.inside.versions c.self.invariant.kept c.nodes_are_in_order.ensures.sorted c.args.self.now c.self.view_is
     c.args.by c.args.change.now c.table_of-table.result.0 c.bookmark_of-bookmark.result.now c.table_of-table.ensures c.bookmark_of-bookmark.ensures
     ∙ sym c.fits.ensures ∙ c.if-not-fits.false
 
@@ -65,7 +66,7 @@ after : (c : goal.After-nodes_are_in_order-in-Some-by_id) → IsPut c.table_of-t
 after c put held =
     let sizes : RowSizes = record { bytes = c.size_of_a_row.ensures.bytes; size = c.values_here_are_the_record.ensures.size } in
     let laws : RowLaws = record { read = c.rows_are_read_back.ensures; shown = c.values_here_are_the_record.ensures.shown } in
-    after_put sizes laws c.self.inside.catalog c.self.inside.trees.tables c.self.inside.versions c.self.invariant c.nodes_are_in_order.ensures.sorted c.nodes_are_in_order.ensures.short c.args.self.now c.self.view_is c.tables.ensures.numbered
+    after_put sizes laws c.self.inside.catalog c.self.inside.trees.tables c.self.inside.versions c.self.invariant.kept c.nodes_are_in_order.ensures.sorted c.nodes_are_in_order.ensures.short c.args.self.now c.self.view_is c.tables.ensures.numbered
     c.args.by c.args.change.now c.requires.put c.in-Some-by_id.def.now (found_then c) (storable_then c) c.put_record-answer.new.trees.tables
     (put_as c.self.inside.trees.tables c.put_record-answer.new.trees.tables c.table_of-table.result.0 (changed_table c.args.change.now) c.table_of-table.ensures c.bookmark_of-bookmark.result.now (changed_bookmark c.args.change.now) c.bookmark_of-bookmark.ensures
     c.schema.result.now (schema_of c.in-Some-by_id.def.now) c.schema.ensures c.in-Some.values.now (put_values c.args.change.now) c.in-Some.ensures put)
@@ -74,15 +75,19 @@ after c put held =
 
 none : (c : goal.After-nodes_are_in_order-in-Some-by_id) → IsSame c.table_of-table.result.0 c.schema.result.now c.self.inside.trees.tables c.put_record-answer.new.trees.tables → c.put_record-answer.new.versions ≡ c.self.inside.versions → IsAfterNone c.self.inside.catalog c.put_record-answer.new.trees.tables c.put_record-answer.new.versions c.args.self.now
 none c same held =
-    after_none c.self.inside.catalog c.self.inside.trees.tables c.self.inside.versions c.self.invariant c.nodes_are_in_order.ensures.sorted c.args.self.now c.self.view_is c.tables.ensures.numbered
+    after_none c.self.inside.catalog c.self.inside.trees.tables c.self.inside.versions c.self.invariant.kept c.nodes_are_in_order.ensures.sorted c.args.self.now c.self.view_is c.tables.ensures.numbered
     (changed_table c.args.change.now) c.in-Some-by_id.def.now (found_then c) c.put_record-answer.new.trees.tables
     (same_as c.self.inside.trees.tables c.put_record-answer.new.trees.tables c.table_of-table.result.0 (changed_table c.args.change.now) c.table_of-table.ensures c.schema.result.now (schema_of c.in-Some-by_id.def.now) c.schema.ensures same)
     c.nodes_are_in_order-in-Some-by_id.ensures.sorted c.put_record-answer.new.versions held
 
 pub invariant_of-self : goal.invariant_of-self
-invariant_of-self c =
-    on_both c.put_record-answer.result c.put_record-answer.ensures.put c.put_record-answer.ensures.held c.put_record-answer.ensures.same c.put_record-answer.ensures.unheld
-    (λ put held. (after c put held).kept) (λ same held. (none c same held).kept)
+invariant_of-self c = record {
+  kept = (
+      on_both c.put_record-answer.result c.put_record-answer.ensures.put c.put_record-answer.ensures.held c.put_record-answer.ensures.same c.put_record-answer.ensures.unheld
+      (λ put held. (after c put held).kept) (λ same held. (none c same held).kept)
+      );
+  shows = still_shown c.self.inside.catalog c.self.inside.trees.catalog c.put_record-answer.new.trees.catalog c.put_record-answer.ensures.catalog c.self.invariant.shows;
+}
 
 pub returns-in-Some-by_id-clause-ok : goal.returns-in-Some-by_id-clause-ok
 returns-in-Some-by_id-clause-ok c = on_oks c.put_record-answer.result c.put_record-answer.ensures.put c.put_record-answer.ensures.held (λ put held. (after c put held).shown)

@@ -10,16 +10,20 @@ use Rattle.table_versions.proofs.Ends.{released_kept, released_leaves, released_
 use Rattle.table_versions.proofs.store.TableVersions.release.Goals as goal
 
 pub invariant_of-self : goal.invariant_of-self
-invariant_of-self c =
-    let tables = c.self.inside.catalog.tables in
-    let trees = c.self.inside.trees.tables in
-    let held = c.self.inside.versions in
-    let session = c.args.session.0 in
-    let level = c.args.level in
-    subst (λ (changed : List HeldChange). AreKept tables trees changed) (sym c.release.ensures)
-    (changes_kept tables trees held (map (released_change session level) held) c.self.invariant
-    (all_changed (IsKeptChange tables trees) (released_change session level) (released_kept tables trees session level) held c.self.invariant.changes)
-    (same_variants (released_change session level) (released_leaves session level) held))
+invariant_of-self c = record {
+  kept = (
+      let tables = c.self.inside.catalog.tables in
+      let trees = c.self.inside.trees.tables in
+      let held = c.self.inside.versions in
+      let session = c.args.session.0 in
+      let level = c.args.level in
+      subst (λ (changed : List HeldChange). AreKept tables trees changed) (sym c.release.ensures)
+      (changes_kept tables trees held (map (released_change session level) held) c.self.invariant.kept
+      (all_changed (IsKeptChange tables trees) (released_change session level) (released_kept tables trees session level) held c.self.invariant.kept.changes)
+      (same_variants (released_change session level) (released_leaves session level) held))
+      );
+  shows = c.self.invariant.shows;
+}
 
 pub returns : goal.returns
 returns c =

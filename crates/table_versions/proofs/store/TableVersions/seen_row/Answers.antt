@@ -23,7 +23,7 @@ returns-in-Before-clause-values c =
 pub returns-in-Before-clause-row : goal.returns-in-Before-clause-row
 returns-in-Before-clause-row c =
     subst IsSeenRow (sym c.in-Before.ensures)
-    (seen_is_row c.self.inside.catalog.tables c.self.inside.trees.tables c.args.table.0 c.args.bookmark.now c.args.reader c.self.inside.versions c.self.invariant.changes)
+    (seen_is_row c.self.inside.catalog.tables c.self.inside.trees.tables c.args.table.0 c.args.bookmark.now c.args.reader c.self.inside.versions c.self.invariant.kept.changes)
 
 pub returns-in-Absent-clause-values : goal.returns-in-Absent-clause-values
 returns-in-Absent-clause-values c =

@@ -6,5 +6,5 @@ use Rattle.table_versions.proofs.store.TableVersions.tables.Goals as goal
 
 pub returns : goal.returns
 returns c =
-    c.tables.ensures.tables ∙ sym c.self.invariant.plain ∙ sym (definitions c.self.inside.trees.tables c.self.inside.catalog.tables)
+    c.tables.ensures.tables ∙ sym c.self.invariant.kept.plain ∙ sym (definitions c.self.inside.trees.tables c.self.inside.catalog.tables)
     ∙ ap (λ (v : StoredVersions). map without_rows v.store.tables) c.self.view_is
