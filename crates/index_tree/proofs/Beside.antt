@@ -1,6 +1,5 @@
 -- The entries beside one that is there: those of the nodes beside its own.
-use Rattle.std.proofs.Common.{◌≡◌, ℕ, Bool, true, List, ◌++◌, filter, find, None, refl, sym, ap, ◌∙◌}
-use Rattle.std.specs.Prelude.{All}
+use Rattle.std.proofs.Common.{◌≡◌, ℕ, Bool, true, nat_eq, eq-eqb, List, ◌++◌, filter, find, None, refl, sym, ap, ◌∙◌}
 use Rattle.std.specs.List.{last_or}
 use Rattle.std.proofs.lemmas.List.Elements.{All-weaker}
 use Rattle.std.specs.declared.cmp.Ordering.{Ordering}
@@ -9,12 +8,15 @@ use Rattle.std.specs.Ordering.{is_gt, is_lt, ordering_then, ordering_reverse}
 use Rattle.index_derive.specs.declared.entries.Place.TheVariants.{On}
 use Rattle.cursor_nav.specs.Places.{Pair, entry_after, entry_before, is_beyond, pair_lt}
 use Rattle.derived_index.specs.KeptEntries.{has_entry}
-use Rattle.index_tree.specs.Entries.{AreApart, CutsAt, IsApart, IsApartFromAll}
+use Rattle.index_tree.specs.Entries.{AreApart, IsApart}
 use Rattle.index_tree.proofs.Bytes.{order, order_of_pairs, turned}
 use Rattle.index_tree.proofs.PairOrder.{pair_lower}
 use Rattle.index_tree.proofs.Lists.{find_alike}
 use Rattle.index_tree.proofs.Cutting.{cut_beside, found_below, is_before}
 use Rattle.index_tree.proofs.Changing.{there_apart}
+
+pub own_size : (n : ℕ) → nat_eq n n ≡ true
+own_size n = eq-eqb n n refl
 
 -- whether an entry's node is above a key
 abbrev pub is_behind : List ℕ → Pair → Bool

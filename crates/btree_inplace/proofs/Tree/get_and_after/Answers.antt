@@ -1,8 +1,8 @@
 -- The leaf has the node with the key where the tree has it, and the node behind it, or the subtree beside the path begins with that.
-use Rattle.std.proofs.Common.{◌≡◌, Some, sym, ap, subst, ◌∙◌}
+use Rattle.std.proofs.Common.{◌≡◌, Some, sym, ap, ◌∙◌}
 use Rattle.std.specs.Prelude.{Option, unwrap_or, find}
 use Rattle.std.specs.Option.{option_map, option_or}
-use Rattle.page_image.specs.Page.{Node, PageContents, HasRisingKeys}
+use Rattle.page_image.specs.Page.{Node, PageContents}
 use Rattle.page_space.specs.Frames.{empty_page}
 use Rattle.btree_inplace.specs.Order.{has_key, is_above, key_and_data}
 use Rattle.btree_inplace.specs.Neighbors.{first_of}

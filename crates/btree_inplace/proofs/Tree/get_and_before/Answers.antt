@@ -1,5 +1,5 @@
 -- The leaf has the node with the key where the tree has it, and the node before it, or the subtree beside the path ends with that.
-use Rattle.std.proofs.Common.{◌≡◌, Some, sym, ap, subst, ◌∙◌}
+use Rattle.std.proofs.Common.{◌≡◌, Some, sym, ap, ◌∙◌}
 use Rattle.std.specs.Prelude.{Option, unwrap_or, find, reverse}
 use Rattle.std.specs.Option.{option_map, option_or}
 use Rattle.page_image.specs.Page.{Node, PageContents}
