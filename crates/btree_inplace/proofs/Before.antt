@@ -1,6 +1,6 @@
 -- The last node up to a key, found from the right.
 use Rattle.std.proofs.Common.{◌≡◌, ℕ, suc, ◌+◌, ◌-◌, ◌<◌, ◌≤◌, inl, inr, Bool, true, false, Option, Some, None, List, [], ◌∷◌, ◌++◌, length, take, drop, get_or, refl, sym, ap, subst, ◌∙◌, arith, cond}
-use Rattle.std.specs.Prelude.{find, reverse, All}
+use Rattle.std.specs.Prelude.{find, reverse, All, SomeIff}
 use Rattle.std.specs.List.{flat_map}
 use Rattle.std.specs.Option.{option_or}
 use Rattle.std.specs.Ordering.{nat_cmp, ordering_reverse, is_le, is_lt}
@@ -16,7 +16,7 @@ use Rattle.page_image.specs.Page.{Node, no_node, node_at, IsBelow, HasRisingKeys
 use Rattle.page_space.specs.Frames.{Frames}
 use Rattle.btree_node.specs.Cut.{IsChildPlace}
 use Rattle.btree_inplace.specs.Order.{PassesBelow, is_under, is_upto}
-use Rattle.btree_inplace.specs.Neighbors.{last_of, found_left}
+use Rattle.btree_inplace.specs.Neighbors.{IsLastPlace, last_of, found_left}
 use Rattle.btree_inplace.specs.Shape.{IsSubtree, child_of, entries, page_in}
 use Rattle.btree_inplace.proofs.Below.{All-flat_map, before_child, behind_child, find-all, find-any, find-any_front, find-none, find-none_before, flat_map-around, itself, or_none, or_some}
 
@@ -172,3 +172,20 @@ left_end test depth frames page key next passes tree place =
     let nodes = (page_in frames page).nodes in
     let f : Node → List Node = λ n. entries depth frames (child_of n) in
     sym (ap (λ r. option_or r (last_of frames next)) (find_below test depth frames page key 0 passes tree place) ∙ or_none (find test (reverse (f (node_at nodes 0)))) (find (λ _. true) (reverse (flat_map f (take 0 nodes)))) (last_of frames next) refl)
+
+-- the place before the node with the key
+pub place_before : (nodes : List Node) (key : List ℕ) (i : ℕ) (place : Option ℕ) → HasRisingKeys nodes → i < length nodes → (node_at nodes i).key ≡ key → SomeIff place (1 ≤ i) (i - 1) → IsLastPlace (is_under key) nodes place
+place_before nodes key i None rising h here less =
+    let first : i ≡ 0 = omega (arith, less) in
+    let at = subst (λ k. (k < length nodes) × ((node_at nodes k).key ≡ key)) first (h, here) in
+    under_first nodes key rising at.0 at.1
+place_before nodes key i (Some j) rising h here some =
+    subst (λ k. IsLastPlace (is_under key) nodes (Some k)) (sym some.1) (omega arith, under_found nodes key i rising h some.0 here)
+
+-- the place before the one where the key would stand
+pub place_below : (test : Node → Bool) (nodes : List Node) (key : List ℕ) (i : ℕ) (place : Option ℕ) → PassesBelow test key → IsInsertPlace nodes key i → SomeIff place (1 ≤ i) (i - 1) → IsLastPlace test nodes place
+place_below test nodes key i None passes at less =
+    let first : i ≡ 0 = omega (arith, less) in
+    below_none test nodes key passes (subst (λ k. IsInsertPlace nodes key k) first at)
+place_below test nodes key i (Some j) passes at some =
+    subst (λ k. IsLastPlace test nodes (Some k)) (sym some.1) (omega (arith, at.within), below_place test nodes key i passes at some.0)

@@ -16,7 +16,7 @@ use Rattle.page_image.specs.Page.{Node, no_node, node_at, IsBelow, HasRisingKeys
 use Rattle.page_space.specs.Frames.{Frames}
 use Rattle.btree_node.specs.Cut.{IsChildPlace}
 use Rattle.btree_inplace.specs.Order.{PassesAbove, has_key, is_above, is_from}
-use Rattle.btree_inplace.specs.Neighbors.{first_of, found_right}
+use Rattle.btree_inplace.specs.Neighbors.{IsFirstPlace, first_of, found_right}
 use Rattle.std.specs.Option.{option_or}
 use Rattle.std.proofs.lemmas.List.Folds.{find-append}
 use Rattle.btree_inplace.specs.Shape.{IsBetween, IsSubtree, child_of, entries, page_in}
@@ -328,3 +328,17 @@ above_last nodes key i rising last here = find-none (is_above key) nodes (λ k d
 pub or_end : {X : Type 0} (a : Option X) → option_or a None ≡ a
 or_end None = refl
 or_end (Some x) = refl
+
+-- the place behind the node with the key
+pub place_behind : (nodes : List Node) (key : List ℕ) (i : ℕ) → HasRisingKeys nodes → i < length nodes → (node_at nodes i).key ≡ key → IsFirstPlace (is_above key) nodes (i + 1)
+place_behind nodes key i rising h here = record {
+  found = λ more. above_found nodes key i rising more here;
+  none = λ past. above_last nodes key i rising (omega arith) here;
+}
+
+-- the place where the key would stand
+pub place_at : (test : Node → Bool) (nodes : List Node) (key : List ℕ) (i : ℕ) → PassesAbove test key → IsInsertPlace nodes key i → IsFirstPlace test nodes i
+place_at test nodes key i passes place = record {
+  found = λ h. above_place test nodes key i passes place h;
+  none = λ h. above_none test nodes key i passes place h;
+}

@@ -1,9 +1,9 @@
 //! The first and the last node of a tree, and the nodes beside a key.
 
 ghost use Rattle.std.specs.Prelude.{◌≡◌, ◌<◌, zero, suc, find, reverse, Bool};
-ghost use Rattle.std.specs.Option.{option_map, option_or};
+ghost use Rattle.std.specs.Option.{option_copied, option_map, option_or};
 ghost use Rattle.page_image.specs.Page.{Node};
-ghost use Rattle.btree_inplace.specs.Order.{PassesAbove, PassesBelow, after_in, at_or_after_in, at_or_before_in, before_in, first_in, is_above, is_from, is_under, is_upto, key_and_data, last_in};
+ghost use Rattle.btree_inplace.specs.Order.{PassesAbove, PassesBelow, after_in, at_or_after_in, at_or_before_in, before_in, first_in, get_in, has_key, is_above, is_from, is_under, is_upto, key_and_data, last_in};
 ghost use Rattle.btree_inplace.specs.Shape.{IsSubtree, entries, page_in};
 ghost use Rattle.btree_inplace.specs.Neighbors.{IsFirstPlace, IsLastPlace, IsNeighbor, first_of, found_left, found_right, last_of};
 
@@ -56,6 +56,49 @@ impl Tree {
         node_or_previous(space, leaf, place_under(leaf, key), next)
     }
 
+    /// The data of the node with a key, if there is one, and the first node whose key is above that key, as `get` and
+    /// `after` answer them. It goes down the tree once.
+    pub fn get_and_after<'a>(
+        &self,
+        space: &'a Space,
+        key: &[u8],
+    ) -> (Option<&'a [u8]>, Option<(&'a [u8], &'a [u8])>)
+        requires { IsTree space.now self.now }
+        ensures data { option_copied result.0 ≡ get_in (nodes_of space.now self.now) key.now }
+        ensures after { option_map (λ found. (found.0.now, found.1.now)) result.1 ≡ after_in (nodes_of space.now self.now) key.now }
+    {
+        let (page, next) = self.right_path(space, key);
+        let leaf = space.page(page);
+        let _ = leaf.len();
+        match leaf.find(key) {
+            Ok(i) => (Some(leaf.data(i)), node_or_next(space, leaf, i + 1, next)),
+            Err(i) => (None, node_or_next(space, leaf, i, next)),
+        }
+    }
+
+    /// The data of the node with a key, if there is one, and the last node whose key is below that key, as `get` and
+    /// `before` answer them. It goes down the tree once.
+    pub fn get_and_before<'a>(
+        &self,
+        space: &'a Space,
+        key: &[u8],
+    ) -> (Option<&'a [u8]>, Option<(&'a [u8], &'a [u8])>)
+        requires { IsTree space.now self.now }
+        ensures data { option_copied result.0 ≡ get_in (nodes_of space.now self.now) key.now }
+        ensures before { option_map (λ found. (found.0.now, found.1.now)) result.1 ≡ before_in (nodes_of space.now self.now) key.now }
+    {
+        let (page, next) = self.left_path(space, key);
+        let leaf = space.page(page);
+        let _ = leaf.len();
+        match leaf.find(key) {
+            Ok(i) => (
+                Some(leaf.data(i)),
+                node_or_previous(space, leaf, i.checked_sub(1), next),
+            ),
+            Err(i) => (None, node_or_previous(space, leaf, i.checked_sub(1), next)),
+        }
+    }
+
     /// The first node, if there is one: its key and data, parts of its page.
     pub fn first<'a>(&self, space: &'a Space) -> Option<(&'a [u8], &'a [u8])>
         requires { IsTree space.now self.now }
@@ -78,6 +121,7 @@ impl Tree {
         ensures leaf { IsSubtree zero space.now result.0 }
         ensures next { IsNeighbor space.now result.1 }
         ensures found { (test : Node → Bool) → PassesAbove test key.now → find test (nodes_of space.now self.now) ≡ option_or (find test (page_in space.now result.0).nodes) (first_of space.now result.1) }
+        ensures same { find (has_key key.now) (page_in space.now result.0).nodes ≡ find (has_key key.now) (nodes_of space.now self.now) }
     {
         let mut page = self.root;
         let mut next = None;
@@ -93,6 +137,7 @@ impl Tree {
         ensures leaf { IsSubtree zero space.now result.0 }
         ensures next { IsNeighbor space.now result.1 }
         ensures found { (test : Node → Bool) → PassesBelow test key.now → find test (reverse (nodes_of space.now self.now)) ≡ option_or (find test (reverse (page_in space.now result.0).nodes)) (last_of space.now result.1) }
+        ensures same { find (has_key key.now) (page_in space.now result.0).nodes ≡ find (has_key key.now) (nodes_of space.now self.now) }
     {
         let mut page = self.root;
         let mut next = None;
@@ -188,6 +233,7 @@ fn step_right(
     ensures tree { IsSubtree depth space.now result.0 }
     ensures next { IsNeighbor space.now result.1 }
     ensures found { (test : Node → Bool) → PassesAbove test key.now → found_right space.now depth result.0 result.1 test ≡ found_right space.now (suc depth) page next test }
+    ensures same { find (has_key key.now) (entries depth space.now result.0) ≡ find (has_key key.now) (entries (suc depth) space.now page) }
 {
     let inner = space.page(page);
     let count = inner.len();
@@ -238,6 +284,7 @@ fn step_left(
     ensures tree { IsSubtree depth space.now result.0 }
     ensures next { IsNeighbor space.now result.1 }
     ensures found { (test : Node → Bool) → PassesBelow test key.now → found_left space.now depth result.0 result.1 test ≡ found_left space.now (suc depth) page next test }
+    ensures same { find (has_key key.now) (entries depth space.now result.0) ≡ find (has_key key.now) (entries (suc depth) space.now page) }
 {
     let inner = space.page(page);
     let i = child(inner, key);

@@ -74,7 +74,7 @@ module _ (key bookmark : List ℕ) where
       ∙ by_test (is_lt (order (x.0 ++ x.1) key)) (λ t. absurd (true≢false (sym (front_lower x.0 x.1 key t) ∙ ap is_lt h))) (λ t. t)
       ∙ sym (pair_lower x (key, bookmark) ∙ ap (λ r. is_lt (ordering_then r (order x.1 bookmark))) h)
 
-  cut_beside : (x : Pair) → IsApart key x.0 → is_lt (order (x.0 ++ x.1) (key ++ bookmark)) ≡ pair_lt x (key, bookmark)
+  pub cut_beside : (x : Pair) → IsApart key x.0 → is_lt (order (x.0 ++ x.1) (key ++ bookmark)) ≡ pair_lt x (key, bookmark)
   cut_beside x h = ap is_lt (order_of_pairs x.0 key x.1 bookmark (apart_turned key x.0 h)) ∙ sym (pair_lower x (key, bookmark))
 
   then_lower : (r q : Ordering) → is_le r ≡ is_lt (ordering_then (ordering_then r Less) q)

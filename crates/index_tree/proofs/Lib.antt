@@ -4,3 +4,4 @@ pub mod Lists
 pub mod Cutting
 pub mod NodeEntries
 pub mod Changing
+pub mod Beside

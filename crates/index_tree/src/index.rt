@@ -6,6 +6,7 @@ ghost use Rattle.std.specs.Option.{option_map};
 ghost use Rattle.page_space.specs.Frames.{Frames};
 ghost use Rattle.btree_inplace.specs.Trees.{AreApart, Exchanges};
 ghost use Rattle.index_derive.specs.Entries.{insert_entry};
+ghost use Rattle.index_derive.specs.declared.entries.Place.TheVariants.{On};
 ghost use Rattle.cursor_nav.specs.Places.{entry_after, entry_before, pair_lt};
 ghost use Rattle.derived_index.specs.KeptEntries.{has_entry, has_key, without_entry};
 ghost use Rattle.index_tree.specs.Entries.{CutsAt, IsApartFromAll};
@@ -127,9 +128,7 @@ impl IndexTree {
         match place {
             Place::Before => parts(self.tree.first(space)),
             Place::After => None,
-            Place::On(key, bookmark) => {
-                self.from(space, key.as_bytes(), bookmark.as_bytes(), &[0])
-            }
+            Place::On(key, bookmark) => self.behind(space, key.as_bytes(), bookmark.as_bytes()),
             Place::Gap(key, above) => self.from(space, key.as_bytes(), gap_bookmark(*above), &[]),
         }
     }
@@ -142,8 +141,51 @@ impl IndexTree {
         match place {
             Place::Before => None,
             Place::After => parts(self.tree.last(space)),
-            Place::On(key, bookmark) => self.below(space, key.as_bytes(), bookmark.as_bytes()),
+            Place::On(key, bookmark) => self.in_front(space, key.as_bytes(), bookmark.as_bytes()),
             Place::Gap(key, above) => self.below(space, key.as_bytes(), gap_bookmark(*above)),
+        }
+    }
+
+    /// The least entry above a key with a bookmark. Where these are an entry, it is that of the node behind its own, which one
+    /// way down the tree finds: the key of no other entry begins it, so that the nodes have the order of the entries.
+    fn behind<'a>(
+        &self,
+        space: &'a Space,
+        key: &[u8],
+        bookmark: &[u8],
+    ) -> Option<(&'a [u8], &'a [u8])>
+        requires index { IsIndexTree space.now self.now }
+        requires key { length key.now ≤ 255 }
+        requires bookmark { length bookmark.now ≤ 255 }
+        ensures { option_map (λ found. (found.0.now, found.1.now)) result ≡ entry_after (On key.now bookmark.now) (entries_of space.now self.now) }
+    {
+        let mut node_key = NodeKey::new();
+        join(&mut node_key, key, bookmark, &[]);
+        let (size, next) = self.tree.get_and_after(space, node_key.as_slice());
+        match size {
+            Some(size) if usize::from(LittleEndian::read_u16(size)) == key.len() => parts(next),
+            _ => self.from(space, key, bookmark, &[0]),
+        }
+    }
+
+    /// The greatest entry below a key with a bookmark, as `behind` finds the least above them.
+    fn in_front<'a>(
+        &self,
+        space: &'a Space,
+        key: &[u8],
+        bookmark: &[u8],
+    ) -> Option<(&'a [u8], &'a [u8])>
+        requires index { IsIndexTree space.now self.now }
+        requires key { length key.now ≤ 255 }
+        requires bookmark { length bookmark.now ≤ 255 }
+        ensures { option_map (λ found. (found.0.now, found.1.now)) result ≡ entry_before (On key.now bookmark.now) (entries_of space.now self.now) }
+    {
+        let mut node_key = NodeKey::new();
+        join(&mut node_key, key, bookmark, &[]);
+        let (size, previous) = self.tree.get_and_before(space, node_key.as_slice());
+        match size {
+            Some(size) if usize::from(LittleEndian::read_u16(size)) == key.len() => parts(previous),
+            _ => self.below(space, key, bookmark),
         }
     }
 

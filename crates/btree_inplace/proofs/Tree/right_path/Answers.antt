@@ -1,7 +1,9 @@
 -- The leaf has the node, or the neighbor begins with it.
 use Rattle.std.proofs.Common.{◌≡◌, ◌+◌, ◌-◌, ℕ, suc, sym, ap, subst, ◌∙◌, arith}
+use Rattle.std.specs.Prelude.{find}
+use Rattle.btree_inplace.specs.Order.{has_key}
 use Rattle.btree_inplace.specs.Neighbors.{found_right}
-use Rattle.btree_inplace.specs.Shape.{IsSubtree}
+use Rattle.btree_inplace.specs.Shape.{IsSubtree, entries}
 use Rattle.btree_inplace.proofs.Tree.right_path.Goals as goal
 
 pub step_right-requires-clause-tree : goal.step_right-requires-clause-tree
@@ -19,4 +21,7 @@ loop-level-preserved c =
       found = λ test passes.
           ap (λ n. found_right c.args.space.now n c.step_right.result.0 c.step_right.result.1 test) below ∙ c.step_right.ensures.found test passes
           ∙ ap (λ n. found_right c.args.space.now n c.loop-level.page c.loop-level.next test) (sym here) ∙ c.loop-level.invariant.found test passes;
+      same =
+          ap (λ n. find (has_key c.args.key.now) (entries n c.args.space.now c.step_right.result.0)) below ∙ c.step_right.ensures.same
+          ∙ ap (λ n. find (has_key c.args.key.now) (entries n c.args.space.now c.loop-level.page)) (sym here) ∙ c.loop-level.invariant.same;
     }

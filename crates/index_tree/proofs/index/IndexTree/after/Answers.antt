@@ -1,12 +1,13 @@
 -- What each kind of place asks of the tree.
-use Rattle.std.proofs.Common.{true, not, ◌++◌, ◌∷◌, [], find, sym, ap, ◌∙◌}
+use Rattle.std.proofs.Common.{true, not, find, sym, ap, ◌∙◌}
 use Rattle.std.proofs.lemmas.List.{append-nil}
 use Rattle.btree_inplace.specs.Trees.{nodes_of}
 use Rattle.index_derive.specs.declared.entries.Place.{Place}
+use Rattle.index_derive.specs.declared.entries.Place.TheVariants.{On}
 use Rattle.cursor_nav.specs.Places.{entry_after, pair_lt}
 use Rattle.index_tree.specs.Entries.{IsShort}
 use Rattle.index_tree.specs.IndexTrees.{entries_of}
-use Rattle.index_tree.proofs.Cutting.{after_gap, after_pair}
+use Rattle.index_tree.proofs.Cutting.{after_gap}
 use Rattle.index_tree.proofs.Lists.{find_all, find_nothing}
 use Rattle.index_tree.proofs.NodeEntries.{node_from}
 use Rattle.index_tree.proofs.index.IndexTree.after.Goals as goal
@@ -34,15 +35,14 @@ returns-in-After c =
 pub returns-in-On : goal.returns-in-On
 returns-in-On c =
     let es = entries_of c.args.space.now c.args.self.now in
-    c.from.ensures
-    ∙ (λ i. find (λ entry. not (pair_lt entry (c.as_bytes.ensures.value i, c.as_bytes-in-On.ensures.value i ++ 0 ∷ []))) es)
-    ∙ after_pair c.in-On.key c.in-On.bookmark es
+    c.behind.ensures
+    ∙ (λ i. entry_after (On (c.as_bytes.ensures.value i) (c.as_bytes-in-On.ensures.value i)) es)
     ∙ ap (λ (p : Place). entry_after p es) (sym c.in-On.is)
 
 pub returns-in-Gap : goal.returns-in-Gap
 returns-in-Gap c =
     let es = entries_of c.args.space.now c.args.self.now in
-    c.from-in-Gap.ensures
+    c.from.ensures
     ∙ (λ i. find (λ entry. not (pair_lt entry (c.as_bytes-in-Gap.ensures.value i, (append-nil c.gap_bookmark.result.now ∙ c.gap_bookmark.ensures.bytes) i))) es)
     ∙ after_gap c.in-Gap.key c.in-Gap.above es c.requires.short
     ∙ ap (λ (p : Place). entry_after p es) (sym c.in-Gap.is)

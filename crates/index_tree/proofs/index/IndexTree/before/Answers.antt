@@ -3,6 +3,7 @@ use Rattle.std.proofs.Common.{true, None, filter, sym, ap, ◌∙◌}
 use Rattle.std.specs.List.{last_or}
 use Rattle.btree_inplace.specs.Trees.{nodes_of}
 use Rattle.index_derive.specs.declared.entries.Place.{Place}
+use Rattle.index_derive.specs.declared.entries.Place.TheVariants.{On}
 use Rattle.cursor_nav.specs.Places.{entry_before, pair_lt}
 use Rattle.index_tree.specs.Entries.{IsShort}
 use Rattle.index_tree.specs.IndexTrees.{entries_of}
@@ -31,10 +32,17 @@ returns-in-Before c =
     let es = entries_of c.args.space.now c.args.self.now in
     last_nothing es ∙ ap (λ (p : Place). entry_before p es) (sym c.in-Before.is)
 
+pub returns-in-On : goal.returns-in-On
+returns-in-On c =
+    let es = entries_of c.args.space.now c.args.self.now in
+    c.in_front.ensures
+    ∙ (λ i. entry_before (On (c.as_bytes.ensures.value i) (c.as_bytes-in-On.ensures.value i)) es)
+    ∙ ap (λ (p : Place). entry_before p es) (sym c.in-On.is)
+
 pub returns-in-Gap : goal.returns-in-Gap
 returns-in-Gap c =
     let es = entries_of c.args.space.now c.args.self.now in
-    c.below-in-Gap.ensures
+    c.below.ensures
     ∙ (λ i. last_or None (filter (λ entry. pair_lt entry (c.as_bytes-in-Gap.ensures.value i, c.gap_bookmark.ensures.bytes i)) es))
     ∙ before_gap c.in-Gap.key c.in-Gap.above es c.requires.short
     ∙ ap (λ (p : Place). entry_before p es) (sym c.in-Gap.is)
