@@ -11,9 +11,10 @@ use Rattle.std.proofs.lemmas.Slice.Eq.{bytes_eq-Decides}
 use Rattle.column_set.specs.RecordValues.{RecordFields, lookup_by_key}
 use Rattle.column_set.specs.Rows.{RowFields}
 use Rattle.long_value.specs.Values.{AreLong, LongValue, Values, order, put_value, released, value_of, with_reference, without_reference, without_value}
-use Rattle.long_references.specs.RowReferences.{identifiers, references}
-use Rattle.long_references.specs.ReferenceCounts.{AreRows, HasCounts, NewestRows, RowBefore, as_undone, count_of, identifiers_before, references_before, with_all_released, with_row, with_taken}
+use Rattle.long_references.specs.RowReferences.{identifiers, references, removed_identifiers}
+use Rattle.long_references.specs.ReferenceCounts.{AreRows, HasCounts, NamesNoOther, NewestRows, RowBefore, as_undone, count_of, identifiers_before, references_before, with_all_released, with_row, with_taken}
 use Rattle.long_references.proofs.Taken.{ValueLaws, cleaned_counts, some_counted, undone_counts}
+use Rattle.long_references.proofs.Removed.{rewritten_counts}
 use Rattle.long_references.proofs.Totals.{by_test, equal_bytes, holds, row_references}
 use Rattle.long_rows.specs.WholeRows.{StandsFor}
 use Rattle.long_rows.specs.RowsInUse.{IsInUse, newest, before}
@@ -124,6 +125,12 @@ stands_undone laws values rows earlier later change row fields sorted stands has
 pub stands_cleaned : ValueLaws → (values : Values) (rows : NewestRows) (oldest : RowBefore) (held : List RowBefore) (row : RowFields) (fields : RecordFields) → HasCounts values rows (oldest ∷ held) → IsInUse rows held row → StandsFor values row fields
     → StandsFor (with_all_released (identifiers_before oldest) values) row fields
 stands_cleaned laws values rows oldest held row fields has used = stands_less laws (identifiers_before oldest) values rows held row fields (cleaned_counts laws values rows oldest held has) used
+
+pub stands_rewritten : ValueLaws → (values : Values) (bookmark : List ℕ) (is : Option RowFields) (rows : NewestRows) (held : List RowBefore) (row : RowFields) (fields : RecordFields) → AreRows rows → NamesNoOther is (lookup_by_key bookmark rows)
+    → HasCounts values rows held → IsInUse (with_row bookmark is rows) held row → StandsFor values row fields
+    → StandsFor (with_all_released (removed_identifiers (lookup_by_key bookmark rows) is) values) row fields
+stands_rewritten laws values bookmark is rows held row fields sorted less has used =
+    stands_less laws (removed_identifiers (lookup_by_key bookmark rows) is) values (with_row bookmark is rows) held row fields (rewritten_counts laws values bookmark is rows held sorted less has) used
 
 -- ---- a value that was taken is given back
 

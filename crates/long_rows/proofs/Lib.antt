@@ -8,3 +8,4 @@ pub mod Reading
 pub mod Formed
 pub mod Stored
 pub mod InUse
+pub mod WithoutColumn
