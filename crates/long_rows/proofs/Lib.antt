@@ -9,3 +9,5 @@ pub mod Formed
 pub mod Stored
 pub mod InUse
 pub mod WithoutColumn
+pub mod GivenBack
+pub mod Behind

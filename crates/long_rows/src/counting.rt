@@ -1,6 +1,6 @@
 //! Rows in use, and the counts of their values.
 
-ghost use Rattle.std.specs.Prelude.{◌≡◌, ◌<◌, ℕ, false, List, ◌∷◌, ◌++◌, Option, Some};
+ghost use Rattle.std.specs.Prelude.{◌≡◌, ◌<◌, ℕ, false, List, ◌∷◌, ◌++◌, map, Option, Some};
 ghost use Rattle.column_set.specs.RecordValues.{RecordFields, lookup_by_key};
 ghost use Rattle.column_set.specs.Rows.{RowFields};
 ghost use Rattle.long_value.specs.Values.{AreLong, Values, without_reference};
@@ -40,8 +40,10 @@ pub fn counts_after_a_put()
 }
 
 /// The values are what they were once a reference that was taken is given up again, be it to a new value or to one that was there.
+/// So they are once a row gives up all that it took.
 pub fn values_that_are_given_back()
-    ensures { (values : Values) (id bytes : List ℕ) → AreLong values → without_reference id (with_taken values (id, bytes)) ≡ values }
+    ensures one { (values : Values) (id bytes : List ℕ) → AreLong values → without_reference id (with_taken values (id, bytes)) ≡ values }
+    ensures all { (values : Values) (given : List (List ℕ × List ℕ)) (row : Option RowFields) → AreLong values → map (λ one. one.0) given ≡ identifiers row → with_all_released (identifiers row) (with_all_taken given values) ≡ values }
 {
     references_after_a_change();
     values_after_a_change();
