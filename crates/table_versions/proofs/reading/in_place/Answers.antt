@@ -1,4 +1,4 @@
-use Rattle.std.proofs.Common.{◌≡◌, Some, refl, sym, ap, ◌∙◌}
+use Rattle.std.proofs.Common.{Some, refl, sym, ap, ◌∙◌}
 use Rattle.column_set.specs.RecordValues.{RecordFields}
 use Rattle.column_set.specs.RowReading.{row_in}
 use Rattle.long_rows.specs.WholeRows.{is_whole}
