@@ -1,5 +1,5 @@
 -- What decides RetrieveColumn.
-use Rattle.std.proofs.Common.{◌≡◌, ℕ, ◌≤◌, Bool, true, false, cond, List, [], ◌∷◌, length, map, Ok, Err, Option, Some, None, unwrap_or, slice_get, refl, sym, ap, subst, ◌∙◌}
+use Rattle.std.proofs.Common.{◌≡◌, ℕ, Bool, true, false, cond, List, [], ◌∷◌, length, map, Ok, Err, Option, Some, None, unwrap_or, slice_get, refl, sym, ap, subst, ◌∙◌}
 use Rattle.std.specs.Prelude.{ℤ, ◌==◌, ◌-◌, ◌||◌, bytes_eq, option_map, IsTrue, is_none, not}
 use Rattle.std.specs.List.{list_all}
 use Rattle.jet_base.specs.declared.ids.CursorId.{CursorId}
@@ -11,7 +11,7 @@ use Rattle.jet_base.specs.declared.words.ColType.TheVariants.{Long}
 use Rattle.jet_base.specs.ColumnType.{is_number_type}
 use Rattle.database_state.specs.SchemaChanges.{is_type_long}
 use Rattle.column_set.specs.declared.columns.Column.{Column}
-use Rattle.column_set.specs.RecordValues.{RecordFields, column_named, record_fits, record_size, values_of}
+use Rattle.column_set.specs.RecordValues.{RecordFields, column_named, values_of}
 use Rattle.cursor_nav.specs.Places.{is_on, place_bookmark}
 use Rattle.database_state.specs.Refusals.{first_refusal}
 use Rattle.database_state.specs.Table.{row_at}

@@ -1,6 +1,6 @@
 -- A record whose values are copied column by column.
-use Rattle.std.proofs.Common.{◌≡◌, ℕ, zero, suc, ◌+◌, ◌<◌, ◌≤◌, Bool, true, false, cond, not, ◌||◌, List, [], ◌∷◌, ◌++◌, length, map, take, drop, min, get_or, Option, Some, None, unwrap_or, inl, inr, refl, sym, ap, ◌∙◌, append_assoc, arith}
-use Rattle.std.specs.Prelude.{◌==◌, ltb, is_some, MatchOption}
+use Rattle.std.proofs.Common.{◌≡◌, ℕ, zero, suc, ◌+◌, ◌<◌, ◌≤◌, Bool, true, false, cond, not, ◌||◌, List, [], ◌∷◌, ◌++◌, length, map, take, get_or, Option, Some, None, unwrap_or, refl, sym, ap, ◌∙◌, append_assoc, arith}
+use Rattle.std.specs.Prelude.{◌==◌, ltb, is_some}
 use Rattle.std.specs.List.{list_all, list_any}
 use Rattle.std.specs.Ordering.{nat_cmp, eq_by_cmp}
 use Rattle.std.specs.Cmp.{nat_cmp_total, unsigned_tied}
@@ -8,13 +8,11 @@ use Rattle.std.specs.Bool.{passes}
 use Rattle.std.specs.FinMap.{nat_cmp-IsAntisymmetric}
 use Rattle.std.specs.FinMap.Entries.{find-put, same_entries}
 use Rattle.std.proofs.lemmas.Bool.Decides.{nat_tests}
-use Rattle.std.proofs.lemmas.List.{append-nil, drop_all, take_all, take_more}
+use Rattle.std.proofs.lemmas.List.{take_all, take_more}
 use Rattle.std.proofs.lemmas.List.Folds.{list_any_more}
 use Rattle.column_set.specs.declared.columns.Column.{Column}
-use Rattle.column_set.specs.Reading.{IsFront}
 use Rattle.column_set.specs.Record.{is_record}
 use Rattle.column_set.specs.RecordValues.{RecordFields, column_of_id, lookup_by_number, put_by_number, values_of, with_values}
-use Rattle.long_value.specs.Stores.{read_upto}
 use Rattle.record_changes.proofs.Tests.{and_left, and_right, impossible, not_true, same_number, self_equal}
 use Rattle.session_local.specs.SessionSide.{are_distinct}
 use Rattle.session_local.specs.WellFormed.{number_of_column}
@@ -37,35 +35,6 @@ values_of-pushed fields column number values value =
     ∙ ap (λ (o : Option (List (List ℕ))). unwrap_or o []) (find-put nat_cmp nat_cmp_total number column (values ++ value ∷ []) fields)
     ∙ unwrapped (eq_by_cmp nat_cmp number column) (values ++ value ∷ []) (lookup_by_number number fields)
     ∙ ap (λ b. cond b (values ++ value ∷ []) (values_of fields number)) (unsigned_tied number column)
-
--- a front of fewer than 1,024 bytes is the value
-pub whole : (bytes value : List ℕ) → length bytes < 1024 → IsFront bytes value → bytes ≡ value
-whole bytes value few (inl same) = same
-whole bytes value few (inr front) = absurd (omega (arith, front.0, few))
-
--- a value is read whole into as many bytes as it has
-pub read_whole : (values : List (List ℕ)) (at : ℕ) (result : Option (ℕ × ℕ)) (old new : List ℕ) → at < length values → length old ≡ length (get_or values at [])
-    → MatchOption result (length values ≤ at) (λ read. (at < length values) × (read.1 ≡ length (get_or values at [])) × (read.0 ≡ min (length old) read.1))
-    → MatchOption result (new ≡ old) (λ read. new ≡ read_upto read.0 (get_or values at []) old) → new ≡ get_or values at []
-read_whole values at None old new low same count bytes = absurd (omega (arith, low, count))
-read_whole values at (Some read) old new low same count bytes =
-    bytes
-    ∙ ap (λ (n : ℕ). read_upto n value old) all
-    ∙ ap (λ (l : List ℕ). l ++ drop (length value) old) (take_all (length value) value own)
-    ∙ ap (λ (l : List ℕ). value ++ l) (drop_all (length value) old past)
-    ∙ append-nil value
-  where
-    value : List ℕ
-    value = get_or values at []
-
-    all : read.0 ≡ length (get_or values at [])
-    all = omega (arith, count.2, count.1, same)
-
-    own : length (get_or values at []) ≤ length (get_or values at [])
-    own = omega arith
-
-    past : length old ≤ length (get_or values at [])
-    past = omega (arith, same)
 
 -- The first values of the column stand behind those that it had, and one more after the next was put there.
 pub one-more : (first made new fields : RecordFields) (column at : ℕ) (value : List ℕ) → at < length (values_of fields column) → value ≡ get_or (values_of fields column) at []

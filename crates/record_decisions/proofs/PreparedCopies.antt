@@ -1,6 +1,6 @@
 -- What decides PrepareUpdate `replace` and `insertcopy`.
-use Rattle.std.proofs.Common.{◌≡◌, ℕ, Bool, true, false, cond, ◌||◌, List, [], ◌∷◌, ◌++◌, length, map, Option, Some, None, unwrap_or, refl, sym, ap, subst, ◌∙◌}
-use Rattle.std.specs.Prelude.{ℤ, neg_ℤ, ◌==◌, nat_le, option_map, is_none, is_some, IfSome, IsTrue}
+use Rattle.std.proofs.Common.{◌≡◌, ℕ, Bool, true, false, cond, List, [], ◌∷◌, ◌++◌, map, Option, Some, None, unwrap_or, refl, sym, ap, subst, ◌∙◌}
+use Rattle.std.specs.Prelude.{ℤ, neg_ℤ, ◌==◌, option_map, is_none, is_some, IfSome, IsTrue}
 use Rattle.std.specs.List.{list_all}
 use Rattle.jet_base.specs.declared.ids.CursorId.{CursorId}
 use Rattle.jet_base.specs.declared.replies.Jet.{Jet}
@@ -9,7 +9,7 @@ use Rattle.jet_base.specs.declared.words.Prepare.{Prepare}
 use Rattle.jet_base.specs.declared.words.Prepare.TheVariants as prepare
 use Rattle.column_set.specs.declared.columns.Column.{Column}
 use Rattle.column_set.specs.Record.{is_record}
-use Rattle.column_set.specs.RecordValues.{RecordFields, column_of_id, record_fits, value_fits, values_fit}
+use Rattle.column_set.specs.RecordValues.{RecordFields, column_of_id, record_fits, values_fit}
 use Rattle.index_derive.specs.declared.log.Step.{Step}
 use Rattle.common_lemmas.proofs.Found.{all_found}
 use Rattle.database_state.specs.Refusals.{Refusals, first_refusal}
