@@ -22,6 +22,7 @@ use Rattle.database_state.specs.View.{newest, view}
 use Rattle.database_state.specs.Lawful.{has_free_keys, is_bookmark_of, is_copied_in, is_indexable, is_lawful_at, is_lawful_change, is_lawful_put, keeps_escrow}
 use Rattle.record_changes.specs.Records.{records_of}
 use Rattle.record_changes.proofs.Tests.{and_left, and_right, impossible, not_true, same_bytes, same_number}
+use Rattle.long_rows.specs.KeptRows.{are_values}
 use Rattle.session_local.specs.WellFormed.{stands_in}
 use Rattle.version_history.proofs.Lists.{all_weaker}
 use Rattle.version_history.proofs.Unhindered.{finds_newest}
@@ -45,7 +46,7 @@ use Rattle.engine_steps.specs.Changing.{CanChange, IsFormed}
 use Rattle.engine_steps.specs.Steps.{MayCome, entry_by}
 use Rattle.engine_steps.proofs.Fitting.{lawful_by_kind}
 use Rattle.engine_steps.proofs.PrimaryKeys.{IsLegalKey, key_short, key_some, legal_key}
-use Rattle.engine_steps.proofs.RowValues.{AreColumns, each_field}
+use Rattle.engine_steps.proofs.RowValues.{AreColumns, each_kept, each_short}
 
 -- a law of rows: each value of such a record may stand in its row
 abbrev pub StandInRows : Type 0
@@ -70,8 +71,7 @@ columns_of engine state h id table found =
     let given = list_all (is_given_number table.greatest) table.columns in
     let both : (are_in_range table.greatest && given) ≡ true = and_left (are_in_range table.greatest && given) _ own in
     record {
-      range = and_left (are_in_range table.greatest) given both;
-      given = and_right (are_in_range table.greatest) given both;
+      numbered = record { range = and_left (are_in_range table.greatest) given both; given = and_right (are_in_range table.greatest) given both };
       built = and_left (list_all is_built_column table.columns) (list_all is_built_rule table.indexes) built;
     }
 
@@ -128,27 +128,35 @@ seen_eight engine state h session id table found bookmark none there = by (recor
 
 -- ---- a put
 
--- the same as is asked of a put, of the schema of its table
-pub record IsStorableIn (schema : Schema) (bookmark : List ℕ) (values : RecordFields) : Type 0 where
+-- what is asked of a put whose values may be long, of the schema of its table: the record fits its columns, no index refuses it, and
+-- its row has room in a page
+pub record IsKeptIn (schema : Schema) (bookmark : List ℕ) (values : RecordFields) : Type 0 where
   pub columns : record_fits schema.columns values ≡ true
   pub numbers : HoldsNumbers schema values
   pub indexable : is_indexable schema values ≡ true
   pub own : IsOwn (primary_rule schema) schema bookmark values
+  pub formed : IsTrue (is_record values)
+  pub numbered : IsTrue (list_all (λ field. nat_lt field.0 (2 ^ 16)) values)
+  pub lengths : IsTrue (list_all (λ field. are_values field.1) values)
+  pub small : record_size values ≤ largest_row
+
+-- the same where all its values stand in the row
+pub record IsStorableIn (schema : Schema) (bookmark : List ℕ) (values : RecordFields) : Type 0 where
+  pub kept : IsKeptIn schema bookmark values
   pub here : IsTrue (is_all_here values)
   pub formed : IsTrue (is_row (all_here values))
-  pub small : record_size values ≤ largest_row
 
 storable_of : (table : Table) (bookmark : List ℕ) (values : RecordFields) → IsStorableIn (schema_of table) bookmark values → IsStorable table bookmark values
 storable_of table bookmark values s = record {
-  columns = s.columns;
-  numbers = s.numbers;
-  indexable = s.indexable;
-  own = s.own.own;
-  some = s.own.some;
-  short = s.own.short;
+  columns = s.kept.columns;
+  numbers = s.kept.numbers;
+  indexable = s.kept.indexable;
+  own = s.kept.own.own;
+  some = s.kept.own.some;
+  short = s.kept.own.short;
   here = s.here;
   formed = s.formed;
-  small = s.small;
+  small = s.kept.small;
 }
 
 -- it holds numbers in the escrow columns, as the record in whose place it comes does
@@ -164,10 +172,11 @@ put_holds engine state h session id table bookmark copied values found is lawful
 at_most : (n m : ℕ) → nat_le n m ≡ true → n ≤ m
 at_most n m h = grind (arith, nat_tests)
 
-put_storable : StandInRows → (engine : EngineState) (state : DatabaseState) → HoldsState engine state → (session id : ℕ) (table : Table) (bookmark : List ℕ) (copied : Option (List ℕ)) (values : RecordFields)
+-- a lawful put is one of a record that can be kept
+put_kept : (engine : EngineState) (state : DatabaseState) → HoldsState engine state → (session id : ℕ) (table : Table) (bookmark : List ℕ) (copied : Option (List ℕ)) (values : RecordFields)
     → table_with_id state.tables id ≡ Some table → IsTrue (is_record values)
-    → is_lawful_put state session table (rows_of (table_with_id (view state session) table.id)) bookmark copied values ≡ true → IsStorableIn (schema_of table) bookmark values
-put_storable row engine state h session id table bookmark copied values found is lawful =
+    → is_lawful_put state session table (rows_of (table_with_id (view state session) table.id)) bookmark copied values ≡ true → IsKeptIn (schema_of table) bookmark values
+put_kept engine state h session id table bookmark copied values found is lawful =
     let rows : Rows = rows_of (table_with_id (view state session) table.id) in
     let same : table.id ≡ id = same_number table.id id (found_passes (λ (t : Table). t.id == id) state.tables table found) in
     let free = has_free_keys state session table.id (schema_of table) rows bookmark values in
@@ -182,7 +191,7 @@ put_storable row engine state h session id table bookmark copied values found is
     let with_small : (fits && whole && small) ≡ true = and_left (fits && whole && small) indexed with_index in
     let fit : fits ≡ true = and_left fits whole (and_left (fits && whole) small with_small) in
     let few : record_size values ≤ 1700 = at_most (record_size values) 1700 (and_right (fits && whole) small with_small) in
-    let each = each_field table.greatest table.columns values (columns_of engine state h id table found) (and_left (list_all (stands_in table.columns) values) (list_all (λ column. not (is_kept_column column) || has_value values column.id.0) table.columns) fit) in
+    let each = each_kept table.greatest table.columns values (columns_of engine state h id table found).numbered (and_left (list_all (stands_in table.columns) values) (list_all (λ column. not (is_kept_column column) || has_value values column.id.0) table.columns) fit) in
     record {
       columns = fit;
       numbers = put_holds engine state h session id table bookmark copied values (ap (table_with_id state.tables) same ∙ found) is lawful;
@@ -191,10 +200,20 @@ put_storable row engine state h session id table bookmark copied values found is
           bookmark_own (state.number + 1) (schema_of table) rows bookmark values (primary_rule (schema_of table)) (legal_primary engine state h id table found)
           (λ none there. seen_eight engine state h session id table found bookmark none (ap (λ (n : ℕ). is_some (record_in (view state session) n bookmark)) (sym same) ∙ there))
           (and_right (fits && whole && small && indexed && free) own with_own);
-      here = each.0;
-      formed = row values is each.0 each.1 few;
+      formed = is;
+      numbered = each.1;
+      lengths = each.0;
       small = few;
     }
+
+put_storable : StandInRows → (engine : EngineState) (state : DatabaseState) → HoldsState engine state → (session id : ℕ) (table : Table) (bookmark : List ℕ) (copied : Option (List ℕ)) (values : RecordFields)
+    → table_with_id state.tables id ≡ Some table → IsTrue (is_record values)
+    → is_lawful_put state session table (rows_of (table_with_id (view state session) table.id)) bookmark copied values ≡ true → IsStorableIn (schema_of table) bookmark values
+put_storable row engine state h session id table bookmark copied values found is lawful =
+    let kept = put_kept engine state h session id table bookmark copied values found is lawful in
+    let here : is_all_here values ≡ true =
+    each_short table.columns values (columns_of engine state h id table found).built (and_left (list_all (stands_in table.columns) values) (list_all (λ column. not (is_kept_column column) || has_value values column.id.0) table.columns) kept.columns) in
+    record { kept = kept; here = here; formed = row values is here kept.numbered kept.small }
 
 -- ---- the engine's table
 
