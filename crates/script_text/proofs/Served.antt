@@ -1,6 +1,6 @@
 -- The calls of a script of the grammar are those that the engine answers, but where one makes a column of a long type.
-use Rattle.std.proofs.Common.{◌≡◌, ℕ, Bool, true, false, Option, Some, None, Ok, Err, List, [], ◌∷◌, refl, sym, ap, ◌∙◌}
-use Rattle.std.specs.Prelude.{if◌then◌else◌, ◌&&◌, IfSome}
+use Rattle.std.proofs.Common.{◌≡◌, ℕ, Bool, true, false, Option, Some, None, Ok, Err, List, [], ◌∷◌, refl, ap, ◌∙◌}
+use Rattle.std.specs.Prelude.{if◌then◌else◌, IfSome}
 use Rattle.std.proofs.lemmas.Bool.{and_from}
 use Rattle.session_local.specs.declared.request.Request.{Request}
 use Rattle.built_calls.specs.BuiltCalls.{is_built_request}
@@ -44,5 +44,3 @@ requests_of-served ((number, line) ∷ lines) calls h none =
 
 pub script_lines-served : (bytes : List ℕ) (calls : List (ℕ × Request)) → script_lines bytes ≡ Ok calls → long_column_line bytes ≡ None → are_built calls ≡ true
 script_lines-served bytes calls h none = requests_of-served (said_lines bytes) calls h none
-
-pub ruleset served = script_lines-served

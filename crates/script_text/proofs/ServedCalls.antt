@@ -1,5 +1,5 @@
 -- A call of the grammar is one that the engine answers, but where it makes a column of a long type.
-use Rattle.std.proofs.Common.{◌≡◌, ℕ, suc, ◌+◌, ◌-◌, Bool, true, false, not, ◌&&◌, ◌||◌, cond, List, [], ◌∷◌, length, Option, Some, None, refl, arith}
+use Rattle.std.proofs.Common.{◌≡◌, ℕ, zero, suc, ◌+◌, ◌-◌, Bool, true, false, not, ◌&&◌, ◌||◌, cond, List, [], ◌∷◌, length, Option, Some, None, refl, arith}
 use Rattle.std.specs.Prelude.{◌^◌, ◌==◌, drop, codes, nat_le, unwrap_or, if◌then◌else◌, IfSome, bytes_eq, ℤ, pos, neg_ℤ}
 use Rattle.std.specs.Char.{is_ascii_alphabetic}
 use Rattle.std.specs.List.{AllByRecursion, list_all}
@@ -12,7 +12,7 @@ use Rattle.jet_base.specs.TypeKinds.{is_long_type}
 use Rattle.database_state.specs.Lawful.{is_name as is_short_name}
 use Rattle.session_local.specs.declared.request.Request.{Request}
 use Rattle.session_local.specs.declared.request.Request.TheVariants as call
-use Rattle.built_calls.specs.BuiltCalls.{is_amount, is_built_call, is_built_request, makes_named}
+use Rattle.built_calls.specs.BuiltCalls.{is_amount, is_built_request}
 use Rattle.script_text.specs.Built.{makes_long_column}
 use Rattle.script_words.specs.Words.{◌>>=◌, after_prefix, are_distinct, begins_with_word, choice_of, first_word, has_word, hex_bytes_of, is_empty_list, is_name, is_name_byte, label_of, name_of, number_of, number_within, only_word, optional_word, signed_number_of, three_words, two_words, where_within, words_of}
 use Rattle.script_words.specs.Values.{given_of}
@@ -98,7 +98,7 @@ amount_below : (n : ℕ) → (nat_le 0 n && nat_le n (2 ^ 31 - 1)) ≡ true → 
 amount_below n e = (and_parts (nat_le 0 n) (nat_le n (2 ^ 31 - 1)) e).1
 
 amount_above : (n : ℕ) → (nat_le 0 n && nat_le n (2 ^ 31)) ≡ true → is_amount (neg_ℤ (pos n)) ≡ true
-amount_above 0 e = refl
+amount_above zero e = refl
 amount_above (suc n) e = less n (suc n) (omega arith) (and_parts (nat_le 0 (suc n)) (nat_le (suc n) (2 ^ 31)) e).1
 
 within : (most : ℕ) (made : ℕ → ℤ) → ((n : ℕ) → (nat_le 0 n && nat_le n most) ≡ true → is_amount (made n) ≡ true)

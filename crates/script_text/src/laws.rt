@@ -7,7 +7,6 @@ ghost use Rattle.script_text.specs.Grammar.{script_lines};
 
 /// Every call of a script of the grammar is of a session, and one that the engine answers, where no line makes a column of a
 /// long type.
-#[tactic(auto, using(crate::proofs::Served::served))]
 pub fn a_call_of_the_grammar_is_answered()
     ensures { (bytes : List ℕ) (calls : List (ℕ × Request)) → script_lines bytes ≡ Ok calls → long_column_line bytes ≡ None → are_built calls ≡ true }
 {}
