@@ -107,6 +107,7 @@ runs_not : {A : Type 0} (o : Outside) (bytes text : List ℕ) (lines : List Line
 runs_not o bytes text lines left read script refused = by refused
   where
     whole = read_whole bytes text o.left_after (sym left ∙ read) script.0
+
     by : IsRefused bytes → A
     by (inl long) =
         let short : length bytes ≤ script_limit = subst (λ (t : List ℕ). length t ≤ script_limit) whole script.1 in
@@ -129,6 +130,7 @@ refuses_by limit named o bytes text (bad_script number) left read run source end
 refuses_by limit named o bytes text (not_built number) left read run source ends refused = by refused
   where
     whole = read_whole bytes text o.left_after (sym left ∙ read) ends.2
+
     by : IsRefused bytes → (9 ≡ 2) ⊎ (9 ≡ 7)
     by (inl long) =
         let short : length bytes ≤ script_limit = subst (λ (t : List ℕ). length t ≤ script_limit) whole ends.3 in

@@ -104,7 +104,10 @@ fn the_first_bad_line_is_named(rt: HostRuntime) {
 #[test]
 fn the_first_line_that_is_not_built_is_named(rt: HostRuntime) {
     for (script, line) in [
-        (b"1 CreateTable T\n1 AddColumn T a LongText\n1 EndSession".as_slice(), 2),
+        (
+            b"1 CreateTable T\n1 AddColumn T a LongText\n1 EndSession".as_slice(),
+            2,
+        ),
         (b"1 BeginSession\n\n# none\n1 AddColumn T a LongBinary\n", 4),
     ] {
         let fault = parse(rt.alloc(), script).err();
