@@ -4,7 +4,7 @@ use Rattle.session_local.specs.Run.{Line}
 use Rattle.ordered_run.specs.declared.session_engine.SessionEngine.{SessionEngine}
 use Rattle.esentutl.specs.declared.words.Form.TheVariants as form
 use Rattle.esentutl.specs.RunEnds.{RunEndsBy, RunsBy}
-use Rattle.esentutl.specs.TopCall.{Outside, Ending, done, bad_words, told, sink_failed_telling, too_long, source_failed, sink_failed, want_of_memory, not_built, SourceIsSound, IsScript, EndsBy, form_of_ending}
+use Rattle.esentutl.specs.TopCall.{Outside, Ending, done, bad_words, told, sink_failed_telling, too_long, source_failed, sink_failed, want_of_memory, bad_script, not_built, SourceIsSound, IsScript, EndsBy, form_of_ending}
 use Rattle.esentutl.proofs.Endings.{append_nothing}
 
 -- the run of a script's calls ends the call
@@ -21,6 +21,7 @@ ends_by_run_over limit o text lines engine (told topic) sound script run = absur
 ends_by_run_over limit o text lines engine (sink_failed_telling topic) sound script run = absurd run
 ends_by_run_over limit o text lines engine too_long sound script run = absurd run
 ends_by_run_over limit o text lines engine source_failed sound script run = absurd run
+ends_by_run_over limit o text lines engine (bad_script number) sound script run = absurd run
 ends_by_run_over limit o text lines engine (not_built number) sound script run = absurd run
 
 -- so does the run of one for which an engine was to be made

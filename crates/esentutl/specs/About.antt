@@ -22,11 +22,11 @@ help_text = text_of (
     ∷ codes "Exit status:"
     ∷ codes "  0  every line ran, or the text that was asked for was printed"
     ∷ codes "  1  the words are of no form above"
-    ∷ codes "  2  the script has more than 16,777,216 bytes"
+    ∷ codes "  2  a line is outside the grammar, and the first one is named; or the script has more than 16,777,216 bytes"
     ∷ codes "  5  the script could not be read"
     ∷ codes "  6  the output could not be written"
     ∷ codes "  7  out of memory, outside a line of the script"
-    ∷ codes "  9  a line is outside the grammar or not built yet; the first one is named"
+    ∷ codes "  9  a line makes a column of type LongBinary or LongText, which are not built yet; the first one is named"
     ∷ []
     ∷ codes "docs/SCRIPT.md describes scripts, replies and statuses."
     ∷ [])

@@ -23,11 +23,11 @@ const HELP: &str = concat!(
     "Exit status:\n",
     "  0  every line ran, or the text that was asked for was printed\n",
     "  1  the words are of no form above\n",
-    "  2  the script has more than 16,777,216 bytes\n",
+    "  2  a line is outside the grammar, and the first one is named; or the script has more than 16,777,216 bytes\n",
     "  5  the script could not be read\n",
     "  6  the output could not be written\n",
     "  7  out of memory, outside a line of the script\n",
-    "  9  a line is outside the grammar or not built yet; the first one is named\n",
+    "  9  a line makes a column of type LongBinary or LongText, which are not built yet; the first one is named\n",
     "\n",
     "docs/SCRIPT.md describes scripts, replies and statuses.\n",
 );

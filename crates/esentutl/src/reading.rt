@@ -25,7 +25,10 @@ pub enum ReadScriptFault {
     /// It has more than 16,777,216 bytes.
     #[error("script too long")]
     TooLong,
-    /// The first line that is not built, counted from 1.
+    /// The first line that is outside the grammar, counted from 1.
+    #[error("script line {0}")]
+    BadLine(u64),
+    /// The first line that makes a column of a long type, which is not built, counted from 1.
     #[error("not built line {0}")]
     NotBuilt(u64),
     /// There was no memory for the script.
@@ -42,12 +45,13 @@ pub fn read_script<S: Source>(
         × MatchResult result
         (λ lines. ReadsAs (record { left_before = S.left script.old; left_after = S.left script.new; faults_before = S.faults script.old; faults_after = S.faults script.new }) text (Ok lines.items))
         (λ e. ReadsAs (record { left_before = S.left script.old; left_after = S.left script.new; faults_before = S.faults script.old; faults_after = S.faults script.new }) text (Err e)) }
-    // Each line is built, whatever stands before it.
+    // Each call is one that the engine answers, whatever stands before it.
     ensures built { IfOk result (λ lines. are_built (calls_of lines.items) ≡ true) }
 {
     match read_to_limit(alloc, script, SCRIPT_LIMIT) {
         Ok(text) => match parse(alloc, &text) {
             Ok(lines) => Ok(lines),
+            Err(ScriptFault::BadLine(line)) => Err(ReadScriptFault::BadLine(line)),
             Err(ScriptFault::NotBuilt(line)) => Err(ReadScriptFault::NotBuilt(line)),
             Err(ScriptFault::OutOfMemory) => Err(ReadScriptFault::Memory),
         },

@@ -1,7 +1,7 @@
 //! The one line that is printed where no script runs.
 
 ghost use Rattle.std.specs.Prelude.{◌≡◌, ◌≤◌, length, codes};
-ghost use Rattle.esentutl.specs.Words.{last_line, not_built_line};
+ghost use Rattle.esentutl.specs.Words.{last_line, bad_line, not_built_line};
 ghost use Rattle.esentutl.specs.TopCall.{Says};
 
 use arrayvec::ArrayString;
@@ -19,6 +19,19 @@ pub fn make_last_line(text: &str) -> LastLine
     let mut line = ArrayString::new();
     line.push_str("esentutl: ");
     line.push_str(text);
+    line.push_str("\n");
+    line
+}
+
+/// The line that names the first line of a script that is outside the grammar, counted from 1.
+pub fn make_bad_line(number: u64) -> LastLine
+    ensures { result.bytes ≡ bad_line number }
+{
+    let mut buffer = Buffer::new();
+    let mut line = ArrayString::new();
+    line.push_str("esentutl: ");
+    line.push_str("script line ");
+    line.push_str(buffer.format(number));
     line.push_str("\n");
     line
 }

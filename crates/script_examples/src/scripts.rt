@@ -1,4 +1,4 @@
-//! Whole scripts: their calls, their first bad line, and the first line that is not built.
+//! Whole scripts: their calls, their first bad line, and the first line that makes a column of a long type.
 #![tactic(auto, unfolding(script_text::specs::Computing::computing))]
 
 ghost use Rattle.std.specs.Prelude.{◌≡◌, [], ◌∷◌, ◌++◌, true, false, None, Some, Ok, Err, codes, neg_ℤ, pos};
@@ -8,23 +8,18 @@ ghost use Rattle.jet_base.specs.declared.words.Given.TheVariants as given;
 ghost use Rattle.session_local.specs.declared.request.Request.TheVariants as call;
 ghost use Rattle.script_words.specs.Words.{text_of_lines};
 ghost use Rattle.script_text.specs.Grammar.{script_lines};
-ghost use Rattle.script_text.specs.Built.{built_lines};
+ghost use Rattle.script_text.specs.Built.{long_column_line};
 ghost use Rattle.script_examples.specs.OrdinaryRun.{plain_column, sum_column, only_primary, filling_lines, walking_lines, ordinary_lines, ordinary_calls};
 
-/// The ordinary run is read as its calls.
+/// The ordinary run is read as its calls, of which none makes a column of a long type.
 pub fn ordinary_run_is_read()
-    ensures { script_lines (text_of_lines ordinary_lines) ≡ Ok ordinary_calls }
-{}
-
-/// The ordinary run is built.
-pub fn ordinary_run_is_built()
-    ensures { built_lines (text_of_lines ordinary_lines) ≡ Ok ordinary_calls }
+    ensures calls { script_lines (text_of_lines ordinary_lines) ≡ Ok ordinary_calls }
+    ensures built { long_column_line (text_of_lines ordinary_lines) ≡ None }
 {}
 
 /// A script without a byte has no call.
 pub fn empty_script_has_no_call()
-    ensures read { script_lines [] ≡ Ok [] }
-    ensures built { built_lines [] ≡ Ok [] }
+    ensures { script_lines [] ≡ Ok [] }
 {}
 
 /// No call is named `Fly`, so line 3 is the first bad one.
@@ -45,45 +40,46 @@ pub fn spaces_stand_between_words()
     ensures last { script_lines (codes "1 BeginSession ") ≡ Err 1 }
 {}
 
-/// With a column of a long type in the place of its first move, line 16 of the ordinary run is in the grammar and not built.
+/// With a column of a long type in the place of its first move, the ordinary run is in the grammar, and line 16 is not built.
 pub fn long_column_is_not_built()
     ensures read { script_lines (codes "1 AddColumn T a LongText") ≡ Ok ((1, call.AddColumn (codes "T") (codes "a") kind.LongText plain_column) ∷ []) }
-    ensures not_built { built_lines (text_of_lines (filling_lines ++ codes "1 AddColumn T a LongText" ∷ walking_lines)) ≡ Err 16 }
+    ensures not_built { long_column_line (text_of_lines (filling_lines ++ codes "1 AddColumn T a LongText" ∷ walking_lines)) ≡ Some 16 }
 {}
 
-/// A sum and the column that it adds to are built. An amount is one of 32 bits.
-pub fn sums_are_built()
-    ensures column { built_lines (text_of_lines (codes "1 AddColumn T a Long escrow" ∷ [])) ≡ Ok ((1, call.AddColumn (codes "T") (codes "a") kind.Long sum_column) ∷ []) }
-    ensures sum { built_lines (codes "1 EscrowUpdate 1 n -5") ≡ Ok ((1, call.EscrowUpdate (cursor_id 1) (codes "n") (neg_ℤ (pos 5))) ∷ []) }
-    ensures too_large { built_lines (codes "1 EscrowUpdate 1 n 2147483648") ≡ Err 1 }
+/// A sum and the column that it adds to. An amount is one of 32 bits.
+pub fn sums_are_read()
+    ensures column { script_lines (text_of_lines (codes "1 AddColumn T a Long escrow" ∷ [])) ≡ Ok ((1, call.AddColumn (codes "T") (codes "a") kind.Long sum_column) ∷ []) }
+    ensures sum { script_lines (codes "1 EscrowUpdate 1 n -5") ≡ Ok ((1, call.EscrowUpdate (cursor_id 1) (codes "n") (neg_ℤ (pos 5))) ∷ []) }
+    ensures too_large { script_lines (codes "1 EscrowUpdate 1 n 2147483648") ≡ Err 1 }
 {}
 
-/// A line is built by itself, in any order and any number of times, whatever an engine answers.
-pub fn lines_are_built_by_themselves()
-    ensures same_name { built_lines (text_of_lines (codes "1 AddColumn T a Long" ∷ codes "1 AddColumn T a Long" ∷ [])) ≡ Ok ((1, call.AddColumn (codes "T") (codes "a") kind.Long plain_column) ∷ (1, call.AddColumn (codes "T") (codes "a") kind.Long plain_column) ∷ []) }
-    ensures order { built_lines (text_of_lines (codes "1 CommitTransaction lazy" ∷ codes "1 BeginSession" ∷ [])) ≡ Ok ((1, call.CommitTransaction true) ∷ (1, call.BeginSession) ∷ []) }
-    ensures prefix { built_lines (text_of_lines (codes "1 BeginSession" ∷ [])) ≡ Ok ((1, call.BeginSession) ∷ []) }
+/// A line is read by itself, in any order and any number of times, whatever an engine answers.
+pub fn lines_are_read_by_themselves()
+    ensures same_name { script_lines (text_of_lines (codes "1 AddColumn T a Long" ∷ codes "1 AddColumn T a Long" ∷ [])) ≡ Ok ((1, call.AddColumn (codes "T") (codes "a") kind.Long plain_column) ∷ (1, call.AddColumn (codes "T") (codes "a") kind.Long plain_column) ∷ []) }
+    ensures order { script_lines (text_of_lines (codes "1 CommitTransaction lazy" ∷ codes "1 BeginSession" ∷ [])) ≡ Ok ((1, call.CommitTransaction true) ∷ (1, call.BeginSession) ∷ []) }
+    ensures prefix { script_lines (text_of_lines (codes "1 BeginSession" ∷ [])) ≡ Ok ((1, call.BeginSession) ∷ []) }
 {}
 
-/// A call is built in every form that the grammar has for it.
-pub fn every_form_of_a_call_is_built()
-    ensures flag_last { built_lines (text_of_lines (codes "1 CreateIndex T i +k primary" ∷ [])) ≡ Ok ((1, call.CreateIndex (codes "T") (codes "i") only_primary 255 (record { column = codes "k"; descending = false } ∷ []) []) ∷ []) }
-    ensures hex { built_lines (text_of_lines (codes "1 SetColumn 1 name 1 x:626f62" ∷ [])) ≡ Ok ((1, call.SetColumn (cursor_id 1) (codes "name") 1 (given.Bytes (codes "bob"))) ∷ []) }
-    ensures range { built_lines (text_of_lines (codes "1 SetIndexRange 1 upper inclusive" ∷ codes "1 SetIndexRange 1 remove" ∷ [])) ≡ Ok ((1, call.SetIndexRange (cursor_id 1) true true) ∷ (1, call.RemoveIndexRange (cursor_id 1)) ∷ []) }
-    ensures count { built_lines (text_of_lines (codes "1 IndexRecordCount 1" ∷ codes "1 IndexRecordCount 1 4294967295" ∷ [])) ≡ Ok ((1, call.IndexRecordCount (cursor_id 1) None) ∷ (1, call.IndexRecordCount (cursor_id 1) (Some 4294967295)) ∷ []) }
-    ensures most { built_lines (text_of_lines (codes "1 RetrieveColumn 1 id 1 max 3" ∷ [])) ≡ Ok ((1, call.RetrieveColumn (cursor_id 1) (codes "id") 1 false 3) ∷ []) }
+/// Calls in forms of their own.
+pub fn forms_of_a_call_are_read()
+    ensures flag_last { script_lines (text_of_lines (codes "1 CreateIndex T i +k primary" ∷ [])) ≡ Ok ((1, call.CreateIndex (codes "T") (codes "i") only_primary 255 (record { column = codes "k"; descending = false } ∷ []) []) ∷ []) }
+    ensures hex { script_lines (text_of_lines (codes "1 SetColumn 1 name 1 x:626f62" ∷ [])) ≡ Ok ((1, call.SetColumn (cursor_id 1) (codes "name") 1 (given.Bytes (codes "bob"))) ∷ []) }
+    ensures range { script_lines (text_of_lines (codes "1 SetIndexRange 1 upper inclusive" ∷ codes "1 SetIndexRange 1 remove" ∷ [])) ≡ Ok ((1, call.SetIndexRange (cursor_id 1) true true) ∷ (1, call.RemoveIndexRange (cursor_id 1)) ∷ []) }
+    ensures count { script_lines (text_of_lines (codes "1 IndexRecordCount 1" ∷ codes "1 IndexRecordCount 1 4294967295" ∷ [])) ≡ Ok ((1, call.IndexRecordCount (cursor_id 1) None) ∷ (1, call.IndexRecordCount (cursor_id 1) (Some 4294967295)) ∷ []) }
+    ensures most { script_lines (text_of_lines (codes "1 RetrieveColumn 1 id 1 max 3" ∷ [])) ≡ Ok ((1, call.RetrieveColumn (cursor_id 1) (codes "id") 1 false 3) ∷ []) }
 {}
 
-/// Lines of every session are built, in any order, and each call keeps the label of its line. There are 99 labels.
-pub fn lines_of_every_session_are_built()
-    ensures two { built_lines (text_of_lines (codes "2 BeginSession" ∷ codes "1 BeginSession" ∷ codes "2 Rollback" ∷ [])) ≡ Ok ((2, call.BeginSession) ∷ (1, call.BeginSession) ∷ (2, call.Rollback false) ∷ []) }
-    ensures last { built_lines (codes "99 GetLock 3") ≡ Ok ((99, call.GetLock (cursor_id 3)) ∷ []) }
-    ensures none { built_lines (codes "0 BeginSession") ≡ Err 1 }
-    ensures too_many { built_lines (codes "100 BeginSession") ≡ Err 1 }
+/// Lines of every session are read, in any order, and each call keeps the label of its line. There are 99 labels.
+pub fn lines_of_every_session_are_read()
+    ensures two { script_lines (text_of_lines (codes "2 BeginSession" ∷ codes "1 BeginSession" ∷ codes "2 Rollback" ∷ [])) ≡ Ok ((2, call.BeginSession) ∷ (1, call.BeginSession) ∷ (2, call.Rollback false) ∷ []) }
+    ensures last { script_lines (codes "99 GetLock 3") ≡ Ok ((99, call.GetLock (cursor_id 3)) ∷ []) }
+    ensures none { script_lines (codes "0 BeginSession") ≡ Err 1 }
+    ensures too_many { script_lines (codes "100 BeginSession") ≡ Err 1 }
 {}
 
-/// A column of a long type is not built.
+/// A column of a long type is not built. A bad line is told before it, wherever it stands.
 pub fn long_columns_are_not_built()
-    ensures text { built_lines (text_of_lines (codes "1 AddColumn T a LongText" ∷ [])) ≡ Err 1 }
-    ensures binary { built_lines (text_of_lines (codes "1 AddColumn T a LongBinary" ∷ [])) ≡ Err 1 }
+    ensures text { long_column_line (text_of_lines (codes "1 AddColumn T a LongText" ∷ [])) ≡ Some 1 }
+    ensures binary { long_column_line (text_of_lines ([] ∷ codes "1 AddColumn T a LongBinary" ∷ codes "1 AddColumn T b LongText" ∷ [])) ≡ Some 2 }
+    ensures bad { script_lines (text_of_lines (codes "1 AddColumn T a LongText" ∷ codes "1 Fly" ∷ [])) ≡ Err 2 }
 {}

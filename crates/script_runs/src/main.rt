@@ -1,7 +1,9 @@
 //! Runs every script of the folder that it lies in through the program's call, from memory to memory, and tells of each
 //! whether status and output are those beside it: NAME.script, NAME.out, NAME.status where the status is not 0, and
-//! NAME.words, one a line, where the words are not `- run ordered`.
+//! NAME.words, one a line, where the words are not `- run ordered`. Then it runs the table of bad lines.
 #![tactic(auto)]
+
+mod bad_lines;
 
 use esentutl::esentutl;
 use jet_io::{MemSink, MemSource};
@@ -11,6 +13,9 @@ use std::{fs, io};
 
 /// How many bytes more than wanted a run may print before its sink is full.
 const SPARE: usize = 4096;
+
+/// The words of a run where none stand beside a script, one a line.
+const ORDERED_RUN: &str = "-\nrun\nordered\n";
 
 /// What a script came to.
 #[derive(Clone, Copy, PartialEq, Eq)]
@@ -36,6 +41,7 @@ fn main(rt: HostRuntime) -> io::Result<ExitCode> {
         }
         all_well = all_well && outcome == Outcome::AsWanted;
     }
+    bad_lines::tell_all(&rt, &words_of(rt.alloc(), ORDERED_RUN)?)?;
     Ok(ExitCode::from(if all_well { 0 } else { 1 }))
 }
 
@@ -88,7 +94,7 @@ fn wanted_status(rt: &HostRuntime, name: &str) -> io::Result<u8> {
 fn run_words(rt: &HostRuntime, name: &str) -> io::Result<Vec<String>> {
     let path = format!(in rt.alloc(); "{name}.words")?;
     if !fs::exists(rt, path.as_str())? {
-        return words_of(rt.alloc(), "-\nrun\nordered\n");
+        return words_of(rt.alloc(), ORDERED_RUN);
     }
     let text = fs::read_to_string(rt, path.as_str())?;
     words_of(rt.alloc(), text.as_str())

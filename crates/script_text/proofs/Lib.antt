@@ -1,6 +1,6 @@
-pub mod BuiltLines
+pub mod Lines
 pub mod LabelledCalls
 pub mod Scripts
-pub mod MadeNames
+pub mod ServedCalls
 pub mod Labels
-pub mod BuiltCalls
+pub mod Served

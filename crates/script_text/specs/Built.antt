@@ -1,16 +1,18 @@
--- The lines that are built, each by itself, whatever stands before it.
-use Rattle.std.specs.Prelude.{ℕ, Bool, ◌&&◌, nat_le, if◌then◌else◌, List, [], ◌∷◌, Option, Some, None, Ok, Err}
+-- Which calls the grammar's lines are, and the one form among them that is not built.
+use Rattle.std.specs.Prelude.{ℕ, Bool, false, ◌&&◌, nat_le, if◌then◌else◌, List, [], ◌∷◌, Option, Some, None}
 use Rattle.std.specs.List.{list_all}
+use Rattle.jet_base.specs.TypeKinds.{is_long_type}
 use Rattle.session_local.specs.declared.request.Request.{Request}
-use Rattle.built_calls.specs.BuiltCalls.{is_built_call, is_built_request}
-use Rattle.script_words.specs.Words.{◌>>=◌}
-use Rattle.script_text.specs.Grammar.{ScriptResult, with_front, said_lines, line_request}
+use Rattle.session_local.specs.declared.request.Request.TheVariants as call
+use Rattle.built_calls.specs.BuiltCalls.{is_built_request}
+use Rattle.script_text.specs.Grammar.{line_request, said_lines}
 
 -- whether a number is the label of a session
 abbrev pub is_label : ℕ → Bool
 is_label label = nat_le 1 label && nat_le label 99
 
--- whether the call of a line is built, whichever session makes it, and what it makes has a name of 1 to 64 bytes
+-- whether the call of a line is one that the engine answers, whichever session makes it: a built call, and what it makes has a
+-- name of 1 to 64 bytes
 abbrev pub is_built : ℕ × Request → Bool
 is_built said = is_label said.0 && is_built_request said.1
 
@@ -18,20 +20,21 @@ is_built said = is_label said.0 && is_built_request said.1
 abbrev pub are_built : List (ℕ × Request) → Bool
 are_built calls = list_all is_built calls
 
--- the call of a line, where the line is in the grammar and its call is built
-unfoldable pub built_call : List ℕ → Option (ℕ × Request)
-built_call line = do
-  said ← line_request line
-  if is_built_call said.1 then Some said else None
+-- whether a call makes a column of a long type: no other call of the grammar is not built
+abbrev pub makes_long_column : Request → Bool
+makes_long_column (call.AddColumn table column kind flags) = is_long_type kind
+makes_long_column _ = false
 
--- the calls of numbered lines, or the first of their numbers whose line is not built
-abbrev pub built_from : List (ℕ × List ℕ) → ScriptResult
-built_from [] = Ok []
-built_from ((number, line) ∷ lines) = elim (built_call line) [
-  | None ↦ Err number
-  | Some said ↦ with_front said (built_from lines)
-]
+-- whether a line tells such a call
+abbrev pub tells_long_column : Option (ℕ × Request) → Bool
+tells_long_column None = false
+tells_long_column (Some said) = makes_long_column said.1
 
--- the calls of a script in order, or the number of its first line that is not built
-abbrev pub built_lines : List ℕ → ScriptResult
-built_lines bytes = built_from (said_lines bytes)
+-- the first of some numbered lines that makes a column of a long type, by its number
+abbrev pub long_column_from : List (ℕ × List ℕ) → Option ℕ
+long_column_from [] = None
+long_column_from ((number, line) ∷ lines) = if tells_long_column (line_request line) then Some number else long_column_from lines
+
+-- the number of the first line of a script that makes a column of a long type
+abbrev pub long_column_line : List ℕ → Option ℕ
+long_column_line bytes = long_column_from (said_lines bytes)

@@ -1,8 +1,8 @@
 pub mod Calls
 pub mod CallNames
-pub mod Kept
 pub mod Grammar
 pub mod Built
+pub mod Kept
 pub mod Computing
 pub mod ScriptRun
 pub mod Parsed

@@ -1,9 +1,9 @@
 //! The calls of the lines that are read so far.
 
-ghost use Rattle.std.specs.Prelude.{◌≡◌, []};
-ghost use Rattle.built_calls.specs.BuiltCalls.{is_amount, is_built_call};
+ghost use Rattle.std.specs.Prelude.{◌≡◌, [], None};
 ghost use Rattle.script_words.specs.Reading.{Reads};
-ghost use Rattle.script_text.specs.Kept.{kept_behind};
+ghost use Rattle.script_text.specs.Built.{makes_long_column};
+ghost use Rattle.script_text.specs.Kept.{kept_behind, long_column_with};
 
 use jet_base::Session;
 use script_words::Refusal;
@@ -11,11 +11,15 @@ use session_local::Request;
 use std::alloc::Global;
 use std::marker::Model;
 
-/// Calls in the order of their lines, each with the session that makes it, and the session of the line that is being read.
+/// Calls in the order of their lines, each with the session that makes it, and the number and the session of the line that is
+/// being read.
 #[derive(Drop)]
 pub struct Calls {
+    number: u64,
     session: Session,
     calls: Vec<(Session, Request)>,
+    /// The number of the first line that makes a column of a long type.
+    long_column: Option<u64>,
 }
 
 impl Model for Calls {
@@ -31,19 +35,30 @@ impl Model for Calls {
 impl Calls {
     /// No calls. It takes no memory.
     pub fn new(alloc: Global) -> Calls
-        ensures { result.calls ≡ [] }
+        ensures calls { result.calls ≡ [] }
+        ensures long_column { result.long_column ≡ None }
     {
         Calls {
+            number: 0,
             session: Session(1),
             calls: Vec::new(alloc),
+            long_column: None,
         }
     }
 
-    /// The calls that are put in from now on are of the session.
-    pub fn begin_line(&mut self, session: Session)
-        ensures { self.new ≡ record self.old { session = session } }
+    /// The calls that are put in from now on are of the session, and stand at the line of this number.
+    pub fn begin_line(&mut self, number: u64, session: Session)
+        ensures { self.new ≡ record self.old { number = number; session = session } }
     {
+        self.number = number;
         self.session = session;
+    }
+
+    /// The number of the first line that makes a column of a long type.
+    pub fn long_column(&self) -> Option<u64>
+        ensures { result ≡ self.now.long_column }
+    {
+        self.long_column
     }
 
     /// The calls.
@@ -54,39 +69,38 @@ impl Calls {
     }
 }
 
-/// Puts a call of the line's session behind the others, where it is built.
+/// Puts a call of the line's session behind the others.
 ///
 /// A call is moved once, from the place where it is made to its place in the list.
 #[inline(always)]
 pub fn keep(kept: &mut Calls, request: Request) -> Result<(), Refusal>
     ensures { Reads (λ _. kept.new) result (kept_behind kept.old request) }
 {
-    if !is_built_call(&request) {
-        return Err(Refusal::Bad);
-    }
+    let first = long_column_with(kept.long_column, kept.number, &request);
     kept.calls.push((kept.session, request))?;
+    kept.long_column = first;
     Ok(())
 }
 
-/// Whether a call is built, in whatever state it comes. A script with a call that is not is refused before its first line
-/// runs.
-fn is_built_call(request: &Request) -> bool
-    ensures { result ≡ is_built_call request.now }
+// The first line that makes a column of a long type, with a call more, at a line of this number.
+#[inline(always)]
+fn long_column_with(first: Option<u64>, number: u64, request: &Request) -> Option<u64>
+    ensures { result ≡ long_column_with first number request.now }
 {
-    match request {
-        Request::AddColumn { kind, flags, .. } => {
-            !kind.is_long() && !(flags.version || flags.auto)
-        }
-        Request::CreateIndex { key_most, .. } => *key_most <= 255,
-        Request::EscrowUpdate { amount, .. } => is_amount(*amount),
-        _ => true,
+    if makes_long_column(request) {
+        first.or(Some(number))
+    } else {
+        first
     }
 }
 
-// Whether it is the amount of a sum: a number of 32 bits, as all are of its type.
-fn is_amount(amount: i32) -> bool
-    ensures { result ≡ is_amount amount }
+// Whether a call makes a column of a long type.
+#[inline(always)]
+fn makes_long_column(request: &Request) -> bool
+    ensures { result ≡ makes_long_column request.now }
 {
-    let _amount = amount;
-    true
+    match request {
+        Request::AddColumn { kind, .. } => kind.is_long(),
+        _ => false,
+    }
 }

@@ -2,7 +2,6 @@
 #![tactic(auto)]
 
 mod bare_calls;
-mod built;
 mod call_names;
 mod calls;
 mod choices;
@@ -10,6 +9,9 @@ mod flags;
 mod grammar;
 mod index_words;
 mod kept;
+mod laws;
+mod line;
 mod script;
 
+pub use laws::a_call_of_the_grammar_is_answered;
 pub use script::{ScriptFault, parse};

@@ -1,13 +1,13 @@
 //! A whole script.
 
-ghost use Rattle.std.specs.Prelude.{◌≡◌, ℕ, true, Ok, Err, IfOk};
-ghost use Rattle.script_text.specs.Built.{are_built, built_lines};
+ghost use Rattle.std.specs.Prelude.{◌≡◌, ℕ, true, Some, None, Ok, Err, IfOk, IsOk};
+ghost use Rattle.script_text.specs.Built.{are_built, long_column_line};
 ghost use Rattle.script_text.specs.Grammar.{script_lines};
 ghost use Rattle.script_text.specs.Parsed.{calls_of};
 
-use crate::built::keep_built_call;
 use crate::grammar::is_skipped;
 use crate::kept::Calls;
+use crate::line::keep_line;
 use jet_base::Session;
 use script_words::{Parts, Refusal};
 use session_local::Request;
@@ -17,7 +17,11 @@ use thiserror::Error;
 /// Why a script was not parsed.
 #[derive(Clone, Copy, Debug, PartialEq, Eq, Error)]
 pub enum ScriptFault {
-    /// The line of this number, from 1, is the first that is not built. Skipped lines count.
+    /// The line of this number, from 1, is the first that is outside the grammar. Skipped lines count.
+    #[error("script line {0}")]
+    BadLine(u64),
+    /// Every line is in the grammar, and the one of this number is the first that is not built: it makes a column of a long
+    /// type.
     #[error("not built line {0}")]
     NotBuilt(u64),
     /// There was no memory to keep the calls.
@@ -26,9 +30,12 @@ pub enum ScriptFault {
 }
 
 /// The calls of a script in order, line by line.
-fn built_calls(alloc: Global, bytes: &[u8]) -> Result<Vec<(Session, Request)>, ScriptFault>
-    ensures built { IfOk result (λ calls. built_lines bytes.now ≡ Ok (calls_of calls.items)) }
-    ensures not_built { (line : ℕ) → result ≡ Err (ScriptFault.NotBuilt line) → built_lines bytes.now ≡ Err line }
+fn calls_of_lines(alloc: Global, bytes: &[u8]) -> Result<Vec<(Session, Request)>, ScriptFault>
+    ensures read { IfOk result (λ calls. script_lines bytes.now ≡ Ok (calls_of calls.items)) }
+    ensures built { IfOk result (λ _. long_column_line bytes.now ≡ None) }
+    ensures bad_line { (line : ℕ) → result ≡ Err (ScriptFault.BadLine line) → script_lines bytes.now ≡ Err line }
+    ensures not_built { (line : ℕ) → result ≡ Err (ScriptFault.NotBuilt line)
+        → IsOk (script_lines bytes.now) × (long_column_line bytes.now ≡ Some line) }
 {
     let mut kept = Calls::new(alloc);
     let mut number: u64 = 0;
@@ -38,27 +45,33 @@ fn built_calls(alloc: Global, bytes: &[u8]) -> Result<Vec<(Session, Request)>, S
         if is_skipped(line) {
             continue;
         }
-        match keep_built_call(alloc, line, &mut kept) {
+        match keep_line(alloc, number, line, &mut kept) {
             Ok(()) => {}
-            Err(Refusal::Bad) => return Err(ScriptFault::NotBuilt(number)),
+            Err(Refusal::Bad) => return Err(ScriptFault::BadLine(number)),
             Err(Refusal::Memory) => return Err(ScriptFault::OutOfMemory),
         }
     }
-    Ok(kept.into_calls())
+    match kept.long_column() {
+        None => Ok(kept.into_calls()),
+        Some(line) => Err(ScriptFault::NotBuilt(line)),
+    }
 }
 
 /// The calls of a script in order, each with the session that makes it.
 ///
-/// Names and values are copied; lines and words are read in place. The fault `NotBuilt` comes exactly where some line is
-/// not built, and names the first such line.
-#[tactic(auto, using(crate::proofs::BuiltCalls::built))]
+/// The script is read once, line by line; names and values are copied, lines and words are read in place. The fault
+/// `BadLine` comes exactly where some line is outside the grammar, and names the first such line; `NotBuilt` comes exactly
+/// where none is and some line makes a column of a long type.
 pub fn parse(alloc: Global, bytes: &[u8]) -> Result<Vec<(Session, Request)>, ScriptFault>
-    ensures built { IfOk result (λ calls. built_lines bytes.now ≡ Ok (calls_of calls.items)) }
-    // They are what the grammar reads, each of a session and built. What it makes has a name of 1 to 64 bytes.
+    // They are what the grammar reads.
     ensures read { IfOk result (λ calls. script_lines bytes.now ≡ Ok (calls_of calls.items)) }
+    ensures built { IfOk result (λ _. long_column_line bytes.now ≡ None) }
+    // Each is of a session, and one that the engine answers. What it makes has a name of 1 to 64 bytes.
     ensures served { IfOk result (λ calls. are_built (calls_of calls.items) ≡ true) }
-    ensures not_built { (line : ℕ) → result ≡ Err (ScriptFault.NotBuilt line) → built_lines bytes.now ≡ Err line }
+    ensures bad_line { (line : ℕ) → result ≡ Err (ScriptFault.BadLine line) → script_lines bytes.now ≡ Err line }
+    ensures not_built { (line : ℕ) → result ≡ Err (ScriptFault.NotBuilt line)
+        → IsOk (script_lines bytes.now) × (long_column_line bytes.now ≡ Some line) }
 {
-    let calls = built_calls(alloc, bytes)?;
+    let calls = calls_of_lines(alloc, bytes)?;
     Ok(calls)
 }

@@ -76,6 +76,12 @@ static ENDS: &[(&[&[u8]], &[u8], u8, &[u8])] = &[
     (
         RUN,
         b"1 BeginSession\n1 Fly\n",
+        2,
+        b"esentutl: script line 2\n",
+    ),
+    (
+        RUN,
+        b"1 BeginSession\n1 AddColumn T a LongText\n",
         9,
         b"esentutl: not built line 2\n",
     ),

@@ -5,8 +5,7 @@ use script_text::{ScriptFault, parse};
 use session_local::Request;
 use std::test::*;
 
-/// Every form of a call that is built, in no order that an engine would serve. Lines 4 and 7 are skipped, and the last
-/// line lacks its end.
+/// Every form of a call, in no order that an engine would serve. Lines 4 and 7 are skipped, and the last line lacks its end.
 const SCRIPT: &[u8] = b"1 BeginSession
 1 RetrieveKey 1
 1 AddColumn Staff id Long notnull
@@ -63,8 +62,8 @@ const SCRIPT: &[u8] = b"1 BeginSession
 1 RetrieveKey 2";
 
 #[test]
-fn a_built_script_gives_its_calls(rt: HostRuntime) -> Result<(), Fail> {
-    let calls = parse(rt.alloc(), SCRIPT).ok().ok_or("the script is built")?;
+fn a_script_gives_its_calls(rt: HostRuntime) -> Result<(), Fail> {
+    let calls = parse(rt.alloc(), SCRIPT).ok().ok_or("the script is read")?;
     assert_eq!(rt; calls.len(), 51);
     assert!(rt; calls[0] == (Session(1), Request::BeginSession));
     let last = Request::RetrieveKey {
@@ -77,7 +76,7 @@ fn a_built_script_gives_its_calls(rt: HostRuntime) -> Result<(), Fail> {
 #[test]
 fn a_call_keeps_the_label_of_its_line(rt: HostRuntime) -> Result<(), Fail> {
     let script = b"2 BeginSession\n99 GetLock 3\n1 Rollback all\n";
-    let calls = parse(rt.alloc(), script).ok().ok_or("the script is built")?;
+    let calls = parse(rt.alloc(), script).ok().ok_or("the script is read")?;
     assert_eq!(rt; calls.len(), 3);
     let lock = Request::GetLock {
         cursor: CursorId(3),
@@ -88,43 +87,28 @@ fn a_call_keeps_the_label_of_its_line(rt: HostRuntime) -> Result<(), Fail> {
     Ok(())
 }
 
-/// Fifteen built lines, a column of a long type, which is not built, and a built line.
-const WITH_A_LONG_COLUMN: &[u8] = b"1 BeginSession
-1 CreateTable T
-1 AddColumn T id Long
-1 AddColumn T name Text
-1 CreateIndex T pk primary +id
-1 OpenTable 1 T
-1 BeginTransaction
-1 PrepareUpdate 1 insert
-1 SetColumn 1 id 1 n:2
-1 SetColumn 1 name 1 t:bob
-1 Update 1
-1 PrepareUpdate 1 insert
-1 SetColumn 1 id 1 n:-3
-1 Update 1
-1 CommitTransaction
-1 AddColumn T body LongText
-1 EndSession
-";
+#[test]
+fn the_first_bad_line_is_named(rt: HostRuntime) {
+    for (script, line) in [
+        (b"2 BeginSession\n100 BeginSession\n".as_slice(), 2),
+        (b"1 AddColumn T a LongText\n\n# none\n1 Fly\n1 Fly\n", 4),
+        (b"1 PrepareUpdate 1 insert\n1 PrepareUpdate 1 other\n", 2),
+        (b"1 BeginSession\r\n", 1),
+        (b"\n\n1  BeginSession", 3),
+    ] {
+        let fault = parse(rt.alloc(), script).err();
+        assert_eq!(rt; fault, Some(ScriptFault::BadLine(line)));
+    }
+}
 
 #[test]
 fn the_first_line_that_is_not_built_is_named(rt: HostRuntime) {
     for (script, line) in [
-        (WITH_A_LONG_COLUMN, 16),
         (
-            b"1 BeginSession\n\n# none\n1 AddColumn T a LongBinary\n".as_slice(),
-            4,
-        ),
-        (b"2 BeginSession\n100 BeginSession\n", 2),
-        (b"1 CreateTable T\n1 AddColumn T a LongText\n", 2),
-        (
-            b"1 AddColumn T a Long escrow\n1 EscrowUpdate 1 a 2147483648\n",
+            b"1 CreateTable T\n1 AddColumn T a LongText\n1 EndSession".as_slice(),
             2,
         ),
-        (b"1 PrepareUpdate 1 insert\n1 PrepareUpdate 1 other\n", 2),
-        (b"1 BeginSession\r\n", 1),
-        (b"\n\n1  BeginSession", 3),
+        (b"1 BeginSession\n\n# none\n1 AddColumn T a LongBinary\n", 4),
     ] {
         let fault = parse(rt.alloc(), script).err();
         assert_eq!(rt; fault, Some(ScriptFault::NotBuilt(line)));

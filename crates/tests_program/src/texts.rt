@@ -9,7 +9,7 @@ const VERSION: &str = concat!(
     "file formats written: none (the database is in memory)\n",
 );
 
-// The script would not be built, if it were read.
+// The script would be refused, if it were read.
 #[test]
 fn the_version_is_told(rt: HostRuntime) -> Result<(), Fail> {
     let alloc = rt.alloc();

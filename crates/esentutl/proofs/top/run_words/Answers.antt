@@ -72,7 +72,7 @@ returns-in-Ok g c =
     let read = c.in-Ok.ensures.script in
     let limit = c.in-OrderedRun.limit in
     let lines = calls_of c.deref.result.now in
-    let built = read.2.1 ∙ ap (λ (l : List (Session × Request)). Ok (calls_of l)) (sym c.deref.ensures.value) in
+    let said = read.2.1 ∙ ap (λ (l : List (Session × Request)). Ok (calls_of l)) (sym c.deref.ensures.value) in
     let run = c.run_script.ensures in
     let o : Outside = record {
       left_before = g.S.Source.left c.args.script.now;
@@ -84,7 +84,7 @@ returns-in-Ok g c =
       sink_before = g.K.Sink.faults c.args.out.now;
       sink_after = g.K.Sink.faults c.run_script.new.out;
     } in
-    let ends = ends_by_run limit o read.0 lines run.0 read.2.0.0 (read.2.0.1, read.2.0.2, built) run.2 in (
+    let ends = ends_by_run limit o read.0 lines run.0 read.2.0.0 (read.2.0.1, read.2.0.2, said, read.2.2) run.2 in (
       read.0,
       limit,
       run.0,
