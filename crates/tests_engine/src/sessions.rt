@@ -1,13 +1,15 @@
 //! A session's own state, at calls that no script has.
 
-ghost use Rattle.std.specs.Prelude.{◌≡◌};
-ghost use Rattle.session_local.specs.WellFormed.{IsWellFormed};
+ghost use Rattle.std.specs.Prelude.{◌≡◌, IsTrue};
+ghost use Rattle.session_local.specs.Deciding.{CopiedFits, decided_in};
+ghost use Rattle.session_local.specs.WellFormed.{IsWellFormed, is_well_formed_copy, is_well_formed_table};
 
 use column_set::{Column, Columns};
 use index_derive::{Entry, EntryKind, Schema, Step};
 use jet_base::{ColType, ColumnId, CursorId, Given, Items, Jet, Name, Prepare, Session, TableId};
 use session_local::{
-    Buffers, Decision, Local, Reply, Request, Value, finish, is_local, is_well_formed, local_step,
+    Buffers, Decision, Local, Reply, Request, Value, finish, finish_keeps_well_formed, is_local,
+    is_well_formed, local_step,
 };
 use std::alloc::Global;
 use std::process::Abort;
@@ -160,8 +162,20 @@ fn with_a_sum(rt: &impl Abort, alloc: Global) -> Local
         cursor: CursorId(7),
         table: Name::new(alloc, "load").expect(rt, "memory"),
     };
-    finish(&mut local, &request, decision);
+    finish_well_formed(&mut local, &request, decision);
     local
+}
+
+/// A session after a call for which this was decided.
+fn finish_well_formed(local: &mut Local, request: &Request, decision: Decision)
+    requires state { IsWellFormed local.old.state }
+    requires table { IsTrue (is_well_formed_table (decided_in decision).table) }
+    requires copy { IsTrue (is_well_formed_copy local.old.state request.now (decided_in decision).copied) }
+    requires copied { CopiedFits local.old.state request.now decision.copied }
+    ensures { IsWellFormed local.new.state }
+{
+    finish_keeps_well_formed();
+    finish(local, request, decision);
 }
 
 /// The reply to a local call.
