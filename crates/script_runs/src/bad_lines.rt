@@ -19,7 +19,11 @@ pub fn tell_all(rt: &HostRuntime, words: &[String]) -> io::Result<()> {
     let table = fs::read(rt, "bad-lines")?;
     let mut entries = Parts::of(&table, b'\n');
     let mut good = Vec::new(alloc);
-    while let Some((wrong, right, bad)) = next_entry(&mut entries) {
+    // No table has more entries than bytes.
+    for _ in 0..table.len() {
+        let Some((wrong, right, bad)) = next_entry(&mut entries) else {
+            break;
+        };
         put_line(&mut good, right)?;
         let mut script = Vec::from_slice(alloc, &good)?;
         put_line(&mut script, bad)?;
