@@ -133,7 +133,7 @@ refuses_by limit named o bytes text (not_built number) left read run source ends
     whole : text ≡ bytes
     whole = read_whole bytes text o.left_after (sym left ∙ read) ends.2
 
-    by : IsRefused bytes → (9 ≡ 2) ⊎ (9 ≡ 7)
+    by : IsRefused bytes → (status_of (not_built number) ≡ 2) ⊎ (status_of (not_built number) ≡ 7)
     by (inl long) =
         let short : length bytes ≤ script_limit = subst (λ (t : List ℕ). length t ≤ script_limit) whole ends.3 in
         let never : ⊥ = omega (arith, long, short) in absurd never
