@@ -23,12 +23,13 @@ use Rattle.version_store.specs.HeldChanges.{HeldChange, is_rewrite}
 use Rattle.versioned_tables.specs.HeldRecords.{HeldRecord, is_standing_rewrite}
 use Rattle.versioned_tables.specs.Variants.{HoldsVariants, has_variant, is_variant_key}
 use Rattle.stored_variants.specs.PutRecords.{HasKeysOf}
-use Rattle.stored_variants.specs.RecordRows.{some_before, IsRecordRow, held_record, record_of, rows_of_nodes}
+use Rattle.stored_variants.specs.RecordRows.{TableValues, some_before, IsRecordRow, held_record_in, record_of, rows_of_nodes}
 use Rattle.variant_trees.specs.GoneKeys.{AreRows, is_gone_key}
 use Rattle.variant_trees.specs.LeftVariants.{AreLeft, CanForget, DistinctIds, IsLeft, first_table, is_this}
-use Rattle.stored_variants.specs.VersionsKept.{AreKept, IsBookmarkOf, IsKeptChange, IsKeptTable, IsRowOf, IsRowUnder, IsStoredRule, secondary_rule}
+use Rattle.stored_variants.specs.VersionsKept.{AreKeptWith, IsBookmarkOf, IsKeptChange, IsKeptTable, IsRowOf, IsRowUnder, IsStoredRule, secondary_rule}
 use Rattle.stored_variants.proofs.ChangesKept.{SameVariants, changes_kept}
 use Rattle.versioned_tables.proofs.Lists.{all_append, all_filter}
+use Rattle.long_value.specs.Values.{Values}
 
 -- ---- the keys of a row that an index took
 
@@ -113,17 +114,17 @@ short_bookmark table values bookmark stored own =
 
 -- ---- rows are spelled
 
-rows_of_changes : (tables : List Table) (trees : List StoredTable) (held : List HeldChange) → AllByRecursion (IsKeptChange tables trees) held → AreRows held
-rows_of_changes tables trees [] kept = tt
-rows_of_changes tables trees (h ∷ held) kept = (by (table_with_id tables h.table) kept.0.named h.before kept.0.row, rows_of_changes tables trees held kept.1)
+rows_of_changes : (longs : TableValues) (tables : List Table) (trees : List StoredTable) (held : List HeldChange) → AllByRecursion (IsKeptChange longs tables trees) held → AreRows longs held
+rows_of_changes longs tables trees [] kept = tt
+rows_of_changes longs tables trees (h ∷ held) kept = (by (table_with_id tables h.table) kept.0.named h.before kept.0.row, rows_of_changes longs tables trees held kept.1)
   where
     by : (o : Option Table) → is_some o ≡ true → (row : Option (List ℕ)) → IfSome o (λ t. IfSome row (IsRowOf t)) → IfSome row IsRecordRow
     by None some row is = impossible some
     by (Some t) some None is = tt
     by (Some t) some (Some row) is = is.row
 
-pub are_rows : (tables : List Table) (trees : List StoredTable) (held : List HeldChange) → AreKept tables trees held → AreRows held
-are_rows tables trees held kept = rows_of_changes tables trees held kept.changes
+pub are_rows : (longs : TableValues) (tables : List Table) (trees : List StoredTable) (held : List HeldChange) → AreKeptWith longs tables trees held → AreRows longs held
+are_rows longs tables trees held kept = rows_of_changes longs tables trees held kept.changes
 
 -- ---- what is left
 
@@ -149,20 +150,20 @@ no_keys : (v : Bool) → not (true && (true && not v)) ≡ not (true && not v)
 no_keys v = refl
 
 -- a test of the record before the oldest change, and of the others
-left_of : (test : Option RecordFields → Bool) → test None ≡ false → (h : HeldChange) (row : List ℕ) → h.before ≡ Some row → (newest : Option RecordFields) (rest : List HeldRecord) (table : ℕ) (own : List ℕ)
+left_of : (longs : TableValues) (test : Option RecordFields → Bool) → test None ≡ false → (h : HeldChange) (row : List ℕ) → h.before ≡ Some row → (newest : Option RecordFields) (rest : List HeldRecord) (table : ℕ) (own : List ℕ)
     → (test newest || some_before test table own rest)
-    ≡ ((test newest || some_before test table own (held_record h ∷ rest)) && not (is_this h.table h.bookmark table own && (test (Some (record_of row)) && not (test newest || some_before test table own rest))))
-left_of test none h row is newest rest table own = by (is_this h.table h.bookmark table own) refl
+    ≡ ((test newest || some_before test table own (held_record_in longs h ∷ rest)) && not (is_this h.table h.bookmark table own && (test (Some (record_of (longs h.table) row)) && not (test newest || some_before test table own rest))))
+left_of longs test none h row is newest rest table own = by (is_this h.table h.bookmark table own) refl
   where
     k : Bool
-    k = test (Some (record_of row))
+    k = test (Some (record_of (longs h.table) row))
 
     passes : (this : Bool) → Bool
-    passes this = ((this && is_rewrite h.kind) && not (is_undone h.status)) && test (held_record h).before
+    passes this = ((this && is_rewrite h.kind) && not (is_undone h.status)) && test (held_record_in longs h).before
 
-    before_is : (w u : Bool) → (o : Option (List ℕ)) → o ≡ Some row → ((((true && w) && not u)) && test (cond (w && not u) (option_map record_of o) None)) ≡ true → k ≡ true
+    before_is : (w u : Bool) → (o : Option (List ℕ)) → o ≡ Some row → ((((true && w) && not u)) && test (cond (w && not u) (option_map (record_of (longs h.table)) o) None)) ≡ true → k ≡ true
     before_is true true o e p = impossible p
-    before_is true false o e p = sym (ap (λ (r : Option (List ℕ)). test (option_map record_of r)) e) ∙ p
+    before_is true false o e p = sym (ap (λ (r : Option (List ℕ)). test (option_map (record_of (longs h.table)) r)) e) ∙ p
     before_is false u o e p = impossible p
 
     by : (this : Bool) → is_this h.table h.bookmark table own ≡ this
@@ -175,36 +176,36 @@ left_of test none h row is newest rest table own = by (is_this h.table h.bookmar
         untouched (test newest) (some_before test table own rest) k
         ∙ (λ i. (test newest || (passes (sym e i) || some_before test table own rest)) && not (sym e i && (k && not (test newest || some_before test table own rest))))
 
-table_left : (trees : List StoredTable) (nodes : List Node) (h : HeldChange) (rest : List HeldRecord) (row : List ℕ) → h.before ≡ Some row → (t : Table) → IsKeptTable trees nodes (held_record h ∷ rest) t → IsLeft trees nodes rest h.table h.bookmark (record_of row) t
-table_left trees nodes h rest row is t kept = record {
+table_left : (longs : TableValues) (vals : Values) (trees : List StoredTable) (nodes : List Node) (h : HeldChange) (rest : List HeldRecord) (row : List ℕ) → h.before ≡ Some row → (t : Table) → IsKeptTable trees vals nodes (held_record_in longs h ∷ rest) t → IsLeft trees vals nodes rest h.table h.bookmark (record_of (longs h.table) row) t
+table_left longs vals trees nodes h rest row is t kept = record {
   rules = kept.rules;
   rows = kept.rows;
   stands = λ own.
-      left_of is_some refl h row is (row_at (rows_of_nodes nodes) own) rest t.id own
-      ∙ ap (λ b. b && not (is_this h.table h.bookmark t.id own && not (has_variant (row_at (rows_of_nodes nodes) own) rest t.id own))) (sym (kept.stands own));
+      left_of longs is_some refl h row is (row_at (rows_of_nodes vals nodes) own) rest t.id own
+      ∙ ap (λ b. b && not (is_this h.table h.bookmark t.id own && not (has_variant (row_at (rows_of_nodes vals nodes) own) rest t.id own))) (sym (kept.stands own));
   entries = λ index. by index (secondary_rule t index) (kept.entries index);
 }
   where
-    by : (index : ℕ) (o : Option IndexRule) → IfSome o (λ rule. HoldsVariants (rows_of_nodes nodes) (held_record h ∷ rest) rule (schema_of t) t.id (index_entries trees t.id index))
-        → IfSome o (λ rule. (key own : List ℕ) → is_variant_key (row_at (rows_of_nodes nodes) own) rest rule (schema_of t) t.id key own
-        ≡ (has_entry key own (index_entries trees t.id index) && not (is_this h.table h.bookmark t.id own && is_gone_key (row_at (rows_of_nodes nodes) own) rest rule (schema_of t) t.id own (record_of row) key)))
+    by : (index : ℕ) (o : Option IndexRule) → IfSome o (λ rule. HoldsVariants (rows_of_nodes vals nodes) (held_record_in longs h ∷ rest) rule (schema_of t) t.id (index_entries trees t.id index))
+        → IfSome o (λ rule. (key own : List ℕ) → is_variant_key (row_at (rows_of_nodes vals nodes) own) rest rule (schema_of t) t.id key own
+        ≡ (has_entry key own (index_entries trees t.id index) && not (is_this h.table h.bookmark t.id own && is_gone_key (row_at (rows_of_nodes vals nodes) own) rest rule (schema_of t) t.id own (record_of (longs h.table) row) key)))
     by index None holds = tt
     by index (Some rule) holds = λ key own.
-        left_of (yields_key rule (schema_of t) key) refl h row is (row_at (rows_of_nodes nodes) own) rest t.id own
-        ∙ ap (λ b. b && not (is_this h.table h.bookmark t.id own && is_gone_key (row_at (rows_of_nodes nodes) own) rest rule (schema_of t) t.id own (record_of row) key)) (sym (holds key own))
+        left_of longs (yields_key rule (schema_of t) key) refl h row is (row_at (rows_of_nodes vals nodes) own) rest t.id own
+        ∙ ap (λ b. b && not (is_this h.table h.bookmark t.id own && is_gone_key (row_at (rows_of_nodes vals nodes) own) rest rule (schema_of t) t.id own (record_of (longs h.table) row) key)) (sym (holds key own))
 
 -- without the oldest change what it held is left
-pub oldest_left : (tables : List Table) (trees : List StoredTable) (h : HeldChange) (rest : List HeldChange) (row : List ℕ) → h.before ≡ Some row → AreKept tables trees (h ∷ rest) → AreLeft tables trees rest h.table h.bookmark (record_of row)
-oldest_left tables trees h rest row is kept = record {
+pub oldest_left : (longs : TableValues) (tables : List Table) (trees : List StoredTable) (h : HeldChange) (rest : List HeldChange) (row : List ℕ) → h.before ≡ Some row → AreKeptWith longs tables trees (h ∷ rest) → AreLeft longs tables trees rest h.table h.bookmark (record_of (longs h.table) row)
+oldest_left longs tables trees h rest row is kept = record {
   plain = kept.plain;
   numbers = kept.numbers;
   each = λ table. by table (table_with_id tables table) (kept.each table);
   changes = kept.changes.1;
 }
   where
-    by : (table : ℕ) (o : Option Table) → IfSome o (IsKeptTable trees (table_nodes trees table) (map held_record (h ∷ rest))) → IfSome o (IsLeft trees (table_nodes trees table) (map held_record rest) h.table h.bookmark (record_of row))
+    by : (table : ℕ) (o : Option Table) → IfSome o (IsKeptTable trees (longs table) (table_nodes trees table) (map (held_record_in longs) (h ∷ rest))) → IfSome o (IsLeft trees (longs table) (table_nodes trees table) (map (held_record_in longs) rest) h.table h.bookmark (record_of (longs h.table) row))
     by table None is_kept = tt
-    by table (Some t) is_kept = table_left trees (table_nodes trees table) h (map held_record rest) row is t is_kept
+    by table (Some t) is_kept = table_left longs (longs h.table) trees (table_nodes trees table) h (map (held_record_in longs) rest) row is t is_kept
 
 -- ---- tables have ids of their own
 
@@ -241,40 +242,40 @@ same_some : {X : Type 0} (x y : X) → Some x ≡ Some y → x ≡ y
 same_some x y e = cc
 
 -- the first of what was looked up
-pub first_within : (schema : Schema) (table : ℕ) (held : List HeldChange) → CanForget schema table held → 0 < length held
-first_within schema table [] can = absurd can
-first_within schema table (h ∷ held) can = omega arith
+pub first_within : (vals : Values) (schema : Schema) (table : ℕ) (held : List HeldChange) → CanForget vals schema table held → 0 < length held
+first_within vals schema table [] can = absurd can
+first_within vals schema table (h ∷ held) can = omega arith
 
-gone_rules : (schema : Schema) (row : Option (List ℕ)) (short : Type 0) (gone : RecordFields) → Some gone ≡ option_map record_of row → IfSome row (λ r. AllByRecursion (HasKeysOf schema (record_of r)) schema.indexes × short) → AllByRecursion (HasKeysOf schema gone) schema.indexes × short
-gone_rules schema None short gone is can = none_is gone (sym is)
-gone_rules schema (Some row) short gone is can = subst (λ (values : RecordFields). AllByRecursion (HasKeysOf schema values) schema.indexes × short) (sym (same_some gone (record_of row) is)) can
+gone_rules : (vals : Values) (schema : Schema) (row : Option (List ℕ)) (short : Type 0) (gone : RecordFields) → Some gone ≡ option_map (record_of vals) row → IfSome row (λ r. AllByRecursion (HasKeysOf schema (record_of vals r)) schema.indexes × short) → AllByRecursion (HasKeysOf schema gone) schema.indexes × short
+gone_rules vals schema None short gone is can = none_is gone (sym is)
+gone_rules vals schema (Some row) short gone is can = subst (λ (values : RecordFields). AllByRecursion (HasKeysOf schema values) schema.indexes × short) (sym (same_some gone (record_of vals row) is)) can
 
-pub can_take : (schema : Schema) (table : ℕ) (held : List HeldChange) → CanForget schema table held → (row : Option (List ℕ)) (bookmark : List ℕ) (gone : RecordFields) → slice_get (map (λ (h : HeldChange). h.before) held) 0 ≡ Some row → slice_get (map (λ (h : HeldChange). h.bookmark) held) 0 ≡ Some bookmark
-    → Some gone ≡ option_map record_of row → AllByRecursion (HasKeysOf schema gone) schema.indexes × (length bookmark ≤ 255)
-can_take schema table [] can row bookmark gone row_is bookmark_is is = absurd can
-can_take schema table (h ∷ held) can row bookmark gone row_is bookmark_is is =
+pub can_take : (vals : Values) (schema : Schema) (table : ℕ) (held : List HeldChange) → CanForget vals schema table held → (row : Option (List ℕ)) (bookmark : List ℕ) (gone : RecordFields) → slice_get (map (λ (h : HeldChange). h.before) held) 0 ≡ Some row → slice_get (map (λ (h : HeldChange). h.bookmark) held) 0 ≡ Some bookmark
+    → Some gone ≡ option_map (record_of vals) row → AllByRecursion (HasKeysOf schema gone) schema.indexes × (length bookmark ≤ 255)
+can_take vals schema table [] can row bookmark gone row_is bookmark_is is = absurd can
+can_take vals schema table (h ∷ held) can row bookmark gone row_is bookmark_is is =
     subst (λ (b : List ℕ). AllByRecursion (HasKeysOf schema gone) schema.indexes × (length b ≤ 255)) (same_some h.bookmark bookmark bookmark_is)
-    (gone_rules schema h.before (length h.bookmark ≤ 255) gone (is ∙ ap (option_map record_of) (sym (same_some h.before row row_is))) can.1)
+    (gone_rules vals schema h.before (length h.bookmark ≤ 255) gone (is ∙ ap (option_map (record_of vals)) (sym (same_some h.before row row_is))) can.1)
 
-pub forgotten_left : (schema : Schema) (table : ℕ) (held : List HeldChange) → CanForget schema table held → (row : Option (List ℕ)) (bookmark : List ℕ) (gone : RecordFields) → slice_get (map (λ (h : HeldChange). h.before) held) 0 ≡ Some row → slice_get (map (λ (h : HeldChange). h.bookmark) held) 0 ≡ Some bookmark
-    → Some gone ≡ option_map record_of row → (tables : List Table) (trees : List StoredTable) → AreKept tables trees held → AreLeft tables trees (drop 1 held) table bookmark gone
-forgotten_left schema table [] can row bookmark gone row_is bookmark_is is tables trees kept = absurd can
-forgotten_left schema table (h ∷ held) can None bookmark gone row_is bookmark_is is tables trees kept = none_is gone (sym is)
-forgotten_left schema table (h ∷ held) can (Some row) bookmark gone row_is bookmark_is is tables trees kept =
-    subst (λ (b : List ℕ). AreLeft tables trees held table b gone) (same_some h.bookmark bookmark bookmark_is)
-    (subst (λ (n : ℕ). AreLeft tables trees held n h.bookmark gone) can.0
-    (subst (λ (values : RecordFields). AreLeft tables trees held h.table h.bookmark values) (sym (same_some gone (record_of row) is))
-    (oldest_left tables trees h held row (same_some h.before (Some row) row_is) kept)))
+pub forgotten_left : (longs : TableValues) (vals : Values) (schema : Schema) (table : ℕ) (held : List HeldChange) → CanForget vals schema table held → (row : Option (List ℕ)) (bookmark : List ℕ) (gone : RecordFields) → slice_get (map (λ (h : HeldChange). h.before) held) 0 ≡ Some row → slice_get (map (λ (h : HeldChange). h.bookmark) held) 0 ≡ Some bookmark
+    → Some gone ≡ option_map (record_of vals) row → (tables : List Table) (trees : List StoredTable) → AreKeptWith longs tables trees held → AreLeft longs tables trees (drop 1 held) table bookmark gone
+forgotten_left longs vals schema table [] can row bookmark gone row_is bookmark_is is tables trees kept = absurd can
+forgotten_left longs vals schema table (h ∷ held) can None bookmark gone row_is bookmark_is is tables trees kept = none_is gone (sym is)
+forgotten_left longs vals schema table (h ∷ held) can (Some row) bookmark gone row_is bookmark_is is tables trees kept =
+    subst (λ (b : List ℕ). AreLeft longs tables trees held table b gone) (same_some h.bookmark bookmark bookmark_is)
+    (subst (λ (n : ℕ). AreLeft longs tables trees held n h.bookmark gone) can.0
+    (subst (λ (values : RecordFields). AreLeft longs tables trees held h.table h.bookmark values) (sym (same_some gone (record_of vals row) is))
+    (oldest_left longs tables trees h held row (same_some h.before (Some row) row_is) kept)))
 
-nothing_before : (h : HeldChange) → h.before ≡ None → (held : List HeldChange) → SameVariants (map held_record held) (map held_record (h ∷ held))
-nothing_before h e held test none table bookmark =
-    sym (ap (λ b. b || some_before test table bookmark (map held_record held)) (ap (λ (r : Option RecordFields). is_standing_rewrite table bookmark (held_record h) && test r) no_record ∙ never (is_standing_rewrite table bookmark (held_record h))))
+nothing_before : (longs : TableValues) (h : HeldChange) → h.before ≡ None → (held : List HeldChange) → SameVariants (map (held_record_in longs) held) (map (held_record_in longs) (h ∷ held))
+nothing_before longs h e held test none table bookmark =
+    sym (ap (λ b. b || some_before test table bookmark (map (held_record_in longs) held)) (ap (λ (r : Option RecordFields). is_standing_rewrite table bookmark (held_record_in longs h) && test r) no_record ∙ never (is_standing_rewrite table bookmark (held_record_in longs h))))
   where
     either_none : (b : Bool) → cond b (option_map record_of None) None ≡ None
     either_none true = refl
     either_none false = refl
 
-    no_record : (held_record h).before ≡ None
+    no_record : (held_record_in longs h).before ≡ None
     no_record = ap (λ (row : Option (List ℕ)). cond (is_rewrite h.kind && not (is_undone h.status)) (option_map record_of row) None) e ∙ either_none (is_rewrite h.kind && not (is_undone h.status))
 
     never : (b : Bool) → (b && test None) ≡ false
@@ -282,15 +283,15 @@ nothing_before h e held test none table bookmark =
     never false = refl
 
 -- where the oldest change holds no row, nothing is left of it
-pub nothing_left : (schema : Schema) (table : ℕ) (held : List HeldChange) → CanForget schema table held → (row : Option (List ℕ)) → slice_get (map (λ (h : HeldChange). h.before) held) 0 ≡ Some row → None ≡ option_map record_of row
-    → (tables : List Table) (trees : List StoredTable) → AreKept tables trees held → AreKept tables trees (drop 1 held)
-nothing_left schema table [] can row row_is is tables trees kept = absurd can
-nothing_left schema table (h ∷ held) can row row_is is tables trees kept =
-    changes_kept tables trees (h ∷ held) held kept kept.changes.1 (nothing_before h (no_row h.before (is ∙ ap (option_map record_of) (sym (same_some h.before row row_is)))) held)
+pub nothing_left : (longs : TableValues) (vals : Values) (schema : Schema) (table : ℕ) (held : List HeldChange) → CanForget vals schema table held → (row : Option (List ℕ)) → slice_get (map (λ (h : HeldChange). h.before) held) 0 ≡ Some row → None ≡ option_map (record_of vals) row
+    → (tables : List Table) (trees : List StoredTable) → AreKeptWith longs tables trees held → AreKeptWith longs tables trees (drop 1 held)
+nothing_left longs vals schema table [] can row row_is is tables trees kept = absurd can
+nothing_left longs vals schema table (h ∷ held) can row row_is is tables trees kept =
+    changes_kept longs tables trees (h ∷ held) held kept kept.changes.1 (nothing_before longs h (no_row h.before (is ∙ ap (option_map (record_of vals)) (sym (same_some h.before row row_is)))) held)
   where
-    no_row : (o : Option (List ℕ)) → None ≡ option_map record_of o → o ≡ None
+    no_row : (o : Option (List ℕ)) → None ≡ option_map (record_of vals) o → o ≡ None
     no_row None e = refl
-    no_row (Some r) e = none_is (record_of r) e
+    no_row (Some r) e = none_is (record_of vals r) e
 
 -- ---- that it can be forgotten
 
@@ -301,28 +302,28 @@ always_first [] some e = absurd (no some)
     no h = omega arith
 always_first (h ∷ held) some e = none_is h.table e
 
-pub always_named : {A : Type 0} (tables : List Table) (trees : List StoredTable) (held : List HeldChange) (table : ℕ) → AreKept tables trees held → Some table ≡ first_table held → None ≡ table_with_id tables table → A
-always_named {A} tables trees [] table kept first none = none_is table (sym first)
-always_named {A} tables trees (h ∷ held) table kept first none =
+pub always_named : (longs : TableValues) → {A : Type 0} (tables : List Table) (trees : List StoredTable) (held : List HeldChange) (table : ℕ) → AreKeptWith longs tables trees held → Some table ≡ first_table held → None ≡ table_with_id tables table → A
+always_named longs {A} tables trees [] table kept first none = none_is table (sym first)
+always_named longs {A} tables trees (h ∷ held) table kept first none =
     impossible (ap is_some none ∙ ap (λ n. is_some (table_with_id tables n)) (same_some table h.table first) ∙ kept.changes.0.named)
 
-pub can_forget : (tables : List Table) (trees : List StoredTable) (held : List HeldChange) (table : ℕ) (schema : Schema) → AreKept tables trees held → Some table ≡ first_table held → IsSomeAnd (table_with_id tables table) (λ t. schema ≡ schema_of t) → CanForget schema table held
-can_forget tables trees [] table schema kept first same = none_is table (sym first)
-can_forget tables trees (h ∷ held) table schema kept first same = (sym is, by (is_rewrite h.kind) refl)
+pub can_forget : (longs : TableValues) (tables : List Table) (trees : List StoredTable) (held : List HeldChange) (table : ℕ) (schema : Schema) → AreKeptWith longs tables trees held → Some table ≡ first_table held → IsSomeAnd (table_with_id tables table) (λ t. schema ≡ schema_of t) → CanForget (longs table) schema table held
+can_forget longs tables trees [] table schema kept first same = none_is table (sym first)
+can_forget longs tables trees (h ∷ held) table schema kept first same = (sym is, by (is_rewrite h.kind) refl)
   where
     is : table ≡ h.table
     is = same_some table h.table first
 
-    none : (o : Option (List ℕ)) → o ≡ None → IfSome o (λ row. AllByRecursion (HasKeysOf schema (record_of row)) schema.indexes × (length h.bookmark ≤ 255))
+    none : (o : Option (List ℕ)) → o ≡ None → IfSome o (λ row. AllByRecursion (HasKeysOf schema (record_of (longs table) row)) schema.indexes × (length h.bookmark ≤ 255))
     none None e = tt
     none (Some row) e = none_is row (sym e)
 
-    of : (o : Option Table) → IsSomeAnd o (λ t. schema ≡ schema_of t) → IfSome o (IsKeptTable trees (table_nodes trees h.table) (map held_record (h ∷ held))) → (row : Option (List ℕ)) → IfSome o (λ t. IfSome row (IsRowUnder t h.bookmark))
-        → IfSome row (λ r. AllByRecursion (HasKeysOf schema (record_of r)) schema.indexes × (length h.bookmark ≤ 255))
+    of : (o : Option Table) → IsSomeAnd o (λ t. schema ≡ schema_of t) → IfSome o (IsKeptTable trees (longs h.table) (table_nodes trees h.table) (map (held_record_in longs) (h ∷ held))) → (row : Option (List ℕ)) → IfSome o (λ t. IfSome row (IsRowUnder (longs table) t h.bookmark))
+        → IfSome row (λ r. AllByRecursion (HasKeysOf schema (record_of (longs table) r)) schema.indexes × (length h.bookmark ≤ 255))
     of None same is_kept row is = absurd same
     of (Some t) same is_kept None is = tt
-    of (Some t) same is_kept (Some row) is = (has_keys t schema (record_of row) same is_kept.rules is.indexable, short_bookmark t (record_of row) h.bookmark is_kept.rules is.own)
+    of (Some t) same is_kept (Some row) is = (has_keys t schema (record_of (longs table) row) same is_kept.rules is.indexable, short_bookmark t (record_of (longs table) row) h.bookmark is_kept.rules is.own)
 
-    by : (b : Bool) → is_rewrite h.kind ≡ b → IfSome h.before (λ row. AllByRecursion (HasKeysOf schema (record_of row)) schema.indexes × (length h.bookmark ≤ 255))
+    by : (b : Bool) → is_rewrite h.kind ≡ b → IfSome h.before (λ row. AllByRecursion (HasKeysOf schema (record_of (longs table) row)) schema.indexes × (length h.bookmark ≤ 255))
     by true e = of (table_with_id tables h.table) (subst (λ (n : ℕ). IsSomeAnd (table_with_id tables n) (λ t. schema ≡ schema_of t)) is same) (kept.each h.table) h.before (kept.changes.0.before e)
     by false e = none h.before (kept.changes.0.other e)

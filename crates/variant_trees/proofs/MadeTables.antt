@@ -14,10 +14,10 @@ use Rattle.table_trees.specs.StoredTables.{StoredTable, has_table, is_table, new
 use Rattle.version_history.proofs.Lists.{all_true}
 use Rattle.version_keys.proofs.IndexNumbers.{found_in_filter}
 use Rattle.version_keys.proofs.SchemaKeys.{with_last}
-use Rattle.stored_variants.specs.RecordRows.{rows_of_nodes}
+use Rattle.stored_variants.specs.RecordRows.{TableValues, rows_of_nodes}
 use Rattle.stored_variants.specs.SchemaSteps.{IsMade}
-use Rattle.stored_variants.specs.VersionsKept.{AreKept, IsKeptTable, needed_trees, tree_numbers}
-use Rattle.stored_variants.specs.VersionsView.{with_newest}
+use Rattle.stored_variants.specs.VersionsKept.{AreKeptWith, IsKeptTable, needed_trees, tree_numbers}
+use Rattle.stored_variants.specs.VersionsView.{with_newest_by}
 use Rattle.stored_variants.proofs.Dropped.{has_trees}
 use Rattle.variant_trees.proofs.Stepping.{IsSettled, StepsTo, if_some, is_made, kept_of, map_filter, map_last, map_same, moved, newest_same, settled_of}
 use Rattle.stored_variants.proofs.Tables.{found_number, no_nodes}
@@ -44,11 +44,11 @@ none_above low high (t ∷ tables) rise id lt =
 pub none_new : (greatest : ℕ) (tables : List Table) → ids_rise 0 greatest tables ≡ true → (id : ℕ) → greatest < id → table_with_id tables id ≡ None
 none_new greatest tables rise id lt = none_above 0 greatest tables rise id lt
 
-pub no_tree : (tables : List Table) (trees : List StoredTable) → AreKept tables trees [] → (id : ℕ) → table_with_id tables id ≡ None → has_table trees id ≡ false
-no_tree tables trees kept id none = has_trees trees tables id kept.numbers ∙ ap is_some none
+pub no_tree : (longs : TableValues) (tables : List Table) (trees : List StoredTable) → AreKeptWith longs tables trees [] → (id : ℕ) → table_with_id tables id ≡ None → has_table trees id ≡ false
+no_tree longs tables trees kept id none = has_trees trees tables id kept.numbers ∙ ap is_some none
 
-pub a_tree : (tables : List Table) (trees : List StoredTable) → AreKept tables trees [] → (id : ℕ) → is_some (table_with_id tables id) ≡ true → has_table trees id ≡ true
-a_tree tables trees kept id there = has_trees trees tables id kept.numbers ∙ there
+pub a_tree : (longs : TableValues) (tables : List Table) (trees : List StoredTable) → AreKeptWith longs tables trees [] → (id : ℕ) → is_some (table_with_id tables id) ≡ true → has_table trees id ≡ true
+a_tree longs tables trees kept id there = has_trees trees tables id kept.numbers ∙ there
 
 -- ---- a table comes
 
@@ -56,24 +56,24 @@ pub record NewTableLaws : Type 0 where
   pub nodes : (tables : List StoredTable) (table other : ℕ) → table_nodes (tables ++ new_tree table ∷ []) other ≡ table_nodes tables other
   pub indexes : (tables : List StoredTable) (table other : ℕ) → table_indexes (tables ++ new_tree table ∷ []) other ≡ table_indexes tables other
 
-new_is_settled : (other : List StoredTable) (id : ℕ) (name : List ℕ) → table_nodes other id ≡ [] → IsSettled other (new_table id name)
-new_is_settled other id name nodes = subst (λ (n : List Node). IsKeptTable other n [] (new_table id name)) (sym nodes) (record {
+new_is_settled : (longs : TableValues) (other : List StoredTable) (id : ℕ) (name : List ℕ) → table_nodes other id ≡ [] → IsSettled longs other (new_table id name)
+new_is_settled longs other id name nodes = subst (λ (n : List Node). IsKeptTable other (longs t.id) n [] (new_table id name)) (sym nodes) (record {
   rules = tt;
   rows = λ bookmark. tt;
   stands = λ bookmark. refl;
   entries = λ index. tt;
 })
 
-pub table_comes : NewTableLaws → (id : TableId) (name : List ℕ) (tables : List Table) (trees : List StoredTable) → AreKept tables trees [] → table_with_id tables id.0 ≡ None → StepsTo (step.CreateTable id name) tables trees (trees ++ new_tree id.0 ∷ [])
-table_comes laws id name tables trees kept none = record {
-  kept = kept_of (tables ++ new_table id.0 name ∷ []) other
+pub table_comes : (longs : TableValues) → NewTableLaws → (id : TableId) (name : List ℕ) (tables : List Table) (trees : List StoredTable) → AreKeptWith longs tables trees [] → table_with_id tables id.0 ≡ None → StepsTo longs (step.CreateTable id name) tables trees (trees ++ new_tree id.0 ∷ [])
+table_comes longs laws id name tables trees kept none = record {
+  kept = kept_of longs (tables ++ new_table id.0 name ∷ []) other
       (map_last without_rows tables (new_table id.0 name) ∙ ap (λ (ts : List Table). ts ++ new_table id.0 name ∷ []) kept.plain)
       (map_last tree_numbers trees (new_tree id.0) ∙ ap (λ (ns : List (ℕ × List ℕ)). ns ++ (id.0, []) ∷ []) kept.numbers ∙ sym (map_last needed_trees tables (new_table id.0 name)))
-      (λ n. with_last (IsSettled other) (new_table id.0 name) (new_is_settled other id.0 name empty) tables n
-      (if_some (IsSettled trees) (IsSettled other) (λ t k. moved trees other t (laws.nodes trees id.0 t.id) (laws.indexes trees id.0 t.id) k) (table_with_id tables n) (settled_of tables trees kept n)));
+      (λ n. with_last (IsSettled longs other) (new_table id.0 name) (new_is_settled longs other id.0 name empty) tables n
+      (if_some (IsSettled longs trees) (IsSettled longs other) (λ t k. moved longs trees other t (laws.nodes trees id.0 t.id) (laws.indexes trees id.0 t.id) k) (table_with_id tables n) (settled_of longs tables trees kept n)));
   shown =
-      map_last (with_newest other) tables (new_table id.0 name)
-      ∙ (λ i. map_same (with_newest other) (with_newest trees) (λ t. newest_same trees other t (laws.nodes trees id.0 t.id)) tables i ++ record (new_table id.0 name) { rows = rows_of_nodes (empty i) } ∷ []);
+      map_last (with_newest_by longs other) tables (new_table id.0 name)
+      ∙ (λ i. map_same (with_newest_by longs other) (with_newest_by longs trees) (λ t. newest_same longs trees other t (laws.nodes trees id.0 t.id)) tables i ++ record (new_table id.0 name) { rows = rows_of_nodes (longs id.0) (empty i) } ∷ []);
 }
   where
     other : List StoredTable
@@ -133,24 +133,24 @@ left_at P R d tables g h id = cases (id == d) refl
         (sym (found_in_filter (λ t. t.id == id) (stays d) tables (all_true (λ t. (t.id == id) ≡ true → stays d t ≡ true) (λ t f. ap (λ n. not (n == d)) (same_number t.id id f) ∙ ap not e) tables)))
         (other (table_with_id tables id) refl e (h id))
 
-left_shown : OldTableLaws → (trees : List StoredTable) (id : ℕ) (tables : List Table) → map (with_newest (without_table id trees)) (filter (stays id) tables) ≡ filter (stays id) (map (with_newest trees) tables)
-left_shown laws trees id [] = refl
-left_shown laws trees id (t ∷ tables) = by (t.id == id) refl (left_shown laws trees id tables)
+left_shown : (longs : TableValues) → OldTableLaws → (trees : List StoredTable) (id : ℕ) (tables : List Table) → map (with_newest_by longs (without_table id trees)) (filter (stays id) tables) ≡ filter (stays id) (map (with_newest_by longs trees) tables)
+left_shown longs laws trees id [] = refl
+left_shown longs laws trees id (t ∷ tables) = by (t.id == id) refl (left_shown longs laws trees id tables)
   where
-    by : (b : Bool) → (t.id == id) ≡ b → map (with_newest (without_table id trees)) (filter (stays id) tables) ≡ filter (stays id) (map (with_newest trees) tables)
-        → map (with_newest (without_table id trees)) (cond (not b) (t ∷ filter (stays id) tables) (filter (stays id) tables)) ≡ cond (not b) (with_newest trees t ∷ filter (stays id) (map (with_newest trees) tables)) (filter (stays id) (map (with_newest trees) tables))
+    by : (b : Bool) → (t.id == id) ≡ b → map (with_newest_by longs (without_table id trees)) (filter (stays id) tables) ≡ filter (stays id) (map (with_newest_by longs trees) tables)
+        → map (with_newest_by longs (without_table id trees)) (cond (not b) (t ∷ filter (stays id) tables) (filter (stays id) tables)) ≡ cond (not b) (with_newest_by longs trees t ∷ filter (stays id) (map (with_newest_by longs trees) tables)) (filter (stays id) (map (with_newest_by longs trees) tables))
     by true e rest = rest
-    by false e rest = λ i. newest_same trees (without_table id trees) t (laws.nodes trees id t.id (apart_from t.id id e)) i ∷ rest i
+    by false e rest = λ i. newest_same longs trees (without_table id trees) t (laws.nodes trees id t.id (apart_from t.id id e)) i ∷ rest i
 
-pub table_goes : OldTableLaws → (id : TableId) (tables : List Table) (trees : List StoredTable) → AreKept tables trees [] → StepsTo (step.DeleteTable id) tables trees (without_table id.0 trees)
-table_goes laws id tables trees kept = record {
-  kept = kept_of (filter (stays id.0) tables) (without_table id.0 trees)
+pub table_goes : (longs : TableValues) → OldTableLaws → (id : TableId) (tables : List Table) (trees : List StoredTable) → AreKeptWith longs tables trees [] → StepsTo longs (step.DeleteTable id) tables trees (without_table id.0 trees)
+table_goes longs laws id tables trees kept = record {
+  kept = kept_of longs (filter (stays id.0) tables) (without_table id.0 trees)
       (map_filter without_rows (stays id.0) tables ∙ ap (filter (stays id.0)) kept.plain)
       (map_filter tree_numbers (λ p. not (p.0 == id.0)) trees ∙ ap (filter (λ p. not (p.0 == id.0))) kept.numbers ∙ sym (map_filter needed_trees (λ p. not (p.0 == id.0)) tables))
-      (left_at (IsSettled trees) (IsSettled (without_table id.0 trees)) id.0 tables
-      (λ t apart k. moved trees (without_table id.0 trees) t (laws.nodes trees id.0 t.id (apart_from t.id id.0 apart)) (laws.indexes trees id.0 t.id (apart_from t.id id.0 apart)) k)
-      (settled_of tables trees kept));
-  shown = left_shown laws trees id.0 tables;
+      (left_at (IsSettled longs trees) (IsSettled longs (without_table id.0 trees)) id.0 tables
+      (λ t apart k. moved longs trees (without_table id.0 trees) t (laws.nodes trees id.0 t.id (apart_from t.id id.0 apart)) (laws.indexes trees id.0 t.id (apart_from t.id id.0 apart)) k)
+      (settled_of longs tables trees kept));
+  shown = left_shown longs laws trees id.0 tables;
 }
 
 -- ---- in a catalog
@@ -158,17 +158,17 @@ table_goes laws id tables trees kept = record {
 pub lower : (a b : ℕ) → a < b → nat_lt a b ≡ true
 lower a b lt = grind (arith, nat_tests)
 
-pub create_made : NewTableLaws → (made : SchemaStep) (id : TableId) (name : List ℕ) → made ≡ step.CreateTable id name → (was : CatalogState) (trees : List StoredTable) → AreKept was.tables trees [] → IsNumbered was → was.greatest_table < id.0
+pub create_made : (longs : TableValues) → NewTableLaws → (made : SchemaStep) (id : TableId) (name : List ℕ) → made ≡ step.CreateTable id name → (was : CatalogState) (trees : List StoredTable) → AreKeptWith longs was.tables trees [] → IsNumbered was → was.greatest_table < id.0
     → (is : CatalogState) → is ≡ catalog_after was made → (other : List StoredTable) → other ≡ trees ++ new_tree id.0 ∷ [] → IsMade made was trees is other
-create_made laws made id name step_is was trees kept rise lt is is_after other other_is =
-    is_made made was trees is other is_after
-    (subst (λ (s : SchemaStep). StepsTo s was.tables trees other) (sym step_is)
-    (subst (λ (o : List StoredTable). StepsTo (step.CreateTable id name) was.tables trees o) (sym other_is)
-    (table_comes laws id name was.tables trees kept (none_new was.greatest_table was.tables rise id.0 lt))))
+create_made longs laws made id name step_is was trees kept rise lt is is_after other other_is =
+    is_made longs made was trees is other is_after
+    (subst (λ (s : SchemaStep). StepsTo longs s was.tables trees other) (sym step_is)
+    (subst (λ (o : List StoredTable). StepsTo longs (step.CreateTable id name) was.tables trees o) (sym other_is)
+    (table_comes longs laws id name was.tables trees kept (none_new was.greatest_table was.tables rise id.0 lt))))
 
-pub delete_made : OldTableLaws → (made : SchemaStep) (id : TableId) → made ≡ step.DeleteTable id → (was : CatalogState) (trees : List StoredTable) → AreKept was.tables trees []
+pub delete_made : (longs : TableValues) → OldTableLaws → (made : SchemaStep) (id : TableId) → made ≡ step.DeleteTable id → (was : CatalogState) (trees : List StoredTable) → AreKeptWith longs was.tables trees []
     → (is : CatalogState) → is ≡ catalog_after was made → (other : List StoredTable) → other ≡ without_table id.0 trees → IsMade made was trees is other
-delete_made laws made id step_is was trees kept is is_after other other_is =
-    is_made made was trees is other is_after
-    (subst (λ (s : SchemaStep). StepsTo s was.tables trees other) (sym step_is)
-    (subst (λ (o : List StoredTable). StepsTo (step.DeleteTable id) was.tables trees o) (sym other_is) (table_goes laws id was.tables trees kept)))
+delete_made longs laws made id step_is was trees kept is is_after other other_is =
+    is_made longs made was trees is other is_after
+    (subst (λ (s : SchemaStep). StepsTo longs s was.tables trees other) (sym step_is)
+    (subst (λ (o : List StoredTable). StepsTo longs (step.DeleteTable id) was.tables trees o) (sym other_is) (table_goes longs laws id was.tables trees kept)))

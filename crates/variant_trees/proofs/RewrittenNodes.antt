@@ -22,6 +22,7 @@ use Rattle.stored_variants.proofs.NodeRecords.{apart, key_is}
 use Rattle.stored_variants.proofs.NodeWalks.{IsNode, fewer_nodes, is_node_past, nodes_left}
 use Rattle.variant_trees.proofs.UndoneThere.{table_of_node}
 use Rattle.versioned_tables.proofs.Order.{beyond_more, not_itself}
+use Rattle.long_value.specs.Values.{Values}
 
 -- the nodes once those up to a place are written anew
 abbrev pub rewritten : Place → ℕ → List Node → List Node
@@ -184,8 +185,8 @@ pub record NodeLaws : Type 0 where
   pub others : (tables : List StoredTable) (table other : ℕ) (nodes : List Node) → other ≢ table → table_nodes (with_nodes table nodes tables) other ≡ table_nodes tables other
   pub indexes : (tables : List StoredTable) (table other : ℕ) (nodes : List Node) → table_indexes (with_nodes table nodes tables) other ≡ table_indexes tables other
 
-pub row_of_next : (place : Place) (nodes : List Node) (bookmark row : List ℕ) → IsNode place nodes bookmark row → AllByRecursion HoldsRecord nodes → IsRecordRow row
-row_of_next place nodes bookmark row next all = subst IsRecordRow next.row (each_of HoldsRecord next.node nodes all (found_in (is_node_past place) next.node nodes next.next).0)
+pub row_of_next : (vals : Values) (place : Place) (nodes : List Node) (bookmark row : List ℕ) → IsNode place nodes bookmark row → AllByRecursion (HoldsRecord vals) nodes → IsRecordRow vals row
+row_of_next vals place nodes bookmark row next all = subst (IsRecordRow vals) next.row (each_of (HoldsRecord vals) next.node nodes all (found_in (is_node_past place) next.node nodes next.next).0)
 
 pub room_of_next : (place : Place) (column : ℕ) (nodes : List Node) (bookmark row : List ℕ) → IsNode place nodes bookmark row → All IsShortNode nodes → length (row_without column row) ≤ length row
     → IsSomeAnd (extent_in (rewritten place column nodes) bookmark) (λ extent. length (row_without column row) ≤ extent)

@@ -3,6 +3,7 @@ use Rattle.std.specs.Prelude.{◌≡◌, ◌≢◌, ℕ, List, map}
 use Rattle.column_set.specs.RecordValues.{remove_by_number}
 use Rattle.column_set.specs.RowReading.{row_in}
 use Rattle.column_set.specs.Rows.{row_bytes}
+use Rattle.long_value.specs.Values.{Values}
 use Rattle.page_image.specs.Page.{Node}
 use Rattle.table_trees.specs.StoredNodes.{put_data}
 use Rattle.table_trees.specs.StoredTables.{StoredTable, table_indexes, table_nodes}
@@ -17,8 +18,8 @@ abbrev pub node_without : ℕ → Node → Node
 node_without column n = put_data (row_without column n.data) n
 
 -- a node that has a record
-abbrev pub HoldsRecord : Node → Type 0
-HoldsRecord n = IsRecordRow n.data
+abbrev pub HoldsRecord : Values → Node → Type 0
+HoldsRecord values n = IsRecordRow values n.data
 
 -- One table has these nodes. All others keep theirs, and each table its indexes.
 pub record HasNodes (table : ℕ) (these : List Node) (trees other : List StoredTable) : Type 0 where

@@ -8,6 +8,7 @@ ghost use Rattle.database_state.specs.SchemaChanges.{has_column};
 ghost use Rattle.table_trees.specs.ShownCatalogs.{ShowsCatalog};
 ghost use Rattle.table_trees.specs.StoredTables.{table_nodes};
 ghost use Rattle.variant_trees.specs.LostColumns.{HasNodes, HoldsRecord, node_without};
+ghost use Rattle.stored_variants.specs.CountedValues.{AreCounted};
 ghost use Rattle.stored_variants.specs.SchemaSteps.{IsMade};
 ghost use Rattle.stored_variants.specs.VersionsKept.{AreKept};
 ghost use Rattle.index_derive.specs.declared.schema_calls.SchemaStep.TheVariants as step;
@@ -31,6 +32,7 @@ pub fn drop_column(
     column: ColumnId,
 ) -> Result<(), OutOfMemory>
     requires kept { AreKept catalog.old.tables trees.old.tables [] }
+    requires counts { AreCounted trees.old.tables [] }
     requires shown { ShowsCatalog trees.old.catalog catalog.old }
     requires step { made.now ≡ step.DeleteColumn table column }
     requires there { IsSomeAnd (table_with_id catalog.old.tables table.0) (λ t. has_column t column.0 ≡ true) }

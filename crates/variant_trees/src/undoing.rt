@@ -2,7 +2,7 @@
 
 ghost use Rattle.std.specs.Prelude.{◌≡◌, ◌<◌, ℕ, true, false, List, Some, [], map, IfSome, length, option_copied, option_map, slice_get, unwrap_or};
 ghost use Rattle.database_state.specs.Table.{Table, schema_of, table_with_id};
-ghost use Rattle.table_trees.specs.StoredTables.{table_nodes};
+ghost use Rattle.table_trees.specs.StoredTables.{table_long_values, table_nodes};
 ghost use Rattle.version_store.specs.HeldChanges.{HeldChange, is_rewrite};
 ghost use Rattle.variant_trees.specs.GoneKeys.{AreRows};
 ghost use Rattle.variant_trees.specs.LeftVariants.{DistinctIds};
@@ -11,19 +11,21 @@ ghost use Rattle.variant_trees.specs.UndoneChanges.{CanPutBack, IsBack, IsUndone
 ghost use Rattle.stored_variants.specs.VersionsKept.{AreKept};
 ghost use Rattle.stored_variants.specs.VersionsView.{with_newest};
 
+use crate::gone::Gone;
 use crate::nodes::row_in_node;
 use crate::sums::{add_in_place, opposite};
 use crate::variants::take_variant;
 use arrayvec::ArrayVec;
-use column_set::{MAX_ROW_SIZE, RowRef};
+use column_set::MAX_ROW_SIZE;
 use index_derive::Schema;
 use jet_base::TableId;
 use jet_catalog::Catalog;
+use kept_rows::release_row;
 use table_trees::{TableTrees, nodes_after_a_change, nodes_by_bookmark};
 use version_store::{ChangeKind, Versions};
 
 /// Takes back what a change made that has become undone. Of a put or a drop the row before it is again the newest one, and of
-/// the row that goes the keys go that no variant has, with the node where none is left; of a sum the opposite amount is
+/// the row that goes the keys go that no variant has, with the node where none is left, and its references to long values; of a sum the opposite amount is
 /// added; a lock made nothing. It takes no memory.
 pub fn put_back(
     catalog: &Catalog,
@@ -53,7 +55,7 @@ fn take_sum_out(
     what: ChangeKind,
 )
     requires within { place < length versions.now }
-    requires newest { (bookmark : List ℕ) → IfSome (row_under (table_nodes trees.old.tables table.0) bookmark) IsRecordRow }
+    requires newest { (bookmark : List ℕ) → IfSome (row_under (table_nodes trees.old.tables table.0) bookmark) (IsRecordRow (table_long_values trees.old.tables table.0)) }
     ensures back { (tables : List Table) (held : List HeldChange) (h : HeldChange) → WasOpen tables trees.old.tables versions.now place table.0 held h → h.kind ≡ what → is_rewrite h.kind ≡ false → IsBack tables trees.old.tables trees.new.tables versions.now h }
     ensures catalog { trees.new.catalog ≡ trees.old.catalog }
 {
@@ -109,9 +111,9 @@ fn put_back_in(
     place: usize,
 )
     requires can { (h : HeldChange) × CanPutBack schema.now table.0 trees.old.tables versions.now place h }
-    requires rows { AreRows versions.now }
-    ensures kept { (tables : List Table) (held : List HeldChange) (h : HeldChange) → DistinctIds tables → IfSome (table_with_id tables table.0) (λ t. schema.now ≡ schema_of t) → IsUndone held place h versions.now → h.table ≡ table.0 → AreKept tables trees.old.tables held → AreKept tables trees.new.tables versions.now }
-    ensures shown { (tables : List Table) (h : HeldChange) → slice_get versions.now place ≡ Some h → map (with_newest trees.new.tables) tables ≡ tables_put_back (map (with_newest trees.old.tables) tables) h }
+    requires rows { AreRows (table_long_values trees.old.tables) versions.now }
+    requires counted { (held : List HeldChange) (h : HeldChange) × IsUndone held place h versions.now × (h.table ≡ table.0) × AreCounted trees.old.tables held }
+    ensures back { (tables : List Table) (held : List HeldChange) (h : HeldChange) → DistinctIds tables → IfSome (table_with_id tables table.0) (λ t. schema.now ≡ schema_of t) → IsUndone held place h versions.now → h.table ≡ table.0 → AreKept tables trees.old.tables held → AreCounted trees.old.tables held → IsBack tables trees.old.tables trees.new.tables versions.now h }
     ensures catalog { trees.new.catalog ≡ trees.old.catalog }
 {
     nodes_after_a_change();
@@ -123,8 +125,9 @@ fn put_back_in(
         Some(newest) => {
             trees.replace(table, bookmark, row);
             trees.nodes_are_in_order();
-            let gone = RowRef::new(newest.as_slice());
-            take_variant(trees, versions, 0, table, schema, bookmark, &gone);
+            let gone = Gone::Row(newest.as_slice());
+            take_variant(trees, versions, 0, table, schema, bookmark, gone);
+            release_row(trees, table, newest.as_slice());
         }
         None => {
             if !row.is_empty() {

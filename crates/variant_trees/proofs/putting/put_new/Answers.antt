@@ -6,6 +6,7 @@ use Rattle.variant_trees.specs.PutStages.{HasVariantKeys}
 use Rattle.variant_trees.proofs.KeysPut.{taken_rules}
 use Rattle.variant_trees.proofs.HalfPuts.{table_stays}
 use Rattle.variant_trees.proofs.NewPuts.{new_node_is_there, new_put, new_put_done, new_put_with_keys}
+use Rattle.table_trees.specs.StoredTables.{table_long_values}
 use Rattle.variant_trees.proofs.putting.put_new.Goals as goal
 
 pub take_back_new-requires-clause-there : goal.take_back_new-requires-clause-there
@@ -47,4 +48,4 @@ returns-in-Err-push-clause-same c =
     c.take_back_new-in-Err-push.ensures.back c.args.trees.now.tables c.args.row.now
     (new_put_with_keys c.args.table.0 c.args.bookmark.now c.args.row.now (record_keys c.args.schema.now.indexes c.args.schema.now c.args.values.now) c.args.trees.now.tables c.insert_row.new.trees.tables c.put_keys.new.trees.tables c.in-Ok.ensures.ok c.in-Ok-put_keys.ensures.ok)
     c.requires.absent
-    (subst (λ (held : List HeldChange). HasVariantKeys None (held_from 0 held) c.args.schema.now c.args.table.0 c.args.bookmark.now c.args.trees.now.tables) (sym c.in-Err-push.ensures.err) c.requires.keys)
+    (subst (λ (held : List HeldChange). HasVariantKeys None (held_from (table_long_values c.args.trees.now.tables) 0 held) c.args.schema.now c.args.table.0 c.args.bookmark.now c.args.trees.now.tables) (sym c.in-Err-push.ensures.err) c.requires.keys)

@@ -1,5 +1,5 @@
 use Rattle.std.proofs.Common.{List, find, length, option_map, sym, subst, ◌∙◌}
-use Rattle.table_trees.specs.StoredTables.{StoredTable, table_nodes}
+use Rattle.table_trees.specs.StoredTables.{table_long_values, StoredTable, table_nodes}
 use Rattle.variant_trees.specs.GoneKeys.{held_from}
 use Rattle.stored_variants.specs.PutRecords.{record_keys}
 use Rattle.variant_trees.specs.PutStages.{HasVariantKeys, IsPut}
@@ -44,5 +44,5 @@ pub returns-in-Err-push-clause-same : goal.returns-in-Err-push-clause-same
 returns-in-Err-push-clause-same c =
     c.take_back-in-Err-push.ensures.back c.args.trees.now.tables (ready_put c.args.table.0 c.args.bookmark.now (length c.args.row.now) (record_keys c.args.schema.now.indexes c.args.schema.now c.args.values.now) c.args.trees.now.tables c.make_room.new.trees.tables c.put_keys.new.trees.tables c.in-Ok.ensures.ok c.in-Ok-put_keys.ensures.ok)
     (node_there (find (has_key c.args.bookmark.now) (table_nodes c.args.trees.now.tables c.args.table.0)) c.args.extent c.requires.node)
-    (subst (λ (held : List HeldChange). HasVariantKeys (option_map record_of (row_under (table_nodes c.args.trees.now.tables c.args.table.0) c.args.bookmark.now)) (held_from 0 held) c.args.schema.now c.args.table.0 c.args.bookmark.now c.args.trees.now.tables)
+    (subst (λ (held : List HeldChange). HasVariantKeys (option_map (record_of (table_long_values c.args.trees.now.tables c.args.table.0)) (row_under (table_nodes c.args.trees.now.tables c.args.table.0) c.args.bookmark.now)) (held_from (table_long_values c.args.trees.now.tables) 0 held) c.args.schema.now c.args.table.0 c.args.bookmark.now c.args.trees.now.tables)
     (sym c.in-Err-push.ensures.err) c.requires.keys)

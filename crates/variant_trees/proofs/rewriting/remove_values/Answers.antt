@@ -1,7 +1,7 @@
 use Rattle.std.proofs.Common.{◌≡◌, ◌≤◌, ℕ, List, Some, length, refl, sym, ap, subst, ◌∙◌}
 use Rattle.column_set.specs.RowReading.{row_in}
 use Rattle.table_trees.specs.StoredNodes.{node_after}
-use Rattle.table_trees.specs.StoredTables.{table_nodes}
+use Rattle.table_trees.specs.StoredTables.{table_long_values, table_nodes}
 use Rattle.variant_trees.specs.LostColumns.{row_without}
 use Rattle.stored_variants.specs.RecordRows.{IsRecordRow}
 use Rattle.stored_variants.proofs.NodeWalks.{IsNode, next_node}
@@ -29,11 +29,11 @@ found_of c =
 next_of : (c : In-Some) → IsNode c.loop-bookmark.place (table_nodes c.args.trees.now.tables c.args.table.0) c.in-Some.bookmark.now c.in-Some.bytes.now
 next_of c = next_node c.loop-bookmark.place (table_nodes c.args.trees.now.tables c.args.table.0) c.in-Some.bookmark.now c.in-Some.bytes.now (found_of c)
 
-row_of : (c : In-Some) → IsRecordRow c.in-Some.bytes.now
-row_of c = row_of_next c.loop-bookmark.place (table_nodes c.args.trees.now.tables c.args.table.0) c.in-Some.bookmark.now c.in-Some.bytes.now (next_of c) c.requires
+row_of : (c : In-Some) → IsRecordRow (table_long_values c.args.trees.now.tables c.args.table.0) c.in-Some.bytes.now
+row_of c = row_of_next (table_long_values c.args.trees.now.tables c.args.table.0) c.loop-bookmark.place (table_nodes c.args.trees.now.tables c.args.table.0) c.in-Some.bookmark.now c.in-Some.bytes.now (next_of c) c.requires
 
 pub write_without_column-requires-clause-formed : goal.write_without_column-requires-clause-formed
-write_without_column-requires-clause-formed c = spelled_row c.in-Some.bytes.now (row_of (goal.at.write_without_column-requires-clause-formed c).In-Some)
+write_without_column-requires-clause-formed c = spelled_row (table_long_values c.args.trees.now.tables c.args.table.0) c.in-Some.bytes.now (row_of (goal.at.write_without_column-requires-clause-formed c).In-Some)
 
 pub write_without_column-requires-clause-small : goal.write_without_column-requires-clause-small
 write_without_column-requires-clause-small c = (row_of (goal.at.write_without_column-requires-clause-small c).In-Some).small

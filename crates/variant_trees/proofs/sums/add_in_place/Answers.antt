@@ -2,7 +2,7 @@ use Rattle.std.proofs.Common.{◌≡◌, ℕ, ◌≤◌, List, length, Option, r
 use Rattle.std.specs.Prelude.{IfSome, IsSomeAnd, pos}
 use Rattle.btree_inplace.specs.Order.{extent_in}
 use Rattle.column_set.specs.RowReading.{row_in}
-use Rattle.table_trees.specs.StoredTables.{table_nodes}
+use Rattle.table_trees.specs.StoredTables.{table_long_values, table_nodes}
 use Rattle.stored_variants.specs.RecordRows.{IsRecordRow}
 use Rattle.stored_variants.proofs.Dropped.{TreeLaws, room_in}
 use Rattle.variant_trees.proofs.SummedRows.{SumLaws, no_sum_shown, sum_done, written_over}
@@ -33,9 +33,9 @@ returns-in-Some-clause-kept c = λ tables held named kept.
       replaced = c.nodes_by_bookmark.ensures.replaced;
     } in
     let row = c.in-Some.row.items in
-    let is : IsRecordRow row = subst (λ (o : Option (List ℕ)). IfSome o IsRecordRow) (sym c.in-Some.ensures) c.requires in
+    let is : IsRecordRow (table_long_values c.args.trees.now.tables c.args.table.0) row = subst (λ (o : Option (List ℕ)). IfSome o (IsRecordRow (table_long_values c.args.trees.now.tables c.args.table.0))) (sym c.in-Some.ensures) c.requires in
     let text = c.as_slice.ensures.value ∙ written_over row c.add_to_number.new.row (c.add_to_number.ensures.length ∙ ap length c.as_mut_slice.ensures.value) in
-    (sum_done rows laws c.args.trees.now.tables c.replace.new.self.tables c.args.table c.args.bookmark.now row c.args.column c.args.addend c.as_slice.result.now (sym c.in-Some.ensures) c.nodes_are_in_order.ensures.sorted c.nodes_are_in_order-in-Some.ensures.sorted c.replace.ensures.tables
+    (sum_done (table_long_values c.args.trees.now.tables) rows laws c.args.trees.now.tables c.replace.new.self.tables c.args.table c.args.bookmark.now row c.args.column c.args.addend c.as_slice.result.now (sym c.in-Some.ensures) c.nodes_are_in_order.ensures.sorted c.nodes_are_in_order-in-Some.ensures.sorted c.replace.ensures.tables
     (λ number found long. text ∙ c.add_to_number.ensures.sum (row_in row) number is.formed (c.as_mut_slice.ensures.value ∙ is.spelled) found long) tables held named kept (pos c.args.addend) refl).0
 
 pub returns-in-Some-clause-shown : goal.returns-in-Some-clause-shown
@@ -55,10 +55,10 @@ returns-in-Some-clause-shown c = λ tables held named kept amount told.
       replaced = c.nodes_by_bookmark.ensures.replaced;
     } in
     let row = c.in-Some.row.items in
-    let is : IsRecordRow row = subst (λ (o : Option (List ℕ)). IfSome o IsRecordRow) (sym c.in-Some.ensures) c.requires in
+    let is : IsRecordRow (table_long_values c.args.trees.now.tables c.args.table.0) row = subst (λ (o : Option (List ℕ)). IfSome o (IsRecordRow (table_long_values c.args.trees.now.tables c.args.table.0))) (sym c.in-Some.ensures) c.requires in
     let text = c.as_slice.ensures.value ∙ written_over row c.add_to_number.new.row (c.add_to_number.ensures.length ∙ ap length c.as_mut_slice.ensures.value) in
-    (sum_done rows laws c.args.trees.now.tables c.replace.new.self.tables c.args.table c.args.bookmark.now row c.args.column c.args.addend c.as_slice.result.now (sym c.in-Some.ensures) c.nodes_are_in_order.ensures.sorted c.nodes_are_in_order-in-Some.ensures.sorted c.replace.ensures.tables
+    (sum_done (table_long_values c.args.trees.now.tables) rows laws c.args.trees.now.tables c.replace.new.self.tables c.args.table c.args.bookmark.now row c.args.column c.args.addend c.as_slice.result.now (sym c.in-Some.ensures) c.nodes_are_in_order.ensures.sorted c.nodes_are_in_order-in-Some.ensures.sorted c.replace.ensures.tables
     (λ number found long. text ∙ c.add_to_number.ensures.sum (row_in row) number is.formed (c.as_mut_slice.ensures.value ∙ is.spelled) found long) tables held named kept amount told).1
 
 pub returns-in-None-clause-shown : goal.returns-in-None-clause-shown
-returns-in-None-clause-shown c = λ tables held named kept amount is. no_sum_shown c.args.trees.now.tables c.nodes_are_in_order.ensures.sorted c.args.table c.args.bookmark.now c.args.column amount (sym c.in-None.ensures) tables
+returns-in-None-clause-shown c = λ tables held named kept amount is. no_sum_shown (table_long_values c.args.trees.now.tables) c.args.trees.now.tables c.nodes_are_in_order.ensures.sorted c.args.table c.args.bookmark.now c.args.column amount (sym c.in-None.ensures) tables

@@ -4,12 +4,12 @@ use Rattle.column_set.specs.RowReading.{row_in}
 use Rattle.column_set.specs.Rows.{RowFields, here_fields}
 use Rattle.cursor_nav.specs.Places.{are_sorted}
 use Rattle.table_trees.specs.StoredNodes.{bookmark_entries}
-use Rattle.table_trees.specs.StoredTables.{StoredTable, table_nodes}
+use Rattle.table_trees.specs.StoredTables.{table_long_values, StoredTable, table_nodes}
 use Rattle.version_store.specs.HeldChanges.{HeldChange}
 use Rattle.variant_trees.specs.LeftVariants.{AreLeft}
 use Rattle.stored_variants.specs.RecordRows.{IsRecordRow, row_under}
 use Rattle.stored_variants.specs.VersionsKept.{AreKept}
-use Rattle.stored_variants.specs.VersionsView.{with_newest}
+use Rattle.stored_variants.specs.VersionsView.{with_newest_by}
 use Rattle.stored_variants.proofs.Dropped.{TreeLaws}
 use Rattle.variant_trees.proofs.PutsBack.{Reads, all_back, back_spelled, left_back, newest_read, node_of_bytes, none_back, room_read, shown_back, shown_unchanged}
 use Rattle.variant_trees.proofs.Refilled.{Fills, filled}
@@ -33,7 +33,7 @@ take_variant-requires-clause-newest c =
     let under : row_under (table_nodes c.args.trees.now.tables c.args.table.0) c.bookmark_at-bookmark.result.now ≡ Some c.in-Some.newest.items = sym c.in-Some.ensures in
     let known : Fills laws c.args.trees.now.tables c.args.table.0 c.bookmark_at-bookmark.result.now c.bytes_of-row.result.now = fills laws c.args.trees.now.tables c.args.table.0 c.bookmark_at-bookmark.result.now c.bytes_of-row.result.now (node_of_row (table_nodes c.args.trees.now.tables c.args.table.0) c.bookmark_at-bookmark.result.now (ap is_some under)) c.nodes_are_in_order.ensures.sorted
     (λ n. subst (λ (trees : List StoredTable). are_sorted (bookmark_entries (table_nodes trees n)) ≡ true) c.replace.ensures.tables (c.nodes_are_in_order-in-Some.ensures.sorted n)) in
-    subst (λ (trees : List StoredTable). IfSome (row_under (table_nodes trees c.args.table.0) c.bookmark_at-bookmark.result.now) IsRecordRow) (sym c.replace.ensures.tables) (back_spelled laws c.args.schema.now c.args.table.0 c.args.trees.now.tables c.args.versions.now c.args.place c.bookmark_at-bookmark.result.now c.bytes_of-row.result.now reads known)
+    subst (λ (trees : List StoredTable). IfSome (row_under (table_nodes trees c.args.table.0) c.bookmark_at-bookmark.result.now) (IsRecordRow (table_long_values c.args.trees.now.tables c.args.table.0))) (sym c.replace.ensures.tables) (back_spelled laws c.args.schema.now c.args.table.0 c.args.trees.now.tables c.args.versions.now c.args.place c.bookmark_at-bookmark.result.now c.bytes_of-row.result.now reads known)
 
 pub take_variant-requires-clause-bookmark : goal.take_variant-requires-clause-bookmark
 take_variant-requires-clause-bookmark c =
@@ -73,11 +73,11 @@ returns-in-Some-clause-kept c = λ tables held h ids same was named kept.
     let under : row_under (table_nodes c.args.trees.now.tables c.args.table.0) c.bookmark_at-bookmark.result.now ≡ Some c.in-Some.newest.items = sym c.in-Some.ensures in
     let known : Fills laws c.args.trees.now.tables c.args.table.0 c.bookmark_at-bookmark.result.now c.bytes_of-row.result.now = fills laws c.args.trees.now.tables c.args.table.0 c.bookmark_at-bookmark.result.now c.bytes_of-row.result.now (node_of_row (table_nodes c.args.trees.now.tables c.args.table.0) c.bookmark_at-bookmark.result.now (ap is_some under)) c.nodes_are_in_order.ensures.sorted
     (λ n. subst (λ (trees : List StoredTable). are_sorted (bookmark_entries (table_nodes trees n)) ≡ true) c.replace.ensures.tables (c.nodes_are_in_order-in-Some.ensures.sorted n)) in
-    let spelled : IsRecordRow c.in-Some.newest.items = (newest_read c.args.schema.now c.args.table.0 c.args.trees.now.tables c.args.versions.now c.args.place c.bookmark_at-bookmark.result.now c.bytes_of-row.result.now reads c.in-Some.newest.items under).0 in
+    let spelled : IsRecordRow (table_long_values c.args.trees.now.tables c.args.table.0) c.in-Some.newest.items = (newest_read c.args.schema.now c.args.table.0 c.args.trees.now.tables c.args.versions.now c.args.place c.bookmark_at-bookmark.result.now c.bytes_of-row.result.now reads c.in-Some.newest.items under).0 in
     let gone : c.new-gone.result ≡ row_in c.in-Some.newest.items = c.new-gone.ensures.only (row_in c.in-Some.newest.items) spelled.formed (c.as_slice.ensures.value ∙ spelled.spelled) in
     c.take_variant.ensures.kept tables ids same
-    (subst (λ (trees : List StoredTable). AreLeft tables trees c.args.versions.now c.args.table.0 c.bookmark_at-bookmark.result.now (here_fields c.new-gone.result)) (sym c.replace.ensures.tables)
-    (subst (λ (row : RowFields). AreLeft tables (filled c.args.trees.now.tables c.args.table.0 c.bookmark_at-bookmark.result.now c.bytes_of-row.result.now) c.args.versions.now c.args.table.0 c.bookmark_at-bookmark.result.now (here_fields row)) (sym gone)
+    (subst (λ (trees : List StoredTable). AreLeft (table_long_values c.args.trees.now.tables) tables trees c.args.versions.now c.args.table.0 c.bookmark_at-bookmark.result.now (here_fields c.new-gone.result)) (sym c.replace.ensures.tables)
+    (subst (λ (row : RowFields). AreLeft (table_long_values c.args.trees.now.tables) tables (filled c.args.trees.now.tables c.args.table.0 c.bookmark_at-bookmark.result.now c.bytes_of-row.result.now) c.args.versions.now c.args.table.0 c.bookmark_at-bookmark.result.now (here_fields row)) (sym gone)
     (left_back laws c.args.schema.now c.args.table.0 c.args.trees.now.tables c.args.versions.now c.args.place c.bookmark_at-bookmark.result.now c.bytes_of-row.result.now reads known c.in-Some.newest.items under tables held h was kept)))
 
 pub returns-in-Some-clause-shown : goal.returns-in-Some-clause-shown
@@ -97,7 +97,7 @@ returns-in-Some-clause-shown c = λ tables h at.
     let under : row_under (table_nodes c.args.trees.now.tables c.args.table.0) c.bookmark_at-bookmark.result.now ≡ Some c.in-Some.newest.items = sym c.in-Some.ensures in
     let known : Fills laws c.args.trees.now.tables c.args.table.0 c.bookmark_at-bookmark.result.now c.bytes_of-row.result.now = fills laws c.args.trees.now.tables c.args.table.0 c.bookmark_at-bookmark.result.now c.bytes_of-row.result.now (node_of_row (table_nodes c.args.trees.now.tables c.args.table.0) c.bookmark_at-bookmark.result.now (ap is_some under)) c.nodes_are_in_order.ensures.sorted
     (λ n. subst (λ (trees : List StoredTable). are_sorted (bookmark_entries (table_nodes trees n)) ≡ true) c.replace.ensures.tables (c.nodes_are_in_order-in-Some.ensures.sorted n)) in
-    c.take_variant.ensures.newest tables ∙ ap (λ (trees : List StoredTable). map (with_newest trees) tables) c.replace.ensures.tables ∙ shown_back laws c.args.schema.now c.args.table.0 c.args.trees.now.tables c.args.versions.now c.args.place c.bookmark_at-bookmark.result.now c.bytes_of-row.result.now reads known tables h at
+    c.take_variant.ensures.newest tables ∙ ap (λ (trees : List StoredTable). map (with_newest_by (table_long_values c.args.trees.now.tables) trees) tables) c.replace.ensures.tables ∙ shown_back laws c.args.schema.now c.args.table.0 c.args.trees.now.tables c.args.versions.now c.args.place c.bookmark_at-bookmark.result.now c.bytes_of-row.result.now reads known tables h at
 
 pub returns-then-not-is_empty-clause-kept : goal.returns-then-not-is_empty-clause-kept
 returns-then-not-is_empty-clause-kept c = λ tables held h ids same was named kept.
@@ -134,7 +134,7 @@ returns-then-not-is_empty-clause-shown c = λ tables h at.
     } in
     let known : Fills laws c.args.trees.now.tables c.args.table.0 c.bookmark_at-bookmark.result.now c.bytes_of-row.result.now = fills laws c.args.trees.now.tables c.args.table.0 c.bookmark_at-bookmark.result.now c.bytes_of-row.result.now (node_of_bytes c.args.schema.now c.args.table.0 c.args.trees.now.tables c.args.versions.now c.args.place c.bookmark_at-bookmark.result.now c.bytes_of-row.result.now reads (sym c.is_empty.ensures ∙ c.if-not-is_empty.true)) c.nodes_are_in_order.ensures.sorted
     (λ n. subst (λ (trees : List StoredTable). are_sorted (bookmark_entries (table_nodes trees n)) ≡ true) c.replace-then-not-is_empty.ensures.tables (c.nodes_are_in_order-then-not-is_empty.ensures.sorted n)) in
-    ap (λ (trees : List StoredTable). map (with_newest trees) tables) c.replace-then-not-is_empty.ensures.tables ∙ shown_back laws c.args.schema.now c.args.table.0 c.args.trees.now.tables c.args.versions.now c.args.place c.bookmark_at-bookmark.result.now c.bytes_of-row.result.now reads known tables h at
+    ap (λ (trees : List StoredTable). map (with_newest_by (table_long_values c.args.trees.now.tables) trees) tables) c.replace-then-not-is_empty.ensures.tables ∙ shown_back laws c.args.schema.now c.args.table.0 c.args.trees.now.tables c.args.versions.now c.args.place c.bookmark_at-bookmark.result.now c.bytes_of-row.result.now reads known tables h at
 
 pub returns-else-not-is_empty-clause-kept : goal.returns-else-not-is_empty-clause-kept
 returns-else-not-is_empty-clause-kept c = λ tables held h ids same was named kept.

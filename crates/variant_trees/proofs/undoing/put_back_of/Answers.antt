@@ -3,10 +3,11 @@ use Rattle.std.specs.Prelude.{IfSome, IsSomeAnd, option_copied}
 use Rattle.database_state.specs.State.{undone}
 use Rattle.database_state.specs.Table.{Table, schema_of, table_with_id}
 use Rattle.version_store.specs.HeldChanges.{is_rewrite, with_status}
-use Rattle.stored_variants.specs.VersionsView.{with_newest}
+use Rattle.stored_variants.specs.VersionsView.{with_newest_by}
 use Rattle.variant_trees.proofs.Forgotten.{distinct_ids}
 use Rattle.variant_trees.proofs.OpenUndone.{always_found, before_is, can_put_back, place_now, rows_now, was_undone}
 use Rattle.variant_trees.proofs.PutBack.{inverse_back}
+use Rattle.table_trees.specs.StoredTables.{table_long_values}
 use Rattle.variant_trees.proofs.undoing.put_back_of.Goals as goal
 
 pub put_back_in-requires-clause-can : goal.put_back_in-requires-clause-can
@@ -25,7 +26,7 @@ returns-in-Some-clause-back c = λ held h was.
     let rewrites : is_rewrite h.kind ≡ true = c.requires.rewrites (with_status undone h) (place_now c.args.catalog.now.tables c.args.trees.now.tables c.args.versions.now c.args.place c.args.table.0 held h was) in
     record {
       kept = c.put_back_in.ensures.kept c.args.catalog.now.tables held h (distinct_ids c.args.catalog.now c.tables.ensures.numbered) same (was_undone c.args.catalog.now.tables c.args.trees.now.tables c.args.versions.now c.args.place c.args.table.0 held h was rewrites) was.named was.kept;
-      shown = c.put_back_in.ensures.shown c.args.catalog.now.tables (with_status undone h) (place_now c.args.catalog.now.tables c.args.trees.now.tables c.args.versions.now c.args.place c.args.table.0 held h was) ∙ sym (inverse_back (map (with_newest c.args.trees.now.tables) c.args.catalog.now.tables) h rewrites (before_is h rewrites was.is_uncommitted));
+      shown = c.put_back_in.ensures.shown c.args.catalog.now.tables (with_status undone h) (place_now c.args.catalog.now.tables c.args.trees.now.tables c.args.versions.now c.args.place c.args.table.0 held h was) ∙ sym (inverse_back (table_long_values c.args.trees.now.tables) (map (with_newest_by (table_long_values c.args.trees.now.tables) c.args.trees.now.tables) c.args.catalog.now.tables) h rewrites (before_is (table_long_values c.args.trees.now.tables) h rewrites was.is_uncommitted));
     }
 
 pub returns-in-None-clause-back : goal.returns-in-None-clause-back
