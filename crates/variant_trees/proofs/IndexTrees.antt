@@ -17,7 +17,7 @@ use Rattle.jet_catalog.specs.Catalog.{CatalogState, IsNumbered, catalog_after, i
 use Rattle.page_image.specs.Page.{Node}
 use Rattle.record_changes.proofs.Tests.{or_first, or_second, self_equal}
 use Rattle.table_trees.specs.StoredNodes.{bookmark_entries}
-use Rattle.table_trees.specs.StoredTables.{StoredIndex, StoredTable, has_index, has_table, index_entries, is_index, is_table, put_indexes, table_indexes, table_nodes, with_indexes, with_new_index, without_index as without_tree, without_where}
+use Rattle.table_trees.specs.StoredTables.{table_long_values, StoredIndex, StoredTable, has_index, has_table, index_entries, is_index, is_table, put_indexes, table_indexes, table_nodes, with_indexes, with_new_index, without_index as without_tree, without_where}
 use Rattle.variant_trees.specs.NewEntries.{CanFill, HasNewestKeys, IsTakenRow, OnlyEntries, is_newest_key}
 use Rattle.stored_variants.specs.RecordRows.{TableValues, record_of, row_under}
 use Rattle.stored_variants.specs.SchemaSteps.{IsIndexFor, IsMade}
@@ -32,6 +32,8 @@ use Rattle.stored_variants.proofs.NodeRecords.{record_at}
 use Rattle.variant_trees.proofs.Stepping.{map_last}
 use Rattle.stored_variants.proofs.Tables.{found_number, table_at}
 use Rattle.variant_trees.proofs.TreeNumbers.{changed_numbers, same_indexes}
+use Rattle.stored_variants.specs.CountedValues.{AreCounted}
+use Rattle.variant_trees.specs.GoneKeys.{KeepsValues}
 
 -- ---- laws of trees
 
@@ -201,10 +203,10 @@ taken_back longs named id index greatest tables trees other rise kept there abse
 
 -- ---- in a catalog
 
-pub new_created : (longs : TableValues) → NewIndexLaws → (made : SchemaStep) (id : TableId) (rule : IndexRule) → made ≡ step.CreateIndex id rule → (was : CatalogState) (trees : List StoredTable) → ((table : ℕ) → are_sorted (bookmark_entries (table_nodes trees table)) ≡ true) → IsNumbered was
-    → rule.flags.primary ≡ false → IsSomeAnd (table_with_id (map (with_newest_by longs trees) was.tables) id.0) (IsIndexFor rule) → AreKeptWith longs was.tables trees [] → (is : CatalogState) → is ≡ catalog_after was made → (base other : List StoredTable) → base ≡ with_new_index id.0 rule.id.0 trees
-    → OnlyEntries id.0 rule.id.0 base other → IfSome (table_with_id was.tables id.0) (λ t. HasNewestKeys (longs id.0) rule (table_nodes base id.0) (index_entries other id.0 rule.id.0) (schema_of t)) → IsMade made was trees is other
-new_created longs laws made id rule step_is was trees sorted rise plain fit kept is is_after base other base_is only filled =
-    index_created longs made id rule step_is was trees sorted fit kept is is_after other
-    (with_new longs laws id.0 rule was.greatest_table was.tables trees other sorted rise plain kept (subst (λ (b : List StoredTable). OnlyEntries id.0 rule.id.0 b other) base_is only)
-    (subst (λ (b : List StoredTable). IfSome (table_with_id was.tables id.0) (λ t. HasNewestKeys (longs id.0) rule (table_nodes b id.0) (index_entries other id.0 rule.id.0) (schema_of t))) base_is filled))
+pub new_created : NewIndexLaws → (made : SchemaStep) (id : TableId) (rule : IndexRule) → made ≡ step.CreateIndex id rule → (was : CatalogState) (trees : List StoredTable) → ((table : ℕ) → are_sorted (bookmark_entries (table_nodes trees table)) ≡ true) → IsNumbered was
+    → rule.flags.primary ≡ false → IsSomeAnd (table_with_id (map (with_newest_by (table_long_values trees) trees) was.tables) id.0) (IsIndexFor rule) → AreKeptWith (table_long_values trees) was.tables trees [] → (is : CatalogState) → is ≡ catalog_after was made → (base other : List StoredTable) → base ≡ with_new_index id.0 rule.id.0 trees
+    → OnlyEntries id.0 rule.id.0 base other → IfSome (table_with_id was.tables id.0) (λ t. HasNewestKeys (table_long_values trees id.0) rule (table_nodes base id.0) (index_entries other id.0 rule.id.0) (schema_of t)) → KeepsValues trees other → AreCounted other [] → IsMade made was trees is other
+new_created laws made id rule step_is was trees sorted rise plain fit kept is is_after base other base_is only filled keeps counts =
+    index_created made id rule step_is was trees sorted fit kept is is_after other
+    (with_new (table_long_values trees) laws id.0 rule was.greatest_table was.tables trees other sorted rise plain kept (subst (λ (b : List StoredTable). OnlyEntries id.0 rule.id.0 b other) base_is only)
+    (subst (λ (b : List StoredTable). IfSome (table_with_id was.tables id.0) (λ t. HasNewestKeys (table_long_values trees id.0) rule (table_nodes b id.0) (index_entries other id.0 rule.id.0) (schema_of t))) base_is filled)) keeps counts

@@ -105,7 +105,7 @@ pub record Goes (newest : Option RecordFields) (held : List HeldRecord) (schema 
 
 rows_stay : (longs : TableValues) (newest : Option RecordFields) (held : List HeldRecord) (schema : Schema) (id : ℕ) (bookmark : List ℕ) (gone : RecordFields) (old between new : List StoredTable) → Goes newest held schema id bookmark gone old between new
     → (table : ℕ) → rows_of_nodes (longs table) (table_nodes new table) ≡ rows_of_nodes (longs table) (table_nodes old table)
-rows_stay longs newest held schema id bookmark gone old between new goes table = goes.node.rows table ∙ ap (rows_of_nodes (longs table)) (goes.changes.nodes table)
+rows_stay longs newest held schema id bookmark gone old between new goes table = goes.node.rows (longs table) table ∙ ap (rows_of_nodes (longs table)) (goes.changes.nodes table)
 
 found_then : (newest : Option RecordFields) (held : List HeldRecord) (schema : Schema) (id : ℕ) (bookmark : List ℕ) (gone : RecordFields) (old between new : List StoredTable) → Goes newest held schema id bookmark gone old between new
     → (table : ℕ) (own : List ℕ) → find (has_key own) (table_nodes new table) ≡ cond (not (has_variant newest held id bookmark) && is_this id bookmark table own) None (find (has_key own) (table_nodes old table))
@@ -261,7 +261,6 @@ change_kept_then : (longs : TableValues) (newest : Option RecordFields) (all : L
     → (tables : List Table) (h : HeldChange) → ((is_standing_rewrite id bookmark (held_record_in longs h) && is_some (held_record_in longs h).before) ≡ true → has_variant newest all id bookmark ≡ true) → IsKeptChange longs tables old h → IsKeptChange longs tables new h
 change_kept_then longs newest all schema id bookmark gone old between new goes tables h leaves kept = record {
   named = kept.named;
-  row = kept.row;
   before = kept.before;
   drop = kept.drop;
   room = λ is_uncommitted. room is_uncommitted h.before refl (kept.room is_uncommitted);

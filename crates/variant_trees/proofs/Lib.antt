@@ -4,10 +4,12 @@ pub mod EntryTrees
 pub mod LostKeys
 pub mod LeftNodes
 pub mod LostNodes
+pub mod Released
 pub mod Forgotten
 pub mod Refilled
 pub mod PutBack
 pub mod UndoneThere
+pub mod CountedUndone
 pub mod OpenUndone
 pub mod PutsBack
 pub mod Stepping

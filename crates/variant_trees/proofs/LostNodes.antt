@@ -11,6 +11,7 @@ use Rattle.table_trees.specs.StoredNodes.{bookmark_entries}
 use Rattle.table_trees.specs.StoredTables.{StoredTable, has_table, table_nodes, with_nodes, is_table}
 use Rattle.versioned_tables.specs.HeldRecords.{HeldRecord}
 use Rattle.versioned_tables.specs.Variants.{has_variant}
+use Rattle.stored_variants.specs.CountedValues.{newest_rows, with_own_row}
 use Rattle.stored_variants.specs.RecordRows.{TableValues, some_before, record_of, row_in_node, row_under, rows_of_nodes, with_record}
 use Rattle.variant_trees.specs.LeftVariants.{LosesNode, is_empty_node, is_this}
 use Rattle.stored_variants.proofs.Dropped.{TreeLaws, same_numbers}
@@ -28,7 +29,9 @@ lost_nothing v id bookmark trees none = record {
   numbers = refl;
   indexes = λ other. refl;
   nodes = λ other own. by v none other own (is_this id bookmark other own) refl;
-  rows = λ other. refl;
+  rows = λ vals other. refl;
+  newest = λ other. refl;
+  values = λ other. refl;
 }
   where
     by : (v : Bool) → (v ≡ false → find (has_key bookmark) (table_nodes trees id) ≡ None) → (other : ℕ) (own : List ℕ) (b : Bool) → is_this id bookmark other own ≡ b
@@ -101,6 +104,25 @@ rows_without vals (n ∷ nodes) bookmark sorted e =
         ∙ sym (ap (λ (row : Option (List ℕ)). with_record vals n.key row (rows_of_nodes vals nodes)) (no_row n.data e))
     by false h e rest = ap (with_record vals n.key (row_in_node n.data)) (rest e)
 
+newest_without : (nodes : List Node) (bookmark : List ℕ) → are_sorted (bookmark_entries nodes) ≡ true → get_in nodes bookmark ≡ Some [] → newest_rows (without_key nodes bookmark) ≡ newest_rows nodes
+newest_without [] bookmark sorted e = refl
+newest_without (n ∷ nodes) bookmark sorted e =
+    by (has_key bookmark n) refl e (newest_without nodes bookmark (and_right (list_all (pair_lt (n.key, n.key)) (bookmark_entries nodes)) (are_sorted (bookmark_entries nodes)) sorted))
+  where
+    low : list_all (pair_lt (n.key, n.key)) (bookmark_entries nodes) ≡ true
+    low = and_left (list_all (pair_lt (n.key, n.key)) (bookmark_entries nodes)) (are_sorted (bookmark_entries nodes)) sorted
+
+    no_row : (bytes : List ℕ) → Some bytes ≡ Some [] → row_in_node bytes ≡ None
+    no_row [] e = refl
+    no_row (byte ∷ bytes) e = cc
+
+    by : (b : Bool) → has_key bookmark n ≡ b → option_map (λ (n : Node). n.data) (cond b (Some n) (find (has_key bookmark) nodes)) ≡ Some [] → (get_in nodes bookmark ≡ Some [] → newest_rows (without_key nodes bookmark) ≡ newest_rows nodes)
+        → newest_rows (cond (not b) (n ∷ without_key nodes bookmark) (without_key nodes bookmark)) ≡ with_own_row n.key (row_in_node n.data) (newest_rows nodes)
+    by true h e rest =
+        ap newest_rows (without_none nodes bookmark (none_behind n.key bookmark nodes (key_is n.key bookmark h) low))
+        ∙ sym (ap (λ (row : Option (List ℕ)). with_own_row n.key row (newest_rows nodes)) (no_row n.data e))
+    by false h e rest = ap (with_own_row n.key (row_in_node n.data)) (rest e)
+
 table_of_node : (trees : List StoredTable) (id : ℕ) (bookmark : List ℕ) → get_in (table_nodes trees id) bookmark ≡ Some [] → has_table trees id ≡ true
 table_of_node trees id bookmark e = there_or (has_table trees id) (λ none. no (sym (ap (λ nodes. get_in nodes bookmark) (no_part (is_table id) (λ x. x.nodes) trees none)) ∙ e))
   where
@@ -115,7 +137,9 @@ node_goes longs laws removes id bookmark held trees sorted empty none =
       numbers = same_numbers id left trees;
       indexes = λ other. laws.indexes trees id other left;
       nodes = λ other own. nodes_then other own (id == other) refl;
-      rows = λ other. rows_then other (id == other) refl;
+      rows = λ vals other. rows_then vals other (id == other) refl;
+      newest = λ other. newest_then other (id == other) refl;
+      values = λ other. laws.values trees id other left;
     })
   where
     left : List Node
@@ -146,8 +170,14 @@ node_goes longs laws removes id bookmark held trees sorted empty none =
         ap (find (has_key own)) (there_too other e)
         ∙ sym (ap (λ b. cond (b && bytes_eq bookmark own) None (find (has_key own) (table_nodes trees other))) e)
 
-    rows_then : (other : ℕ) (b : Bool) → (id == other) ≡ b → rows_of_nodes (longs other) (table_nodes (with_nodes id left trees) other) ≡ rows_of_nodes (longs other) (table_nodes trees other)
-    rows_then other true e =
-        ap (rows_of_nodes (longs id)) (here other e)
-        ∙ subst (λ (n : ℕ). rows_of_nodes (longs id) (without_key (table_nodes trees n) bookmark) ≡ rows_of_nodes (longs n) (table_nodes trees n)) (same_number id other e) (rows_without (longs id) (table_nodes trees id) bookmark sorted is_empty)
-    rows_then other false e = ap (rows_of_nodes (longs id)) (there_too other e)
+    rows_then : (vals : Values) (other : ℕ) (b : Bool) → (id == other) ≡ b → rows_of_nodes vals (table_nodes (with_nodes id left trees) other) ≡ rows_of_nodes vals (table_nodes trees other)
+    rows_then vals other true e =
+        ap (rows_of_nodes vals) (here other e)
+        ∙ subst (λ (n : ℕ). rows_of_nodes vals (without_key (table_nodes trees n) bookmark) ≡ rows_of_nodes vals (table_nodes trees n)) (same_number id other e) (rows_without vals (table_nodes trees id) bookmark sorted is_empty)
+    rows_then vals other false e = ap (rows_of_nodes vals) (there_too other e)
+
+    newest_then : (other : ℕ) (b : Bool) → (id == other) ≡ b → newest_rows (table_nodes (with_nodes id left trees) other) ≡ newest_rows (table_nodes trees other)
+    newest_then other true e =
+        ap newest_rows (here other e)
+        ∙ subst (λ (n : ℕ). newest_rows (without_key (table_nodes trees n) bookmark) ≡ newest_rows (table_nodes trees n)) (same_number id other e) (newest_without (table_nodes trees id) bookmark sorted is_empty)
+    newest_then other false e = ap newest_rows (there_too other e)

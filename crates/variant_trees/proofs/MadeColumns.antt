@@ -17,7 +17,7 @@ use Rattle.jet_catalog.specs.Catalog.{CatalogState, catalog_after}
 use Rattle.page_image.specs.Page.{Node}
 use Rattle.record_changes.proofs.Tests.{impossible}
 use Rattle.table_trees.specs.StoredNodes.{bookmark_entries}
-use Rattle.table_trees.specs.StoredTables.{StoredTable, index_entries, table_nodes}
+use Rattle.table_trees.specs.StoredTables.{table_long_values, StoredTable, index_entries, table_nodes}
 use Rattle.version_history.proofs.Lists.{all_weaker}
 use Rattle.version_keys.proofs.IndexNumbers.{all_primary_first}
 use Rattle.version_keys.proofs.SameColumns.{yields_same}
@@ -28,10 +28,12 @@ use Rattle.stored_variants.specs.VersionsKept.{AreKeptWith, IsRowUnder, needed_t
 use Rattle.stored_variants.specs.VersionsView.{with_newest_by}
 use Rattle.variant_trees.proofs.ChangedColumns.{SameColumns, SameFields, added_columns, fits_with, indexable_then, own_then, rules_then}
 use Rattle.stored_variants.proofs.NodeRecords.{record_at}
-use Rattle.variant_trees.proofs.Stepping.{IsSettled, StepsTo, changed_at, is_made, kept_of, map_table, plain_table, settled_of}
+use Rattle.variant_trees.proofs.Stepping.{IsSettled, StepsTo, changed_at, made_with_values, kept_of, map_table, plain_table, settled_of}
 use Rattle.common_lemmas.proofs.Found.{of_found}
 use Rattle.stored_variants.proofs.Tables.{table_at}
 use Rattle.long_value.specs.Values.{Values}
+use Rattle.stored_variants.specs.CountedValues.{AreCounted}
+use Rattle.variant_trees.specs.GoneKeys.{KeepsValues}
 
 -- ---- a column comes
 
@@ -152,7 +154,7 @@ column_comes longs id column tables trees sorted taken kept = record {
         by false = refl
 
 -- in a catalog
-pub column_made : (longs : TableValues) (made : SchemaStep) (id : TableId) (column : Column) → made ≡ step.AddColumn id column → (was : CatalogState) (trees : List StoredTable) → ((table : ℕ) → are_sorted (bookmark_entries (table_nodes trees table)) ≡ true)
-    → IfSome (table_with_id (map (with_newest_by longs trees) was.tables) id.0) (TakesColumn column) → AreKeptWith longs was.tables trees [] → (is : CatalogState) → is ≡ catalog_after was made → IsMade made was trees is trees
-column_made longs made id column step_is was trees sorted taken kept is is_after =
-    is_made longs made was trees is trees is_after (subst (λ (s : SchemaStep). StepsTo longs s was.tables trees trees) (sym step_is) (column_comes longs id column was.tables trees sorted taken kept))
+pub column_made : (made : SchemaStep) (id : TableId) (column : Column) → made ≡ step.AddColumn id column → (was : CatalogState) (trees : List StoredTable) → ((table : ℕ) → are_sorted (bookmark_entries (table_nodes trees table)) ≡ true)
+    → IfSome (table_with_id (map (with_newest_by (table_long_values trees) trees) was.tables) id.0) (TakesColumn column) → AreKeptWith (table_long_values trees) was.tables trees [] → (is : CatalogState) → is ≡ catalog_after was made → AreCounted trees [] → IsMade made was trees is trees
+column_made made id column step_is was trees sorted taken kept is is_after counts =
+    made_with_values made was trees is trees is_after (subst (λ (s : SchemaStep). StepsTo (table_long_values trees) s was.tables trees trees) (sym step_is) (column_comes (table_long_values trees) id column was.tables trees sorted taken kept)) (λ table. refl) counts

@@ -13,7 +13,7 @@ use Rattle.jet_base.specs.declared.ids.TableId.{TableId}
 use Rattle.jet_catalog.specs.Catalog.{CatalogState, IsNumbered, catalog_after, ids_rise}
 use Rattle.page_image.specs.Page.{Node}
 use Rattle.record_changes.proofs.Tests.{impossible, not_true, same_number, self_equal}
-use Rattle.table_trees.specs.StoredTables.{StoredIndex, StoredTable, has_index, index_entries, is_index, is_table, table_indexes, table_nodes, with_indexes, without_index as without_tree, without_where}
+use Rattle.table_trees.specs.StoredTables.{table_long_values, StoredIndex, StoredTable, has_index, index_entries, is_index, is_table, table_indexes, table_nodes, with_indexes, without_index as without_tree, without_where}
 use Rattle.version_history.proofs.Lists.{all_filter, all_true, all_weaker}
 use Rattle.version_keys.proofs.IndexNumbers.{all_primary_first, found_without}
 use Rattle.versioned_tables.specs.Variants.{HoldsVariants}
@@ -22,9 +22,11 @@ use Rattle.stored_variants.specs.SchemaSteps.{IsMade}
 use Rattle.stored_variants.specs.VersionsKept.{AreKeptWith, IsKeptTable, IsRowUnder, IsStoredRule, needed_trees, only_secondary, secondary_rule, secondary_rules, tree_numbers}
 use Rattle.stored_variants.specs.VersionsView.{with_newest_by}
 use Rattle.variant_trees.proofs.OtherRules.{Takes, row_as, rule_as, yields_as}
-use Rattle.variant_trees.proofs.Stepping.{IsSettled, StepsTo, changed_at, is_made, kept_of, map_filter, map_same, map_table, moved, newest_same, plain_table, settled_of}
+use Rattle.variant_trees.proofs.Stepping.{IsSettled, StepsTo, changed_at, made_with_values, kept_of, map_filter, map_same, map_table, moved, newest_same, plain_table, settled_of}
 use Rattle.stored_variants.proofs.Tables.{found_number}
 use Rattle.variant_trees.proofs.TreeNumbers.{changed_numbers, first_or_none, index_numbers, others}
+use Rattle.stored_variants.specs.CountedValues.{AreCounted}
+use Rattle.variant_trees.specs.GoneKeys.{KeepsValues}
 
 -- ---- lists
 
@@ -226,14 +228,14 @@ index_goes longs laws id index greatest tables trees rise there kept = record {
     needs t = λ i. (t.id, (ap (map (λ rule. rule.id.0)) (filter_swap (λ rule. not rule.flags.primary) (leaves index.0) t.indexes) ∙ map_filter (λ (rule : IndexRule). rule.id.0) stays (secondary_rules t)) i)
 
 -- in a catalog
-pub index_deleted : (longs : TableValues) → OldIndexLaws → (made : SchemaStep) (id : TableId) (index : IndexId) → made ≡ step.DeleteIndex id index → (was : CatalogState) (trees : List StoredTable) → IsNumbered was
-    → IsSomeAnd (table_with_id was.tables id.0) (λ t. is_some (secondary_rule t index.0) ≡ true) → AreKeptWith longs was.tables trees [] → (is : CatalogState) → is ≡ catalog_after was made → (other : List StoredTable) → other ≡ without_tree id.0 index.0 trees
-    → IsMade made was trees is other
-index_deleted longs laws made id index step_is was trees rise there kept is is_after other other_is =
-    is_made longs made was trees is other is_after
-    (subst (λ (s : SchemaStep). StepsTo longs s was.tables trees other) (sym step_is)
-    (subst (λ (o : List StoredTable). StepsTo longs (step.DeleteIndex id index) was.tables trees o) (sym other_is)
-    (index_goes longs laws id index was.greatest_table was.tables trees rise (λ t found. subst (λ (o : Option Table). IsSomeAnd o (λ t. is_some (secondary_rule t index.0) ≡ true)) found there) kept)))
+pub index_deleted : OldIndexLaws → (made : SchemaStep) (id : TableId) (index : IndexId) → made ≡ step.DeleteIndex id index → (was : CatalogState) (trees : List StoredTable) → IsNumbered was
+    → IsSomeAnd (table_with_id was.tables id.0) (λ t. is_some (secondary_rule t index.0) ≡ true) → AreKeptWith (table_long_values trees) was.tables trees [] → (is : CatalogState) → is ≡ catalog_after was made → (other : List StoredTable) → other ≡ without_tree id.0 index.0 trees
+    → KeepsValues trees other → AreCounted other [] → IsMade made was trees is other
+index_deleted laws made id index step_is was trees rise there kept is is_after other other_is keeps counts =
+    made_with_values made was trees is other is_after
+    (subst (λ (s : SchemaStep). StepsTo (table_long_values trees) s was.tables trees other) (sym step_is)
+    (subst (λ (o : List StoredTable). StepsTo (table_long_values trees) (step.DeleteIndex id index) was.tables trees o) (sym other_is)
+    (index_goes (table_long_values trees) laws id index was.greatest_table was.tables trees rise (λ t found. subst (λ (o : Option Table). IsSomeAnd o (λ t. is_some (secondary_rule t index.0) ≡ true)) found there) kept))) keeps counts
 
 -- it has a tree
 pub index_there : (longs : TableValues) (tables : List Table) (trees : List StoredTable) → AreKeptWith longs tables trees [] → (id index : ℕ) → IsSomeAnd (table_with_id tables id) (λ t. is_some (secondary_rule t index) ≡ true) → has_index trees id index ≡ true

@@ -10,7 +10,7 @@ use Rattle.jet_base.specs.declared.ids.TableId.{TableId}
 use Rattle.jet_catalog.specs.Catalog.{CatalogState, IsNumbered, catalog_after, ids_rise, without_rows}
 use Rattle.page_image.specs.Page.{Node}
 use Rattle.record_changes.proofs.Tests.{and_left, and_right, impossible, or_first, or_second, same_number, self_equal}
-use Rattle.table_trees.specs.StoredTables.{StoredTable, has_table, is_table, new_table as new_tree, table_indexes, table_nodes, without_table}
+use Rattle.table_trees.specs.StoredTables.{table_long_values, StoredTable, has_table, is_table, new_table as new_tree, table_indexes, table_nodes, without_table}
 use Rattle.version_history.proofs.Lists.{all_true}
 use Rattle.version_keys.proofs.IndexNumbers.{found_in_filter}
 use Rattle.version_keys.proofs.SchemaKeys.{with_last}
@@ -19,8 +19,12 @@ use Rattle.stored_variants.specs.SchemaSteps.{IsMade}
 use Rattle.stored_variants.specs.VersionsKept.{AreKeptWith, IsKeptTable, needed_trees, tree_numbers}
 use Rattle.stored_variants.specs.VersionsView.{with_newest_by}
 use Rattle.stored_variants.proofs.Dropped.{has_trees}
-use Rattle.variant_trees.proofs.Stepping.{IsSettled, StepsTo, if_some, is_made, kept_of, map_filter, map_last, map_same, moved, newest_same, settled_of}
+use Rattle.variant_trees.proofs.Stepping.{IsSettled, StepsTo, if_some, is_made, made_with_values, kept_of, map_filter, map_last, map_same, moved, newest_same, settled_of}
 use Rattle.stored_variants.proofs.Tables.{found_number, no_nodes}
+use Rattle.stored_variants.specs.CountedValues.{BringsNoValue, newest_rows, AreCounted}
+use Rattle.variant_trees.specs.GoneKeys.{KeepsValues}
+use Rattle.long_references.specs.ReferenceCounts.{HasCounts}
+use Rattle.long_value.specs.Values.{value_of, Values}
 
 -- ---- numbers of tables
 
@@ -158,17 +162,70 @@ table_goes longs laws id tables trees kept = record {
 pub lower : (a b : ℕ) → a < b → nat_lt a b ≡ true
 lower a b lt = grind (arith, nat_tests)
 
-pub create_made : (longs : TableValues) → NewTableLaws → (made : SchemaStep) (id : TableId) (name : List ℕ) → made ≡ step.CreateTable id name → (was : CatalogState) (trees : List StoredTable) → AreKeptWith longs was.tables trees [] → IsNumbered was → was.greatest_table < id.0
-    → (is : CatalogState) → is ≡ catalog_after was made → (other : List StoredTable) → other ≡ trees ++ new_tree id.0 ∷ [] → IsMade made was trees is other
-create_made longs laws made id name step_is was trees kept rise lt is is_after other other_is =
-    is_made longs made was trees is other is_after
-    (subst (λ (s : SchemaStep). StepsTo longs s was.tables trees other) (sym step_is)
-    (subst (λ (o : List StoredTable). StepsTo longs (step.CreateTable id name) was.tables trees o) (sym other_is)
-    (table_comes longs laws id name was.tables trees kept (none_new was.greatest_table was.tables rise id.0 lt))))
+pub create_made : NewTableLaws → (made : SchemaStep) (id : TableId) (name : List ℕ) → made ≡ step.CreateTable id name → (was : CatalogState) (trees : List StoredTable) → AreKeptWith (table_long_values trees) was.tables trees [] → IsNumbered was → was.greatest_table < id.0
+    → (is : CatalogState) → is ≡ catalog_after was made → (other : List StoredTable) → other ≡ trees ++ new_tree id.0 ∷ [] → KeepsValues trees other → AreCounted other [] → IsMade made was trees is other
+create_made laws made id name step_is was trees kept rise lt is is_after other other_is keeps counts =
+    made_with_values made was trees is other is_after
+    (subst (λ (s : SchemaStep). StepsTo (table_long_values trees) s was.tables trees other) (sym step_is)
+    (subst (λ (o : List StoredTable). StepsTo (table_long_values trees) (step.CreateTable id name) was.tables trees o) (sym other_is)
+    (table_comes (table_long_values trees) laws id name was.tables trees kept (none_new was.greatest_table was.tables rise id.0 lt)))) keeps counts
 
-pub delete_made : (longs : TableValues) → OldTableLaws → (made : SchemaStep) (id : TableId) → made ≡ step.DeleteTable id → (was : CatalogState) (trees : List StoredTable) → AreKeptWith longs was.tables trees []
-    → (is : CatalogState) → is ≡ catalog_after was made → (other : List StoredTable) → other ≡ without_table id.0 trees → IsMade made was trees is other
-delete_made longs laws made id step_is was trees kept is is_after other other_is =
-    is_made longs made was trees is other is_after
-    (subst (λ (s : SchemaStep). StepsTo longs s was.tables trees other) (sym step_is)
-    (subst (λ (o : List StoredTable). StepsTo longs (step.DeleteTable id) was.tables trees o) (sym other_is) (table_goes longs laws id was.tables trees kept)))
+-- the tables that are left read the same long values
+left_kept : (longs other_longs : TableValues) (id : ℕ) (other : List StoredTable) → ((table : ℕ) → table ≢ id → other_longs table ≡ longs table) → (tables : List Table) → table_with_id tables id ≡ None → AreKeptWith longs tables other [] → AreKeptWith other_longs tables other []
+left_kept longs other_longs id other same tables none kept = record {
+  plain = kept.plain;
+  numbers = kept.numbers;
+  each = λ table. by table (id == table) refl;
+  changes = tt;
+}
+  where
+    by : (table : ℕ) (b : Bool) → (id == table) ≡ b → IfSome (table_with_id tables table) (IsKeptTable other (other_longs table) (table_nodes other table) [])
+    by table true e = subst (λ (o : Option Table). IfSome o (IsKeptTable other (other_longs table) (table_nodes other table) [])) (sym (ap (table_with_id tables) (sym (same_number id table e)) ∙ none)) tt
+    by table false e = subst (λ (v : Values). IfSome (table_with_id tables table) (IsKeptTable other v (table_nodes other table) [])) (sym (same table (λ is. apart_from id table e (sym is)))) (kept.each table)
+
+left_read : (longs other_longs : TableValues) (id : ℕ) (other : List StoredTable) → ((table : ℕ) → table ≢ id → other_longs table ≡ longs table) → (tables : List Table) → map (with_newest_by other_longs other) (filter (stays id) tables) ≡ map (with_newest_by longs other) (filter (stays id) tables)
+left_read longs other_longs id other same [] = refl
+left_read longs other_longs id other same (t ∷ tables) = by (t.id == id) refl (left_read longs other_longs id other same tables)
+  where
+    by : (b : Bool) → (t.id == id) ≡ b → map (with_newest_by other_longs other) (filter (stays id) tables) ≡ map (with_newest_by longs other) (filter (stays id) tables)
+        → map (with_newest_by other_longs other) (cond (not b) (t ∷ filter (stays id) tables) (filter (stays id) tables)) ≡ map (with_newest_by longs other) (cond (not b) (t ∷ filter (stays id) tables) (filter (stays id) tables))
+    by true e rest = rest
+    by false e rest = λ i. record t { rows = rows_of_nodes (same t.id (apart_from t.id id e) i) (table_nodes other t.id) } ∷ rest i
+
+-- what becomes of the long values
+pub record OldValues (id : ℕ) (trees other : List StoredTable) : Type 0 where
+  pub own : table_long_values other id ≡ []
+  pub others : (table : ℕ) → table ≢ id → table_long_values other table ≡ table_long_values trees table
+  pub own_nodes : table_nodes other id ≡ []
+  pub nodes : (table : ℕ) → table ≢ id → table_nodes other table ≡ table_nodes trees table
+
+left_counted : (id : ℕ) (trees other : List StoredTable) → OldValues id trees other → AreCounted trees [] → AreCounted other []
+left_counted id trees other old counts = λ table. by table (id == table) refl
+  where
+    by : (table : ℕ) (b : Bool) → (id == table) ≡ b → HasCounts (table_long_values other table) (newest_rows (table_nodes other table)) []
+    by table true e =
+        subst (λ (n : ℕ). HasCounts (table_long_values other n) (newest_rows (table_nodes other n)) []) (same_number id table e)
+        (subst (λ (v : Values). HasCounts v (newest_rows (table_nodes other id)) []) (sym old.own) (subst (λ (ns : List Node). HasCounts [] (newest_rows ns) []) (sym old.own_nodes) (λ x. refl)))
+    by table false e =
+        let apart : table ≢ id = λ is. apart_from id table e (sym is) in
+        subst (λ (v : Values). HasCounts v (newest_rows (table_nodes other table)) []) (sym (old.others table apart))
+        (subst (λ (ns : List Node). HasCounts (table_long_values trees table) (newest_rows ns) []) (sym (old.nodes table apart)) (counts table))
+
+left_without : (id : ℕ) (trees other : List StoredTable) → OldValues id trees other → BringsNoValue trees other
+left_without id trees other old = λ table x none. by table x none (id == table) refl
+  where
+    by : (table : ℕ) (x : List ℕ) → value_of x (table_long_values trees table) ≡ None → (b : Bool) → (id == table) ≡ b → value_of x (table_long_values other table) ≡ None
+    by table x none true e = ap (λ n. value_of x (table_long_values other n)) (sym (same_number id table e)) ∙ ap (value_of x) old.own
+    by table x none false e = ap (value_of x) (old.others table (λ is. apart_from id table e (sym is))) ∙ none
+
+pub delete_made : OldTableLaws → (made : SchemaStep) (id : TableId) → made ≡ step.DeleteTable id → (was : CatalogState) (trees : List StoredTable) → AreKeptWith (table_long_values trees) was.tables trees []
+    → (is : CatalogState) → is ≡ catalog_after was made → (other : List StoredTable) → other ≡ without_table id.0 trees → OldValues id.0 trees other → AreCounted trees [] → IsMade made was trees is other
+delete_made laws made id step_is was trees kept is is_after other other_is old counts =
+    subst (λ (s : SchemaStep). IsMade s was trees is other) (sym step_is)
+    (is_made (step.DeleteTable id) was trees is other (is_after ∙ ap (catalog_after was) step_is)
+    (left_kept (table_long_values trees) (table_long_values other) id.0 other old.others (filter (stays id.0) was.tables) (gone id.0 was.tables) steps.kept)
+    (left_read (table_long_values trees) (table_long_values other) id.0 other old.others was.tables ∙ steps.shown)
+    (left_counted id.0 trees other old counts) (left_without id.0 trees other old))
+  where
+    steps : StepsTo (table_long_values trees) (step.DeleteTable id) was.tables trees other
+    steps = subst (λ (o : List StoredTable). StepsTo (table_long_values trees) (step.DeleteTable id) was.tables trees o) (sym other_is) (table_goes (table_long_values trees) laws id was.tables trees kept)

@@ -22,7 +22,7 @@ use Rattle.jet_catalog.specs.Catalog.{CatalogState, catalog_after}
 use Rattle.page_image.specs.Page.{Node}
 use Rattle.record_changes.proofs.Tests.{impossible, or_first, or_second, same_number, self_equal}
 use Rattle.table_trees.specs.StoredNodes.{bookmark_entries}
-use Rattle.table_trees.specs.StoredTables.{StoredTable, index_entries, table_indexes, table_nodes}
+use Rattle.table_trees.specs.StoredTables.{table_long_values, StoredTable, index_entries, table_indexes, table_nodes}
 use Rattle.version_history.proofs.Lists.{all_append}
 use Rattle.version_keys.proofs.IndexNumbers.{all_primary_first, found_alone, found_with, none_of}
 use Rattle.versioned_tables.specs.Variants.{HoldsVariants}
@@ -34,8 +34,10 @@ use Rattle.variant_trees.proofs.MadeColumns.{no_rows_left}
 use Rattle.variant_trees.proofs.MadeIndexes.{none_found}
 use Rattle.stored_variants.proofs.NodeRecords.{record_at}
 use Rattle.variant_trees.proofs.OtherRules.{Takes, row_as, rule_as, yields_as}
-use Rattle.variant_trees.proofs.Stepping.{IsSettled, StepsTo, changed_at, is_made, kept_of, map_same, map_table, moved, newest_same, plain_table, settled_of}
+use Rattle.variant_trees.proofs.Stepping.{IsSettled, StepsTo, changed_at, made_with_values, kept_of, map_same, map_table, moved, newest_same, plain_table, settled_of}
 use Rattle.stored_variants.proofs.Tables.{found_number, table_at}
+use Rattle.stored_variants.specs.CountedValues.{AreCounted}
+use Rattle.variant_trees.specs.GoneKeys.{KeepsValues}
 
 -- what no record of some has is not that of the one under a bookmark
 none_at : (q : RecordFields → Bool) (rows : Rows) (bookmark : List ℕ) (values : RecordFields) → list_any (λ row. q row.1) rows ≡ false → row_at rows bookmark ≡ Some values → q values ≡ false
@@ -195,13 +197,13 @@ index_comes longs id rule tables trees other sorted fit has kept = record {
 for_found : (longs : TableValues) (rule : IndexRule) (id : ℕ) (tables : List Table) (trees : List StoredTable) → IsSomeAnd (table_with_id (map (with_newest_by longs trees) tables) id) (IsIndexFor rule) → (t : Table) → table_with_id tables id ≡ Some t → IsIndexFor rule (with_newest_by longs trees t)
 for_found longs rule id tables trees is t found = subst (λ (o : Option Table). IsSomeAnd o (IsIndexFor rule)) (table_at longs trees tables id ∙ ap (option_map (with_newest_by longs trees)) found) is
 
-pub index_created : (longs : TableValues) (made : SchemaStep) (id : TableId) (rule : IndexRule) → made ≡ step.CreateIndex id rule → (was : CatalogState) (trees : List StoredTable) → ((table : ℕ) → are_sorted (bookmark_entries (table_nodes trees table)) ≡ true)
-    → IsSomeAnd (table_with_id (map (with_newest_by longs trees) was.tables) id.0) (IsIndexFor rule) → AreKeptWith longs was.tables trees [] → (is : CatalogState) → is ≡ catalog_after was made → (other : List StoredTable) → AreWithIndex longs id.0 rule was.tables trees other
-    → IsMade made was trees is other
-index_created longs made id rule step_is was trees sorted fit kept is is_after other has =
-    is_made longs made was trees is other is_after
-    (subst (λ (s : SchemaStep). StepsTo longs s was.tables trees other) (sym step_is)
-    (index_comes longs id rule was.tables trees other sorted (for_found longs rule id.0 was.tables trees fit) has kept))
+pub index_created : (made : SchemaStep) (id : TableId) (rule : IndexRule) → made ≡ step.CreateIndex id rule → (was : CatalogState) (trees : List StoredTable) → ((table : ℕ) → are_sorted (bookmark_entries (table_nodes trees table)) ≡ true)
+    → IsSomeAnd (table_with_id (map (with_newest_by (table_long_values trees) trees) was.tables) id.0) (IsIndexFor rule) → AreKeptWith (table_long_values trees) was.tables trees [] → (is : CatalogState) → is ≡ catalog_after was made → (other : List StoredTable) → AreWithIndex (table_long_values trees) id.0 rule was.tables trees other
+    → KeepsValues trees other → AreCounted other [] → IsMade made was trees is other
+index_created made id rule step_is was trees sorted fit kept is is_after other has keeps counts =
+    made_with_values made was trees is other is_after
+    (subst (λ (s : SchemaStep). StepsTo (table_long_values trees) s was.tables trees other) (sym step_is)
+    (index_comes (table_long_values trees) id rule was.tables trees other sorted (for_found (table_long_values trees) rule id.0 was.tables trees fit) has kept)) keeps counts
 
 -- a primary index needs no tree
 pub no_tree_more : (longs : TableValues) (id : ℕ) (rule : IndexRule) (tables : List Table) (trees : List StoredTable) → rule.flags.primary ≡ true → map tree_numbers trees ≡ map needed_trees tables → AreWithIndex longs id rule tables trees trees

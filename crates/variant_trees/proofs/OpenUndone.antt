@@ -1,18 +1,20 @@
 -- An open change is undone: what the trees keep and show.
-use Rattle.std.proofs.Common.{◌≡◌, ℕ, zero, suc, ◌≤◌, Bool, true, false, not, ◌&&◌, ◌||◌, cond, List, [], ◌∷◌, length, Option, Some, None, map, option_map, refl, sym, ap, subst, ◌∙◌}
-use Rattle.std.specs.Prelude.{IfSome, IsSomeAnd, is_some, slice_get}
+use Rattle.std.proofs.Common.{◌≡◌, ℕ, zero, suc, ◌+◌, ◌≤◌, Bool, true, false, not, ◌&&◌, ◌||◌, cond, List, [], ◌∷◌, length, Option, Some, None, map, option_map, refl, sym, ap, subst, ◌∙◌}
+use Rattle.std.specs.Prelude.{IfSome, IsSomeAnd, is_some, slice_get, sum_by}
 use Rattle.std.specs.List.{AllByRecursion}
 use Rattle.btree_inplace.specs.Order.{extent_in}
 use Rattle.database_state.specs.Changes.{tables_after}
 use Rattle.database_state.specs.State.{Status, uncommitted, committed, undone, is_open, is_undone}
 use Rattle.database_state.specs.Table.{Table, schema_of, table_with_id}
 use Rattle.index_derive.specs.declared.rules.Schema.{Schema}
-use Rattle.record_changes.proofs.Tests.{impossible}
+use Rattle.record_changes.proofs.Tests.{and_right, impossible}
 use Rattle.table_trees.specs.StoredTables.{table_long_values, StoredTable, table_nodes}
 use Rattle.version_store.specs.declared.calls.ChangeKind.{ChangeKind}
 use Rattle.version_store.specs.declared.calls.ChangeKind.TheVariants as kind
-use Rattle.version_store.specs.HeldChanges.{HeldChange, is_rewrite, undone_at, with_status}
+use Rattle.version_store.specs.HeldChanges.{HeldChange, is_rewrite, is_standing, undone_at, with_status}
 use Rattle.versioned_tables.specs.HeldRecords.{inverse, is_change_at, is_standing_rewrite}
+use Rattle.long_references.specs.RowReferences.{references}
+use Rattle.stored_variants.specs.CountedValues.{AreCounted, newest_rows}
 use Rattle.stored_variants.specs.PutRecords.{HasKeysOf}
 use Rattle.stored_variants.specs.RecordRows.{TableValues, some_before, IsRecordRow, held_record_in, record_of, row_under}
 use Rattle.variant_trees.specs.GoneKeys.{AreRows}
@@ -23,6 +25,7 @@ use Rattle.stored_variants.proofs.ChangesKept.{SameVariants, changes_kept}
 use Rattle.variant_trees.proofs.Forgotten.{are_rows, has_keys, short_bookmark}
 use Rattle.stored_variants.proofs.Tables.{unchanged}
 use Rattle.variant_trees.proofs.Refilled.{all_undone, undone_kept}
+use Rattle.variant_trees.proofs.CountedUndone.{none_counts}
 use Rattle.variant_trees.proofs.UndoneThere.{mapped_at, undone_there}
 use Rattle.stored_variants.proofs.HeldPlaces.{same_some}
 
@@ -60,9 +63,19 @@ kept_alike tables trees now place table held h was other =
     subst (AreKeptWith (table_long_values trees) tables trees) (sym was.after)
     (changes_kept (table_long_values trees) tables trees held (undone_at (Some place) held) was.kept (all_undone (IsKeptChange (table_long_values trees) tables trees) (IsKeptChange (table_long_values trees) tables trees) (λ x kept. kept) (undone_kept (table_long_values trees) tables trees) held place was.kept.changes) (lock_leaves (table_long_values trees) h other held place was.at))
 
+-- and each long value has as many references
+pub counts_alike : (tables : List Table) (trees : List StoredTable) (now : List HeldChange) (place table : ℕ) (held : List HeldChange) (h : HeldChange) → WasOpen tables trees now place table held h → is_rewrite h.kind ≡ false → AreCounted trees now
+counts_alike tables trees now place table held h was other =
+    subst (AreCounted trees) (sym was.after)
+    (λ id value. was.counts id value
+    ∙ sym (ap (λ n. sum_by (λ row. references value (Some row.1)) (newest_rows (table_nodes trees id)) + n) (none_counts value id place h held was.at ((all_place (IsKeptChange (table_long_values trees) tables trees) held place h was.kept.changes was.at).other other))))
+
 pub lock_back : (tables : List Table) (trees : List StoredTable) (now : List HeldChange) (place table : ℕ) (held : List HeldChange) (h : HeldChange) → WasOpen tables trees now place table held h → h.kind ≡ kind.Hold → IsBack tables trees trees now h
 lock_back tables trees now place table held h was lock = record {
   kept = kept_alike tables trees now place table held h was (ap is_rewrite lock);
+  counts = counts_alike tables trees now place table held h was (ap is_rewrite lock);
+  held = refl;
+  values = λ id bytes none. none;
   shown =
       sym (ap (λ (k : ChangeKind). tables_after (map (with_newest_by (table_long_values trees) trees) tables) (inverse (record (held_record_in (table_long_values trees) h) { kind = k }))) lock
       ∙ unchanged h.table (map (with_newest_by (table_long_values trees) trees) tables));
@@ -83,14 +96,20 @@ rewrites_now now place k rewrites told h at = ap is_rewrite (mapped_at (λ (x : 
 pub rows_now : (tables : List Table) (trees : List StoredTable) (now : List HeldChange) (place table : ℕ) (held : List HeldChange) (h : HeldChange) → WasOpen tables trees now place table held h → AreRows (table_long_values trees) now
 rows_now tables trees now place table held h was =
     subst (AreRows (table_long_values trees)) (sym was.after)
-    (all_undone (λ (x : HeldChange). IfSome x.before (IsRecordRow (table_long_values trees table))) (λ (x : HeldChange). IfSome x.before (IsRecordRow (table_long_values trees table))) (λ x row. row) (λ x row. row) held place (are_rows (table_long_values trees) tables trees held was.kept))
+    (all_undone P P (λ x row. row) (λ x row standing. impossible (and_right (is_rewrite x.kind) false standing)) held place (are_rows (table_long_values trees) tables trees held was.kept))
+  where
+    P : HeldChange → Type 0
+    P x = is_standing x ≡ true → IfSome x.before (IsRecordRow (table_long_values trees x.table))
 
-pub can_put_back : (tables : List Table) (trees : List StoredTable) (now : List HeldChange) (place table : ℕ) (held : List HeldChange) (h : HeldChange) → WasOpen tables trees now place table held h → (schema : Schema) → IsSomeAnd (table_with_id tables table) (λ t. schema ≡ schema_of t)
+pub can_put_back : (tables : List Table) (trees : List StoredTable) (now : List HeldChange) (place table : ℕ) (held : List HeldChange) (h : HeldChange) → WasOpen tables trees now place table held h → is_rewrite h.kind ≡ true → (schema : Schema) → IsSomeAnd (table_with_id tables table) (λ t. schema ≡ schema_of t)
     → CanPutBack schema table trees now place (with_status undone h)
-can_put_back tables trees now place table held h was schema same = record {
+can_put_back tables trees now place table held h was rewrites schema same = record {
   at = place_now tables trees now place table held h was;
   named = was.named;
-  row = all_place (λ (x : HeldChange). IfSome x.before (IsRecordRow (table_long_values trees table))) held place h (are_rows (table_long_values trees) tables trees held was.kept) was.at;
+  row =
+      subst (λ (n : ℕ). IfSome h.before (IsRecordRow (table_long_values trees n))) was.named
+      (all_place (λ (x : HeldChange). is_standing x ≡ true → IfSome x.before (IsRecordRow (table_long_values trees x.table))) held place h (are_rows (table_long_values trees) tables trees held was.kept) was.at
+      (λ i. rewrites i && stands h.status was.is_uncommitted i));
   room = subst (λ (n : ℕ). IfSome h.before (λ row. IsSomeAnd (extent_in (table_nodes trees n) h.bookmark) (λ extent. length row ≤ extent))) was.named ((all_place (IsKeptChange (table_long_values trees) tables trees) held place h was.kept.changes was.at).room was.is_uncommitted);
   newest = of (table_with_id tables table) same (was.kept.each table) (row_under (table_nodes trees table) h.bookmark) refl;
 }

@@ -36,7 +36,7 @@ use Rattle.stored_variants.proofs.Tables.{found_number}
 
 this_none : (longs : TableValues) (trees : List StoredTable) (h : HeldChange) → row_at (rows_of_nodes (longs h.table) (table_nodes trees h.table)) h.bookmark ≡ None → (table : ℕ) (own : List ℕ) → is_this h.table h.bookmark table own ≡ true → row_at (rows_of_nodes (longs table) (table_nodes trees table)) own ≡ None
 this_none longs trees h none table own e =
-    (λ i. row_at (rows_of_nodes (longs h.table) (table_nodes trees (sym (same_number h.table table (and_left (h.table == table) (bytes_eq h.bookmark own) e)) i))) (sym (same_bytes h.bookmark own (and_right (h.table == table) (bytes_eq h.bookmark own) e)) i)) ∙ none
+    (λ i. row_at (rows_of_nodes (longs (sym (same_number h.table table (and_left (h.table == table) (bytes_eq h.bookmark own) e)) i)) (table_nodes trees (sym (same_number h.table table (and_left (h.table == table) (bytes_eq h.bookmark own) e)) i))) (sym (same_bytes h.bookmark own (and_right (h.table == table) (bytes_eq h.bookmark own) e)) i)) ∙ none
 
 table_same : (longs : TableValues) (laws : TreeLaws) (trees : List StoredTable) (held : List HeldChange) (place : ℕ) (h : HeldChange) (row : List ℕ) → Undoes held place h row → Fills laws trees h.table h.bookmark row
     → row_at (rows_of_nodes (longs h.table) (table_nodes trees h.table)) h.bookmark ≡ None → (tables : List Table) → IsKeptChange longs tables trees h → (t : Table) → table_with_id tables t.id ≡ Some t → IsKeptTable trees (longs t.id) (table_nodes trees t.id) (map (held_record_in longs) held) t

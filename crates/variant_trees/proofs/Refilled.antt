@@ -107,13 +107,14 @@ row_filled laws trees id bookmark row there node other own =
 pub record_filled : (longs : TableValues) (laws : TreeLaws) (trees : List StoredTable) (id : ℕ) (bookmark row : List ℕ) → Fills laws trees id bookmark row → (other : ℕ) (own : List ℕ)
     → row_at (rows_of_nodes (longs other) (table_nodes (filled trees id bookmark row) other)) own ≡ cond (is_this id bookmark other own) (option_map (record_of (longs id)) (row_in_node row)) (row_at (rows_of_nodes (longs other) (table_nodes trees other)) own)
 record_filled longs laws trees id bookmark row fills other own =
-    record_at (longs id) (table_nodes (filled trees id bookmark row) other) (fills.sorted_then other) own
-    ∙ ap (option_map (record_of (longs id))) (row_filled laws trees id bookmark row fills.table fills.node other own)
-    ∙ by (is_this id bookmark other own)
+    record_at (longs other) (table_nodes (filled trees id bookmark row) other) (fills.sorted_then other) own
+    ∙ ap (option_map (record_of (longs other))) (row_filled laws trees id bookmark row fills.table fills.node other own)
+    ∙ by (is_this id bookmark other own) refl
   where
-    by : (b : Bool) → option_map (record_of (longs id)) (cond b (row_in_node row) (row_under (table_nodes trees other) own)) ≡ cond b (option_map (record_of (longs id)) (row_in_node row)) (row_at (rows_of_nodes (longs other) (table_nodes trees other)) own)
-    by true = refl
-    by false = sym (record_at (longs id) (table_nodes trees other) (fills.sorted other) own)
+    by : (b : Bool) → is_this id bookmark other own ≡ b
+        → option_map (record_of (longs other)) (cond b (row_in_node row) (row_under (table_nodes trees other) own)) ≡ cond b (option_map (record_of (longs id)) (row_in_node row)) (row_at (rows_of_nodes (longs other) (table_nodes trees other)) own)
+    by true e = ap (λ n. option_map (record_of (longs n)) (row_in_node row)) (sym (same_number id other (and_left (id == other) (bytes_eq bookmark own) e)))
+    by false e = sym (record_at (longs other) (table_nodes trees other) (fills.sorted other) own)
 
 -- ---- an undone change among the others
 
@@ -232,8 +233,7 @@ all_undone P Q each changed (x ∷ held) (suc place) all = (each x all.0, all_un
 pub undone_kept : (longs : TableValues) (tables : List Table) (trees : List StoredTable) (h : HeldChange) → IsKeptChange longs tables trees h → IsKeptChange longs tables trees (with_status undone h)
 undone_kept longs tables trees h kept = record {
   named = kept.named;
-  row = kept.row;
-  before = kept.before;
+  before = λ standing. impossible (and_right (is_rewrite h.kind) false standing);
   drop = λ standing. impossible (and_right (is_rewrite h.kind) false standing);
   room = λ still. impossible still;
   other = kept.other;
@@ -244,7 +244,6 @@ undone_kept longs tables trees h kept = record {
 pub room_filled : (longs : TableValues) (laws : TreeLaws) (trees : List StoredTable) (id : ℕ) (bookmark row : List ℕ) → has_table trees id ≡ true → (tables : List Table) (h : HeldChange) → IsKeptChange longs tables trees h → IsKeptChange longs tables (filled trees id bookmark row) h
 room_filled longs laws trees id bookmark row there tables h kept = record {
   named = kept.named;
-  row = kept.row;
   before = kept.before;
   drop = kept.drop;
   room = λ is_uncommitted. subst (λ (extent : Option ℕ). IfSome h.before (λ r. IsSomeAnd extent (λ n. length r ≤ n))) (sym (extent_filled laws trees id bookmark row there h.table h.bookmark)) (kept.room is_uncommitted);
@@ -274,8 +273,11 @@ rows_back longs laws trees held place h row undoes fills tables kept t found row
   where
     before : is_this h.table h.bookmark t.id own ≡ true → IfSome h.before (IsRowUnder (longs t.id) t own)
     before e =
+        let same : h.table ≡ t.id = same_number h.table t.id (and_left (h.table == t.id) (bytes_eq h.bookmark own) e) in
         subst (λ (b : List ℕ). IfSome h.before (IsRowUnder (longs t.id) t b)) (same_bytes h.bookmark own (and_right (h.table == t.id) (bytes_eq h.bookmark own) e))
-        (subst (λ (o : Option Table). IfSome o (λ u. IfSome h.before (IsRowUnder (longs t.id) u h.bookmark))) (ap (table_with_id tables) (same_number h.table t.id (and_left (h.table == t.id) (bytes_eq h.bookmark own) e)) ∙ found) (kept.before undoes.rewrites))
+        (subst (λ (n : ℕ). IfSome h.before (IsRowUnder (longs n) t h.bookmark)) same
+        (subst (λ (o : Option Table). IfSome o (λ u. IfSome h.before (IsRowUnder (longs h.table) u h.bookmark))) (ap (table_with_id tables) same ∙ found)
+        (kept.before (λ i. undoes.rewrites i && open_stands h.status undoes.is_uncommitted i))))
 
     by : (b : Bool) → is_this h.table h.bookmark t.id own ≡ b → IfSome (cond b (row_in_node row) (row_under (table_nodes trees t.id) own)) (IsRowUnder (longs t.id) t own)
     by true e = subst (λ (o : Option (List ℕ)). IfSome o (IsRowUnder (longs t.id) t own)) (sym undoes.before) (before e)
@@ -308,7 +310,7 @@ table_back longs laws trees held place h row undoes fills gone newest tables kep
 
     this_newest : (own : List ℕ) → is_this h.table h.bookmark t.id own ≡ true → old own ≡ Some gone
     this_newest own e =
-        (λ i. row_at (rows_of_nodes (longs h.table) (table_nodes trees (sym (same_number h.table t.id (and_left (h.table == t.id) (bytes_eq h.bookmark own) e)) i))) (sym (same_bytes h.bookmark own (and_right (h.table == t.id) (bytes_eq h.bookmark own) e)) i)) ∙ newest
+        (λ i. row_at (rows_of_nodes (longs (sym (same_number h.table t.id (and_left (h.table == t.id) (bytes_eq h.bookmark own) e)) i)) (table_nodes trees (sym (same_number h.table t.id (and_left (h.table == t.id) (bytes_eq h.bookmark own) e)) i))) (sym (same_bytes h.bookmark own (and_right (h.table == t.id) (bytes_eq h.bookmark own) e)) i)) ∙ newest
 
     by : (index : ℕ) (o : Option IndexRule) → IfSome o (λ rule. HoldsVariants (rows_of_nodes (longs t.id) (table_nodes trees t.id)) (map (held_record_in longs) held) rule (schema_of t) t.id (index_entries trees t.id index))
         → IfSome o (λ rule. (key own : List ℕ) → is_variant_key (row_at (rows_of_nodes (longs t.id) (table_nodes (filled trees h.table h.bookmark row) t.id)) own) later rule (schema_of t) t.id key own

@@ -1,6 +1,6 @@
 -- The puts and drops of a record that are not undone, from the newest back.
 use Rattle.std.proofs.Common.{◌≡◌, ℕ, zero, suc, ◌<◌, ◌≤◌, Bool, true, false, ◌&&◌, ◌||◌, cond, List, [], ◌∷◌, length, Option, Some, None, map, drop, take, option_map, refl, sym, ap, subst, ◌∙◌, arith}
-use Rattle.std.specs.Prelude.{◌==◌, IfSome, IsSomeAnd, bytes_eq, not, slice_get}
+use Rattle.std.specs.Prelude.{◌==◌, IfSome, IsSomeAnd, bytes_eq, is_some, not, slice_get}
 use Rattle.std.specs.List.{list_any}
 use Rattle.column_set.specs.RecordValues.{RecordFields}
 use Rattle.database_state.specs.State.{is_undone}
@@ -154,7 +154,8 @@ found_here : (longs : TableValues) (test : Option RecordFields → Bool) (table 
 found_here longs test table bookmark [] place row stands is = absurd stands
 found_here longs test table bookmark (h ∷ held) zero row stands is =
     ap (λ b. b && test (held_record_in longs h).before) stands
-    ∙ ap (λ b. test (cond b (option_map (record_of (longs table)) h.before) None)) (not_undone table bookmark h stands)
+    ∙ ap (λ b. test (cond b (option_map (record_of (longs h.table)) h.before) None)) (not_undone table bookmark h stands)
+    ∙ ap (λ n. test (option_map (record_of (longs n)) h.before)) (same_number h.table table (and_left (h.table == table) (bytes_eq h.bookmark bookmark) (of_record table bookmark h stands)))
     ∙ ap (λ (r : Option (List ℕ)). test (option_map (record_of (longs table)) r)) (same h.before row is)
   where
     same : (x y : Option (List ℕ)) → Some x ≡ Some y → x ≡ y
@@ -191,16 +192,16 @@ place_within p (h ∷ held) zero stands = omega arith
 place_within p (h ∷ held) (suc place) stands = let rest : place < length held = place_within p held place stands in omega arith
 
 -- the row before a change is spelled as a record
-pub row_before : (longs : TableValues) (held : List HeldChange) (place : ℕ) (row : Option (List ℕ)) → AreRows longs held → slice_get (map (λ (h : HeldChange). h.before) held) place ≡ Some row → IfSome row (IsRecordRow (longs table))
-row_before longs [] place row are is = no row is
-  where
-    no : (row : Option (List ℕ)) → None ≡ Some row → IfSome row (IsRecordRow (longs table))
-    no row e = cc
-row_before longs (h ∷ held) zero row are is = subst (λ (o : Option (List ℕ)). IfSome o (IsRecordRow (longs table))) (same h.before row is) are.0
+pub row_before : (longs : TableValues) (table : ℕ) (bookmark : List ℕ) (held : List HeldChange) (place : ℕ) (row : Option (List ℕ)) → AreRows longs held → StandsAt (is_standing_rewrite table bookmark) held (Some place)
+    → slice_get (map (λ (h : HeldChange). h.before) held) place ≡ Some row → IfSome row (IsRecordRow (longs table))
+row_before longs table bookmark [] place row are stands is = absurd stands
+row_before longs table bookmark (h ∷ held) zero row are stands is =
+    subst (λ (n : ℕ). IfSome row (IsRecordRow (longs n))) (same_number h.table table (and_left (h.table == table) (bytes_eq h.bookmark bookmark) (of_record table bookmark h stands)))
+    (subst (λ (o : Option (List ℕ)). IfSome o (IsRecordRow (longs h.table))) (same h.before row is) (are.0 (not_undone table bookmark h stands)))
   where
     same : (x y : Option (List ℕ)) → Some x ≡ Some y → x ≡ y
     same x y e = cc
-row_before longs (h ∷ held) (suc place) row are is = row_before longs held place row are.1 is
+row_before longs table bookmark (h ∷ held) (suc place) row are stands is = row_before longs table bookmark held place row are.1 stands is
 
 pub fewer_places : (place : ℕ) (at older : Option ℕ) → at ≡ Some place → IfSome older (λ n. n < place) → places_left older < places_left at
 fewer_places place at older is below = subst (λ (o : Option ℕ). places_left older < places_left o) (sym is) (by older below)
@@ -208,3 +209,8 @@ fewer_places place at older is below = subst (λ (o : Option ℕ). places_left o
     by : (older : Option ℕ) → IfSome older (λ n. n < place) → places_left older < suc place
     by None below = omega arith
     by (Some n) below = omega arith
+
+-- there is a record where there is a row
+pub some_mapped : (vals : Values) (row : Option (List ℕ)) → is_some (option_map (record_of vals) row) ≡ is_some row
+some_mapped vals None = refl
+some_mapped vals (Some row) = refl

@@ -9,15 +9,18 @@ use Rattle.index_derive.specs.declared.schema_calls.SchemaStep.{SchemaStep}
 use Rattle.jet_catalog.specs.Catalog.{CatalogState, catalog_after, without_rows}
 use Rattle.page_image.specs.Page.{Node}
 use Rattle.record_changes.proofs.Tests.{same_number}
-use Rattle.table_trees.specs.StoredTables.{StoredIndex, StoredTable, index_entries, is_index, part_of, table_indexes, table_nodes}
+use Rattle.table_trees.specs.StoredTables.{table_long_values, StoredIndex, StoredTable, index_entries, is_index, part_of, table_indexes, table_nodes}
 use Rattle.version_keys.proofs.SchemaKeys.{other_table, this_table}
 use Rattle.versioned_tables.specs.Variants.{HoldsVariants}
 use Rattle.stored_variants.specs.RecordRows.{TableValues, rows_of_nodes}
 use Rattle.stored_variants.specs.SchemaSteps.{IsMade}
-use Rattle.stored_variants.specs.VersionsKept.{AreKeptWith, IsKeptTable, needed_trees, secondary_rule, tree_numbers}
-use Rattle.stored_variants.specs.VersionsView.{with_newest_by}
+use Rattle.stored_variants.specs.VersionsKept.{AreKept, AreKeptWith, IsKeptTable, needed_trees, secondary_rule, tree_numbers}
+use Rattle.stored_variants.specs.VersionsView.{with_newest, with_newest_by}
 use Rattle.stored_variants.proofs.Tables.{found_number}
-use Rattle.long_value.specs.Values.{Values}
+use Rattle.long_value.specs.Values.{value_of, Values}
+use Rattle.stored_variants.specs.CountedValues.{newest_rows, BringsNoValue, AreCounted}
+use Rattle.variant_trees.specs.GoneKeys.{KeepsValues}
+use Rattle.long_references.specs.ReferenceCounts.{HasCounts}
 
 -- ---- tables while no change is held
 
@@ -128,8 +131,26 @@ pub record StepsTo (longs : TableValues) (made : SchemaStep) (tables : List Tabl
   pub kept : AreKeptWith longs (tables_after_step tables made) other []
   pub shown : map (with_newest_by longs other) (tables_after_step tables made) ≡ tables_after_step (map (with_newest_by longs trees) tables) made
 
-pub is_made : (longs : TableValues) (made : SchemaStep) (was : CatalogState) (trees : List StoredTable) (is : CatalogState) (other : List StoredTable) → is ≡ catalog_after was made → StepsTo longs made was.tables trees other → IsMade made was trees is other
-is_made longs made was trees is other same steps = subst (λ (c : CatalogState). IsMade made was trees c other) (sym same) (record {
-  kept = steps.kept;
-  shown = λ i. record { greatest_table = (catalog_after was made).greatest_table; store = record { tables = steps.shown i; held = [] } };
+-- where the nodes and the long values stay, each value has as many references
+pub counts_stay : (trees other : List StoredTable) → KeepsValues trees other → ((table : ℕ) → table_nodes other table ≡ table_nodes trees table) → AreCounted trees [] → AreCounted other []
+counts_stay trees other keeps nodes counts = λ table.
+    subst (λ (v : Values). HasCounts v (newest_rows (table_nodes other table)) []) (sym (keeps table))
+    (subst (λ (ns : List Node). HasCounts (table_long_values trees table) (newest_rows ns) []) (sym (nodes table)) (counts table))
+
+pub is_made : (made : SchemaStep) (was : CatalogState) (trees : List StoredTable) (is : CatalogState) (other : List StoredTable) → is ≡ catalog_after was made → AreKept (tables_after_step was.tables made) other []
+    → map (with_newest other) (tables_after_step was.tables made) ≡ tables_after_step (map (with_newest trees) was.tables) made → AreCounted other [] → BringsNoValue trees other → IsMade made was trees is other
+is_made made was trees is other same kept shown counts values = subst (λ (c : CatalogState). IsMade made was trees c other) (sym same) (record {
+  kept = kept;
+  counts = counts;
+  values = values;
+  shown = λ newest. λ i. record { greatest_table = (catalog_after was made).greatest_table; newest_put = newest; store = record { tables = shown i; held = [] } };
 })
+
+-- the same where all long values stay
+pub made_with_values : (made : SchemaStep) (was : CatalogState) (trees : List StoredTable) (is : CatalogState) (other : List StoredTable) → is ≡ catalog_after was made → StepsTo (table_long_values trees) made was.tables trees other
+    → KeepsValues trees other → AreCounted other [] → IsMade made was trees is other
+made_with_values made was trees is other same steps keeps counts =
+    is_made made was trees is other same
+    (subst (λ (longs : TableValues). AreKeptWith longs (tables_after_step was.tables made) other []) (λ i table. sym (keeps table) i) steps.kept)
+    (ap (λ (longs : TableValues). map (with_newest_by longs other) (tables_after_step was.tables made)) (λ i table. keeps table i) ∙ steps.shown)
+    counts (λ table x none. ap (value_of x) (keeps table) ∙ none)

@@ -185,7 +185,7 @@ pub record Sums (longs : TableValues) (laws : TreeLaws) (trees : List StoredTabl
 was_there : (longs : TableValues) (laws : TreeLaws) (trees : List StoredTable) (id : ℕ) (bookmark row : List ℕ) (column : ℕ) (amount : ℤ) (now : List ℕ) → Sums longs laws trees id bookmark row column amount now → (other : ℕ) (own : List ℕ) → is_this id bookmark other own ≡ true
     → row_at (rows_of_nodes (longs other) (table_nodes trees other)) own ≡ Some (record_of (longs id) row)
 was_there longs laws trees id bookmark row column amount now sums other own e =
-    (λ i. row_at (rows_of_nodes (longs id) (table_nodes trees (sym (same_number id other (and_left (id == other) (bytes_eq bookmark own) e)) i))) (sym (same_bytes bookmark own (and_right (id == other) (bytes_eq bookmark own) e)) i))
+    (λ i. row_at (rows_of_nodes (longs (sym (same_number id other (and_left (id == other) (bytes_eq bookmark own) e)) i)) (table_nodes trees (sym (same_number id other (and_left (id == other) (bytes_eq bookmark own) e)) i))) (sym (same_bytes bookmark own (and_right (id == other) (bytes_eq bookmark own) e)) i))
     ∙ record_at (longs id) (table_nodes trees id) (sums.fills.sorted id) bookmark
     ∙ ap (option_map (record_of (longs id))) sums.under
 

@@ -50,7 +50,7 @@ sum_column tables trees now place table held h was column amount is =
     (subst (λ (n : ℕ). IfSome (table_with_id tables n) (λ t. AddsToEscrow (schema_of t) h.kind)) was.named kept.sum))
 
 pub sum_back : (tables : List Table) (trees other : List StoredTable) (now : List HeldChange) (place : ℕ) (table : TableId) (held : List HeldChange) (h : HeldChange) → WasOpen tables trees now place table.0 held h → (column : ColumnId) (amount : ℤ) → h.kind ≡ kind.Add column amount
-    → (bookmark : List ℕ) → h.bookmark ≡ bookmark → AreKeptWith (table_long_values trees) tables other now → map (with_newest_by (table_long_values trees) other) tables ≡ tables_after (map (with_newest_by (table_long_values trees) trees) tables) (Add table bookmark column (neg_ℤ amount)) → IsBack tables trees other now h
+    → (bookmark : List ℕ) → h.bookmark ≡ bookmark → AreKept tables other now → map (with_newest other) tables ≡ tables_after (map (with_newest_by (table_long_values trees) trees) tables) (Add table bookmark column (neg_ℤ amount)) → IsBack tables trees other now h
 sum_back tables trees other now place table held h was column amount is bookmark at kept shown = record {
   kept = kept;
   shown =

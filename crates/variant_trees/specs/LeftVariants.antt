@@ -31,6 +31,11 @@ abbrev pub DistinctIds : List Table → Type 0
 DistinctIds [] = Unit {0}
 DistinctIds (t ∷ tables) = (list_any (λ (x : Table). x.id == t.id) tables ≡ false) × DistinctIds tables
 
+-- No two tables have one id, and the table has this schema.
+pub record HasSchema (tables : List Table) (table : ℕ) (schema : Schema) : Type 0 where
+  pub ids : DistinctIds tables
+  pub schema : IfSome (table_with_id tables table) (λ t. schema ≡ schema_of t)
+
 -- whether a record is the one of a table and a bookmark
 abbrev pub is_this : ℕ → List ℕ → ℕ → List ℕ → Bool
 is_this id bookmark table own = (id == table) && bytes_eq bookmark own
@@ -63,13 +68,6 @@ pub record AreLeft (longs : TableValues) (tables : List Table) (trees : List Sto
 
 abbrev pub first_table : List HeldChange → Option ℕ
 first_table held = option_map (λ (h : HeldChange). h.table) (slice_get held 0)
-
--- The oldest change is one of the table. Where it stands and holds a row, the table's indexes have the keys of that, and the
--- bookmark is short.
-abbrev pub CanForget : Values → Schema → ℕ → List HeldChange → Type 0
-CanForget values schema table [] = ⊥
-CanForget values schema table (h ∷ held) =
-    (h.table ≡ table) × (is_standing h ≡ true → IfSome h.before (λ row. AllByRecursion (HasKeysOf schema (record_of values row)) schema.indexes × (length h.bookmark ≤ 255)))
 
 -- The store is kept without the oldest change. It shows the tables that it showed, the other held changes hold the records that they
 -- held, and no long value has come.

@@ -113,7 +113,6 @@ pub record IsHalfPut (table : ℕ) (bookmark : List ℕ) (keys : Keys) (old new 
   pub indexes : (other : ℕ) → index_numbers new other ≡ index_numbers old other
   pub rows : (other : ℕ) (own : List ℕ) → get_in (table_nodes new other) own ≡ node_at_least (is_place table bookmark other own) (get_in (table_nodes old other) own)
   pub extents : AreWidened old new
-  pub values : KeepsValues old new
   pub others : (other index : ℕ) → other ≢ table → index_entries new other index ≡ index_entries old other index
   pub stay : (index : ℕ) (key own : List ℕ) → has_entry key own (index_entries old table index) ≡ true → has_entry key own (index_entries new table index) ≡ true
   pub only : (index : ℕ) (key own : List ℕ) → has_entry key own (index_entries new table index) ≡ true → (has_entry key own (index_entries old table index) || (bytes_eq own bookmark && keys index key)) ≡ true
@@ -124,7 +123,6 @@ pub record IsNewPut (table : ℕ) (bookmark row : List ℕ) (keys : Keys) (old n
   pub indexes : (other : ℕ) → index_numbers new other ≡ index_numbers old other
   pub rows : (other : ℕ) (own : List ℕ) → get_in (table_nodes new other) own ≡ (if is_place table bookmark other own then Some row else get_in (table_nodes old other) own)
   pub extents : AreWidened old new
-  pub values : KeepsValues old new
   pub others : (other index : ℕ) → other ≢ table → index_entries new other index ≡ index_entries old other index
   pub stay : (index : ℕ) (key own : List ℕ) → has_entry key own (index_entries old table index) ≡ true → has_entry key own (index_entries new table index) ≡ true
   pub only : (index : ℕ) (key own : List ℕ) → has_entry key own (index_entries new table index) ≡ true → (has_entry key own (index_entries old table index) || (bytes_eq own bookmark && keys index key)) ≡ true

@@ -1,11 +1,13 @@
 -- The row before an open change that is undone comes back.
-use Rattle.std.specs.Prelude.{◌≡◌, ◌≤◌, ℕ, true, List, length, map, Some, IfSome, IsSomeAnd, option_map, slice_get}
+use Rattle.std.specs.Prelude.{◌≡◌, ◌≤◌, ◌==◌, ℕ, if◌then◌else◌, true, List, length, map, Some, IfSome, IsSomeAnd, option_map, slice_get}
 use Rattle.std.specs.List.{AllByRecursion}
 use Rattle.btree_inplace.specs.Order.{extent_in}
 use Rattle.database_state.specs.Changes.{tables_after}
 use Rattle.database_state.specs.State.{is_open}
 use Rattle.database_state.specs.Table.{Table, with_table}
+use Rattle.column_set.specs.RowReading.{row_in}
 use Rattle.index_derive.specs.declared.rules.Schema.{Schema}
+use Rattle.long_references.specs.ReferenceCounts.{NewestRows, with_row}
 use Rattle.long_value.specs.Values.{Values}
 use Rattle.table_trees.specs.StoredTables.{StoredTable, table_long_values, table_nodes}
 use Rattle.version_store.specs.HeldChanges.{HeldChange, is_rewrite, undone_at}
@@ -36,6 +38,10 @@ pub record IsUndone (held : List HeldChange) (place : ℕ) (h : HeldChange) (now
 -- the tables with the record before a change in the place of the newest one
 abbrev pub tables_put_back : Values → List Table → HeldChange → List Table
 tables_put_back values tables h = with_table h.table (λ t. record t { rows = rows_with t.rows h.bookmark (option_map (record_of values) h.before) }) tables
+
+-- the newest rows of a table, where one of the table with that number has the row before a change
+abbrev pub rows_put_back : HeldChange → ℕ → ℕ → NewestRows → NewestRows
+rows_put_back h table other rows = if table == other then with_row h.bookmark (option_map row_in h.before) rows else rows
 
 -- ---- an undo
 

@@ -1,12 +1,9 @@
 //! What goes with the oldest held change.
 
-ghost use Rattle.std.specs.Prelude.{◌≡◌, ◌<◌, ℕ, List, Some, true, length, IfSome};
-ghost use Rattle.database_state.specs.Table.{Table, schema_of, table_with_id};
-ghost use Rattle.table_trees.specs.StoredTables.{has_table, table_long_values, table_nodes};
-ghost use Rattle.variant_trees.specs.GoneKeys.{AreRows};
-ghost use Rattle.variant_trees.specs.LeftVariants.{CanForget, DistinctIds, IsForgotten, first_table};
+ghost use Rattle.std.specs.Prelude.{◌≡◌, ◌<◌, List, Some, length};
+ghost use Rattle.database_state.specs.Table.{Table};
+ghost use Rattle.variant_trees.specs.LeftVariants.{HasSchema, IsForgotten, first_table};
 ghost use Rattle.stored_variants.specs.CountedValues.{AreCounted};
-ghost use Rattle.stored_variants.specs.RecordRows.{IsRecordRow, row_under};
 ghost use Rattle.stored_variants.specs.VersionsKept.{AreKept};
 
 use crate::gone::Gone;
@@ -15,6 +12,8 @@ use index_derive::Schema;
 use jet_base::TableId;
 use jet_catalog::Catalog;
 use kept_rows::release_row;
+use long_references::values_keep_their_counts;
+use long_value::{references_after_a_change, values_after_a_change};
 use table_trees::TableTrees;
 use version_store::Versions;
 
@@ -52,19 +51,21 @@ fn forget_of(catalog: &Catalog, trees: &mut TableTrees, versions: &Versions, tab
 
 // The same where the table's schema is known.
 fn forget_in(trees: &mut TableTrees, versions: &Versions, table: TableId, schema: &Schema)
-    requires can { CanForget (table_long_values trees.old.tables table.0) schema.now table.0 versions.now }
-    requires rows { AreRows (table_long_values trees.old.tables) versions.now }
-    requires newest { (bookmark : List ℕ) → IfSome (row_under (table_nodes trees.old.tables table.0) bookmark) (IsRecordRow (table_long_values trees.old.tables table.0)) }
-    requires there { has_table trees.old.tables table.0 ≡ true }
+    requires was { (tables : List Table) × HasSchema tables table.0 schema.now × AreKept tables trees.old.tables versions.now }
+    requires first { first_table versions.now ≡ Some table.0 }
     requires counts { AreCounted trees.old.tables versions.now }
-    ensures forgotten { (tables : List Table) → DistinctIds tables → IfSome (table_with_id tables table.0) (λ t. schema.now ≡ schema_of t) → AreKept tables trees.old.tables versions.now → IsForgotten tables trees.old.tables trees.new.tables versions.now }
+    ensures forgotten { (tables : List Table) → HasSchema tables table.0 schema.now → AreKept tables trees.old.tables versions.now → IsForgotten tables trees.old.tables trees.new.tables versions.now }
     ensures catalog { trees.new.catalog ≡ trees.old.catalog }
 {
+    references_after_a_change();
+    values_after_a_change();
+    values_keep_their_counts();
     if versions.is_standing_at(0) {
         match versions.before_at(0) {
             Some(row) => {
                 let bookmark = versions.bookmark_at(0);
                 take_variant(trees, versions, 1, table, schema, bookmark, Gone::Row(row));
+                trees.nodes_are_in_order();
                 release_row(trees, table, row);
             }
             None => {}

@@ -1,6 +1,6 @@
 //! A record that goes.
 
-ghost use Rattle.std.specs.Prelude.{◌≡◌, true, IsOk};
+ghost use Rattle.std.specs.Prelude.{◌≡◌, ◌≤◌, true, IsOk};
 ghost use Rattle.std.specs.Option.{option_copied};
 ghost use Rattle.index_derive.specs.Entries.{entries, is_legal, key_list};
 ghost use Rattle.index_derive.specs.Derived.{next_in};
@@ -37,7 +37,7 @@ pub(crate) fn next_key(
     requires short { rule.now.key_most ≤ 255 }
     requires row { CanRead (table_long_values trees.now.tables table.0) gone }
     requires taken { IsOk (entries rule.now schema.now (gone_fields (table_long_values trees.now.tables table.0) gone)) }
-    ensures { result ≡ next_in (key_list rule.now schema.now (gone_fields (table_long_values trees.now.tables table.0) gone)) (option_copied after.entry) }
+    ensures { result ≡ next_in (key_list rule.now schema.now (gone_fields (table_long_values trees.now.tables table.0) gone.entry)) (option_copied after.entry) }
 {
     match gone {
         Gone::Record(record) => next_entry(rule, schema, record, after),

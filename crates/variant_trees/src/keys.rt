@@ -41,7 +41,7 @@ pub(crate) fn take_keys(
     requires rows { AreRows (table_long_values trees.old.tables) versions.now }
     requires bookmark { length bookmark.now ≤ 255 }
     ensures others { ChangesEntries table.0 trees.old.tables trees.new.tables }
-    ensures keys { LosesRecord (option_map (record_of (table_long_values trees.old.tables table.0)) (row_under (table_nodes trees.old.tables table.0) bookmark.now)) (held_from (table_long_values trees.old.tables) from versions.now) schema.now table.0 bookmark.now (gone_fields (table_long_values trees.old.tables table.0) gone) trees.old.tables trees.new.tables }
+    ensures keys { LosesRecord (option_map (record_of (table_long_values trees.old.tables table.0)) (row_under (table_nodes trees.old.tables table.0) bookmark.now)) (held_from (table_long_values trees.old.tables) from versions.now) schema.now table.0 bookmark.now (gone_fields (table_long_values trees.old.tables table.0) gone.entry) trees.old.tables trees.new.tables }
     ensures catalog { trees.new.catalog ≡ trees.old.catalog }
 {
     for rule in schema.indexes.as_slice() {
@@ -69,7 +69,7 @@ fn take_keys_of(
     requires bookmark { length bookmark.now ≤ 255 }
     ensures others { ChangesEntries table.0 trees.old.tables trees.new.tables }
     ensures indexes { OthersKeep table.0 rule.now.id.0 trees.old.tables trees.new.tables }
-    ensures keys { LosesKeys (option_map (record_of (table_long_values trees.old.tables table.0)) (row_under (table_nodes trees.old.tables table.0) bookmark.now)) (held_from (table_long_values trees.old.tables) from versions.now) rule.now schema.now table.0 bookmark.now (gone_fields (table_long_values trees.old.tables table.0) gone) (index_entries trees.old.tables table.0 rule.now.id.0) (index_entries trees.new.tables table.0 rule.now.id.0) }
+    ensures keys { LosesKeys (option_map (record_of (table_long_values trees.old.tables table.0)) (row_under (table_nodes trees.old.tables table.0) bookmark.now)) (held_from (table_long_values trees.old.tables) from versions.now) rule.now schema.now table.0 bookmark.now (gone_fields (table_long_values trees.old.tables table.0) gone.entry) (index_entries trees.old.tables table.0 rule.now.id.0) (index_entries trees.new.tables table.0 rule.now.id.0) }
     ensures catalog { trees.new.catalog ≡ trees.old.catalog }
 {
     entries_rise();

@@ -15,7 +15,7 @@ ghost use Rattle.table_trees.specs.StoredTables.{StoredTable, has_index, has_tab
 ghost use Rattle.version_store.specs.HeldChanges.{has_room, new_change};
 ghost use Rattle.version_store.specs.declared.fault.VersionFault.TheVariants as fault;
 ghost use Rattle.stored_variants.specs.PutRecords.{HasKeysOf, record_keys, rule_keys};
-ghost use Rattle.variant_trees.specs.GoneKeys.{AreRows, held_from};
+ghost use Rattle.variant_trees.specs.GoneKeys.{AreRows, KeepsValues, held_from};
 ghost use Rattle.variant_trees.specs.PutStages.{AreKeysOfRecords, CanTake, HasKeys, HasNewRow, HasRoom, HasVariantKeys, IsHalfPut, IsNewPut, IsPut, IsSame, MayHaveKeys, one_key, put_found, row_if};
 ghost use Rattle.stored_variants.specs.RecordRows.{IsRecordRow, record_of, row_under};
 
@@ -198,7 +198,7 @@ fn take_back(
     requires there { has_table trees.old.tables table.0 ≡ true }
     requires new_node { is_new ≡ true → is_some (get_in (table_nodes trees.old.tables table.0) bookmark.now) ≡ true }
     ensures back { (base : List StoredTable) → IsHalfPut table.0 bookmark.now (record_keys schema.now.indexes schema.now values.now) base trees.old.tables
-        → is_new ≡ is_none (get_in (table_nodes base table.0) bookmark.now)
+        → KeepsValues base trees.old.tables → is_new ≡ is_none (get_in (table_nodes base table.0) bookmark.now)
         → HasVariantKeys (option_map (record_of (table_long_values base table.0)) (row_under (table_nodes base table.0) bookmark.now)) (held_from (table_long_values base) 0 versions.now) schema.now table.0 bookmark.now base
         → IsSame table.0 schema.now base trees.new.tables }
     ensures catalog { trees.new.catalog ≡ trees.old.catalog }
@@ -234,7 +234,7 @@ fn take_back_new(
     requires there { has_table trees.old.tables table.0 ≡ true }
     requires node { is_some (get_in (table_nodes trees.old.tables table.0) bookmark.now) ≡ true }
     ensures back { (base : List StoredTable) (row : List ℕ) → IsNewPut table.0 bookmark.now row (record_keys schema.now.indexes schema.now values.now) base trees.old.tables
-        → get_in (table_nodes base table.0) bookmark.now ≡ None
+        → KeepsValues base trees.old.tables → get_in (table_nodes base table.0) bookmark.now ≡ None
         → HasVariantKeys None (held_from (table_long_values base) 0 versions.now) schema.now table.0 bookmark.now base
         → IsSame table.0 schema.now base trees.new.tables }
     ensures catalog { trees.new.catalog ≡ trees.old.catalog }

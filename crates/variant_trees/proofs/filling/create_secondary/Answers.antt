@@ -1,13 +1,16 @@
 use Rattle.std.proofs.Common.{◌≡◌, true, List, ap, sym, subst, ◌∙◌}
-use Rattle.database_state.specs.Table.{table_with_id}
+use Rattle.std.specs.Prelude.{IfSome, IsSomeAnd}
+use Rattle.long_value.specs.Values.{Values}
+use Rattle.database_state.specs.Table.{schema_of, table_with_id}
 use Rattle.jet_catalog.specs.Catalog.{CatalogState}
 use Rattle.table_trees.specs.StoredTables.{table_long_values, StoredTable, has_index, has_table, index_entries, table_nodes}
 use Rattle.table_trees.specs.StoredTrees.{with_root_of, without_root_of}
-use Rattle.variant_trees.specs.NewEntries.{OnlyEntries}
+use Rattle.variant_trees.specs.NewEntries.{CanFill, HasNewestKeys, OnlyEntries}
 use Rattle.variant_trees.proofs.IndexTrees.{can_fill, in_trees, new_created, new_is_empty, new_is_there, new_nodes, no_index, taken_back}
 use Rattle.variant_trees.proofs.KeptSteps.{LacksIndex, new_index, none_yet, shows_in}
 use Rattle.variant_trees.proofs.MadeTables.{a_tree}
 use Rattle.variant_trees.proofs.NewEntries.{still_there}
+use Rattle.variant_trees.proofs.Stepping.{counts_stay}
 use Rattle.variant_trees.proofs.filling.create_secondary.Goals as goal
 
 pub add_index-requires-clause-there : goal.add_index-requires-clause-there
@@ -40,8 +43,9 @@ fill_and_make-requires-clause-empty c =
 pub fill_and_make-requires-clause-fits : goal.fill_and_make-requires-clause-fits
 fill_and_make-requires-clause-fits c =
     let trees = c.args.trees.now.tables in let id = c.args.table.0 in let rule = c.args.rule.now in
-    can_fill (table_long_values c.args.trees.now.tables) id rule c.args.catalog.now.tables trees c.add_index.new.self.tables c.nodes_are_in_order.ensures.sorted
-    (λ table. ap (λ (t : List StoredTable). table_nodes t table) c.in-Ok.ensures.ok ∙ new_nodes c.indexes_after_a_change.ensures.nodes trees id rule.id.0 table) c.requires.kept c.requires.fits
+    subst (λ (v : Values). IsSomeAnd (table_with_id c.args.catalog.now.tables id) (CanFill v rule (table_nodes c.add_index.new.self.tables id))) (sym (ap (λ (t : List StoredTable). table_long_values t id) c.in-Ok.ensures.ok ∙ c.indexes_after_a_change.ensures.long_values c.args.trees.now.tables c.args.table.0 id _))
+    (can_fill (table_long_values c.args.trees.now.tables) id rule c.args.catalog.now.tables trees c.add_index.new.self.tables c.nodes_are_in_order.ensures.sorted
+    (λ table. ap (λ (t : List StoredTable). table_nodes t table) c.in-Ok.ensures.ok ∙ new_nodes c.indexes_after_a_change.ensures.nodes trees id rule.id.0 table) c.requires.kept c.requires.fits)
 
 pub remove_index-requires : goal.remove_index-requires
 remove_index-requires c =
@@ -52,7 +56,7 @@ remove_index-requires c =
 
 pub returns-in-Ok-fill_and_make-clause-ok : goal.returns-in-Ok-fill_and_make-clause-ok
 returns-in-Ok-fill_and_make-clause-ok c =
-    new_created (table_long_values c.args.trees.now.tables)
+    new_created
     (record {
       others = c.indexes_after_a_change.ensures.others;
       nodes = c.indexes_after_a_change.ensures.nodes;
@@ -60,7 +64,13 @@ returns-in-Ok-fill_and_make-clause-ok c =
       without = c.indexes_without_one.ensures.others;
     })
     c.args.made.now c.args.table c.args.rule.now c.requires.step c.args.catalog.now c.args.trees.now.tables c.nodes_are_in_order.ensures.sorted c.tables.ensures.numbered c.requires.secondary c.requires.fits c.requires.kept
-    c.fill_and_make.new.catalog c.in-Ok-fill_and_make.ensures.made c.add_index.new.self.tables c.fill_and_make.new.trees.tables c.in-Ok.ensures.ok c.in-Ok-fill_and_make.ensures.only c.in-Ok-fill_and_make.ensures.filled
+    c.fill_and_make.new.catalog c.in-Ok-fill_and_make.ensures.made c.add_index.new.self.tables c.fill_and_make.new.trees.tables c.in-Ok.ensures.ok c.in-Ok-fill_and_make.ensures.only
+    (subst (λ (v : Values). IfSome (table_with_id c.args.catalog.now.tables c.args.table.0) (λ t. HasNewestKeys v c.args.rule.now (table_nodes c.add_index.new.self.tables c.args.table.0) (index_entries c.fill_and_make.new.trees.tables c.args.table.0 c.args.rule.now.id.0) (schema_of t)))
+    (ap (λ (t : List StoredTable). table_long_values t c.args.table.0) c.in-Ok.ensures.ok ∙ c.indexes_after_a_change.ensures.long_values c.args.trees.now.tables c.args.table.0 c.args.table.0 _) c.in-Ok-fill_and_make.ensures.filled)
+    (λ table. c.in-Ok-fill_and_make.ensures.only.changes.values table ∙ (ap (λ (t : List StoredTable). table_long_values t table) c.in-Ok.ensures.ok ∙ c.indexes_after_a_change.ensures.long_values c.args.trees.now.tables c.args.table.0 table _))
+    (counts_stay c.args.trees.now.tables c.fill_and_make.new.trees.tables
+    (λ table. c.in-Ok-fill_and_make.ensures.only.changes.values table ∙ (ap (λ (t : List StoredTable). table_long_values t table) c.in-Ok.ensures.ok ∙ c.indexes_after_a_change.ensures.long_values c.args.trees.now.tables c.args.table.0 table _))
+    (λ table. c.in-Ok-fill_and_make.ensures.only.changes.nodes table ∙ ap (λ (t : List StoredTable). table_nodes t table) c.in-Ok.ensures.ok ∙ c.indexes_after_a_change.ensures.nodes c.args.trees.now.tables c.args.table.0 table _) c.requires.counts)
 
 pub returns-in-Err-fill_and_make-clause-err : goal.returns-in-Err-fill_and_make-clause-err
 returns-in-Err-fill_and_make-clause-err c =

@@ -20,7 +20,9 @@ before_at-requires c =
     place_within (is_standing_rewrite c.args.table.0 c.args.bookmark.now) c.args.versions.now c.in-Some.place walk.stands
 
 pub has_key-requires-clause-row : goal.has_key-requires-clause-row
-has_key-requires-clause-row c = row_before (table_long_values c.args.trees.now.tables) c.args.versions.now c.in-Some.place (option_copied c.before_at.result) c.requires.rows c.before_at.ensures
+has_key-requires-clause-row c =
+    let walk = walk_at (table_long_values c.args.trees.now.tables) (yields_key c.args.rule.now c.args.schema.now c.args.key.now) c.args.table.0 c.args.bookmark.now c.args.from c.args.versions.now c.loop-at.at c.in-Some.place c.loop-at.invariant c.in-Some.is in
+    row_before (table_long_values c.args.trees.now.tables) c.args.table.0 c.args.bookmark.now c.args.versions.now c.in-Some.place (option_copied c.before_at.result) c.requires.rows walk.stands c.before_at.ensures
 
 pub returns-then-has_key : goal.returns-then-has_key
 returns-then-has_key c =

@@ -25,7 +25,7 @@ returns-in-Err-put_keys-clause-same c =
 pub returns-in-Ok-push-clause-put : goal.returns-in-Ok-push-clause-put
 returns-in-Ok-push-clause-put c =
     subst (λ (trees : List StoredTable). IsPut c.args.table.0 c.args.bookmark.now c.args.row.now (record_keys c.args.schema.now.indexes c.args.schema.now c.args.values.now) c.args.trees.now.tables trees) (sym c.replace.ensures.tables)
-    (put_done (record { named = c.nodes_after_a_change.ensures.named; others = c.nodes_after_a_change.ensures.others; indexes = c.nodes_after_a_change.ensures.indexes; put = c.nodes_by_bookmark.ensures.put; removed = c.nodes_by_bookmark.ensures.removed; replaced = c.nodes_by_bookmark.ensures.replaced; widened = c.nodes_by_bookmark.ensures.widened })
+    (put_done (record { named = c.nodes_after_a_change.ensures.named; others = c.nodes_after_a_change.ensures.others; indexes = c.nodes_after_a_change.ensures.indexes; values = c.nodes_after_a_change.ensures.long_values; put = c.nodes_by_bookmark.ensures.put; removed = c.nodes_by_bookmark.ensures.removed; replaced = c.nodes_by_bookmark.ensures.replaced; widened = c.nodes_by_bookmark.ensures.widened })
     c.args.table.0 c.args.bookmark.now c.args.row.now (length c.args.row.now) (record_keys c.args.schema.now.indexes c.args.schema.now c.args.values.now) c.args.trees.now.tables c.make_room.new.trees.tables c.put_keys.new.trees.tables
     (table_stays c.args.table.0 c.make_room.new.trees.tables c.put_keys.new.trees.tables c.in-Ok-put_keys.ensures.ok.others.numbers
     ∙ table_stays c.args.table.0 c.args.trees.now.tables c.make_room.new.trees.tables c.in-Ok.ensures.ok.numbers ∙ c.requires.there)

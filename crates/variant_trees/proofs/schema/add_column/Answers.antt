@@ -34,7 +34,7 @@ take_back_column-requires-clause-step c = subst (λ (k : CatalogState). ShowsSte
 pub returns-in-Ok-make-clause-ok : goal.returns-in-Ok-make-clause-ok
 returns-in-Ok-make-clause-ok c =
     subst (λ (t : List StoredTable). IsMade c.args.made.now c.args.catalog.now c.args.trees.now.tables c.make.new.self t) (sym c.keep_column.ensures.tables)
-    (column_made (table_long_values c.args.trees.now.tables) c.args.made.now c.args.table c.args.column.now c.requires.step c.args.catalog.now c.args.trees.now.tables c.nodes_are_in_order.ensures.sorted c.requires.taken c.requires.kept c.make.new.self c.in-Ok-make.ensures.made)
+    (column_made c.args.made.now c.args.table c.args.column.now c.requires.step c.args.catalog.now c.args.trees.now.tables c.nodes_are_in_order.ensures.sorted c.requires.taken c.requires.kept c.make.new.self c.in-Ok-make.ensures.made c.requires.counts)
 
 pub returns-in-Ok-make-clause-shown : goal.returns-in-Ok-make-clause-shown
 returns-in-Ok-make-clause-shown c = shows_after c.keep_column.new.trees.catalog c.args.catalog.now c.make.new.self c.args.made.now (step.AddColumn c.args.table c.args.column.now) c.requires.step c.in-Ok-make.ensures.made (c.in-Ok.ensures.ok).after

@@ -1,10 +1,11 @@
 use Rattle.std.proofs.Common.{List, ap, ◌∙◌}
 use Rattle.database_state.specs.Table.{table_with_id}
 use Rattle.jet_catalog.specs.Catalog.{CatalogState}
-use Rattle.table_trees.specs.StoredTables.{table_long_values, StoredTable, has_table, without_table}
+use Rattle.table_trees.specs.StoredTables.{table_long_values, StoredTable, has_table, table_nodes, without_table}
 use Rattle.table_trees.specs.StoredTrees.{with_table_roots, without_table_roots}
 use Rattle.variant_trees.proofs.KeptSteps.{shows_in}
 use Rattle.variant_trees.proofs.MadeTables.{create_made, given_back, new_there, no_tree, none_new}
+use Rattle.variant_trees.proofs.Stepping.{counts_stay}
 use Rattle.variant_trees.proofs.schema.create_table.Goals as goal
 
 pub add_table-requires : goal.add_table-requires
@@ -21,9 +22,13 @@ remove_table-requires c = ap (λ (t : List StoredTable). has_table t c.args.tabl
 
 pub returns-in-Ok-keep_and_make-clause-ok : goal.returns-in-Ok-keep_and_make-clause-ok
 returns-in-Ok-keep_and_make-clause-ok c =
-    create_made (table_long_values c.args.trees.now.tables) (record { nodes = c.tables_beside_a_new_one.ensures.nodes; indexes = c.tables_beside_a_new_one.ensures.indexes })
+    create_made (record { nodes = c.tables_beside_a_new_one.ensures.nodes; indexes = c.tables_beside_a_new_one.ensures.indexes })
     c.args.made.now c.args.table c.args.name.now c.requires.step c.args.catalog.now c.args.trees.now.tables c.requires.kept c.tables.ensures.numbered c.requires.new_id
     c.keep_and_make.new.catalog c.in-Ok-keep_and_make.ensures.made c.keep_and_make.new.trees.tables (c.keep_and_make.ensures.tables ∙ c.in-Ok.ensures.ok)
+    (λ table. ap (λ (t : List StoredTable). table_long_values t table) (c.keep_and_make.ensures.tables ∙ c.in-Ok.ensures.ok) ∙ c.tables_beside_a_new_one.ensures.long_values c.args.trees.now.tables c.args.table.0 table)
+    (counts_stay c.args.trees.now.tables c.keep_and_make.new.trees.tables
+    (λ table. ap (λ (t : List StoredTable). table_long_values t table) (c.keep_and_make.ensures.tables ∙ c.in-Ok.ensures.ok) ∙ c.tables_beside_a_new_one.ensures.long_values c.args.trees.now.tables c.args.table.0 table)
+    (λ table. ap (λ (t : List StoredTable). table_nodes t table) (c.keep_and_make.ensures.tables ∙ c.in-Ok.ensures.ok) ∙ c.tables_beside_a_new_one.ensures.nodes c.args.trees.now.tables c.args.table.0 table) c.requires.counts)
 
 pub returns-in-Err-keep_and_make-clause-err : goal.returns-in-Err-keep_and_make-clause-err
 returns-in-Err-keep_and_make-clause-err c = (

@@ -30,6 +30,7 @@ returns-in-Some-clause-kept c = λ tables held named kept.
       named = c.nodes_after_a_change.ensures.named;
       others = c.nodes_after_a_change.ensures.others;
       indexes = c.nodes_after_a_change.ensures.indexes;
+      values = c.nodes_after_a_change.ensures.long_values;
       replaced = c.nodes_by_bookmark.ensures.replaced;
     } in
     let row = c.in-Some.row.items in
@@ -52,6 +53,7 @@ returns-in-Some-clause-shown c = λ tables held named kept amount told.
       named = c.nodes_after_a_change.ensures.named;
       others = c.nodes_after_a_change.ensures.others;
       indexes = c.nodes_after_a_change.ensures.indexes;
+      values = c.nodes_after_a_change.ensures.long_values;
       replaced = c.nodes_by_bookmark.ensures.replaced;
     } in
     let row = c.in-Some.row.items in

@@ -28,6 +28,7 @@ take_variant-requires-clause-newest c =
       named = c.nodes_after_a_change.ensures.named;
       others = c.nodes_after_a_change.ensures.others;
       indexes = c.nodes_after_a_change.ensures.indexes;
+      values = c.nodes_after_a_change.ensures.long_values;
       replaced = c.nodes_by_bookmark.ensures.replaced;
     } in
     let under : row_under (table_nodes c.args.trees.now.tables c.args.table.0) c.bookmark_at-bookmark.result.now ≡ Some c.in-Some.newest.items = sym c.in-Some.ensures in
@@ -68,6 +69,7 @@ returns-in-Some-clause-kept c = λ tables held h ids same was named kept.
       named = c.nodes_after_a_change.ensures.named;
       others = c.nodes_after_a_change.ensures.others;
       indexes = c.nodes_after_a_change.ensures.indexes;
+      values = c.nodes_after_a_change.ensures.long_values;
       replaced = c.nodes_by_bookmark.ensures.replaced;
     } in
     let under : row_under (table_nodes c.args.trees.now.tables c.args.table.0) c.bookmark_at-bookmark.result.now ≡ Some c.in-Some.newest.items = sym c.in-Some.ensures in
@@ -92,6 +94,7 @@ returns-in-Some-clause-shown c = λ tables h at.
       named = c.nodes_after_a_change.ensures.named;
       others = c.nodes_after_a_change.ensures.others;
       indexes = c.nodes_after_a_change.ensures.indexes;
+      values = c.nodes_after_a_change.ensures.long_values;
       replaced = c.nodes_by_bookmark.ensures.replaced;
     } in
     let under : row_under (table_nodes c.args.trees.now.tables c.args.table.0) c.bookmark_at-bookmark.result.now ≡ Some c.in-Some.newest.items = sym c.in-Some.ensures in
@@ -111,6 +114,7 @@ returns-then-not-is_empty-clause-kept c = λ tables held h ids same was named ke
       named = c.nodes_after_a_change.ensures.named;
       others = c.nodes_after_a_change.ensures.others;
       indexes = c.nodes_after_a_change.ensures.indexes;
+      values = c.nodes_after_a_change.ensures.long_values;
       replaced = c.nodes_by_bookmark.ensures.replaced;
     } in
     let none : row_under (table_nodes c.args.trees.now.tables c.args.table.0) c.bookmark_at-bookmark.result.now ≡ None = sym c.in-None.ensures in
@@ -130,6 +134,7 @@ returns-then-not-is_empty-clause-shown c = λ tables h at.
       named = c.nodes_after_a_change.ensures.named;
       others = c.nodes_after_a_change.ensures.others;
       indexes = c.nodes_after_a_change.ensures.indexes;
+      values = c.nodes_after_a_change.ensures.long_values;
       replaced = c.nodes_by_bookmark.ensures.replaced;
     } in
     let known : Fills laws c.args.trees.now.tables c.args.table.0 c.bookmark_at-bookmark.result.now c.bytes_of-row.result.now = fills laws c.args.trees.now.tables c.args.table.0 c.bookmark_at-bookmark.result.now c.bytes_of-row.result.now (node_of_bytes c.args.schema.now c.args.table.0 c.args.trees.now.tables c.args.versions.now c.args.place c.bookmark_at-bookmark.result.now c.bytes_of-row.result.now reads (sym c.is_empty.ensures ∙ c.if-not-is_empty.true)) c.nodes_are_in_order.ensures.sorted

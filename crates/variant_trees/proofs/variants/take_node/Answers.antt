@@ -15,6 +15,7 @@ returns-then-not-is_record_before-clause-node c =
       named = c.nodes_after_a_change.ensures.named;
       others = c.nodes_after_a_change.ensures.others;
       indexes = c.nodes_after_a_change.ensures.indexes;
+      values = c.nodes_after_a_change.ensures.long_values;
       replaced = c.nodes_by_bookmark.ensures.replaced;
     } in
     subst (λ (trees : List StoredTable). LosesNode (has_variant (option_map (record_of (table_long_values c.args.trees.now.tables c.args.table.0)) (row_under (table_nodes c.args.trees.now.tables c.args.table.0) c.args.bookmark.now)) (held_from (table_long_values c.args.trees.now.tables) c.args.from c.args.versions.now) c.args.table.0 c.args.bookmark.now) c.args.table.0 c.args.bookmark.now c.args.trees.now.tables trees)

@@ -8,11 +8,10 @@ use Rattle.variant_trees.specs.LeftVariants.{LosesNode}
 use Rattle.stored_variants.specs.RecordRows.{record_of, row_under}
 use Rattle.variant_trees.proofs.LeftNodes.{Goes, left_goes, rows_then}
 use Rattle.stored_variants.proofs.NodeRecords.{record_at}
-use Rattle.variant_trees.proofs.variants.take_variant.Given as given
 use Rattle.variant_trees.specs.GoneRecords.{gone_fields}
 use Rattle.variant_trees.proofs.variants.take_variant.Goals as goal
 
-goes : (g : given.Over) (c : goal.After-take_node g) → Goes (option_map (record_of (table_long_values c.args.trees.now.tables c.args.table.0)) (row_under (table_nodes c.args.trees.now.tables c.args.table.0) c.args.bookmark.now)) (held_from (table_long_values c.args.trees.now.tables) c.args.from c.args.versions.now) c.args.schema.now c.args.table.0 c.args.bookmark.now (gone_fields (table_long_values c.args.trees.now.tables c.args.table.0) c.args.gone) c.args.trees.now.tables c.take_keys.new.trees.tables c.take_node.new.trees.tables
+goes : (c : goal.After-take_node) → Goes (option_map (record_of (table_long_values c.args.trees.now.tables c.args.table.0)) (row_under (table_nodes c.args.trees.now.tables c.args.table.0) c.args.bookmark.now)) (held_from (table_long_values c.args.trees.now.tables) c.args.from c.args.versions.now) c.args.schema.now c.args.table.0 c.args.bookmark.now (gone_fields (table_long_values c.args.trees.now.tables c.args.table.0) c.args.gone) c.args.trees.now.tables c.take_keys.new.trees.tables c.take_node.new.trees.tables
 goes c = record {
   changes = c.take_keys.ensures.others;
   keys = c.take_keys.ensures.keys;
@@ -24,10 +23,10 @@ goes c = record {
 pub returns-clause-kept : goal.returns-clause-kept
 returns-clause-kept c = λ tables ids same left.
     left_goes (table_long_values c.args.trees.now.tables) (option_map (record_of (table_long_values c.args.trees.now.tables c.args.table.0)) (row_under (table_nodes c.args.trees.now.tables c.args.table.0) c.args.bookmark.now)) (drop c.args.from c.args.versions.now) c.args.schema.now c.args.table.0 c.args.bookmark.now (gone_fields (table_long_values c.args.trees.now.tables c.args.table.0) c.args.gone)
-    c.args.trees.now.tables c.take_keys.new.trees.tables c.take_node.new.trees.tables (goes g c)
+    c.args.trees.now.tables c.take_keys.new.trees.tables c.take_node.new.trees.tables (goes c)
     (sym (record_at (table_long_values c.args.trees.now.tables c.args.table.0) (table_nodes c.args.trees.now.tables c.args.table.0) (c.nodes_are_in_order.ensures.sorted c.args.table.0) c.args.bookmark.now)) tables ids same left
 
 pub returns-clause-newest : goal.returns-clause-newest
 returns-clause-newest c = λ tables.
     rows_then (table_long_values c.args.trees.now.tables) (option_map (record_of (table_long_values c.args.trees.now.tables c.args.table.0)) (row_under (table_nodes c.args.trees.now.tables c.args.table.0) c.args.bookmark.now)) (held_from (table_long_values c.args.trees.now.tables) c.args.from c.args.versions.now) c.args.schema.now c.args.table.0 c.args.bookmark.now (gone_fields (table_long_values c.args.trees.now.tables c.args.table.0) c.args.gone)
-    c.args.trees.now.tables c.take_keys.new.trees.tables c.take_node.new.trees.tables (goes g c) tables
+    c.args.trees.now.tables c.take_keys.new.trees.tables c.take_node.new.trees.tables (goes c) tables
