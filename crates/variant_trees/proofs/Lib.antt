@@ -30,6 +30,8 @@ pub mod LostColumns
 pub mod RoomMade
 pub mod HalfPuts
 pub mod NewPuts
+pub mod RowsSummed
+pub mod CountedSums
 pub mod SummedRows
 pub mod SumsUndone
 pub mod KeptSteps

@@ -15,7 +15,7 @@ ghost use Rattle.stored_variants.specs.VersionsKept.{AddsToEscrow, AreKept};
 ghost use Rattle.stored_variants.specs.VersionsView.{with_newest};
 
 use crate::undoing::copied_row;
-use column_set::{Change, rows_are_read_back, values_here_are_the_record};
+use column_set::{Change, rows_are_read_back};
 use jet_base::{ColumnId, TableId};
 use row_edit::{add_to_number, rows_with_another_value};
 use table_trees::{TableTrees, nodes_after_a_change, nodes_by_bookmark};
@@ -77,7 +77,6 @@ pub(crate) fn add_in_place(
 {
     rows_are_read_back();
     rows_with_another_value();
-    values_here_are_the_record();
     nodes_after_a_change();
     nodes_by_bookmark();
     trees.nodes_are_in_order();

@@ -12,8 +12,8 @@ ghost use Rattle.stored_variants.specs.RecordRows.{TableValues, some_before, IsR
 ghost use Rattle.variant_trees.specs.GoneKeys.{AreRows, KeepsValues, held_from};
 ghost use Rattle.variant_trees.specs.GoneRecords.{CanRead, gone_fields};
 ghost use Rattle.variant_trees.specs.LeftVariants.{AreLeft, DistinctIds, LosesNode, is_empty_node};
-ghost use Rattle.stored_variants.specs.VersionsKept.{AreKept};
-ghost use Rattle.stored_variants.specs.VersionsView.{with_newest};
+ghost use Rattle.stored_variants.specs.VersionsKept.{AreKeptWith};
+ghost use Rattle.stored_variants.specs.VersionsView.{with_newest, with_newest_by};
 
 use crate::gone::Gone;
 use crate::keys::take_keys;
@@ -39,7 +39,7 @@ pub(crate) fn take_variant(
     requires rows { AreRows (table_long_values trees.old.tables) versions.now }
     requires bookmark { length bookmark.now ≤ 255 }
     ensures kept { (tables : List Table) → DistinctIds tables → IfSome (table_with_id tables table.0) (λ t. schema.now ≡ schema_of t) → AreLeft (table_long_values trees.old.tables) tables trees.old.tables (drop from versions.now) table.0 bookmark.now (gone_fields (table_long_values trees.old.tables table.0) gone.entry) → AreKept tables trees.new.tables versions.now }
-    ensures newest { (tables : List Table) → map (with_newest trees.new.tables) tables ≡ map (with_newest trees.old.tables) tables }
+    ensures newest { (tables : List Table) → map (with_newest_by (table_long_values trees.old.tables) trees.new.tables) tables ≡ map (with_newest trees.old.tables) tables }
     ensures rows { (other : ℕ) → newest_rows (table_nodes trees.new.tables other) ≡ newest_rows (table_nodes trees.old.tables other) }
     ensures values { KeepsValues trees.old.tables trees.new.tables }
     ensures catalog { trees.new.catalog ≡ trees.old.catalog }
