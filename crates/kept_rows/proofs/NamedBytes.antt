@@ -9,6 +9,7 @@ use Rattle.long_value.specs.Stores.{id_bytes}
 use Rattle.long_value.specs.declared.values.LongId.{LongId}
 use Rattle.long_rows.proofs.Given.{IdLaw, bytes_differ}
 use Rattle.long_rows.proofs.Kept.{and_four}
+use Rattle.long_rows.proofs.WithoutColumn.{any_with}
 use Rattle.std.specs.List.{flat_map, list_any}
 use Rattle.column_set.specs.declared.rows.RowValue.{RowValue}
 use Rattle.column_set.specs.declared.rows.RowValue.TheVariants.{Here, Apart}
@@ -16,22 +17,6 @@ use Rattle.column_set.specs.Rows.{value_bytes}
 use Rattle.long_references.specs.RowReferences.{identifier, named_by, with_identifier}
 use Rattle.long_references.proofs.Totals.{by_test, equal_bytes, itself}
 use Rattle.kept_rows.specs.NamedValues.{is_name, name_of}
-
-or_more : (a b c : Bool) → (a ≡ true → b ≡ true) → b ≡ (a || b)
-or_more true b c h = h refl
-or_more false b c h = refl
-
-pub any_with : (k id : List ℕ) (ids : List (List ℕ)) → list_any (bytes_eq k) (with_identifier id ids) ≡ (bytes_eq k id || list_any (bytes_eq k) ids)
-any_with k id ids =
-    by_test (list_any (bytes_eq id) ids)
-    (λ t. ap (list_any (bytes_eq k)) (there t) ∙ or_more (bytes_eq k id) (list_any (bytes_eq k) ids) true (λ e. ap (λ (i : List ℕ). list_any (bytes_eq i) ids) (equal_bytes k id e) ∙ t))
-    (λ f. ap (list_any (bytes_eq k)) (added f))
-  where
-    there : list_any (bytes_eq id) ids ≡ true → with_identifier id ids ≡ ids
-    there t = rw t refl
-
-    added : list_any (bytes_eq id) ids ≡ false → with_identifier id ids ≡ id ∷ ids
-    added f = rw f refl
 
 pub names_more : (k : List ℕ) (x : ℕ × RowValue) (xs : List (ℕ × RowValue)) → list_any (bytes_eq k) (named_by (x ∷ xs)) ≡ (is_name k (name_of x.1) || list_any (bytes_eq k) (named_by xs))
 names_more k (column, Here bytes) xs = refl

@@ -10,6 +10,11 @@ abbrev pub without_first : Option (List ℕ) → List (List ℕ) → Values → 
 without_first None later values = values
 without_first (Some id) later values = if list_any (bytes_eq id) later then values else without_reference id values
 
+-- what is named, unless it is among those that are kept
+abbrev pub unless_among : List (List ℕ) → Option (List ℕ) → Option (List ℕ)
+unless_among kept None = None
+unless_among kept (Some id) = if list_any (bytes_eq id) kept then None else Some id
+
 -- one reference more to it, or the value with these bytes, unless it is among those that are named later
 abbrev pub with_first : Option (List ℕ) → List (List ℕ) → List ℕ → Values → Values
 with_first None later bytes values = values

@@ -10,7 +10,7 @@ mod shown;
 mod taking;
 mod writing;
 
-pub use rows::{release_row, take_row};
+pub use rows::{release_removed, release_row, take_row};
 pub use sharing::Sources;
 pub use shown::ShownRow;
 pub use writing::keep_row;

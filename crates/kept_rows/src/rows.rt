@@ -5,7 +5,7 @@ ghost use Rattle.std.specs.List.{AllByRecursion};
 ghost use Rattle.column_set.specs.Rows.{IsRowBytes, is_row_of};
 ghost use Rattle.column_set.specs.RowReading.{row_in};
 ghost use Rattle.long_value.specs.Values.{value_of};
-ghost use Rattle.long_references.specs.RowReferences.{identifiers, references};
+ghost use Rattle.long_references.specs.RowReferences.{identifiers, references, removed_identifiers};
 ghost use Rattle.long_references.specs.ReferenceCounts.{with_all_released, with_all_taken};
 ghost use Rattle.long_rows.specs.KeptRows.{MayTake, given_values};
 ghost use Rattle.table_trees.specs.StoredTables.{has_table, table_long_values};
@@ -30,7 +30,21 @@ pub fn release_row(trees: &mut TableTrees, table: TableId, row: &[u8])
     ensures catalog { trees.new.catalog ≡ trees.old.catalog }
 {
     rows_are_read_back();
-    release_values(trees, table, &row[COUNT_BYTES..]);
+    release_values(trees, table, &row[COUNT_BYTES..], &[]);
+}
+
+/// Gives up one reference to each long value of a table that a row names and the row that it becomes does not, however often it
+/// is named. A value that has no other reference is gone then. It takes no memory.
+pub fn release_removed(trees: &mut TableTrees, table: TableId, row: &[u8], rewritten: &[u8])
+    requires table { has_table trees.old.tables table.0 ≡ true }
+    requires row { IsRowBytes row.now }
+    requires rewritten { IsRowBytes rewritten.now }
+    requires there { (id : List ℕ) → 0 < references id (Some (row_in row.now)) → IsSome (value_of id (table_long_values trees.old.tables table.0)) }
+    ensures tables { HasLongValues table.0 (with_all_released (removed_identifiers (Some (row_in row.now)) (Some (row_in rewritten.now))) (table_long_values trees.old.tables table.0)) trees.old.tables trees.new.tables }
+    ensures catalog { trees.new.catalog ≡ trees.old.catalog }
+{
+    rows_are_read_back();
+    release_values(trees, table, &row[COUNT_BYTES..], &rewritten[COUNT_BYTES..]);
 }
 
 /// Takes one reference to each long value that a row of a record names, however often it does: to a value that is there, or to a

@@ -1,3 +1,4 @@
 pub mod Totals
 pub mod CountSteps
 pub mod Taken
+pub mod Removed

@@ -1,5 +1,5 @@
 -- Sums over rows by bookmark, and how often an identifier is named.
-use Rattle.std.proofs.Common.{◌≡◌, ℕ, suc, ◌+◌, ◌≤◌, Bool, true, false, T, ◌&&◌, if◌then◌else◌, Option, Some, None, List, [], ◌∷◌, refl, sym, ap, subst, ◌∙◌, arith, true≢false}
+use Rattle.std.proofs.Common.{◌≡◌, ℕ, suc, ◌+◌, ◌<◌, ◌≤◌, Bool, true, false, T, ◌&&◌, if◌then◌else◌, Option, Some, None, List, [], ◌∷◌, refl, sym, ap, subst, ◌∙◌, arith, true≢false}
 use Rattle.std.specs.Prelude.{sum_by, bytes_eq}
 use Rattle.std.specs.List.{list_any}
 use Rattle.std.specs.Ordering.{is_eq, is_lt, nat_cmp}
@@ -144,7 +144,14 @@ among-no id x ids t =
     let f : one_if (bytes_eq id x) ≡ 0 = ap one_if t in
     omega (arith, e, f)
 
-none_among : (id : List ℕ) (ids : List (List ℕ)) → list_any (bytes_eq id) ids ≡ false → times_among id ids ≡ 0
+pub some_among : (id : List ℕ) (ids : List (List ℕ)) → list_any (bytes_eq id) ids ≡ true → 0 < times_among id ids
+some_among id [] e = absurd (true≢false (sym e))
+some_among id (x ∷ ids) e =
+    by_test (bytes_eq id x)
+    (λ t. let more = among-yes id x ids t in omega (arith, more))
+    (λ f. let same = among-no id x ids f in let rest = some_among id ids (rw f at e) in omega (arith, same, rest))
+
+pub none_among : (id : List ℕ) (ids : List (List ℕ)) → list_any (bytes_eq id) ids ≡ false → times_among id ids ≡ 0
 none_among id [] e = refl
 none_among id (x ∷ ids) e =
     by_test (bytes_eq id x)

@@ -1,5 +1,5 @@
 -- How many rows, and rows before of changes that are not undone, refer to a long value of a table.
-use Rattle.std.specs.Prelude.{◌≡◌, ℕ, ◌+◌, Bool, true, false, List, [], ◌∷◌, ◌++◌, fold, Option, Some, None, option_map, unwrap_or, is_some, sum_by, if◌then◌else◌}
+use Rattle.std.specs.Prelude.{◌≡◌, ◌≤◌, ℕ, ◌+◌, Bool, true, false, List, [], ◌∷◌, ◌++◌, fold, Option, Some, None, option_map, unwrap_or, is_some, sum_by, if◌then◌else◌}
 use Rattle.std.specs.Ordering.{nat_cmp}
 use Rattle.std.specs.Cmp.Lexicographic.{slice_cmp}
 use Rattle.std.specs.FinMap.Entries.{is_sorted}
@@ -52,6 +52,10 @@ reference_count id rows held = sum_by (λ row. references id (Some row.1)) rows 
 -- the count of a long value, 0 where it is not there
 abbrev pub count_of : List ℕ → Values → ℕ
 count_of id values = unwrap_or (option_map (λ (value : LongValue). value.count) (value_of id values)) 0
+
+-- A row names no value that the other does not.
+abbrev pub NamesNoOther : Option RowFields → Option RowFields → Type 0
+NamesNoOther row other = (id : List ℕ) → references id row ≤ references id other
 
 -- Each long value has as many references as rows, and rows before of changes that are not undone, refer to it.
 abbrev pub HasCounts : Values → NewestRows → List RowBefore → Type 0

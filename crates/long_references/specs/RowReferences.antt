@@ -1,5 +1,5 @@
 -- Which long values a row refers to.
-use Rattle.std.specs.Prelude.{ℕ, List, [], ◌∷◌, ◌++◌, Option, Some, None, count_by, if◌then◌else◌, bytes_eq}
+use Rattle.std.specs.Prelude.{ℕ, not, List, [], ◌∷◌, ◌++◌, Option, Some, None, count_by, filter, if◌then◌else◌, bytes_eq}
 use Rattle.std.specs.List.{list_any}
 use Rattle.byteorder.specs.Endian.{big_bytes}
 use Rattle.column_set.specs.declared.rows.RowValue.{RowValue}
@@ -36,3 +36,11 @@ times_among id ids = count_by (bytes_eq id) ids
 -- how many references to a value a row is: one where it names the value, however often
 abbrev pub references : List ℕ → Option RowFields → ℕ
 references id row = times_among id (identifiers row)
+
+-- those of some identifiers that are not among others
+abbrev pub not_among : List (List ℕ) → List (List ℕ) → List (List ℕ)
+not_among others ids = filter (λ id. not (list_any (bytes_eq id) others)) ids
+
+-- the identifiers that a row names and the row that it becomes does not
+abbrev pub removed_identifiers : Option RowFields → Option RowFields → List (List ℕ)
+removed_identifiers was is = not_among (identifiers is) (identifiers was)

@@ -1,15 +1,16 @@
 //! Worked examples: counts, step by step.
 
 ghost use Rattle.std.specs.Prelude.{◌≡◌, [], ◌∷◌, ◌++◌, true, false, Some, None};
-ghost use Rattle.long_references.specs.RowReferences.{identifiers, references};
+ghost use Rattle.long_references.specs.RowReferences.{identifiers, references, removed_identifiers};
 ghost use Rattle.long_references.specs.ReferenceCounts.{as_undone, count_of, reference_count, with_all_released, with_all_taken, with_change, with_row};
 ghost use Rattle.long_references.specs.Samples.{first_id, naming_first, naming_none, naming_twice, next_id};
 
-/// A row that names a value twice is one reference to it.
+/// A row that names a value twice is one reference to it, and gives it up where the row that it becomes does not name it.
 pub fn a_value_named_twice()
     ensures once { references first_id (Some naming_twice) ≡ 1 }
     ensures beside { references next_id (Some naming_twice) ≡ 1 }
     ensures names { identifiers (Some naming_twice) ≡ next_id ∷ first_id ∷ [] }
+    ensures removed { (removed_identifiers (Some naming_twice) (Some naming_first) ≡ next_id ∷ []) × (removed_identifiers (Some naming_twice) (Some naming_none) ≡ next_id ∷ first_id ∷ []) × (removed_identifiers (Some naming_first) (Some naming_twice) ≡ []) }
     ensures none { (references next_id (Some naming_first) ≡ 0) × (references first_id (Some naming_none) ≡ 0) × (references first_id None ≡ 0) }
 {}
 

@@ -11,9 +11,10 @@ use Rattle.std.proofs.lemmas.Slice.Eq.{bytes_eq-Decides}
 use Rattle.column_set.specs.RecordValues.{RecordFields, lookup_by_key}
 use Rattle.column_set.specs.Rows.{RowFields}
 use Rattle.long_value.specs.Values.{AreLong, LongValue, Values, order, put_value, released, value_of, with_reference, without_reference, without_value}
-use Rattle.long_references.specs.RowReferences.{identifiers, references}
-use Rattle.long_references.specs.ReferenceCounts.{AreRows, HasCounts, NewestRows, RowBefore, as_undone, count_of, identifiers_before, references_before, with_all_released, with_row, with_taken}
+use Rattle.long_references.specs.RowReferences.{identifiers, references, removed_identifiers}
+use Rattle.long_references.specs.ReferenceCounts.{AreRows, HasCounts, NamesNoOther, NewestRows, RowBefore, as_undone, count_of, identifiers_before, references_before, with_all_released, with_row, with_taken}
 use Rattle.long_references.proofs.Taken.{ValueLaws, cleaned_counts, some_counted, undone_counts}
+use Rattle.long_references.proofs.Removed.{rewritten_counts}
 use Rattle.long_references.proofs.Totals.{by_test, equal_bytes, holds, row_references}
 use Rattle.long_rows.specs.WholeRows.{StandsFor}
 use Rattle.long_rows.specs.RowsInUse.{IsInUse, newest, before}
@@ -62,11 +63,11 @@ is_there (Some value) lt = refl
 
 -- ---- references that are given up
 
-by_option : {P : Type 0} (o : Option LongValue) → (o ≡ None → P) → ((value : LongValue) → o ≡ Some value → P) → P
+pub by_option : {P : Type 0} (o : Option LongValue) → (o ≡ None → P) → ((value : LongValue) → o ≡ Some value → P) → P
 by_option None none some = none refl
 by_option (Some value) none some = some value refl
 
-no_value : (values : Values) (id : List ℕ) → value_of id values ≡ None → without_reference id values ≡ values
+pub no_value : (values : Values) (id : List ℕ) → value_of id values ≡ None → without_reference id values ≡ values
 no_value values id e = ap (λ (o : Option LongValue). unwrap_or (option_map (λ (value : LongValue). released id value values) o) values) e
 
 gone_still : ValueLaws → (values : Values) (x k : List ℕ) → value_of k values ≡ None → value_of k (without_reference x values) ≡ None
@@ -125,9 +126,15 @@ pub stands_cleaned : ValueLaws → (values : Values) (rows : NewestRows) (oldest
     → StandsFor (with_all_released (identifiers_before oldest) values) row fields
 stands_cleaned laws values rows oldest held row fields has used = stands_less laws (identifiers_before oldest) values rows held row fields (cleaned_counts laws values rows oldest held has) used
 
+pub stands_rewritten : ValueLaws → (values : Values) (bookmark : List ℕ) (is : Option RowFields) (rows : NewestRows) (held : List RowBefore) (row : RowFields) (fields : RecordFields) → AreRows rows → NamesNoOther is (lookup_by_key bookmark rows)
+    → HasCounts values rows held → IsInUse (with_row bookmark is rows) held row → StandsFor values row fields
+    → StandsFor (with_all_released (removed_identifiers (lookup_by_key bookmark rows) is) values) row fields
+stands_rewritten laws values bookmark is rows held row fields sorted less has used =
+    stands_less laws (removed_identifiers (lookup_by_key bookmark rows) is) values (with_row bookmark is rows) held row fields (rewritten_counts laws values bookmark is rows held sorted less has) used
+
 -- ---- a value that was taken is given back
 
-sorted_less : (values : Values) (id : List ℕ) → T (is_sorted order values) → T (is_sorted order (without_reference id values))
+pub sorted_less : (values : Values) (id : List ℕ) → T (is_sorted order values) → T (is_sorted order (without_reference id values))
 sorted_less values id sorted =
     by_option (value_of id values)
     (λ none. subst (λ (v : Values). T (is_sorted order v)) (sym (no_value values id none)) sorted)
@@ -164,13 +171,13 @@ sorted_more values id sorted =
     subst (λ (v : Values). T (is_sorted order v)) (sym (ap (λ (o : Option LongValue). unwrap_or (option_map (λ (value : LongValue). put_value id (record value { count = suc value.count }) values) o) values) some))
     (is_sorted-put order nat_list_cmp_total id (record value { count = suc value.count }) values sorted))
 
-sorted_taken : (values : Values) (id bytes : List ℕ) → T (is_sorted order values) → T (is_sorted order (with_taken values (id, bytes)))
+pub sorted_taken : (values : Values) (id bytes : List ℕ) → T (is_sorted order values) → T (is_sorted order (with_taken values (id, bytes)))
 sorted_taken values id bytes sorted =
     by_test (is_some (value_of id values))
     (λ t. subst (λ (v : Values). T (is_sorted order v)) (sym (shared values id bytes t)) (sorted_more values id sorted))
     (λ f. subst (λ (v : Values). T (is_sorted order v)) (sym (placed values id bytes f)) (is_sorted-put order nat_list_cmp_total id (record { count = 1; bytes = bytes }) values sorted))
 
-own_back : ValueLaws → (values : Values) (id bytes : List ℕ) → AreLong values → value_of id (without_reference id (with_taken values (id, bytes))) ≡ value_of id values
+pub own_back : ValueLaws → (values : Values) (id bytes : List ℕ) → AreLong values → value_of id (without_reference id (with_taken values (id, bytes))) ≡ value_of id values
 own_back laws values id bytes long =
     by_option (value_of id values)
     (λ none.
@@ -187,7 +194,7 @@ other_back laws values id bytes k n =
     (λ t. ap (value_of k) (shared values id bytes t) ∙ laws.more_beside values id k n)
     (λ f. ap (value_of k) (placed values id bytes f) ∙ laws.beside values id k (record { count = 1; bytes = bytes }) n)
 
-tie_is_same : (x y : List ℕ) → order x y ≡ Equal → x ≡ y
+pub tie_is_same : (x y : List ℕ) → order x y ≡ Equal → x ≡ y
 tie_is_same x y e = (bytes_eq-Decides x y).0 (texts_ties x y ∙ ap is_eq e)
 
 pub given_back : ValueLaws → (values : Values) (id bytes : List ℕ) → AreLong values → without_reference id (with_taken values (id, bytes)) ≡ values

@@ -8,3 +8,6 @@ pub mod Reading
 pub mod Formed
 pub mod Stored
 pub mod InUse
+pub mod WithoutColumn
+pub mod GivenBack
+pub mod Behind

@@ -5,20 +5,13 @@ use Rattle.std.specs.List.{list_any}
 use Rattle.column_set.specs.declared.rows.RowValue.{RowValue}
 use Rattle.column_set.specs.declared.rows.RowValue.TheVariants.{Here, Apart}
 use Rattle.long_references.specs.RowReferences.{identifier, named_by, times_among, with_identifier}
-use Rattle.long_references.proofs.Totals.{among-no, among-yes, by_test, itself}
+use Rattle.long_references.proofs.Totals.{among-no, among-yes, by_test, itself, some_among}
 
 -- what holds of the identifier of each value that is kept apart
 abbrev pub AllNamed : (List ℕ → Type 0) → List (ℕ × RowValue) → Type 0
 AllNamed P [] = Unit {0}
 AllNamed P ((column, Here bytes) ∷ xs) = AllNamed P xs
 AllNamed P ((column, Apart entry place size) ∷ xs) = P (identifier entry place) × AllNamed P xs
-
-some_among : (id : List ℕ) (ids : List (List ℕ)) → list_any (bytes_eq id) ids ≡ true → 0 < times_among id ids
-some_among id [] e = absurd (true≢false (sym e))
-some_among id (x ∷ ids) e =
-    by_test (bytes_eq id x)
-    (λ t. let more = among-yes id x ids t in omega (arith, more))
-    (λ f. let same = among-no id x ids f in let rest = some_among id ids (rw f at e) in omega (arith, same, rest))
 
 added : (id : List ℕ) (ids : List (List ℕ)) → list_any (bytes_eq id) ids ≡ false → with_identifier id ids ≡ id ∷ ids
 added id ids f = rw f refl

@@ -9,5 +9,7 @@ mod storing;
 
 pub use counting::{counts_after_a_put, rows_in_use_stand, values_that_are_given_back};
 pub use examples::{rows_that_are_kept, values_that_are_shared, values_that_are_taken};
-pub use standing::{rows_stand_as_values_change, rows_without_long_values};
+pub use standing::{
+    rows_stand_as_values_change, rows_without_a_columns_values, rows_without_long_values,
+};
 pub use storing::{form_of_a_kept_row, kept_rows_stand_for_their_records};

@@ -1,15 +1,16 @@
 //! What a row stands for as long values come and go.
 
 ghost use Rattle.std.specs.Prelude.{◌≡◌, ◌<◌, ℕ, List, [], Some, None, true, IsTrue};
-ghost use Rattle.column_set.specs.RecordValues.{RecordFields};
+ghost use Rattle.column_set.specs.RecordValues.{RecordFields, remove_by_number, with_values};
 ghost use Rattle.column_set.specs.Rows.{RowFields, all_here, here_fields, is_all_here};
 ghost use Rattle.long_value.specs.Values.{LongValue, Values, put_value, value_of, with_reference, without_reference};
 ghost use Rattle.long_references.specs.RowReferences.{identifiers, references};
-ghost use Rattle.long_references.specs.ReferenceCounts.{with_all_taken};
+ghost use Rattle.long_references.specs.ReferenceCounts.{NamesNoOther, with_all_taken};
 ghost use Rattle.long_rows.specs.WholeRows.{StandsFor, is_whole, record_in};
 ghost use Rattle.long_rows.specs.KeptRows.{Found, kept_row};
 
 use long_value::{references_after_a_change, values_after_a_change};
+use row_edit::rows_without_a_column;
 
 /// A row that keeps each of its values stands for the same record whatever long values there are: it can be read whole, and names
 /// none. A put makes such a row of a record that has no value of more than 255 bytes.
@@ -32,4 +33,13 @@ pub fn rows_stand_as_values_change()
 {
     references_after_a_change();
     values_after_a_change();
+}
+
+/// A row without the values of a column names no value that the row does not, and stands for the record without them.
+pub fn rows_without_a_columns_values()
+    ensures names { (row : RowFields) (column : ℕ) → NamesNoOther (Some (remove_by_number column row)) (Some row) }
+    ensures shown { (values : Values) (row : RowFields) (column : ℕ) → record_in values (remove_by_number column row) ≡ with_values (record_in values row) column [] }
+    ensures stand { (values : Values) (row : RowFields) (fields : RecordFields) (column : ℕ) → StandsFor values row fields → StandsFor values (remove_by_number column row) (with_values fields column []) }
+{
+    rows_without_a_column();
 }

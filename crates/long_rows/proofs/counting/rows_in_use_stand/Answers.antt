@@ -1,4 +1,4 @@
-use Rattle.long_rows.proofs.InUse.{counted, stands_cleaned, stands_undone}
+use Rattle.long_rows.proofs.InUse.{counted, stands_cleaned, stands_rewritten, stands_undone}
 use Rattle.long_rows.proofs.counting.rows_in_use_stand.Goals as goal
 
 pub returns-clause-there : goal.returns-clause-there
@@ -15,3 +15,9 @@ returns-clause-cleaned c =
     let more = c.references_after_a_change.ensures in
     let put = c.values_after_a_change.ensures in
     stands_cleaned (record { put = put.put; beside = put.beside; more = more.more; more_beside = more.more_beside; less = more.less; less_beside = more.less_beside })
+
+pub returns-clause-rewritten : goal.returns-clause-rewritten
+returns-clause-rewritten c =
+    let more = c.references_after_a_change.ensures in
+    let put = c.values_after_a_change.ensures in
+    stands_rewritten (record { put = put.put; beside = put.beside; more = more.more; more_beside = more.more_beside; less = more.less; less_beside = more.less_beside })

@@ -1,5 +1,6 @@
 use Rattle.column_set.specs.Rows.{record_values_in_order, values_in_order}
 use Rattle.long_rows.specs.KeptRows.{kept_row}
+use Rattle.long_rows.proofs.Behind.{none_behind}
 use Rattle.long_rows.proofs.Given.{names}
 use Rattle.long_rows.proofs.Kept.{fields_kept}
 use Rattle.long_rows.proofs.Stored.{kept_stands, kept_takes}
@@ -16,3 +17,9 @@ returns-clause-stand c =
     let more = c.references_after_a_change.ensures in
     let put = c.values_after_a_change.ensures in
     kept_stands (record { put = put.put; beside = put.beside; more = more.more; more_beside = more.more_beside; less = more.less; less_beside = more.less_beside }) c.identifiers_differ.ensures c.size_of_a_row.ensures.record_size
+
+pub returns-clause-none_behind : goal.returns-clause-none_behind
+returns-clause-none_behind c =
+    let more = c.references_after_a_change.ensures in
+    let put = c.values_after_a_change.ensures in
+    none_behind (record { put = put.put; beside = put.beside; more = more.more; more_beside = more.more_beside; less = more.less; less_beside = more.less_beside }) c.identifiers_differ.ensures c.size_of_a_row.ensures.record_size
