@@ -289,6 +289,11 @@ taken_of trees vals nodes held schema bookmark row None some same is kept = impo
 taken_of trees vals nodes held schema bookmark row (Some t) some same is kept =
     (is.fits.row, has_keys t schema (record_of vals row) same kept.rules is.indexable, short_bookmark t (record_of vals row) bookmark kept.rules is.own)
 
+pub oldest_named : (longs : TableValues) (tables : List Table) (trees : List StoredTable) (held : List HeldChange) (table : ℕ) (bookmark row : List ℕ) → IsOldest held table bookmark row → AreKeptWith longs tables trees held → is_some (table_with_id tables table) ≡ true
+oldest_named longs tables trees held table bookmark row k was =
+    let kept : AreKeptWith longs tables trees (k.change ∷ k.rest) = subst (AreKeptWith longs tables trees) k.is was in
+    ap (λ n. is_some (table_with_id tables n)) (sym k.of_table) ∙ kept.changes.0.named
+
 pub oldest_taken : (longs : TableValues) (tables : List Table) (trees : List StoredTable) (held : List HeldChange) (table : ℕ) (bookmark row : List ℕ) → IsOldest held table bookmark row → AreKeptWith longs tables trees held → (schema : Schema) → IfSome (table_with_id tables table) (λ t. schema ≡ schema_of t)
     → IsTaken (longs table) schema bookmark row
 oldest_taken longs tables trees held table bookmark row k was schema same =

@@ -26,6 +26,8 @@ pub mod FilledIndexes
 pub mod IndexTrees
 pub mod RewrittenNodes
 pub mod LostRows
+pub mod RewrittenRows
+pub mod RemovedValues
 pub mod LostColumns
 pub mod RoomMade
 pub mod HalfPuts

@@ -1,6 +1,6 @@
 -- A column goes, with its values in all records.
-use Rattle.std.proofs.Common.{◌≡◌, ℕ, Bool, true, false, not, ◌||◌, cond, List, [], ◌∷◌, Option, Some, None, map, option_map, refl, sym, ap, subst, ◌∙◌}
-use Rattle.std.specs.Prelude.{◌==◌, filter, IfSome, IsSomeAnd, is_some}
+use Rattle.std.proofs.Common.{◌≢◌, ◌≡◌, ℕ, Bool, true, false, not, ◌||◌, cond, List, [], ◌∷◌, Option, Some, None, map, option_map, refl, sym, ap, subst, ◌∙◌}
+use Rattle.std.specs.Prelude.{IsTrue, ◌==◌, filter, IfSome, IsSomeAnd, is_some}
 use Rattle.std.specs.List.{AllByRecursion, list_any}
 use Rattle.btree_inplace.specs.Order.{get_in}
 use Rattle.column_set.specs.declared.columns.Column.{Column}
@@ -8,7 +8,7 @@ use Rattle.column_set.specs.RecordValues.{RecordFields, column_of_id, record_fit
 use Rattle.cursor_nav.specs.Places.{are_sorted}
 use Rattle.database_state.specs.Conflicts.{yields_key}
 use Rattle.database_state.specs.Lawful.{is_indexable}
-use Rattle.database_state.specs.SchemaChanges.{rule_columns, without_column}
+use Rattle.database_state.specs.SchemaChanges.{tables_after_step, rule_columns, without_column}
 use Rattle.database_state.specs.Table.{Rows, Table, primary_first, row_at, rule_with_id, schema_of, table_with_id, with_table}
 use Rattle.derived_index.specs.KeptEntries.{has_entry}
 use Rattle.index_derive.specs.declared.rules.IndexRule.{IndexRule}
@@ -17,28 +17,37 @@ use Rattle.index_derive.specs.declared.schema_calls.SchemaStep.TheVariants as st
 use Rattle.index_derive.specs.Entries.{column_is_used}
 use Rattle.jet_base.specs.declared.ids.ColumnId.{ColumnId}
 use Rattle.jet_base.specs.declared.ids.TableId.{TableId}
-use Rattle.jet_catalog.specs.Catalog.{CatalogState, catalog_after}
+use Rattle.jet_catalog.specs.Catalog.{IsNumbered, CatalogState, catalog_after}
 use Rattle.page_image.specs.Page.{Node}
 use Rattle.record_changes.proofs.Tests.{impossible, same_number}
 use Rattle.table_trees.specs.StoredNodes.{bookmark_entries}
-use Rattle.table_trees.specs.StoredTables.{StoredIndex, StoredTable, index_entries, is_index, part_of, table_indexes, table_nodes}
+use Rattle.table_trees.specs.StoredTables.{table_long_values, StoredIndex, StoredTable, index_entries, is_index, part_of, table_indexes, table_nodes}
 use Rattle.version_history.proofs.Lists.{all_weaker}
 use Rattle.version_keys.proofs.IndexNumbers.{all_primary_first, none_of}
 use Rattle.version_keys.proofs.SameColumns.{yields_same}
 use Rattle.version_keys.proofs.SchemaKeys.{mapped_row, other_column}
 use Rattle.version_sums.specs.EscrowNumbers.{holds_number, is_one_number}
 use Rattle.versioned_tables.specs.Variants.{HoldsVariants, has_variant}
-use Rattle.variant_trees.specs.LostColumns.{HasNodes, HoldsRecord, node_without, row_without}
+use Rattle.variant_trees.specs.LostColumns.{LosesValues, HasNodes, HoldsRecord, node_without, row_without}
 use Rattle.stored_variants.specs.RecordRows.{TableValues, IsRecordRow, record_of, row_under, rows_of_nodes}
 use Rattle.stored_variants.specs.SchemaSteps.{IsMade}
-use Rattle.stored_variants.specs.VersionsKept.{AreKeptWith, HoldsNumbers, IsBookmarkOf, IsKeptTable, IsRowUnder, needed_trees, only_secondary}
+use Rattle.stored_variants.specs.VersionsKept.{AreKept, AreKeptWith, HoldsNumbers, IsBookmarkOf, IsKeptTable, IsRowUnder, needed_trees, only_secondary}
 use Rattle.stored_variants.specs.VersionsView.{with_newest_by}
 use Rattle.variant_trees.proofs.ChangedColumns.{SameColumns, SameFields, indexable_then, own_then, rules_then}
 use Rattle.variant_trees.proofs.EntryTrees.{other_number}
 use Rattle.variant_trees.proofs.LostRows.{RowLaws, all_records, fits_without, got_without, record_without, row_is, rows_lost, under_without, values_elsewhere}
 use Rattle.variant_trees.proofs.Stepping.{IsSettled, StepsTo, changed_at, is_made, kept_of, moved, newest_same, plain_table, settled_of}
 use Rattle.common_lemmas.proofs.Found.{of_found}
-use Rattle.stored_variants.proofs.Tables.{found_number}
+use Rattle.stored_variants.proofs.Tables.{newest_is_row, found_number}
+use Rattle.column_set.specs.RowReading.{row_in}
+use Rattle.long_references.specs.ReferenceCounts.{HasCounts}
+use Rattle.long_rows.specs.WholeRows.{is_whole}
+use Rattle.long_value.specs.Values.{value_of, Values}
+use Rattle.stored_variants.specs.CountedValues.{newest_rows, BringsNoValue, AreCounted}
+use Rattle.stored_variants.proofs.SameRecords.{same_newest_records, kept_with_others, StaysSame, AreSame, AreInOrder}
+use Rattle.variant_trees.specs.LeftVariants.{DistinctIds}
+use Rattle.variant_trees.proofs.Forgotten.{distinct_ids}
+use Rattle.variant_trees.proofs.LeftNodes.{numbers_needed}
 
 -- no index reads the column
 abbrev pub IsUnread : ℕ → IndexRule → Type 0
@@ -167,16 +176,16 @@ table_holds longs tables trees id P kept sorted there = by (table_with_id tables
   where
     by : (o : Option Table) → table_with_id tables id ≡ o → IsSomeAnd o P → IfSome o (IsSettled longs trees) → AllByRecursion (HoldsRecord (longs id)) (table_nodes trees id)
     by None e there k = absurd there
-    by (Some t) e there k = subst (λ (n : ℕ). AllByRecursion (HoldsRecord (longs id)) (table_nodes trees n)) (found_number id tables t e) (nodes_hold longs trees t (sorted t.id) k)
+    by (Some t) e there k = subst (λ (n : ℕ). AllByRecursion (HoldsRecord (longs n)) (table_nodes trees n)) (found_number id tables t e) (nodes_hold longs trees t (sorted t.id) k)
 
 -- the tables and the trees without the column
-column_goes : (longs : TableValues) → RowLaws → (id : TableId) (column : ColumnId) (tables : List Table) (trees other : List StoredTable) → ((table : ℕ) → are_sorted (bookmark_entries (table_nodes trees table)) ≡ true)
+column_goes : (longs : TableValues) → RowLaws → (id : TableId) (column : ColumnId) (tables : List Table) (trees other : List StoredTable) → DistinctIds tables → ((table : ℕ) → are_sorted (bookmark_entries (table_nodes trees table)) ≡ true)
     → IsSomeAnd (table_with_id tables id.0) (λ t. column_is_used column t.indexes ≡ false) → HasNodes id.0 (map (node_without column.0) (table_nodes trees id.0)) trees other → AreKeptWith longs tables trees []
     → StepsTo longs (step.DeleteColumn id column) tables trees other
-column_goes longs laws id column tables trees other sorted unused h kept = record {
+column_goes longs laws id column tables trees other distinct sorted unused h kept = record {
   kept = kept_of longs (with_table id.0 (without_column column.0) tables) other
       (plain_table id.0 (without_column column.0) (λ t. refl) tables kept.plain)
-      (h.numbers ∙ kept.numbers ∙ sym (same_needed tables))
+      (numbers_needed other trees tables distinct kept.numbers h.numbers (λ n. ap (λ (indexes : List StoredIndex). map (λ (x : StoredIndex). x.0) indexes) (h.indexes n)) ∙ sym (same_needed tables))
       (changed_at (IsSettled longs trees) (IsSettled longs other) id.0 (without_column column.0) (λ t. refl) tables this
       (λ t apart k. moved longs trees other t (h.others t.id (λ same. other_number t.id id.0 apart same)) (h.indexes t.id) k) (settled_of longs tables trees kept));
   shown = shown tables;
@@ -212,9 +221,62 @@ column_goes longs laws id column tables trees other sorted unused h kept = recor
             (ap (rows_of_nodes (longs id.0)) h.nodes ∙ rows_lost (longs id.0) laws column.0 (table_nodes trees id.0) held))
         by false e = newest_same longs trees other t (h.others t.id (λ same. other_number t.id id.0 e same))
 
+-- each row stands for the record that it stood for
+rows_same : (id : ℕ) (tables : List Table) (trees other : List StoredTable) → AreKeptWith (table_long_values trees) tables other [] → LosesValues id trees other → AreSame (table_long_values trees) (table_long_values other) other []
+rows_same id tables trees other kept lost = record {
+  newest = λ table bookmark. by table bookmark (id == table) refl;
+  before = tt;
+}
+  where
+    of : (vals now : Values) (o : Option (List ℕ)) → IfSome o (λ row. IsRecordRow now row × (record_of now row ≡ record_of vals row)) → IfSome o (StaysSame vals now)
+    of vals now None is = tt
+    of vals now (Some row) is = record { shown = is.1; whole = is.0.whole }
+
+    stays : (vals now : Values) (o : Option (List ℕ)) → now ≡ vals → IfSome o (IsRecordRow vals) → IfSome o (StaysSame vals now)
+    stays vals now None same is = tt
+    stays vals now (Some row) same is = record { shown = ap (λ (v : Values). record_of v row) same; whole = subst (λ (v : Values). IsTrue (is_whole v (row_in row))) (sym same) is.whole }
+
+    by : (table : ℕ) (bookmark : List ℕ) (b : Bool) → (id == table) ≡ b → IfSome (row_under (table_nodes other table) bookmark) (StaysSame (table_long_values trees table) (table_long_values other table))
+    by table bookmark true e =
+        subst (λ (n : ℕ). IfSome (row_under (table_nodes other n) bookmark) (StaysSame (table_long_values trees n) (table_long_values other n))) (same_number id table e)
+        (of (table_long_values trees id) (table_long_values other id) (row_under (table_nodes other id) bookmark) (lost.rows bookmark))
+    by table bookmark false e =
+        stays (table_long_values trees table) (table_long_values other table) (row_under (table_nodes other table) bookmark) (lost.others table (λ same. other_number id table e (sym same)))
+        (newest_is_row (table_long_values trees) tables other [] kept table bookmark)
+
+lost_counted : (id : ℕ) (these : List Node) (trees other : List StoredTable) → HasNodes id these trees other → LosesValues id trees other → AreCounted trees [] → AreCounted other []
+lost_counted id these trees other h lost counts = λ table. by table (id == table) refl
+  where
+    by : (table : ℕ) (b : Bool) → (id == table) ≡ b → HasCounts (table_long_values other table) (newest_rows (table_nodes other table)) []
+    by table true e = subst (λ (n : ℕ). HasCounts (table_long_values other n) (newest_rows (table_nodes other n)) []) (same_number id table e) lost.counts
+    by table false e =
+        let apart : table ≢ id = λ same. other_number id table e (sym same) in
+        subst (λ (v : Values). HasCounts v (newest_rows (table_nodes other table)) []) (sym (lost.others table apart))
+        (subst (λ (nodes : List Node). HasCounts (table_long_values trees table) (newest_rows nodes) []) (sym (h.others table apart)) (counts table))
+
+lost_none : (id : ℕ) (trees other : List StoredTable) → LosesValues id trees other → BringsNoValue trees other
+lost_none id trees other lost = λ table x none. by table x none (id == table) refl
+  where
+    by : (table : ℕ) (x : List ℕ) → value_of x (table_long_values trees table) ≡ None → (b : Bool) → (id == table) ≡ b → value_of x (table_long_values other table) ≡ None
+    by table x none true e = ap (λ n. value_of x (table_long_values other n)) (sym (same_number id table e)) ∙ lost.none x (ap (λ n. value_of x (table_long_values trees n)) (same_number id table e) ∙ none)
+    by table x none false e = ap (value_of x) (lost.others table (λ same. other_number id table e (sym same))) ∙ none
+
 -- in a catalog
-pub column_deleted : (longs : TableValues) → RowLaws → (made : SchemaStep) (id : TableId) (column : ColumnId) → made ≡ step.DeleteColumn id column → (was : CatalogState) (trees other : List StoredTable) → ((table : ℕ) → are_sorted (bookmark_entries (table_nodes trees table)) ≡ true)
-    → IsSomeAnd (table_with_id was.tables id.0) (λ t. column_is_used column t.indexes ≡ false) → HasNodes id.0 (map (node_without column.0) (table_nodes trees id.0)) trees other → AreKeptWith longs was.tables trees []
-    → (is : CatalogState) → is ≡ catalog_after was made → IsMade made was trees is other
-column_deleted longs laws made id column step_is was trees other sorted unused h kept is is_after =
-    is_made longs made was trees is other is_after (subst (λ (s : SchemaStep). StepsTo longs s was.tables trees other) (sym step_is) (column_goes longs laws id column was.tables trees other sorted unused h kept))
+pub column_deleted : RowLaws → (made : SchemaStep) (id : TableId) (column : ColumnId) → made ≡ step.DeleteColumn id column → (was : CatalogState) (trees other : List StoredTable) → IsNumbered was → AreInOrder trees → AreInOrder other
+    → IsSomeAnd (table_with_id was.tables id.0) (λ t. column_is_used column t.indexes ≡ false) → HasNodes id.0 (map (node_without column.0) (table_nodes trees id.0)) trees other → LosesValues id.0 trees other
+    → AreKept was.tables trees [] → AreCounted trees [] → (is : CatalogState) → is ≡ catalog_after was made → IsMade made was trees is other
+column_deleted laws made id column step_is was trees other numbered sorted sorted_then unused h lost kept counts is is_after =
+    subst (λ (s : SchemaStep). IsMade s was trees is other) (sym step_is)
+    (is_made (step.DeleteColumn id column) was trees is other (is_after ∙ ap (catalog_after was) step_is)
+    (kept_with_others (table_long_values trees) (table_long_values other) after other [] sorted_then same steps.kept)
+    (same_newest_records (table_long_values trees) (table_long_values other) other [] sorted_then same after ∙ steps.shown)
+    (lost_counted id.0 (map (node_without column.0) (table_nodes trees id.0)) trees other h lost counts) (lost_none id.0 trees other lost))
+  where
+    after : List Table
+    after = tables_after_step was.tables (step.DeleteColumn id column)
+
+    steps : StepsTo (table_long_values trees) (step.DeleteColumn id column) was.tables trees other
+    steps = column_goes (table_long_values trees) laws id column was.tables trees other (distinct_ids was numbered) sorted unused h kept
+
+    same : AreSame (table_long_values trees) (table_long_values other) other []
+    same = rows_same id.0 after trees other steps.kept lost

@@ -7,14 +7,18 @@ use Rattle.cursor_nav.specs.Places.{are_sorted}
 use Rattle.database_state.specs.State.{undone}
 use Rattle.database_state.specs.Table.{Table, row_at}
 use Rattle.index_derive.specs.declared.rules.Schema.{Schema}
-use Rattle.record_changes.proofs.Tests.{equal_bytes, impossible, self_equal}
+use Rattle.record_changes.proofs.Tests.{equal_bytes, impossible, same_bytes, same_number, self_equal}
 use Rattle.table_trees.specs.StoredNodes.{bookmark_entries}
 use Rattle.table_trees.specs.StoredTables.{table_long_values, StoredTable, table_nodes}
 use Rattle.version_store.specs.HeldChanges.{HeldChange, undone_at, with_status}
+use Rattle.column_set.specs.RowReading.{row_in}
+use Rattle.long_references.specs.ReferenceCounts.{with_row}
+use Rattle.stored_variants.specs.CountedValues.{newest_rows}
+use Rattle.stored_variants.proofs.CountedRows.{newest_with, same_newest}
 use Rattle.stored_variants.specs.PutRecords.{HasKeysOf}
 use Rattle.variant_trees.specs.LeftVariants.{AreLeft}
 use Rattle.stored_variants.specs.RecordRows.{IsRecordRow, record_of, row_in_node, row_under, rows_of_nodes}
-use Rattle.variant_trees.specs.UndoneChanges.{CanPutBack, IsUndone, tables_put_back}
+use Rattle.variant_trees.specs.UndoneChanges.{CanPutBack, IsUndone, rows_put_back, tables_put_back}
 use Rattle.stored_variants.specs.VersionsView.{with_newest_by}
 use Rattle.stored_variants.specs.VersionsKept.{AreKeptWith, IsKeptChange}
 use Rattle.stored_variants.proofs.Dropped.{TreeLaws}
@@ -168,3 +172,46 @@ shown_unchanged schema table trees now place bookmark row reads sorted is empty 
     subst (λ (x : HeldChange). map (with_newest_by (table_long_values trees) trees) tables ≡ tables_put_back (table_long_values trees table) (map (with_newest_by (table_long_values trees) trees) tables) x) (same_at now place reads.change h reads.can.at at)
     (tables_unchanged (table_long_values trees) trees reads.change (sym (row_is schema table trees now place bookmark row reads) ∙ no_bytes row empty)
     (to_record (λ n b. row_at (rows_of_nodes (table_long_values trees n) (table_nodes trees n)) b ≡ None) table bookmark reads.change (reads.can.named, reads.is_bookmark) (record_at (table_long_values trees table) (table_nodes trees table) (sorted table) bookmark ∙ ap (option_map (record_of (table_long_values trees table))) is)) tables)
+
+-- ---- the newest rows
+
+-- those of the table have the row before the change in its place
+pub rows_back : (laws : TreeLaws) (schema : Schema) (table : ℕ) (trees : List StoredTable) (now : List HeldChange) (place : ℕ) (bookmark row : List ℕ) → Reads schema table trees now place bookmark row → Fills laws trees table bookmark row
+    → (h : HeldChange) → slice_get now place ≡ Some h → (other : ℕ) → newest_rows (table_nodes (filled trees table bookmark row) other) ≡ rows_put_back h table other (newest_rows (table_nodes trees other))
+rows_back laws schema table trees now place bookmark row reads known h at other =
+    by (table == other) refl ∙ ap (λ (x : HeldChange). rows_put_back x table other (newest_rows (table_nodes trees other))) (same_at now place reads.change h reads.can.at at)
+  where
+    new : List StoredTable
+    new = filled trees table bookmark row
+
+    row_then : (b : Bool) → (table == other) ≡ b → (own : List ℕ) → row_under (table_nodes new other) own ≡ cond (b && bytes_eq bookmark own) (row_in_node row) (row_under (table_nodes trees other) own)
+    row_then b e own = row_filled laws trees table bookmark row known.table known.node other own ∙ ap (λ t. cond (t && bytes_eq bookmark own) (row_in_node row) (row_under (table_nodes trees other) own)) e
+
+    by : (b : Bool) → (table == other) ≡ b → newest_rows (table_nodes new other) ≡ rows_put_back reads.change table other (newest_rows (table_nodes trees other))
+    by true e =
+        newest_with (table_nodes trees other) (table_nodes new other) bookmark (row_in_node row) (known.sorted other) (known.sorted_then other) (row_then true e)
+        ∙ (λ i. with_row (sym reads.is_bookmark i) (option_map row_in (row_is schema table trees now place bookmark row reads i)) (newest_rows (table_nodes trees other)))
+        ∙ sym (ap (λ b. cond b (with_row reads.change.bookmark (option_map row_in reads.change.before) (newest_rows (table_nodes trees other))) (newest_rows (table_nodes trees other))) e)
+    by false e =
+        same_newest (table_nodes new other) (table_nodes trees other) (known.sorted_then other) (known.sorted other) (row_then false e)
+        ∙ sym (ap (λ b. cond b (with_row reads.change.bookmark (option_map row_in reads.change.before) (newest_rows (table_nodes trees other))) (newest_rows (table_nodes trees other))) e)
+
+-- where there was none before, and is none, nothing changes
+pub rows_unchanged : (schema : Schema) (table : ℕ) (trees : List StoredTable) (now : List HeldChange) (place : ℕ) (bookmark row : List ℕ) → Reads schema table trees now place bookmark row → AreSorted trees
+    → row_under (table_nodes trees table) bookmark ≡ None → (length row == 0) ≡ true → (h : HeldChange) → slice_get now place ≡ Some h → (other : ℕ) → newest_rows (table_nodes trees other) ≡ rows_put_back h table other (newest_rows (table_nodes trees other))
+rows_unchanged schema table trees now place bookmark row reads sorted is empty h at other =
+    by (table == other) refl ∙ ap (λ (x : HeldChange). rows_put_back x table other (newest_rows (table_nodes trees other))) (same_at now place reads.change h reads.can.at at)
+  where
+    none : reads.change.before ≡ None
+    none = sym (row_is schema table trees now place bookmark row reads) ∙ no_bytes row empty
+
+    gone : (b : Bool) → (table == other) ≡ true → (own : List ℕ) → bytes_eq bookmark own ≡ b → row_under (table_nodes trees other) own ≡ cond b None (row_under (table_nodes trees other) own)
+    gone true e own f = (λ i. row_under (table_nodes trees (sym (same_number table other e) i)) (sym (same_bytes bookmark own f) i)) ∙ is
+    gone false e own f = refl
+
+    by : (b : Bool) → (table == other) ≡ b → newest_rows (table_nodes trees other) ≡ rows_put_back reads.change table other (newest_rows (table_nodes trees other))
+    by true e =
+        newest_with (table_nodes trees other) (table_nodes trees other) bookmark None (sorted other) (sorted other) (λ own. gone (bytes_eq bookmark own) e own refl)
+        ∙ (λ i. with_row (sym reads.is_bookmark i) (option_map row_in (sym none i)) (newest_rows (table_nodes trees other)))
+        ∙ sym (ap (λ b. cond b (with_row reads.change.bookmark (option_map row_in reads.change.before) (newest_rows (table_nodes trees other))) (newest_rows (table_nodes trees other))) e)
+    by false e = sym (ap (λ b. cond b (with_row reads.change.bookmark (option_map row_in reads.change.before) (newest_rows (table_nodes trees other))) (newest_rows (table_nodes trees other))) e)

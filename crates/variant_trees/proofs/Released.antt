@@ -43,7 +43,7 @@ none_beside laws k x values none =
     (λ t. ap (value_of x) (no_value values k (ap (λ (id : List ℕ). value_of id values) (sym (equal_bytes x k t)) ∙ none)) ∙ none)
     (λ f. laws.less_beside values k x (λ e. true≢false (sym (itself x) ∙ ap (bytes_eq x) e ∙ f)) ∙ none)
 
-none_stays : ValueLaws → (ids : List (List ℕ)) (x : List ℕ) (values : Values) → value_of x values ≡ None → value_of x (with_all_released ids values) ≡ None
+pub none_stays : ValueLaws → (ids : List (List ℕ)) (x : List ℕ) (values : Values) → value_of x values ≡ None → value_of x (with_all_released ids values) ≡ None
 none_stays laws [] x values none = none
 none_stays laws (id ∷ ids) x values none = none_stays laws ids x (without_reference id values) (none_beside laws id x values none)
 
@@ -73,7 +73,7 @@ untouched one other row same is = record {
 }
 
 -- and one that is in use reads what it read
-used : (laws : ValueLaws) (ids : List (List ℕ)) (one other : Values) (rows : NewestRows) (held : List RowBefore) (row : List ℕ) → other ≡ with_all_released ids one → HasCounts other rows held → IsInUse rows held (row_in row) → IsRecordRow one row → StaysSame one other row
+pub used : (laws : ValueLaws) (ids : List (List ℕ)) (one other : Values) (rows : NewestRows) (held : List RowBefore) (row : List ℕ) → other ≡ with_all_released ids one → HasCounts other rows held → IsInUse rows held (row_in row) → IsRecordRow one row → StaysSame one other row
 used laws ids one other rows held row same counts use is =
     let stands = stands_less laws ids one rows held (row_in row) (record_in one (row_in row)) (subst (λ (v : Values). HasCounts v rows held) same counts) use (record { formed = is.formed; whole = is.whole; shown = refl }) in
     subst (λ (v : Values). StaysSame one v row) (sym same) (record { shown = stands.shown; whole = stands.whole })
