@@ -11,6 +11,7 @@ pub mod PutBack
 pub mod UndoneThere
 pub mod CountedUndone
 pub mod OpenUndone
+pub mod UndoneRows
 pub mod PutsBack
 pub mod Stepping
 pub mod MadeTables
@@ -32,6 +33,8 @@ pub mod LostColumns
 pub mod RoomMade
 pub mod HalfPuts
 pub mod NewPuts
+pub mod TakenValues
+pub mod PutRows
 pub mod RowsSummed
 pub mod CountedSums
 pub mod SummedRows

@@ -22,13 +22,17 @@ ghost use Rattle.stored_variants.specs.RecordRows.{IsRecordRow, record_of, row_u
 use crate::gone::Gone;
 use crate::keys::take_keys;
 use crate::nodes::row_in_node;
-use column_set::{Change, Record};
+use column_set::{Change, Record, rows_are_read_back};
 use derived_index::derived_keys_are_apart;
 use index_derive::derive::entries;
 use index_derive::{IndexRule, Schema};
 use jet_base::{IndexId, OutOfMemory, TableId};
 use kept_rows::{Sources, keep_row, release_row, take_row};
 use key_normal::Key;
+use long_rows::{
+    form_of_a_kept_row, kept_rows_stand_for_their_records, values_that_are_given_back,
+};
+use long_value::{references_after_a_change, values_after_a_change};
 use std::alloc::Global;
 use table_trees::{
     TableTrees, entries_after_a_change, indexes_after_a_change, nodes_after_a_change,
@@ -285,6 +289,9 @@ pub fn put_record(
     ensures unheld { OnErr result (versions.new ≡ versions.old) }
     ensures catalog { trees.new.catalog ≡ trees.old.catalog }
 {
+    form_of_a_kept_row();
+    kept_rows_stand_for_their_records();
+    rows_are_read_back();
     let row = match row_to_put(alloc, trees, table, bookmark, copied, by.number, values) {
         Ok(row) => row,
         Err(_) => return Err(VersionFault::OutOfMemory),
@@ -354,6 +361,10 @@ fn take_and_hold(
     ensures unheld { OnErr result (versions.new ≡ versions.old) }
     ensures catalog { trees.new.catalog ≡ trees.old.catalog }
 {
+    references_after_a_change();
+    values_after_a_change();
+    values_that_are_given_back();
+    trees.long_values_are_whole();
     match take_row(trees, table, row, values) {
         Ok(()) => {}
         Err(fault) => return Err(fault),

@@ -55,6 +55,7 @@ pub fn drop_column(
     rows_without_a_columns_values();
     rows_are_read_back();
     trees.nodes_are_in_order();
+    let _ = catalog.tables();
     match catalog.make(made) {
         Ok(()) => {
             trees.forget_column(table, column);

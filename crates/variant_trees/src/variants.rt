@@ -38,7 +38,7 @@ pub(crate) fn take_variant(
     requires newest { IfSome (row_under (table_nodes trees.old.tables table.0) bookmark.now) (IsRecordRow (table_long_values trees.old.tables table.0)) }
     requires rows { AreRows (table_long_values trees.old.tables) versions.now }
     requires bookmark { length bookmark.now ≤ 255 }
-    ensures kept { (tables : List Table) → DistinctIds tables → IfSome (table_with_id tables table.0) (λ t. schema.now ≡ schema_of t) → AreLeft (table_long_values trees.old.tables) tables trees.old.tables (drop from versions.now) table.0 bookmark.now (gone_fields (table_long_values trees.old.tables table.0) gone.entry) → AreKept tables trees.new.tables versions.now }
+    ensures kept { (tables : List Table) → DistinctIds tables → IfSome (table_with_id tables table.0) (λ t. schema.now ≡ schema_of t) → AreLeft (table_long_values trees.old.tables) tables trees.old.tables (drop from versions.now) table.0 bookmark.now (gone_fields (table_long_values trees.old.tables table.0) gone.entry) → AreKeptWith (table_long_values trees.old.tables) tables trees.new.tables (drop from versions.now) }
     ensures newest { (tables : List Table) → map (with_newest_by (table_long_values trees.old.tables) trees.new.tables) tables ≡ map (with_newest trees.old.tables) tables }
     ensures rows { (other : ℕ) → newest_rows (table_nodes trees.new.tables other) ≡ newest_rows (table_nodes trees.old.tables other) }
     ensures values { KeepsValues trees.old.tables trees.new.tables }

@@ -17,6 +17,10 @@ pub returns-in-Add-clause-kept : goal.returns-in-Add-clause-kept
 returns-in-Add-clause-kept c = λ tables held named kept.
     c.add_in_place.ensures.kept tables held (subst (λ (x : Change). IsSomeAnd (table_with_id tables (changed_table x)) (λ t. AddsToEscrow (schema_of t) (kind_of x))) c.in-Add.is named) kept
 
+pub returns-in-Add-clause-counts : goal.returns-in-Add-clause-counts
+returns-in-Add-clause-counts c = λ tables held named kept counts.
+    c.add_in_place.ensures.counts tables held (subst (λ (x : Change). IsSomeAnd (table_with_id tables (changed_table x)) (λ t. AddsToEscrow (schema_of t) (kind_of x))) c.in-Add.is named) kept counts
+
 pub returns-in-Add-clause-shown : goal.returns-in-Add-clause-shown
 returns-in-Add-clause-shown c = λ tables held sum named kept.
     let fits : FitsSigned w32 c.in-Add.amount = search rules in
