@@ -375,7 +375,7 @@ nothing_forgotten tables trees (h ∷ held) nothing some kept counts = record {
   kept = changes_kept (table_long_values trees) tables trees (h ∷ held) held kept kept.changes.1 (nothing_before (table_long_values trees) h (nothing h refl) held);
   counts = nothing_counted trees h held kept.changes.0.other (nothing h refl) counts;
   newest = refl;
-  held = refl;
+  held_records = refl;
   values = λ table id none. none;
 }
 

@@ -34,7 +34,7 @@ DistinctIds (t ∷ tables) = (list_any (λ (x : Table). x.id == t.id) tables ≡
 -- No two tables have one id, and the table has this schema.
 pub record HasSchema (tables : List Table) (table : ℕ) (schema : Schema) : Type 0 where
   pub ids : DistinctIds tables
-  pub schema : IfSome (table_with_id tables table) (λ t. schema ≡ schema_of t)
+  pub same : IfSome (table_with_id tables table) (λ t. schema ≡ schema_of t)
 
 -- whether a record is the one of a table and a bookmark
 abbrev pub is_this : ℕ → List ℕ → ℕ → List ℕ → Bool
@@ -75,5 +75,5 @@ pub record IsForgotten (tables : List Table) (old new : List StoredTable) (held 
   pub kept : AreKept tables new (drop 1 held)
   pub counts : AreCounted new (drop 1 held)
   pub newest : map (with_newest new) tables ≡ map (with_newest old) tables
-  pub held : map (held_record_in (table_long_values new)) (drop 1 held) ≡ map (held_record_in (table_long_values old)) (drop 1 held)
+  pub held_records : map (held_record_in (table_long_values new)) (drop 1 held) ≡ map (held_record_in (table_long_values old)) (drop 1 held)
   pub values : BringsNoValue old new

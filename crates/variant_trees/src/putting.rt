@@ -274,7 +274,7 @@ pub fn put_record(
     requires rules { AllByRecursion (CanTake schema.now values.now table.0 trees.old.tables) schema.now.indexes }
     requires fits { record_fits schema.now.columns values.now ≡ true }
     requires copied { IfSome (option_copied copied) IsRowBytes }
-    requires may { MayKeep (put_found by.number trees.old.tables table.0 bookmark.now (option_copied copied.entry)) values.now }
+    requires may { MayKeep (put_found by.number trees.old.tables table.0 bookmark.now (option_copied copied)) values.now }
     requires some { 0 < length bookmark.now }
     requires short { length bookmark.now ≤ 255 }
     requires newest { IfSome (row_under (table_nodes trees.old.tables table.0) bookmark.now) (IsRecordRow (table_long_values trees.old.tables table.0)) }
@@ -319,7 +319,7 @@ fn row_to_put(
 ) -> Result<Vec<u8>, OutOfMemory>
     requires newest { IfSome (row_under (table_nodes trees.now.tables table.0) bookmark.now) (IsRecordRow (table_long_values trees.now.tables table.0)) }
     requires copied { IfSome (option_copied copied) IsRowBytes }
-    requires may { MayKeep (put_found number trees.now.tables table.0 bookmark.now (option_copied copied.entry)) values.now }
+    requires may { MayKeep (put_found number trees.now.tables table.0 bookmark.now (option_copied copied)) values.now }
     ensures row { IfOk result (λ bytes. bytes.items ≡ row_bytes (kept_row (put_found number trees.now.tables table.0 bookmark.now (option_copied copied.entry)) values.now)) }
     ensures small { IfOk result (λ bytes. length bytes.items ≤ largest_row) }
 {

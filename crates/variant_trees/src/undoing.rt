@@ -126,16 +126,10 @@ fn put_back_in(
     trees.nodes_are_in_order();
     match copied_row(trees, table, versions.bookmark_at(place)) {
         Some(newest) => {
-            put_row_back(
-                trees,
-                versions,
-                table,
-                schema,
-                place,
-                Some(newest.as_slice()),
-            );
+            let row = newest.as_slice();
+            put_row_back(trees, versions, table, schema, place, Some(row));
             trees.nodes_are_in_order();
-            release_row(trees, table, newest.as_slice());
+            release_row(trees, table, row);
         }
         None => {
             put_row_back(trees, versions, table, schema, place, None);
@@ -154,7 +148,7 @@ fn put_row_back(
     newest: Option<&[u8]>,
 )
     requires can { (h : HeldChange) × CanPutBack schema.now table.0 trees.old.tables versions.now place h }
-    requires newest { (h : HeldChange) → slice_get versions.now place ≡ Some h → row_under (table_nodes trees.old.tables table.0) h.bookmark ≡ option_copied newest.entry }
+    requires newest { (h : HeldChange) → slice_get versions.now place ≡ Some h → row_under (table_nodes trees.old.tables table.0) h.bookmark ≡ option_copied newest }
     requires rows { AreRows (table_long_values trees.old.tables) versions.now }
     ensures kept { (tables : List Table) (held : List HeldChange) (h : HeldChange) → HasSchema tables table.0 schema.now → IsUndone held place h versions.now → h.table ≡ table.0 → AreKept tables trees.old.tables held → AreKeptWith (table_long_values trees.old.tables) tables trees.new.tables versions.now }
     ensures shown { (tables : List Table) (h : HeldChange) → slice_get versions.now place ≡ Some h → map (with_newest_by (table_long_values trees.old.tables) trees.new.tables) tables ≡ tables_put_back (table_long_values trees.old.tables table.0) (map (with_newest trees.old.tables) tables) h }

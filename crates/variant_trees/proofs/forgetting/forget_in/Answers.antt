@@ -25,14 +25,14 @@ pub take_variant-requires-clause-rules : goal.take_variant-requires-clause-rules
 take_variant-requires-clause-rules c =
     let oldest : IsOldest c.args.versions.now c.args.table.0 c.bookmark_at-bookmark.result.now c.in-Some.row.now = oldest_is c.args.versions.now c.args.table.0 c.bookmark_at-bookmark.result.now c.in-Some.row.now c.requires.first (c.is_standing_at.ensures ∙ ap (λ (b : Bool). Some b) c.if-is_standing_at.true)
     (c.before_at.ensures ∙ ap (λ (o : Option (List ℕ)). Some o) (ap option_copied c.in-Some.is)) c.bookmark_at-bookmark.ensures in
-    let taken : IsTaken (table_long_values c.args.trees.now.tables c.args.table.0) c.args.schema.now c.bookmark_at-bookmark.result.now c.in-Some.row.now = oldest_taken (table_long_values c.args.trees.now.tables) c.requires.was.0 c.args.trees.now.tables c.args.versions.now c.args.table.0 c.bookmark_at-bookmark.result.now c.in-Some.row.now oldest c.requires.was.2 c.args.schema.now c.requires.was.1.schema in
+    let taken : IsTaken (table_long_values c.args.trees.now.tables c.args.table.0) c.args.schema.now c.bookmark_at-bookmark.result.now c.in-Some.row.now = oldest_taken (table_long_values c.args.trees.now.tables) c.requires.was.0 c.args.trees.now.tables c.args.versions.now c.args.table.0 c.bookmark_at-bookmark.result.now c.in-Some.row.now oldest c.requires.was.2 c.args.schema.now c.requires.was.1.same in
     taken.1
 
 pub take_variant-requires-clause-gone : goal.take_variant-requires-clause-gone
 take_variant-requires-clause-gone c =
     let oldest : IsOldest c.args.versions.now c.args.table.0 c.bookmark_at-bookmark.result.now c.in-Some.row.now = oldest_is c.args.versions.now c.args.table.0 c.bookmark_at-bookmark.result.now c.in-Some.row.now c.requires.first (c.is_standing_at.ensures ∙ ap (λ (b : Bool). Some b) c.if-is_standing_at.true)
     (c.before_at.ensures ∙ ap (λ (o : Option (List ℕ)). Some o) (ap option_copied c.in-Some.is)) c.bookmark_at-bookmark.ensures in
-    let taken : IsTaken (table_long_values c.args.trees.now.tables c.args.table.0) c.args.schema.now c.bookmark_at-bookmark.result.now c.in-Some.row.now = oldest_taken (table_long_values c.args.trees.now.tables) c.requires.was.0 c.args.trees.now.tables c.args.versions.now c.args.table.0 c.bookmark_at-bookmark.result.now c.in-Some.row.now oldest c.requires.was.2 c.args.schema.now c.requires.was.1.schema in
+    let taken : IsTaken (table_long_values c.args.trees.now.tables c.args.table.0) c.args.schema.now c.bookmark_at-bookmark.result.now c.in-Some.row.now = oldest_taken (table_long_values c.args.trees.now.tables) c.requires.was.0 c.args.trees.now.tables c.args.versions.now c.args.table.0 c.bookmark_at-bookmark.result.now c.in-Some.row.now oldest c.requires.was.2 c.args.schema.now c.requires.was.1.same in
     (spelled_row (table_long_values c.args.trees.now.tables c.args.table.0) c.in-Some.row.now taken.0, taken.0.whole)
 
 pub take_variant-requires-clause-newest : goal.take_variant-requires-clause-newest
@@ -45,21 +45,21 @@ pub take_variant-requires-clause-bookmark : goal.take_variant-requires-clause-bo
 take_variant-requires-clause-bookmark c =
     let oldest : IsOldest c.args.versions.now c.args.table.0 c.bookmark_at-bookmark.result.now c.in-Some.row.now = oldest_is c.args.versions.now c.args.table.0 c.bookmark_at-bookmark.result.now c.in-Some.row.now c.requires.first (c.is_standing_at.ensures ∙ ap (λ (b : Bool). Some b) c.if-is_standing_at.true)
     (c.before_at.ensures ∙ ap (λ (o : Option (List ℕ)). Some o) (ap option_copied c.in-Some.is)) c.bookmark_at-bookmark.ensures in
-    let taken : IsTaken (table_long_values c.args.trees.now.tables c.args.table.0) c.args.schema.now c.bookmark_at-bookmark.result.now c.in-Some.row.now = oldest_taken (table_long_values c.args.trees.now.tables) c.requires.was.0 c.args.trees.now.tables c.args.versions.now c.args.table.0 c.bookmark_at-bookmark.result.now c.in-Some.row.now oldest c.requires.was.2 c.args.schema.now c.requires.was.1.schema in
+    let taken : IsTaken (table_long_values c.args.trees.now.tables c.args.table.0) c.args.schema.now c.bookmark_at-bookmark.result.now c.in-Some.row.now = oldest_taken (table_long_values c.args.trees.now.tables) c.requires.was.0 c.args.trees.now.tables c.args.versions.now c.args.table.0 c.bookmark_at-bookmark.result.now c.in-Some.row.now oldest c.requires.was.2 c.args.schema.now c.requires.was.1.same in
     taken.2
 
 pub release_row-requires-clause-table : goal.release_row-requires-clause-table
 release_row-requires-clause-table c =
     let oldest : IsOldest c.args.versions.now c.args.table.0 c.bookmark_at-bookmark.result.now c.in-Some.row.now = oldest_is c.args.versions.now c.args.table.0 c.bookmark_at-bookmark.result.now c.in-Some.row.now c.requires.first (c.is_standing_at.ensures ∙ ap (λ (b : Bool). Some b) c.if-is_standing_at.true)
     (c.before_at.ensures ∙ ap (λ (o : Option (List ℕ)). Some o) (ap option_copied c.in-Some.is)) c.bookmark_at-bookmark.ensures in
-    has_trees c.take_variant.new.trees.tables c.requires.was.0 c.args.table.0 (c.take_variant.ensures.kept c.requires.was.0 c.requires.was.1.ids c.requires.was.1.schema (oldest_leaves (table_long_values c.args.trees.now.tables) c.requires.was.0 c.args.trees.now.tables c.args.versions.now c.args.table.0 c.bookmark_at-bookmark.result.now c.in-Some.row.now oldest c.requires.was.2)).numbers
+    has_trees c.take_variant.new.trees.tables c.requires.was.0 c.args.table.0 (c.take_variant.ensures.kept c.requires.was.0 c.requires.was.1.ids c.requires.was.1.same (oldest_leaves (table_long_values c.args.trees.now.tables) c.requires.was.0 c.args.trees.now.tables c.args.versions.now c.args.table.0 c.bookmark_at-bookmark.result.now c.in-Some.row.now oldest c.requires.was.2)).numbers
     ∙ oldest_named (table_long_values c.args.trees.now.tables) c.requires.was.0 c.args.trees.now.tables c.args.versions.now c.args.table.0 c.bookmark_at-bookmark.result.now c.in-Some.row.now oldest c.requires.was.2
 
 pub release_row-requires-clause-row : goal.release_row-requires-clause-row
 release_row-requires-clause-row c =
     let oldest : IsOldest c.args.versions.now c.args.table.0 c.bookmark_at-bookmark.result.now c.in-Some.row.now = oldest_is c.args.versions.now c.args.table.0 c.bookmark_at-bookmark.result.now c.in-Some.row.now c.requires.first (c.is_standing_at.ensures ∙ ap (λ (b : Bool). Some b) c.if-is_standing_at.true)
     (c.before_at.ensures ∙ ap (λ (o : Option (List ℕ)). Some o) (ap option_copied c.in-Some.is)) c.bookmark_at-bookmark.ensures in
-    let taken : IsTaken (table_long_values c.args.trees.now.tables c.args.table.0) c.args.schema.now c.bookmark_at-bookmark.result.now c.in-Some.row.now = oldest_taken (table_long_values c.args.trees.now.tables) c.requires.was.0 c.args.trees.now.tables c.args.versions.now c.args.table.0 c.bookmark_at-bookmark.result.now c.in-Some.row.now oldest c.requires.was.2 c.args.schema.now c.requires.was.1.schema in
+    let taken : IsTaken (table_long_values c.args.trees.now.tables c.args.table.0) c.args.schema.now c.bookmark_at-bookmark.result.now c.in-Some.row.now = oldest_taken (table_long_values c.args.trees.now.tables) c.requires.was.0 c.args.trees.now.tables c.args.versions.now c.args.table.0 c.bookmark_at-bookmark.result.now c.in-Some.row.now oldest c.requires.was.2 c.args.schema.now c.requires.was.1.same in
     spelled_row (table_long_values c.args.trees.now.tables c.args.table.0) c.in-Some.row.now taken.0
 
 pub release_row-requires-clause-there : goal.release_row-requires-clause-there
@@ -84,7 +84,7 @@ returns-in-Some-clause-forgotten c = λ tables schema kept.
     let r : Releases laws tables c.args.trees.now.tables c.take_variant.new.trees.tables c.release_row.new.trees.tables c.args.table.0 ids (drop 1 c.args.versions.now) = record {
       distinct = schema.ids;
       values = c.take_variant.ensures.values;
-      kept = c.take_variant.ensures.kept tables schema.ids schema.schema (oldest_leaves (table_long_values c.args.trees.now.tables) tables c.args.trees.now.tables c.args.versions.now c.args.table.0 c.bookmark_at-bookmark.result.now c.in-Some.row.now oldest kept);
+      kept = c.take_variant.ensures.kept tables schema.ids schema.same (oldest_leaves (table_long_values c.args.trees.now.tables) tables c.args.trees.now.tables c.args.versions.now c.args.table.0 c.bookmark_at-bookmark.result.now c.in-Some.row.now oldest kept);
       sorted = c.nodes_are_in_order.ensures.sorted;
       released = c.release_row.ensures.tables;
       counts = oldest_counted c.values_keep_their_counts.ensures.cleaned c.args.trees.now.tables c.take_variant.new.trees.tables c.release_row.new.trees.tables c.args.versions.now c.args.table.0 c.bookmark_at-bookmark.result.now c.in-Some.row.now oldest c.take_variant.ensures.values
@@ -93,7 +93,7 @@ returns-in-Some-clause-forgotten c = λ tables schema kept.
       kept = still_kept laws tables c.args.trees.now.tables c.take_variant.new.trees.tables c.release_row.new.trees.tables c.args.table.0 ids (drop 1 c.args.versions.now) r;
       counts = r.counts;
       newest = still_shown laws tables c.args.trees.now.tables c.take_variant.new.trees.tables c.release_row.new.trees.tables c.args.table.0 ids (drop 1 c.args.versions.now) r ∙ c.take_variant.ensures.newest tables;
-      held = still_held laws tables c.args.trees.now.tables c.take_variant.new.trees.tables c.release_row.new.trees.tables c.args.table.0 ids (drop 1 c.args.versions.now) r;
+      held_records = still_held laws tables c.args.trees.now.tables c.take_variant.new.trees.tables c.release_row.new.trees.tables c.args.table.0 ids (drop 1 c.args.versions.now) r;
       values = no_value_came laws tables c.args.trees.now.tables c.take_variant.new.trees.tables c.release_row.new.trees.tables c.args.table.0 ids (drop 1 c.args.versions.now) r;
     }
 

@@ -19,7 +19,7 @@ use Rattle.variant_trees.proofs.undoing.put_back_in.Goals as goal
 pub put_row_back-requires-clause-newest : goal.put_row_back-requires-clause-newest
 put_row_back-requires-clause-newest c = λ h at.
     ap (row_under (table_nodes c.args.trees.now.tables c.args.table.0)) (mapped_at (λ (x : HeldChange). x.bookmark) c.args.versions.now c.args.place h c.bookmark_at.result.now at c.bookmark_at.ensures)
-    ∙ sym c.in-Some.ensures ∙ ap (λ (bytes : List ℕ). Some bytes) (sym c.as_slice.ensures.value)
+    ∙ sym c.in-Some.ensures ∙ ap (λ (bytes : List ℕ). Some bytes) (sym c.as_slice-row.ensures.value)
 
 pub release_row-requires-clause-table : goal.release_row-requires-clause-table
 release_row-requires-clause-table c =
@@ -33,14 +33,14 @@ release_row-requires-clause-table c =
 pub release_row-requires-clause-row : goal.release_row-requires-clause-row
 release_row-requires-clause-row c =
     let under : row_under (table_nodes c.args.trees.now.tables c.args.table.0) c.bookmark_at.result.now ≡ Some c.in-Some.newest.items = sym c.in-Some.ensures in
-    subst IsRowBytes (sym c.as_slice-in-Some.ensures.value)
+    subst IsRowBytes (sym c.as_slice-row.ensures.value)
     (spelled_row (table_long_values c.args.trees.now.tables c.args.table.0) c.in-Some.newest.items (newest_spelled c.requires.was.0 c.args.trees.now.tables c.requires.was.1.0 c.requires.was.1.1.1.1.0.kept c.args.table.0 c.bookmark_at.result.now c.in-Some.newest.items under))
 
 pub release_row-requires-clause-there : goal.release_row-requires-clause-there
 release_row-requires-clause-there c = λ id some.
     let under : row_under (table_nodes c.args.trees.now.tables c.args.table.0) c.bookmark_at.result.now ≡ Some c.in-Some.newest.items = sym c.in-Some.ensures in
     subst (λ (v : Values). IsSome (value_of id v)) (sym (c.put_row_back.ensures.values c.args.table.0))
-    (newest_there c.args.trees.now.tables c.requires.was.1.0 c.requires.was.1.1.1.1.0.counts c.nodes_are_in_order.ensures.sorted c.args.table.0 c.bookmark_at.result.now c.in-Some.newest.items under id (subst (λ (bytes : List ℕ). 0 < references id (Some (row_in bytes))) c.as_slice-in-Some.ensures.value some))
+    (newest_there c.args.trees.now.tables c.requires.was.1.0 c.requires.was.1.1.1.1.0.counts c.nodes_are_in_order.ensures.sorted c.args.table.0 c.bookmark_at.result.now c.in-Some.newest.items under id (subst (λ (bytes : List ℕ). 0 < references id (Some (row_in bytes))) c.as_slice-row.ensures.value some))
 
 pub returns-in-Some-clause-back : goal.returns-in-Some-clause-back
 returns-in-Some-clause-back c = λ tables held h schema was rewrites.
@@ -53,11 +53,11 @@ returns-in-Some-clause-back c = λ tables held h schema was rewrites.
       less_beside = c.references_after_a_change.ensures.less_beside;
     } in
     let at = place_now tables c.args.trees.now.tables c.args.versions.now c.args.place c.args.table.0 held h was in
-    let ids : List (List ℕ) = identifiers (Some (row_in c.as_slice-in-Some.result.now)) in
+    let ids : List (List ℕ) = identifiers (Some (row_in c.as_slice-row.result.now)) in
     let names : identifiers (option_map row_in (row_under (table_nodes c.args.trees.now.tables c.args.table.0) h.bookmark)) ≡ ids =
     ap (λ (o : Option (List ℕ)). identifiers (option_map row_in o))
     (ap (row_under (table_nodes c.args.trees.now.tables c.args.table.0)) (mapped_at (λ (x : HeldChange). x.bookmark) c.args.versions.now c.args.place (with_status undone h) c.bookmark_at.result.now at c.bookmark_at.ensures)
-    ∙ sym c.in-Some.ensures ∙ ap (λ (bytes : List ℕ). Some bytes) (sym c.as_slice-in-Some.ensures.value)) in
+    ∙ sym c.in-Some.ensures ∙ ap (λ (bytes : List ℕ). Some bytes) (sym c.as_slice-row.ensures.value)) in
     let r : Releases laws tables c.args.trees.now.tables c.put_row_back.new.trees.tables c.release_row.new.trees.tables c.args.table.0 ids c.args.versions.now = record {
       distinct = schema.ids;
       values = c.put_row_back.ensures.values;

@@ -126,7 +126,7 @@ returns-in-Some-clause-kept c = λ tables held h has was named kept.
     (λ n. subst (λ (trees : List StoredTable). are_sorted (bookmark_entries (table_nodes trees n)) ≡ true) c.replace.ensures.tables (c.nodes_are_in_order-in-Some.ensures.sorted n)) in
     let same : (n : ℕ) → table_long_values c.replace.new.self.tables n ≡ table_long_values c.args.trees.now.tables n = λ n. ap (λ (trees : List StoredTable). table_long_values trees n) c.replace.ensures.tables ∙ c.nodes_after_a_change.ensures.long_values c.args.trees.now.tables c.args.table.0 n _ in
     subst (λ (longs : TableValues). AreKeptWith longs tables c.take_variant.new.trees.tables c.args.versions.now) (λ i n. same n i)
-    (c.take_variant.ensures.kept tables has.ids has.schema
+    (c.take_variant.ensures.kept tables has.ids has.same
     (subst (λ (longs : TableValues). AreLeft longs tables c.replace.new.self.tables c.args.versions.now c.args.table.0 c.bookmark_at-bookmark.result.now (record_of (longs c.args.table.0) c.in-Some.newest.now)) (λ i n. sym (same n) i)
     (subst (λ (trees : List StoredTable). AreLeft (table_long_values c.args.trees.now.tables) tables trees c.args.versions.now c.args.table.0 c.bookmark_at-bookmark.result.now (record_of (table_long_values c.args.trees.now.tables c.args.table.0) c.in-Some.newest.now)) (sym c.replace.ensures.tables)
     (left_back laws c.args.schema.now c.args.table.0 c.args.trees.now.tables c.args.versions.now c.args.place c.bookmark_at-bookmark.result.now c.bytes_of-row.result.now reads known c.in-Some.newest.now under tables held h was kept))))
