@@ -216,7 +216,7 @@ oldest_left longs tables trees h rest row is kept = record {
   where
     by : (table : ℕ) (o : Option Table) → IfSome o (IsKeptTable trees (longs table) (table_nodes trees table) (map (held_record_in longs) (h ∷ rest))) → IfSome o (IsLeft trees (longs table) (table_nodes trees table) (map (held_record_in longs) rest) h.table h.bookmark (record_of (longs h.table) row))
     by table None is_kept = tt
-    by table (Some t) is_kept = table_left longs (longs h.table) trees (table_nodes trees table) h (map (held_record_in longs) rest) row is t is_kept
+    by table (Some t) is_kept = table_left longs (longs table) trees (table_nodes trees table) h (map (held_record_in longs) rest) row is t is_kept
 
 -- ---- tables have ids of their own
 

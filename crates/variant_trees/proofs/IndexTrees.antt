@@ -114,20 +114,21 @@ pub can_fill : (longs : TableValues) (id : ℕ) (rule : IndexRule) (tables : Lis
     → AreKeptWith longs tables trees [] → IsSomeAnd (table_with_id (map (with_newest_by longs trees) tables) id) (IsIndexFor rule) → IsSomeAnd (table_with_id tables id) (CanFill (longs id) rule (table_nodes other id))
 can_fill longs id rule tables trees other sorted same kept fit = by (table_with_id tables id) refl (for_table longs rule id tables trees fit) (kept.each id)
   where
-    rows : (t : Table) → IsIndexFor rule (with_newest_by longs trees t) → IsKeptTable trees (longs t.id) (table_nodes trees t.id) [] t → (bookmark : List ℕ) (row : Option (List ℕ)) → row_under (table_nodes trees t.id) bookmark ≡ row → IfSome row (IsRowUnder (longs id) t bookmark)
-        → IfSome row (IsTakenRow (longs id) rule (schema_of t))
+    rows : (t : Table) → IsIndexFor rule (with_newest_by longs trees t) → IsKeptTable trees (longs t.id) (table_nodes trees t.id) [] t → (bookmark : List ℕ) (row : Option (List ℕ)) → row_under (table_nodes trees t.id) bookmark ≡ row → IfSome row (IsRowUnder (longs t.id) t bookmark)
+        → IfSome row (IsTakenRow (longs t.id) rule (schema_of t))
     rows t h k bookmark None e is = tt
     rows t h k bookmark (Some bytes) e is =
         let takes = row_taken longs trees t rule (sorted t.id) h bookmark bytes e in
-        record { row = is.fits.row; columns = is.fits.columns; taken = no_refusal (entries rule (schema_of t) (record_of (longs id) bytes)) takes.0 takes.1 }
+        record { row = is.fits.row; columns = is.fits.columns; taken = no_refusal (entries rule (schema_of t) (record_of (longs t.id) bytes)) takes.0 takes.1 }
 
     by : (o : Option Table) → table_with_id tables id ≡ o → IsSomeAnd o (λ t. IsIndexFor rule (with_newest_by longs trees t)) → IfSome o (IsKeptTable trees (longs id) (table_nodes trees id) []) → IsSomeAnd o (CanFill (longs id) rule (table_nodes other id))
     by None e h k = absurd h
     by (Some t) e h k =
         let number : t.id ≡ id = found_number id tables t e in
         let here : IsKeptTable trees (longs t.id) (table_nodes trees t.id) [] t = subst (λ (n : ℕ). IsKeptTable trees (longs n) (table_nodes trees n) [] t) (sym number) k in
-        subst (λ (nodes : List Node). CanFill (longs id) rule nodes t) (ap (table_nodes trees) number ∙ sym (same id))
-        (record { legal = h.legal; short = h.short; rows = λ bookmark. rows t h here bookmark (row_under (table_nodes trees t.id) bookmark) refl (here.rows bookmark) })
+        subst (λ (nodes : List Node). CanFill (longs id) rule nodes t) (sym (same id))
+        (subst (λ (n : ℕ). CanFill (longs n) rule (table_nodes trees n) t) number
+        (record { legal = h.legal; short = h.short; rows = λ bookmark. rows t h here bookmark (row_under (table_nodes trees t.id) bookmark) refl (here.rows bookmark) }))
 
 -- ---- the trees with the new one
 

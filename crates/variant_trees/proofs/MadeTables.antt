@@ -61,7 +61,7 @@ pub record NewTableLaws : Type 0 where
   pub indexes : (tables : List StoredTable) (table other : ℕ) → table_indexes (tables ++ new_tree table ∷ []) other ≡ table_indexes tables other
 
 new_is_settled : (longs : TableValues) (other : List StoredTable) (id : ℕ) (name : List ℕ) → table_nodes other id ≡ [] → IsSettled longs other (new_table id name)
-new_is_settled longs other id name nodes = subst (λ (n : List Node). IsKeptTable other (longs t.id) n [] (new_table id name)) (sym nodes) (record {
+new_is_settled longs other id name nodes = subst (λ (n : List Node). IsKeptTable other (longs id) n [] (new_table id name)) (sym nodes) (record {
   rules = tt;
   rows = λ bookmark. tt;
   stands = λ bookmark. refl;

@@ -137,15 +137,15 @@ same_rows a b one other same = same_entries (slice_cmp nat_cmp) nat_list_cmp_tot
 pub rows_filled : (longs : TableValues) (laws : TreeLaws) (trees : List StoredTable) (id : ℕ) (bookmark row : List ℕ) → Fills laws trees id bookmark row → (other : ℕ)
     → rows_of_nodes (longs other) (table_nodes (filled trees id bookmark row) other) ≡ cond (other == id) (rows_with (rows_of_nodes (longs other) (table_nodes trees other)) bookmark (option_map (record_of (longs id)) (row_in_node row))) (rows_of_nodes (longs other) (table_nodes trees other))
 rows_filled longs laws trees id bookmark [] fills other =
-    ap (rows_of_nodes (longs id)) (nodes_filled laws trees id bookmark [] fills.table other) ∙ by (id == other)
+    ap (rows_of_nodes (longs other)) (nodes_filled laws trees id bookmark [] fills.table other) ∙ by (id == other)
     ∙ ap (λ b. cond b (without_row (rows_of_nodes (longs other) (table_nodes trees other)) bookmark) (rows_of_nodes (longs other) (table_nodes trees other))) (turned_number id other)
   where
-    by : (b : Bool) → rows_of_nodes (longs id) (cond b (with_data_at (table_nodes trees other) bookmark []) (table_nodes trees other)) ≡ cond b (without_row (rows_of_nodes (longs other) (table_nodes trees other)) bookmark) (rows_of_nodes (longs other) (table_nodes trees other))
-    by true = rows_emptied (longs id) bookmark (table_nodes trees other)
+    by : (b : Bool) → rows_of_nodes (longs other) (cond b (with_data_at (table_nodes trees other) bookmark []) (table_nodes trees other)) ≡ cond b (without_row (rows_of_nodes (longs other) (table_nodes trees other)) bookmark) (rows_of_nodes (longs other) (table_nodes trees other))
+    by true = rows_emptied (longs other) bookmark (table_nodes trees other)
     by false = refl
 rows_filled longs laws trees id bookmark (byte ∷ bytes) fills other =
     same_rows (rows_of_nodes (longs other) (table_nodes (filled trees id bookmark (byte ∷ bytes)) other)) (cond (other == id) (with_row rows bookmark values) rows)
-    (rows_rise (longs id) (table_nodes (filled trees id bookmark (byte ∷ bytes)) other) (fills.sorted_then other)) (rises (other == id))
+    (rows_rise (longs other) (table_nodes (filled trees id bookmark (byte ∷ bytes)) other) (fills.sorted_then other)) (rises (other == id))
     (λ at. record_filled longs laws trees id bookmark (byte ∷ bytes) fills other at ∙ ap (λ b. cond (b && bytes_eq bookmark at) (Some values) (row_at rows at)) (turned_number id other) ∙ by at (other == id))
   where
     values : RecordFields
@@ -155,8 +155,8 @@ rows_filled longs laws trees id bookmark (byte ∷ bytes) fills other =
     rows = rows_of_nodes (longs other) (table_nodes trees other)
 
     rises : (b : Bool) → RowsRise (cond b (with_row rows bookmark values) rows)
-    rises true = is_sorted-put (slice_cmp nat_cmp) nat_list_cmp_total bookmark values rows (rows_rise (longs id) (table_nodes trees other) (fills.sorted other))
-    rises false = rows_rise (longs id) (table_nodes trees other) (fills.sorted other)
+    rises true = is_sorted-put (slice_cmp nat_cmp) nat_list_cmp_total bookmark values rows (rows_rise (longs other) (table_nodes trees other) (fills.sorted other))
+    rises false = rows_rise (longs other) (table_nodes trees other) (fills.sorted other)
 
     by : (at : List ℕ) (b : Bool) → cond (b && bytes_eq bookmark at) (Some values) (row_at rows at) ≡ row_at (cond b (with_row rows bookmark values) rows) at
     by at true =

@@ -160,7 +160,7 @@ pub shown_back : (laws : TreeLaws) (schema : Schema) (table : ℕ) (trees : List
     → (tables : List Table) (h : HeldChange) → slice_get now place ≡ Some h → map (with_newest_by (table_long_values trees) (filled trees table bookmark row)) tables ≡ tables_put_back (table_long_values trees table) (map (with_newest_by (table_long_values trees) trees) tables) h
 shown_back laws schema table trees now place bookmark row reads known tables h at =
     subst (λ (x : HeldChange). map (with_newest_by (table_long_values trees) (filled trees table bookmark row)) tables ≡ tables_put_back (table_long_values trees table) (map (with_newest_by (table_long_values trees) trees) tables) x) (same_at now place reads.change h reads.can.at at)
-    (at_record (λ n b. map (with_newest_by (table_long_values trees) (filled trees n b row)) tables ≡ tables_put_back (table_long_values trees table) (map (with_newest_by (table_long_values trees) trees) tables) reads.change) table bookmark reads.change own
+    (at_record (λ n b. map (with_newest_by (table_long_values trees) (filled trees n b row)) tables ≡ tables_put_back (table_long_values trees n) (map (with_newest_by (table_long_values trees) trees) tables) reads.change) table bookmark reads.change own
     (tables_back (table_long_values trees) laws trees reads.change row (row_is schema table trees now place bookmark row reads) (to_record (λ n b. Fills laws trees n b row) table bookmark reads.change own known) tables))
   where
     own : IsAt table bookmark reads.change
@@ -170,8 +170,9 @@ pub shown_unchanged : (schema : Schema) (table : ℕ) (trees : List StoredTable)
     → row_under (table_nodes trees table) bookmark ≡ None → (length row == 0) ≡ true → (tables : List Table) (h : HeldChange) → slice_get now place ≡ Some h → map (with_newest_by (table_long_values trees) trees) tables ≡ tables_put_back (table_long_values trees table) (map (with_newest_by (table_long_values trees) trees) tables) h
 shown_unchanged schema table trees now place bookmark row reads sorted is empty tables h at =
     subst (λ (x : HeldChange). map (with_newest_by (table_long_values trees) trees) tables ≡ tables_put_back (table_long_values trees table) (map (with_newest_by (table_long_values trees) trees) tables) x) (same_at now place reads.change h reads.can.at at)
+    (subst (λ (n : ℕ). map (with_newest_by (table_long_values trees) trees) tables ≡ tables_put_back (table_long_values trees n) (map (with_newest_by (table_long_values trees) trees) tables) reads.change) reads.can.named
     (tables_unchanged (table_long_values trees) trees reads.change (sym (row_is schema table trees now place bookmark row reads) ∙ no_bytes row empty)
-    (to_record (λ n b. row_at (rows_of_nodes (table_long_values trees n) (table_nodes trees n)) b ≡ None) table bookmark reads.change (reads.can.named, reads.is_bookmark) (record_at (table_long_values trees table) (table_nodes trees table) (sorted table) bookmark ∙ ap (option_map (record_of (table_long_values trees table))) is)) tables)
+    (to_record (λ n b. row_at (rows_of_nodes (table_long_values trees n) (table_nodes trees n)) b ≡ None) table bookmark reads.change (reads.can.named, reads.is_bookmark) (record_at (table_long_values trees table) (table_nodes trees table) (sorted table) bookmark ∙ ap (option_map (record_of (table_long_values trees table))) is)) tables))
 
 -- ---- the newest rows
 
