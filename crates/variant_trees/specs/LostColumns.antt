@@ -1,5 +1,5 @@
 -- Rows, nodes and trees once a column has gone with its values.
-use Rattle.std.specs.Prelude.{◌≡◌, ◌≢◌, ℕ, List, [], None, IfSome}
+use Rattle.std.specs.Prelude.{◌≡◌, ◌≢◌, ℕ, List, [], Some, None, IfSome}
 use Rattle.column_set.specs.RecordValues.{remove_by_number}
 use Rattle.column_set.specs.RowReading.{row_in}
 use Rattle.column_set.specs.Rows.{row_bytes}
