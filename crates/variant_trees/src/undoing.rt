@@ -28,8 +28,8 @@ use table_trees::{TableTrees, nodes_after_a_change, nodes_by_bookmark};
 use version_store::{ChangeKind, Versions};
 
 /// Takes back what a change made that has become undone. Of a put or a drop the row before it is again the newest one, and of
-/// the row that goes the keys go that no variant has, with the node where none is left, and its references to long values; of a sum the opposite amount is
-/// added; a lock made nothing. It takes no memory.
+/// the row that goes the keys go that no variant has, with the node where none is left, and then its references to long values;
+/// of a sum the opposite amount is added; a lock made nothing. It takes no memory.
 pub fn put_back(
     catalog: &Catalog,
     trees: &mut TableTrees,
