@@ -13,8 +13,11 @@ use Rattle.version_store.specs.HeldChanges.{HeldChange, with_status}
 use Rattle.variant_trees.proofs.OpenUndone.{place_now, was_undone}
 use Rattle.variant_trees.proofs.Released.{Releases}
 use Rattle.variant_trees.proofs.UndoneRows.{change_named, gives_up_nothing, is_back, newest_spelled, newest_there, undone_counted}
-use Rattle.variant_trees.proofs.UndoneThere.{mapped_at, spelled_row}
+use Rattle.variant_trees.proofs.UndoneThere.{mapped_at, place_in, spelled_row}
 use Rattle.variant_trees.proofs.undoing.put_back_in.Goals as goal
+
+pub bookmark_at-requires : goal.bookmark_at-requires
+bookmark_at-requires c = place_in c.args.versions.now c.args.place c.requires.can.0 c.requires.can.1.at
 
 pub put_row_back-requires-clause-newest : goal.put_row_back-requires-clause-newest
 put_row_back-requires-clause-newest c = λ h at.
