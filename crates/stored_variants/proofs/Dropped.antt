@@ -12,6 +12,7 @@ use Rattle.stored_variants.specs.RecordRows.{row_in_node, row_under, record_of, 
 use Rattle.stored_variants.specs.VersionsKept.{needed_trees, tree_numbers}
 use Rattle.std.specs.Cmp.Lexicographic.{texts_ties}
 use Rattle.std.proofs.lemmas.List.Elements.{All-head, All-tail}
+use Rattle.long_value.specs.Values.{Values}
 
 -- laws of tables and nodes
 pub record TreeLaws : Type 0 where
@@ -142,23 +143,23 @@ turned_number a b = by (a == b) (b == a) refl refl
     by false true e f = ap (λ n. n == b) (sym (same_number b a f)) ∙ self_equal b ∙ sym f
     by false false e f = e ∙ sym f
 
-pub rows_emptied : (bookmark : List ℕ) (nodes : List Node) → rows_of_nodes (with_data_at nodes bookmark []) ≡ without_row (rows_of_nodes nodes) bookmark
-rows_emptied bookmark [] = refl
-rows_emptied bookmark (n ∷ nodes) =
-    node (has_key bookmark n) ∙ by (has_key bookmark n) refl (row_in_node n.data) (rows_emptied bookmark nodes)
+pub rows_emptied : (longs : Values) (bookmark : List ℕ) (nodes : List Node) → rows_of_nodes longs (with_data_at nodes bookmark []) ≡ without_row (rows_of_nodes longs nodes) bookmark
+rows_emptied longs bookmark [] = refl
+rows_emptied longs bookmark (n ∷ nodes) =
+    node (has_key bookmark n) ∙ by (has_key bookmark n) refl (row_in_node n.data) (rows_emptied longs bookmark nodes)
   where
-    node : (b : Bool) → with_record (emptied_where b n).key (row_in_node (emptied_where b n).data) (rows_of_nodes (with_data_at nodes bookmark [])) ≡ with_record n.key (cond b None (row_in_node n.data)) (rows_of_nodes (with_data_at nodes bookmark []))
+    node : (b : Bool) → with_record longs (emptied_where b n).key (row_in_node (emptied_where b n).data) (rows_of_nodes longs (with_data_at nodes bookmark [])) ≡ with_record longs n.key (cond b None (row_in_node n.data)) (rows_of_nodes longs (with_data_at nodes bookmark []))
     node true = refl
     node false = refl
 
     test : (b : Bool) → has_key bookmark n ≡ b → bytes_eq n.key bookmark ≡ b
     test b e = texts_ties n.key bookmark ∙ e
 
-    by : (b : Bool) → has_key bookmark n ≡ b → (row : Option (List ℕ)) → rows_of_nodes (with_data_at nodes bookmark []) ≡ without_row (rows_of_nodes nodes) bookmark
-        → with_record n.key (cond b None row) (rows_of_nodes (with_data_at nodes bookmark [])) ≡ without_row (with_record n.key row (rows_of_nodes nodes)) bookmark
+    by : (b : Bool) → has_key bookmark n ≡ b → (row : Option (List ℕ)) → rows_of_nodes longs (with_data_at nodes bookmark []) ≡ without_row (rows_of_nodes longs nodes) bookmark
+        → with_record longs n.key (cond b None row) (rows_of_nodes longs (with_data_at nodes bookmark [])) ≡ without_row (with_record longs n.key row (rows_of_nodes longs nodes)) bookmark
     by true e None rest = rest
-    by true e (Some row) rest = rest ∙ sym (ap (λ b. cond (not b) ((n.key, record_of row) ∷ without_row (rows_of_nodes nodes) bookmark) (without_row (rows_of_nodes nodes) bookmark)) (test true e))
+    by true e (Some row) rest = rest ∙ sym (ap (λ b. cond (not b) ((n.key, record_of longs row) ∷ without_row (rows_of_nodes longs nodes) bookmark) (without_row (rows_of_nodes longs nodes) bookmark)) (test true e))
     by false e None rest = rest
     by false e (Some row) rest =
-        ap (λ rows. (n.key, record_of row) ∷ rows) rest
-        ∙ sym (ap (λ b. cond (not b) ((n.key, record_of row) ∷ without_row (rows_of_nodes nodes) bookmark) (without_row (rows_of_nodes nodes) bookmark)) (test false e))
+        ap (λ rows. (n.key, record_of longs row) ∷ rows) rest
+        ∙ sym (ap (λ b. cond (not b) ((n.key, record_of longs row) ∷ without_row (rows_of_nodes longs nodes) bookmark) (without_row (rows_of_nodes longs nodes) bookmark)) (test false e))

@@ -15,6 +15,7 @@ use Rattle.record_changes.proofs.Tests.{and_left, and_right, equal_bytes, imposs
 use Rattle.table_trees.specs.StoredNodes.{bookmark_entries}
 use Rattle.stored_variants.specs.RecordRows.{record_of, row_in_node, row_under, rows_of_nodes, with_record}
 use Rattle.versioned_tables.proofs.Order.{is_less}
+use Rattle.long_value.specs.Values.{Values}
 
 -- ---- tests of bookmarks
 
@@ -55,23 +56,23 @@ none_behind key bookmark (n ∷ nodes) same low =
     other = refuted (has_key bookmark n) (λ e. apart key n.key (and_left (pair_lt (key, key) (n.key, n.key)) _ low) (same ∙ sym (key_is n.key bookmark e)))
 
 -- the newest record under a bookmark is the one of its row
-pub record_at : (nodes : List Node) → are_sorted (bookmark_entries nodes) ≡ true → (bookmark : List ℕ) → row_at (rows_of_nodes nodes) bookmark ≡ option_map record_of (row_under nodes bookmark)
-record_at [] sorted bookmark = refl
-record_at (n ∷ nodes) sorted bookmark =
-    by (has_key bookmark n) refl (row_in_node n.data) refl (record_at nodes (and_right (list_all (pair_lt (n.key, n.key)) (bookmark_entries nodes)) _ sorted) bookmark)
+pub record_at : (longs : Values) (nodes : List Node) → are_sorted (bookmark_entries nodes) ≡ true → (bookmark : List ℕ) → row_at (rows_of_nodes longs nodes) bookmark ≡ option_map (record_of longs) (row_under nodes bookmark)
+record_at longs [] sorted bookmark = refl
+record_at longs (n ∷ nodes) sorted bookmark =
+    by (has_key bookmark n) refl (row_in_node n.data) refl (record_at longs nodes (and_right (list_all (pair_lt (n.key, n.key)) (bookmark_entries nodes)) _ sorted) bookmark)
   where
     low : list_all (pair_lt (n.key, n.key)) (bookmark_entries nodes) ≡ true
     low = and_left _ _ sorted
 
-    by : (b : Bool) → has_key bookmark n ≡ b → (row : Option (List ℕ)) → row_in_node n.data ≡ row → row_at (rows_of_nodes nodes) bookmark ≡ option_map record_of (row_under nodes bookmark)
-        → row_at (with_record n.key row (rows_of_nodes nodes)) bookmark ≡ option_map record_of (option_and_then row_in_node (option_map (λ (n : Node). n.data) (cond b (Some n) (find (has_key bookmark) nodes))))
+    by : (b : Bool) → has_key bookmark n ≡ b → (row : Option (List ℕ)) → row_in_node n.data ≡ row → row_at (rows_of_nodes longs nodes) bookmark ≡ option_map (record_of longs) (row_under nodes bookmark)
+        → row_at (with_record longs n.key row (rows_of_nodes longs nodes)) bookmark ≡ option_map (record_of longs) (option_and_then row_in_node (option_map (λ (n : Node). n.data) (cond b (Some n) (find (has_key bookmark) nodes))))
     by true h None e rest =
-        rest ∙ ap (λ o. option_map record_of (option_and_then row_in_node o)) (none_behind n.key bookmark nodes (key_is n.key bookmark h) low) ∙ sym (ap (option_map record_of) e)
+        rest ∙ ap (λ o. option_map (record_of longs) (option_and_then row_in_node o)) (none_behind n.key bookmark nodes (key_is n.key bookmark h) low) ∙ sym (ap (option_map (record_of longs)) e)
     by true h (Some row) e rest =
-        ap (λ t. cond t (Some (record_of row)) (row_at (rows_of_nodes nodes) bookmark)) (sym (same_test bookmark n.key) ∙ h) ∙ sym (ap (option_map record_of) e)
+        ap (λ t. cond t (Some (record_of longs row)) (row_at (rows_of_nodes longs nodes) bookmark)) (sym (same_test bookmark n.key) ∙ h) ∙ sym (ap (option_map (record_of longs)) e)
     by false h None e rest = rest
     by false h (Some row) e rest =
-        ap (λ t. cond t (Some (record_of row)) (row_at (rows_of_nodes nodes) bookmark)) (sym (same_test bookmark n.key) ∙ h) ∙ rest
+        ap (λ t. cond t (Some (record_of longs row)) (row_at (rows_of_nodes longs nodes) bookmark)) (sym (same_test bookmark n.key) ∙ h) ∙ rest
 
 pub no_byte : (bytes : List ℕ) → (length bytes == 0) ≡ true → row_in_node bytes ≡ None
 no_byte [] e = refl

@@ -12,6 +12,7 @@ use Rattle.record_changes.proofs.Tests.{and_left, and_right, impossible}
 use Rattle.table_trees.specs.StoredNodes.{bookmark_entries}
 use Rattle.versioned_tables.specs.Holding.{RowsRise}
 use Rattle.stored_variants.specs.RecordRows.{row_in_node, rows_of_nodes, with_record}
+use Rattle.long_value.specs.Values.{Values}
 
 own_below : (a b : Bool) → (a || (b && a)) ≡ true → T a
 own_below true b h = tt
@@ -22,18 +23,18 @@ both : (a b : Bool) → T a → T b → T (a && b)
 both true b p q = q
 both false b p q = p
 
-below_is : (key : List ℕ) (nodes : List Node) → list_all (pair_lt (key, key)) (bookmark_entries nodes) ≡ true → T (below_all (slice_cmp nat_cmp) key (rows_of_nodes nodes))
-below_is key [] low = tt
-below_is key (n ∷ nodes) low = by (row_in_node n.data) (below_is key nodes (and_right (pair_lt (key, key) (n.key, n.key)) _ low))
+below_is : (longs : Values) (key : List ℕ) (nodes : List Node) → list_all (pair_lt (key, key)) (bookmark_entries nodes) ≡ true → T (below_all (slice_cmp nat_cmp) key (rows_of_nodes longs nodes))
+below_is longs key [] low = tt
+below_is longs key (n ∷ nodes) low = by (row_in_node n.data) (below_is longs key nodes (and_right (pair_lt (key, key) (n.key, n.key)) _ low))
   where
-    by : (row : Option (List ℕ)) → T (below_all (slice_cmp nat_cmp) key (rows_of_nodes nodes)) → T (below_all (slice_cmp nat_cmp) key (with_record n.key row (rows_of_nodes nodes)))
+    by : (row : Option (List ℕ)) → T (below_all (slice_cmp nat_cmp) key (rows_of_nodes longs nodes)) → T (below_all (slice_cmp nat_cmp) key (with_record longs n.key row (rows_of_nodes longs nodes)))
     by None rest = rest
     by (Some row) rest = both _ _ (own_below (bytes_lt key n.key) (bytes_eq key n.key) (and_left (pair_lt (key, key) (n.key, n.key)) _ low)) rest
 
-pub rows_rise : (nodes : List Node) → are_sorted (bookmark_entries nodes) ≡ true → RowsRise (rows_of_nodes nodes)
-rows_rise [] sorted = tt
-rows_rise (n ∷ nodes) sorted = by (row_in_node n.data) (rows_rise nodes (and_right (list_all (pair_lt (n.key, n.key)) (bookmark_entries nodes)) _ sorted))
+pub rows_rise : (longs : Values) (nodes : List Node) → are_sorted (bookmark_entries nodes) ≡ true → RowsRise (rows_of_nodes longs nodes)
+rows_rise longs [] sorted = tt
+rows_rise longs (n ∷ nodes) sorted = by (row_in_node n.data) (rows_rise longs nodes (and_right (list_all (pair_lt (n.key, n.key)) (bookmark_entries nodes)) _ sorted))
   where
-    by : (row : Option (List ℕ)) → RowsRise (rows_of_nodes nodes) → RowsRise (with_record n.key row (rows_of_nodes nodes))
+    by : (row : Option (List ℕ)) → RowsRise (rows_of_nodes longs nodes) → RowsRise (with_record longs n.key row (rows_of_nodes longs nodes))
     by None rest = rest
-    by (Some row) rest = both _ _ (below_is n.key nodes (and_left _ _ sorted)) rest
+    by (Some row) rest = both _ _ (below_is longs n.key nodes (and_left _ _ sorted)) rest

@@ -8,9 +8,9 @@ use Rattle.record_changes.proofs.Tests.{same_number}
 use Rattle.table_trees.specs.StoredNodes.{bookmark_entries}
 use Rattle.table_trees.specs.StoredTables.{StoredTable, is_table, table_nodes}
 use Rattle.version_store.specs.HeldChanges.{HeldChange}
-use Rattle.stored_variants.specs.RecordRows.{IsRecordRow, held_record, record_of, row_under, rows_of_nodes}
-use Rattle.stored_variants.specs.VersionsView.{with_newest}
-use Rattle.stored_variants.specs.VersionsKept.{AreKept, IsKeptTable, IsRowUnder, needed_trees, tree_numbers}
+use Rattle.stored_variants.specs.RecordRows.{IsRecordRow, TableValues, held_record_in, record_of, row_under, rows_of_nodes}
+use Rattle.stored_variants.specs.VersionsView.{with_newest_by}
+use Rattle.stored_variants.specs.VersionsKept.{AreKeptWith, IsKeptTable, IsRowUnder, needed_trees, tree_numbers}
 use Rattle.stored_variants.proofs.NodeRecords.{record_at}
 
 no_two : {A : Type 0} {X : Type 0} (x y : X) → Some x ≡ None → A
@@ -30,32 +30,32 @@ found_number id (x ∷ tables) t e = by (x.id == id) refl (found_number id table
     by false h rest e = rest e
 
 -- a table of the catalog with its newest records is found as it is
-pub table_at : (trees : List StoredTable) (tables : List Table) (id : ℕ) → table_with_id (map (with_newest trees) tables) id ≡ option_map (with_newest trees) (table_with_id tables id)
-table_at trees [] id = refl
-table_at trees (t ∷ tables) id = by (t.id == id) (table_at trees tables id)
+pub table_at : (longs : TableValues) (trees : List StoredTable) (tables : List Table) (id : ℕ) → table_with_id (map (with_newest_by longs trees) tables) id ≡ option_map (with_newest_by longs trees) (table_with_id tables id)
+table_at longs trees [] id = refl
+table_at longs trees (t ∷ tables) id = by (t.id == id) (table_at longs trees tables id)
   where
-    by : (b : Bool) → table_with_id (map (with_newest trees) tables) id ≡ option_map (with_newest trees) (table_with_id tables id)
-        → cond b (Some (with_newest trees t)) (table_with_id (map (with_newest trees) tables) id) ≡ option_map (with_newest trees) (cond b (Some t) (table_with_id tables id))
+    by : (b : Bool) → table_with_id (map (with_newest_by longs trees) tables) id ≡ option_map (with_newest_by longs trees) (table_with_id tables id)
+        → cond b (Some (with_newest_by longs trees t)) (table_with_id (map (with_newest_by longs trees) tables) id) ≡ option_map (with_newest_by longs trees) (cond b (Some t) (table_with_id tables id))
     by true rest = refl
     by false rest = rest
 
-pub named_at : (trees : List StoredTable) (tables : List Table) (name : List ℕ) → table_named (map (with_newest trees) tables) name ≡ option_map (with_newest trees) (table_named tables name)
-named_at trees [] name = refl
-named_at trees (t ∷ tables) name = by (bytes_eq t.name name) (named_at trees tables name)
+pub named_at : (longs : TableValues) (trees : List StoredTable) (tables : List Table) (name : List ℕ) → table_named (map (with_newest_by longs trees) tables) name ≡ option_map (with_newest_by longs trees) (table_named tables name)
+named_at longs trees [] name = refl
+named_at longs trees (t ∷ tables) name = by (bytes_eq t.name name) (named_at longs trees tables name)
   where
-    by : (b : Bool) → table_named (map (with_newest trees) tables) name ≡ option_map (with_newest trees) (table_named tables name)
-        → cond b (Some (with_newest trees t)) (table_named (map (with_newest trees) tables) name) ≡ option_map (with_newest trees) (cond b (Some t) (table_named tables name))
+    by : (b : Bool) → table_named (map (with_newest_by longs trees) tables) name ≡ option_map (with_newest_by longs trees) (table_named tables name)
+        → cond b (Some (with_newest_by longs trees t)) (table_named (map (with_newest_by longs trees) tables) name) ≡ option_map (with_newest_by longs trees) (cond b (Some t) (table_named tables name))
     by true rest = refl
     by false rest = rest
 
 -- without their records the tables are those of the catalog
-pub definitions : (trees : List StoredTable) (tables : List Table) → map without_rows (map (with_newest trees) tables) ≡ map without_rows tables
-definitions trees [] = refl
-definitions trees (t ∷ tables) = ap (λ rest. without_rows t ∷ rest) (definitions trees tables)
+pub definitions : (longs : TableValues) (trees : List StoredTable) (tables : List Table) → map without_rows (map (with_newest_by longs trees) tables) ≡ map without_rows tables
+definitions longs trees [] = refl
+definitions longs trees (t ∷ tables) = ap (λ rest. without_rows t ∷ rest) (definitions longs trees tables)
 
-pub defined : (trees : List StoredTable) (o : Option Table) → option_map without_rows (option_map (with_newest trees) o) ≡ option_map without_rows o
-defined trees None = refl
-defined trees (Some t) = refl
+pub defined : (longs : TableValues) (trees : List StoredTable) (o : Option Table) → option_map without_rows (option_map (with_newest_by longs trees) o) ≡ option_map without_rows o
+defined longs trees None = refl
+defined longs trees (Some t) = refl
 
 -- ---- a table that is not in the catalog has no nodes
 
@@ -88,24 +88,24 @@ no_nodes trees tables id same none = ap (λ (o : Option StoredTable). unwrap_or 
 
 -- ---- newest records
 
-pub newest_at : (trees : List StoredTable) (tables : List Table) → map tree_numbers trees ≡ map needed_trees tables → ((table : ℕ) → are_sorted (bookmark_entries (table_nodes trees table)) ≡ true) → (id : ℕ) (bookmark : List ℕ)
-    → record_in (map (with_newest trees) tables) id bookmark ≡ option_map record_of (row_under (table_nodes trees id) bookmark)
-newest_at trees tables same sorted id bookmark = ap (λ o. row_at (rows_of o) bookmark) (table_at trees tables id) ∙ by (table_with_id tables id) refl
+pub newest_at : (longs : TableValues) (trees : List StoredTable) (tables : List Table) → map tree_numbers trees ≡ map needed_trees tables → ((table : ℕ) → are_sorted (bookmark_entries (table_nodes trees table)) ≡ true) → (id : ℕ) (bookmark : List ℕ)
+    → record_in (map (with_newest_by longs trees) tables) id bookmark ≡ option_map (record_of (longs id)) (row_under (table_nodes trees id) bookmark)
+newest_at longs trees tables same sorted id bookmark = ap (λ o. row_at (rows_of o) bookmark) (table_at longs trees tables id) ∙ by (table_with_id tables id) refl
   where
-    by : (o : Option Table) → table_with_id tables id ≡ o → row_at (rows_of (option_map (with_newest trees) o)) bookmark ≡ option_map record_of (row_under (table_nodes trees id) bookmark)
-    by None e = sym (ap (λ nodes. option_map record_of (row_under nodes bookmark)) (no_nodes trees tables id same e))
-    by (Some t) e = ap (λ n. row_at (rows_of_nodes (table_nodes trees n)) bookmark) (found_number id tables t e) ∙ record_at (table_nodes trees id) (sorted id) bookmark
+    by : (o : Option Table) → table_with_id tables id ≡ o → row_at (rows_of (option_map (with_newest_by longs trees) o)) bookmark ≡ option_map (record_of (longs id)) (row_under (table_nodes trees id) bookmark)
+    by None e = sym (ap (λ nodes. option_map (record_of (longs id)) (row_under nodes bookmark)) (no_nodes trees tables id same e))
+    by (Some t) e = ap (λ n. row_at (rows_of_nodes (longs n) (table_nodes trees n)) bookmark) (found_number id tables t e) ∙ record_at (longs id) (table_nodes trees id) (sorted id) bookmark
 
 -- the newest row under a bookmark is one
-pub newest_is_row : (tables : List Table) (trees : List StoredTable) (held : List HeldChange) → AreKept tables trees held → (id : ℕ) (bookmark : List ℕ) → IfSome (row_under (table_nodes trees id) bookmark) IsRecordRow
-newest_is_row tables trees held kept id bookmark = by (table_with_id tables id) refl (kept.each id)
+pub newest_is_row : (longs : TableValues) (tables : List Table) (trees : List StoredTable) (held : List HeldChange) → AreKeptWith longs tables trees held → (id : ℕ) (bookmark : List ℕ) → IfSome (row_under (table_nodes trees id) bookmark) (IsRecordRow (longs id))
+newest_is_row longs tables trees held kept id bookmark = by (table_with_id tables id) refl (kept.each id)
   where
-    rows : (t : Table) (row : Option (List ℕ)) → IfSome row (IsRowUnder t bookmark) → IfSome row IsRecordRow
+    rows : (t : Table) (row : Option (List ℕ)) → IfSome row (IsRowUnder (longs id) t bookmark) → IfSome row (IsRecordRow (longs id))
     rows t None is = tt
     rows t (Some row) is = is.fits.row
 
-    by : (o : Option Table) → table_with_id tables id ≡ o → IfSome o (IsKeptTable trees (table_nodes trees id) (map held_record held)) → IfSome (row_under (table_nodes trees id) bookmark) IsRecordRow
-    by None e is = subst (λ nodes. IfSome (row_under nodes bookmark) IsRecordRow) (sym (no_nodes trees tables id kept.numbers e)) tt
+    by : (o : Option Table) → table_with_id tables id ≡ o → IfSome o (IsKeptTable trees (longs id) (table_nodes trees id) (map (held_record_in longs) held)) → IfSome (row_under (table_nodes trees id) bookmark) (IsRecordRow (longs id))
+    by None e is = subst (λ nodes. IfSome (row_under nodes bookmark) (IsRecordRow (longs id))) (sym (no_nodes trees tables id kept.numbers e)) tt
     by (Some t) e is = rows t (row_under (table_nodes trees id) bookmark) (is.rows bookmark)
 
 -- ---- rows that stay

@@ -1,4 +1,5 @@
 pub mod RecordRows
+pub mod CountedValues
 pub mod StoredVersions
 pub mod VersionsView
 pub mod VersionsKept

@@ -1,6 +1,6 @@
 -- Records that are put: their keys, and what is asked of one.
-use Rattle.std.specs.Prelude.{◌≡◌, ℕ, ◌≤◌, ◌&&◌, Bool, true, not, List, Some, IsOk, ◌<◌, ◌==◌, [], IsTrue, length}
-use Rattle.std.specs.List.{list_any}
+use Rattle.std.specs.Prelude.{◌≡◌, ℕ, ◌≤◌, ◌&&◌, Bool, true, not, List, Some, IsOk, ◌<◌, ◌^◌, ◌==◌, [], IsTrue, length, nat_lt}
+use Rattle.std.specs.List.{list_all, list_any}
 use Rattle.column_set.specs.RecordValues.{RecordFields, record_fits, record_size}
 use Rattle.database_state.specs.Conflicts.{yields_key}
 use Rattle.database_state.specs.Table.{rule_with_id, Table, schema_of}
@@ -9,8 +9,10 @@ use Rattle.index_derive.specs.declared.rules.Schema.{Schema}
 use Rattle.index_derive.specs.Entries.{entries, is_legal}
 use Rattle.column_set.specs.declared.changes.Change.{Change}
 use Rattle.column_set.specs.declared.changes.Change.TheVariants.{Put, Drop, Hold, Add}
-use Rattle.column_set.specs.Rows.{all_here, is_all_here, is_row, largest_row}
+use Rattle.column_set.specs.Record.{is_record}
+use Rattle.column_set.specs.Rows.{largest_row}
 use Rattle.database_state.specs.Lawful.{is_indexable}
+use Rattle.long_rows.specs.KeptRows.{are_values}
 use Rattle.stored_variants.specs.VersionsKept.{HoldsNumbers, IsBookmarkOf}
 
 -- ---- keys
@@ -43,7 +45,7 @@ put_values (Hold table bookmark) = []
 put_values (Add table bookmark column amount) = []
 
 -- A record that fits the columns of a table, and holds numbers in the escrow columns, which no index of it refuses, under a
--- bookmark of its own. All its values stand in its row, and the row in a page.
+-- bookmark of its own. Each of its values has at most 1,048,576 bytes, and its row stands in a page.
 pub record IsStorable (table : Table) (bookmark : List ℕ) (values : RecordFields) : Type 0 where
   pub columns : record_fits table.columns values ≡ true
   pub numbers : HoldsNumbers (schema_of table) values
@@ -51,6 +53,7 @@ pub record IsStorable (table : Table) (bookmark : List ℕ) (values : RecordFiel
   pub own : IsBookmarkOf table values bookmark
   pub some : 0 < length bookmark
   pub short : length bookmark ≤ 255
-  pub here : IsTrue (is_all_here values)
-  pub formed : IsTrue (is_row (all_here values))
+  pub formed : IsTrue (is_record values)
+  pub numbered : IsTrue (list_all (λ field. nat_lt field.0 (2 ^ 16)) values)
+  pub lengths : IsTrue (list_all (λ field. are_values field.1) values)
   pub small : record_size values ≤ largest_row

@@ -1,5 +1,5 @@
 -- Schema steps of the store: what is asked of one, and what it leaves.
-use Rattle.std.specs.Prelude.{◌≡◌, ◌==◌, ◌<◌, ◌≤◌, true, false, List, [], IfSome, IsSomeAnd, is_some}
+use Rattle.std.specs.Prelude.{◌≡◌, ℕ, ◌==◌, ◌<◌, ◌≤◌, true, false, List, [], IfSome, IsSomeAnd, is_some}
 use Rattle.std.specs.List.{list_all, list_any}
 use Rattle.column_set.specs.declared.columns.Column.{Column}
 use Rattle.column_set.specs.RecordValues.{is_kept_column}
@@ -14,13 +14,14 @@ use Rattle.jet_catalog.specs.Catalog.{CatalogState}
 use Rattle.log_grammar.specs.EntryBytes.{column_fits, index_fits, name_fits}
 use Rattle.table_trees.specs.StoredTables.{StoredTable}
 use Rattle.versioned_tables.specs.VersionedTables.{with_schema_step}
+use Rattle.stored_variants.specs.CountedValues.{AreCounted, BringsNoValue}
 use Rattle.stored_variants.specs.StoredVersions.{StoredVersions}
 use Rattle.stored_variants.specs.VersionsKept.{AreKept, secondary_rule}
 use Rattle.stored_variants.specs.VersionsView.{stored_versions}
 
 -- the store after a step
 abbrev pub after_step : SchemaStep → StoredVersions → StoredVersions
-after_step made store = record {
+after_step made store = record store {
   greatest_table = greatest_table_after store.greatest_table made;
   store = with_schema_step made store.store;
 }
@@ -64,7 +65,9 @@ CanMake (step.DeleteColumn table column) store =
 CanMake (step.CreateIndex table rule) store = IsSomeAnd (table_with_id store.store.tables table.0) (IsIndexFor rule)
 CanMake (step.DeleteIndex table index) store = IsSomeAnd (table_with_id store.store.tables table.0) (λ t. is_some (secondary_rule t index.0) ≡ true)
 
--- While no change is held: the catalog and the trees have become those after a step.
+-- While no change is held: the catalog and the trees have become those after a step. Long values may have gone, and none has come.
 pub record IsMade (made : SchemaStep) (was : CatalogState) (trees : List StoredTable) (is : CatalogState) (other : List StoredTable) : Type 0 where
   pub kept : AreKept is.tables other []
-  pub shown : stored_versions is other [] ≡ after_step made (stored_versions was trees [])
+  pub counts : AreCounted other []
+  pub values : BringsNoValue trees other
+  pub shown : (newest : ℕ) → stored_versions newest is other [] ≡ after_step made (stored_versions newest was trees [])

@@ -11,9 +11,11 @@ use Rattle.version_store.specs.HeldChanges.{is_kept_status}
 use Rattle.versioned_tables.specs.HeldRecords.{HeldRecord, span}
 use Rattle.versioned_tables.specs.VersionedTables.{VersionedTables, seen_tables}
 
--- The greatest table id ever given, and the tables with their newest records beside the held changes.
+-- The greatest table id ever given, the number of the newest log entry that put a record, 0 where none did, and the tables with
+-- their newest records beside the held changes.
 pub record StoredVersions : Type 0 where
   pub greatest_table : ℕ
+  pub newest_put : ℕ
   pub store : VersionedTables
 
 -- ---- what a reader walks

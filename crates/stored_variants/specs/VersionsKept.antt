@@ -11,9 +11,10 @@ use Rattle.index_derive.specs.declared.rules.IndexRule.{IndexRule}
 use Rattle.index_derive.specs.declared.rules.Schema.{Schema}
 use Rattle.index_derive.specs.Entries.{is_escrow_column, is_legal, primary_key}
 use Rattle.jet_catalog.specs.Catalog.{CatalogState, without_rows}
+use Rattle.long_value.specs.Values.{Values}
 use Rattle.page_image.specs.Page.{Node}
 use Rattle.table_trees.specs.ShownCatalogs.{ShowsCatalog}
-use Rattle.table_trees.specs.StoredTables.{StoredTable, index_entries, table_nodes}
+use Rattle.table_trees.specs.StoredTables.{StoredTable, index_entries, table_long_values, table_nodes}
 use Rattle.table_trees.specs.StoredTrees.{StoredTrees}
 use Rattle.version_store.specs.declared.calls.ChangeKind.{ChangeKind}
 use Rattle.version_store.specs.declared.calls.ChangeKind.TheVariants as kind
@@ -22,7 +23,8 @@ use Rattle.version_store.specs.HeldChanges.{HeldChange, is_rewrite}
 use Rattle.version_sums.specs.EscrowNumbers.{holds_number}
 use Rattle.versioned_tables.specs.HeldRecords.{HeldRecord}
 use Rattle.versioned_tables.specs.Variants.{HoldsVariants, has_variant}
-use Rattle.stored_variants.specs.RecordRows.{IsRecordRow, held_record, record_of, row_under, rows_of_nodes}
+use Rattle.stored_variants.specs.CountedValues.{AreCounted, HasNoValueBehind}
+use Rattle.stored_variants.specs.RecordRows.{IsRecordRow, TableValues, held_record_in, record_of, row_under, rows_of_nodes}
 
 -- ---- trees
 
@@ -57,16 +59,16 @@ abbrev pub HoldsNumbers : Schema → RecordFields → Type 0
 HoldsNumbers schema values = (column : ℕ) → is_escrow_column schema column ≡ true → holds_number values column ≡ true
 
 -- A row of a table: its record fits the columns, and holds numbers in the escrow columns.
-pub record IsRowOf (table : Table) (bytes : List ℕ) : Type 0 where
-  pub row : IsRecordRow bytes
-  pub columns : record_fits table.columns (record_of bytes) ≡ true
-  pub numbers : HoldsNumbers (schema_of table) (record_of bytes)
+pub record IsRowOf (values : Values) (table : Table) (bytes : List ℕ) : Type 0 where
+  pub row : IsRecordRow values bytes
+  pub columns : record_fits table.columns (record_of values bytes) ≡ true
+  pub numbers : HoldsNumbers (schema_of table) (record_of values bytes)
 
 -- The row under a bookmark of a table: no index refuses its record, and the bookmark is its own.
-pub record IsRowUnder (table : Table) (bookmark bytes : List ℕ) : Type 0 where
-  pub fits : IsRowOf table bytes
-  pub indexable : is_indexable (schema_of table) (record_of bytes) ≡ true
-  pub own : IsBookmarkOf table (record_of bytes) bookmark
+pub record IsRowUnder (values : Values) (table : Table) (bookmark bytes : List ℕ) : Type 0 where
+  pub fits : IsRowOf values table bytes
+  pub indexable : is_indexable (schema_of table) (record_of values bytes) ≡ true
+  pub own : IsBookmarkOf table (record_of values bytes) bookmark
 
 -- ---- held changes
 
@@ -77,13 +79,12 @@ AddsToEscrow schema kind.Drop = Unit {0}
 AddsToEscrow schema kind.Hold = Unit {0}
 AddsToEscrow schema (kind.Add column amount) = is_escrow_column schema column.0 ≡ true
 
--- A held change is of a table of the catalog, and the row before it is one of that table. Before a put or a drop it is one that
--- stood under the bookmark, and a drop that stands has one; while the change is open its node has room for it. A lock and a sum
--- hold no row, and a sum is one of an escrow column.
-pub record IsKeptChange (tables : List Table) (trees : List StoredTable) (held : HeldChange) : Type 0 where
+-- A held change is of a table of the catalog. Until it is undone the row before it is one of that table: the one that stood under
+-- the bookmark. A drop that stands has one; while the change is open its node has room for it. A lock and a sum hold no row, and a
+-- sum is one of an escrow column. Nothing is asked of the row before a change that is undone, whose long values may be gone.
+pub record IsKeptChange (longs : TableValues) (tables : List Table) (trees : List StoredTable) (held : HeldChange) : Type 0 where
   pub named : is_some (table_with_id tables held.table) ≡ true
-  pub row : IfSome (table_with_id tables held.table) (λ table. IfSome held.before (IsRowOf table))
-  pub before : is_rewrite held.kind ≡ true → IfSome (table_with_id tables held.table) (λ table. IfSome held.before (IsRowUnder table held.bookmark))
+  pub before : is_standing held ≡ true → IfSome (table_with_id tables held.table) (λ table. IfSome held.before (IsRowUnder (longs held.table) table held.bookmark))
   pub drop : is_standing held ≡ true → held.kind ≡ kind.Drop → is_some held.before ≡ true
   pub room : is_open held.status ≡ true → IfSome held.before (λ row. IsSomeAnd (extent_in (table_nodes trees held.table) held.bookmark) (λ extent. length row ≤ extent))
   pub other : is_rewrite held.kind ≡ false → held.before ≡ None
@@ -101,21 +102,28 @@ pub record IsStoredRule (table : Table) (rule : IndexRule) : Type 0 where
 
 -- The rows of the nodes are records of the table. A node stands exactly where a variant of its record is one, and the
 -- entries of each index are the keys of all variants.
-pub record IsKeptTable (trees : List StoredTable) (nodes : List Node) (held : List HeldRecord) (table : Table) : Type 0 where
+pub record IsKeptTable (trees : List StoredTable) (values : Values) (nodes : List Node) (held : List HeldRecord) (table : Table) : Type 0 where
   pub rules : AllByRecursion (IsStoredRule table) table.indexes
-  pub rows : (bookmark : List ℕ) → IfSome (row_under nodes bookmark) (IsRowUnder table bookmark)
-  pub stands : (bookmark : List ℕ) → is_some (get_in nodes bookmark) ≡ has_variant (row_at (rows_of_nodes nodes) bookmark) held table.id bookmark
-  pub entries : (index : ℕ) → IfSome (secondary_rule table index) (λ rule. HoldsVariants (rows_of_nodes nodes) held rule (schema_of table) table.id (index_entries trees table.id index))
+  pub rows : (bookmark : List ℕ) → IfSome (row_under nodes bookmark) (IsRowUnder values table bookmark)
+  pub stands : (bookmark : List ℕ) → is_some (get_in nodes bookmark) ≡ has_variant (row_at (rows_of_nodes values nodes) bookmark) held table.id bookmark
+  pub entries : (index : ℕ) → IfSome (secondary_rule table index) (λ rule. HoldsVariants (rows_of_nodes values nodes) held rule (schema_of table) table.id (index_entries trees table.id index))
 
 -- The catalog has no records of its own. Each of its tables has its trees, in the order of the catalog. Tables and held changes
--- are kept.
-pub record AreKept (tables : List Table) (trees : List StoredTable) (held : List HeldChange) : Type 0 where
+-- are kept, given the long values of each table.
+pub record AreKeptWith (longs : TableValues) (tables : List Table) (trees : List StoredTable) (held : List HeldChange) : Type 0 where
   pub plain : map without_rows tables ≡ tables
   pub numbers : map tree_numbers trees ≡ map needed_trees tables
-  pub each : (table : ℕ) → IfSome (table_with_id tables table) (IsKeptTable trees (table_nodes trees table) (map held_record held))
-  pub changes : AllByRecursion (IsKeptChange tables trees) held
+  pub each : (table : ℕ) → IfSome (table_with_id tables table) (IsKeptTable trees (longs table) (table_nodes trees table) (map (held_record_in longs) held))
+  pub changes : AllByRecursion (IsKeptChange longs tables trees) held
 
--- A catalog and its trees are kept, and the nodes of the catalog beside the trees are those of this catalog.
-pub record IsStore (catalog : CatalogState) (trees : StoredTrees) (held : List HeldChange) : Type 0 where
+-- The same with the long values in the trees.
+abbrev pub AreKept : List Table → List StoredTable → List HeldChange → Type 0
+AreKept tables trees held = AreKeptWith (table_long_values trees) tables trees held
+
+-- A catalog and its trees are kept, and the nodes of the catalog beside the trees are those of this catalog. Each long value has
+-- as many references as refer to it, and none is of an entry behind the newest put.
+pub record IsStore (newest : ℕ) (catalog : CatalogState) (trees : StoredTrees) (held : List HeldChange) : Type 0 where
   pub kept : AreKept catalog.tables trees.tables held
   pub shows : ShowsCatalog trees.catalog catalog
+  pub counts : AreCounted trees.tables held
+  pub entries : HasNoValueBehind newest trees.tables
