@@ -4,7 +4,6 @@ use Rattle.std.specs.Prelude.{IfSome, not}
 use Rattle.jet_base.specs.declared.replies.Jet.{Jet}
 use Rattle.jet_base.specs.declared.replies.Jet.TheVariants as jet
 use Rattle.column_set.specs.RecordValues.{RecordFields}
-use Rattle.column_set.specs.Rows.{RowFields, here_fields}
 use Rattle.cursor_nav.specs.Places.{Pair, is_on}
 use Rattle.database_state.specs.Refusals.{first_refusal}
 use Rattle.index_derive.specs.declared.entries.Place.{Place}
@@ -48,12 +47,12 @@ entry_shown engine session labelled c key bookmark tables reader number bytes fo
     ∙ ap (entry_at (records_for engine session c.cursor.table)) (sym place))
 
 -- the record at a cursor that stands on an entry
-pub record_shown : (engine : EngineState) (session : ℕ) (c : OpenCursor) (key bookmark : List ℕ) (tables : StoredVersions) (reader : Reader) (number : ℕ) (bytes : List ℕ) (row : RowFields)
-    → c.cursor.place ≡ On key bookmark → IsLookedUp engine session c.cursor.table bookmark tables reader number bytes → Some (here_fields row) ≡ shown_record reader tables.store number bytes
+pub record_shown : (engine : EngineState) (session : ℕ) (c : OpenCursor) (key bookmark : List ℕ) (tables : StoredVersions) (reader : Reader) (number : ℕ) (bytes : List ℕ) (row : RecordFields)
+    → c.cursor.place ≡ On key bookmark → IsLookedUp engine session c.cursor.table bookmark tables reader number bytes → Some row ≡ shown_record reader tables.store number bytes
     → IsRecordAt (shown_for engine session c.cursor.table) c.cursor.place (Ok row)
 record_shown engine session c key bookmark tables reader number bytes row place by is =
     subst (λ (p : Place). IsRecordAt (shown_for engine session c.cursor.table) p (Ok row)) (sym place)
-    (refl, sym (record_is engine session c.cursor.table bookmark tables reader number bytes (Some (here_fields row)) by is))
+    (refl, sym (record_is engine session c.cursor.table bookmark tables reader number bytes (Some row) by is))
 
 pub record_gone : (engine : EngineState) (session : ℕ) (c : OpenCursor) (key bookmark : List ℕ) (tables : StoredVersions) (reader : Reader) (number : ℕ) (bytes : List ℕ)
     → c.cursor.place ≡ On key bookmark → IsLookedUp engine session c.cursor.table bookmark tables reader number bytes → None ≡ shown_record reader tables.store number bytes

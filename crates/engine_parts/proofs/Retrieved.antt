@@ -12,7 +12,6 @@ use Rattle.jet_base.specs.ColumnType.{is_number_type}
 use Rattle.database_state.specs.SchemaChanges.{is_type_long}
 use Rattle.column_set.specs.declared.columns.Column.{Column}
 use Rattle.column_set.specs.RecordValues.{RecordFields, column_named, record_fits, record_size, values_of}
-use Rattle.column_set.specs.Rows.{RowFields, here_fields}
 use Rattle.cursor_nav.specs.Places.{is_on, place_bookmark}
 use Rattle.database_state.specs.Refusals.{first_refusal}
 use Rattle.database_state.specs.Table.{row_at}
@@ -107,7 +106,7 @@ seen_at engine session c row e = by (shown_for engine session c.cursor.table (pl
     by (Some values) e = refl
 
 -- what is found at a row
-retrieve-found : ReadsRecords → (engine : EngineState) (state : DatabaseState) (side : SessionSide) (cursor : CursorId) (name : List ℕ) (sequence most : ℕ) (c : OpenCursor) (row : RowFields) (column : Option Column)
+retrieve-found : ReadsRecords → (engine : EngineState) (state : DatabaseState) (side : SessionSide) (cursor : CursorId) (name : List ℕ) (sequence most : ℕ) (c : OpenCursor) (row : RecordFields) (column : Option Column)
     → HoldsState engine state → IsInStep state side.session side.state → side.state.begun ≡ true → cursor_labelled side.state cursor.0 ≡ Some c → IsRecordAt (shown_for engine side.session c.cursor.table) c.cursor.place (Ok row)
     → column_named c.schema.columns name ≡ column
     → answer (asked_of engine state side.session side.state) (call.RetrieveColumn cursor name sequence false most)
@@ -116,7 +115,7 @@ retrieve-found reads engine state side cursor name sequence most c row column h 
     let asked = asked_of engine state side.session side.state in
     retrieve-is asked cursor name sequence most c begun found
     ∙ retrieve-at_row asked c name sequence most (fields_at engine side.session c) at.0
-    (sym (reads engine state side.session side.state cursor.0 c h step found (place_bookmark c.cursor.place)) ∙ seen_at engine side.session c (here_fields row) at.1)
+    (sym (reads engine state side.session side.state cursor.0 c h step found (place_bookmark c.cursor.place)) ∙ seen_at engine side.session c row at.1)
     ∙ ap (λ (o : Option Column). on_column asked o (column_shown asked sequence most (fields_at engine side.session c))) named
 
 -- ---- decisions
@@ -129,7 +128,7 @@ retrieve-refused reads engine side cursor name sequence most c refusal begun fou
     answer-refused asked (call.RetrieveColumn cursor name sequence false most) side refusal refl
     (retrieve-is asked cursor name sequence most c begun found ∙ retrieve-row_refused reads engine state side cursor.0 c name sequence most refusal h step found at)
 
-pub retrieve-no_column : ReadsRecords → (engine : EngineState) (side : SessionSide) (cursor : CursorId) (name : List ℕ) (sequence most : ℕ) (c : OpenCursor) (row : RowFields)
+pub retrieve-no_column : ReadsRecords → (engine : EngineState) (side : SessionSide) (cursor : CursorId) (name : List ℕ) (sequence most : ℕ) (c : OpenCursor) (row : RecordFields)
     → side.state.begun ≡ true → cursor_labelled side.state cursor.0 ≡ Some c → IsRecordAt (shown_for engine side.session c.cursor.table) c.cursor.place (Ok row)
     → column_named c.schema.columns name ≡ None
     → Decides engine side (call.RetrieveColumn cursor name sequence false most) side (refused_with jet.ColumnNotFound)
@@ -158,7 +157,7 @@ pub column_shown-value : (asked : Asked) (sequence most : ℕ) (fields : RecordF
     → column_shown asked sequence most fields column ≡ value_shown asked column most (Some value)
 column_shown-value asked sequence most fields column value ne is = rw (ne, is) refl
 
-pub retrieve-shown : ReadsRecords → (engine : EngineState) (side new : SessionSide) (cursor : CursorId) (name : List ℕ) (sequence most : ℕ) (c : OpenCursor) (row : RowFields) (column : Column) (decision : Decision)
+pub retrieve-shown : ReadsRecords → (engine : EngineState) (side new : SessionSide) (cursor : CursorId) (name : List ℕ) (sequence most : ℕ) (c : OpenCursor) (row : RecordFields) (column : Column) (decision : Decision)
     → side.state.begun ≡ true → cursor_labelled side.state cursor.0 ≡ Some c → IsRecordAt (shown_for engine side.session c.cursor.table) c.cursor.place (Ok row)
     → column_named c.schema.columns name ≡ Some column
     → ((asked : Asked) → answered_by decision.reply new.reply ≡ (column_shown asked sequence most (fields_at engine side.session c) column).answered)
@@ -200,19 +199,19 @@ pub record ReadsRows : Type 0 where
   pub built : (engine : EngineState) (state : DatabaseState) (session : ℕ) (local : LocalState) (label : ℕ) (c : OpenCursor) → HoldsState engine state → IsInStep state session local → cursor_labelled local label ≡ Some c
       → IsTrue (list_all is_built_column c.schema.columns)
 
-pub row_read_at : ReadsRows → (engine : EngineState) (side : SessionSide) (label : ℕ) (c : OpenCursor) (row : RowFields)
-    → IsBeside engine side → cursor_labelled side.state label ≡ Some c → IsRecordAt (shown_for engine side.session c.cursor.table) c.cursor.place (Ok row) → IsRowAt engine side.session c (here_fields row)
+pub row_read_at : ReadsRows → (engine : EngineState) (side : SessionSide) (label : ℕ) (c : OpenCursor) (row : RecordFields)
+    → IsBeside engine side → cursor_labelled side.state label ≡ Some c → IsRecordAt (shown_for engine side.session c.cursor.table) c.cursor.place (Ok row) → IsRowAt engine side.session c row
 row_read_at laws engine side label c row beside found at =
     let held = beside.held in
-    laws.rows engine held.state side.session side.state label c held.holds held.in_step found (place_bookmark c.cursor.place) (here_fields row) (fields_at engine side.session c) at.1 (seen_at engine side.session c (here_fields row) at.1)
+    laws.rows engine held.state side.session side.state label c held.holds held.in_step found (place_bookmark c.cursor.place) row (fields_at engine side.session c) at.1 (seen_at engine side.session c row at.1)
 
-pub readable_at : ReadsRows → (engine : EngineState) (side : SessionSide) (label : ℕ) (name : List ℕ) (c : OpenCursor) (row : RowFields) (column : Column)
+pub readable_at : ReadsRows → (engine : EngineState) (side : SessionSide) (label : ℕ) (name : List ℕ) (c : OpenCursor) (row : RecordFields) (column : Column)
     → IsBeside engine side → cursor_labelled side.state label ≡ Some c → IsRecordAt (shown_for engine side.session c.cursor.table) c.cursor.place (Ok row) → column_named c.schema.columns name ≡ Some column
-    → AreReadable column.kind (values_of (here_fields row) column.id.0)
+    → AreReadable column.kind (values_of row column.id.0)
 readable_at laws engine side label name c row column beside found at named =
     let held = beside.held in
     let is = row_read_at laws engine side label c row beside found at in
-    readable c.schema.columns (here_fields row) name column (distinct_at side.state label c beside.formed found) is.fits is.small
+    readable c.schema.columns row name column (distinct_at side.state label c beside.formed found) is.fits is.small
     (laws.built engine held.state side.session side.state label c held.holds held.in_step found) named
 
 long_type : (kind : ColType) → is_type_long kind ≡ true → kind ≡ Long

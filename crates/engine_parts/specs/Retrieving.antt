@@ -7,7 +7,7 @@ use Rattle.jet_base.specs.declared.words.ColType.{ColType}
 use Rattle.jet_base.specs.declared.words.ColType.TheVariants.{Long}
 use Rattle.column_set.specs.declared.columns.Column.{Column}
 use Rattle.column_set.specs.RecordValues.{RecordFields, value_fits}
-use Rattle.column_set.specs.Rows.{RowFields, are_short, here_fields}
+use Rattle.column_set.specs.Rows.{are_short}
 use Rattle.index_derive.specs.declared.entries.Place.{Place}
 use Rattle.index_derive.specs.declared.rules.Schema.{Schema}
 use Rattle.index_derive.specs.Entries.{is_escrow_column}
@@ -24,9 +24,9 @@ use Rattle.engine_parts.specs.declared.record_calls.Shown.TheVariants as shown
 abbrev pub place_refusals : (List ℕ → Option RecordFields) → Place → Refusals
 place_refusals records place = (not (is_on place), jet.NoCurrentRecord) ∷ (is_none (records (place_bookmark place)), jet.RecordDeleted) ∷ []
 
--- the row of the record at a place, or why there is none
-abbrev pub IsRecordAt : (List ℕ → Option RecordFields) → Place → Result RowFields Jet → Type 0
-IsRecordAt records place (Ok row) = IsTrue (is_on place) × (records (place_bookmark place) ≡ Some (here_fields row))
+-- the record at a place, or why there is none
+abbrev pub IsRecordAt : (List ℕ → Option RecordFields) → Place → Result RecordFields Jet → Type 0
+IsRecordAt records place (Ok row) = IsTrue (is_on place) × (records (place_bookmark place) ≡ Some row)
 IsRecordAt records place (Err refusal) = first_refusal (place_refusals records place) ≡ Some refusal
 
 -- ---- its values

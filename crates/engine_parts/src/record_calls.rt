@@ -2,7 +2,6 @@
 
 ghost use Rattle.std.specs.Prelude.{◌≡◌, ◌≤◌, ℕ, Some, None, IfOk, IsTrue, false, true, length};
 ghost use Rattle.column_set.specs.RecordValues.{value_fits, values_of};
-ghost use Rattle.column_set.specs.Rows.{here_fields};
 ghost use Rattle.cursor_nav.specs.Places.{is_on};
 ghost use Rattle.index_derive.specs.Entries.{is_escrow_column};
 ghost use Rattle.session_local.specs.declared.request.Request.TheVariants as call;
@@ -19,9 +18,10 @@ ghost use Rattle.engine_parts.specs.Retrieving.{AreReadable, HasRoom, IsColumnOf
 use crate::answers::refusal;
 use crate::engine::Engine;
 use crate::laws::a_session_reads_its_view;
-use column_set::{Column, RowRef, Values, column_named};
+use column_set::{Column, Values, column_named};
 use index_derive::Place;
 use jet_base::{CursorId, Jet, Name, Session};
+use kept_rows::ShownRow;
 use session_local::{Local, OpenCursor, Reply, Value};
 use stored_value::{is_number_type, number_of};
 
@@ -67,8 +67,8 @@ impl Engine {
         }
     }
 
-    // The row of the record at the cursor that the session is shown, read in place.
-    fn current_row(&self, session: Session, cursor: &OpenCursor) -> Result<RowRef<'_>, Jet>
+    // The record at the cursor that the session is shown, read in place.
+    fn current_row(&self, session: Session, cursor: &OpenCursor) -> Result<ShownRow<'_>, Jet>
         ensures { IsRecordAt (shown_for self.now session.0 cursor.now.cursor.table) cursor.now.cursor.place result }
     {
         match cursor.cursor().place() {
@@ -89,14 +89,14 @@ impl Engine {
         &self,
         session: Session,
         cursor: &OpenCursor,
-        row: &'a RowRef<'_>,
+        row: &'a ShownRow<'_>,
         column: &Column,
         sequence: u32,
     ) -> Result<Shown<'a>, Jet>
         requires on { IsTrue (is_on cursor.now.cursor.place) }
-        requires row { IsRowAt self.now session.0 cursor.now (here_fields row.now) }
+        requires row { IsRowAt self.now session.0 cursor.now row.now }
         requires column { IsColumnOf cursor.now.schema column.now }
-        requires values { AreReadable column.now.kind (values_of (here_fields row.now) column.now.id.0) }
+        requires values { AreReadable column.now.kind (values_of row.now column.now.id.0) }
         ensures answer { (asked : Asked) (most : ℕ) → (column_shown asked sequence most (fields_at self.now session.0 cursor.now) column.now).answered ≡ answered_or most result }
         ensures room { IfOk result HasRoom }
     {
@@ -112,11 +112,11 @@ impl Engine {
         &self,
         session: Session,
         cursor: &OpenCursor,
-        row: &RowRef<'_>,
+        row: &ShownRow<'_>,
         column: &Column,
     ) -> i32
         requires on { IsTrue (is_on cursor.now.cursor.place) }
-        requires row { IsRowAt self.now session.0 cursor.now (here_fields row.now) }
+        requires row { IsRowAt self.now session.0 cursor.now row.now }
         requires sum { is_escrow_column cursor.now.schema column.now.id.0 ≡ true }
         ensures { result ≡ escrow_value (fields_at self.now session.0 cursor.now) column.now.id.0 }
     {
@@ -131,9 +131,9 @@ impl Engine {
 }
 
 // A value of the column in the row, the first being 1; for 0 the count of its values.
-fn value_in<'a>(row: &'a RowRef<'_>, column: &Column, sequence: u32) -> Result<Shown<'a>, Jet>
-    requires { AreReadable column.now.kind (values_of (here_fields row.now) column.now.id.0) }
-    ensures answer { (asked : Asked) (most : ℕ) → (column_shown asked sequence most (here_fields row.now) column.now).answered ≡ answered_or most result }
+fn value_in<'a>(row: &'a ShownRow<'_>, column: &Column, sequence: u32) -> Result<Shown<'a>, Jet>
+    requires { AreReadable column.now.kind (values_of row.now column.now.id.0) }
+    ensures answer { (asked : Asked) (most : ℕ) → (column_shown asked sequence most row.now column.now).answered ≡ answered_or most result }
     ensures room { IfOk result HasRoom }
 {
     if sequence == 0 {

@@ -1,14 +1,14 @@
 //! The numbers in escrow columns.
 
 ghost use Rattle.std.specs.Prelude.{◌≡◌, true};
-ghost use Rattle.column_set.specs.Rows.{here_fields};
 ghost use Rattle.version_sums.specs.EscrowNumbers.{holds_number};
 ghost use Rattle.version_sums.specs.EscrowSums.{escrow_value, seen_value};
 ghost use Rattle.engine_parts.specs.Reading.{unseen_amounts};
 
 use crate::engine::Engine;
-use column_set::{RowRef, Values};
+use column_set::Values;
 use jet_base::{ColumnId, Session, TableId};
+use kept_rows::ShownRow;
 
 impl Engine {
     /// The number in an escrow column of a record as the session sees it, given the row that it is shown: the number there
@@ -18,11 +18,11 @@ impl Engine {
         session: Session,
         table: TableId,
         bookmark: &[u8],
-        row: &RowRef<'_>,
+        row: &ShownRow<'_>,
         column: ColumnId,
     ) -> i32
-        requires { holds_number (here_fields row.now) column.0 ≡ true }
-        ensures { result ≡ seen_value (escrow_value (here_fields row.now) column.0) (unseen_amounts self.now session.0 table.0 bookmark.now column.0) }
+        requires { holds_number row.now column.0 ≡ true }
+        ensures { result ≡ seen_value (escrow_value row.now column.0) (unseen_amounts self.now session.0 table.0 bookmark.now column.0) }
     {
         let reader = self.sessions.reader(session);
         let stored = stored_sum(row, column);
@@ -32,9 +32,9 @@ impl Engine {
 }
 
 // The number in a column of the row.
-fn stored_sum(row: &RowRef<'_>, column: ColumnId) -> i32
-    requires { holds_number (here_fields row.now) column.0 ≡ true }
-    ensures { result ≡ escrow_value (here_fields row.now) column.0 }
+fn stored_sum(row: &ShownRow<'_>, column: ColumnId) -> i32
+    requires { holds_number row.now column.0 ≡ true }
+    ensures { result ≡ escrow_value row.now column.0 }
 {
     let Some(bytes) = row.value(column, 0) else {
         unreachable!()

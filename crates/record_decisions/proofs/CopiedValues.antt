@@ -14,7 +14,6 @@ use Rattle.column_set.specs.declared.columns.Column.{Column}
 use Rattle.column_set.specs.Reading.{IsFront}
 use Rattle.column_set.specs.Record.{is_record}
 use Rattle.column_set.specs.RecordValues.{RecordFields, column_of_id, lookup_by_number, put_by_number, values_of, with_values}
-use Rattle.column_set.specs.Rows.{are_short, is_all_here}
 use Rattle.record_changes.proofs.Tests.{and_left, and_right, impossible, not_true, same_number, self_equal}
 use Rattle.session_local.specs.SessionSide.{are_distinct}
 use Rattle.session_local.specs.WellFormed.{number_of_column}
@@ -38,39 +37,27 @@ values_of-pushed fields column number values value =
     ∙ unwrapped (eq_by_cmp nat_cmp number column) (values ++ value ∷ []) (lookup_by_number number fields)
     ∙ ap (λ b. cond b (values ++ value ∷ []) (values_of fields number)) (unsigned_tied number column)
 
-short_at : (values : List (List ℕ)) (at : ℕ) → are_short values ≡ true → at < length values → length (get_or values at []) ≤ 255
-short_at [] at short low = absurd (omega (arith, low))
-short_at (value ∷ values) zero short low = le (and_left (nat_le (length value) 255) (are_short values) short)
-  where
-    le : nat_le (length value) 255 ≡ true → length value ≤ 255
-    le h = grind (arith, nat_tests)
-short_at (value ∷ values) (suc at) short low = short_at values at (and_right (nat_le (length value) 255) (are_short values) short) (omega (arith, low))
-
--- a front of a short value is the value
-value_whole : (bytes value : List ℕ) → length value ≤ 255 → IsFront bytes value → bytes ≡ value
-value_whole bytes value short (inl same) = same
-value_whole bytes value short (inr front) = absurd (omega (arith, front.0, ap length front.1, length-take (length bytes) value))
+-- a front of fewer than 1,024 bytes is the value
+pub whole : (bytes value : List ℕ) → length bytes < 1024 → IsFront bytes value → bytes ≡ value
+whole bytes value few (inl same) = same
+whole bytes value few (inr front) = absurd (omega (arith, front.0, few))
 
 -- The first values of the column stand behind those that it had, and one more after the next was put there.
-pub one-more : (first made new fields : RecordFields) (column at : ℕ) (bytes value : List ℕ) → are_short (values_of fields column) ≡ true
-    → (at < length (values_of fields column)) × IsFront bytes (get_or (values_of fields column) at []) → value ≡ bytes
+pub one-more : (first made new fields : RecordFields) (column at : ℕ) (value : List ℕ) → at < length (values_of fields column) → value ≡ get_or (values_of fields column) at []
     → ((number : ℕ) → values_of made number ≡ cond (number == column) (values_of first number ++ take at (values_of fields number)) (values_of first number))
     → new ≡ with_values made column (values_of made column ++ value ∷ [])
     → (number : ℕ) → values_of new number ≡ cond (number == column) (values_of first number ++ take (at + 1) (values_of fields number)) (values_of first number)
-one-more first made new fields column at bytes value short read same had is number =
+one-more first made new fields column at value low same had is number =
     ap (λ (f : RecordFields). values_of f number) is
     ∙ values_of-pushed made column number (values_of made column) value
     ∙ by (number == column) refl
   where
-    whole : value ≡ get_or (values_of fields column) at []
-    whole = same ∙ value_whole bytes (get_or (values_of fields column) at []) (short_at (values_of fields column) at short read.0) read.1
-
     behind : values_of made column ++ value ∷ [] ≡ values_of first column ++ take (at + 1) (values_of fields column)
     behind =
         ap (λ (values : List (List ℕ)). values ++ value ∷ []) (had column ∙ ap (λ b. cond b (values_of first column ++ take at (values_of fields column)) (values_of first column)) (self_equal column))
         ∙ append_assoc (values_of first column) (take at (values_of fields column)) (value ∷ [])
-        ∙ ap (λ (v : List ℕ). values_of first column ++ (take at (values_of fields column) ++ v ∷ [])) whole
-        ∙ ap (λ (values : List (List ℕ)). values_of first column ++ values) (sym (take_more (values_of fields column) at [] read.0))
+        ∙ ap (λ (v : List ℕ). values_of first column ++ (take at (values_of fields column) ++ v ∷ [])) same
+        ∙ ap (λ (values : List (List ℕ)). values_of first column ++ values) (sym (take_more (values_of fields column) at [] low))
 
     by : (b : Bool) → (number == column) ≡ b
         → cond b (values_of made column ++ value ∷ []) (values_of made number) ≡ cond b (values_of first number ++ take (at + 1) (values_of fields number)) (values_of first number)
@@ -148,17 +135,6 @@ column-more columns i column made new fields distinct low is had put number =
     by false e =
         had number
         ∙ sym (ap (λ b. cond b (values_of fields number) []) (none (is_number_of (take i columns) number) (number_of_column column == number) (apart number (number_of_column column) e)))
-
-either_short : (b : Bool) (values : List (List ℕ)) (found : Option (List (List ℕ))) → are_short values ≡ true → are_short (unwrap_or found []) ≡ true → are_short (unwrap_or (cond b (Some values) found) []) ≡ true
-either_short true values found here rest = here
-either_short false values found here rest = rest
-
--- each value of a column is short where each of the record is
-pub column-short : (fields : RecordFields) (column : ℕ) → is_all_here fields ≡ true → are_short (values_of fields column) ≡ true
-column-short [] column short = refl
-column-short (field ∷ fields) column short =
-    either_short (eq_by_cmp nat_cmp column field.0) field.1 (lookup_by_number column fields) (and_left (are_short field.1) (is_all_here fields) short)
-    (column-short fields column (and_right (are_short field.1) (is_all_here fields) short))
 
 -- ---- all columns
 

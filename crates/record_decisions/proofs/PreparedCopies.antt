@@ -10,7 +10,6 @@ use Rattle.jet_base.specs.declared.words.Prepare.TheVariants as prepare
 use Rattle.column_set.specs.declared.columns.Column.{Column}
 use Rattle.column_set.specs.Record.{is_record}
 use Rattle.column_set.specs.RecordValues.{RecordFields, column_of_id, record_fits, value_fits, values_fit}
-use Rattle.column_set.specs.Rows.{are_short}
 use Rattle.index_derive.specs.declared.log.Step.{Step}
 use Rattle.common_lemmas.proofs.Found.{all_found}
 use Rattle.database_state.specs.Refusals.{Refusals, first_refusal}
@@ -33,8 +32,6 @@ use Rattle.session_local.specs.Run.{flushes_step}
 use Rattle.session_local.specs.SessionSide.{SessionSide, are_distinct}
 use Rattle.session_local.specs.WellFormed.{IsWellFormed, is_well_formed_cursor, is_well_formed_schema, is_well_formed_update, number_of_column, stands_in}
 use Rattle.agreeing_sessions.specs.InStep.{IsInStep}
-use Rattle.built_calls.specs.BuiltTables.{is_built_column}
-use Rattle.built_calls.proofs.BuiltColumns.{not_long, values_short}
 use Rattle.engine_versions.specs.EngineState.{EngineState}
 use Rattle.engine_versions.specs.HoldsState.{HoldsState}
 use Rattle.engine_parts.specs.Deciding.{Decides, IsBeside, IsDecision, IsLawfulStep}
@@ -51,28 +48,12 @@ use Rattle.decision_lemmas.proofs.Refusing.{asked_by, answer-begun, answer-is, a
 
 -- ---- a record that is copied
 
--- the laws that it rests on: each record fits its columns, all of which are built
+-- the law that it rests on: each record fits its columns
 abbrev pub SeesRows : Type 0
 SeesRows =
     (engine : EngineState) (state : DatabaseState) (session : ℕ) (local : LocalState) (label : ℕ) (c : OpenCursor) → HoldsState engine state → IsInStep state session local → cursor_labelled local label ≡ Some c
     → (bookmark : List ℕ) (row seen : RecordFields) → shown_for engine session c.cursor.table bookmark ≡ Some row → record_for engine session c.cursor.table bookmark ≡ Some seen
     → IsRowOf c.schema (unseen_amounts engine session c.cursor.table bookmark) row seen
-
-abbrev pub SeesBuilt : Type 0
-SeesBuilt =
-    (engine : EngineState) (state : DatabaseState) (session : ℕ) (local : LocalState) (label : ℕ) (c : OpenCursor) → HoldsState engine state → IsInStep state session local → cursor_labelled local label ≡ Some c
-    → IsTrue (list_all is_built_column c.schema.columns)
-
--- the values of a column that is built are short
-field_short : (columns : List Column) (number : ℕ) (values : List (List ℕ)) → list_all is_built_column columns ≡ true → stands_in columns (number, values) ≡ true → are_short values ≡ true
-field_short columns number values built stands = by (column_of_id columns number) refl stands
-  where
-    by : (found : Option Column) → column_of_id columns number ≡ found → elim found [ Some column ↦ values_fit column values | None ↦ false ] ≡ true → are_short values ≡ true
-    by None e h = impossible h
-    by (Some column) e h =
-        values_short column.kind values
-        (not_long column (all_found is_built_column (λ (c : Column). c.id.0 == number) columns column built e))
-        (and_right (column.multi || nat_le (length values) 1) (list_all (value_fits column.kind) values) h)
 
 field_named : (columns : List Column) (number : ℕ) (values : List (List ℕ)) → stands_in columns (number, values) ≡ true → is_some (column_of_id columns number) ≡ true
 field_named columns number values stands = by (column_of_id columns number) stands
@@ -90,12 +71,11 @@ distinct_at local label c formed found =
     and_left _ _ (and_left _ _ (and_left _ _
     (and_left (is_well_formed_schema c.schema) (is_well_formed_update c.schema.columns c.prepared) (all_found is_well_formed_cursor (λ (c : OpenCursor). c.label == label) local.cursors c formed found))))
 
-copied : (columns : List Column) (values : RecordFields) → is_record values ≡ true → record_fits columns values ≡ true → list_all is_built_column columns ≡ true → are_distinct (map number_of_column columns) ≡ true → IsCopied columns values
-copied columns values formed fits built distinct =
+copied : (columns : List Column) (values : RecordFields) → is_record values ≡ true → record_fits columns values ≡ true → are_distinct (map number_of_column columns) ≡ true → IsCopied columns values
+copied columns values formed fits distinct =
     let stand : list_all (stands_in columns) values ≡ true = and_left _ _ fits in
     record {
       formed = formed;
-      short = all_mono (stands_in columns) (λ field. are_short field.1) (λ field. field_short columns field.0 field.1 built) values stand;
       named = all_mono (stands_in columns) (λ field. is_some (column_of_id columns field.0)) (λ field. field_named columns field.0 field.1) values stand;
       distinct = distinct;
     }
@@ -118,9 +98,9 @@ seen_at engine session c row e = by (shown_for engine session c.cursor.table (bo
     by (Some values) e = (refl, λ h. sums_formed values (map (λ (sum : ℕ × ℤ). (sum.0, neg_ℤ sum.1)) sums) (ap is_record (same values row e) ∙ h))
 
 -- the row of the record under the cursor can be copied, and tells of the record that the session sees
-pub copied-at : SeesRows → SeesBuilt → (engine : EngineState) (side : SessionSide) (label session : ℕ) (c : OpenCursor) → IsBeside engine side → HasFormedRecords engine → cursor_labelled side.state label ≡ Some c → session ≡ side.session
+pub copied-at : SeesRows → (engine : EngineState) (side : SessionSide) (label session : ℕ) (c : OpenCursor) → IsBeside engine side → HasFormedRecords engine → cursor_labelled side.state label ≡ Some c → session ≡ side.session
     → IfSome (shown_for engine session c.cursor.table (bookmark_at c)) (IsCopiedAs engine session c)
-copied-at rows built engine side label session c beside formed found own =
+copied-at rows engine side label session c beside formed found own =
     subst (λ s. IfSome (shown_for engine s c.cursor.table (bookmark_at c)) (IsCopiedAs engine s c)) (sym own)
     (by (shown_for engine side.session c.cursor.table (bookmark_at c)) refl (formed side.session c.cursor.table (bookmark_at c)))
   where
@@ -131,7 +111,7 @@ copied-at rows built engine side label session c beside formed found own =
         let seen = seen_at engine side.session c row e in
         let is = rows engine held.state side.session side.state label c held.holds held.in_step found (bookmark_at c) row (values_seen engine side.session c) e seen.0 in
         record {
-          copied = copied c.schema.columns row h is.fits (built engine held.state side.session side.state label c held.holds held.in_step found) (distinct_at side.state label c beside.formed found);
+          copied = copied c.schema.columns row h is.fits (distinct_at side.state label c beside.formed found);
           seen = is;
           formed = seen.1 h;
         }

@@ -4,7 +4,6 @@ use Rattle.std.specs.List.{list_all}
 use Rattle.column_set.specs.declared.columns.Column.{Column}
 use Rattle.column_set.specs.Record.{is_record}
 use Rattle.column_set.specs.RecordValues.{RecordFields, column_of_id, values_of}
-use Rattle.column_set.specs.Rows.{is_all_here}
 use Rattle.database_state.specs.Refusals.{Refusals}
 use Rattle.session_local.specs.declared.prepared.Prepared.{Prepared}
 use Rattle.session_local.specs.Local.{LocalState, OpenCursor, PreparedUpdate, inserting, replacing}
@@ -45,19 +44,18 @@ copy_in engine session c = prepared_refusals c ++ current_in engine session c
 
 -- ---- records that are copied column by column
 
--- the columns of a record whose row a session is shown rise, and each has a value
+-- the columns of a record that a session is shown rise, and each has a value
 abbrev pub HasFormedRecords : EngineState → Type 0
 HasFormedRecords engine = (session table : ℕ) (bookmark : List ℕ) → IfSome (shown_for engine session table bookmark) (λ fields. IsTrue (is_record fields))
 
--- What is asked of the record: its columns rise and have values, which stand in their row, and each is a column of the table.
--- No two columns of the table have one number.
+-- What is asked of the record: its columns rise and have values, and each is a column of the table. No two columns of the table
+-- have one number.
 pub record IsCopied (columns : List Column) (fields : RecordFields) : Type 0 where
   pub formed : IsTrue (is_record fields)
-  pub short : IsTrue (is_all_here fields)
   pub named : IsTrue (list_all (λ field. is_some (column_of_id columns field.0)) fields)
   pub distinct : are_distinct (map number_of_column columns) ≡ true
 
--- The row is copied column by column, and tells of the record that the session sees, whose columns rise and have values too.
+-- The record that is shown is copied column by column, and tells of the record that the session sees, whose columns rise and have values too.
 pub record IsCopiedAs (engine : EngineState) (session : ℕ) (c : OpenCursor) (row : RecordFields) : Type 0 where
   pub copied : IsCopied c.schema.columns row
   pub seen : IsRowAt engine session c row

@@ -1,7 +1,6 @@
 //! EscrowUpdate.
 
 ghost use Rattle.std.specs.Prelude.{◌≡◌, Some, None, true, false, IfOk, IfSome};
-ghost use Rattle.column_set.specs.Rows.{here_fields};
 ghost use Rattle.database_state.specs.Refusals.{first_refusal};
 ghost use Rattle.index_derive.specs.Entries.{is_escrow_column};
 ghost use Rattle.session_local.specs.declared.request.Request.TheVariants as call;

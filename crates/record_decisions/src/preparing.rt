@@ -1,9 +1,8 @@
 //! PrepareUpdate `replace` and `insertcopy`, which copy the record at the cursor.
 
-ghost use Rattle.std.specs.Prelude.{◌≡◌, ◌++◌, ℕ, false, Some, None, IfOk, IfSome, IsTrue, OnOk, is_some};
+ghost use Rattle.std.specs.Prelude.{◌≡◌, ◌<◌, ◌++◌, ℕ, false, [], length, Some, None, IfOk, IfSome, OnOk, is_some, slice_index_or};
 ghost use Rattle.jet_base.specs.declared.words.Prepare.TheVariants as prepare;
 ghost use Rattle.column_set.specs.RecordValues.{values_of};
-ghost use Rattle.column_set.specs.Rows.{are_short, here_fields};
 ghost use Rattle.database_state.specs.Refusals.{first_refusal};
 ghost use Rattle.session_local.specs.declared.request.Request.TheVariants as call;
 ghost use Rattle.session_local.specs.declared.reply.Value.TheVariants.{Nothing};
@@ -19,14 +18,18 @@ use crate::changing::{
 };
 use crate::laws::{changes_are_refused_alike, records_are_formed};
 use crate::sums::{record_seen, with_sums_at_zero};
-use column_set::{Bookmark, Change, Column, Record, RowRef, Values};
+use column_set::{Bookmark, Change, Column, Record, Values};
 use engine_parts::{Engine, a_session_reads_its_view, refused};
 use index_derive::Step;
 use jet_base::{ColumnId, CursorId, Jet, Octets, OutOfMemory, Session};
+use kept_rows::ShownRow;
 use lawful_answers::the_step_of_a_replace_is_lawful;
 use record_edit::CopyBuffer;
 use session_local::{Decision, Local, OpenCursor, Prepared, Purpose, Reply, Value};
 use std::alloc::Global;
+
+/// A value that is read where it lies is given whole, or as this many of its first bytes at least.
+const FIRST_BYTES: usize = 1024;
 
 /// PrepareUpdate `replace`: the record at the cursor is locked against the writes of others, and copied.
 pub fn prepare_replace(
@@ -207,14 +210,14 @@ fn new_record_at(
     }
 }
 
-/// A copy of a row that is read in place.
+/// A copy of a record that is read in place, each value whole.
 pub(crate) fn record_of_row(
     alloc: Global,
     columns: &[Column],
-    row: &RowRef<'_>,
+    row: &ShownRow<'_>,
 ) -> Result<Record, OutOfMemory>
-    requires { IsCopied columns.now (here_fields row.now) }
-    ensures { IfOk result (λ made. made ≡ here_fields row.now) }
+    requires { IsCopied columns.now row.now }
+    ensures { IfOk result (λ made. made ≡ row.now) }
 {
     let mut made = Record::new(alloc);
     for column in columns {
@@ -232,17 +235,13 @@ pub(crate) fn record_of_row(
 fn copy_values(
     alloc: Global,
     column: ColumnId,
-    row: &RowRef<'_>,
+    row: &ShownRow<'_>,
     made: &mut Record,
 ) -> Result<(), OutOfMemory>
-    requires { IsTrue (are_short (values_of (here_fields row.now) column.0)) }
-    ensures { OnOk result ((number : ℕ) → values_of made.new number ≡ values_with made.old (here_fields row.now) column.0 number) }
+    ensures { OnOk result ((number : ℕ) → values_of made.new number ≡ values_with made.old row.now column.0 number) }
 {
     for at in 0..row.count(column) {
-        let Some(bytes) = row.value(column, at) else {
-            unreachable!()
-        };
-        match Octets::from_slice(alloc, bytes) {
+        match copied_value(alloc, column, at, row) {
             Ok(value) => match made.push_value(column, value) {
                 Ok(()) => {}
                 Err(fault) => return Err(fault),
@@ -251,6 +250,45 @@ fn copy_values(
         }
     }
     Ok(())
+}
+
+// A copy of the column's value at a place, counted from 0.
+fn copied_value(
+    alloc: Global,
+    column: ColumnId,
+    at: usize,
+    row: &ShownRow<'_>,
+) -> Result<Octets, OutOfMemory>
+    requires { at < length (values_of row.now column.0) }
+    ensures { IfOk result (λ made. made ≡ slice_index_or (values_of row.now column.0) at []) }
+{
+    let Some(front) = row.value(column, at) else {
+        unreachable!()
+    };
+    // Most often that is all of it.
+    if front.len() < FIRST_BYTES {
+        Octets::from_slice(alloc, front)
+    } else {
+        value_read(alloc, column, at, row)
+    }
+}
+
+// The same of a value of any length, which is read into memory of its own.
+fn value_read(
+    alloc: Global,
+    column: ColumnId,
+    at: usize,
+    row: &ShownRow<'_>,
+) -> Result<Octets, OutOfMemory>
+    requires { at < length (values_of row.now column.0) }
+    ensures { IfOk result (λ made. made ≡ slice_index_or (values_of row.now column.0) at []) }
+{
+    let Some((_, size)) = row.read(column, at, &mut []) else {
+        unreachable!()
+    };
+    let mut bytes = vec![in alloc; 0; size]?;
+    row.read(column, at, bytes.as_mut_slice());
+    Ok(Octets::new(bytes))
 }
 
 // The decision that the update is prepared.

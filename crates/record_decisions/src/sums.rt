@@ -2,7 +2,6 @@
 
 ghost use Rattle.std.specs.Prelude.{◌≡◌, ◌∷◌, [], ℕ, true, IfOk, OnOk};
 ghost use Rattle.column_set.specs.RecordValues.{values_of, with_values};
-ghost use Rattle.column_set.specs.Rows.{here_fields};
 ghost use Rattle.index_derive.specs.Entries.{is_escrow_column};
 ghost use Rattle.session_local.specs.RecordCalls.{with_sums_at_zero};
 ghost use Rattle.engine_parts.specs.Reading.{IsRowAt};
@@ -10,21 +9,22 @@ ghost use Rattle.record_decisions.specs.Preparing.{IsCopiedAs, values_seen};
 
 use crate::changing::bookmark_at;
 use crate::preparing::record_of_row;
-use column_set::{Column, Record, RowRef};
+use column_set::{Column, Record};
 use engine_parts::Engine;
 use jet_base::{ColumnId, Octets, OutOfMemory, Session};
+use kept_rows::ShownRow;
 use session_local::OpenCursor;
 use std::alloc::Global;
 
-/// The record that the session sees at the cursor, given the row that it is shown: a copy of the row, without the sums of others
+/// The record that the session sees at the cursor, given the one that it is shown: a copy of it, without the sums of others
 /// that the session does not see.
 pub(crate) fn record_seen(
     engine: &Engine,
     session: Session,
     found: &OpenCursor,
-    row: &RowRef<'_>,
+    row: &ShownRow<'_>,
 ) -> Result<Record, OutOfMemory>
-    requires { IsCopiedAs engine.now session.0 found.now (here_fields row.now) }
+    requires { IsCopiedAs engine.now session.0 found.now row.now }
     ensures { IfOk result (λ made. made ≡ values_seen engine.now session.0 found.now) }
 {
     let columns = found.schema().columns.as_slice();
@@ -44,11 +44,11 @@ fn put_sum(
     engine: &Engine,
     session: Session,
     found: &OpenCursor,
-    row: &RowRef<'_>,
+    row: &ShownRow<'_>,
     column: ColumnId,
     made: &mut Record,
 ) -> Result<(), OutOfMemory>
-    requires row { IsRowAt engine.now session.0 found.now (here_fields row.now) }
+    requires row { IsRowAt engine.now session.0 found.now row.now }
     requires sum { is_escrow_column found.now.schema column.0 ≡ true }
     ensures { OnOk result (made.new ≡ with_values made.old column.0 (values_of (values_seen engine.now session.0 found.now) column.0)) }
 {

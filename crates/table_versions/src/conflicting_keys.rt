@@ -1,7 +1,6 @@
 //! Keys of records: conflicts over them with the changes of other sessions, and keys that another record of the view has.
 
-ghost use Rattle.std.specs.Prelude.{◌≡◌, ℕ, Bool, List, ◌≤◌, ◌<◌, ◌&&◌, ◌||◌, false, length, map, slice_get, true, IsSomeAnd, Some, option_copied, option_map};
-ghost use Rattle.column_set.specs.Rows.{here_fields};
+ghost use Rattle.std.specs.Prelude.{◌≡◌, ℕ, Bool, List, ◌≤◌, ◌<◌, ◌&&◌, ◌||◌, false, length, map, slice_get, true, IsSomeAnd, Some, option_copied};
 ghost use Rattle.database_state.specs.Conflicts.{yields_key};
 ghost use Rattle.database_state.specs.Puts.{is_replaced};
 ghost use Rattle.database_state.specs.Table.{record_in, rule_with_id, schema_of, table_with_id};
@@ -13,14 +12,15 @@ ghost use Rattle.versioned_tables.specs.HeldRecords.{has_key_conflict};
 ghost use Rattle.table_versions.specs.KeyConflicts.{AreRowsBefore, conflicts_under, is_taken_for, yields_before_change};
 ghost use Rattle.stored_variants.specs.RecordRows.{held_record};
 
+use crate::reading::in_place;
 use crate::store::TableVersions;
 use crate::walking::entry_behind;
-use column_set::RowRef;
 use index_derive::derive::yields;
 use index_derive::{IndexRule, Place, Schema, a_primary_index_has_one_entry};
 use jet_base::{IndexId, TableId};
+use kept_rows::ShownRow;
 use key_normal::Key;
-use variant_trees::in_place;
+use table_trees::TableTrees;
 use version_store::{Reader, Versions};
 
 impl TableVersions {
@@ -117,6 +117,7 @@ impl TableVersions {
     {
         let newest = has_key(rule, schema, self.newest(table, bookmark), key);
         conflict_in(
+            &self.trees,
             &self.versions,
             reader,
             rule,
@@ -185,10 +186,10 @@ fn has_concurrent(versions: &Versions, reader: Reader, table: TableId, bookmark:
 }
 
 // Whether there is a row, and it has the key in the index.
-pub(crate) fn has_key(rule: &IndexRule, schema: &Schema, row: Option<RowRef<'_>>, key: &Key) -> bool
+pub(crate) fn has_key(rule: &IndexRule, schema: &Schema, row: Option<ShownRow<'_>>, key: &Key) -> bool
     requires legal { is_legal rule.now schema.now ≡ true }
     requires short { rule.now.key_most ≤ 255 }
-    ensures { result ≡ yields_key rule.now schema.now key.now (option_map here_fields row.entry) }
+    ensures { result ≡ yields_key rule.now schema.now key.now row.entry }
 {
     match row {
         Some(row) => yields(rule, schema, &row, key),
@@ -198,6 +199,7 @@ pub(crate) fn has_key(rule: &IndexRule, schema: &Schema, row: Option<RowRef<'_>>
 
 // Whether a key conflict stands with the changes of a record, given whether its newest row has the key.
 fn conflict_in(
+    trees: &TableTrees,
     versions: &Versions,
     reader: Reader,
     rule: &IndexRule,
@@ -215,7 +217,7 @@ fn conflict_in(
     let mut after = newest;
     let mut found = versions.newest_change(table, bookmark);
     while let Some(place) = found {
-        let before = yields_before(versions, rule, schema, key, place, after);
+        let before = yields_before(trees, versions, rule, schema, key, table, place, after);
         let concurrent = versions.is_concurrent_at(place, reader);
         if is_met(concurrent, before, after) {
             return true;
@@ -235,10 +237,12 @@ fn is_met(concurrent: bool, before: bool, after: bool) -> bool
 
 // Whether the row before the change at a place has the key, given whether the one after it has.
 fn yields_before(
+    trees: &TableTrees,
     versions: &Versions,
     rule: &IndexRule,
     schema: &Schema,
     key: &Key,
+    table: TableId,
     place: usize,
     after: bool,
 ) -> bool
@@ -249,7 +253,8 @@ fn yields_before(
     ensures { (h : HeldChange) → slice_get versions.now place ≡ Some h → result ≡ yields_before_change rule.now schema.now key.now after h }
 {
     if versions.is_standing_at(place) {
-        has_key(rule, schema, in_place(versions.before_at(place)), key)
+        let before = in_place(trees, table, versions.before_at(place));
+        has_key(rule, schema, before, key)
     } else {
         after
     }

@@ -2,7 +2,6 @@
 
 ghost use Rattle.std.specs.Prelude.{◌≡◌, ℕ, List, IfSome, IsTrue, option_copied, option_map};
 ghost use Rattle.column_set.specs.Record.{is_record};
-ghost use Rattle.column_set.specs.Rows.{here_fields};
 ghost use Rattle.database_state.specs.Table.{record_in};
 ghost use Rattle.version_store.specs.declared.calls.Reader.{Reader};
 ghost use Rattle.version_sums.specs.EscrowSums.{amounts_to, seen_value};
@@ -11,26 +10,29 @@ ghost use Rattle.versioned_tables.specs.HeldSums.{unseen_sums};
 ghost use Rattle.stored_variants.specs.RecordRows.{IsRecordRow, record_of, row_in_node};
 
 use crate::store::TableVersions;
-use column_set::RowRef;
 use jet_base::{ColumnId, TableId};
-use variant_trees::{in_place, row_in_node};
+use kept_rows::ShownRow;
+use long_rows::rows_without_long_values;
+use table_trees::TableTrees;
+use variant_trees::row_in_node;
 use version_store::{Reader, Variant};
 use versioned_tables::an_unseen_sum_is_that_of_the_unseen_amounts;
 
 impl TableVersions {
-    /// The record that the reader sees under a bookmark, read in place: the one before the oldest put or drop that it does not
-    /// see, or else the newest one.
-    pub fn look_up(&self, table: TableId, bookmark: &[u8], reader: Reader) -> Option<RowRef<'_>>
-        ensures { option_map here_fields result ≡ seen_record table.0 bookmark.now reader (record_in self.now.store.tables table.0 bookmark.now) self.now.store.held }
+    /// The record that the reader sees under a bookmark, read in place with its long values: the one before the oldest put or drop
+    /// that it does not see, or else the newest one. It takes no memory.
+    pub fn look_up(&self, table: TableId, bookmark: &[u8], reader: Reader) -> Option<ShownRow<'_>>
+        ensures { result ≡ seen_record table.0 bookmark.now reader (record_in self.now.store.tables table.0 bookmark.now) self.now.store.held }
     {
-        in_place(self.seen_row(table, bookmark, reader))
+        let row = self.seen_row(table, bookmark, reader);
+        in_place(&self.trees, table, row)
     }
 
-    /// The newest record under a bookmark, read in place.
-    pub fn newest(&self, table: TableId, bookmark: &[u8]) -> Option<RowRef<'_>>
-        ensures { option_map here_fields result ≡ record_in self.now.store.tables table.0 bookmark.now }
+    /// The newest record under a bookmark, read in place with its long values. It takes no memory.
+    pub fn newest(&self, table: TableId, bookmark: &[u8]) -> Option<ShownRow<'_>>
+        ensures { result ≡ record_in self.now.store.tables table.0 bookmark.now }
     {
-        in_place(self.newest_row(table, bookmark))
+        in_place(&self.trees, table, self.newest_row(table, bookmark))
     }
 
     /// The number that a reader sees in an escrow column of a record, where the record that it is shown has this one: without the
@@ -79,5 +81,21 @@ impl TableVersions {
     {
         self.trees.nodes_are_in_order();
         row_in_node(self.trees.get(table, bookmark))
+    }
+}
+
+// The record of a row of a table, read where it lies. The trees keep no value of a row that keeps all its values.
+pub(crate) fn in_place<'a>(
+    trees: &'a TableTrees,
+    table: TableId,
+    row: Option<&'a [u8]>,
+) -> Option<ShownRow<'a>>
+    requires { IfSome (option_copied row) IsRecordRow }
+    ensures { result ≡ option_map record_of (option_copied row.entry) }
+{
+    rows_without_long_values();
+    match row {
+        Some(row) => Some(ShownRow::new(trees, table, row)),
+        None => None,
     }
 }

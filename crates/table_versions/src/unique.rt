@@ -1,11 +1,10 @@
 //! What an update asks of a unique index.
 
-ghost use Rattle.std.specs.Prelude.{◌≡◌, ℕ, ◌≤◌, ◌&&◌, not, true, List, [], ◌∷◌, IsOk, IsSomeAnd, Option, Some, option_copied, option_map};
+ghost use Rattle.std.specs.Prelude.{◌≡◌, ℕ, ◌≤◌, ◌&&◌, not, true, List, [], ◌∷◌, IsOk, IsSomeAnd, Option, Some, option_copied};
 ghost use Rattle.std.specs.List.{AllByRecursion, list_any};
 ghost use Rattle.jet_base.specs.declared.replies.Jet.TheVariants as jet;
 ghost use Rattle.column_set.specs.RecordValues.{RecordFields};
 ghost use Rattle.column_set.specs.Refusals.{first_refusal};
-ghost use Rattle.column_set.specs.Rows.{here_fields};
 ghost use Rattle.database_state.specs.Conflicts.{has_key_conflict, yields_key};
 ghost use Rattle.database_state.specs.Puts.{is_taken, new_keys, replaced_record};
 ghost use Rattle.database_state.specs.State.{DatabaseState, PastChange, transaction_of};
@@ -22,10 +21,11 @@ ghost use Rattle.table_versions.specs.KeyConflicts.{has_conflict_over, is_taken_
 
 use crate::conflicting_keys::is_replaced;
 use crate::store::TableVersions;
-use column_set::{RowRef, Values};
+use column_set::Values;
 use index_derive::derive::{next_entry, yields};
 use index_derive::{IndexRule, Schema, a_primary_index_has_one_entry, entries_rise, primary_key};
 use jet_base::{Jet, TableId};
+use kept_rows::ShownRow;
 use key_normal::Key;
 use version_store::Reader;
 use versioned_tables::{
@@ -177,14 +177,14 @@ impl TableVersions {
         table: TableId,
         schema: &Schema,
         rule: &IndexRule,
-        seen: &Option<RowRef<'_>>,
+        seen: &Option<ShownRow<'_>>,
         key: &Key,
     ) -> bool
         requires named { IsSomeAnd (table_with_id self.now.store.tables table.0) (λ t. schema.now ≡ schema_of t) }
         requires rule { rule_with_id schema.now rule.now.id.0 ≡ Some rule.now }
         requires legal { is_legal rule.now schema.now ≡ true }
         requires short { rule.now.key_most ≤ 255 }
-        ensures { result ≡ (not (yields_key rule.now schema.now key.now (option_map here_fields seen.now)) && has_conflict_over reader self.now.store table.0 rule.now schema.now key.now) }
+        ensures { result ≡ (not (yields_key rule.now schema.now key.now seen.now) && has_conflict_over reader self.now.store table.0 rule.now schema.now key.now) }
     {
         if lacks_key(rule, schema, seen, key) {
             self.key_conflict(reader, table, schema, rule, key)
@@ -194,8 +194,8 @@ impl TableVersions {
     }
 
     // The row that the reader sees under the bookmark, where one is given.
-    fn replaced_row(&self, reader: Reader, table: TableId, own: Option<&[u8]>) -> Option<RowRef<'_>>
-        ensures { option_map here_fields result ≡ replaced_seen reader self.now.store table.0 (option_copied own.entry) }
+    fn replaced_row(&self, reader: Reader, table: TableId, own: Option<&[u8]>) -> Option<ShownRow<'_>>
+        ensures { result ≡ replaced_seen reader self.now.store table.0 (option_copied own.entry) }
     {
         match own {
             Some(own) => self.look_up(table, own, reader),
@@ -232,10 +232,10 @@ impl TableVersions {
 }
 
 // Whether there is no row, or it lacks the key in the index.
-fn lacks_key(rule: &IndexRule, schema: &Schema, row: &Option<RowRef<'_>>, key: &Key) -> bool
+fn lacks_key(rule: &IndexRule, schema: &Schema, row: &Option<ShownRow<'_>>, key: &Key) -> bool
     requires legal { is_legal rule.now schema.now ≡ true }
     requires short { rule.now.key_most ≤ 255 }
-    ensures { result ≡ not (yields_key rule.now schema.now key.now (option_map here_fields row.now)) }
+    ensures { result ≡ not (yields_key rule.now schema.now key.now row.now) }
 {
     match row {
         Some(row) => !yields(rule, schema, row, key),

@@ -16,7 +16,7 @@ use Rattle.record_decisions.proofs.preparing.prepare_replace.Goals as goal
 
 pub replace_at-requires : goal.replace_at-requires
 replace_at-requires c =
-    copied-at c.a_session_reads_its_view.ensures.rows c.a_session_reads_its_view.ensures.built c.args.engine.now c.args.local.now c.args.cursor.0 c.session-session.result.0 c.in-Some.found.now c.requires.beside c.records_are_formed.ensures c.in-Some.ensures c.session-session.ensures
+    copied-at c.a_session_reads_its_view.ensures.rows c.args.engine.now c.args.local.now c.args.cursor.0 c.session-session.result.0 c.in-Some.found.now c.requires.beside c.records_are_formed.ensures c.in-Some.ensures c.session-session.ensures
 
 pub returns-in-Some-replace_refusal-clause-answer : goal.returns-in-Some-replace_refusal-clause-answer
 returns-in-Some-replace_refusal-clause-answer c =

@@ -1,13 +1,9 @@
-use Rattle.column_set.specs.Rows.{here_fields}
-use Rattle.record_decisions.proofs.CopiedValues.{all-copied, column-more, column-short}
+use Rattle.record_decisions.proofs.CopiedValues.{all-copied, column-more}
 use Rattle.record_decisions.proofs.preparing.record_of_row.Goals as goal
-
-pub copy_values-requires : goal.copy_values-requires
-copy_values-requires c = column-short (here_fields c.args.row.now) c.column-item.result.id.0 c.requires.short
 
 pub loop-column-preserved : goal.loop-column-preserved
 loop-column-preserved c =
-    column-more c.args.columns.now c.loop-column.column-index c.column-item.result c.loop-column.made c.copy_values.new.made (here_fields c.args.row.now) c.requires.distinct c.loop-column-test.true c.column-item.is c.loop-column.invariant c.in-Ok.ensures
+    column-more c.args.columns.now c.loop-column.column-index c.column-item.result c.loop-column.made c.copy_values.new.made c.args.row.now c.requires.distinct c.loop-column-test.true c.column-item.is c.loop-column.invariant c.in-Ok.ensures
 
 pub returns : goal.returns
-returns c = all-copied c.args.columns.now c.loop-column.column-index c.loop-column.made (here_fields c.args.row.now) c.requires c.loop-column-test.false c.fields-fields.ensures.formed c.loop-column.invariant
+returns c = all-copied c.args.columns.now c.loop-column.column-index c.loop-column.made c.args.row.now c.requires c.loop-column-test.false c.fields-fields.ensures.formed c.loop-column.invariant

@@ -2,7 +2,6 @@ use Rattle.std.proofs.Common.{◌≡◌, ℕ, ◌∷◌, [], List, rules, of_z, 
 use Rattle.std.specs.Prelude.{ℤ}
 use Rattle.std.specs.Int.{w32, cast_unsigned, to_le_bytes}
 use Rattle.column_set.specs.RecordValues.{values_of}
-use Rattle.column_set.specs.Rows.{here_fields}
 use Rattle.cursor_nav.specs.Navigation.{CursorState}
 use Rattle.version_sums.specs.EscrowSums.{escrow_value, seen_value}
 use Rattle.engine_parts.specs.Reading.{unseen_amounts}
@@ -16,7 +15,7 @@ returns-in-Ok c =
     let found = c.args.found.now in
     let column = c.args.column.0 in
     let seen = values_seen engine c.args.session.0 found in
-    let row = here_fields c.args.row.now in
+    let row = c.args.row.now in
     let read : to_z w32 (of_z w32 c.seen_sum-number.result) ≡ c.seen_sum-number.result = search rules in
     let number : c.seen_sum-number.result ≡ escrow_value seen column =
     c.seen_sum-number.ensures

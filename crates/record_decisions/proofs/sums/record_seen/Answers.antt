@@ -1,6 +1,5 @@
 use Rattle.std.proofs.Common.{◌≡◌, ◌+◌, ◌≤◌, List, length, take, sym, ap, subst, ◌∙◌}
 use Rattle.column_set.specs.declared.columns.Column.{Column}
-use Rattle.column_set.specs.Rows.{here_fields}
 use Rattle.index_derive.specs.declared.rules.Schema.{Schema}
 use Rattle.cursor_nav.specs.Places.{place_bookmark}
 use Rattle.engine_parts.specs.Reading.{unseen_amounts}
@@ -16,7 +15,7 @@ put_sum-requires-clause-sum c =
 pub loop-column-preserved : goal.loop-column-preserved
 loop-column-preserved c =
     let columns = c.as_slice-columns.result.now in
-    let row = here_fields c.args.row.now in
+    let row = c.args.row.now in
     let seen = values_seen c.args.engine.now c.args.session.0 c.args.found.now in
     elim c.if-column.branch [
       | then-column+in_ok-put_sum w ↦
@@ -34,7 +33,7 @@ returns c =
     let found = c.args.found.now in
     let columns = c.as_slice-columns.result.now in
     let same : columns ≡ found.schema.columns = c.as_slice-columns.ensures ∙ ap (λ (s : Schema). s.columns) c.schema.ensures in
-    all-seen found.schema (unseen_amounts engine c.args.session.0 found.cursor.table (place_bookmark found.cursor.place)) c.loop-column.column-index c.loop-column.made (here_fields c.args.row.now) (values_seen engine c.args.session.0 found)
+    all-seen found.schema (unseen_amounts engine c.args.session.0 found.cursor.table (place_bookmark found.cursor.place)) c.loop-column.column-index c.loop-column.made c.args.row.now (values_seen engine c.args.session.0 found)
     c.requires.copied.distinct c.requires.seen c.requires.formed c.fields-fields.ensures.formed
     (subst (λ (cs : List Column). length cs ≤ c.loop-column.column-index) same c.loop-column-test.false)
-    (subst (λ (cs : List Column). SumsPut (take c.loop-column.column-index cs) (here_fields c.args.row.now) (values_seen engine c.args.session.0 found) c.loop-column.made) same c.loop-column.invariant)
+    (subst (λ (cs : List Column). SumsPut (take c.loop-column.column-index cs) c.args.row.now (values_seen engine c.args.session.0 found) c.loop-column.made) same c.loop-column.invariant)

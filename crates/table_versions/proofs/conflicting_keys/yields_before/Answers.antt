@@ -6,8 +6,8 @@ use Rattle.stored_variants.specs.RecordRows.{IsRecordRow, record_of}
 use Rattle.table_versions.proofs.RecordConflicts.{at_place, mapped}
 use Rattle.table_versions.proofs.conflicting_keys.yields_before.Goals as goal
 
-pub in_place-requires : goal.in_place-requires
-in_place-requires c =
+pub in_place-before-requires : goal.in_place-before-requires
+in_place-before-requires c =
     at_place c.args.versions.now c.args.place c.requires.within
     (λ h at.
     subst (λ (o : Option (List ℕ)). IfSome o IsRecordRow) (mapped (λ (h : HeldChange). h.before) c.args.versions.now c.args.place h (option_copied c.before_at.result) at c.before_at.ensures)
@@ -17,7 +17,7 @@ pub returns-then-is_standing_at : goal.returns-then-is_standing_at
 returns-then-is_standing_at c h at =
     c.has_key.ensures
     ∙ ap (yields_key c.args.rule.now c.args.schema.now c.args.key.now)
-    (c.in_place.ensures ∙ ap (option_map record_of) (sym (mapped (λ (h : HeldChange). h.before) c.args.versions.now c.args.place h (option_copied c.before_at.result) at c.before_at.ensures)))
+    (c.in_place-before.ensures ∙ ap (option_map record_of) (sym (mapped (λ (h : HeldChange). h.before) c.args.versions.now c.args.place h (option_copied c.before_at.result) at c.before_at.ensures)))
     ∙ sym (ap (λ (b : Bool). cond b (yields_key c.args.rule.now c.args.schema.now c.args.key.now (option_map record_of h.before)) c.args.after)
     (mapped is_standing c.args.versions.now c.args.place h c.is_standing_at.result at c.is_standing_at.ensures ∙ c.if-is_standing_at.true))
 

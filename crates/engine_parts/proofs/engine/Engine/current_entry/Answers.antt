@@ -1,6 +1,5 @@
 use Rattle.std.proofs.Common.{◌≡◌, ℕ, Some, None, Ok, sym, ap, subst, ◌∙◌}
 use Rattle.std.specs.Prelude.{IfSome}
-use Rattle.column_set.specs.Rows.{here_fields}
 use Rattle.cursor_nav.specs.Navigation.{CursorState}
 use Rattle.cursor_nav.specs.Places.{Pair}
 use Rattle.session_local.specs.Local.{cursor_labelled}
@@ -20,7 +19,7 @@ returns-in-Some-look_up c =
     let same : (c.in-On.key, c.in-On.bookmark) ≡ (c.copy.result, c.copy-in-Some-look_up.result) = (λ i. (sym c.copy.ensures i, sym c.copy-in-Some-look_up.ensures i)) in
     subst Shows same
     (entry_shown engine session (cursor_labelled c.args.local.now.state c.args.cursor.0) found c.in-On.key c.in-On.bookmark c.self.inside.tables c.reader-reader.result c.table-table.result.0 c.as_bytes.result.now
-    (Some (here_fields c.in-Some-look_up.field-0)) c.in-Some.ensures
+    (Some c.in-Some-look_up.field-0) c.in-Some.ensures
     (sym (c.place.ensures ∙ ap (λ (s : CursorState). s.place) c.cursor-2.ensures) ∙ c.in-On.is)
     (record {
       same_tables = ap tables_of c.self.view_is;

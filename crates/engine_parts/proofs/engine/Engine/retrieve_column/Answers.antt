@@ -4,7 +4,6 @@ use Rattle.index_derive.specs.declared.rules.Schema.{Schema}
 use Rattle.jet_base.specs.declared.replies.Jet.{Jet}
 use Rattle.column_set.specs.declared.columns.Column.{Column}
 use Rattle.column_set.specs.RecordValues.{RecordFields, column_named}
-use Rattle.column_set.specs.Rows.{RowFields, here_fields}
 use Rattle.session_local.specs.declared.reply.Reply.{Reply}
 use Rattle.session_local.specs.Answer.{Answered}
 use Rattle.session_local.specs.Outcome.{Asked}
@@ -19,7 +18,7 @@ use Rattle.engine_parts.specs.Retrieving.{IsRecordAt}
 use Rattle.engine_parts.proofs.Retrieved.{retrieve-shared, retrieve-refused, retrieve-no_column, retrieve-shown, readable_at, row_read_at, column_at}
 use Rattle.engine_parts.proofs.engine.Engine.retrieve_column.Goals as goal
 
-own_record : (engine : EngineState) (session own : ℕ) (c : OpenCursor) → session ≡ own → (found : Result RowFields Jet) → IsRecordAt (shown_for engine session c.cursor.table) c.cursor.place found → IsRecordAt (shown_for engine own c.cursor.table) c.cursor.place found
+own_record : (engine : EngineState) (session own : ℕ) (c : OpenCursor) → session ≡ own → (found : Result RecordFields Jet) → IsRecordAt (shown_for engine session c.cursor.table) c.cursor.place found → IsRecordAt (shown_for engine own c.cursor.table) c.cursor.place found
 own_record engine session own c same found is = subst (λ (n : ℕ). IsRecordAt (shown_for engine n c.cursor.table) c.cursor.place found) same is
 
 -- the row of the record at the cursor, as the session is shown it
@@ -31,7 +30,7 @@ value_seen-requires-clause-on c = c.in-Ok.ensures.0
 
 pub value_seen-requires-clause-row : goal.value_seen-requires-clause-row
 value_seen-requires-clause-row c =
-    own_row c.args.self.now c.session-session.result.0 c.args.local.now.session c.in-Some.found.now (here_fields c.in-Ok.row) c.session-session.ensures
+    own_row c.args.self.now c.session-session.result.0 c.args.local.now.session c.in-Some.found.now c.in-Ok.row c.session-session.ensures
     (row_read_at (record { rows = c.a_session_reads_its_view.ensures.rows; built = c.a_session_reads_its_view.ensures.built }) c.args.self.now c.args.local.now c.args.cursor.0 c.in-Some.found.now c.in-Ok.row c.requires.beside c.in-Some.ensures
     (own_record c.args.self.now c.session-session.result.0 c.args.local.now.session c.in-Some.found.now c.session-session.ensures (Ok c.in-Ok.row) c.in-Ok.ensures))
 

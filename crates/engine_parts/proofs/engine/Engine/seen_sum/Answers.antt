@@ -1,6 +1,5 @@
 use Rattle.std.proofs.Common.{◌≡◌, List, w32, rules, of_z, to_z, ap, ◌∙◌}
 use Rattle.std.specs.Prelude.{ℤ}
-use Rattle.column_set.specs.Rows.{here_fields}
 use Rattle.version_store.specs.declared.calls.Reader.{Reader}
 use Rattle.version_sums.specs.EscrowSums.{amounts_to, escrow_value, seen_value}
 use Rattle.versioned_tables.specs.HeldSums.{unseen_sums}
@@ -17,5 +16,5 @@ returns c =
     read
     ∙ c.seen_sum.ensures
     ∙ ap (λ (n : ℤ). seen_value n (amounts c.reader-reader.result)) (stored ∙ c.stored_sum-stored.ensures)
-    ∙ ap (λ (r : Reader). seen_value (escrow_value (here_fields c.args.row.now) column) (amounts r)) c.reader-reader.ensures
-    ∙ ap (λ (e : EngineState). seen_value (escrow_value (here_fields c.args.row.now) column) (unseen_amounts e c.args.session.0 c.args.table.0 c.args.bookmark.now column)) c.self.view_is
+    ∙ ap (λ (r : Reader). seen_value (escrow_value c.args.row.now column) (amounts r)) c.reader-reader.ensures
+    ∙ ap (λ (e : EngineState). seen_value (escrow_value c.args.row.now column) (unseen_amounts e c.args.session.0 c.args.table.0 c.args.bookmark.now column)) c.self.view_is

@@ -1,6 +1,5 @@
-use Rattle.std.proofs.Common.{◌≡◌, ℕ, true, false, not, ◌&&◌, List, option_map, sym, ap, ◌∙◌}
+use Rattle.std.proofs.Common.{◌≡◌, ℕ, true, false, not, ◌&&◌, List, sym, ap, ◌∙◌}
 use Rattle.std.specs.Prelude.{is_some, option_copied}
-use Rattle.column_set.specs.Rows.{here_fields}
 use Rattle.database_state.specs.Puts.{is_replaced}
 use Rattle.database_state.specs.Table.{record_in}
 use Rattle.versioned_tables.specs.HeldRecords.{seen_record}
@@ -14,7 +13,7 @@ returns-in-Some c =
     let table : ℕ = c.args.table.0 in
     let seen : is_some (seen_record table c.args.key.now c.args.reader (record_in store.tables table c.args.key.now) store.held) ≡ true =
     ap (λ (bytes : List ℕ). is_some (seen_record table bytes c.args.reader (record_in store.tables table bytes) store.held)) (sym c.as_bytes-bookmark.ensures.value)
-    ∙ ap is_some (sym c.look_up.ensures) ∙ ap (λ o. is_some (option_map here_fields o)) c.in-Some.is in
+    ∙ ap is_some (sym c.look_up.ensures) ∙ ap is_some c.in-Some.is in
     ap not (c.is_replaced.ensures ∙ ap (is_replaced (option_copied c.args.own)) c.as_bytes-bookmark.ensures.value)
     ∙ sym (taken_in_primary c.a_reader_finds_the_records_that_it_is_shown.ensures c.args.reader store table c.args.schema.now c.requires.named c.args.rule.now c.requires.rule c.requires.primary (option_copied c.args.own) c.args.key.now
     ∙ ap (λ b. b && not (is_replaced (option_copied c.args.own) c.args.key.now)) seen)
@@ -25,6 +24,6 @@ returns-in-None c =
     let table : ℕ = c.args.table.0 in
     let seen : is_some (seen_record table c.args.key.now c.args.reader (record_in store.tables table c.args.key.now) store.held) ≡ false =
     ap (λ (bytes : List ℕ). is_some (seen_record table bytes c.args.reader (record_in store.tables table bytes) store.held)) (sym c.as_bytes-bookmark.ensures.value)
-    ∙ ap is_some (sym c.look_up.ensures) ∙ ap (λ o. is_some (option_map here_fields o)) c.in-None.is in
+    ∙ ap is_some (sym c.look_up.ensures) ∙ ap is_some c.in-None.is in
     sym (taken_in_primary c.a_reader_finds_the_records_that_it_is_shown.ensures c.args.reader store table c.args.schema.now c.requires.named c.args.rule.now c.requires.rule c.requires.primary (option_copied c.args.own) c.args.key.now
     ∙ ap (λ b. b && not (is_replaced (option_copied c.args.own) c.args.key.now)) seen)
