@@ -22,12 +22,18 @@ use version_store::Versions;
 /// record, and an index has the keys of all of them. Reading takes no memory.
 ///
 /// The catalog stands in a tree beside those of the tables too: a schema step changes its nodes with the definitions.
+///
+/// A value of more than 255 bytes is kept apart, in a tree of its table. Each has as many references as newest rows, and rows before
+/// of changes that are not undone, name it, and none stands without one. Its identifier has the number of the log entry of the put
+/// that made it: contracts see the number of the newest put, 0 where there was none.
 #[derive(Drop)]
 pub struct TableVersions {
     pub(crate) alloc: Global,
     pub(crate) catalog: Catalog,
     pub(crate) trees: TableTrees,
     pub(crate) versions: Versions,
+    /// The number of the log entry of the newest put, 0 where there was none.
+    pub(crate) newest_put: u64,
 }
 
 impl Model for TableVersions {
@@ -38,21 +44,22 @@ impl Model for TableVersions {
     ghost use Rattle.stored_variants.specs.VersionsView.{stored_versions};
     ghost use Rattle.stored_variants.specs.VersionsKept.{IsStore};
 
-    ghost view = { λ a. stored_versions a.catalog a.trees.tables a.versions };
+    ghost view = { λ a. stored_versions a.newest_put a.catalog a.trees.tables a.versions };
 
-    ghost invariant = { λ a. IsStore a.catalog a.trees a.versions };
+    ghost invariant = { λ a. IsStore a.newest_put a.catalog a.trees a.versions };
 }
 
 impl TableVersions {
     /// No table. It takes no memory.
     pub fn new(alloc: Global) -> TableVersions
-        ensures { result ≡ record { greatest_table = 0; store = record { tables = []; held = [] } } }
+        ensures { result ≡ record { greatest_table = 0; newest_put = 0; store = record { tables = []; held = [] } } }
     {
         TableVersions {
             alloc,
             catalog: Catalog::new(alloc),
             trees: TableTrees::new(alloc),
             versions: Versions::new(alloc),
+            newest_put: 0,
         }
     }
 
