@@ -1,11 +1,16 @@
 //! The store and its tables.
 
-ghost use Rattle.std.specs.Prelude.{◌≡◌, ℕ, ◌≤◌, true, [], map, slice_get, IsSomeAnd, Some, option_copied, option_map};
+ghost use Rattle.std.specs.Prelude.{◌≡◌, ℕ, ◌≤◌, true, List, [], map, slice_get, IfSome, IsSomeAnd, Some, option_copied, option_map};
 ghost use Rattle.database_state.specs.Table.{rule_with_id, schema_of, table_named, table_with_id};
 ghost use Rattle.index_derive.specs.declared.rules.IndexRule.{IndexRule};
 ghost use Rattle.index_derive.specs.declared.rules.Schema.{Schema};
 ghost use Rattle.index_derive.specs.Entries.{is_legal};
 ghost use Rattle.jet_catalog.specs.Catalog.{without_rows};
+ghost use Rattle.long_value.specs.Values.{AreLong};
+ghost use Rattle.table_trees.specs.StoredTables.{table_long_values, table_nodes};
+ghost use Rattle.version_store.specs.HeldChanges.{HeldChange};
+ghost use Rattle.stored_variants.specs.CountedValues.{AreCounted, HasNoValueBehind};
+ghost use Rattle.stored_variants.specs.RecordRows.{held_record_in, rows_of_nodes};
 
 use jet_base::TableId;
 use jet_catalog::{Catalog, TableDef, tables_are_found_without_records};
@@ -82,6 +87,19 @@ impl TableVersions {
         ensures { result.now ≡ map without_rows self.now.store.tables }
     {
         self.catalog.tables()
+    }
+
+    /// The trees of all tables, as they stand. The records that contracts see are those of their nodes, and of the rows before the
+    /// held changes, each with its long values. Each long value of a table has as many references as newest rows, and rows before of
+    /// changes that are not undone, name it: none stands without one. None is of a later log entry than the newest put.
+    pub fn trees(&self) -> &TableTrees
+        ensures newest { (table : ℕ) → IfSome (table_with_id self.now.store.tables table) (λ t. t.rows ≡ rows_of_nodes (table_long_values result.now.tables table) (table_nodes result.now.tables table)) }
+        ensures counted { (held : List HeldChange) × (map (held_record_in (table_long_values result.now.tables)) held ≡ self.now.store.held) × AreCounted result.now.tables held }
+        ensures whole { (table : ℕ) → AreLong (table_long_values result.now.tables table) }
+        ensures behind { HasNoValueBehind self.now.newest_put result.now.tables }
+    {
+        self.trees.long_values_are_whole();
+        &self.trees
     }
 
     /// The table of this name, without its records.
