@@ -37,13 +37,7 @@ fn unless_named(named: Option<LongId>, kept: &[u8]) -> Option<LongId>
     ensures { (ys : List (ℕ × RowValue)) → StandIn kept.now ys → option_map id_bytes result ≡ unless_among (named_by ys) (option_map id_bytes named) }
 {
     match named {
-        Some(id) => {
-            if names(kept, id) {
-                None
-            } else {
-                Some(id)
-            }
-        }
+        Some(id) => { if names(kept, id) { None } else { Some(id) } }
         None => None,
     }
 }

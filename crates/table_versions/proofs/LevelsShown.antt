@@ -50,7 +50,8 @@ pub none_shown : (session level : ℕ) (latest : ℕ) (catalog : CatalogState) (
     → now ≡ undone_at (last_place (is_open_at session level) held) held → stored_versions latest catalog trees now ≡ record store { store = with_last_undone (is_open_record session level) store.store }
 none_shown session level latest catalog trees held now store shows last after =
     (λ i. record {
-      greatest_table = catalog.greatest_table; newest_put = latest;
+      greatest_table = catalog.greatest_table;
+      newest_put = latest;
       store = record {
         tables = sym (none_back (is_open_record session level) (map (held_record_in (table_long_values trees)) held) (map (with_newest trees) catalog.tables) (any_last (table_long_values trees) (is_open_record session level) (is_open_at session level) (same_level (table_long_values trees) session level) held None last)) i;
         held = (ap (λ (changes : List HeldChange). map (held_record_in (table_long_values trees)) changes) after ∙ last_changed (table_long_values trees) (is_open_record session level) (is_open_at session level) (same_level (table_long_values trees) session level) held) i;

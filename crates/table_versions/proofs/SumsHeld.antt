@@ -42,8 +42,8 @@ store_summed latest catalog trees other held by made sum keeps shown = λ i. rec
   store = record {
     tables = shown i;
     held = ((λ j. map (held_record_in (same_values trees other keeps j)) (held ++ new_change by made None ∷ []))
-    ∙ appended (table_long_values trees) held (new_change by made None)
-    ∙ ap (λ (r : HeldRecord). map (held_record_in (table_long_values trees)) held ++ r ∷ []) (sum_record (table_long_values trees) by made sum (record_in (map (with_newest trees) catalog.tables) (changed_table made) (changed_bookmark made)))) i;
+        ∙ appended (table_long_values trees) held (new_change by made None)
+        ∙ ap (λ (r : HeldRecord). map (held_record_in (table_long_values trees)) held ++ r ∷ []) (sum_record (table_long_values trees) by made sum (record_in (map (with_newest trees) catalog.tables) (changed_table made) (changed_bookmark made)))) i;
   };
 }
 

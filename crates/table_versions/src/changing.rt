@@ -95,7 +95,13 @@ impl TableVersions {
             begin: Some(by.begin),
         };
         let mut row = ArrayVec::new();
-        match shown_row(&self.trees, &self.versions, table_of(change), copied, reader) {
+        match shown_row(
+            &self.trees,
+            &self.versions,
+            table_of(change),
+            copied,
+            reader,
+        ) {
             Some(bytes) => {
                 append(&mut row, bytes);
                 self.put_beside(by, change, Some(row.as_slice()))

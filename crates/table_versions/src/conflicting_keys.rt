@@ -187,7 +187,12 @@ fn has_concurrent(versions: &Versions, reader: Reader, table: TableId, bookmark:
 }
 
 // Whether there is a row, and it has the key in the index.
-pub(crate) fn has_key(rule: &IndexRule, schema: &Schema, row: Option<ShownRow<'_>>, key: &Key) -> bool
+pub(crate) fn has_key(
+    rule: &IndexRule,
+    schema: &Schema,
+    row: Option<ShownRow<'_>>,
+    key: &Key,
+) -> bool
     requires legal { is_legal rule.now schema.now ≡ true }
     requires short { rule.now.key_most ≤ 255 }
     ensures { result ≡ yields_key rule.now schema.now key.now row.entry }

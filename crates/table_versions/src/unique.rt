@@ -194,7 +194,12 @@ impl TableVersions {
     }
 
     // The row that the reader sees under the bookmark, where one is given.
-    fn replaced_row(&self, reader: Reader, table: TableId, own: Option<&[u8]>) -> Option<ShownRow<'_>>
+    fn replaced_row(
+        &self,
+        reader: Reader,
+        table: TableId,
+        own: Option<&[u8]>,
+    ) -> Option<ShownRow<'_>>
         ensures { result ≡ replaced_seen reader self.now.store table.0 (option_copied own.entry) }
     {
         match own {

@@ -39,7 +39,7 @@ returns c =
       store = record {
         tables = c.forget_oldest.ensures.forgotten.newest i;
         held = (ap (λ (held : List HeldChange). map (held_record_in (table_long_values c.forget_oldest.new.trees.tables)) held) c.pop_oldest.ensures
-        ∙ c.forget_oldest.ensures.forgotten.held_records ∙ rest_of_records (table_long_values c.self.inside.trees.tables) c.self.inside.versions) i;
+            ∙ c.forget_oldest.ensures.forgotten.held_records ∙ rest_of_records (table_long_values c.self.inside.trees.tables) c.self.inside.versions) i;
       };
     })
     ∙ ap (λ (v : StoredVersions). record v { store = without_oldest v.store }) c.self.view_is
