@@ -70,7 +70,7 @@ holds true t = refl
 holds false t = absurd t
 
 pub are_rows : (nodes : List Node) → are_sorted (bookmark_entries nodes) ≡ true → AreRows (newest_rows nodes)
-are_rows nodes sorted = holds _ (rise nodes sorted)
+are_rows nodes sorted = holds (is_sorted (slice_cmp nat_cmp) (newest_rows nodes)) (rise nodes sorted)
 
 equal_keys : (x y : List ℕ) → slice_cmp nat_cmp x y ≡ Equal → x ≡ y
 equal_keys x y e = same_bytes x y (texts_ties x y ∙ ap is_eq e)

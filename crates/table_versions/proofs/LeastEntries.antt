@@ -63,7 +63,7 @@ stored_rise longs tables trees sorted table = subst (λ (o : Option Table). Rows
   where
     by : (o : Option Table) → RowsRise (rows_of (option_map (with_newest_by longs trees) o))
     by None = tt
-    by (Some t) = rows_rise (longs ??) (table_nodes trees t.id) (sorted t.id)
+    by (Some t) = rows_rise (longs t.id) (table_nodes trees t.id) (sorted t.id)
 
 pub seen_in_order : (latest : ℕ) (catalog : CatalogState) (trees : List StoredTable) (held : List HeldChange) → ((table : ℕ) → are_sorted (bookmark_entries (table_nodes trees table)) ≡ true)
     → (now : StoredVersions) → stored_versions latest catalog trees held ≡ now → (reader : Reader) (table : ℕ) → are_sorted (own_order (rows_seen reader now.store table)) ≡ true

@@ -19,7 +19,7 @@ use Rattle.page_image.specs.Page.{Node}
 use Rattle.record_changes.proofs.Tests.{and_left, and_right, impossible, same_number, self_equal}
 use Rattle.table_trees.specs.StoredNodes.{bookmark_entries}
 use Rattle.table_trees.specs.StoredTables.{StoredIndex, StoredTable, index_entries, is_table, table_indexes, table_nodes}
-use Rattle.version_store.specs.HeldChanges.{HeldChange, is_standing}
+use Rattle.version_store.specs.HeldChanges.{HeldChange, is_rewrite, is_standing}
 use Rattle.versioned_tables.specs.HeldRecords.{HeldRecord, is_change_at, is_standing_rewrite}
 use Rattle.versioned_tables.specs.Variants.{HoldsVariants, is_variant_key}
 use Rattle.stored_variants.specs.PutRecords.{HasKeysOf}
