@@ -7,7 +7,7 @@ use Rattle.database_state.specs.Table.{Table, table_with_id, without_row}
 use Rattle.page_image.specs.Page.{Node}
 use Rattle.record_changes.proofs.Tests.{impossible, same_number, self_equal}
 use Rattle.table_trees.specs.StoredNodes.{put_data, IsShortNode}
-use Rattle.table_trees.specs.StoredTables.{StoredTable, has_table, is_table, put_nodes, table_indexes, table_nodes, with_nodes}
+use Rattle.table_trees.specs.StoredTables.{StoredTable, has_table, is_table, put_nodes, table_indexes, table_long_values, table_nodes, with_nodes}
 use Rattle.stored_variants.specs.RecordRows.{row_in_node, row_under, record_of, rows_of_nodes, with_record}
 use Rattle.stored_variants.specs.VersionsKept.{needed_trees, tree_numbers}
 use Rattle.std.specs.Cmp.Lexicographic.{texts_ties}
@@ -19,6 +19,7 @@ pub record TreeLaws : Type 0 where
   pub named : (tables : List StoredTable) (table : ℕ) (nodes : List Node) → has_table tables table ≡ true → table_nodes (with_nodes table nodes tables) table ≡ nodes
   pub others : (tables : List StoredTable) (table other : ℕ) (nodes : List Node) → other ≢ table → table_nodes (with_nodes table nodes tables) other ≡ table_nodes tables other
   pub indexes : (tables : List StoredTable) (table other : ℕ) (nodes : List Node) → table_indexes (with_nodes table nodes tables) other ≡ table_indexes tables other
+  pub values : (tables : List StoredTable) (table other : ℕ) (nodes : List Node) → table_long_values (with_nodes table nodes tables) other ≡ table_long_values tables other
   pub replaced : (nodes : List Node) (key row bookmark : List ℕ) → find (has_key bookmark) (with_data_at nodes key row) ≡ option_map (λ (n : Node). if bytes_eq key bookmark then put_data row n else n) (find (has_key bookmark) nodes)
 
 -- the trees with a node that has no byte

@@ -8,3 +8,5 @@ pub mod RisingRows
 pub mod HeldPlaces
 pub mod FoundRules
 pub mod Outcomes
+pub mod CountedRows
+pub mod SameRecords

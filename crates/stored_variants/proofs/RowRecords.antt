@@ -43,6 +43,9 @@ row-formed longs row h =
     and_both (is_sorted nat_cmp (record_in longs row)) (list_all (λ field. ltb 0 (length field.1)) (record_in longs row)) (sorted-here longs row ∙ and_left (is_sorted nat_cmp row) (list_all field_fits_row row) formed)
     (all-here longs row (and_right (is_sorted nat_cmp row) (list_all field_fits_row row) formed))
 
+pub row-fits : (row : RowFields) → is_row row ≡ true → list_all field_fits_row row ≡ true
+row-fits row h = and_right (is_sorted nat_cmp row) (list_all field_fits_row row) (and_left (is_well_formed row) (nat_lt (length (values_in_order row)) (2 ^ 16)) h)
+
 -- ---- the in-page form
 
 stands : (longs : Values) (x : RowValue) → value_fits_row x ≡ true → is_there longs x ≡ true → stands_for x (whole_value longs x) ≡ true
@@ -77,4 +80,4 @@ fields-stand longs ((column, xs) ∷ row) fits whole =
 
 -- a row whose values are there is the in-page form of its record
 pub row-stands : (longs : Values) (row : RowFields) → is_row row ≡ true → is_whole longs row ≡ true → is_row_of row (record_in longs row) ≡ true
-row-stands longs row h whole = fields-stand longs row (and_right (is_sorted nat_cmp row) (list_all field_fits_row row) (and_left (is_well_formed row) (nat_lt (length (values_in_order row)) (2 ^ 16)) h)) whole
+row-stands longs row h whole = fields-stand longs row (row-fits row h) whole

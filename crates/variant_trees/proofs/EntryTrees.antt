@@ -5,7 +5,7 @@ use Rattle.std.specs.List.{list_any}
 use Rattle.cursor_nav.specs.Places.{Pair}
 use Rattle.derived_index.specs.KeptEntries.{has_entry, without_entry}
 use Rattle.record_changes.proofs.Tests.{and_left, and_right, impossible, same_bytes, same_number, self_equal}
-use Rattle.table_trees.specs.StoredTables.{StoredIndex, StoredTable, changed_where, has_index, has_table, index_entries, is_index, is_table, part_of, put_entries, put_indexes, table_indexes, table_nodes, with_entries, with_indexes}
+use Rattle.table_trees.specs.StoredTables.{StoredIndex, StoredTable, changed_where, has_index, has_table, index_entries, is_index, is_table, part_of, put_entries, put_indexes, table_indexes, table_long_values, table_nodes, with_entries, with_indexes}
 use Rattle.variant_trees.specs.GoneKeys.{ChangesEntries, index_numbers, table_numbers}
 
 -- laws of tables and indexes
@@ -13,6 +13,7 @@ pub record IndexLaws : Type 0 where
   pub named : (tables : List StoredTable) (table : ℕ) (indexes : List StoredIndex) → has_table tables table ≡ true → table_indexes (with_indexes table indexes tables) table ≡ indexes
   pub others : (tables : List StoredTable) (table other : ℕ) (indexes : List StoredIndex) → other ≢ table → table_indexes (with_indexes table indexes tables) other ≡ table_indexes tables other
   pub nodes : (tables : List StoredTable) (table other : ℕ) (indexes : List StoredIndex) → table_nodes (with_indexes table indexes tables) other ≡ table_nodes tables other
+  pub values : (tables : List StoredTable) (table other : ℕ) (indexes : List StoredIndex) → table_long_values (with_indexes table indexes tables) other ≡ table_long_values tables other
 
 pub record EntryLaws : Type 0 where
   pub named : (tables : List StoredTable) (table index : ℕ) (entries : List Pair) → has_index tables table index ≡ true → index_entries (with_entries table index entries tables) table index ≡ entries
@@ -74,6 +75,7 @@ entries_changed laws trees table index entries there = record {
   numbers = same_table_numbers table changed trees;
   indexes = λ other. by other (other == table) refl;
   nodes = λ other. laws.nodes trees table other changed;
+  values = λ other. laws.values trees table other changed;
   entries = λ other n apart. ap (λ (indexes : List StoredIndex). part_of (is_index n) (λ x. x.1) indexes) (laws.others trees table other changed apart);
 }
   where
@@ -93,6 +95,7 @@ entries_stay table trees = record {
   numbers = refl;
   indexes = λ other. refl;
   nodes = λ other. refl;
+  values = λ other. refl;
   entries = λ other n apart. refl;
 }
 
@@ -101,6 +104,7 @@ entries_then table a b c one two = record {
   numbers = two.numbers ∙ one.numbers;
   indexes = λ other. two.indexes other ∙ one.indexes other;
   nodes = λ other. two.nodes other ∙ one.nodes other;
+  values = λ other. two.values other ∙ one.values other;
   entries = λ other n apart. two.entries other n apart ∙ one.entries other n apart;
 }
 

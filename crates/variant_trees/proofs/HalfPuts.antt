@@ -10,17 +10,21 @@ use Rattle.database_state.specs.Table.{rule_with_id}
 use Rattle.derived_index.specs.KeptEntries.{has_entry}
 use Rattle.index_derive.specs.declared.rules.IndexRule.{IndexRule}
 use Rattle.index_derive.specs.declared.rules.Schema.{Schema}
+use Rattle.kept_rows.specs.ValuesChanged.{HasLongValues}
+use Rattle.long_references.specs.ReferenceCounts.{with_all_taken}
+use Rattle.long_value.specs.Values.{Values}
 use Rattle.page_image.specs.Page.{Node}
 use Rattle.record_changes.proofs.Tests.{equal_bytes, impossible, same_bytes, same_number, self_equal}
 use Rattle.table_trees.specs.StoredNodes.{put_data}
-use Rattle.table_trees.specs.StoredTables.{StoredIndex, StoredTable, has_table, index_entries, is_index, part_of, table_nodes, with_nodes}
+use Rattle.table_trees.specs.StoredTables.{StoredIndex, StoredTable, has_table, index_entries, is_index, part_of, table_long_values, table_nodes, with_nodes}
 use Rattle.versioned_tables.specs.HeldRecords.{HeldRecord}
 use Rattle.versioned_tables.specs.Variants.{is_variant_key}
 use Rattle.stored_variants.specs.PutRecords.{HasKeysOf, Keys, record_keys}
-use Rattle.variant_trees.specs.GoneKeys.{ChangesEntries, LosesRecord, table_numbers}
+use Rattle.variant_trees.specs.GoneKeys.{ChangesEntries, KeepsValues, LosesRecord, table_numbers}
 use Rattle.variant_trees.specs.PutStages.{HasKeys, HasRoom, HasVariantKeys, IsHalfPut, IsPut, IsSame, IsWidened, MayHaveKeys, is_place, node_at_least}
 use Rattle.stored_variants.specs.RecordRows.{row_in_node, row_under}
 use Rattle.stored_variants.specs.VersionsKept.{only_secondary}
+use Rattle.variant_trees.proofs.EntryTrees.{other_number}
 use Rattle.variant_trees.proofs.KeysPut.{may_have}
 use Rattle.stored_variants.proofs.FoundRules.{record_yields, secondary_found}
 use Rattle.variant_trees.proofs.RoomMade.{NodeLaws, data_of, extent_of, found_then, no_less, same_table_numbers}
@@ -115,8 +119,9 @@ keys_back schema values table bookmark newest held base now taken rules half los
 
 pub taken_back : (schema : Schema) (values : RecordFields) (table : ℕ) (bookmark : List ℕ) (newest : Option RecordFields) (held : List HeldRecord) (base now taken : List StoredTable) → AllByRecursion (HasKeysOf schema values) schema.indexes
     → IsHalfPut table bookmark (record_keys schema.indexes schema values) base now → ChangesEntries table now taken → LosesRecord newest held schema table bookmark values now taken → HasVariantKeys newest held schema table bookmark base
-    → false ≡ is_none (get_in (table_nodes base table) bookmark) → IsSame table schema base taken
-taken_back schema values table bookmark newest held base now taken rules half others loses variants there = record {
+    → KeepsValues base now → false ≡ is_none (get_in (table_nodes base table) bookmark) → IsSame table schema base taken
+taken_back schema values table bookmark newest held base now taken rules half others loses variants long there = record {
+  values = λ other. others.values other ∙ long other;
   numbers = others.numbers ∙ half.numbers;
   indexes = λ other. others.indexes other ∙ half.indexes other;
   rows = λ other own. ap (λ (nodes : List Node). get_in nodes own) (others.nodes other) ∙ half.rows other own ∙ row other own (table == other) (bytes_eq bookmark own) refl refl;
@@ -137,8 +142,9 @@ taken_back schema values table bookmark newest held base now taken rules half ot
 
 pub taken_back_with_node : (laws : NodeLaws) (schema : Schema) (values : RecordFields) (table : ℕ) (bookmark : List ℕ) (newest : Option RecordFields) (held : List HeldRecord) (base now taken : List StoredTable) → AllByRecursion (HasKeysOf schema values) schema.indexes
     → IsHalfPut table bookmark (record_keys schema.indexes schema values) base now → ChangesEntries table now taken → LosesRecord newest held schema table bookmark values now taken → HasVariantKeys newest held schema table bookmark base
-    → has_table taken table ≡ true → true ≡ is_none (get_in (table_nodes base table) bookmark) → IsSame table schema base (with_nodes table (without_key (table_nodes taken table) bookmark) taken)
-taken_back_with_node laws schema values table bookmark newest held base now taken rules half others loses variants there absent = record {
+    → KeepsValues base now → has_table taken table ≡ true → true ≡ is_none (get_in (table_nodes base table) bookmark) → IsSame table schema base (with_nodes table (without_key (table_nodes taken table) bookmark) taken)
+taken_back_with_node laws schema values table bookmark newest held base now taken rules half others loses variants long there absent = record {
+  values = λ other. laws.values taken table other (without_key (table_nodes taken table) bookmark) ∙ others.values other ∙ long other;
   numbers = same_table_numbers table (without_key (table_nodes taken table) bookmark) taken ∙ others.numbers ∙ half.numbers;
   indexes = λ other. ap (map (λ (x : StoredIndex). x.0)) (laws.indexes taken table other (without_key (table_nodes taken table) bookmark)) ∙ others.indexes other ∙ half.indexes other;
   rows = λ other own. ap data_of (found other own) ∙ row other own (table == other) (bytes_eq bookmark own) refl refl;
@@ -198,19 +204,46 @@ taken_back_with_node laws schema values table bookmark newest held base now take
 
 -- ---- a put that is done
 
-pub put_done : (laws : NodeLaws) (table : ℕ) (bookmark row : List ℕ) (size : ℕ) (keys : Keys) (old mid ready : List StoredTable) → has_table ready table ≡ true → HasRoom table bookmark size old mid → HasKeys table bookmark keys mid ready
-    → IsPut table bookmark row keys old (with_nodes table (with_data_at (table_nodes ready table) bookmark row) ready)
-put_done laws table bookmark row size keys old mid ready there room has = record {
+-- the trees with other long values are those of the put too
+pub half_put_moved : (table : ℕ) (bookmark : List ℕ) (keys : Keys) (old new moved : List StoredTable) (values : Values) → IsHalfPut table bookmark keys old new → HasLongValues table values new moved → IsHalfPut table bookmark keys old moved
+half_put_moved table bookmark keys old new moved values half long = record {
+  numbers = long.numbers ∙ half.numbers;
+  indexes = λ other. ap (map (λ (x : StoredIndex). x.0)) (long.indexes other) ∙ half.indexes other;
+  rows = λ other own. ap (λ (nodes : List Node). get_in nodes own) (long.nodes other) ∙ half.rows other own;
+  extents = λ other own. subst (λ (nodes : List Node). IsWidened (extent_in (table_nodes old other) own) (extent_in nodes own)) (sym (long.nodes other)) (half.extents other own);
+  others = λ other index apart. same other index ∙ half.others other index apart;
+  stay = λ index key own is. ap (has_entry key own) (same table index) ∙ half.stay index key own is;
+  only = λ index key own is. half.only index key own (ap (has_entry key own) (sym (same table index)) ∙ is);
+}
+  where
+    same : (other index : ℕ) → index_entries moved other index ≡ index_entries new other index
+    same other index = ap (λ (indexes : List StoredIndex). part_of (is_index index) (λ x. x.1) indexes) (long.indexes other)
+
+-- the long values of a table are others, and those of the other tables stay
+pub values_given : (table : ℕ) (given : List (List ℕ × List ℕ)) (old mid new : List StoredTable) → KeepsValues old mid → HasLongValues table (with_all_taken given (table_long_values mid table)) mid new
+    → (other : ℕ) → table_long_values new other ≡ cond (table == other) (with_all_taken given (table_long_values old table)) (table_long_values old other)
+values_given table given old mid new same long other = by (table == other) refl
+  where
+    by : (b : Bool) → (table == other) ≡ b → table_long_values new other ≡ cond b (with_all_taken given (table_long_values old table)) (table_long_values old other)
+    by true e = ap (table_long_values new) (sym (same_number table other e)) ∙ long.named ∙ ap (with_all_taken given) (same table)
+    by false e = long.others other (λ is. other_number table other e (sym is)) ∙ same other
+
+pub put_done : (laws : NodeLaws) (table : ℕ) (bookmark row : List ℕ) (size : ℕ) (given : List (List ℕ × List ℕ)) (keys : Keys) (old mid keyed ready : List StoredTable) → has_table ready table ≡ true → HasRoom table bookmark size old mid → HasKeys table bookmark keys mid keyed
+    → HasLongValues table (with_all_taken given (table_long_values keyed table)) keyed ready → IsPut table bookmark row given keys old (with_nodes table (with_data_at (table_nodes ready table) bookmark row) ready)
+put_done laws table bookmark row size given keys old mid keyed ready there room has long = record {
+  values = λ other. laws.values ready table other (with_data_at (table_nodes ready table) bookmark row) ∙ values_given table given old keyed ready (λ other. has.others.values other ∙ room.values other) long other;
   numbers = same_table_numbers table (with_data_at (table_nodes ready table) bookmark row) ready ∙ half.numbers;
   indexes = λ other. ap (map (λ (x : StoredIndex). x.0)) (laws.indexes ready table other (with_data_at (table_nodes ready table) bookmark row)) ∙ half.indexes other;
   rows = λ other own. ap data_of (found other own) ∙ data_is other own (table == other) (bytes_eq bookmark own) refl refl;
   extents = λ other own. subst (λ (o : Option Node). IsWidened (extent_in (table_nodes old other) own) (extent_of o)) (sym (found other own)) (wide other own (table == other) (bytes_eq bookmark own) refl);
   others = λ other index apart. same other index ∙ half.others other index apart;
-  entries = λ index key own. ap (has_entry key own) (same table index) ∙ has.entries index key own ∙ ap (λ es. has_entry key own es || (bytes_eq own bookmark && keys index key)) (in_room index);
+  entries = λ index key own.
+      ap (has_entry key own) (same table index) ∙ ap (λ (indexes : List StoredIndex). has_entry key own (part_of (is_index index) (λ x. x.1) indexes)) (long.indexes table)
+      ∙ has.entries index key own ∙ ap (λ es. has_entry key own es || (bytes_eq own bookmark && keys index key)) (in_room index);
 }
   where
     half : IsHalfPut table bookmark keys old ready
-    half = ready_put table bookmark size keys old mid ready room has
+    half = half_put_moved table bookmark keys old keyed ready (with_all_taken given (table_long_values keyed table)) (ready_put table bookmark size keys old mid keyed room has) long
 
     new : List StoredTable
     new = with_nodes table (with_data_at (table_nodes ready table) bookmark row) ready
@@ -260,6 +293,7 @@ put_done laws table bookmark row size keys old mid ready there room has = record
 -- nothing was done
 pub nothing_put : (table : ℕ) (schema : Schema) (trees : List StoredTable) → IsSame table schema trees trees
 nothing_put table schema trees = record {
+  values = λ other. refl;
   numbers = refl;
   indexes = λ other. refl;
   rows = λ other own. refl;

@@ -17,12 +17,12 @@ use Rattle.jet_catalog.specs.Catalog.{CatalogState, IsNumbered, catalog_after, i
 use Rattle.page_image.specs.Page.{Node}
 use Rattle.record_changes.proofs.Tests.{or_first, or_second, self_equal}
 use Rattle.table_trees.specs.StoredNodes.{bookmark_entries}
-use Rattle.table_trees.specs.StoredTables.{StoredIndex, StoredTable, has_index, has_table, index_entries, is_index, is_table, put_indexes, table_indexes, table_nodes, with_indexes, with_new_index, without_index as without_tree, without_where}
+use Rattle.table_trees.specs.StoredTables.{table_long_values, StoredIndex, StoredTable, has_index, has_table, index_entries, is_index, is_table, put_indexes, table_indexes, table_nodes, with_indexes, with_new_index, without_index as without_tree, without_where}
 use Rattle.variant_trees.specs.NewEntries.{CanFill, HasNewestKeys, IsTakenRow, OnlyEntries, is_newest_key}
-use Rattle.stored_variants.specs.RecordRows.{record_of, row_under}
+use Rattle.stored_variants.specs.RecordRows.{TableValues, record_of, row_under}
 use Rattle.stored_variants.specs.SchemaSteps.{IsIndexFor, IsMade}
-use Rattle.stored_variants.specs.VersionsKept.{AreKept, IsKeptTable, IsRowUnder, needed_trees, secondary_rules, tree_numbers}
-use Rattle.stored_variants.specs.VersionsView.{with_newest}
+use Rattle.stored_variants.specs.VersionsKept.{AreKeptWith, IsKeptTable, IsRowUnder, needed_trees, secondary_rules, tree_numbers}
+use Rattle.stored_variants.specs.VersionsView.{with_newest_by}
 use Rattle.variant_trees.proofs.Forgotten.{distinct_ids, no_refusal}
 use Rattle.variant_trees.proofs.LeftNodes.{numbers_needed}
 use Rattle.variant_trees.proofs.MadeIndexes.{apart_from, tree_of_index}
@@ -32,6 +32,8 @@ use Rattle.stored_variants.proofs.NodeRecords.{record_at}
 use Rattle.variant_trees.proofs.Stepping.{map_last}
 use Rattle.stored_variants.proofs.Tables.{found_number, table_at}
 use Rattle.variant_trees.proofs.TreeNumbers.{changed_numbers, same_indexes}
+use Rattle.stored_variants.specs.CountedValues.{AreCounted}
+use Rattle.variant_trees.specs.GoneKeys.{KeepsValues}
 
 -- ---- laws of trees
 
@@ -56,17 +58,17 @@ pub record NewIndexLaws : Type 0 where
 -- ---- the table that an index comes to
 
 -- what is asked of the table in the store is asked of the one in the catalog
-pub for_table : (rule : IndexRule) (id : ℕ) (tables : List Table) (trees : List StoredTable) → IsSomeAnd (table_with_id (map (with_newest trees) tables) id) (IsIndexFor rule) → IsSomeAnd (table_with_id tables id) (λ t. IsIndexFor rule (with_newest trees t))
-for_table rule id tables trees fit = by (table_with_id tables id) (subst (λ (o : Option Table). IsSomeAnd o (IsIndexFor rule)) (table_at trees tables id) fit)
+pub for_table : (longs : TableValues) (rule : IndexRule) (id : ℕ) (tables : List Table) (trees : List StoredTable) → IsSomeAnd (table_with_id (map (with_newest_by longs trees) tables) id) (IsIndexFor rule) → IsSomeAnd (table_with_id tables id) (λ t. IsIndexFor rule (with_newest_by longs trees t))
+for_table longs rule id tables trees fit = by (table_with_id tables id) (subst (λ (o : Option Table). IsSomeAnd o (IsIndexFor rule)) (table_at longs trees tables id) fit)
   where
-    by : (o : Option Table) → IsSomeAnd (option_map (with_newest trees) o) (IsIndexFor rule) → IsSomeAnd o (λ t. IsIndexFor rule (with_newest trees t))
+    by : (o : Option Table) → IsSomeAnd (option_map (with_newest_by longs trees) o) (IsIndexFor rule) → IsSomeAnd o (λ t. IsIndexFor rule (with_newest_by longs trees t))
     by None h = absurd h
     by (Some t) h = h
 
-pub in_trees : (id : ℕ) (rule : IndexRule) (tables : List Table) (trees : List StoredTable) → IsSomeAnd (table_with_id (map (with_newest trees) tables) id) (IsIndexFor rule) → is_some (table_with_id tables id) ≡ true
-in_trees id rule tables trees fit = by (table_with_id tables id) (for_table rule id tables trees fit)
+pub in_trees : (longs : TableValues) (id : ℕ) (rule : IndexRule) (tables : List Table) (trees : List StoredTable) → IsSomeAnd (table_with_id (map (with_newest_by longs trees) tables) id) (IsIndexFor rule) → is_some (table_with_id tables id) ≡ true
+in_trees longs id rule tables trees fit = by (table_with_id tables id) (for_table longs rule id tables trees fit)
   where
-    by : (o : Option Table) → IsSomeAnd o (λ t. IsIndexFor rule (with_newest trees t)) → is_some o ≡ true
+    by : (o : Option Table) → IsSomeAnd o (λ t. IsIndexFor rule (with_newest_by longs trees t)) → is_some o ≡ true
     by None h = absurd h
     by (Some t) h = refl
 
@@ -80,10 +82,10 @@ none_left p q (r ∷ rules) h = by (q r) (none_left p q rules (or_second (p r) _
     by true rest = ap (λ b. b || list_any p (filter q rules)) (or_first (p r) _ h) ∙ rest
     by false rest = rest
 
-pub no_index : (id : ℕ) (rule : IndexRule) (tables : List Table) (trees : List StoredTable) → AreKept tables trees [] → IsSomeAnd (table_with_id (map (with_newest trees) tables) id) (IsIndexFor rule) → has_index trees id rule.id.0 ≡ false
-no_index id rule tables trees kept fit = by (table_with_id tables id) refl (for_table rule id tables trees fit)
+pub no_index : (longs : TableValues) (id : ℕ) (rule : IndexRule) (tables : List Table) (trees : List StoredTable) → AreKeptWith longs tables trees [] → IsSomeAnd (table_with_id (map (with_newest_by longs trees) tables) id) (IsIndexFor rule) → has_index trees id rule.id.0 ≡ false
+no_index longs id rule tables trees kept fit = by (table_with_id tables id) refl (for_table longs rule id tables trees fit)
   where
-    by : (o : Option Table) → table_with_id tables id ≡ o → IsSomeAnd o (λ t. IsIndexFor rule (with_newest trees t)) → has_index trees id rule.id.0 ≡ false
+    by : (o : Option Table) → table_with_id tables id ≡ o → IsSomeAnd o (λ t. IsIndexFor rule (with_newest_by longs trees t)) → has_index trees id rule.id.0 ≡ false
     by None e h = absurd h
     by (Some t) e h = tree_of_index id tables trees kept.numbers t e rule.id.0 ∙ none_left (λ r. r.id.0 == rule.id.0) (λ r. not r.flags.primary) t.indexes h.number
 
@@ -95,36 +97,36 @@ no_entries index (x ∷ indexes) h =
 
 -- ---- its tree, before it is filled
 
-pub new_is_there : IsBeside → (id : ℕ) (rule : IndexRule) (tables : List Table) (trees : List StoredTable) → has_table trees id ≡ true → AreKept tables trees [] → IsSomeAnd (table_with_id (map (with_newest trees) tables) id) (IsIndexFor rule)
+pub new_is_there : (longs : TableValues) → IsBeside → (id : ℕ) (rule : IndexRule) (tables : List Table) (trees : List StoredTable) → has_table trees id ≡ true → AreKeptWith longs tables trees [] → IsSomeAnd (table_with_id (map (with_newest_by longs trees) tables) id) (IsIndexFor rule)
     → has_index (with_new_index id rule.id.0 trees) id rule.id.0 ≡ true
-new_is_there beside id rule tables trees there kept fit =
-    beside trees id rule.id.0 rule.id.0 there ∙ ap (λ b. b || (rule.id.0 == rule.id.0)) (no_index id rule tables trees kept fit) ∙ self_equal rule.id.0
+new_is_there longs beside id rule tables trees there kept fit =
+    beside trees id rule.id.0 rule.id.0 there ∙ ap (λ b. b || (rule.id.0 == rule.id.0)) (no_index longs id rule tables trees kept fit) ∙ self_equal rule.id.0
 
-pub new_is_empty : EntriesStay → (id : ℕ) (rule : IndexRule) (tables : List Table) (trees : List StoredTable) → AreKept tables trees [] → IsSomeAnd (table_with_id (map (with_newest trees) tables) id) (IsIndexFor rule)
+pub new_is_empty : (longs : TableValues) → EntriesStay → (id : ℕ) (rule : IndexRule) (tables : List Table) (trees : List StoredTable) → AreKeptWith longs tables trees [] → IsSomeAnd (table_with_id (map (with_newest_by longs trees) tables) id) (IsIndexFor rule)
     → index_entries (with_new_index id rule.id.0 trees) id rule.id.0 ≡ []
-new_is_empty stay id rule tables trees kept fit = stay trees id rule.id.0 rule.id.0 ∙ no_entries rule.id.0 (table_indexes trees id) (no_index id rule tables trees kept fit)
+new_is_empty longs stay id rule tables trees kept fit = stay trees id rule.id.0 rule.id.0 ∙ no_entries rule.id.0 (table_indexes trees id) (no_index longs id rule tables trees kept fit)
 
 pub new_nodes : NodesStay → (trees : List StoredTable) (id index table : ℕ) → table_nodes (with_new_index id index trees) table ≡ table_nodes trees table
 new_nodes stay trees id index table = stay trees id table (table_indexes trees id ++ (index, []) ∷ [])
 
 -- no record that stands is refused
-pub can_fill : (id : ℕ) (rule : IndexRule) (tables : List Table) (trees other : List StoredTable) → ((table : ℕ) → are_sorted (bookmark_entries (table_nodes trees table)) ≡ true) → ((table : ℕ) → table_nodes other table ≡ table_nodes trees table)
-    → AreKept tables trees [] → IsSomeAnd (table_with_id (map (with_newest trees) tables) id) (IsIndexFor rule) → IsSomeAnd (table_with_id tables id) (CanFill rule (table_nodes other id))
-can_fill id rule tables trees other sorted same kept fit = by (table_with_id tables id) refl (for_table rule id tables trees fit) (kept.each id)
+pub can_fill : (longs : TableValues) (id : ℕ) (rule : IndexRule) (tables : List Table) (trees other : List StoredTable) → ((table : ℕ) → are_sorted (bookmark_entries (table_nodes trees table)) ≡ true) → ((table : ℕ) → table_nodes other table ≡ table_nodes trees table)
+    → AreKeptWith longs tables trees [] → IsSomeAnd (table_with_id (map (with_newest_by longs trees) tables) id) (IsIndexFor rule) → IsSomeAnd (table_with_id tables id) (CanFill (longs id) rule (table_nodes other id))
+can_fill longs id rule tables trees other sorted same kept fit = by (table_with_id tables id) refl (for_table longs rule id tables trees fit) (kept.each id)
   where
-    rows : (t : Table) → IsIndexFor rule (with_newest trees t) → IsKeptTable trees (table_nodes trees t.id) [] t → (bookmark : List ℕ) (row : Option (List ℕ)) → row_under (table_nodes trees t.id) bookmark ≡ row → IfSome row (IsRowUnder t bookmark)
-        → IfSome row (IsTakenRow rule (schema_of t))
+    rows : (t : Table) → IsIndexFor rule (with_newest_by longs trees t) → IsKeptTable trees (longs t.id) (table_nodes trees t.id) [] t → (bookmark : List ℕ) (row : Option (List ℕ)) → row_under (table_nodes trees t.id) bookmark ≡ row → IfSome row (IsRowUnder (longs id) t bookmark)
+        → IfSome row (IsTakenRow (longs id) rule (schema_of t))
     rows t h k bookmark None e is = tt
     rows t h k bookmark (Some bytes) e is =
-        let takes = row_taken trees t rule (sorted t.id) h bookmark bytes e in
-        record { row = is.fits.row; columns = is.fits.columns; taken = no_refusal (entries rule (schema_of t) (record_of bytes)) takes.0 takes.1 }
+        let takes = row_taken longs trees t rule (sorted t.id) h bookmark bytes e in
+        record { row = is.fits.row; columns = is.fits.columns; taken = no_refusal (entries rule (schema_of t) (record_of (longs id) bytes)) takes.0 takes.1 }
 
-    by : (o : Option Table) → table_with_id tables id ≡ o → IsSomeAnd o (λ t. IsIndexFor rule (with_newest trees t)) → IfSome o (IsKeptTable trees (table_nodes trees id) []) → IsSomeAnd o (CanFill rule (table_nodes other id))
+    by : (o : Option Table) → table_with_id tables id ≡ o → IsSomeAnd o (λ t. IsIndexFor rule (with_newest_by longs trees t)) → IfSome o (IsKeptTable trees (longs id) (table_nodes trees id) []) → IsSomeAnd o (CanFill (longs id) rule (table_nodes other id))
     by None e h k = absurd h
     by (Some t) e h k =
         let number : t.id ≡ id = found_number id tables t e in
-        let here : IsKeptTable trees (table_nodes trees t.id) [] t = subst (λ (n : ℕ). IsKeptTable trees (table_nodes trees n) [] t) (sym number) k in
-        subst (λ (nodes : List Node). CanFill rule nodes t) (ap (table_nodes trees) number ∙ sym (same id))
+        let here : IsKeptTable trees (longs t.id) (table_nodes trees t.id) [] t = subst (λ (n : ℕ). IsKeptTable trees (longs n) (table_nodes trees n) [] t) (sym number) k in
+        subst (λ (nodes : List Node). CanFill (longs id) rule nodes t) (ap (table_nodes trees) number ∙ sym (same id))
         (record { legal = h.legal; short = h.short; rows = λ bookmark. rows t h here bookmark (row_under (table_nodes trees t.id) bookmark) refl (here.rows bookmark) })
 
 -- ---- the trees with the new one
@@ -150,10 +152,10 @@ new_numbers id rule greatest tables trees other rise plain numbers only =
     (changed_numbers id (λ ns. ns ++ rule.id.0 ∷ []) (with_index rule) (needs_one rule plain) (λ xs. xs ++ (rule.id.0, []) ∷ []) (λ xs. map_last (λ (x : StoredIndex). x.0) xs (rule.id.0, [])) 0 greatest tables trees rise numbers)
     only.changes.numbers only.changes.indexes
 
-pub with_new : NewIndexLaws → (id : ℕ) (rule : IndexRule) (greatest : ℕ) (tables : List Table) (trees other : List StoredTable) → ((table : ℕ) → are_sorted (bookmark_entries (table_nodes trees table)) ≡ true) → ids_rise 0 greatest tables ≡ true → rule.flags.primary ≡ false
-    → AreKept tables trees [] → OnlyEntries id rule.id.0 (with_new_index id rule.id.0 trees) other
-    → IfSome (table_with_id tables id) (λ t. HasNewestKeys rule (table_nodes (with_new_index id rule.id.0 trees) id) (index_entries other id rule.id.0) (schema_of t)) → AreWithIndex id rule tables trees other
-with_new laws id rule greatest tables trees other sorted rise plain kept only filled = record {
+pub with_new : (longs : TableValues) → NewIndexLaws → (id : ℕ) (rule : IndexRule) (greatest : ℕ) (tables : List Table) (trees other : List StoredTable) → ((table : ℕ) → are_sorted (bookmark_entries (table_nodes trees table)) ≡ true) → ids_rise 0 greatest tables ≡ true → rule.flags.primary ≡ false
+    → AreKeptWith longs tables trees [] → OnlyEntries id rule.id.0 (with_new_index id rule.id.0 trees) other
+    → IfSome (table_with_id tables id) (λ t. HasNewestKeys (longs id) rule (table_nodes (with_new_index id rule.id.0 trees) id) (index_entries other id rule.id.0) (schema_of t)) → AreWithIndex longs id rule tables trees other
+with_new longs laws id rule greatest tables trees other sorted rise plain kept only filled = record {
   nodes = λ table. only.changes.nodes table ∙ laws.nodes trees id table more;
   tables_stay = λ table apart.
       sym (laws.others other id table (without_where (is_index rule.id.0) (table_indexes other id)) (apart_from table id apart))
@@ -165,8 +167,8 @@ with_new laws id rule greatest tables trees other sorted rise plain kept only fi
       ∙ laws.without base id rule.id.0 index (apart_from index rule.id.0 apart) ∙ laws.entries trees id rule.id.0 index;
   own = λ t found plain key bookmark.
       has t found key bookmark
-      ∙ ap (λ (nodes : List Node). is_newest_key rule (schema_of t) nodes key bookmark) (laws.nodes trees id id more)
-      ∙ sym (ap (λ (values : Option RecordFields). yields_key rule (schema_of t) key values) (record_at (table_nodes trees id) (sorted id) bookmark));
+      ∙ ap (λ (nodes : List Node). is_newest_key (longs id) rule (schema_of t) nodes key bookmark) (laws.nodes trees id id more)
+      ∙ sym (ap (λ (values : Option RecordFields). yields_key rule (schema_of t) key values) (record_at (longs id) (table_nodes trees id) (sorted id) bookmark));
   numbers = new_numbers id rule greatest tables trees other rise plain kept.numbers only;
 }
   where
@@ -176,8 +178,8 @@ with_new laws id rule greatest tables trees other sorted rise plain kept only fi
     base : List StoredTable
     base = with_new_index id rule.id.0 trees
 
-    has : (t : Table) → table_with_id tables id ≡ Some t → HasNewestKeys rule (table_nodes base id) (index_entries other id rule.id.0) (schema_of t)
-    has t found = subst (λ (o : Option Table). IfSome o (λ t. HasNewestKeys rule (table_nodes base id) (index_entries other id rule.id.0) (schema_of t))) found filled
+    has : (t : Table) → table_with_id tables id ≡ Some t → HasNewestKeys (longs id) rule (table_nodes base id) (index_entries other id rule.id.0) (schema_of t)
+    has t found = subst (λ (o : Option Table). IfSome o (λ t. HasNewestKeys (longs id) rule (table_nodes base id) (index_entries other id rule.id.0) (schema_of t))) found filled
 
 -- ---- and without it again
 
@@ -187,9 +189,9 @@ last_gone index (x ∷ indexes) h =
     ap (λ b. cond (not b) (x ∷ without_where (is_index index) (indexes ++ (index, []) ∷ [])) (without_where (is_index index) (indexes ++ (index, []) ∷ []))) (or_first (is_index index x) _ h)
     ∙ ap (λ (ys : List StoredIndex). x ∷ ys) (last_gone index indexes (or_second (is_index index x) _ h))
 
-pub taken_back : IsNamed → (id index : ℕ) (greatest : ℕ) (tables : List Table) (trees other : List StoredTable) → ids_rise 0 greatest tables ≡ true → AreKept tables trees [] → has_table trees id ≡ true → has_index trees id index ≡ false
+pub taken_back : (longs : TableValues) → IsNamed → (id index : ℕ) (greatest : ℕ) (tables : List Table) (trees other : List StoredTable) → ids_rise 0 greatest tables ≡ true → AreKeptWith longs tables trees [] → has_table trees id ≡ true → has_index trees id index ≡ false
     → OnlyEntries id index (with_new_index id index trees) other → without_tree id index other ≡ trees
-taken_back named id index greatest tables trees other rise kept there absent only =
+taken_back longs named id index greatest tables trees other rise kept there absent only =
     only.rest
     ∙ ap (λ (l : List StoredIndex). with_indexes id (without_where (is_index index) l) (with_new_index id index trees)) (named trees id more there)
     ∙ ap (λ (l : List StoredIndex). with_indexes id l (with_new_index id index trees)) (last_gone index (table_indexes trees id) absent)
@@ -202,9 +204,9 @@ taken_back named id index greatest tables trees other rise kept there absent onl
 -- ---- in a catalog
 
 pub new_created : NewIndexLaws → (made : SchemaStep) (id : TableId) (rule : IndexRule) → made ≡ step.CreateIndex id rule → (was : CatalogState) (trees : List StoredTable) → ((table : ℕ) → are_sorted (bookmark_entries (table_nodes trees table)) ≡ true) → IsNumbered was
-    → rule.flags.primary ≡ false → IsSomeAnd (table_with_id (map (with_newest trees) was.tables) id.0) (IsIndexFor rule) → AreKept was.tables trees [] → (is : CatalogState) → is ≡ catalog_after was made → (base other : List StoredTable) → base ≡ with_new_index id.0 rule.id.0 trees
-    → OnlyEntries id.0 rule.id.0 base other → IfSome (table_with_id was.tables id.0) (λ t. HasNewestKeys rule (table_nodes base id.0) (index_entries other id.0 rule.id.0) (schema_of t)) → IsMade made was trees is other
-new_created laws made id rule step_is was trees sorted rise plain fit kept is is_after base other base_is only filled =
+    → rule.flags.primary ≡ false → IsSomeAnd (table_with_id (map (with_newest_by (table_long_values trees) trees) was.tables) id.0) (IsIndexFor rule) → AreKeptWith (table_long_values trees) was.tables trees [] → (is : CatalogState) → is ≡ catalog_after was made → (base other : List StoredTable) → base ≡ with_new_index id.0 rule.id.0 trees
+    → OnlyEntries id.0 rule.id.0 base other → IfSome (table_with_id was.tables id.0) (λ t. HasNewestKeys (table_long_values trees id.0) rule (table_nodes base id.0) (index_entries other id.0 rule.id.0) (schema_of t)) → KeepsValues trees other → AreCounted other [] → IsMade made was trees is other
+new_created laws made id rule step_is was trees sorted rise plain fit kept is is_after base other base_is only filled keeps counts =
     index_created made id rule step_is was trees sorted fit kept is is_after other
-    (with_new laws id.0 rule was.greatest_table was.tables trees other sorted rise plain kept (subst (λ (b : List StoredTable). OnlyEntries id.0 rule.id.0 b other) base_is only)
-    (subst (λ (b : List StoredTable). IfSome (table_with_id was.tables id.0) (λ t. HasNewestKeys rule (table_nodes b id.0) (index_entries other id.0 rule.id.0) (schema_of t))) base_is filled))
+    (with_new (table_long_values trees) laws id.0 rule was.greatest_table was.tables trees other sorted rise plain kept (subst (λ (b : List StoredTable). OnlyEntries id.0 rule.id.0 b other) base_is only)
+    (subst (λ (b : List StoredTable). IfSome (table_with_id was.tables id.0) (λ t. HasNewestKeys (table_long_values trees id.0) rule (table_nodes b id.0) (index_entries other id.0 rule.id.0) (schema_of t))) base_is filled)) keeps counts

@@ -22,12 +22,13 @@ use Rattle.table_trees.specs.StoredTrees.{StoredCatalog, StoredRoots, roots_by_n
 use Rattle.version_keys.proofs.SchemaKeys.{this_table}
 use Rattle.stored_variants.specs.SchemaSteps.{IsColumnFor, IsIndexFor}
 use Rattle.stored_variants.specs.VersionsKept.{secondary_rule}
-use Rattle.stored_variants.specs.VersionsView.{with_newest}
+use Rattle.stored_variants.specs.VersionsView.{with_newest_by}
 use Rattle.stored_variants.proofs.Tables.{found_number, table_at}
 use Rattle.variant_trees.specs.LeftVariants.{DistinctIds}
 use Rattle.variant_trees.proofs.Forgotten.{distinct_ids}
 use Rattle.variant_trees.proofs.IndexTrees.{for_table}
 use Rattle.variant_trees.proofs.MadeIndexes.{needs_tree}
+use Rattle.stored_variants.specs.RecordRows.{TableValues}
 
 -- it is shown by what was kept, and before it was by the same roots
 pub step_kept : (was is : StoredCatalog) (catalog : CatalogState) (made : SchemaStep) → ShowsCatalog was catalog → is.roots ≡ was.roots → ShowsCatalog is (catalog_after catalog made) → ShowsStep is catalog made
@@ -69,10 +70,10 @@ new_column was id t column greatest found fits given =
     record { there = found_itself id t was.tables found; new = is.new; number = is.positive; fits = is.fits; greatest_is = sym given }
 
 -- what is asked of the table in the store is asked of the one in the catalog
-pub column_for : (column : Column) (id : ℕ) (tables : List Table) (trees : List StoredTable) → IsSomeAnd (table_with_id (map (with_newest trees) tables) id) (IsColumnFor column) → IsSomeAnd (table_with_id tables id) (IsColumnFor column)
-column_for column id tables trees fit = by (table_with_id tables id) (subst (λ (o : Option Table). IsSomeAnd o (IsColumnFor column)) (table_at trees tables id) fit)
+pub column_for : (longs : TableValues) (column : Column) (id : ℕ) (tables : List Table) (trees : List StoredTable) → IsSomeAnd (table_with_id (map (with_newest_by longs trees) tables) id) (IsColumnFor column) → IsSomeAnd (table_with_id tables id) (IsColumnFor column)
+column_for longs column id tables trees fit = by (table_with_id tables id) (subst (λ (o : Option Table). IsSomeAnd o (IsColumnFor column)) (table_at longs trees tables id) fit)
   where
-    by : (o : Option Table) → IsSomeAnd (option_map (with_newest trees) o) (IsColumnFor column) → IsSomeAnd o (IsColumnFor column)
+    by : (o : Option Table) → IsSomeAnd (option_map (with_newest_by longs trees) o) (IsColumnFor column) → IsSomeAnd o (IsColumnFor column)
     by None h = absurd h
     by (Some t) h = record { new = h.new; positive = h.positive; fits = h.fits }
 
@@ -91,10 +92,10 @@ old_column was id column there = by (table_with_id was.tables id.0) refl there
 
 -- ---- a new index
 
-pub new_index : (id : TableId) (rule : IndexRule) (was : CatalogState) (trees : List StoredTable) → IsSomeAnd (table_with_id (map (with_newest trees) was.tables) id.0) (IsIndexFor rule) → IsNewIndex was id rule
-new_index id rule was trees fit = by (table_with_id was.tables id.0) refl (for_table rule id.0 was.tables trees fit)
+pub new_index : (longs : TableValues) (id : TableId) (rule : IndexRule) (was : CatalogState) (trees : List StoredTable) → IsSomeAnd (table_with_id (map (with_newest_by longs trees) was.tables) id.0) (IsIndexFor rule) → IsNewIndex was id rule
+new_index longs id rule was trees fit = by (table_with_id was.tables id.0) refl (for_table longs rule id.0 was.tables trees fit)
   where
-    by : (o : Option Table) → table_with_id was.tables id.0 ≡ o → IsSomeAnd o (λ t. IsIndexFor rule (with_newest trees t)) → IsNewIndex was id rule
+    by : (o : Option Table) → table_with_id was.tables id.0 ≡ o → IsSomeAnd o (λ t. IsIndexFor rule (with_newest_by longs trees t)) → IsNewIndex was id rule
     by None e h = absurd h
     by (Some t) e h = record { t = t; there = e; new = h.number; number = h.positive; fits = h.fits }
 

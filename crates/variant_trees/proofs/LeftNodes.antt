@@ -15,11 +15,11 @@ use Rattle.table_trees.specs.StoredTables.{StoredIndex, StoredTable, has_table, 
 use Rattle.version_store.specs.HeldChanges.{HeldChange, is_rewrite}
 use Rattle.versioned_tables.specs.HeldRecords.{HeldRecord, is_standing_rewrite}
 use Rattle.versioned_tables.specs.Variants.{HoldsVariants, has_variant, is_variant_key}
-use Rattle.stored_variants.specs.RecordRows.{some_before, held_record, record_of, row_in_node, row_under, rows_of_nodes}
+use Rattle.stored_variants.specs.RecordRows.{TableValues, some_before, held_record_in, record_of, row_in_node, row_under, rows_of_nodes}
 use Rattle.variant_trees.specs.GoneKeys.{ChangesEntries, LosesRecord, index_numbers, is_gone_key, table_numbers}
 use Rattle.variant_trees.specs.LeftVariants.{AreLeft, DistinctIds, IsLeft, LosesNode, is_this}
-use Rattle.stored_variants.specs.VersionsView.{with_newest}
-use Rattle.stored_variants.specs.VersionsKept.{AreKept, IsKeptChange, IsKeptTable, IsRowUnder, needed_trees, only_secondary, secondary_rule, tree_numbers}
+use Rattle.stored_variants.specs.VersionsView.{with_newest_by}
+use Rattle.stored_variants.specs.VersionsKept.{AreKeptWith, IsKeptChange, IsKeptTable, IsRowUnder, needed_trees, only_secondary, secondary_rule, tree_numbers}
 use Rattle.variant_trees.proofs.EntryTrees.{no_part, other_number}
 use Rattle.stored_variants.proofs.NodeRecords.{turned}
 use Rattle.stored_variants.proofs.Tables.{found_number}
@@ -103,9 +103,9 @@ pub record Goes (newest : Option RecordFields) (held : List HeldRecord) (schema 
   pub keys : LosesRecord newest held schema id bookmark gone old between
   pub node : LosesNode (has_variant newest held id bookmark) id bookmark between new
 
-rows_stay : (newest : Option RecordFields) (held : List HeldRecord) (schema : Schema) (id : ℕ) (bookmark : List ℕ) (gone : RecordFields) (old between new : List StoredTable) → Goes newest held schema id bookmark gone old between new
-    → (table : ℕ) → rows_of_nodes (table_nodes new table) ≡ rows_of_nodes (table_nodes old table)
-rows_stay newest held schema id bookmark gone old between new goes table = goes.node.rows table ∙ ap rows_of_nodes (goes.changes.nodes table)
+rows_stay : (longs : TableValues) (newest : Option RecordFields) (held : List HeldRecord) (schema : Schema) (id : ℕ) (bookmark : List ℕ) (gone : RecordFields) (old between new : List StoredTable) → Goes newest held schema id bookmark gone old between new
+    → (table : ℕ) → rows_of_nodes (longs table) (table_nodes new table) ≡ rows_of_nodes (longs table) (table_nodes old table)
+rows_stay longs newest held schema id bookmark gone old between new goes table = goes.node.rows (longs table) table ∙ ap (rows_of_nodes (longs table)) (goes.changes.nodes table)
 
 found_then : (newest : Option RecordFields) (held : List HeldRecord) (schema : Schema) (id : ℕ) (bookmark : List ℕ) (gone : RecordFields) (old between new : List StoredTable) → Goes newest held schema id bookmark gone old between new
     → (table : ℕ) (own : List ℕ) → find (has_key own) (table_nodes new table) ≡ cond (not (has_variant newest held id bookmark) && is_this id bookmark table own) None (find (has_key own) (table_nodes old table))
@@ -120,31 +120,31 @@ this_table id bookmark table own e = same_number id table (and_left (id == table
 this_bookmark : (id : ℕ) (bookmark : List ℕ) (table : ℕ) (own : List ℕ) → is_this id bookmark table own ≡ true → bookmark ≡ own
 this_bookmark id bookmark table own e = same_bytes bookmark own (and_right (id == table) (bytes_eq bookmark own) e)
 
-pub table_kept_then : (newest : Option RecordFields) (held : List HeldRecord) (schema : Schema) (id : ℕ) (bookmark : List ℕ) (gone : RecordFields) (old between new : List StoredTable) → Goes newest held schema id bookmark gone old between new
-    → newest ≡ row_at (rows_of_nodes (table_nodes old id)) bookmark → (t : Table) → (t.id ≡ id → schema ≡ schema_of t)
-    → IsLeft old (table_nodes old t.id) held id bookmark gone t → IsKeptTable new (table_nodes new t.id) held t
-table_kept_then newest held schema id bookmark gone old between new goes is_newest t same_schema left = record {
+pub table_kept_then : (longs : TableValues) (newest : Option RecordFields) (held : List HeldRecord) (schema : Schema) (id : ℕ) (bookmark : List ℕ) (gone : RecordFields) (old between new : List StoredTable) → Goes newest held schema id bookmark gone old between new
+    → newest ≡ row_at (rows_of_nodes (longs id) (table_nodes old id)) bookmark → (t : Table) → (t.id ≡ id → schema ≡ schema_of t)
+    → IsLeft old (longs t.id) (table_nodes old t.id) held id bookmark gone t → IsKeptTable new (longs t.id) (table_nodes new t.id) held t
+table_kept_then longs newest held schema id bookmark gone old between new goes is_newest t same_schema left = record {
   rules = left.rules;
   rows = λ own.
-      subst (λ (o : Option Node). IfSome (option_and_then row_in_node (option_map (λ (n : Node). n.data) o)) (IsRowUnder t own)) (sym (found_then newest held schema id bookmark gone old between new goes t.id own))
+      subst (λ (o : Option Node). IfSome (option_and_then row_in_node (option_map (λ (n : Node). n.data) o)) (IsRowUnder (longs t.id) t own)) (sym (found_then newest held schema id bookmark gone old between new goes t.id own))
       (row_left own (not (has_variant newest held id bookmark) && is_this id bookmark t.id own) (left.rows own));
   stands = λ own.
       ap (λ (o : Option Node). is_some (option_map (λ (n : Node). n.data) o)) (found_then newest held schema id bookmark gone old between new goes t.id own)
       ∙ node_left own (is_this id bookmark t.id own) refl
       ∙ sym (left.stands own)
-      ∙ ap (λ (rows : Rows). has_variant (row_at rows own) held t.id own) (sym (rows_stay newest held schema id bookmark gone old between new goes t.id));
+      ∙ ap (λ (rows : Rows). has_variant (row_at rows own) held t.id own) (sym (rows_stay longs newest held schema id bookmark gone old between new goes t.id));
   entries = λ index. entries_left index (secondary_rule t index) refl (left.entries index);
 }
   where
-    row_left : (own : List ℕ) (b : Bool) → IfSome (row_under (table_nodes old t.id) own) (IsRowUnder t own)
-        → IfSome (option_and_then row_in_node (option_map (λ (n : Node). n.data) (cond b None (find (has_key own) (table_nodes old t.id))))) (IsRowUnder t own)
+    row_left : (own : List ℕ) (b : Bool) → IfSome (row_under (table_nodes old t.id) own) (IsRowUnder (longs t.id) t own)
+        → IfSome (option_and_then row_in_node (option_map (λ (n : Node). n.data) (cond b None (find (has_key own) (table_nodes old t.id))))) (IsRowUnder (longs t.id) t own)
     row_left own true is = tt
     row_left own false is = is
 
-    left_here : (own : List ℕ) → is_this id bookmark t.id own ≡ true → has_variant newest held id bookmark ≡ has_variant (row_at (rows_of_nodes (table_nodes old t.id)) own) held t.id own
+    left_here : (own : List ℕ) → is_this id bookmark t.id own ≡ true → has_variant newest held id bookmark ≡ has_variant (row_at (rows_of_nodes (longs t.id) (table_nodes old t.id)) own) held t.id own
     left_here own e =
         ap (λ n. has_variant n held id bookmark) is_newest
-        ∙ (λ i. has_variant (row_at (rows_of_nodes (table_nodes old (this_table id bookmark t.id own e i))) (this_bookmark id bookmark t.id own e i)) held (this_table id bookmark t.id own e i) (this_bookmark id bookmark t.id own e i))
+        ∙ (λ i. has_variant (row_at (rows_of_nodes (longs (this_table id bookmark t.id own e i)) (table_nodes old (this_table id bookmark t.id own e i))) (this_bookmark id bookmark t.id own e i)) held (this_table id bookmark t.id own e i) (this_bookmark id bookmark t.id own e i))
 
     taken_node : (v : Bool) (o : Option Node) → is_some (option_map (λ (n : Node). n.data) (cond (not v && true) None o)) ≡ (is_some (option_map (λ (n : Node). n.data) o) && not (true && not v))
     taken_node true None = refl
@@ -160,15 +160,15 @@ table_kept_then newest held schema id bookmark gone old between new goes is_newe
 
     node_left : (own : List ℕ) (b : Bool) → is_this id bookmark t.id own ≡ b
         → is_some (option_map (λ (n : Node). n.data) (cond (not (has_variant newest held id bookmark) && is_this id bookmark t.id own) None (find (has_key own) (table_nodes old t.id))))
-        ≡ (is_some (get_in (table_nodes old t.id) own) && not (is_this id bookmark t.id own && not (has_variant (row_at (rows_of_nodes (table_nodes old t.id)) own) held t.id own)))
+        ≡ (is_some (get_in (table_nodes old t.id) own) && not (is_this id bookmark t.id own && not (has_variant (row_at (rows_of_nodes (longs t.id) (table_nodes old t.id)) own) held t.id own)))
     node_left own true e =
         (λ i. is_some (option_map (λ (n : Node). n.data) (cond (not (left_here own e i) && e i) None (find (has_key own) (table_nodes old t.id)))))
-        ∙ taken_node (has_variant (row_at (rows_of_nodes (table_nodes old t.id)) own) held t.id own) (find (has_key own) (table_nodes old t.id))
-        ∙ (λ i. is_some (get_in (table_nodes old t.id) own) && not (sym e i && not (has_variant (row_at (rows_of_nodes (table_nodes old t.id)) own) held t.id own)))
+        ∙ taken_node (has_variant (row_at (rows_of_nodes (longs t.id) (table_nodes old t.id)) own) held t.id own) (find (has_key own) (table_nodes old t.id))
+        ∙ (λ i. is_some (get_in (table_nodes old t.id) own) && not (sym e i && not (has_variant (row_at (rows_of_nodes (longs t.id) (table_nodes old t.id)) own) held t.id own)))
     node_left own false e =
         (λ i. is_some (option_map (λ (n : Node). n.data) (cond (not (has_variant newest held id bookmark) && e i) None (find (has_key own) (table_nodes old t.id)))))
-        ∙ other_node (has_variant newest held id bookmark) (has_variant (row_at (rows_of_nodes (table_nodes old t.id)) own) held t.id own) (find (has_key own) (table_nodes old t.id))
-        ∙ (λ i. is_some (get_in (table_nodes old t.id) own) && not (sym e i && not (has_variant (row_at (rows_of_nodes (table_nodes old t.id)) own) held t.id own)))
+        ∙ other_node (has_variant newest held id bookmark) (has_variant (row_at (rows_of_nodes (longs t.id) (table_nodes old t.id)) own) held t.id own) (find (has_key own) (table_nodes old t.id))
+        ∙ (λ i. is_some (get_in (table_nodes old t.id) own) && not (sym e i && not (has_variant (row_at (rows_of_nodes (longs t.id) (table_nodes old t.id)) own) held t.id own)))
 
     same_entries : (index : ℕ) → index_entries new t.id index ≡ index_entries between t.id index
     same_entries index = ap (λ (indexes : List StoredIndex). part_of (is_index index) (λ x. x.1) indexes) (goes.node.indexes t.id)
@@ -179,11 +179,11 @@ table_kept_then newest held schema id bookmark gone old between new goes is_newe
 
     -- the keys that the record loses are those that are left
     gone_keys : (index : ℕ) (rule : IndexRule) → secondary_rule t index ≡ Some rule → (key own : List ℕ) (b : Bool) → (id == t.id) ≡ b
-        → has_entry key own (index_entries between t.id index) ≡ (has_entry key own (index_entries old t.id index) && not (is_this id bookmark t.id own && is_gone_key (row_at (rows_of_nodes (table_nodes old t.id)) own) held rule (schema_of t) t.id own gone key))
+        → has_entry key own (index_entries between t.id index) ≡ (has_entry key own (index_entries old t.id index) && not (is_this id bookmark t.id own && is_gone_key (row_at (rows_of_nodes (longs t.id) (table_nodes old t.id)) own) held rule (schema_of t) t.id own gone key))
     gone_keys index rule found key own false e =
         ap (has_entry key own) (goes.changes.entries t.id index (λ same. other_number id t.id e (sym same)))
         ∙ nothing (has_entry key own (index_entries old t.id index))
-        ∙ ap (λ b. has_entry key own (index_entries old t.id index) && not (b && is_gone_key (row_at (rows_of_nodes (table_nodes old t.id)) own) held rule (schema_of t) t.id own gone key)) (sym (ap (λ b. b && bytes_eq bookmark own) e))
+        ∙ ap (λ b. has_entry key own (index_entries old t.id index) && not (b && is_gone_key (row_at (rows_of_nodes (longs t.id) (table_nodes old t.id)) own) held rule (schema_of t) t.id own gone key)) (sym (ap (λ b. b && bytes_eq bookmark own) e))
     gone_keys index rule found key own true e =
         subst (λ (n : ℕ). has_entry key own (index_entries between n index) ≡ (has_entry key own (index_entries old n index) && not (bytes_eq own bookmark && is_gone_key newest held rule schema id bookmark gone key))) (same_number id t.id e) (lost key own)
         ∙ ap (λ b. has_entry key own (index_entries old t.id index) && not b) (this (bytes_eq own bookmark) refl)
@@ -195,25 +195,25 @@ table_kept_then newest held schema id bookmark gone old between new goes is_newe
         lost = subst (λ (o : Option IndexRule). IfSome o (λ r. (key own : List ℕ) → has_entry key own (index_entries between id index) ≡ (has_entry key own (index_entries old id index) && not (bytes_eq own bookmark && is_gone_key newest held r schema id bookmark gone key)))) rule_is (goes.keys index)
 
         this : (b : Bool) → bytes_eq own bookmark ≡ b
-            → (bytes_eq own bookmark && is_gone_key newest held rule schema id bookmark gone key) ≡ (is_this id bookmark t.id own && is_gone_key (row_at (rows_of_nodes (table_nodes old t.id)) own) held rule (schema_of t) t.id own gone key)
+            → (bytes_eq own bookmark && is_gone_key newest held rule schema id bookmark gone key) ≡ (is_this id bookmark t.id own && is_gone_key (row_at (rows_of_nodes (longs t.id) (table_nodes old t.id)) own) held rule (schema_of t) t.id own gone key)
         this true f =
             ap (λ n. bytes_eq own bookmark && is_gone_key n held rule schema id bookmark gone key) is_newest
-            ∙ (λ i. bytes_eq own bookmark && is_gone_key (row_at (rows_of_nodes (table_nodes old (same_number id t.id e i))) (sym (same_bytes own bookmark f) i)) held rule (same_schema (sym (same_number id t.id e)) i) (same_number id t.id e i) (sym (same_bytes own bookmark f) i) gone key)
-            ∙ ap (λ b. b && is_gone_key (row_at (rows_of_nodes (table_nodes old t.id)) own) held rule (schema_of t) t.id own gone key) (turned own bookmark ∙ sym (ap (λ b. b && bytes_eq bookmark own) e))
+            ∙ (λ i. bytes_eq own bookmark && is_gone_key (row_at (rows_of_nodes (longs (same_number id t.id e i)) (table_nodes old (same_number id t.id e i))) (sym (same_bytes own bookmark f) i)) held rule (same_schema (sym (same_number id t.id e)) i) (same_number id t.id e i) (sym (same_bytes own bookmark f) i) gone key)
+            ∙ ap (λ b. b && is_gone_key (row_at (rows_of_nodes (longs t.id) (table_nodes old t.id)) own) held rule (schema_of t) t.id own gone key) (turned own bookmark ∙ sym (ap (λ b. b && bytes_eq bookmark own) e))
         this false f =
             ap (λ b. b && is_gone_key newest held rule schema id bookmark gone key) f
-            ∙ sym (ap (λ b. b && is_gone_key (row_at (rows_of_nodes (table_nodes old t.id)) own) held rule (schema_of t) t.id own gone key) (ap (λ b. b && bytes_eq bookmark own) e ∙ sym (turned own bookmark) ∙ f))
+            ∙ sym (ap (λ b. b && is_gone_key (row_at (rows_of_nodes (longs t.id) (table_nodes old t.id)) own) held rule (schema_of t) t.id own gone key) (ap (λ b. b && bytes_eq bookmark own) e ∙ sym (turned own bookmark) ∙ f))
 
     entries_left : (index : ℕ) (o : Option IndexRule) → secondary_rule t index ≡ o
-        → IfSome o (λ rule. (key own : List ℕ) → is_variant_key (row_at (rows_of_nodes (table_nodes old t.id)) own) held rule (schema_of t) t.id key own
-        ≡ (has_entry key own (index_entries old t.id index) && not (is_this id bookmark t.id own && is_gone_key (row_at (rows_of_nodes (table_nodes old t.id)) own) held rule (schema_of t) t.id own gone key)))
-        → IfSome o (λ rule. HoldsVariants (rows_of_nodes (table_nodes new t.id)) held rule (schema_of t) t.id (index_entries new t.id index))
+        → IfSome o (λ rule. (key own : List ℕ) → is_variant_key (row_at (rows_of_nodes (longs t.id) (table_nodes old t.id)) own) held rule (schema_of t) t.id key own
+        ≡ (has_entry key own (index_entries old t.id index) && not (is_this id bookmark t.id own && is_gone_key (row_at (rows_of_nodes (longs t.id) (table_nodes old t.id)) own) held rule (schema_of t) t.id own gone key)))
+        → IfSome o (λ rule. HoldsVariants (rows_of_nodes (longs t.id) (table_nodes new t.id)) held rule (schema_of t) t.id (index_entries new t.id index))
     entries_left index None found h = tt
     entries_left index (Some rule) found h = λ key own.
         ap (has_entry key own) (same_entries index)
         ∙ gone_keys index rule found key own (id == t.id) refl
         ∙ sym (h key own)
-        ∙ ap (λ (rows : Rows). is_variant_key (row_at rows own) held rule (schema_of t) t.id key own) (sym (rows_stay newest held schema id bookmark gone old between new goes t.id))
+        ∙ ap (λ (rows : Rows). is_variant_key (row_at rows own) held rule (schema_of t) t.id key own) (sym (rows_stay longs newest held schema id bookmark gone old between new goes t.id))
 
 -- ---- held changes
 
@@ -223,9 +223,9 @@ open_stands (committed n) e = impossible e
 open_stands undone e = impossible e
 
 -- an open change with a row before it leaves a variant
-leaves_one : (tables : List Table) (trees : List StoredTable) (id : ℕ) (bookmark : List ℕ) (h : HeldChange) → IsKeptChange tables trees h → is_open h.status ≡ true → is_some h.before ≡ true → is_this id bookmark h.table h.bookmark ≡ true
-    → (is_standing_rewrite id bookmark (held_record h) && is_some (held_record h).before) ≡ true
-leaves_one tables trees id bookmark h kept is_uncommitted some this =
+leaves_one : (longs : TableValues) (tables : List Table) (trees : List StoredTable) (id : ℕ) (bookmark : List ℕ) (h : HeldChange) → IsKeptChange longs tables trees h → is_open h.status ≡ true → is_some h.before ≡ true → is_this id bookmark h.table h.bookmark ≡ true
+    → (is_standing_rewrite id bookmark (held_record_in longs h) && is_some (held_record_in longs h).before) ≡ true
+leaves_one longs tables trees id bookmark h kept is_uncommitted some this =
     by (is_rewrite h.kind) refl
   where
     here : ((h.table == id) && bytes_eq h.bookmark bookmark) ≡ true
@@ -240,13 +240,13 @@ leaves_one tables trees id bookmark h kept is_uncommitted some this =
     no_row : (o : Option (List ℕ)) → o ≡ None → is_some o ≡ true → false ≡ true
     no_row o e s = sym (ap is_some e) ∙ s
 
-    mapped : (o : Option (List ℕ)) → is_some o ≡ true → is_some (option_map record_of o) ≡ true
+    mapped : (o : Option (List ℕ)) → is_some o ≡ true → is_some (option_map (record_of (longs h.table)) o) ≡ true
     mapped None e = e
     mapped (Some row) e = refl
 
-    by : (b : Bool) → is_rewrite h.kind ≡ b → (is_standing_rewrite id bookmark (held_record h) && is_some (held_record h).before) ≡ true
+    by : (b : Bool) → is_rewrite h.kind ≡ b → (is_standing_rewrite id bookmark (held_record_in longs h) && is_some (held_record_in longs h).before) ≡ true
     by true e =
-        (λ i. (here i && e i && not (open_stands h.status is_uncommitted i)) && is_some (cond (e i && not (open_stands h.status is_uncommitted i)) (option_map record_of h.before) None))
+        (λ i. (here i && e i && not (open_stands h.status is_uncommitted i)) && is_some (cond (e i && not (open_stands h.status is_uncommitted i)) (option_map (record_of (longs h.table)) h.before) None))
         ∙ mapped h.before some
     by false e = impossible (no_row h.before (kept.other e) some)
 
@@ -257,11 +257,10 @@ or_right false b e = e
 or_left : (a b : Bool) → a ≡ true → (a || b) ≡ true
 or_left a b e = ap (λ c. c || b) e
 
-change_kept_then : (newest : Option RecordFields) (all : List HeldRecord) (schema : Schema) (id : ℕ) (bookmark : List ℕ) (gone : RecordFields) (old between new : List StoredTable) → Goes newest all schema id bookmark gone old between new
-    → (tables : List Table) (h : HeldChange) → ((is_standing_rewrite id bookmark (held_record h) && is_some (held_record h).before) ≡ true → has_variant newest all id bookmark ≡ true) → IsKeptChange tables old h → IsKeptChange tables new h
-change_kept_then newest all schema id bookmark gone old between new goes tables h leaves kept = record {
+change_kept_then : (longs : TableValues) (newest : Option RecordFields) (all : List HeldRecord) (schema : Schema) (id : ℕ) (bookmark : List ℕ) (gone : RecordFields) (old between new : List StoredTable) → Goes newest all schema id bookmark gone old between new
+    → (tables : List Table) (h : HeldChange) → ((is_standing_rewrite id bookmark (held_record_in longs h) && is_some (held_record_in longs h).before) ≡ true → has_variant newest all id bookmark ≡ true) → IsKeptChange longs tables old h → IsKeptChange longs tables new h
+change_kept_then longs newest all schema id bookmark gone old between new goes tables h leaves kept = record {
   named = kept.named;
-  row = kept.row;
   before = kept.before;
   drop = kept.drop;
   room = λ is_uncommitted. room is_uncommitted h.before refl (kept.room is_uncommitted);
@@ -285,38 +284,38 @@ change_kept_then newest all schema id bookmark gone old between new goes tables 
         (sym (found_then newest all schema id bookmark gone old between new goes h.table h.bookmark ∙ ap (λ b. cond b None (find (has_key h.bookmark) (table_nodes old h.table))) none_taken)) has
       where
         none_taken : taken ≡ false
-        none_taken = no (has_variant newest all id bookmark) (is_this id bookmark h.table h.bookmark) (λ this. leaves (leaves_one tables old id bookmark h kept is_uncommitted (ap is_some e) this))
+        none_taken = no (has_variant newest all id bookmark) (is_this id bookmark h.table h.bookmark) (λ this. leaves (leaves_one longs tables old id bookmark h kept is_uncommitted (ap is_some e) this))
 
-changes_kept_then : (newest : Option RecordFields) (all : List HeldRecord) (schema : Schema) (id : ℕ) (bookmark : List ℕ) (gone : RecordFields) (old between new : List StoredTable) → Goes newest all schema id bookmark gone old between new
-    → (tables : List Table) (held : List HeldChange) → (some_before is_some id bookmark (map held_record held) ≡ true → has_variant newest all id bookmark ≡ true) → AllByRecursion (IsKeptChange tables old) held → AllByRecursion (IsKeptChange tables new) held
-changes_kept_then newest all schema id bookmark gone old between new goes tables [] leaves kept = tt
-changes_kept_then newest all schema id bookmark gone old between new goes tables (h ∷ held) leaves kept = (
-  change_kept_then newest all schema id bookmark gone old between new goes tables h (λ e. leaves (or_left (is_standing_rewrite id bookmark (held_record h) && is_some (held_record h).before) (some_before is_some id bookmark (map held_record held)) e)) kept.0,
-  changes_kept_then newest all schema id bookmark gone old between new goes tables held (λ e. leaves (or_right (is_standing_rewrite id bookmark (held_record h) && is_some (held_record h).before) (some_before is_some id bookmark (map held_record held)) e)) kept.1,
+changes_kept_then : (longs : TableValues) (newest : Option RecordFields) (all : List HeldRecord) (schema : Schema) (id : ℕ) (bookmark : List ℕ) (gone : RecordFields) (old between new : List StoredTable) → Goes newest all schema id bookmark gone old between new
+    → (tables : List Table) (held : List HeldChange) → (some_before is_some id bookmark (map (held_record_in longs) held) ≡ true → has_variant newest all id bookmark ≡ true) → AllByRecursion (IsKeptChange longs tables old) held → AllByRecursion (IsKeptChange longs tables new) held
+changes_kept_then longs newest all schema id bookmark gone old between new goes tables [] leaves kept = tt
+changes_kept_then longs newest all schema id bookmark gone old between new goes tables (h ∷ held) leaves kept = (
+  change_kept_then longs newest all schema id bookmark gone old between new goes tables h (λ e. leaves (or_left (is_standing_rewrite id bookmark (held_record_in longs h) && is_some (held_record_in longs h).before) (some_before is_some id bookmark (map (held_record_in longs) held)) e)) kept.0,
+  changes_kept_then longs newest all schema id bookmark gone old between new goes tables held (λ e. leaves (or_right (is_standing_rewrite id bookmark (held_record_in longs h) && is_some (held_record_in longs h).before) (some_before is_some id bookmark (map (held_record_in longs) held)) e)) kept.1,
 )
 
 -- ---- the store
 
-pub left_goes : (newest : Option RecordFields) (held : List HeldChange) (schema : Schema) (id : ℕ) (bookmark : List ℕ) (gone : RecordFields) (old between new : List StoredTable) → Goes newest (map held_record held) schema id bookmark gone old between new
-    → newest ≡ row_at (rows_of_nodes (table_nodes old id)) bookmark → (tables : List Table) → DistinctIds tables → IfSome (table_with_id tables id) (λ t. schema ≡ schema_of t) → AreLeft tables old held id bookmark gone → AreKept tables new held
-left_goes newest held schema id bookmark gone old between new goes is_newest tables ids same_schema left = record {
+pub left_goes : (longs : TableValues) (newest : Option RecordFields) (held : List HeldChange) (schema : Schema) (id : ℕ) (bookmark : List ℕ) (gone : RecordFields) (old between new : List StoredTable) → Goes newest (map (held_record_in longs) held) schema id bookmark gone old between new
+    → newest ≡ row_at (rows_of_nodes (longs id) (table_nodes old id)) bookmark → (tables : List Table) → DistinctIds tables → IfSome (table_with_id tables id) (λ t. schema ≡ schema_of t) → AreLeft longs tables old held id bookmark gone → AreKeptWith longs tables new held
+left_goes longs newest held schema id bookmark gone old between new goes is_newest tables ids same_schema left = record {
   plain = left.plain;
   numbers = goes.node.numbers ∙ numbers_needed between old tables ids left.numbers goes.changes.numbers goes.changes.indexes;
   each = λ table. each table (table_with_id tables table) refl (left.each table);
-  changes = changes_kept_then newest (map held_record held) schema id bookmark gone old between new goes tables held (λ e. or_right (is_some newest) (some_before is_some id bookmark (map held_record held)) e) left.changes;
+  changes = changes_kept_then longs newest (map (held_record_in longs) held) schema id bookmark gone old between new goes tables held (λ e. or_right (is_some newest) (some_before is_some id bookmark (map (held_record_in longs) held)) e) left.changes;
 }
   where
-    each : (table : ℕ) (o : Option Table) → table_with_id tables table ≡ o → IfSome o (IsLeft old (table_nodes old table) (map held_record held) id bookmark gone) → IfSome o (IsKeptTable new (table_nodes new table) (map held_record held))
+    each : (table : ℕ) (o : Option Table) → table_with_id tables table ≡ o → IfSome o (IsLeft old (longs table) (table_nodes old table) (map (held_record_in longs) held) id bookmark gone) → IfSome o (IsKeptTable new (longs table) (table_nodes new table) (map (held_record_in longs) held))
     each table None e is = tt
     each table (Some t) e is =
         let found : t.id ≡ table = found_number table tables t e in
-        subst (λ (n : ℕ). IsKeptTable new (table_nodes new n) (map held_record held) t) found
-        (table_kept_then newest (map held_record held) schema id bookmark gone old between new goes is_newest t
+        subst (λ (n : ℕ). IsKeptTable new (longs n) (table_nodes new n) (map (held_record_in longs) held) t) found
+        (table_kept_then longs newest (map (held_record_in longs) held) schema id bookmark gone old between new goes is_newest t
         (λ same. subst (λ (o : Option Table). IfSome o (λ u. schema ≡ schema_of u)) (ap (table_with_id tables) (sym same ∙ found) ∙ e) same_schema)
-        (subst (λ (n : ℕ). IsLeft old (table_nodes old n) (map held_record held) id bookmark gone t) (sym found) is))
+        (subst (λ (n : ℕ). IsLeft old (longs n) (table_nodes old n) (map (held_record_in longs) held) id bookmark gone t) (sym found) is))
 
-pub rows_then : (newest : Option RecordFields) (held : List HeldRecord) (schema : Schema) (id : ℕ) (bookmark : List ℕ) (gone : RecordFields) (old between new : List StoredTable) → Goes newest held schema id bookmark gone old between new
-    → (tables : List Table) → map (with_newest new) tables ≡ map (with_newest old) tables
-rows_then newest held schema id bookmark gone old between new goes [] = refl
-rows_then newest held schema id bookmark gone old between new goes (t ∷ tables) =
-    λ i. record t { rows = rows_stay newest held schema id bookmark gone old between new goes t.id i } ∷ rows_then newest held schema id bookmark gone old between new goes tables i
+pub rows_then : (longs : TableValues) (newest : Option RecordFields) (held : List HeldRecord) (schema : Schema) (id : ℕ) (bookmark : List ℕ) (gone : RecordFields) (old between new : List StoredTable) → Goes newest held schema id bookmark gone old between new
+    → (tables : List Table) → map (with_newest_by longs new) tables ≡ map (with_newest_by longs old) tables
+rows_then longs newest held schema id bookmark gone old between new goes [] = refl
+rows_then longs newest held schema id bookmark gone old between new goes (t ∷ tables) =
+    λ i. record t { rows = rows_stay longs newest held schema id bookmark gone old between new goes t.id i } ∷ rows_then longs newest held schema id bookmark gone old between new goes tables i

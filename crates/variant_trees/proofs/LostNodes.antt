@@ -11,11 +11,13 @@ use Rattle.table_trees.specs.StoredNodes.{bookmark_entries}
 use Rattle.table_trees.specs.StoredTables.{StoredTable, has_table, table_nodes, with_nodes, is_table}
 use Rattle.versioned_tables.specs.HeldRecords.{HeldRecord}
 use Rattle.versioned_tables.specs.Variants.{has_variant}
-use Rattle.stored_variants.specs.RecordRows.{some_before, record_of, row_in_node, row_under, rows_of_nodes, with_record}
+use Rattle.stored_variants.specs.CountedValues.{newest_rows, with_own_row}
+use Rattle.stored_variants.specs.RecordRows.{TableValues, some_before, record_of, row_in_node, row_under, rows_of_nodes, with_record}
 use Rattle.variant_trees.specs.LeftVariants.{LosesNode, is_empty_node, is_this}
 use Rattle.stored_variants.proofs.Dropped.{TreeLaws, same_numbers}
 use Rattle.variant_trees.proofs.EntryTrees.{no_part, other_number, there_or}
 use Rattle.stored_variants.proofs.NodeRecords.{key_is, none_behind}
+use Rattle.long_value.specs.Values.{Values}
 
 abbrev pub Removes : Type 0
 Removes = (nodes : List Node) (key bookmark : List ℕ) → find (has_key bookmark) (without_key nodes key) ≡ cond (bytes_eq key bookmark) None (find (has_key bookmark) nodes)
@@ -27,7 +29,9 @@ lost_nothing v id bookmark trees none = record {
   numbers = refl;
   indexes = λ other. refl;
   nodes = λ other own. by v none other own (is_this id bookmark other own) refl;
-  rows = λ other. refl;
+  rows = λ vals other. refl;
+  newest = λ other. refl;
+  values = λ other. refl;
 }
   where
     by : (v : Bool) → (v ≡ false → find (has_key bookmark) (table_nodes trees id) ≡ None) → (other : ℕ) (own : List ℕ) (b : Bool) → is_this id bookmark other own ≡ b
@@ -39,24 +43,24 @@ lost_nothing v id bookmark trees none = record {
         ∙ sym (ap (λ b. cond b None (find (has_key own) (table_nodes trees other))) e)
     by false none other own false e = sym (ap (λ b. cond b None (find (has_key own) (table_nodes trees other))) e)
 
-pub node_with_row : (id : ℕ) (bookmark : List ℕ) (held : List HeldRecord) (trees : List StoredTable) → is_empty_node (get_in (table_nodes trees id) bookmark) ≡ false
-    → LosesNode (has_variant (option_map record_of (row_under (table_nodes trees id) bookmark)) held id bookmark) id bookmark trees trees
-node_with_row id bookmark held trees full =
-    lost_nothing (has_variant (option_map record_of (row_under (table_nodes trees id) bookmark)) held id bookmark) id bookmark trees (by (find (has_key bookmark) (table_nodes trees id)) full)
+pub node_with_row : (longs : TableValues) (id : ℕ) (bookmark : List ℕ) (held : List HeldRecord) (trees : List StoredTable) → is_empty_node (get_in (table_nodes trees id) bookmark) ≡ false
+    → LosesNode (has_variant (option_map (record_of (longs id)) (row_under (table_nodes trees id) bookmark)) held id bookmark) id bookmark trees trees
+node_with_row longs id bookmark held trees full =
+    lost_nothing (has_variant (option_map (record_of (longs id)) (row_under (table_nodes trees id) bookmark)) held id bookmark) id bookmark trees (by (find (has_key bookmark) (table_nodes trees id)) full)
   where
-    data_of : (n : Node) (bytes : List ℕ) → is_empty_node (Some bytes) ≡ false → (is_some (option_map record_of (row_in_node bytes)) || some_before is_some id bookmark held) ≡ false → Some n ≡ None
+    data_of : (n : Node) (bytes : List ℕ) → is_empty_node (Some bytes) ≡ false → (is_some (option_map (record_of (longs id)) (row_in_node bytes)) || some_before is_some id bookmark held) ≡ false → Some n ≡ None
     data_of n [] e f = impossible (sym e)
     data_of n (byte ∷ bytes) e f = impossible (sym f)
 
-    by : (o : Option Node) → is_empty_node (option_map (λ (n : Node). n.data) o) ≡ false → (is_some (option_map record_of (option_and_then row_in_node (option_map (λ (n : Node). n.data) o))) || some_before is_some id bookmark held) ≡ false → o ≡ None
+    by : (o : Option Node) → is_empty_node (option_map (λ (n : Node). n.data) o) ≡ false → (is_some (option_map (record_of (longs id)) (option_and_then row_in_node (option_map (λ (n : Node). n.data) o))) || some_before is_some id bookmark held) ≡ false → o ≡ None
     by None e f = refl
     by (Some n) e f = data_of n n.data e f
 
-pub node_with_variant : (id : ℕ) (bookmark : List ℕ) (held : List HeldRecord) (trees : List StoredTable) → some_before is_some id bookmark held ≡ true
-    → LosesNode (has_variant (option_map record_of (row_under (table_nodes trees id) bookmark)) held id bookmark) id bookmark trees trees
-node_with_variant id bookmark held trees some =
-    lost_nothing (has_variant (option_map record_of (row_under (table_nodes trees id) bookmark)) held id bookmark) id bookmark trees
-    (λ none. impossible (sym none ∙ ap (λ b. is_some (option_map record_of (row_under (table_nodes trees id) bookmark)) || b) some ∙ any (is_some (option_map record_of (row_under (table_nodes trees id) bookmark)))))
+pub node_with_variant : (longs : TableValues) (id : ℕ) (bookmark : List ℕ) (held : List HeldRecord) (trees : List StoredTable) → some_before is_some id bookmark held ≡ true
+    → LosesNode (has_variant (option_map (record_of (longs id)) (row_under (table_nodes trees id) bookmark)) held id bookmark) id bookmark trees trees
+node_with_variant longs id bookmark held trees some =
+    lost_nothing (has_variant (option_map (record_of (longs id)) (row_under (table_nodes trees id) bookmark)) held id bookmark) id bookmark trees
+    (λ none. impossible (sym none ∙ ap (λ b. is_some (option_map (record_of (longs id)) (row_under (table_nodes trees id) bookmark)) || b) some ∙ any (is_some (option_map (record_of (longs id)) (row_under (table_nodes trees id) bookmark)))))
   where
     any : (b : Bool) → (b || true) ≡ true
     any true = refl
@@ -81,10 +85,10 @@ empty_is (Some []) e = refl
 empty_is (Some (byte ∷ bytes)) e = impossible e
 
 -- the node without a byte has no row
-rows_without : (nodes : List Node) (bookmark : List ℕ) → are_sorted (bookmark_entries nodes) ≡ true → get_in nodes bookmark ≡ Some [] → rows_of_nodes (without_key nodes bookmark) ≡ rows_of_nodes nodes
-rows_without [] bookmark sorted e = refl
-rows_without (n ∷ nodes) bookmark sorted e =
-    by (has_key bookmark n) refl e (rows_without nodes bookmark (and_right (list_all (pair_lt (n.key, n.key)) (bookmark_entries nodes)) (are_sorted (bookmark_entries nodes)) sorted))
+rows_without : (vals : Values) (nodes : List Node) (bookmark : List ℕ) → are_sorted (bookmark_entries nodes) ≡ true → get_in nodes bookmark ≡ Some [] → rows_of_nodes vals (without_key nodes bookmark) ≡ rows_of_nodes vals nodes
+rows_without vals [] bookmark sorted e = refl
+rows_without vals (n ∷ nodes) bookmark sorted e =
+    by (has_key bookmark n) refl e (rows_without vals nodes bookmark (and_right (list_all (pair_lt (n.key, n.key)) (bookmark_entries nodes)) (are_sorted (bookmark_entries nodes)) sorted))
   where
     low : list_all (pair_lt (n.key, n.key)) (bookmark_entries nodes) ≡ true
     low = and_left (list_all (pair_lt (n.key, n.key)) (bookmark_entries nodes)) (are_sorted (bookmark_entries nodes)) sorted
@@ -93,12 +97,31 @@ rows_without (n ∷ nodes) bookmark sorted e =
     no_row [] e = refl
     no_row (byte ∷ bytes) e = cc
 
-    by : (b : Bool) → has_key bookmark n ≡ b → option_map (λ (n : Node). n.data) (cond b (Some n) (find (has_key bookmark) nodes)) ≡ Some [] → (get_in nodes bookmark ≡ Some [] → rows_of_nodes (without_key nodes bookmark) ≡ rows_of_nodes nodes)
-        → rows_of_nodes (cond (not b) (n ∷ without_key nodes bookmark) (without_key nodes bookmark)) ≡ with_record n.key (row_in_node n.data) (rows_of_nodes nodes)
+    by : (b : Bool) → has_key bookmark n ≡ b → option_map (λ (n : Node). n.data) (cond b (Some n) (find (has_key bookmark) nodes)) ≡ Some [] → (get_in nodes bookmark ≡ Some [] → rows_of_nodes vals (without_key nodes bookmark) ≡ rows_of_nodes vals nodes)
+        → rows_of_nodes vals (cond (not b) (n ∷ without_key nodes bookmark) (without_key nodes bookmark)) ≡ with_record vals n.key (row_in_node n.data) (rows_of_nodes vals nodes)
     by true h e rest =
-        ap rows_of_nodes (without_none nodes bookmark (none_behind n.key bookmark nodes (key_is n.key bookmark h) low))
-        ∙ sym (ap (λ (row : Option (List ℕ)). with_record n.key row (rows_of_nodes nodes)) (no_row n.data e))
-    by false h e rest = ap (with_record n.key (row_in_node n.data)) (rest e)
+        ap (rows_of_nodes vals) (without_none nodes bookmark (none_behind n.key bookmark nodes (key_is n.key bookmark h) low))
+        ∙ sym (ap (λ (row : Option (List ℕ)). with_record vals n.key row (rows_of_nodes vals nodes)) (no_row n.data e))
+    by false h e rest = ap (with_record vals n.key (row_in_node n.data)) (rest e)
+
+newest_without : (nodes : List Node) (bookmark : List ℕ) → are_sorted (bookmark_entries nodes) ≡ true → get_in nodes bookmark ≡ Some [] → newest_rows (without_key nodes bookmark) ≡ newest_rows nodes
+newest_without [] bookmark sorted e = refl
+newest_without (n ∷ nodes) bookmark sorted e =
+    by (has_key bookmark n) refl e (newest_without nodes bookmark (and_right (list_all (pair_lt (n.key, n.key)) (bookmark_entries nodes)) (are_sorted (bookmark_entries nodes)) sorted))
+  where
+    low : list_all (pair_lt (n.key, n.key)) (bookmark_entries nodes) ≡ true
+    low = and_left (list_all (pair_lt (n.key, n.key)) (bookmark_entries nodes)) (are_sorted (bookmark_entries nodes)) sorted
+
+    no_row : (bytes : List ℕ) → Some bytes ≡ Some [] → row_in_node bytes ≡ None
+    no_row [] e = refl
+    no_row (byte ∷ bytes) e = cc
+
+    by : (b : Bool) → has_key bookmark n ≡ b → option_map (λ (n : Node). n.data) (cond b (Some n) (find (has_key bookmark) nodes)) ≡ Some [] → (get_in nodes bookmark ≡ Some [] → newest_rows (without_key nodes bookmark) ≡ newest_rows nodes)
+        → newest_rows (cond (not b) (n ∷ without_key nodes bookmark) (without_key nodes bookmark)) ≡ with_own_row n.key (row_in_node n.data) (newest_rows nodes)
+    by true h e rest =
+        ap newest_rows (without_none nodes bookmark (none_behind n.key bookmark nodes (key_is n.key bookmark h) low))
+        ∙ sym (ap (λ (row : Option (List ℕ)). with_own_row n.key row (newest_rows nodes)) (no_row n.data e))
+    by false h e rest = ap (with_own_row n.key (row_in_node n.data)) (rest e)
 
 table_of_node : (trees : List StoredTable) (id : ℕ) (bookmark : List ℕ) → get_in (table_nodes trees id) bookmark ≡ Some [] → has_table trees id ≡ true
 table_of_node trees id bookmark e = there_or (has_table trees id) (λ none. no (sym (ap (λ nodes. get_in nodes bookmark) (no_part (is_table id) (λ x. x.nodes) trees none)) ∙ e))
@@ -106,15 +129,17 @@ table_of_node trees id bookmark e = there_or (has_table trees id) (λ none. no (
     no : {A : Type 0} {bytes : List ℕ} → None ≡ Some bytes → A
     no e = cc
 
-pub node_goes : TreeLaws → Removes → (id : ℕ) (bookmark : List ℕ) (held : List HeldRecord) (trees : List StoredTable) → are_sorted (bookmark_entries (table_nodes trees id)) ≡ true
+pub node_goes : (longs : TableValues) → TreeLaws → Removes → (id : ℕ) (bookmark : List ℕ) (held : List HeldRecord) (trees : List StoredTable) → are_sorted (bookmark_entries (table_nodes trees id)) ≡ true
     → is_empty_node (get_in (table_nodes trees id) bookmark) ≡ true → some_before is_some id bookmark held ≡ false
-    → LosesNode (has_variant (option_map record_of (row_under (table_nodes trees id) bookmark)) held id bookmark) id bookmark trees (with_nodes id (without_key (table_nodes trees id) bookmark) trees)
-node_goes laws removes id bookmark held trees sorted empty none =
+    → LosesNode (has_variant (option_map (record_of (longs id)) (row_under (table_nodes trees id) bookmark)) held id bookmark) id bookmark trees (with_nodes id (without_key (table_nodes trees id) bookmark) trees)
+node_goes longs laws removes id bookmark held trees sorted empty none =
     subst (λ (v : Bool). LosesNode v id bookmark trees (with_nodes id left trees)) (sym no_variant) (record {
       numbers = same_numbers id left trees;
       indexes = λ other. laws.indexes trees id other left;
       nodes = λ other own. nodes_then other own (id == other) refl;
-      rows = λ other. rows_then other (id == other) refl;
+      rows = λ vals other. rows_then vals other (id == other) refl;
+      newest = λ other. newest_then other (id == other) refl;
+      values = λ other. laws.values trees id other left;
     })
   where
     left : List Node
@@ -126,8 +151,8 @@ node_goes laws removes id bookmark held trees sorted empty none =
     there : has_table trees id ≡ true
     there = table_of_node trees id bookmark is_empty
 
-    no_variant : has_variant (option_map record_of (row_under (table_nodes trees id) bookmark)) held id bookmark ≡ false
-    no_variant = (λ i. is_some (option_map record_of (option_and_then row_in_node (is_empty i))) || none i)
+    no_variant : has_variant (option_map (record_of (longs id)) (row_under (table_nodes trees id) bookmark)) held id bookmark ≡ false
+    no_variant = (λ i. is_some (option_map (record_of (longs id)) (option_and_then row_in_node (is_empty i))) || none i)
 
     here : (other : ℕ) → (id == other) ≡ true → table_nodes (with_nodes id left trees) other ≡ without_key (table_nodes trees other) bookmark
     here other e =
@@ -145,8 +170,14 @@ node_goes laws removes id bookmark held trees sorted empty none =
         ap (find (has_key own)) (there_too other e)
         ∙ sym (ap (λ b. cond (b && bytes_eq bookmark own) None (find (has_key own) (table_nodes trees other))) e)
 
-    rows_then : (other : ℕ) (b : Bool) → (id == other) ≡ b → rows_of_nodes (table_nodes (with_nodes id left trees) other) ≡ rows_of_nodes (table_nodes trees other)
-    rows_then other true e =
-        ap rows_of_nodes (here other e)
-        ∙ subst (λ (n : ℕ). rows_of_nodes (without_key (table_nodes trees n) bookmark) ≡ rows_of_nodes (table_nodes trees n)) (same_number id other e) (rows_without (table_nodes trees id) bookmark sorted is_empty)
-    rows_then other false e = ap rows_of_nodes (there_too other e)
+    rows_then : (vals : Values) (other : ℕ) (b : Bool) → (id == other) ≡ b → rows_of_nodes vals (table_nodes (with_nodes id left trees) other) ≡ rows_of_nodes vals (table_nodes trees other)
+    rows_then vals other true e =
+        ap (rows_of_nodes vals) (here other e)
+        ∙ subst (λ (n : ℕ). rows_of_nodes vals (without_key (table_nodes trees n) bookmark) ≡ rows_of_nodes vals (table_nodes trees n)) (same_number id other e) (rows_without vals (table_nodes trees id) bookmark sorted is_empty)
+    rows_then vals other false e = ap (rows_of_nodes vals) (there_too other e)
+
+    newest_then : (other : ℕ) (b : Bool) → (id == other) ≡ b → newest_rows (table_nodes (with_nodes id left trees) other) ≡ newest_rows (table_nodes trees other)
+    newest_then other true e =
+        ap newest_rows (here other e)
+        ∙ subst (λ (n : ℕ). newest_rows (without_key (table_nodes trees n) bookmark) ≡ newest_rows (table_nodes trees n)) (same_number id other e) (newest_without (table_nodes trees id) bookmark sorted is_empty)
+    newest_then other false e = ap newest_rows (there_too other e)

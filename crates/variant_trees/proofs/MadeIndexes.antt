@@ -13,18 +13,20 @@ use Rattle.jet_base.specs.declared.ids.TableId.{TableId}
 use Rattle.jet_catalog.specs.Catalog.{CatalogState, IsNumbered, catalog_after, ids_rise}
 use Rattle.page_image.specs.Page.{Node}
 use Rattle.record_changes.proofs.Tests.{impossible, not_true, same_number, self_equal}
-use Rattle.table_trees.specs.StoredTables.{StoredIndex, StoredTable, has_index, index_entries, is_index, is_table, table_indexes, table_nodes, with_indexes, without_index as without_tree, without_where}
+use Rattle.table_trees.specs.StoredTables.{table_long_values, StoredIndex, StoredTable, has_index, index_entries, is_index, is_table, table_indexes, table_nodes, with_indexes, without_index as without_tree, without_where}
 use Rattle.version_history.proofs.Lists.{all_filter, all_true, all_weaker}
 use Rattle.version_keys.proofs.IndexNumbers.{all_primary_first, found_without}
 use Rattle.versioned_tables.specs.Variants.{HoldsVariants}
-use Rattle.stored_variants.specs.RecordRows.{record_of, row_under, rows_of_nodes}
+use Rattle.stored_variants.specs.RecordRows.{TableValues, record_of, row_under, rows_of_nodes}
 use Rattle.stored_variants.specs.SchemaSteps.{IsMade}
-use Rattle.stored_variants.specs.VersionsKept.{AreKept, IsKeptTable, IsRowUnder, IsStoredRule, needed_trees, only_secondary, secondary_rule, secondary_rules, tree_numbers}
-use Rattle.stored_variants.specs.VersionsView.{with_newest}
+use Rattle.stored_variants.specs.VersionsKept.{AreKeptWith, IsKeptTable, IsRowUnder, IsStoredRule, needed_trees, only_secondary, secondary_rule, secondary_rules, tree_numbers}
+use Rattle.stored_variants.specs.VersionsView.{with_newest_by}
 use Rattle.variant_trees.proofs.OtherRules.{Takes, row_as, rule_as, yields_as}
-use Rattle.variant_trees.proofs.Stepping.{IsSettled, StepsTo, changed_at, is_made, kept_of, map_filter, map_same, map_table, moved, newest_same, plain_table, settled_of}
+use Rattle.variant_trees.proofs.Stepping.{IsSettled, StepsTo, changed_at, made_with_values, kept_of, map_filter, map_same, map_table, moved, newest_same, plain_table, settled_of}
 use Rattle.stored_variants.proofs.Tables.{found_number}
 use Rattle.variant_trees.proofs.TreeNumbers.{changed_numbers, first_or_none, index_numbers, others}
+use Rattle.stored_variants.specs.CountedValues.{AreCounted}
+use Rattle.variant_trees.specs.GoneKeys.{KeepsValues}
 
 -- ---- lists
 
@@ -138,8 +140,8 @@ apart_from a b e same = impossible (sym e ∙ ap (λ n. n == b) same ∙ self_eq
 abbrev leaves : ℕ → IndexRule → Bool
 leaves index r = not (r.id.0 == index)
 
-index_gone : OldIndexLaws → (trees : List StoredTable) (index : ℕ) (t : Table) → is_some (secondary_rule t index) ≡ true → IsSettled trees t → IsSettled (without_tree t.id index trees) (without_index index t)
-index_gone laws trees index t there k = subst (λ (n : List Node). IsKeptTable other n [] (without_index index t)) (sym (laws.nodes trees t.id t.id (without_where (is_index index) (table_indexes trees t.id)))) (record {
+index_gone : (longs : TableValues) → OldIndexLaws → (trees : List StoredTable) (index : ℕ) (t : Table) → is_some (secondary_rule t index) ≡ true → IsSettled longs trees t → IsSettled longs (without_tree t.id index trees) (without_index index t)
+index_gone longs laws trees index t there k = subst (λ (n : List Node). IsKeptTable other (longs t.id) n [] (without_index index t)) (sym (laws.nodes trees t.id t.id (without_where (is_index index) (table_indexes trees t.id)))) (record {
   rules = filtered (IsStoredRule t) (IsStoredRule (without_index index t)) (leaves index) rule t.indexes k.rules;
   rows = λ bookmark. row bookmark (row_under (table_nodes trees t.id) bookmark) (k.rows bookmark);
   stands = k.stands;
@@ -169,9 +171,9 @@ index_gone laws trees index t there k = subst (λ (n : List Node). IsKeptTable o
     rule : (r : IndexRule) → leaves index r ≡ true → IsStoredRule t r → IsStoredRule (without_index index t) r
     rule r left is = rule_as t rest r (found r.id.0 (not_true (r.id.0 == index) left) ∙ is.found) (λ primary. same_primary ∙ is.primary primary) is.legal is.columns is.short
 
-    row : (bookmark : List ℕ) (o : Option (List ℕ)) → IfSome o (IsRowUnder t bookmark) → IfSome o (IsRowUnder (without_index index t) bookmark)
+    row : (bookmark : List ℕ) (o : Option (List ℕ)) → IfSome o (IsRowUnder (longs t.id) t bookmark) → IfSome o (IsRowUnder (longs t.id) (without_index index t) bookmark)
     row bookmark None is = tt
-    row bookmark (Some bytes) is = row_as t rest bookmark bytes same_primary (all_filter (Takes (schema_of t) (record_of bytes)) (leaves index) t.indexes) is
+    row bookmark (Some bytes) is = row_as (longs t.id) t rest bookmark bytes same_primary (all_filter (Takes (schema_of t) (record_of (longs t.id) bytes)) (leaves index) t.indexes) is
 
     none : (i : ℕ) → (i == index) ≡ true → rule_with_id (schema_of (without_index index t)) i ≡ None
     none i e =
@@ -179,38 +181,38 @@ index_gone laws trees index t there k = subst (λ (n : List Node). IsKeptTable o
         (all_primary_first (λ r. (r.id.0 == i) ≡ false) rest
         (filtered (λ r. Unit {0}) (λ r. (r.id.0 == i) ≡ false) (leaves index) (λ r left u. ap (λ n. r.id.0 == n) (same_number i index e) ∙ not_true (r.id.0 == index) left) t.indexes (all_true (λ r. Unit {0}) (λ r. tt) t.indexes)))
 
-    held : (i : ℕ) → (i == index) ≡ false → (o : Option IndexRule) → IfSome (only_secondary o) (λ r. HoldsVariants (rows_of_nodes (table_nodes trees t.id)) [] r (schema_of t) t.id (index_entries trees t.id i))
-        → IfSome (only_secondary o) (λ r. HoldsVariants (rows_of_nodes (table_nodes trees t.id)) [] r (schema_of (without_index index t)) t.id (index_entries other t.id i))
+    held : (i : ℕ) → (i == index) ≡ false → (o : Option IndexRule) → IfSome (only_secondary o) (λ r. HoldsVariants (rows_of_nodes (longs t.id) (table_nodes trees t.id)) [] r (schema_of t) t.id (index_entries trees t.id i))
+        → IfSome (only_secondary o) (λ r. HoldsVariants (rows_of_nodes (longs t.id) (table_nodes trees t.id)) [] r (schema_of (without_index index t)) t.id (index_entries other t.id i))
     held i e None h = tt
     held i e (Some r) h = by r.flags.primary h
       where
-        by : (b : Bool) → IfSome (cond b None (Some r)) (λ r. HoldsVariants (rows_of_nodes (table_nodes trees t.id)) [] r (schema_of t) t.id (index_entries trees t.id i))
-            → IfSome (cond b None (Some r)) (λ r. HoldsVariants (rows_of_nodes (table_nodes trees t.id)) [] r (schema_of (without_index index t)) t.id (index_entries other t.id i))
+        by : (b : Bool) → IfSome (cond b None (Some r)) (λ r. HoldsVariants (rows_of_nodes (longs t.id) (table_nodes trees t.id)) [] r (schema_of t) t.id (index_entries trees t.id i))
+            → IfSome (cond b None (Some r)) (λ r. HoldsVariants (rows_of_nodes (longs t.id) (table_nodes trees t.id)) [] r (schema_of (without_index index t)) t.id (index_entries other t.id i))
         by true h = tt
         by false h = λ key bookmark.
             ap (has_entry key bookmark) (laws.others trees t.id index i (apart_from i index e)) ∙ h key bookmark
-            ∙ ap (λ b. b || false) (sym (yields_as t rest r key (row_at (rows_of_nodes (table_nodes trees t.id)) bookmark)))
+            ∙ ap (λ b. b || false) (sym (yields_as t rest r key (row_at (rows_of_nodes (longs t.id) (table_nodes trees t.id)) bookmark)))
 
-    each : (i : ℕ) (b : Bool) → (i == index) ≡ b → IfSome (secondary_rule (without_index index t) i) (λ r. HoldsVariants (rows_of_nodes (table_nodes trees t.id)) [] r (schema_of (without_index index t)) t.id (index_entries other t.id i))
+    each : (i : ℕ) (b : Bool) → (i == index) ≡ b → IfSome (secondary_rule (without_index index t) i) (λ r. HoldsVariants (rows_of_nodes (longs t.id) (table_nodes trees t.id)) [] r (schema_of (without_index index t)) t.id (index_entries other t.id i))
     each i true e =
-        subst (λ (o : Option IndexRule). IfSome (only_secondary o) (λ r. HoldsVariants (rows_of_nodes (table_nodes trees t.id)) [] r (schema_of (without_index index t)) t.id (index_entries other t.id i))) (sym (none i e)) tt
+        subst (λ (o : Option IndexRule). IfSome (only_secondary o) (λ r. HoldsVariants (rows_of_nodes (longs t.id) (table_nodes trees t.id)) [] r (schema_of (without_index index t)) t.id (index_entries other t.id i))) (sym (none i e)) tt
     each i false e =
-        subst (λ (o : Option IndexRule). IfSome (only_secondary o) (λ r. HoldsVariants (rows_of_nodes (table_nodes trees t.id)) [] r (schema_of (without_index index t)) t.id (index_entries other t.id i))) (sym (found i e))
+        subst (λ (o : Option IndexRule). IfSome (only_secondary o) (λ r. HoldsVariants (rows_of_nodes (longs t.id) (table_nodes trees t.id)) [] r (schema_of (without_index index t)) t.id (index_entries other t.id i))) (sym (found i e))
         (held i e (rule_with_id (schema_of t) i) (k.entries i))
 
-pub index_goes : OldIndexLaws → (id : TableId) (index : IndexId) (greatest : ℕ) (tables : List Table) (trees : List StoredTable) → ids_rise 0 greatest tables ≡ true
-    → ((t : Table) → table_with_id tables id.0 ≡ Some t → is_some (secondary_rule t index.0) ≡ true) → AreKept tables trees [] → StepsTo (step.DeleteIndex id index) tables trees (without_tree id.0 index.0 trees)
-index_goes laws id index greatest tables trees rise there kept = record {
-  kept = kept_of (with_table id.0 (without_index index.0) tables) other
+pub index_goes : (longs : TableValues) → OldIndexLaws → (id : TableId) (index : IndexId) (greatest : ℕ) (tables : List Table) (trees : List StoredTable) → ids_rise 0 greatest tables ≡ true
+    → ((t : Table) → table_with_id tables id.0 ≡ Some t → is_some (secondary_rule t index.0) ≡ true) → AreKeptWith longs tables trees [] → StepsTo longs (step.DeleteIndex id index) tables trees (without_tree id.0 index.0 trees)
+index_goes longs laws id index greatest tables trees rise there kept = record {
+  kept = kept_of longs (with_table id.0 (without_index index.0) tables) other
       (plain_table id.0 (without_index index.0) (λ t. refl) tables kept.plain)
       (changed_numbers id.0 (filter stays) (without_index index.0) needs (without_where (is_index index.0)) (map_filter (λ x. x.0) stays) 0 greatest tables trees rise kept.numbers)
-      (changed_at (IsSettled trees) (IsSettled other) id.0 (without_index index.0) (λ t. refl) tables
-      (λ t found k. subst (λ (n : ℕ). IsSettled (without_tree n index.0 trees) (without_index index.0 t)) (found_number id.0 tables t found) (index_gone laws trees index.0 t (there t found) k))
-      (λ t apart k. moved trees other t (laws.nodes trees id.0 t.id gone) (laws.tables trees id.0 t.id gone (apart_from t.id id.0 apart)) k)
-      (settled_of tables trees kept));
+      (changed_at (IsSettled longs trees) (IsSettled longs other) id.0 (without_index index.0) (λ t. refl) tables
+      (λ t found k. subst (λ (n : ℕ). IsSettled longs (without_tree n index.0 trees) (without_index index.0 t)) (found_number id.0 tables t found) (index_gone longs laws trees index.0 t (there t found) k))
+      (λ t apart k. moved longs trees other t (laws.nodes trees id.0 t.id gone) (laws.tables trees id.0 t.id gone (apart_from t.id id.0 apart)) k)
+      (settled_of longs tables trees kept));
   shown =
-      map_table (with_newest other) id.0 (without_index index.0) (without_index index.0) (λ t. refl) (λ t e. refl) tables
-      ∙ ap (with_table id.0 (without_index index.0)) (map_same (with_newest other) (with_newest trees) (λ t. newest_same trees other t (laws.nodes trees id.0 t.id gone)) tables);
+      map_table (with_newest_by longs other) id.0 (without_index index.0) (without_index index.0) (λ t. refl) (λ t e. refl) tables
+      ∙ ap (with_table id.0 (without_index index.0)) (map_same (with_newest_by longs other) (with_newest_by longs trees) (λ t. newest_same longs trees other t (laws.nodes trees id.0 t.id gone)) tables);
 }
   where
     gone : List StoredIndex
@@ -227,17 +229,17 @@ index_goes laws id index greatest tables trees rise there kept = record {
 
 -- in a catalog
 pub index_deleted : OldIndexLaws → (made : SchemaStep) (id : TableId) (index : IndexId) → made ≡ step.DeleteIndex id index → (was : CatalogState) (trees : List StoredTable) → IsNumbered was
-    → IsSomeAnd (table_with_id was.tables id.0) (λ t. is_some (secondary_rule t index.0) ≡ true) → AreKept was.tables trees [] → (is : CatalogState) → is ≡ catalog_after was made → (other : List StoredTable) → other ≡ without_tree id.0 index.0 trees
-    → IsMade made was trees is other
-index_deleted laws made id index step_is was trees rise there kept is is_after other other_is =
-    is_made made was trees is other is_after
-    (subst (λ (s : SchemaStep). StepsTo s was.tables trees other) (sym step_is)
-    (subst (λ (o : List StoredTable). StepsTo (step.DeleteIndex id index) was.tables trees o) (sym other_is)
-    (index_goes laws id index was.greatest_table was.tables trees rise (λ t found. subst (λ (o : Option Table). IsSomeAnd o (λ t. is_some (secondary_rule t index.0) ≡ true)) found there) kept)))
+    → IsSomeAnd (table_with_id was.tables id.0) (λ t. is_some (secondary_rule t index.0) ≡ true) → AreKeptWith (table_long_values trees) was.tables trees [] → (is : CatalogState) → is ≡ catalog_after was made → (other : List StoredTable) → other ≡ without_tree id.0 index.0 trees
+    → KeepsValues trees other → AreCounted other [] → IsMade made was trees is other
+index_deleted laws made id index step_is was trees rise there kept is is_after other other_is keeps counts =
+    made_with_values made was trees is other is_after
+    (subst (λ (s : SchemaStep). StepsTo (table_long_values trees) s was.tables trees other) (sym step_is)
+    (subst (λ (o : List StoredTable). StepsTo (table_long_values trees) (step.DeleteIndex id index) was.tables trees o) (sym other_is)
+    (index_goes (table_long_values trees) laws id index was.greatest_table was.tables trees rise (λ t found. subst (λ (o : Option Table). IsSomeAnd o (λ t. is_some (secondary_rule t index.0) ≡ true)) found there) kept))) keeps counts
 
 -- it has a tree
-pub index_there : (tables : List Table) (trees : List StoredTable) → AreKept tables trees [] → (id index : ℕ) → IsSomeAnd (table_with_id tables id) (λ t. is_some (secondary_rule t index) ≡ true) → has_index trees id index ≡ true
-index_there tables trees kept id index there = by (table_with_id tables id) refl there
+pub index_there : (longs : TableValues) (tables : List Table) (trees : List StoredTable) → AreKeptWith longs tables trees [] → (id index : ℕ) → IsSomeAnd (table_with_id tables id) (λ t. is_some (secondary_rule t index) ≡ true) → has_index trees id index ≡ true
+index_there longs tables trees kept id index there = by (table_with_id tables id) refl there
   where
     by : (o : Option Table) → table_with_id tables id ≡ o → IsSomeAnd o (λ t. is_some (secondary_rule t index) ≡ true) → has_index trees id index ≡ true
     by None e h = absurd h

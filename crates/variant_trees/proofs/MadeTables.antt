@@ -10,17 +10,21 @@ use Rattle.jet_base.specs.declared.ids.TableId.{TableId}
 use Rattle.jet_catalog.specs.Catalog.{CatalogState, IsNumbered, catalog_after, ids_rise, without_rows}
 use Rattle.page_image.specs.Page.{Node}
 use Rattle.record_changes.proofs.Tests.{and_left, and_right, impossible, or_first, or_second, same_number, self_equal}
-use Rattle.table_trees.specs.StoredTables.{StoredTable, has_table, is_table, new_table as new_tree, table_indexes, table_nodes, without_table}
+use Rattle.table_trees.specs.StoredTables.{table_long_values, StoredTable, has_table, is_table, new_table as new_tree, table_indexes, table_nodes, without_table}
 use Rattle.version_history.proofs.Lists.{all_true}
 use Rattle.version_keys.proofs.IndexNumbers.{found_in_filter}
 use Rattle.version_keys.proofs.SchemaKeys.{with_last}
-use Rattle.stored_variants.specs.RecordRows.{rows_of_nodes}
+use Rattle.stored_variants.specs.RecordRows.{TableValues, rows_of_nodes}
 use Rattle.stored_variants.specs.SchemaSteps.{IsMade}
-use Rattle.stored_variants.specs.VersionsKept.{AreKept, IsKeptTable, needed_trees, tree_numbers}
-use Rattle.stored_variants.specs.VersionsView.{with_newest}
+use Rattle.stored_variants.specs.VersionsKept.{AreKeptWith, IsKeptTable, needed_trees, tree_numbers}
+use Rattle.stored_variants.specs.VersionsView.{with_newest_by}
 use Rattle.stored_variants.proofs.Dropped.{has_trees}
-use Rattle.variant_trees.proofs.Stepping.{IsSettled, StepsTo, if_some, is_made, kept_of, map_filter, map_last, map_same, moved, newest_same, settled_of}
+use Rattle.variant_trees.proofs.Stepping.{IsSettled, StepsTo, if_some, is_made, made_with_values, kept_of, map_filter, map_last, map_same, moved, newest_same, settled_of}
 use Rattle.stored_variants.proofs.Tables.{found_number, no_nodes}
+use Rattle.stored_variants.specs.CountedValues.{BringsNoValue, newest_rows, AreCounted}
+use Rattle.variant_trees.specs.GoneKeys.{KeepsValues}
+use Rattle.long_references.specs.ReferenceCounts.{HasCounts}
+use Rattle.long_value.specs.Values.{value_of, Values}
 
 -- ---- numbers of tables
 
@@ -44,11 +48,11 @@ none_above low high (t ∷ tables) rise id lt =
 pub none_new : (greatest : ℕ) (tables : List Table) → ids_rise 0 greatest tables ≡ true → (id : ℕ) → greatest < id → table_with_id tables id ≡ None
 none_new greatest tables rise id lt = none_above 0 greatest tables rise id lt
 
-pub no_tree : (tables : List Table) (trees : List StoredTable) → AreKept tables trees [] → (id : ℕ) → table_with_id tables id ≡ None → has_table trees id ≡ false
-no_tree tables trees kept id none = has_trees trees tables id kept.numbers ∙ ap is_some none
+pub no_tree : (longs : TableValues) (tables : List Table) (trees : List StoredTable) → AreKeptWith longs tables trees [] → (id : ℕ) → table_with_id tables id ≡ None → has_table trees id ≡ false
+no_tree longs tables trees kept id none = has_trees trees tables id kept.numbers ∙ ap is_some none
 
-pub a_tree : (tables : List Table) (trees : List StoredTable) → AreKept tables trees [] → (id : ℕ) → is_some (table_with_id tables id) ≡ true → has_table trees id ≡ true
-a_tree tables trees kept id there = has_trees trees tables id kept.numbers ∙ there
+pub a_tree : (longs : TableValues) (tables : List Table) (trees : List StoredTable) → AreKeptWith longs tables trees [] → (id : ℕ) → is_some (table_with_id tables id) ≡ true → has_table trees id ≡ true
+a_tree longs tables trees kept id there = has_trees trees tables id kept.numbers ∙ there
 
 -- ---- a table comes
 
@@ -56,24 +60,24 @@ pub record NewTableLaws : Type 0 where
   pub nodes : (tables : List StoredTable) (table other : ℕ) → table_nodes (tables ++ new_tree table ∷ []) other ≡ table_nodes tables other
   pub indexes : (tables : List StoredTable) (table other : ℕ) → table_indexes (tables ++ new_tree table ∷ []) other ≡ table_indexes tables other
 
-new_is_settled : (other : List StoredTable) (id : ℕ) (name : List ℕ) → table_nodes other id ≡ [] → IsSettled other (new_table id name)
-new_is_settled other id name nodes = subst (λ (n : List Node). IsKeptTable other n [] (new_table id name)) (sym nodes) (record {
+new_is_settled : (longs : TableValues) (other : List StoredTable) (id : ℕ) (name : List ℕ) → table_nodes other id ≡ [] → IsSettled longs other (new_table id name)
+new_is_settled longs other id name nodes = subst (λ (n : List Node). IsKeptTable other (longs t.id) n [] (new_table id name)) (sym nodes) (record {
   rules = tt;
   rows = λ bookmark. tt;
   stands = λ bookmark. refl;
   entries = λ index. tt;
 })
 
-pub table_comes : NewTableLaws → (id : TableId) (name : List ℕ) (tables : List Table) (trees : List StoredTable) → AreKept tables trees [] → table_with_id tables id.0 ≡ None → StepsTo (step.CreateTable id name) tables trees (trees ++ new_tree id.0 ∷ [])
-table_comes laws id name tables trees kept none = record {
-  kept = kept_of (tables ++ new_table id.0 name ∷ []) other
+pub table_comes : (longs : TableValues) → NewTableLaws → (id : TableId) (name : List ℕ) (tables : List Table) (trees : List StoredTable) → AreKeptWith longs tables trees [] → table_with_id tables id.0 ≡ None → StepsTo longs (step.CreateTable id name) tables trees (trees ++ new_tree id.0 ∷ [])
+table_comes longs laws id name tables trees kept none = record {
+  kept = kept_of longs (tables ++ new_table id.0 name ∷ []) other
       (map_last without_rows tables (new_table id.0 name) ∙ ap (λ (ts : List Table). ts ++ new_table id.0 name ∷ []) kept.plain)
       (map_last tree_numbers trees (new_tree id.0) ∙ ap (λ (ns : List (ℕ × List ℕ)). ns ++ (id.0, []) ∷ []) kept.numbers ∙ sym (map_last needed_trees tables (new_table id.0 name)))
-      (λ n. with_last (IsSettled other) (new_table id.0 name) (new_is_settled other id.0 name empty) tables n
-      (if_some (IsSettled trees) (IsSettled other) (λ t k. moved trees other t (laws.nodes trees id.0 t.id) (laws.indexes trees id.0 t.id) k) (table_with_id tables n) (settled_of tables trees kept n)));
+      (λ n. with_last (IsSettled longs other) (new_table id.0 name) (new_is_settled longs other id.0 name empty) tables n
+      (if_some (IsSettled longs trees) (IsSettled longs other) (λ t k. moved longs trees other t (laws.nodes trees id.0 t.id) (laws.indexes trees id.0 t.id) k) (table_with_id tables n) (settled_of longs tables trees kept n)));
   shown =
-      map_last (with_newest other) tables (new_table id.0 name)
-      ∙ (λ i. map_same (with_newest other) (with_newest trees) (λ t. newest_same trees other t (laws.nodes trees id.0 t.id)) tables i ++ record (new_table id.0 name) { rows = rows_of_nodes (empty i) } ∷ []);
+      map_last (with_newest_by longs other) tables (new_table id.0 name)
+      ∙ (λ i. map_same (with_newest_by longs other) (with_newest_by longs trees) (λ t. newest_same longs trees other t (laws.nodes trees id.0 t.id)) tables i ++ record (new_table id.0 name) { rows = rows_of_nodes (longs id.0) (empty i) } ∷ []);
 }
   where
     other : List StoredTable
@@ -133,24 +137,24 @@ left_at P R d tables g h id = cases (id == d) refl
         (sym (found_in_filter (λ t. t.id == id) (stays d) tables (all_true (λ t. (t.id == id) ≡ true → stays d t ≡ true) (λ t f. ap (λ n. not (n == d)) (same_number t.id id f) ∙ ap not e) tables)))
         (other (table_with_id tables id) refl e (h id))
 
-left_shown : OldTableLaws → (trees : List StoredTable) (id : ℕ) (tables : List Table) → map (with_newest (without_table id trees)) (filter (stays id) tables) ≡ filter (stays id) (map (with_newest trees) tables)
-left_shown laws trees id [] = refl
-left_shown laws trees id (t ∷ tables) = by (t.id == id) refl (left_shown laws trees id tables)
+left_shown : (longs : TableValues) → OldTableLaws → (trees : List StoredTable) (id : ℕ) (tables : List Table) → map (with_newest_by longs (without_table id trees)) (filter (stays id) tables) ≡ filter (stays id) (map (with_newest_by longs trees) tables)
+left_shown longs laws trees id [] = refl
+left_shown longs laws trees id (t ∷ tables) = by (t.id == id) refl (left_shown longs laws trees id tables)
   where
-    by : (b : Bool) → (t.id == id) ≡ b → map (with_newest (without_table id trees)) (filter (stays id) tables) ≡ filter (stays id) (map (with_newest trees) tables)
-        → map (with_newest (without_table id trees)) (cond (not b) (t ∷ filter (stays id) tables) (filter (stays id) tables)) ≡ cond (not b) (with_newest trees t ∷ filter (stays id) (map (with_newest trees) tables)) (filter (stays id) (map (with_newest trees) tables))
+    by : (b : Bool) → (t.id == id) ≡ b → map (with_newest_by longs (without_table id trees)) (filter (stays id) tables) ≡ filter (stays id) (map (with_newest_by longs trees) tables)
+        → map (with_newest_by longs (without_table id trees)) (cond (not b) (t ∷ filter (stays id) tables) (filter (stays id) tables)) ≡ cond (not b) (with_newest_by longs trees t ∷ filter (stays id) (map (with_newest_by longs trees) tables)) (filter (stays id) (map (with_newest_by longs trees) tables))
     by true e rest = rest
-    by false e rest = λ i. newest_same trees (without_table id trees) t (laws.nodes trees id t.id (apart_from t.id id e)) i ∷ rest i
+    by false e rest = λ i. newest_same longs trees (without_table id trees) t (laws.nodes trees id t.id (apart_from t.id id e)) i ∷ rest i
 
-pub table_goes : OldTableLaws → (id : TableId) (tables : List Table) (trees : List StoredTable) → AreKept tables trees [] → StepsTo (step.DeleteTable id) tables trees (without_table id.0 trees)
-table_goes laws id tables trees kept = record {
-  kept = kept_of (filter (stays id.0) tables) (without_table id.0 trees)
+pub table_goes : (longs : TableValues) → OldTableLaws → (id : TableId) (tables : List Table) (trees : List StoredTable) → AreKeptWith longs tables trees [] → StepsTo longs (step.DeleteTable id) tables trees (without_table id.0 trees)
+table_goes longs laws id tables trees kept = record {
+  kept = kept_of longs (filter (stays id.0) tables) (without_table id.0 trees)
       (map_filter without_rows (stays id.0) tables ∙ ap (filter (stays id.0)) kept.plain)
       (map_filter tree_numbers (λ p. not (p.0 == id.0)) trees ∙ ap (filter (λ p. not (p.0 == id.0))) kept.numbers ∙ sym (map_filter needed_trees (λ p. not (p.0 == id.0)) tables))
-      (left_at (IsSettled trees) (IsSettled (without_table id.0 trees)) id.0 tables
-      (λ t apart k. moved trees (without_table id.0 trees) t (laws.nodes trees id.0 t.id (apart_from t.id id.0 apart)) (laws.indexes trees id.0 t.id (apart_from t.id id.0 apart)) k)
-      (settled_of tables trees kept));
-  shown = left_shown laws trees id.0 tables;
+      (left_at (IsSettled longs trees) (IsSettled longs (without_table id.0 trees)) id.0 tables
+      (λ t apart k. moved longs trees (without_table id.0 trees) t (laws.nodes trees id.0 t.id (apart_from t.id id.0 apart)) (laws.indexes trees id.0 t.id (apart_from t.id id.0 apart)) k)
+      (settled_of longs tables trees kept));
+  shown = left_shown longs laws trees id.0 tables;
 }
 
 -- ---- in a catalog
@@ -158,17 +162,70 @@ table_goes laws id tables trees kept = record {
 pub lower : (a b : ℕ) → a < b → nat_lt a b ≡ true
 lower a b lt = grind (arith, nat_tests)
 
-pub create_made : NewTableLaws → (made : SchemaStep) (id : TableId) (name : List ℕ) → made ≡ step.CreateTable id name → (was : CatalogState) (trees : List StoredTable) → AreKept was.tables trees [] → IsNumbered was → was.greatest_table < id.0
-    → (is : CatalogState) → is ≡ catalog_after was made → (other : List StoredTable) → other ≡ trees ++ new_tree id.0 ∷ [] → IsMade made was trees is other
-create_made laws made id name step_is was trees kept rise lt is is_after other other_is =
-    is_made made was trees is other is_after
-    (subst (λ (s : SchemaStep). StepsTo s was.tables trees other) (sym step_is)
-    (subst (λ (o : List StoredTable). StepsTo (step.CreateTable id name) was.tables trees o) (sym other_is)
-    (table_comes laws id name was.tables trees kept (none_new was.greatest_table was.tables rise id.0 lt))))
+pub create_made : NewTableLaws → (made : SchemaStep) (id : TableId) (name : List ℕ) → made ≡ step.CreateTable id name → (was : CatalogState) (trees : List StoredTable) → AreKeptWith (table_long_values trees) was.tables trees [] → IsNumbered was → was.greatest_table < id.0
+    → (is : CatalogState) → is ≡ catalog_after was made → (other : List StoredTable) → other ≡ trees ++ new_tree id.0 ∷ [] → KeepsValues trees other → AreCounted other [] → IsMade made was trees is other
+create_made laws made id name step_is was trees kept rise lt is is_after other other_is keeps counts =
+    made_with_values made was trees is other is_after
+    (subst (λ (s : SchemaStep). StepsTo (table_long_values trees) s was.tables trees other) (sym step_is)
+    (subst (λ (o : List StoredTable). StepsTo (table_long_values trees) (step.CreateTable id name) was.tables trees o) (sym other_is)
+    (table_comes (table_long_values trees) laws id name was.tables trees kept (none_new was.greatest_table was.tables rise id.0 lt)))) keeps counts
 
-pub delete_made : OldTableLaws → (made : SchemaStep) (id : TableId) → made ≡ step.DeleteTable id → (was : CatalogState) (trees : List StoredTable) → AreKept was.tables trees []
-    → (is : CatalogState) → is ≡ catalog_after was made → (other : List StoredTable) → other ≡ without_table id.0 trees → IsMade made was trees is other
-delete_made laws made id step_is was trees kept is is_after other other_is =
-    is_made made was trees is other is_after
-    (subst (λ (s : SchemaStep). StepsTo s was.tables trees other) (sym step_is)
-    (subst (λ (o : List StoredTable). StepsTo (step.DeleteTable id) was.tables trees o) (sym other_is) (table_goes laws id was.tables trees kept)))
+-- the tables that are left read the same long values
+left_kept : (longs other_longs : TableValues) (id : ℕ) (other : List StoredTable) → ((table : ℕ) → table ≢ id → other_longs table ≡ longs table) → (tables : List Table) → table_with_id tables id ≡ None → AreKeptWith longs tables other [] → AreKeptWith other_longs tables other []
+left_kept longs other_longs id other same tables none kept = record {
+  plain = kept.plain;
+  numbers = kept.numbers;
+  each = λ table. by table (id == table) refl;
+  changes = tt;
+}
+  where
+    by : (table : ℕ) (b : Bool) → (id == table) ≡ b → IfSome (table_with_id tables table) (IsKeptTable other (other_longs table) (table_nodes other table) [])
+    by table true e = subst (λ (o : Option Table). IfSome o (IsKeptTable other (other_longs table) (table_nodes other table) [])) (sym (ap (table_with_id tables) (sym (same_number id table e)) ∙ none)) tt
+    by table false e = subst (λ (v : Values). IfSome (table_with_id tables table) (IsKeptTable other v (table_nodes other table) [])) (sym (same table (λ is. apart_from id table e (sym is)))) (kept.each table)
+
+left_read : (longs other_longs : TableValues) (id : ℕ) (other : List StoredTable) → ((table : ℕ) → table ≢ id → other_longs table ≡ longs table) → (tables : List Table) → map (with_newest_by other_longs other) (filter (stays id) tables) ≡ map (with_newest_by longs other) (filter (stays id) tables)
+left_read longs other_longs id other same [] = refl
+left_read longs other_longs id other same (t ∷ tables) = by (t.id == id) refl (left_read longs other_longs id other same tables)
+  where
+    by : (b : Bool) → (t.id == id) ≡ b → map (with_newest_by other_longs other) (filter (stays id) tables) ≡ map (with_newest_by longs other) (filter (stays id) tables)
+        → map (with_newest_by other_longs other) (cond (not b) (t ∷ filter (stays id) tables) (filter (stays id) tables)) ≡ map (with_newest_by longs other) (cond (not b) (t ∷ filter (stays id) tables) (filter (stays id) tables))
+    by true e rest = rest
+    by false e rest = λ i. record t { rows = rows_of_nodes (same t.id (apart_from t.id id e) i) (table_nodes other t.id) } ∷ rest i
+
+-- what becomes of the long values
+pub record OldValues (id : ℕ) (trees other : List StoredTable) : Type 0 where
+  pub own : table_long_values other id ≡ []
+  pub others : (table : ℕ) → table ≢ id → table_long_values other table ≡ table_long_values trees table
+  pub own_nodes : table_nodes other id ≡ []
+  pub nodes : (table : ℕ) → table ≢ id → table_nodes other table ≡ table_nodes trees table
+
+left_counted : (id : ℕ) (trees other : List StoredTable) → OldValues id trees other → AreCounted trees [] → AreCounted other []
+left_counted id trees other old counts = λ table. by table (id == table) refl
+  where
+    by : (table : ℕ) (b : Bool) → (id == table) ≡ b → HasCounts (table_long_values other table) (newest_rows (table_nodes other table)) []
+    by table true e =
+        subst (λ (n : ℕ). HasCounts (table_long_values other n) (newest_rows (table_nodes other n)) []) (same_number id table e)
+        (subst (λ (v : Values). HasCounts v (newest_rows (table_nodes other id)) []) (sym old.own) (subst (λ (ns : List Node). HasCounts [] (newest_rows ns) []) (sym old.own_nodes) (λ x. refl)))
+    by table false e =
+        let apart : table ≢ id = λ is. apart_from id table e (sym is) in
+        subst (λ (v : Values). HasCounts v (newest_rows (table_nodes other table)) []) (sym (old.others table apart))
+        (subst (λ (ns : List Node). HasCounts (table_long_values trees table) (newest_rows ns) []) (sym (old.nodes table apart)) (counts table))
+
+left_without : (id : ℕ) (trees other : List StoredTable) → OldValues id trees other → BringsNoValue trees other
+left_without id trees other old = λ table x none. by table x none (id == table) refl
+  where
+    by : (table : ℕ) (x : List ℕ) → value_of x (table_long_values trees table) ≡ None → (b : Bool) → (id == table) ≡ b → value_of x (table_long_values other table) ≡ None
+    by table x none true e = ap (λ n. value_of x (table_long_values other n)) (sym (same_number id table e)) ∙ ap (value_of x) old.own
+    by table x none false e = ap (value_of x) (old.others table (λ is. apart_from id table e (sym is))) ∙ none
+
+pub delete_made : OldTableLaws → (made : SchemaStep) (id : TableId) → made ≡ step.DeleteTable id → (was : CatalogState) (trees : List StoredTable) → AreKeptWith (table_long_values trees) was.tables trees []
+    → (is : CatalogState) → is ≡ catalog_after was made → (other : List StoredTable) → other ≡ without_table id.0 trees → OldValues id.0 trees other → AreCounted trees [] → IsMade made was trees is other
+delete_made laws made id step_is was trees kept is is_after other other_is old counts =
+    subst (λ (s : SchemaStep). IsMade s was trees is other) (sym step_is)
+    (is_made (step.DeleteTable id) was trees is other (is_after ∙ ap (catalog_after was) step_is)
+    (left_kept (table_long_values trees) (table_long_values other) id.0 other old.others (filter (stays id.0) was.tables) (gone id.0 was.tables) steps.kept)
+    (left_read (table_long_values trees) (table_long_values other) id.0 other old.others was.tables ∙ steps.shown)
+    (left_counted id.0 trees other old counts) (left_without id.0 trees other old))
+  where
+    steps : StepsTo (table_long_values trees) (step.DeleteTable id) was.tables trees other
+    steps = subst (λ (o : List StoredTable). StepsTo (table_long_values trees) (step.DeleteTable id) was.tables trees o) (sym other_is) (table_goes (table_long_values trees) laws id was.tables trees kept)

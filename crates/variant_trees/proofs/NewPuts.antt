@@ -4,12 +4,16 @@ use Rattle.std.specs.Prelude.{◌==◌, bytes_eq, is_none, is_some}
 use Rattle.btree_inplace.specs.Changes.{inserted, with_data_at}
 use Rattle.btree_inplace.specs.Order.{extent_in, get_in, has_key}
 use Rattle.derived_index.specs.KeptEntries.{has_entry}
+use Rattle.kept_rows.specs.ValuesChanged.{HasLongValues}
+use Rattle.long_references.specs.ReferenceCounts.{with_all_taken}
+use Rattle.long_value.specs.Values.{Values}
 use Rattle.page_image.specs.Page.{Node}
 use Rattle.record_changes.proofs.Tests.{equal_bytes, impossible, same_bytes, same_number, self_equal}
 use Rattle.table_trees.specs.StoredNodes.{put_data}
-use Rattle.table_trees.specs.StoredTables.{StoredIndex, StoredTable, has_table, index_entries, is_index, part_of, table_nodes, with_nodes}
+use Rattle.table_trees.specs.StoredTables.{StoredIndex, StoredTable, has_table, index_entries, is_index, part_of, table_long_values, table_nodes, with_nodes}
 use Rattle.stored_variants.specs.PutRecords.{Keys}
 use Rattle.variant_trees.specs.PutStages.{HasKeys, HasNewRow, IsHalfPut, IsNewPut, IsPut, IsWidened, MayHaveKeys, is_place, node_at_least}
+use Rattle.variant_trees.proofs.HalfPuts.{values_given}
 use Rattle.variant_trees.proofs.KeysPut.{may_have}
 use Rattle.variant_trees.proofs.RoomMade.{NodeLaws, data_of, extent_of, found_then, no_less, same_table_numbers}
 
@@ -20,6 +24,7 @@ pub row_in_new : NodeLaws → (trees : List StoredTable) (table : ℕ) (bookmark
 row_in_new laws trees table bookmark row there absent = record {
   numbers = same_table_numbers table (inserted (table_nodes trees table) node) trees;
   indexes = λ other. laws.indexes trees table other (inserted (table_nodes trees table) node);
+  values = λ other. laws.values trees table other (inserted (table_nodes trees table) node);
   rows = λ other own. ap data_of (found other own) ∙ row_is other own (table == other) (bytes_eq bookmark own) refl;
   extents = λ other own. subst (λ (o : Option Node). IsWidened (extent_in (table_nodes trees other) own) (extent_of o)) (sym (found other own)) (wide other own (table == other) (bytes_eq bookmark own) refl refl);
 }
@@ -74,17 +79,35 @@ new_put table bookmark row keys old mid new node may = record {
 pub new_put_with_keys : (table : ℕ) (bookmark row : List ℕ) (keys : Keys) (old mid new : List StoredTable) → HasNewRow table bookmark row old mid → HasKeys table bookmark keys mid new → IsNewPut table bookmark row keys old new
 new_put_with_keys table bookmark row keys old mid new node has = new_put table bookmark row keys old mid new node (may_have table bookmark keys keys mid new (λ i k e. e) has)
 
--- with all keys it is done
-pub new_put_done : (table : ℕ) (bookmark row : List ℕ) (keys : Keys) (old mid new : List StoredTable) → HasNewRow table bookmark row old mid → HasKeys table bookmark keys mid new → IsPut table bookmark row keys old new
-new_put_done table bookmark row keys old mid new node has =
-    let put : IsNewPut table bookmark row keys old new = new_put_with_keys table bookmark row keys old mid new node has in record {
+-- the trees with other long values are those of the put too
+pub new_put_moved : (table : ℕ) (bookmark row : List ℕ) (keys : Keys) (old new moved : List StoredTable) (values : Values) → IsNewPut table bookmark row keys old new → HasLongValues table values new moved → IsNewPut table bookmark row keys old moved
+new_put_moved table bookmark row keys old new moved values put long = record {
+  numbers = long.numbers ∙ put.numbers;
+  indexes = λ other. ap (map (λ (x : StoredIndex). x.0)) (long.indexes other) ∙ put.indexes other;
+  rows = λ other own. ap (λ (nodes : List Node). get_in nodes own) (long.nodes other) ∙ put.rows other own;
+  extents = λ other own. subst (λ (nodes : List Node). IsWidened (extent_in (table_nodes old other) own) (extent_in nodes own)) (sym (long.nodes other)) (put.extents other own);
+  others = λ other index apart. same other index ∙ put.others other index apart;
+  stay = λ index key own is. ap (has_entry key own) (same table index) ∙ put.stay index key own is;
+  only = λ index key own is. put.only index key own (ap (has_entry key own) (sym (same table index)) ∙ is);
+}
+  where
+    same : (other index : ℕ) → index_entries moved other index ≡ index_entries new other index
+    same other index = ap (λ (indexes : List StoredIndex). part_of (is_index index) (λ x. x.1) indexes) (long.indexes other)
+
+-- with all keys and the long values it is done
+pub new_put_done : (table : ℕ) (bookmark row : List ℕ) (given : List (List ℕ × List ℕ)) (keys : Keys) (old mid ready new : List StoredTable) → HasNewRow table bookmark row old mid → HasKeys table bookmark keys mid ready
+    → HasLongValues table (with_all_taken given (table_long_values ready table)) ready new → IsPut table bookmark row given keys old new
+new_put_done table bookmark row given keys old mid ready new node has long =
+    let put : IsNewPut table bookmark row keys old new = new_put_moved table bookmark row keys old ready new (with_all_taken given (table_long_values ready table)) (new_put_with_keys table bookmark row keys old mid ready node has) long in record {
       numbers = put.numbers;
       indexes = put.indexes;
       rows = put.rows;
       extents = put.extents;
+      values = values_given table given old ready new (λ other. has.others.values other ∙ node.values other) long;
       others = put.others;
       entries = λ index key own.
-          has.entries index key own
+          ap (λ (indexes : List StoredIndex). has_entry key own (part_of (is_index index) (λ x. x.1) indexes)) (long.indexes table)
+          ∙ has.entries index key own
           ∙ ap (λ es. has_entry key own es || (bytes_eq own bookmark && keys index key)) (ap (λ (indexes : List StoredIndex). part_of (is_index index) (λ x. x.1) indexes) (node.indexes table));
     }
 

@@ -21,6 +21,7 @@ use Rattle.version_keys.proofs.SameColumns.{SameAt, entries_same, legal_same, pr
 use Rattle.stored_variants.specs.VersionsKept.{IsRowUnder, IsStoredRule}
 use Rattle.stored_variants.specs.RecordRows.{record_of}
 use Rattle.variant_trees.proofs.ChangedColumns.{refusals}
+use Rattle.long_value.specs.Values.{Values}
 
 abbrev pub with_rules : List IndexRule → Table → Table
 with_rules rules t = record t { indexes = rules }
@@ -74,22 +75,22 @@ takes_as t rules values rule h = (ap is_null_refusal (entries_as t rules rule va
 
 -- ---- a row that stands
 
-pub row_as : (t : Table) (rules : List IndexRule) (bookmark bytes : List ℕ) → primary_rule (schema_of (with_rules rules t)) ≡ primary_rule (schema_of t)
-    → (AllByRecursion (Takes (schema_of t) (record_of bytes)) t.indexes → AllByRecursion (Takes (schema_of t) (record_of bytes)) rules)
-    → IsRowUnder t bookmark bytes → IsRowUnder (with_rules rules t) bookmark bytes
-row_as t rules bookmark bytes primary takes is = record {
+pub row_as : (vals : Values) (t : Table) (rules : List IndexRule) (bookmark bytes : List ℕ) → primary_rule (schema_of (with_rules rules t)) ≡ primary_rule (schema_of t)
+    → (AllByRecursion (Takes (schema_of t) (record_of vals bytes)) t.indexes → AllByRecursion (Takes (schema_of t) (record_of vals bytes)) rules)
+    → IsRowUnder vals t bookmark bytes → IsRowUnder vals (with_rules rules t) bookmark bytes
+row_as vals t rules bookmark bytes primary takes is = record {
   fits = record { row = is.fits.row; columns = is.fits.columns; numbers = is.fits.numbers };
   indexable =
-      indexable_of (with_rules rules t) (record_of bytes)
-      (all_weaker (Takes (schema_of t) (record_of bytes)) (Takes (schema_of (with_rules rules t)) (record_of bytes)) (takes_as t rules (record_of bytes)) rules
-      (takes (takes_of t (record_of bytes) is.indexable)));
-  own = subst (λ (o : Option IndexRule). MatchOption o (length bookmark ≡ 8) (λ rule. bookmark ≡ primary_key rule (schema_of (with_rules rules t)) (record_of bytes))) (sym primary) (by (primary_rule (schema_of t)) is.own);
+      indexable_of (with_rules rules t) (record_of vals bytes)
+      (all_weaker (Takes (schema_of t) (record_of vals bytes)) (Takes (schema_of (with_rules rules t)) (record_of vals bytes)) (takes_as t rules (record_of vals bytes)) rules
+      (takes (takes_of t (record_of vals bytes) is.indexable)));
+  own = subst (λ (o : Option IndexRule). MatchOption o (length bookmark ≡ 8) (λ rule. bookmark ≡ primary_key rule (schema_of (with_rules rules t)) (record_of vals bytes))) (sym primary) (by (primary_rule (schema_of t)) is.own);
 }
   where
-    by : (o : Option IndexRule) → MatchOption o (length bookmark ≡ 8) (λ rule. bookmark ≡ primary_key rule (schema_of t) (record_of bytes))
-        → MatchOption o (length bookmark ≡ 8) (λ rule. bookmark ≡ primary_key rule (schema_of (with_rules rules t)) (record_of bytes))
+    by : (o : Option IndexRule) → MatchOption o (length bookmark ≡ 8) (λ rule. bookmark ≡ primary_key rule (schema_of t) (record_of vals bytes))
+        → MatchOption o (length bookmark ≡ 8) (λ rule. bookmark ≡ primary_key rule (schema_of (with_rules rules t)) (record_of vals bytes))
     by None h = h
-    by (Some rule) h = h ∙ sym (primary_key_same rule (schema_of (with_rules rules t)) (schema_of t) (record_of bytes) (record_of bytes) (same_at t rules (record_of bytes) (rule_columns rule)))
+    by (Some rule) h = h ∙ sym (primary_key_same rule (schema_of (with_rules rules t)) (schema_of t) (record_of vals bytes) (record_of vals bytes) (same_at t rules (record_of vals bytes) (rule_columns rule)))
 
 -- a rule of the table, found as before
 pub rule_as : (t : Table) (rules : List IndexRule) (rule : IndexRule) → rule_with_id (schema_of (with_rules rules t)) rule.id.0 ≡ Some rule → (rule.flags.primary ≡ true → primary_rule (schema_of (with_rules rules t)) ≡ Some rule)

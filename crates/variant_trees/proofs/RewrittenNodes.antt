@@ -14,14 +14,13 @@ use Rattle.std.specs.Cmp.Lexicographic.{texts_ties}
 use Rattle.table_trees.specs.StoredNodes.{IsShortNode, bookmark_entries, node_after, put_data}
 use Rattle.table_trees.specs.StoredTables.{StoredTable, has_table, table_indexes, table_nodes, with_nodes}
 use Rattle.stored_variants.specs.RecordRows.{IsRecordRow}
-use Rattle.stored_variants.specs.VersionsKept.{tree_numbers}
 use Rattle.variant_trees.specs.LostColumns.{HasNodes, HoldsRecord, node_without, row_without}
-use Rattle.stored_variants.proofs.Dropped.{same_numbers}
 use Rattle.versioned_tables.proofs.Neighbours.{IsIn, found_in}
 use Rattle.stored_variants.proofs.NodeRecords.{apart, key_is}
 use Rattle.stored_variants.proofs.NodeWalks.{IsNode, fewer_nodes, is_node_past, nodes_left}
 use Rattle.variant_trees.proofs.UndoneThere.{table_of_node}
 use Rattle.versioned_tables.proofs.Order.{beyond_more, not_itself}
+use Rattle.long_value.specs.Values.{Values}
 
 -- the nodes once those up to a place are written anew
 abbrev pub rewritten : Place → ℕ → List Node → List Node
@@ -178,14 +177,8 @@ short_of own (n ∷ nodes) all (inr later) = short_of own nodes (All-tail IsShor
 
 -- ---- in the trees
 
--- laws of the nodes of tables
-pub record NodeLaws : Type 0 where
-  pub named : (tables : List StoredTable) (table : ℕ) (nodes : List Node) → has_table tables table ≡ true → table_nodes (with_nodes table nodes tables) table ≡ nodes
-  pub others : (tables : List StoredTable) (table other : ℕ) (nodes : List Node) → other ≢ table → table_nodes (with_nodes table nodes tables) other ≡ table_nodes tables other
-  pub indexes : (tables : List StoredTable) (table other : ℕ) (nodes : List Node) → table_indexes (with_nodes table nodes tables) other ≡ table_indexes tables other
-
-pub row_of_next : (place : Place) (nodes : List Node) (bookmark row : List ℕ) → IsNode place nodes bookmark row → AllByRecursion HoldsRecord nodes → IsRecordRow row
-row_of_next place nodes bookmark row next all = subst IsRecordRow next.row (each_of HoldsRecord next.node nodes all (found_in (is_node_past place) next.node nodes next.next).0)
+pub row_of_next : (vals : Values) (place : Place) (nodes : List Node) (bookmark row : List ℕ) → IsNode place nodes bookmark row → AllByRecursion (HoldsRecord vals) nodes → IsRecordRow vals row
+row_of_next vals place nodes bookmark row next all = subst (IsRecordRow vals) next.row (each_of (HoldsRecord vals) next.node nodes all (found_in (is_node_past place) next.node nodes next.next).0)
 
 pub room_of_next : (place : Place) (column : ℕ) (nodes : List Node) (bookmark row : List ℕ) → IsNode place nodes bookmark row → All IsShortNode nodes → length (row_without column row) ≤ length row
     → IsSomeAnd (extent_in (rewritten place column nodes) bookmark) (λ extent. length (row_without column row) ≤ extent)
@@ -212,22 +205,27 @@ one_more_at place column nodes bookmark row next sorted =
     ∙ one_more place column next.node nodes sorted next.next
     ∙ (λ i. rewritten (On (next.key i) (next.key i)) column nodes)
 
-pub replaced_next : NodeLaws → (id : ℕ) (place : Place) (column : ℕ) (trees now : List StoredTable) (bookmark row : List ℕ) → IsNode place (table_nodes trees id) bookmark row → are_sorted (bookmark_entries (table_nodes trees id)) ≡ true
+-- the next node is there still, with its row
+pub next_there : (id : ℕ) (place : Place) (column : ℕ) (trees now : List StoredTable) (bookmark row : List ℕ) → IsNode place (table_nodes trees id) bookmark row → HasNodes id (rewritten place column (table_nodes trees id)) trees now → get_in (table_nodes now id) bookmark ≡ Some row
+next_there id place column trees now bookmark row next h =
+    ap (λ (ns : List Node). get_in ns bookmark) h.nodes
+    ∙ ap (get_in (rewritten place column (table_nodes trees id))) (sym next.key)
+    ∙ ap (option_map (λ (n : Node). n.data)) (found_again place column next.node (table_nodes trees id) next.next)
+    ∙ ap (λ (bytes : List ℕ). Some bytes) next.row
+
+pub next_table : (id : ℕ) (place : Place) (column : ℕ) (trees now : List StoredTable) (bookmark row : List ℕ) → IsNode place (table_nodes trees id) bookmark row → HasNodes id (rewritten place column (table_nodes trees id)) trees now → has_table now id ≡ true
+next_table id place column trees now bookmark row next h = table_of_node now id bookmark (ap is_some (next_there id place column trees now bookmark row next h))
+
+pub replaced_next : (id : ℕ) (place : Place) (column : ℕ) (trees now : List StoredTable) (bookmark row : List ℕ) → IsNode place (table_nodes trees id) bookmark row → are_sorted (bookmark_entries (table_nodes trees id)) ≡ true
     → HasNodes id (rewritten place column (table_nodes trees id)) trees now → (at key own text : List ℕ) → at ≡ bookmark → key ≡ bookmark → own ≡ bookmark → text ≡ row_without column row
-    → (later : List StoredTable) → later ≡ with_nodes id (with_data_at (table_nodes now id) at text) now → HasNodes id (rewritten (On key own) column (table_nodes trees id)) trees later
-replaced_next laws id place column trees now bookmark row next sorted h at key own text at_is key_is own_is text_is later is = record {
+    → (later : List StoredTable) → HasNodes id (with_data_at (table_nodes now id) at text) now later → HasNodes id (rewritten (On key own) column (table_nodes trees id)) trees later
+replaced_next id place column trees now bookmark row next sorted h at key own text at_is key_is own_is text_is later is = record {
   nodes =
-      ap (λ (ts : List StoredTable). table_nodes ts id) is ∙ laws.named now id (with_data_at (table_nodes now id) at text) there
+      is.nodes
       ∙ (λ i. with_data_at (h.nodes i) (at_is i) (text_is i))
       ∙ one_more_at place column (table_nodes trees id) bookmark row next sorted
       ∙ sym (λ i. rewritten (On (key_is i) (own_is i)) column (table_nodes trees id));
-  others = λ other apart. ap (λ (ts : List StoredTable). table_nodes ts other) is ∙ laws.others now id other (with_data_at (table_nodes now id) at text) apart ∙ h.others other apart;
-  indexes = λ other. ap (λ (ts : List StoredTable). table_indexes ts other) is ∙ laws.indexes now id other (with_data_at (table_nodes now id) at text) ∙ h.indexes other;
-  numbers = ap (map tree_numbers) is ∙ same_numbers id (with_data_at (table_nodes now id) at text) now ∙ h.numbers;
+  others = λ other apart. is.others other apart ∙ h.others other apart;
+  indexes = λ other. is.indexes other ∙ h.indexes other;
+  numbers = is.numbers ∙ h.numbers;
 }
-  where
-    there : has_table now id ≡ true
-    there =
-        table_of_node now id next.node.key
-        (ap (λ ns. is_some (get_in ns next.node.key)) h.nodes
-        ∙ ap (λ (o : Option Node). is_some (option_map (λ (n : Node). n.data) o)) (found_again place column next.node (table_nodes trees id) next.next))

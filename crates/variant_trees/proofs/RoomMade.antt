@@ -7,7 +7,7 @@ use Rattle.btree_inplace.specs.Order.{extent_in, get_in, has_key}
 use Rattle.page_image.specs.Page.{Node}
 use Rattle.record_changes.proofs.Tests.{equal_bytes, impossible, same_bytes, same_number, self_equal}
 use Rattle.table_trees.specs.StoredNodes.{IsShortNode, put_data, put_extent}
-use Rattle.table_trees.specs.StoredTables.{StoredTable, has_table, is_table, put_nodes, table_indexes, table_nodes, with_nodes}
+use Rattle.table_trees.specs.StoredTables.{StoredTable, has_table, is_table, put_nodes, table_indexes, table_long_values, table_nodes, with_nodes}
 use Rattle.variant_trees.specs.GoneKeys.{table_numbers}
 use Rattle.variant_trees.specs.PutStages.{HasRoom, IsWidened, is_place, node_at_least}
 
@@ -16,6 +16,7 @@ pub record NodeLaws : Type 0 where
   pub named : (tables : List StoredTable) (table : ℕ) (nodes : List Node) → has_table tables table ≡ true → table_nodes (with_nodes table nodes tables) table ≡ nodes
   pub others : (tables : List StoredTable) (table other : ℕ) (nodes : List Node) → other ≢ table → table_nodes (with_nodes table nodes tables) other ≡ table_nodes tables other
   pub indexes : (tables : List StoredTable) (table other : ℕ) (nodes : List Node) → table_indexes (with_nodes table nodes tables) other ≡ table_indexes tables other
+  pub values : (tables : List StoredTable) (table other : ℕ) (nodes : List Node) → table_long_values (with_nodes table nodes tables) other ≡ table_long_values tables other
   pub put : (nodes : List Node) (node : Node) (bookmark : List ℕ) → find (has_key bookmark) (inserted nodes node) ≡ (if bytes_eq node.key bookmark then Some node else find (has_key bookmark) nodes)
   pub removed : (nodes : List Node) (key bookmark : List ℕ) → find (has_key bookmark) (without_key nodes key) ≡ (if bytes_eq key bookmark then None else find (has_key bookmark) nodes)
   pub replaced : (nodes : List Node) (key row bookmark : List ℕ) → find (has_key bookmark) (with_data_at nodes key row) ≡ option_map (λ (n : Node). if bytes_eq key bookmark then put_data row n else n) (find (has_key bookmark) nodes)
@@ -59,6 +60,7 @@ pub room_in_new : NodeLaws → (trees : List StoredTable) (table : ℕ) (bookmar
 room_in_new laws trees table bookmark size there absent = record {
   numbers = same_table_numbers table (inserted (table_nodes trees table) node) trees;
   indexes = λ other. laws.indexes trees table other (inserted (table_nodes trees table) node);
+  values = λ other. laws.values trees table other (inserted (table_nodes trees table) node);
   rows = λ other own. ap data_of (found other own) ∙ row other own (table == other) (bytes_eq bookmark own) refl refl;
   extents = λ other own. subst (λ (o : Option Node). IsWidened (extent_in (table_nodes trees other) own) (extent_of o)) (sym (found other own)) (wide other own (table == other) (bytes_eq bookmark own) refl refl);
   room = subst (λ (o : Option Node). IsSomeAnd (extent_of o) (λ extent. size ≤ extent)) (sym (found table bookmark ∙ own_found)) (omega arith);
@@ -121,6 +123,7 @@ room_there trees table bookmark size n there fits = record {
   numbers = refl;
   indexes = λ other. refl;
   rows = stays_at trees table bookmark n there;
+  values = λ other. refl;
   extents = λ other own. no_less (extent_in (table_nodes trees other) own);
   room = subst (λ (o : Option ℕ). IsSomeAnd o (λ extent. size ≤ extent)) (sym there) fits;
 }
@@ -130,6 +133,7 @@ pub room_in_wider : NodeLaws → (trees : List StoredTable) (table : ℕ) (bookm
 room_in_wider laws trees table bookmark size n there is less = record {
   numbers = same_table_numbers table (with_extent_at (table_nodes trees table) bookmark size) trees;
   indexes = λ other. laws.indexes trees table other (with_extent_at (table_nodes trees table) bookmark size);
+  values = λ other. laws.values trees table other (with_extent_at (table_nodes trees table) bookmark size);
   rows = λ other own. ap data_of (found other own) ∙ row other own (table == other) (bytes_eq bookmark own) refl ∙ stays_at trees table bookmark n is other own;
   extents = λ other own. subst (λ (o : Option Node). IsWidened (extent_in (table_nodes trees other) own) (extent_of o)) (sym (found other own)) (wide other own (table == other) (bytes_eq bookmark own) refl refl);
   room = subst (λ (o : Option Node). IsSomeAnd (extent_of o) (λ extent. size ≤ extent)) (sym (found table bookmark ∙ own_found)) (room_of (find (has_key bookmark) (table_nodes trees table)) is);

@@ -1,14 +1,15 @@
 -- The puts and drops of a record that are not undone, from the newest back.
 use Rattle.std.proofs.Common.{◌≡◌, ℕ, zero, suc, ◌<◌, ◌≤◌, Bool, true, false, ◌&&◌, ◌||◌, cond, List, [], ◌∷◌, length, Option, Some, None, map, drop, take, option_map, refl, sym, ap, subst, ◌∙◌, arith}
-use Rattle.std.specs.Prelude.{◌==◌, IfSome, IsSomeAnd, bytes_eq, not, slice_get}
+use Rattle.std.specs.Prelude.{◌==◌, IfSome, IsSomeAnd, bytes_eq, is_some, not, slice_get}
 use Rattle.std.specs.List.{list_any}
 use Rattle.column_set.specs.RecordValues.{RecordFields}
 use Rattle.database_state.specs.State.{is_undone}
 use Rattle.record_changes.proofs.Tests.{and_both, and_left, and_right, same_bytes, same_number}
 use Rattle.version_store.specs.HeldChanges.{HeldChange, is_record, is_rewrite, is_standing_rewrite, last_place, later_place}
-use Rattle.stored_variants.specs.RecordRows.{some_before, IsRecordRow, held_record, record_of}
+use Rattle.stored_variants.specs.RecordRows.{TableValues, some_before, IsRecordRow, held_record_in, record_of}
 use Rattle.variant_trees.specs.GoneKeys.{AreRows, held_from}
 use Rattle.stored_variants.proofs.HeldPlaces.{take_all, StandsAt, last_stands}
+use Rattle.long_value.specs.Values.{Values}
 
 -- ---- of any test
 
@@ -68,12 +69,12 @@ between_from p q only (suc from) (suc end) (h ∷ held) = by (last_place p (take
 -- ---- of the records before them
 
 -- whether a put or drop of the record that is not undone has a record before it that passes
-abbrev pub passes_before : (Option RecordFields → Bool) → ℕ → List ℕ → HeldChange → Bool
-passes_before test table bookmark h = is_standing_rewrite table bookmark h && test (held_record h).before
+abbrev pub passes_before : TableValues → (Option RecordFields → Bool) → ℕ → List ℕ → HeldChange → Bool
+passes_before longs test table bookmark h = is_standing_rewrite table bookmark h && test (held_record_in longs h).before
 
-some_is : (test : Option RecordFields → Bool) (table : ℕ) (bookmark : List ℕ) (held : List HeldChange) → list_any (passes_before test table bookmark) held ≡ some_before test table bookmark (map held_record held)
-some_is test table bookmark [] = refl
-some_is test table bookmark (h ∷ held) = ap (λ b. passes_before test table bookmark h || b) (some_is test table bookmark held)
+some_is : (longs : TableValues) (test : Option RecordFields → Bool) (table : ℕ) (bookmark : List ℕ) (held : List HeldChange) → list_any (passes_before longs test table bookmark) held ≡ some_before test table bookmark (map (held_record_in longs) held)
+some_is longs test table bookmark [] = refl
+some_is longs test table bookmark (h ∷ held) = ap (λ b. passes_before longs test table bookmark h || b) (some_is longs test table bookmark held)
 
 -- how many changes there are up to a place
 abbrev pub places_left : Option ℕ → ℕ
@@ -81,18 +82,18 @@ places_left None = 0
 places_left (Some place) = suc place
 
 -- What a walk knows that has come to a place.
-pub record WalksBack (test : Option RecordFields → Bool) (table : ℕ) (bookmark : List ℕ) (from : ℕ) (held : List HeldChange) (at : Option ℕ) : Type 0 where
-  pub told : some_before test table bookmark (held_from from held) ≡ passes_from (passes_before test table bookmark) from at held
+pub record WalksBack (longs : TableValues) (test : Option RecordFields → Bool) (table : ℕ) (bookmark : List ℕ) (from : ℕ) (held : List HeldChange) (at : Option ℕ) : Type 0 where
+  pub told : some_before test table bookmark (held_from longs from held) ≡ passes_from (passes_before longs test table bookmark) from at held
   pub stands : StandsAt (is_standing_rewrite table bookmark) held at
 
-only_standing : (test : Option RecordFields → Bool) (table : ℕ) (bookmark : List ℕ) (h : HeldChange) → is_standing_rewrite table bookmark h ≡ false → passes_before test table bookmark h ≡ false
-only_standing test table bookmark h e = ap (λ b. b && test (held_record h).before) e
+only_standing : (longs : TableValues) (test : Option RecordFields → Bool) (table : ℕ) (bookmark : List ℕ) (h : HeldChange) → is_standing_rewrite table bookmark h ≡ false → passes_before longs test table bookmark h ≡ false
+only_standing longs test table bookmark h e = ap (λ b. b && test (held_record_in longs h).before) e
 
-pub walk_begins : (test : Option RecordFields → Bool) (table : ℕ) (bookmark : List ℕ) (from : ℕ) (held : List HeldChange) (at : Option ℕ) → at ≡ last_place (is_standing_rewrite table bookmark) held → WalksBack test table bookmark from held at
-walk_begins test table bookmark from held at is = subst (WalksBack test table bookmark from held) (sym (is ∙ ap (last_place p) (sym (take_all held)))) (record {
+pub walk_begins : (longs : TableValues) (test : Option RecordFields → Bool) (table : ℕ) (bookmark : List ℕ) (from : ℕ) (held : List HeldChange) (at : Option ℕ) → at ≡ last_place (is_standing_rewrite table bookmark) held → WalksBack longs test table bookmark from held at
+walk_begins longs test table bookmark from held at is = subst (WalksBack longs test table bookmark from held) (sym (is ∙ ap (last_place p) (sym (take_all held)))) (record {
   told =
-      sym (some_is test table bookmark (drop from held)) ∙ sym (all_between q from held)
-      ∙ between_from p q (only_standing test table bookmark) from (length held) held;
+      sym (some_is longs test table bookmark (drop from held)) ∙ sym (all_between q from held)
+      ∙ between_from p q (only_standing longs test table bookmark) from (length held) held;
   stands = last_stands p (length held) held;
 })
   where
@@ -100,7 +101,7 @@ walk_begins test table bookmark from held at is = subst (WalksBack test table bo
     p = is_standing_rewrite table bookmark
 
     q : HeldChange → Bool
-    q = passes_before test table bookmark
+    q = passes_before longs test table bookmark
 
 -- a change that stands is of the record, and is a put or drop that is not undone
 of_record : (table : ℕ) (bookmark : List ℕ) (h : HeldChange) → is_standing_rewrite table bookmark h ≡ true → is_record table bookmark h ≡ true
@@ -143,45 +144,46 @@ is_high zero (suc b) h = absurd (no h)
     no h = omega arith
 is_high (suc a) (suc b) h = is_high a b (omega arith)
 
-pub walk_ends : (test : Option RecordFields → Bool) (table : ℕ) (bookmark : List ℕ) (from : ℕ) (held : List HeldChange) (place : ℕ) → WalksBack test table bookmark from held (Some place) → place < from → some_before test table bookmark (held_from from held) ≡ false
-walk_ends test table bookmark from held place walk low =
-    walk.told ∙ ap (λ b. cond b false (passes_at (passes_before test table bookmark) (slice_get held place) || passes_between (passes_before test table bookmark) from place held)) (is_low place from low)
+pub walk_ends : (longs : TableValues) (test : Option RecordFields → Bool) (table : ℕ) (bookmark : List ℕ) (from : ℕ) (held : List HeldChange) (place : ℕ) → WalksBack longs test table bookmark from held (Some place) → place < from → some_before test table bookmark (held_from longs from held) ≡ false
+walk_ends longs test table bookmark from held place walk low =
+    walk.told ∙ ap (λ b. cond b false (passes_at (passes_before longs test table bookmark) (slice_get held place) || passes_between (passes_before longs test table bookmark) from place held)) (is_low place from low)
 
 -- what the walk finds at a place: the test of the row before the change
-found_here : (test : Option RecordFields → Bool) (table : ℕ) (bookmark : List ℕ) (held : List HeldChange) (place : ℕ) (row : Option (List ℕ)) → StandsAt (is_standing_rewrite table bookmark) held (Some place)
-    → slice_get (map (λ (h : HeldChange). h.before) held) place ≡ Some row → passes_at (passes_before test table bookmark) (slice_get held place) ≡ test (option_map record_of row)
-found_here test table bookmark [] place row stands is = absurd stands
-found_here test table bookmark (h ∷ held) zero row stands is =
-    ap (λ b. b && test (held_record h).before) stands
-    ∙ ap (λ b. test (cond b (option_map record_of h.before) None)) (not_undone table bookmark h stands)
-    ∙ ap (λ (r : Option (List ℕ)). test (option_map record_of r)) (same h.before row is)
+found_here : (longs : TableValues) (test : Option RecordFields → Bool) (table : ℕ) (bookmark : List ℕ) (held : List HeldChange) (place : ℕ) (row : Option (List ℕ)) → StandsAt (is_standing_rewrite table bookmark) held (Some place)
+    → slice_get (map (λ (h : HeldChange). h.before) held) place ≡ Some row → passes_at (passes_before longs test table bookmark) (slice_get held place) ≡ test (option_map (record_of (longs table)) row)
+found_here longs test table bookmark [] place row stands is = absurd stands
+found_here longs test table bookmark (h ∷ held) zero row stands is =
+    ap (λ b. b && test (held_record_in longs h).before) stands
+    ∙ ap (λ b. test (cond b (option_map (record_of (longs h.table)) h.before) None)) (not_undone table bookmark h stands)
+    ∙ ap (λ n. test (option_map (record_of (longs n)) h.before)) (same_number h.table table (and_left (h.table == table) (bytes_eq h.bookmark bookmark) (of_record table bookmark h stands)))
+    ∙ ap (λ (r : Option (List ℕ)). test (option_map (record_of (longs table)) r)) (same h.before row is)
   where
     same : (x y : Option (List ℕ)) → Some x ≡ Some y → x ≡ y
     same x y e = cc
-found_here test table bookmark (h ∷ held) (suc place) row stands is = found_here test table bookmark held place row stands is
+found_here longs test table bookmark (h ∷ held) (suc place) row stands is = found_here longs test table bookmark held place row stands is
 
-pub walk_finds : (test : Option RecordFields → Bool) (table : ℕ) (bookmark : List ℕ) (from : ℕ) (held : List HeldChange) (place : ℕ) (row : Option (List ℕ)) → WalksBack test table bookmark from held (Some place) → from ≤ place
-    → slice_get (map (λ (h : HeldChange). h.before) held) place ≡ Some row → test (option_map record_of row) ≡ true → some_before test table bookmark (held_from from held) ≡ true
-walk_finds test table bookmark from held place row walk high is passes =
+pub walk_finds : (longs : TableValues) (test : Option RecordFields → Bool) (table : ℕ) (bookmark : List ℕ) (from : ℕ) (held : List HeldChange) (place : ℕ) (row : Option (List ℕ)) → WalksBack longs test table bookmark from held (Some place) → from ≤ place
+    → slice_get (map (λ (h : HeldChange). h.before) held) place ≡ Some row → test (option_map (record_of (longs table)) row) ≡ true → some_before test table bookmark (held_from longs from held) ≡ true
+walk_finds longs test table bookmark from held place row walk high is passes =
     walk.told
-    ∙ (λ i. cond (is_high place from high i) false ((found_here test table bookmark held place row walk.stands is ∙ passes) i || passes_between (passes_before test table bookmark) from place held))
+    ∙ (λ i. cond (is_high place from high i) false ((found_here longs test table bookmark held place row walk.stands is ∙ passes) i || passes_between (passes_before longs test table bookmark) from place held))
 
-pub walk_goes_on : (test : Option RecordFields → Bool) (table : ℕ) (bookmark : List ℕ) (from : ℕ) (held : List HeldChange) (place : ℕ) (row : Option (List ℕ)) (older : Option ℕ) → WalksBack test table bookmark from held (Some place) → from ≤ place
-    → slice_get (map (λ (h : HeldChange). h.before) held) place ≡ Some row → test (option_map record_of row) ≡ false
-    → ((h : HeldChange) → slice_get held place ≡ Some h → older ≡ last_place (is_standing_rewrite h.table h.bookmark) (take place held)) → WalksBack test table bookmark from held older
-walk_goes_on test table bookmark from held place row older walk high is fails next = subst (WalksBack test table bookmark from held) (sym (older_is table bookmark held place older walk.stands next)) (record {
+pub walk_goes_on : (longs : TableValues) (test : Option RecordFields → Bool) (table : ℕ) (bookmark : List ℕ) (from : ℕ) (held : List HeldChange) (place : ℕ) (row : Option (List ℕ)) (older : Option ℕ) → WalksBack longs test table bookmark from held (Some place) → from ≤ place
+    → slice_get (map (λ (h : HeldChange). h.before) held) place ≡ Some row → test (option_map (record_of (longs table)) row) ≡ false
+    → ((h : HeldChange) → slice_get held place ≡ Some h → older ≡ last_place (is_standing_rewrite h.table h.bookmark) (take place held)) → WalksBack longs test table bookmark from held older
+walk_goes_on longs test table bookmark from held place row older walk high is fails next = subst (WalksBack longs test table bookmark from held) (sym (older_is table bookmark held place older walk.stands next)) (record {
   told =
       walk.told
-      ∙ (λ i. cond (is_high place from high i) false ((found_here test table bookmark held place row walk.stands is ∙ fails) i || passes_between (passes_before test table bookmark) from place held))
-      ∙ between_from (is_standing_rewrite table bookmark) (passes_before test table bookmark) (only_standing test table bookmark) from place held;
+      ∙ (λ i. cond (is_high place from high i) false ((found_here longs test table bookmark held place row walk.stands is ∙ fails) i || passes_between (passes_before longs test table bookmark) from place held))
+      ∙ between_from (is_standing_rewrite table bookmark) (passes_before longs test table bookmark) (only_standing longs test table bookmark) from place held;
   stands = last_stands (is_standing_rewrite table bookmark) place held;
 })
 
-pub walk_done : (test : Option RecordFields → Bool) (table : ℕ) (bookmark : List ℕ) (from : ℕ) (held : List HeldChange) (at : Option ℕ) → WalksBack test table bookmark from held at → at ≡ None → some_before test table bookmark (held_from from held) ≡ false
-walk_done test table bookmark from held at walk none = walk.told ∙ ap (λ (o : Option ℕ). passes_from (passes_before test table bookmark) from o held) none
+pub walk_done : (longs : TableValues) (test : Option RecordFields → Bool) (table : ℕ) (bookmark : List ℕ) (from : ℕ) (held : List HeldChange) (at : Option ℕ) → WalksBack longs test table bookmark from held at → at ≡ None → some_before test table bookmark (held_from longs from held) ≡ false
+walk_done longs test table bookmark from held at walk none = walk.told ∙ ap (λ (o : Option ℕ). passes_from (passes_before longs test table bookmark) from o held) none
 
-pub walk_at : (test : Option RecordFields → Bool) (table : ℕ) (bookmark : List ℕ) (from : ℕ) (held : List HeldChange) (at : Option ℕ) (place : ℕ) → WalksBack test table bookmark from held at → at ≡ Some place → WalksBack test table bookmark from held (Some place)
-walk_at test table bookmark from held at place walk is = subst (WalksBack test table bookmark from held) is walk
+pub walk_at : (longs : TableValues) (test : Option RecordFields → Bool) (table : ℕ) (bookmark : List ℕ) (from : ℕ) (held : List HeldChange) (at : Option ℕ) (place : ℕ) → WalksBack longs test table bookmark from held at → at ≡ Some place → WalksBack longs test table bookmark from held (Some place)
+walk_at longs test table bookmark from held at place walk is = subst (WalksBack longs test table bookmark from held) is walk
 
 -- the place is one of the changes
 pub place_within : (p : HeldChange → Bool) (held : List HeldChange) (place : ℕ) → StandsAt p held (Some place) → place < length held
@@ -190,16 +192,16 @@ place_within p (h ∷ held) zero stands = omega arith
 place_within p (h ∷ held) (suc place) stands = let rest : place < length held = place_within p held place stands in omega arith
 
 -- the row before a change is spelled as a record
-pub row_before : (held : List HeldChange) (place : ℕ) (row : Option (List ℕ)) → AreRows held → slice_get (map (λ (h : HeldChange). h.before) held) place ≡ Some row → IfSome row IsRecordRow
-row_before [] place row are is = no row is
-  where
-    no : (row : Option (List ℕ)) → None ≡ Some row → IfSome row IsRecordRow
-    no row e = cc
-row_before (h ∷ held) zero row are is = subst (λ (o : Option (List ℕ)). IfSome o IsRecordRow) (same h.before row is) are.0
+pub row_before : (longs : TableValues) (table : ℕ) (bookmark : List ℕ) (held : List HeldChange) (place : ℕ) (row : Option (List ℕ)) → AreRows longs held → StandsAt (is_standing_rewrite table bookmark) held (Some place)
+    → slice_get (map (λ (h : HeldChange). h.before) held) place ≡ Some row → IfSome row (IsRecordRow (longs table))
+row_before longs table bookmark [] place row are stands is = absurd stands
+row_before longs table bookmark (h ∷ held) zero row are stands is =
+    subst (λ (n : ℕ). IfSome row (IsRecordRow (longs n))) (same_number h.table table (and_left (h.table == table) (bytes_eq h.bookmark bookmark) (of_record table bookmark h stands)))
+    (subst (λ (o : Option (List ℕ)). IfSome o (IsRecordRow (longs h.table))) (same h.before row is) (are.0 (not_undone table bookmark h stands)))
   where
     same : (x y : Option (List ℕ)) → Some x ≡ Some y → x ≡ y
     same x y e = cc
-row_before (h ∷ held) (suc place) row are is = row_before held place row are.1 is
+row_before longs table bookmark (h ∷ held) (suc place) row are stands is = row_before longs table bookmark held place row are.1 stands is
 
 pub fewer_places : (place : ℕ) (at older : Option ℕ) → at ≡ Some place → IfSome older (λ n. n < place) → places_left older < places_left at
 fewer_places place at older is below = subst (λ (o : Option ℕ). places_left older < places_left o) (sym is) (by older below)
@@ -207,3 +209,8 @@ fewer_places place at older is below = subst (λ (o : Option ℕ). places_left o
     by : (older : Option ℕ) → IfSome older (λ n. n < place) → places_left older < suc place
     by None below = omega arith
     by (Some n) below = omega arith
+
+-- there is a record where there is a row
+pub some_mapped : (vals : Values) (row : Option (List ℕ)) → is_some (option_map (record_of vals) row) ≡ is_some row
+some_mapped vals None = refl
+some_mapped vals (Some row) = refl

@@ -9,42 +9,46 @@ use Rattle.index_derive.specs.declared.schema_calls.SchemaStep.{SchemaStep}
 use Rattle.jet_catalog.specs.Catalog.{CatalogState, catalog_after, without_rows}
 use Rattle.page_image.specs.Page.{Node}
 use Rattle.record_changes.proofs.Tests.{same_number}
-use Rattle.table_trees.specs.StoredTables.{StoredIndex, StoredTable, index_entries, is_index, part_of, table_indexes, table_nodes}
+use Rattle.table_trees.specs.StoredTables.{table_long_values, StoredIndex, StoredTable, index_entries, is_index, part_of, table_indexes, table_nodes}
 use Rattle.version_keys.proofs.SchemaKeys.{other_table, this_table}
 use Rattle.versioned_tables.specs.Variants.{HoldsVariants}
-use Rattle.stored_variants.specs.RecordRows.{rows_of_nodes}
+use Rattle.stored_variants.specs.RecordRows.{TableValues, rows_of_nodes}
 use Rattle.stored_variants.specs.SchemaSteps.{IsMade}
-use Rattle.stored_variants.specs.VersionsKept.{AreKept, IsKeptTable, needed_trees, secondary_rule, tree_numbers}
-use Rattle.stored_variants.specs.VersionsView.{with_newest}
+use Rattle.stored_variants.specs.VersionsKept.{AreKept, AreKeptWith, IsKeptTable, needed_trees, secondary_rule, tree_numbers}
+use Rattle.stored_variants.specs.VersionsView.{with_newest, with_newest_by}
 use Rattle.stored_variants.proofs.Tables.{found_number}
+use Rattle.long_value.specs.Values.{value_of, Values}
+use Rattle.stored_variants.specs.CountedValues.{newest_rows, BringsNoValue, AreCounted}
+use Rattle.variant_trees.specs.GoneKeys.{KeepsValues}
+use Rattle.long_references.specs.ReferenceCounts.{HasCounts}
 
 -- ---- tables while no change is held
 
-abbrev pub IsSettled : List StoredTable → Table → Type 0
-IsSettled trees t = IsKeptTable trees (table_nodes trees t.id) [] t
+abbrev pub IsSettled : TableValues → List StoredTable → Table → Type 0
+IsSettled longs trees t = IsKeptTable trees (longs t.id) (table_nodes trees t.id) [] t
 
-pub settled_of : (tables : List Table) (trees : List StoredTable) → AreKept tables trees [] → (id : ℕ) → IfSome (table_with_id tables id) (IsSettled trees)
-settled_of tables trees kept id = by (table_with_id tables id) refl (kept.each id)
+pub settled_of : (longs : TableValues) (tables : List Table) (trees : List StoredTable) → AreKeptWith longs tables trees [] → (id : ℕ) → IfSome (table_with_id tables id) (IsSettled longs trees)
+settled_of longs tables trees kept id = by (table_with_id tables id) refl (kept.each id)
   where
-    by : (o : Option Table) → table_with_id tables id ≡ o → IfSome o (IsKeptTable trees (table_nodes trees id) []) → IfSome o (IsSettled trees)
+    by : (o : Option Table) → table_with_id tables id ≡ o → IfSome o (IsKeptTable trees (longs id) (table_nodes trees id) []) → IfSome o (IsSettled longs trees)
     by None e k = tt
-    by (Some t) e k = subst (λ (n : ℕ). IsKeptTable trees (table_nodes trees n) [] t) (sym (found_number id tables t e)) k
+    by (Some t) e k = subst (λ (n : ℕ). IsKeptTable trees (longs n) (table_nodes trees n) [] t) (sym (found_number id tables t e)) k
 
-pub kept_of : (tables : List Table) (trees : List StoredTable) → map without_rows tables ≡ tables → map tree_numbers trees ≡ map needed_trees tables → ((id : ℕ) → IfSome (table_with_id tables id) (IsSettled trees)) → AreKept tables trees []
-kept_of tables trees plain numbers each = record {
+pub kept_of : (longs : TableValues) (tables : List Table) (trees : List StoredTable) → map without_rows tables ≡ tables → map tree_numbers trees ≡ map needed_trees tables → ((id : ℕ) → IfSome (table_with_id tables id) (IsSettled longs trees)) → AreKeptWith longs tables trees []
+kept_of longs tables trees plain numbers each = record {
   plain = plain;
   numbers = numbers;
   each = λ id. by id (table_with_id tables id) refl (each id);
   changes = tt;
 }
   where
-    by : (id : ℕ) (o : Option Table) → table_with_id tables id ≡ o → IfSome o (IsSettled trees) → IfSome o (IsKeptTable trees (table_nodes trees id) [])
+    by : (id : ℕ) (o : Option Table) → table_with_id tables id ≡ o → IfSome o (IsSettled longs trees) → IfSome o (IsKeptTable trees (longs id) (table_nodes trees id) [])
     by id None e k = tt
-    by id (Some t) e k = subst (λ (n : ℕ). IsKeptTable trees (table_nodes trees n) [] t) (found_number id tables t e) k
+    by id (Some t) e k = subst (λ (n : ℕ). IsKeptTable trees (longs n) (table_nodes trees n) [] t) (found_number id tables t e) k
 
 -- a table with the same nodes and the same indexes in other trees
-pub moved : (trees other : List StoredTable) (t : Table) → table_nodes other t.id ≡ table_nodes trees t.id → table_indexes other t.id ≡ table_indexes trees t.id → IsSettled trees t → IsSettled other t
-moved trees other t nodes indexes k = subst (λ (n : List Node). IsKeptTable other n [] t) (sym nodes) (record {
+pub moved : (longs : TableValues) (trees other : List StoredTable) (t : Table) → table_nodes other t.id ≡ table_nodes trees t.id → table_indexes other t.id ≡ table_indexes trees t.id → IsSettled longs trees t → IsSettled longs other t
+moved longs trees other t nodes indexes k = subst (λ (n : List Node). IsKeptTable other (longs t.id) n [] t) (sym nodes) (record {
   rules = k.rules;
   rows = k.rows;
   stands = k.stands;
@@ -52,8 +56,8 @@ moved trees other t nodes indexes k = subst (λ (n : List Node). IsKeptTable oth
 })
   where
     each : (index : ℕ) (rule : Option IndexRule)
-        → IfSome rule (λ rule. HoldsVariants (rows_of_nodes (table_nodes trees t.id)) [] rule (schema_of t) t.id (index_entries trees t.id index))
-        → IfSome rule (λ rule. HoldsVariants (rows_of_nodes (table_nodes trees t.id)) [] rule (schema_of t) t.id (index_entries other t.id index))
+        → IfSome rule (λ rule. HoldsVariants (rows_of_nodes (longs t.id) (table_nodes trees t.id)) [] rule (schema_of t) t.id (index_entries trees t.id index))
+        → IfSome rule (λ rule. HoldsVariants (rows_of_nodes (longs t.id) (table_nodes trees t.id)) [] rule (schema_of t) t.id (index_entries other t.id index))
     each index None h = tt
     each index (Some rule) h = λ key bookmark. ap (λ (xs : List StoredIndex). has_entry key bookmark (part_of (is_index index) (λ x. x.1) xs)) indexes ∙ h key bookmark
 
@@ -117,18 +121,36 @@ plain_table d change same tables plain = map_table without_rows d change change 
 
 -- ---- the newest records of tables
 
-pub newest_same : (trees other : List StoredTable) (t : Table) → table_nodes other t.id ≡ table_nodes trees t.id → with_newest other t ≡ with_newest trees t
-newest_same trees other t nodes = ap (λ (n : List Node). record t { rows = rows_of_nodes n }) nodes
+pub newest_same : (longs : TableValues) (trees other : List StoredTable) (t : Table) → table_nodes other t.id ≡ table_nodes trees t.id → with_newest_by longs other t ≡ with_newest_by longs trees t
+newest_same longs trees other t nodes = ap (λ (n : List Node). record t { rows = rows_of_nodes (longs t.id) n }) nodes
 
 -- ---- catalog and trees
 
 -- the tables and the trees after a step
-pub record StepsTo (made : SchemaStep) (tables : List Table) (trees other : List StoredTable) : Type 0 where
-  pub kept : AreKept (tables_after_step tables made) other []
-  pub shown : map (with_newest other) (tables_after_step tables made) ≡ tables_after_step (map (with_newest trees) tables) made
+pub record StepsTo (longs : TableValues) (made : SchemaStep) (tables : List Table) (trees other : List StoredTable) : Type 0 where
+  pub kept : AreKeptWith longs (tables_after_step tables made) other []
+  pub shown : map (with_newest_by longs other) (tables_after_step tables made) ≡ tables_after_step (map (with_newest_by longs trees) tables) made
 
-pub is_made : (made : SchemaStep) (was : CatalogState) (trees : List StoredTable) (is : CatalogState) (other : List StoredTable) → is ≡ catalog_after was made → StepsTo made was.tables trees other → IsMade made was trees is other
-is_made made was trees is other same steps = subst (λ (c : CatalogState). IsMade made was trees c other) (sym same) (record {
-  kept = steps.kept;
-  shown = λ i. record { greatest_table = (catalog_after was made).greatest_table; store = record { tables = steps.shown i; held = [] } };
+-- where the nodes and the long values stay, each value has as many references
+pub counts_stay : (trees other : List StoredTable) → KeepsValues trees other → ((table : ℕ) → table_nodes other table ≡ table_nodes trees table) → AreCounted trees [] → AreCounted other []
+counts_stay trees other keeps nodes counts = λ table.
+    subst (λ (v : Values). HasCounts v (newest_rows (table_nodes other table)) []) (sym (keeps table))
+    (subst (λ (ns : List Node). HasCounts (table_long_values trees table) (newest_rows ns) []) (sym (nodes table)) (counts table))
+
+pub is_made : (made : SchemaStep) (was : CatalogState) (trees : List StoredTable) (is : CatalogState) (other : List StoredTable) → is ≡ catalog_after was made → AreKept (tables_after_step was.tables made) other []
+    → map (with_newest other) (tables_after_step was.tables made) ≡ tables_after_step (map (with_newest trees) was.tables) made → AreCounted other [] → BringsNoValue trees other → IsMade made was trees is other
+is_made made was trees is other same kept shown counts values = subst (λ (c : CatalogState). IsMade made was trees c other) (sym same) (record {
+  kept = kept;
+  counts = counts;
+  values = values;
+  shown = λ newest. λ i. record { greatest_table = (catalog_after was made).greatest_table; newest_put = newest; store = record { tables = shown i; held = [] } };
 })
+
+-- the same where all long values stay
+pub made_with_values : (made : SchemaStep) (was : CatalogState) (trees : List StoredTable) (is : CatalogState) (other : List StoredTable) → is ≡ catalog_after was made → StepsTo (table_long_values trees) made was.tables trees other
+    → KeepsValues trees other → AreCounted other [] → IsMade made was trees is other
+made_with_values made was trees is other same steps keeps counts =
+    is_made made was trees is other same
+    (subst (λ (longs : TableValues). AreKeptWith longs (tables_after_step was.tables made) other []) (λ i table. sym (keeps table) i) steps.kept)
+    (ap (λ (longs : TableValues). map (with_newest_by longs other) (tables_after_step was.tables made)) (λ i table. keeps table i) ∙ steps.shown)
+    counts (λ table x none. ap (value_of x) (keeps table) ∙ none)

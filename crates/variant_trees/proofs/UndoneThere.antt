@@ -16,6 +16,7 @@ use Rattle.stored_variants.specs.RecordRows.{IsRecordRow, row_in_node, row_under
 use Rattle.stored_variants.proofs.Dropped.{TreeLaws}
 use Rattle.variant_trees.proofs.EntryTrees.{no_part, there_or}
 use Rattle.variant_trees.proofs.Refilled.{Fills, filled}
+use Rattle.long_value.specs.Values.{Values}
 
 -- ---- places
 
@@ -50,16 +51,16 @@ abbrev is_none_left : List ℕ → Bool
 is_none_left [] = true
 is_none_left (x ∷ xs) = false
 
-pub row_some : (row : List ℕ) → IsRecordRow row → row_in_node row ≡ Some row
-row_some [] is = impossible (sym (ap (λ bytes. is_none_left bytes) is.spelled))
-row_some (x ∷ xs) is = refl
+pub row_some : (vals : Values) (row : List ℕ) → IsRecordRow vals row → row_in_node row ≡ Some row
+row_some vals [] is = impossible (sym (ap (λ bytes. is_none_left bytes) is.spelled))
+row_some vals (x ∷ xs) is = refl
 
-pub row_in_bytes : (o : Option (List ℕ)) → IfSome o IsRecordRow → row_in_node (unwrap_or o []) ≡ o
-row_in_bytes None is = refl
-row_in_bytes (Some row) is = row_some row is
+pub row_in_bytes : (vals : Values) (o : Option (List ℕ)) → IfSome o (IsRecordRow vals) → row_in_node (unwrap_or o []) ≡ o
+row_in_bytes vals None is = refl
+row_in_bytes vals (Some row) is = row_some vals row is
 
-pub spelled_row : (row : List ℕ) → IsRecordRow row → IsRowBytes row
-spelled_row row is = (row_in row, is.formed, is.spelled)
+pub spelled_row : (vals : Values) (row : List ℕ) → IsRecordRow vals row → IsRowBytes row
+spelled_row vals row is = (row_in row, is.formed, is.spelled)
 
 -- ---- nodes
 

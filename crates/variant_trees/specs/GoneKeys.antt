@@ -1,5 +1,5 @@
 -- The keys of a record that goes, as far as no variant of it has them any more.
-use Rattle.std.specs.Prelude.{◌≡◌, ℕ, ◌≢◌, ◌&&◌, Bool, not, List, Option, Some, map, drop, IfSome, bytes_eq}
+use Rattle.std.specs.Prelude.{◌≡◌, ℕ, ◌≢◌, ◌&&◌, Bool, true, not, List, Option, Some, map, drop, IfSome, bytes_eq}
 use Rattle.std.specs.List.{AllByRecursion}
 use Rattle.column_set.specs.RecordValues.{RecordFields}
 use Rattle.cursor_nav.specs.Places.{Pair}
@@ -8,22 +8,22 @@ use Rattle.database_state.specs.Table.{rule_with_id}
 use Rattle.derived_index.specs.KeptEntries.{has_entry}
 use Rattle.index_derive.specs.declared.rules.IndexRule.{IndexRule}
 use Rattle.index_derive.specs.declared.rules.Schema.{Schema}
-use Rattle.table_trees.specs.StoredTables.{StoredTable, index_entries, table_indexes, table_nodes}
-use Rattle.version_store.specs.HeldChanges.{HeldChange}
+use Rattle.table_trees.specs.StoredTables.{StoredTable, index_entries, table_indexes, table_long_values, table_nodes}
+use Rattle.version_store.specs.HeldChanges.{HeldChange, is_standing}
 use Rattle.versioned_tables.specs.HeldRecords.{HeldRecord}
 use Rattle.versioned_tables.specs.Variants.{is_variant_key}
-use Rattle.stored_variants.specs.RecordRows.{held_record, IsRecordRow}
+use Rattle.stored_variants.specs.RecordRows.{TableValues, held_record_in, IsRecordRow}
 use Rattle.stored_variants.specs.VersionsKept.{only_secondary}
 
 -- ---- variants
 
 -- the held changes from a place on
-abbrev pub held_from : ℕ → List HeldChange → List HeldRecord
-held_from place held = map held_record (drop place held)
+abbrev pub held_from : TableValues → ℕ → List HeldChange → List HeldRecord
+held_from longs place held = map (held_record_in longs) (drop place held)
 
--- the rows before the held changes are spelled as records
-abbrev pub AreRows : List HeldChange → Type 0
-AreRows held = AllByRecursion (λ h. IfSome h.before IsRecordRow) held
+-- the rows before the puts and drops that are not undone stand for records
+abbrev pub AreRows : TableValues → List HeldChange → Type 0
+AreRows longs held = AllByRecursion (λ h. is_standing h ≡ true → IfSome h.before (IsRecordRow (longs h.table))) held
 
 -- ---- keys that go
 
@@ -49,11 +49,16 @@ table_numbers trees = map (λ x. x.number) trees
 abbrev pub index_numbers : List StoredTable → ℕ → List ℕ
 index_numbers trees table = map (λ x. x.0) (table_indexes trees table)
 
--- The tables, their indexes and their nodes stay, and so do the entries of all indexes but those of one table.
+-- the long values of each table stay
+abbrev pub KeepsValues : List StoredTable → List StoredTable → Type 0
+KeepsValues old new = (table : ℕ) → table_long_values new table ≡ table_long_values old table
+
+-- The tables, their indexes, their nodes and their long values stay, and so do the entries of all indexes but those of one table.
 pub record ChangesEntries (table : ℕ) (old new : List StoredTable) : Type 0 where
   pub numbers : table_numbers new ≡ table_numbers old
   pub indexes : (other : ℕ) → index_numbers new other ≡ index_numbers old other
   pub nodes : (other : ℕ) → table_nodes new other ≡ table_nodes old other
+  pub values : KeepsValues old new
   pub entries : (other index : ℕ) → other ≢ table → index_entries new other index ≡ index_entries old other index
 
 -- The other indexes of the table keep their entries.

@@ -1,4 +1,5 @@
 pub mod GoneKeys
+pub mod GoneRecords
 pub mod PutStages
 pub mod UndoneChanges
 pub mod LeftVariants

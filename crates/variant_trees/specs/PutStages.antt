@@ -1,5 +1,5 @@
 -- What the trees are while a record is put, once it is, and once a put is taken back.
-use Rattle.std.specs.Prelude.{◌≡◌, ℕ, ◌≤◌, ◌≢◌, ◌&&◌, Bool, true, List, Option, Some, IfSome, bytes_eq, ◌==◌, false, ◌||◌, [], None, IsSomeAnd, if◌then◌else◌}
+use Rattle.std.specs.Prelude.{◌≡◌, ℕ, ◌≤◌, ◌≢◌, ◌&&◌, Bool, true, List, Option, Some, IfSome, bytes_eq, ◌==◌, false, ◌||◌, ◌++◌, [], None, IsSomeAnd, if◌then◌else◌}
 use Rattle.std.specs.List.{list_any}
 use Rattle.column_set.specs.RecordValues.{RecordFields, record_fits}
 use Rattle.cursor_nav.specs.Places.{Pair}
@@ -8,13 +8,17 @@ use Rattle.database_state.specs.Table.{rule_with_id}
 use Rattle.derived_index.specs.KeptEntries.{has_entry}
 use Rattle.index_derive.specs.declared.rules.IndexRule.{IndexRule}
 use Rattle.index_derive.specs.declared.rules.Schema.{Schema}
-use Rattle.table_trees.specs.StoredTables.{StoredTable, index_entries, table_indexes, table_nodes, has_index}
+use Rattle.kept_rows.specs.Sources.{row_given}
+use Rattle.long_references.specs.ReferenceCounts.{with_all_taken}
+use Rattle.long_rows.specs.KeptRows.{Found}
+use Rattle.table_trees.specs.StoredTables.{StoredTable, index_entries, table_indexes, table_long_values, table_nodes, has_index}
 use Rattle.versioned_tables.specs.HeldRecords.{HeldRecord}
 use Rattle.versioned_tables.specs.Variants.{is_variant_key}
 use Rattle.btree_inplace.specs.Order.{extent_in, get_in}
 use Rattle.stored_variants.specs.PutRecords.{HasKeysOf, Keys}
+use Rattle.stored_variants.specs.RecordRows.{row_under}
 use Rattle.stored_variants.specs.VersionsKept.{only_secondary}
-use Rattle.variant_trees.specs.GoneKeys.{ChangesEntries, index_numbers, table_numbers}
+use Rattle.variant_trees.specs.GoneKeys.{ChangesEntries, KeepsValues, index_numbers, table_numbers}
 
 -- ---- keys
 
@@ -68,12 +72,13 @@ IsWidened old new = IfSome old (λ n. IsSomeAnd new (λ m. n ≤ m))
 abbrev pub AreWidened : List StoredTable → List StoredTable → Type 0
 AreWidened old new = (other : ℕ) (own : List ℕ) → IsWidened (extent_in (table_nodes old other) own) (extent_in (table_nodes new other) own)
 
--- There is a node under the bookmark, with room for a row. All records and all indexes stay.
+-- There is a node under the bookmark, with room for a row. All records, all long values and all indexes stay.
 pub record HasRoom (table : ℕ) (bookmark : List ℕ) (size : ℕ) (old new : List StoredTable) : Type 0 where
   pub numbers : table_numbers new ≡ table_numbers old
   pub indexes : (other : ℕ) → table_indexes new other ≡ table_indexes old other
   pub rows : (other : ℕ) (own : List ℕ) → get_in (table_nodes new other) own ≡ node_at_least (is_place table bookmark other own) (get_in (table_nodes old other) own)
   pub extents : AreWidened old new
+  pub values : KeepsValues old new
   pub room : IsSomeAnd (extent_in (table_nodes new table) bookmark) (λ extent. size ≤ extent)
 
 -- There is a new node under the bookmark, with a row. All else stays.
@@ -82,6 +87,23 @@ pub record HasNewRow (table : ℕ) (bookmark row : List ℕ) (old new : List Sto
   pub indexes : (other : ℕ) → table_indexes new other ≡ table_indexes old other
   pub rows : (other : ℕ) (own : List ℕ) → get_in (table_nodes new other) own ≡ (if is_place table bookmark other own then Some row else get_in (table_nodes old other) own)
   pub extents : AreWidened old new
+  pub values : KeepsValues old new
+
+-- ---- the row
+
+-- What a put finds in the trees: the long values of its table, the row before it and that of the record that was copied, if there
+-- are such, and the number of its log entry.
+abbrev pub put_found : ℕ → List StoredTable → ℕ → List ℕ → Option (List ℕ) → Found
+put_found number trees table bookmark copied = record {
+  values = table_long_values trees table;
+  rows = row_given (row_under (table_nodes trees table) bookmark) ++ row_given copied;
+  number = number;
+}
+
+-- a row where there is to be one
+abbrev pub row_if : Bool → Option (List ℕ) → Option (List ℕ)
+row_if false row = None
+row_if true row = row
 
 -- ---- a put that is not done, one that is taken back, and one that is done
 
@@ -111,15 +133,18 @@ pub record IsSame (table : ℕ) (schema : Schema) (old new : List StoredTable) :
   pub indexes : (other : ℕ) → index_numbers new other ≡ index_numbers old other
   pub rows : (other : ℕ) (own : List ℕ) → get_in (table_nodes new other) own ≡ get_in (table_nodes old other) own
   pub extents : AreWidened old new
+  pub values : KeepsValues old new
   pub others : (other index : ℕ) → other ≢ table → index_entries new other index ≡ index_entries old other index
   pub entries : (index : ℕ) → IfSome (only_secondary (rule_with_id schema index)) (λ rule. (key own : List ℕ) → has_entry key own (index_entries new table index) ≡ has_entry key own (index_entries old table index))
 
--- The row stands under the bookmark, and its table's indexes have the keys beside all that they had.
-pub record IsPut (table : ℕ) (bookmark row : List ℕ) (keys : Keys) (old new : List StoredTable) : Type 0 where
+-- The row stands under the bookmark, its table has the long values that the row was given, and its indexes have the keys beside all
+-- that they had.
+pub record IsPut (table : ℕ) (bookmark row : List ℕ) (given : List (List ℕ × List ℕ)) (keys : Keys) (old new : List StoredTable) : Type 0 where
   pub numbers : table_numbers new ≡ table_numbers old
   pub indexes : (other : ℕ) → index_numbers new other ≡ index_numbers old other
   pub rows : (other : ℕ) (own : List ℕ) → get_in (table_nodes new other) own ≡ (if is_place table bookmark other own then Some row else get_in (table_nodes old other) own)
   pub extents : AreWidened old new
+  pub values : (other : ℕ) → table_long_values new other ≡ (if table == other then with_all_taken given (table_long_values old table) else table_long_values old other)
   pub others : (other index : ℕ) → other ≢ table → index_entries new other index ≡ index_entries old other index
   pub entries : (index : ℕ) (key own : List ℕ) → has_entry key own (index_entries new table index) ≡ (has_entry key own (index_entries old table index) || (bytes_eq own bookmark && keys index key))
 

@@ -4,8 +4,9 @@ ghost use Rattle.std.specs.Prelude.{◌≡◌, true, false, [], map, IfSome, IsS
 ghost use Rattle.database_state.specs.Table.{schema_of, table_with_id};
 ghost use Rattle.jet_catalog.specs.Catalog.{catalog_after};
 ghost use Rattle.table_trees.specs.ShownCatalogs.{IsNewIndex, ShowsCatalog};
-ghost use Rattle.table_trees.specs.StoredTables.{has_index, has_table, index_entries, table_nodes};
+ghost use Rattle.table_trees.specs.StoredTables.{has_index, has_table, index_entries, table_long_values, table_nodes};
 ghost use Rattle.variant_trees.specs.NewEntries.{CanFill, HasNewestKeys, OnlyEntries};
+ghost use Rattle.stored_variants.specs.CountedValues.{AreCounted};
 ghost use Rattle.stored_variants.specs.SchemaSteps.{IsIndexFor, IsMade};
 ghost use Rattle.stored_variants.specs.VersionsKept.{AreKept};
 ghost use Rattle.stored_variants.specs.VersionsView.{with_newest};
@@ -32,6 +33,7 @@ pub fn create_index(
     rule: &IndexRule,
 ) -> Result<(), OutOfMemory>
     requires kept { AreKept catalog.old.tables trees.old.tables [] }
+    requires counts { AreCounted trees.old.tables [] }
     requires shown { ShowsCatalog trees.old.catalog catalog.old }
     requires step { made.now ≡ step.CreateIndex table rule.now }
     requires fits { IsSomeAnd (table_with_id (map (with_newest trees.old.tables) catalog.old.tables) table.0) (IsIndexFor rule.now) }
@@ -55,6 +57,7 @@ fn create_primary(
     rule: &IndexRule,
 ) -> Result<(), OutOfMemory>
     requires kept { AreKept catalog.old.tables trees.old.tables [] }
+    requires counts { AreCounted trees.old.tables [] }
     requires shown { ShowsCatalog trees.old.catalog catalog.old }
     requires step { made.now ≡ step.CreateIndex table rule.now }
     requires primary { rule.now.flags.primary ≡ true }
@@ -110,6 +113,7 @@ fn create_secondary(
     rule: &IndexRule,
 ) -> Result<(), OutOfMemory>
     requires kept { AreKept catalog.old.tables trees.old.tables [] }
+    requires counts { AreCounted trees.old.tables [] }
     requires shown { ShowsCatalog trees.old.catalog catalog.old }
     requires step { made.now ≡ step.CreateIndex table rule.now }
     requires secondary { rule.now.flags.primary ≡ false }
@@ -150,9 +154,9 @@ fn fill_and_make(
     requires there { has_index trees.old.tables table.0 rule.now.id.0 ≡ true }
     requires empty { index_entries trees.old.tables table.0 rule.now.id.0 ≡ [] }
     requires new { IsNewIndex catalog.old table rule.now }
-    requires fits { IsSomeAnd (table_with_id catalog.old.tables table.0) (CanFill rule.now (table_nodes trees.old.tables table.0)) }
+    requires fits { IsSomeAnd (table_with_id catalog.old.tables table.0) (CanFill (table_long_values trees.old.tables table.0) rule.now (table_nodes trees.old.tables table.0)) }
     ensures only { OnlyEntries table.0 rule.now.id.0 trees.old.tables trees.new.tables }
-    ensures filled { OnOk result (IfSome (table_with_id catalog.old.tables table.0) (λ t. HasNewestKeys rule.now (table_nodes trees.old.tables table.0) (index_entries trees.new.tables table.0 rule.now.id.0) (schema_of t))) }
+    ensures filled { OnOk result (IfSome (table_with_id catalog.old.tables table.0) (λ t. HasNewestKeys (table_long_values trees.old.tables table.0) rule.now (table_nodes trees.old.tables table.0) (index_entries trees.new.tables table.0 rule.now.id.0) (schema_of t))) }
     ensures made { OnOk result (catalog.new ≡ catalog_after catalog.old made.now) }
     ensures err { OnErr result (catalog.new ≡ catalog.old) }
     ensures shown { ShowsCatalog trees.new.catalog catalog.new }
@@ -176,9 +180,9 @@ fn fill_table(
 ) -> Result<(), OutOfMemory>
     requires there { has_index trees.old.tables table.0 rule.now.id.0 ≡ true }
     requires empty { index_entries trees.old.tables table.0 rule.now.id.0 ≡ [] }
-    requires fits { IsSomeAnd (table_with_id catalog.now.tables table.0) (CanFill rule.now (table_nodes trees.old.tables table.0)) }
+    requires fits { IsSomeAnd (table_with_id catalog.now.tables table.0) (CanFill (table_long_values trees.old.tables table.0) rule.now (table_nodes trees.old.tables table.0)) }
     ensures only { OnlyEntries table.0 rule.now.id.0 trees.old.tables trees.new.tables }
-    ensures filled { OnOk result (IfSome (table_with_id catalog.now.tables table.0) (λ t. HasNewestKeys rule.now (table_nodes trees.old.tables table.0) (index_entries trees.new.tables table.0 rule.now.id.0) (schema_of t))) }
+    ensures filled { OnOk result (IfSome (table_with_id catalog.now.tables table.0) (λ t. HasNewestKeys (table_long_values trees.old.tables table.0) rule.now (table_nodes trees.old.tables table.0) (index_entries trees.new.tables table.0 rule.now.id.0) (schema_of t))) }
     ensures catalog { trees.new.catalog ≡ trees.old.catalog }
 {
     match catalog.by_id(table) {

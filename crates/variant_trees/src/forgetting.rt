@@ -1,30 +1,31 @@
 //! What goes with the oldest held change.
 
-ghost use Rattle.std.specs.Prelude.{◌≡◌, ◌<◌, ℕ, List, Some, drop, length, map, IfSome};
-ghost use Rattle.database_state.specs.Table.{Table, schema_of, table_with_id};
-ghost use Rattle.table_trees.specs.StoredTables.{table_nodes};
-ghost use Rattle.variant_trees.specs.GoneKeys.{AreRows};
-ghost use Rattle.variant_trees.specs.LeftVariants.{CanForget, DistinctIds, first_table};
-ghost use Rattle.stored_variants.specs.RecordRows.{IsRecordRow, row_under};
+ghost use Rattle.std.specs.Prelude.{◌≡◌, ◌<◌, List, Some, length};
+ghost use Rattle.database_state.specs.Table.{Table};
+ghost use Rattle.variant_trees.specs.LeftVariants.{HasSchema, IsForgotten, first_table};
+ghost use Rattle.stored_variants.specs.CountedValues.{AreCounted};
 ghost use Rattle.stored_variants.specs.VersionsKept.{AreKept};
-ghost use Rattle.stored_variants.specs.VersionsView.{with_newest};
 
-use crate::nodes::in_place;
+use crate::gone::Gone;
 use crate::variants::take_variant;
 use index_derive::Schema;
 use jet_base::TableId;
 use jet_catalog::Catalog;
+use kept_rows::release_row;
+use long_references::values_keep_their_counts;
+use long_value::{references_after_a_change, values_after_a_change};
 use table_trees::TableTrees;
 use version_store::Versions;
 
 /// Takes away what no reader needs once the oldest change is forgotten: of the record before it the keys that no other
-/// variant has, and the node where no variant is left. The newest records stay. The change itself is still held: the caller
+/// variant has, the node where no variant is left, and its references to long values; nothing where the change is undone. The
+/// newest records stay, and the other held changes hold the records that they held. The change itself is still held: the caller
 /// gives it up. It takes no memory.
 pub fn forget_oldest(catalog: &Catalog, trees: &mut TableTrees, versions: &Versions)
     requires kept { AreKept catalog.now.tables trees.old.tables versions.now }
+    requires counts { AreCounted trees.old.tables versions.now }
     requires some { 0 < length versions.now }
-    ensures kept { AreKept catalog.now.tables trees.new.tables (drop 1 versions.now) }
-    ensures newest { map (with_newest trees.new.tables) catalog.now.tables ≡ map (with_newest trees.old.tables) catalog.now.tables }
+    ensures forgotten { IsForgotten catalog.now.tables trees.old.tables trees.new.tables versions.now }
     ensures catalog { trees.new.catalog ≡ trees.old.catalog }
 {
     match versions.oldest_table() {
@@ -36,9 +37,9 @@ pub fn forget_oldest(catalog: &Catalog, trees: &mut TableTrees, versions: &Versi
 // The same where the change's table is known.
 fn forget_of(catalog: &Catalog, trees: &mut TableTrees, versions: &Versions, table: TableId)
     requires kept { AreKept catalog.now.tables trees.old.tables versions.now }
+    requires counts { AreCounted trees.old.tables versions.now }
     requires first { first_table versions.now ≡ Some table.0 }
-    ensures kept { AreKept catalog.now.tables trees.new.tables (drop 1 versions.now) }
-    ensures newest { map (with_newest trees.new.tables) catalog.now.tables ≡ map (with_newest trees.old.tables) catalog.now.tables }
+    ensures forgotten { IsForgotten catalog.now.tables trees.old.tables trees.new.tables versions.now }
     ensures catalog { trees.new.catalog ≡ trees.old.catalog }
 {
     let _ = catalog.tables();
@@ -50,18 +51,24 @@ fn forget_of(catalog: &Catalog, trees: &mut TableTrees, versions: &Versions, tab
 
 // The same where the table's schema is known.
 fn forget_in(trees: &mut TableTrees, versions: &Versions, table: TableId, schema: &Schema)
-    requires can { CanForget schema.now table.0 versions.now }
-    requires rows { AreRows versions.now }
-    requires newest { (bookmark : List ℕ) → IfSome (row_under (table_nodes trees.old.tables table.0) bookmark) IsRecordRow }
-    ensures kept { (tables : List Table) → DistinctIds tables → IfSome (table_with_id tables table.0) (λ t. schema.now ≡ schema_of t) → AreKept tables trees.old.tables versions.now → AreKept tables trees.new.tables (drop 1 versions.now) }
-    ensures newest { (tables : List Table) → map (with_newest trees.new.tables) tables ≡ map (with_newest trees.old.tables) tables }
+    requires was { (tables : List Table) × HasSchema tables table.0 schema.now × AreKept tables trees.old.tables versions.now }
+    requires first { first_table versions.now ≡ Some table.0 }
+    requires counts { AreCounted trees.old.tables versions.now }
+    ensures forgotten { (tables : List Table) → HasSchema tables table.0 schema.now → AreKept tables trees.old.tables versions.now → IsForgotten tables trees.old.tables trees.new.tables versions.now }
     ensures catalog { trees.new.catalog ≡ trees.old.catalog }
 {
-    match in_place(versions.before_at(0)) {
-        Some(row) => {
-            let bookmark = versions.bookmark_at(0);
-            take_variant(trees, versions, 1, table, schema, bookmark, &row);
+    references_after_a_change();
+    values_after_a_change();
+    values_keep_their_counts();
+    if versions.is_standing_at(0) {
+        match versions.before_at(0) {
+            Some(row) => {
+                let bookmark = versions.bookmark_at(0);
+                take_variant(trees, versions, 1, table, schema, bookmark, Gone::Row(row));
+                trees.nodes_are_in_order();
+                release_row(trees, table, row);
+            }
+            None => {}
         }
-        None => {}
     }
 }

@@ -5,15 +5,16 @@ ghost use Rattle.std.specs.List.{AllByRecursion};
 ghost use Rattle.database_state.specs.Conflicts.{yields_key};
 ghost use Rattle.derived_index.specs.KeptEntries.{has_entry};
 ghost use Rattle.index_derive.specs.Entries.{is_legal};
-ghost use Rattle.table_trees.specs.StoredTables.{index_entries, table_nodes};
+ghost use Rattle.table_trees.specs.StoredTables.{index_entries, table_long_values, table_nodes};
 ghost use Rattle.versioned_tables.specs.Variants.{is_variant_key};
 ghost use Rattle.stored_variants.specs.PutRecords.{HasKeysOf};
 ghost use Rattle.stored_variants.specs.RecordRows.{some_before, IsRecordRow, record_of, row_under};
+ghost use Rattle.variant_trees.specs.GoneRecords.{CanRead, gone_fields};
 ghost use Rattle.variant_trees.specs.GoneKeys.{AreRows, ChangesEntries, LosesKey, LosesKeys, LosesRecord, OthersKeep, held_from};
 
+use crate::gone::{Gone, next_key};
 use crate::nodes::{in_place, row_in_node};
-use column_set::Values;
-use index_derive::derive::{next_entry, yields};
+use index_derive::derive::yields;
 use index_derive::{IndexRule, Schema, entries_rise};
 use jet_base::{IndexId, TableId};
 use key_normal::Key;
@@ -25,21 +26,22 @@ use version_store::Versions;
 /// memory.
 ///
 /// Keys that are not there are passed over, so that it may come after some of them were put.
-pub(crate) fn take_keys<R: Values>(
+pub(crate) fn take_keys(
     trees: &mut TableTrees,
     versions: &Versions,
     from: usize,
     table: TableId,
     schema: &Schema,
     bookmark: &[u8],
-    gone: &R,
+    gone: Gone<'_>,
 )
-    requires rules { AllByRecursion (HasKeysOf schema.now (R.fields gone.now)) schema.now.indexes }
-    requires newest { IfSome (row_under (table_nodes trees.old.tables table.0) bookmark.now) IsRecordRow }
-    requires rows { AreRows versions.now }
+    requires gone { CanRead (table_long_values trees.old.tables table.0) gone }
+    requires rules { AllByRecursion (HasKeysOf schema.now (gone_fields (table_long_values trees.old.tables table.0) gone)) schema.now.indexes }
+    requires newest { IfSome (row_under (table_nodes trees.old.tables table.0) bookmark.now) (IsRecordRow (table_long_values trees.old.tables table.0)) }
+    requires rows { AreRows (table_long_values trees.old.tables) versions.now }
     requires bookmark { length bookmark.now ≤ 255 }
     ensures others { ChangesEntries table.0 trees.old.tables trees.new.tables }
-    ensures keys { LosesRecord (option_map record_of (row_under (table_nodes trees.old.tables table.0) bookmark.now)) (held_from from versions.now) schema.now table.0 bookmark.now (R.fields gone.now) trees.old.tables trees.new.tables }
+    ensures keys { LosesRecord (option_map (record_of (table_long_values trees.old.tables table.0)) (row_under (table_nodes trees.old.tables table.0) bookmark.now)) (held_from (table_long_values trees.old.tables) from versions.now) schema.now table.0 bookmark.now (gone_fields (table_long_values trees.old.tables table.0) gone.entry) trees.old.tables trees.new.tables }
     ensures catalog { trees.new.catalog ≡ trees.old.catalog }
 {
     for rule in schema.indexes.as_slice() {
@@ -50,7 +52,7 @@ pub(crate) fn take_keys<R: Values>(
 }
 
 // The same of one index.
-fn take_keys_of<R: Values>(
+fn take_keys_of(
     trees: &mut TableTrees,
     versions: &Versions,
     from: usize,
@@ -58,22 +60,23 @@ fn take_keys_of<R: Values>(
     schema: &Schema,
     rule: &IndexRule,
     bookmark: &[u8],
-    gone: &R,
+    gone: Gone<'_>,
 )
-    requires rule { HasKeysOf schema.now (R.fields gone.now) rule.now }
-    requires newest { IfSome (row_under (table_nodes trees.old.tables table.0) bookmark.now) IsRecordRow }
-    requires rows { AreRows versions.now }
+    requires gone { CanRead (table_long_values trees.old.tables table.0) gone }
+    requires rule { HasKeysOf schema.now (gone_fields (table_long_values trees.old.tables table.0) gone) rule.now }
+    requires newest { IfSome (row_under (table_nodes trees.old.tables table.0) bookmark.now) (IsRecordRow (table_long_values trees.old.tables table.0)) }
+    requires rows { AreRows (table_long_values trees.old.tables) versions.now }
     requires bookmark { length bookmark.now ≤ 255 }
     ensures others { ChangesEntries table.0 trees.old.tables trees.new.tables }
     ensures indexes { OthersKeep table.0 rule.now.id.0 trees.old.tables trees.new.tables }
-    ensures keys { LosesKeys (option_map record_of (row_under (table_nodes trees.old.tables table.0) bookmark.now)) (held_from from versions.now) rule.now schema.now table.0 bookmark.now (R.fields gone.now) (index_entries trees.old.tables table.0 rule.now.id.0) (index_entries trees.new.tables table.0 rule.now.id.0) }
+    ensures keys { LosesKeys (option_map (record_of (table_long_values trees.old.tables table.0)) (row_under (table_nodes trees.old.tables table.0) bookmark.now)) (held_from (table_long_values trees.old.tables) from versions.now) rule.now schema.now table.0 bookmark.now (gone_fields (table_long_values trees.old.tables table.0) gone.entry) (index_entries trees.old.tables table.0 rule.now.id.0) (index_entries trees.new.tables table.0 rule.now.id.0) }
     ensures catalog { trees.new.catalog ≡ trees.old.catalog }
 {
     entries_rise();
-    let mut next = next_entry(rule, schema, gone, None);
+    let mut next = next_key(trees, table, rule, schema, gone, None);
     while let Some(key) = next {
         take_key(trees, versions, from, table, schema, rule, bookmark, &key);
-        next = next_entry(rule, schema, gone, Some(&key));
+        next = next_key(trees, table, rule, schema, gone, Some(&key));
     }
 }
 
@@ -90,12 +93,12 @@ fn take_key(
 )
     requires legal { is_legal rule.now schema.now ≡ true }
     requires short { rule.now.key_most ≤ 255 }
-    requires newest { IfSome (row_under (table_nodes trees.old.tables table.0) bookmark.now) IsRecordRow }
-    requires rows { AreRows versions.now }
+    requires newest { IfSome (row_under (table_nodes trees.old.tables table.0) bookmark.now) (IsRecordRow (table_long_values trees.old.tables table.0)) }
+    requires rows { AreRows (table_long_values trees.old.tables) versions.now }
     requires bookmark { length bookmark.now ≤ 255 }
     ensures others { ChangesEntries table.0 trees.old.tables trees.new.tables }
     ensures indexes { OthersKeep table.0 rule.now.id.0 trees.old.tables trees.new.tables }
-    ensures key { LosesKey (λ (k : List ℕ). is_variant_key (option_map record_of (row_under (table_nodes trees.old.tables table.0) bookmark.now)) (held_from from versions.now) rule.now schema.now table.0 k bookmark.now) key.now bookmark.now (index_entries trees.old.tables table.0 rule.now.id.0) (index_entries trees.new.tables table.0 rule.now.id.0) }
+    ensures key { LosesKey (λ (k : List ℕ). is_variant_key (option_map (record_of (table_long_values trees.old.tables table.0)) (row_under (table_nodes trees.old.tables table.0) bookmark.now)) (held_from (table_long_values trees.old.tables) from versions.now) rule.now schema.now table.0 k bookmark.now) key.now bookmark.now (index_entries trees.old.tables table.0 rule.now.id.0) (index_entries trees.new.tables table.0 rule.now.id.0) }
     ensures catalog { trees.new.catalog ≡ trees.old.catalog }
 {
     if !is_variant_key(trees, versions, from, table, schema, rule, bookmark, key) {
@@ -132,18 +135,19 @@ fn is_variant_key(
 ) -> bool
     requires legal { is_legal rule.now schema.now ≡ true }
     requires short { rule.now.key_most ≤ 255 }
-    requires newest { IfSome (row_under (table_nodes trees.now.tables table.0) bookmark.now) IsRecordRow }
-    requires rows { AreRows versions.now }
-    ensures { result ≡ is_variant_key (option_map record_of (row_under (table_nodes trees.now.tables table.0) bookmark.now)) (held_from from versions.now) rule.now schema.now table.0 key.now bookmark.now }
+    requires newest { IfSome (row_under (table_nodes trees.now.tables table.0) bookmark.now) (IsRecordRow (table_long_values trees.now.tables table.0)) }
+    requires rows { AreRows (table_long_values trees.now.tables) versions.now }
+    ensures { result ≡ is_variant_key (option_map (record_of (table_long_values trees.now.tables table.0)) (row_under (table_nodes trees.now.tables table.0) bookmark.now)) (held_from (table_long_values trees.now.tables) from versions.now) rule.now schema.now table.0 key.now bookmark.now }
 {
     let newest = row_in_node(trees.get(table, bookmark));
-    has_key(rule, schema, newest, key)
-        || is_key_before(versions, from, table, schema, rule, bookmark, key)
+    has_key(trees, table, rule, schema, newest, key)
+        || is_key_before(trees, versions, from, table, schema, rule, bookmark, key)
 }
 
 // Whether the record before a held change has the key, where it is a put or drop of the record that is not undone. It goes
 // from the newest of these back.
 fn is_key_before(
+    trees: &TableTrees,
     versions: &Versions,
     from: usize,
     table: TableId,
@@ -154,15 +158,15 @@ fn is_key_before(
 ) -> bool
     requires legal { is_legal rule.now schema.now ≡ true }
     requires short { rule.now.key_most ≤ 255 }
-    requires rows { AreRows versions.now }
-    ensures { result ≡ some_before (yields_key rule.now schema.now key.now) table.0 bookmark.now (held_from from versions.now) }
+    requires rows { AreRows (table_long_values trees.now.tables) versions.now }
+    ensures { result ≡ some_before (yields_key rule.now schema.now key.now) table.0 bookmark.now (held_from (table_long_values trees.now.tables) from versions.now) }
 {
     let mut at = versions.newest_rewrite(table, bookmark);
     while let Some(place) = at {
         if place < from {
             return false;
         }
-        if has_key(rule, schema, versions.before_at(place), key) {
+        if has_key(trees, table, rule, schema, versions.before_at(place), key) {
             return true;
         }
         at = versions.older_rewrite(place);
@@ -170,14 +174,21 @@ fn is_key_before(
     false
 }
 
-// Whether the record of a row has the key.
-fn has_key(rule: &IndexRule, schema: &Schema, row: Option<&[u8]>, key: &Key) -> bool
+// Whether the record of a row of the table has the key.
+fn has_key(
+    trees: &TableTrees,
+    table: TableId,
+    rule: &IndexRule,
+    schema: &Schema,
+    row: Option<&[u8]>,
+    key: &Key,
+) -> bool
     requires legal { is_legal rule.now schema.now ≡ true }
     requires short { rule.now.key_most ≤ 255 }
-    requires row { IfSome (option_copied row) IsRecordRow }
-    ensures { result ≡ yields_key rule.now schema.now key.now (option_map record_of (option_copied row.entry)) }
+    requires row { IfSome (option_copied row) (IsRecordRow (table_long_values trees.now.tables table.0)) }
+    ensures { result ≡ yields_key rule.now schema.now key.now (option_map (record_of (table_long_values trees.now.tables table.0)) (option_copied row.entry)) }
 {
-    match in_place(row) {
+    match in_place(trees, table, row) {
         Some(row) => yields(rule, schema, &row, key),
         None => false,
     }

@@ -5,6 +5,7 @@
 
 mod filling;
 mod forgetting;
+mod gone;
 mod keys;
 mod new_entries;
 mod nodes;

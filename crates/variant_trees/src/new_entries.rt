@@ -8,7 +8,7 @@ ghost use Rattle.std.specs.Cmp.Lexicographic.{slice_cmp};
 ghost use Rattle.derived_index.specs.KeptEntries.{has_entry};
 ghost use Rattle.index_derive.specs.Entries.{is_legal};
 ghost use Rattle.index_tree.specs.Entries.{IsApart};
-ghost use Rattle.table_trees.specs.StoredTables.{has_index, index_entries, table_nodes};
+ghost use Rattle.table_trees.specs.StoredTables.{has_index, index_entries, table_long_values, table_nodes};
 ghost use Rattle.variant_trees.specs.NewEntries.{HasNewestKeys, IsAmong, IsTakenRow, OnlyEntries, is_key_in_node};
 ghost use Rattle.stored_variants.specs.RecordRows.{row_in_node, row_under};
 
@@ -36,9 +36,9 @@ pub(crate) fn fill(
     requires empty { index_entries trees.old.tables table.0 rule.now.id.0 ≡ [] }
     requires legal { is_legal rule.now schema.now ≡ true }
     requires short { rule.now.key_most ≤ 255 }
-    requires rows { (bookmark : List ℕ) → IfSome (row_under (table_nodes trees.old.tables table.0) bookmark) (IsTakenRow rule.now schema.now) }
+    requires rows { (bookmark : List ℕ) → IfSome (row_under (table_nodes trees.old.tables table.0) bookmark) (IsTakenRow (table_long_values trees.old.tables table.0) rule.now schema.now) }
     ensures only { OnlyEntries table.0 rule.now.id.0 trees.old.tables trees.new.tables }
-    ensures ok { OnOk result (HasNewestKeys rule.now (table_nodes trees.old.tables table.0) (index_entries trees.new.tables table.0 rule.now.id.0) schema.now) }
+    ensures ok { OnOk result (HasNewestKeys (table_long_values trees.old.tables table.0) rule.now (table_nodes trees.old.tables table.0) (index_entries trees.new.tables table.0 rule.now.id.0) schema.now) }
     ensures catalog { trees.new.catalog ≡ trees.old.catalog }
 {
     derived_keys_are_apart();
@@ -46,7 +46,7 @@ pub(crate) fn fill(
     let mut place = Place::Before;
     while let Some((bookmark, bytes)) = trees.node_after(table, &place) {
         let bookmark = Key::from_slice(bookmark);
-        let keys = match keys_in_node(alloc, rule, schema, bytes) {
+        let keys = match keys_in_node(alloc, trees, table, rule, schema, bytes) {
             Ok(keys) => keys,
             Err(error) => return Err(error),
         };
@@ -62,18 +62,20 @@ pub(crate) fn fill(
 // The keys of the record in a node's bytes, in rising order. A node without a byte has none.
 fn keys_in_node(
     alloc: Global,
+    trees: &TableTrees,
+    table: TableId,
     rule: &IndexRule,
     schema: &Schema,
     bytes: &[u8],
 ) -> Result<Items<Key>, OutOfMemory>
     requires legal { is_legal rule.now schema.now ≡ true }
     requires short { rule.now.key_most ≤ 255 }
-    requires row { IfSome (row_in_node bytes.now) (IsTakenRow rule.now schema.now) }
+    requires row { IfSome (row_in_node bytes.now) (IsTakenRow (table_long_values trees.now.tables table.0) rule.now schema.now) }
     ensures rising { IfOk result (λ keys. IsStrictlySortedBy (slice_cmp nat_cmp) keys) }
-    ensures keys { IfOk result (λ keys. (key : List ℕ) → list_any (bytes_eq key) keys ≡ is_key_in_node rule.now schema.now bytes.now key) }
+    ensures keys { IfOk result (λ keys. (key : List ℕ) → list_any (bytes_eq key) keys ≡ is_key_in_node (table_long_values trees.now.tables table.0) rule.now schema.now bytes.now key) }
 {
     entries_rise();
-    match in_place(row_in_node(Some(bytes))) {
+    match in_place(trees, table, row_in_node(Some(bytes))) {
         Some(row) => match entries(alloc, rule, schema, &row) {
             Ok(keys) => Ok(keys),
             Err(_) => Err(OutOfMemory),

@@ -2,11 +2,13 @@
 
 ghost use Rattle.std.specs.Prelude.{◌≡◌, option_and_then, option_copied, IfSome, option_map, ◌≤◌, length};
 ghost use Rattle.stored_variants.specs.RecordRows.{row_in_node, IsRecordRow, record_of};
-ghost use Rattle.column_set.specs.Rows.{here_fields};
+ghost use Rattle.table_trees.specs.StoredTables.{table_long_values};
 
-use column_set::RowRef;
 use index_derive::IndexEntry;
+use jet_base::TableId;
+use kept_rows::ShownRow;
 use key_normal::Key;
+use table_trees::TableTrees;
 
 /// The row in a node's bytes. A node without a byte has none: its record was dropped, and an older variant is still held.
 pub fn row_in_node(bytes: Option<&[u8]>) -> Option<&[u8]>
@@ -18,13 +20,17 @@ pub fn row_in_node(bytes: Option<&[u8]>) -> Option<&[u8]>
     }
 }
 
-/// The record of a row, read where it lies.
-pub fn in_place(row: Option<&[u8]>) -> Option<RowRef<'_>>
-    requires { IfSome (option_copied row) IsRecordRow }
-    ensures { option_map here_fields result ≡ option_map record_of (option_copied row.entry) }
+/// The record of a row of a table, read where it lies, with its long values.
+pub fn in_place<'a>(
+    trees: &'a TableTrees,
+    table: TableId,
+    row: Option<&'a [u8]>,
+) -> Option<ShownRow<'a>>
+    requires { IfSome (option_copied row) (IsRecordRow (table_long_values trees.now.tables table.0)) }
+    ensures { result ≡ option_map (record_of (table_long_values trees.now.tables table.0)) (option_copied row.entry) }
 {
     match row {
-        Some(row) => Some(RowRef::new(row)),
+        Some(row) => Some(ShownRow::new(trees, table, row)),
         None => None,
     }
 }

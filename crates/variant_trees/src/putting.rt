@@ -1,27 +1,38 @@
 //! What a put brings into the trees of its table, and how it is taken back.
 
-ghost use Rattle.std.specs.Prelude.{◌≡◌, ℕ, ◌≤◌, ◌<◌, ◌++◌, ◌∷◌, [], List, length, true, false, not, is_none, is_some, Some, None, option_map, IfSome, IsErrOf, IsTrue, OnErr, OnOk};
+ghost use Rattle.std.specs.Prelude.{◌≡◌, ℕ, ◌≤◌, ◌<◌, ◌++◌, ◌∷◌, [], List, length, true, false, not, is_none, is_some, Some, None, map, option_copied, option_map, unwrap_or, IfOk, IfSome, IsErrOf, IsTrue, OnErr, OnOk};
 ghost use Rattle.std.specs.List.{AllByRecursion};
 ghost use Rattle.btree_inplace.specs.Order.{extent_in, get_in};
 ghost use Rattle.column_set.specs.RecordValues.{record_fits};
-ghost use Rattle.column_set.specs.Rows.{all_here, is_all_here, row_bytes};
+ghost use Rattle.column_set.specs.Rows.{IsRowBytes, is_row_of, largest_row, row_bytes};
+ghost use Rattle.column_set.specs.RowReading.{row_in};
 ghost use Rattle.index_tree.specs.Entries.{IsApartFromAll};
-ghost use Rattle.table_trees.specs.StoredTables.{StoredTable, has_index, has_table, index_entries, table_nodes};
+ghost use Rattle.kept_rows.specs.ValuesChanged.{HasLongValues};
+ghost use Rattle.long_references.specs.RowReferences.{identifiers};
+ghost use Rattle.long_references.specs.ReferenceCounts.{with_all_taken};
+ghost use Rattle.long_rows.specs.KeptRows.{MayKeep, MayTake, given_values, kept_row};
+ghost use Rattle.table_trees.specs.StoredTables.{StoredTable, has_index, has_table, index_entries, table_long_values, table_nodes};
 ghost use Rattle.version_store.specs.HeldChanges.{has_room, new_change};
 ghost use Rattle.version_store.specs.declared.fault.VersionFault.TheVariants as fault;
 ghost use Rattle.stored_variants.specs.PutRecords.{HasKeysOf, record_keys, rule_keys};
-ghost use Rattle.variant_trees.specs.GoneKeys.{AreRows, held_from};
-ghost use Rattle.variant_trees.specs.PutStages.{AreKeysOfRecords, CanTake, HasKeys, HasNewRow, HasRoom, HasVariantKeys, IsHalfPut, IsNewPut, IsPut, IsSame, MayHaveKeys, one_key};
+ghost use Rattle.variant_trees.specs.GoneKeys.{AreRows, KeepsValues, held_from};
+ghost use Rattle.variant_trees.specs.PutStages.{AreKeysOfRecords, CanTake, HasKeys, HasNewRow, HasRoom, HasVariantKeys, IsHalfPut, IsNewPut, IsPut, IsSame, MayHaveKeys, one_key, put_found, row_if};
 ghost use Rattle.stored_variants.specs.RecordRows.{IsRecordRow, record_of, row_under};
 
+use crate::gone::Gone;
 use crate::keys::take_keys;
 use crate::nodes::row_in_node;
-use column_set::{Change, Record, encode_record};
+use column_set::{Change, Record, rows_are_read_back};
 use derived_index::derived_keys_are_apart;
 use index_derive::derive::entries;
 use index_derive::{IndexRule, Schema};
 use jet_base::{IndexId, OutOfMemory, TableId};
+use kept_rows::{Sources, keep_row, release_row, take_row};
 use key_normal::Key;
+use long_rows::{
+    form_of_a_kept_row, kept_rows_stand_for_their_records, values_that_are_given_back,
+};
+use long_value::{references_after_a_change, values_after_a_change};
 use std::alloc::Global;
 use table_trees::{
     TableTrees, entries_after_a_change, indexes_after_a_change, nodes_after_a_change,
@@ -185,20 +196,28 @@ fn take_back(
     is_new: bool,
 )
     requires rules { AllByRecursion (HasKeysOf schema.now values.now) schema.now.indexes }
-    requires newest { IfSome (row_under (table_nodes trees.old.tables table.0) bookmark.now) IsRecordRow }
-    requires rows { AreRows versions.now }
+    requires newest { IfSome (row_under (table_nodes trees.old.tables table.0) bookmark.now) (IsRecordRow (table_long_values trees.old.tables table.0)) }
+    requires rows { AreRows (table_long_values trees.old.tables) versions.now }
     requires short { length bookmark.now ≤ 255 }
     requires there { has_table trees.old.tables table.0 ≡ true }
     requires new_node { is_new ≡ true → is_some (get_in (table_nodes trees.old.tables table.0) bookmark.now) ≡ true }
     ensures back { (base : List StoredTable) → IsHalfPut table.0 bookmark.now (record_keys schema.now.indexes schema.now values.now) base trees.old.tables
-        → is_new ≡ is_none (get_in (table_nodes base table.0) bookmark.now)
-        → HasVariantKeys (option_map record_of (row_under (table_nodes base table.0) bookmark.now)) (held_from 0 versions.now) schema.now table.0 bookmark.now base
+        → KeepsValues base trees.old.tables → is_new ≡ is_none (get_in (table_nodes base table.0) bookmark.now)
+        → HasVariantKeys (option_map (record_of (table_long_values base table.0)) (row_under (table_nodes base table.0) bookmark.now)) (held_from (table_long_values base) 0 versions.now) schema.now table.0 bookmark.now base
         → IsSame table.0 schema.now base trees.new.tables }
     ensures catalog { trees.new.catalog ≡ trees.old.catalog }
 {
     nodes_after_a_change();
     nodes_by_bookmark();
-    take_keys(trees, versions, 0, table, schema, bookmark, values);
+    take_keys(
+        trees,
+        versions,
+        0,
+        table,
+        schema,
+        bookmark,
+        Gone::Record(values),
+    );
     if is_new {
         trees.remove(table, bookmark);
     }
@@ -214,13 +233,13 @@ fn take_back_new(
     values: &Record,
 )
     requires rules { AllByRecursion (HasKeysOf schema.now values.now) schema.now.indexes }
-    requires rows { AreRows versions.now }
+    requires rows { AreRows (table_long_values trees.old.tables) versions.now }
     requires short { length bookmark.now ≤ 255 }
     requires there { has_table trees.old.tables table.0 ≡ true }
     requires node { is_some (get_in (table_nodes trees.old.tables table.0) bookmark.now) ≡ true }
     ensures back { (base : List StoredTable) (row : List ℕ) → IsNewPut table.0 bookmark.now row (record_keys schema.now.indexes schema.now values.now) base trees.old.tables
-        → get_in (table_nodes base table.0) bookmark.now ≡ None
-        → HasVariantKeys None (held_from 0 versions.now) schema.now table.0 bookmark.now base
+        → KeepsValues base trees.old.tables → get_in (table_nodes base table.0) bookmark.now ≡ None
+        → HasVariantKeys None (held_from (table_long_values base) 0 versions.now) schema.now table.0 bookmark.now base
         → IsSame table.0 schema.now base trees.new.tables }
     ensures catalog { trees.new.catalog ≡ trees.old.catalog }
 {
@@ -235,6 +254,10 @@ fn take_back_new(
 /// Puts a record under its bookmark, in the place of the one that is there, and holds the put with the row before it. The
 /// change is one for which there is room, and the table's indexes can take the record. Only memory may be wanting, and then
 /// all is as it was, but for bytes that are kept for nodes.
+///
+/// A value of more than 255 bytes is kept apart: as that of the row before, or of the row of the record that was copied, where an
+/// equal one stands there under the same column and sequence, or as a new one under the number of the put's log entry. No long
+/// value of the table has that number yet. A new value is written once.
 pub fn put_record(
     alloc: Global,
     trees: &mut TableTrees,
@@ -244,26 +267,32 @@ pub fn put_record(
     table: TableId,
     schema: &Schema,
     bookmark: &[u8],
+    copied: Option<&[u8]>,
     values: &Record,
 ) -> Result<(), VersionFault>
     requires there { has_table trees.old.tables table.0 ≡ true }
     requires rules { AllByRecursion (CanTake schema.now values.now table.0 trees.old.tables) schema.now.indexes }
     requires fits { record_fits schema.now.columns values.now ≡ true }
-    requires here { IsTrue (is_all_here values.now) }
+    requires copied { IfSome (option_copied copied) IsRowBytes }
+    requires may { MayKeep (put_found by.number trees.old.tables table.0 bookmark.now (option_copied copied.entry)) values.now }
     requires some { 0 < length bookmark.now }
     requires short { length bookmark.now ≤ 255 }
-    requires newest { IfSome (row_under (table_nodes trees.old.tables table.0) bookmark.now) IsRecordRow }
-    requires rows { AreRows versions.old }
-    requires keys { HasVariantKeys (option_map record_of (row_under (table_nodes trees.old.tables table.0) bookmark.now)) (held_from 0 versions.old) schema.now table.0 bookmark.now trees.old.tables }
+    requires newest { IfSome (row_under (table_nodes trees.old.tables table.0) bookmark.now) (IsRecordRow (table_long_values trees.old.tables table.0)) }
+    requires rows { AreRows (table_long_values trees.old.tables) versions.old }
+    requires keys { HasVariantKeys (option_map (record_of (table_long_values trees.old.tables table.0)) (row_under (table_nodes trees.old.tables table.0) bookmark.now)) (held_from (table_long_values trees.old.tables) 0 versions.old) schema.now table.0 bookmark.now trees.old.tables }
     requires room { has_room by change.now (row_under (table_nodes trees.old.tables table.0) bookmark.now) versions.old ≡ true }
     ensures fault { IsErrOf result fault.OverSpan → ⊥ }
-    ensures put { OnOk result (IsPut table.0 bookmark.now (row_bytes (all_here values.now)) (record_keys schema.now.indexes schema.now values.now) trees.old.tables trees.new.tables) }
+    ensures put { OnOk result (let row = kept_row (put_found by.number trees.old.tables table.0 bookmark.now (option_copied copied.entry)) values.now in
+        IsPut table.0 bookmark.now (row_bytes row) (given_values row values.now) (record_keys schema.now.indexes schema.now values.now) trees.old.tables trees.new.tables) }
     ensures held { OnOk result (versions.new ≡ versions.old ++ new_change by change.now (row_under (table_nodes trees.old.tables table.0) bookmark.now) ∷ []) }
     ensures same { OnErr result (IsSame table.0 schema.now trees.old.tables trees.new.tables) }
     ensures unheld { OnErr result (versions.new ≡ versions.old) }
     ensures catalog { trees.new.catalog ≡ trees.old.catalog }
 {
-    let row = match encode_record(alloc, values) {
+    form_of_a_kept_row();
+    kept_rows_stand_for_their_records();
+    rows_are_read_back();
+    let row = match row_to_put(alloc, trees, table, bookmark, copied, by.number, values) {
         Ok(row) => row,
         Err(_) => return Err(VersionFault::OutOfMemory),
     };
@@ -278,7 +307,96 @@ pub fn put_record(
     }
 }
 
-// The same under a bookmark that has no node: the row is put with its node.
+// The row that a put makes of a record.
+fn row_to_put(
+    alloc: Global,
+    trees: &TableTrees,
+    table: TableId,
+    bookmark: &[u8],
+    copied: Option<&[u8]>,
+    number: u64,
+    values: &Record,
+) -> Result<Vec<u8>, OutOfMemory>
+    requires newest { IfSome (row_under (table_nodes trees.now.tables table.0) bookmark.now) (IsRecordRow (table_long_values trees.now.tables table.0)) }
+    requires copied { IfSome (option_copied copied) IsRowBytes }
+    requires may { MayKeep (put_found number trees.now.tables table.0 bookmark.now (option_copied copied.entry)) values.now }
+    ensures row { IfOk result (λ bytes. bytes.items ≡ row_bytes (kept_row (put_found number trees.now.tables table.0 bookmark.now (option_copied copied.entry)) values.now)) }
+    ensures small { IfOk result (λ bytes. length bytes.items ≤ largest_row) }
+{
+    let sources = Sources {
+        trees,
+        table,
+        before: row_in_node(trees.get(table, bookmark)),
+        copied,
+        number,
+    };
+    match keep_row(alloc, &sources, values) {
+        Ok(row) => Ok(row),
+        Err(_) => Err(OutOfMemory),
+    }
+}
+
+// Takes the long values that a row of a record names, and holds the put: with the row in the node under its bookmark, or with
+// none where the node is new. Where memory fails the long values are as they were.
+fn take_and_hold(
+    trees: &mut TableTrees,
+    versions: &mut Versions,
+    by: By,
+    change: &Change,
+    table: TableId,
+    bookmark: &[u8],
+    values: &Record,
+    row: &[u8],
+    is_new: bool,
+) -> Result<(), OutOfMemory>
+    requires there { has_table trees.old.tables table.0 ≡ true }
+    requires row { IsRowBytes row.now }
+    requires form { IsTrue (is_row_of (row_in row.now) values.now) }
+    requires may { AllByRecursion (MayTake (table_long_values trees.old.tables table.0)) (given_values (row_in row.now) values.now) }
+    requires names { map (λ one. one.0) (given_values (row_in row.now) values.now) ≡ identifiers (Some (row_in row.now)) }
+    requires room { has_room by change.now (row_if (not is_new) (row_under (table_nodes trees.old.tables table.0) bookmark.now)) versions.old ≡ true }
+    ensures ok { OnOk result (HasLongValues table.0 (with_all_taken (given_values (row_in row.now) values.now) (table_long_values trees.old.tables table.0)) trees.old.tables trees.new.tables) }
+    ensures held { OnOk result (versions.new ≡ versions.old ++ new_change by change.now (row_if (not is_new) (row_under (table_nodes trees.old.tables table.0) bookmark.now)) ∷ []) }
+    ensures err { OnErr result (HasLongValues table.0 (table_long_values trees.old.tables table.0) trees.old.tables trees.new.tables) }
+    ensures unheld { OnErr result (versions.new ≡ versions.old) }
+    ensures catalog { trees.new.catalog ≡ trees.old.catalog }
+{
+    references_after_a_change();
+    values_after_a_change();
+    values_that_are_given_back();
+    trees.long_values_are_whole();
+    match take_row(trees, table, row, values) {
+        Ok(()) => {}
+        Err(fault) => return Err(fault),
+    }
+    match versions.push(by, change, row_before(trees, table, bookmark, is_new)) {
+        Ok(()) => Ok(()),
+        Err(_) => {
+            release_row(trees, table, row);
+            Err(OutOfMemory)
+        }
+    }
+}
+
+// The row in the node under a bookmark, none where the node is new.
+fn row_before<'a>(
+    trees: &'a TableTrees,
+    table: TableId,
+    bookmark: &[u8],
+    is_new: bool,
+) -> Option<&'a [u8]>
+    ensures row { option_copied result ≡ row_if (not is_new) (row_under (table_nodes trees.now.tables table.0) bookmark.now) }
+    ensures small { length (unwrap_or (option_copied result) []) ≤ 4096 }
+{
+    trees.nodes_are_in_order();
+    if is_new {
+        None
+    } else {
+        row_in_node(trees.get(table, bookmark))
+    }
+}
+
+// A put under a bookmark that has no node: the row is put with its node.
 fn put_new(
     alloc: Global,
     trees: &mut TableTrees,
@@ -294,15 +412,19 @@ fn put_new(
     requires there { has_table trees.old.tables table.0 ≡ true }
     requires rules { AllByRecursion (CanTake schema.now values.now table.0 trees.old.tables) schema.now.indexes }
     requires fits { record_fits schema.now.columns values.now ≡ true }
+    requires row { IsRowBytes row.now }
+    requires form { IsTrue (is_row_of (row_in row.now) values.now) }
+    requires may { AllByRecursion (MayTake (table_long_values trees.old.tables table.0)) (given_values (row_in row.now) values.now) }
+    requires names { map (λ one. one.0) (given_values (row_in row.now) values.now) ≡ identifiers (Some (row_in row.now)) }
     requires some { 0 < length bookmark.now }
     requires short { length bookmark.now ≤ 255 }
     requires small { length row.now ≤ 1700 }
     requires absent { get_in (table_nodes trees.old.tables table.0) bookmark.now ≡ None }
-    requires rows { AreRows versions.old }
-    requires keys { HasVariantKeys None (held_from 0 versions.old) schema.now table.0 bookmark.now trees.old.tables }
+    requires rows { AreRows (table_long_values trees.old.tables) versions.old }
+    requires keys { HasVariantKeys None (held_from (table_long_values trees.old.tables) 0 versions.old) schema.now table.0 bookmark.now trees.old.tables }
     requires room { has_room by change.now None versions.old ≡ true }
     ensures fault { IsErrOf result fault.OverSpan → ⊥ }
-    ensures put { OnOk result (IsPut table.0 bookmark.now row.now (record_keys schema.now.indexes schema.now values.now) trees.old.tables trees.new.tables) }
+    ensures put { OnOk result (IsPut table.0 bookmark.now row.now (given_values (row_in row.now) values.now) (record_keys schema.now.indexes schema.now values.now) trees.old.tables trees.new.tables) }
     ensures held { OnOk result (versions.new ≡ versions.old ++ new_change by change.now None ∷ []) }
     ensures same { OnErr result (IsSame table.0 schema.now trees.old.tables trees.new.tables) }
     ensures unheld { OnErr result (versions.new ≡ versions.old) }
@@ -319,7 +441,9 @@ fn put_new(
             return Err(VersionFault::OutOfMemory);
         }
     }
-    match versions.push(by, change, None) {
+    match take_and_hold(
+        trees, versions, by, change, table, bookmark, values, row, true,
+    ) {
         Ok(()) => Ok(()),
         Err(_) => {
             take_back_new(trees, versions, table, schema, bookmark, values);
@@ -345,15 +469,19 @@ fn put_over(
     requires there { has_table trees.old.tables table.0 ≡ true }
     requires rules { AllByRecursion (CanTake schema.now values.now table.0 trees.old.tables) schema.now.indexes }
     requires fits { record_fits schema.now.columns values.now ≡ true }
+    requires row { IsRowBytes row.now }
+    requires form { IsTrue (is_row_of (row_in row.now) values.now) }
+    requires may { AllByRecursion (MayTake (table_long_values trees.old.tables table.0)) (given_values (row_in row.now) values.now) }
+    requires names { map (λ one. one.0) (given_values (row_in row.now) values.now) ≡ identifiers (Some (row_in row.now)) }
     requires short { length bookmark.now ≤ 255 }
     requires small { length row.now ≤ 1700 }
     requires node { extent_in (table_nodes trees.old.tables table.0) bookmark.now ≡ Some extent }
-    requires newest { IfSome (row_under (table_nodes trees.old.tables table.0) bookmark.now) IsRecordRow }
-    requires rows { AreRows versions.old }
-    requires keys { HasVariantKeys (option_map record_of (row_under (table_nodes trees.old.tables table.0) bookmark.now)) (held_from 0 versions.old) schema.now table.0 bookmark.now trees.old.tables }
+    requires newest { IfSome (row_under (table_nodes trees.old.tables table.0) bookmark.now) (IsRecordRow (table_long_values trees.old.tables table.0)) }
+    requires rows { AreRows (table_long_values trees.old.tables) versions.old }
+    requires keys { HasVariantKeys (option_map (record_of (table_long_values trees.old.tables table.0)) (row_under (table_nodes trees.old.tables table.0) bookmark.now)) (held_from (table_long_values trees.old.tables) 0 versions.old) schema.now table.0 bookmark.now trees.old.tables }
     requires room { has_room by change.now (row_under (table_nodes trees.old.tables table.0) bookmark.now) versions.old ≡ true }
     ensures fault { IsErrOf result fault.OverSpan → ⊥ }
-    ensures put { OnOk result (IsPut table.0 bookmark.now row.now (record_keys schema.now.indexes schema.now values.now) trees.old.tables trees.new.tables) }
+    ensures put { OnOk result (IsPut table.0 bookmark.now row.now (given_values (row_in row.now) values.now) (record_keys schema.now.indexes schema.now values.now) trees.old.tables trees.new.tables) }
     ensures held { OnOk result (versions.new ≡ versions.old ++ new_change by change.now (row_under (table_nodes trees.old.tables table.0) bookmark.now) ∷ []) }
     ensures same { OnErr result (IsSame table.0 schema.now trees.old.tables trees.new.tables) }
     ensures unheld { OnErr result (versions.new ≡ versions.old) }
@@ -372,8 +500,9 @@ fn put_over(
             return Err(VersionFault::OutOfMemory);
         }
     }
-    let before = row_in_node(trees.get(table, bookmark));
-    match versions.push(by, change, before) {
+    match take_and_hold(
+        trees, versions, by, change, table, bookmark, values, row, false,
+    ) {
         Ok(()) => {
             trees.replace(table, bookmark, row);
             Ok(())

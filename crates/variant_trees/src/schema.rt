@@ -6,6 +6,7 @@ ghost use Rattle.jet_catalog.specs.Catalog.{catalog_after};
 ghost use Rattle.log_grammar.specs.EntryBytes.{name_fits};
 ghost use Rattle.table_trees.specs.ShownCatalogs.{ShowsCatalog, ShowsStep};
 ghost use Rattle.table_trees.specs.StoredTables.{has_table};
+ghost use Rattle.stored_variants.specs.CountedValues.{AreCounted};
 ghost use Rattle.stored_variants.specs.SchemaSteps.{IsColumnFor, IsMade, TakesColumn};
 ghost use Rattle.stored_variants.specs.VersionsKept.{AreKept, secondary_rule};
 ghost use Rattle.stored_variants.specs.VersionsView.{with_newest};
@@ -30,6 +31,7 @@ pub fn create_table(
     name: &Name,
 ) -> Result<(), OutOfMemory>
     requires kept { AreKept catalog.old.tables trees.old.tables [] }
+    requires counts { AreCounted trees.old.tables [] }
     requires shown { ShowsCatalog trees.old.catalog catalog.old }
     requires step { made.now ≡ step.CreateTable table name.now }
     requires new_id { catalog.old.greatest_table < table.0 }
@@ -87,6 +89,7 @@ fn keep_and_make(
 /// A table goes, with its records and its indexes, while no change is held. It takes no memory.
 pub fn drop_table(catalog: &mut Catalog, trees: &mut TableTrees, made: &SchemaStep, table: TableId)
     requires kept { AreKept catalog.old.tables trees.old.tables [] }
+    requires counts { AreCounted trees.old.tables [] }
     requires shown { ShowsCatalog trees.old.catalog catalog.old }
     requires step { made.now ≡ step.DeleteTable table }
     requires there { is_some (table_with_id catalog.old.tables table.0) ≡ true }
@@ -123,6 +126,7 @@ pub fn add_column(
     column: &Column,
 ) -> Result<(), OutOfMemory>
     requires kept { AreKept catalog.old.tables trees.old.tables [] }
+    requires counts { AreCounted trees.old.tables [] }
     requires shown { ShowsCatalog trees.old.catalog catalog.old }
     requires step { made.now ≡ step.AddColumn table column.now }
     requires taken { IfSome (table_with_id (map (with_newest trees.old.tables) catalog.old.tables) table.0) (TakesColumn column.now) }
@@ -196,6 +200,7 @@ pub fn drop_index(
     index: IndexId,
 ) -> Result<(), OutOfMemory>
     requires kept { AreKept catalog.old.tables trees.old.tables [] }
+    requires counts { AreCounted trees.old.tables [] }
     requires shown { ShowsCatalog trees.old.catalog catalog.old }
     requires step { made.now ≡ step.DeleteIndex table index }
     requires there { IsSomeAnd (table_with_id catalog.old.tables table.0) (λ t. is_some (secondary_rule t index.0) ≡ true) }

@@ -6,14 +6,16 @@ ghost use Rattle.column_set.specs.declared.changes.Change.TheVariants.{Add};
 ghost use Rattle.database_state.specs.Changes.{changed_bookmark, changed_table, is_sum, tables_after};
 ghost use Rattle.database_state.specs.Table.{Table, schema_of, table_with_id};
 ghost use Rattle.index_derive.specs.Entries.{is_escrow_column};
-ghost use Rattle.table_trees.specs.StoredTables.{table_nodes};
+ghost use Rattle.table_trees.specs.StoredTables.{table_long_values, table_nodes};
 ghost use Rattle.version_store.specs.HeldChanges.{HeldChange, kind_of};
+ghost use Rattle.variant_trees.specs.GoneKeys.{KeepsValues};
+ghost use Rattle.stored_variants.specs.CountedValues.{AreCounted};
 ghost use Rattle.stored_variants.specs.RecordRows.{IsRecordRow, row_under};
 ghost use Rattle.stored_variants.specs.VersionsKept.{AddsToEscrow, AreKept};
 ghost use Rattle.stored_variants.specs.VersionsView.{with_newest};
 
 use crate::undoing::copied_row;
-use column_set::{Change, rows_are_read_back, values_here_are_the_record};
+use column_set::{Change, rows_are_read_back};
 use jet_base::{ColumnId, TableId};
 use row_edit::{add_to_number, rows_with_another_value};
 use table_trees::{TableTrees, nodes_after_a_change, nodes_by_bookmark};
@@ -21,10 +23,12 @@ use table_trees::{TableTrees, nodes_after_a_change, nodes_by_bookmark};
 /// Makes a sum in its record: adds the amount to the number in the escrow column, which is one of 32 bits and wraps; nothing
 /// where there is no record. Any other change leaves the trees as they are. It takes no memory.
 pub fn add_sum(trees: &mut TableTrees, change: &Change)
-    requires { IfSome (row_under (table_nodes trees.old.tables (changed_table change.now)) (changed_bookmark change.now)) IsRecordRow }
+    requires { IfSome (row_under (table_nodes trees.old.tables (changed_table change.now)) (changed_bookmark change.now)) (IsRecordRow (table_long_values trees.old.tables (changed_table change.now))) }
     ensures kept { (tables : List Table) (held : List HeldChange) → IsSomeAnd (table_with_id tables (changed_table change.now)) (λ t. AddsToEscrow (schema_of t) (kind_of change.now)) → AreKept tables trees.old.tables held → AreKept tables trees.new.tables held }
     ensures shown { (tables : List Table) (held : List HeldChange) → is_sum change.now ≡ true → IsSomeAnd (table_with_id tables (changed_table change.now)) (λ t. AddsToEscrow (schema_of t) (kind_of change.now)) → AreKept tables trees.old.tables held
         → map (with_newest trees.new.tables) tables ≡ tables_after (map (with_newest trees.old.tables) tables) change.now }
+    ensures counts { (tables : List Table) (held : List HeldChange) → IsSomeAnd (table_with_id tables (changed_table change.now)) (λ t. AddsToEscrow (schema_of t) (kind_of change.now)) → AreKept tables trees.old.tables held → AreCounted trees.old.tables held → AreCounted trees.new.tables held }
+    ensures values { KeepsValues trees.old.tables trees.new.tables }
     ensures other { is_sum change.now ≡ false → trees.new.tables ≡ trees.old.tables }
     ensures catalog { trees.new.catalog ≡ trees.old.catalog }
 {
@@ -63,15 +67,16 @@ pub(crate) fn add_in_place(
     column: ColumnId,
     addend: u32,
 )
-    requires { IfSome (row_under (table_nodes trees.old.tables table.0) bookmark.now) IsRecordRow }
+    requires { IfSome (row_under (table_nodes trees.old.tables table.0) bookmark.now) (IsRecordRow (table_long_values trees.old.tables table.0)) }
     ensures kept { (tables : List Table) (held : List HeldChange) → IsSomeAnd (table_with_id tables table.0) (λ t. is_escrow_column (schema_of t) column.0 ≡ true) → AreKept tables trees.old.tables held → AreKept tables trees.new.tables held }
     ensures shown { (tables : List Table) (held : List HeldChange) → IsSomeAnd (table_with_id tables table.0) (λ t. is_escrow_column (schema_of t) column.0 ≡ true) → AreKept tables trees.old.tables held
         → (amount : ℤ) → cast_unsigned w32 amount ≡ addend → map (with_newest trees.new.tables) tables ≡ tables_after (map (with_newest trees.old.tables) tables) (Add table bookmark.now column amount) }
+    ensures counts { (tables : List Table) (held : List HeldChange) → IsSomeAnd (table_with_id tables table.0) (λ t. is_escrow_column (schema_of t) column.0 ≡ true) → AreKept tables trees.old.tables held → AreCounted trees.old.tables held → AreCounted trees.new.tables held }
+    ensures values { KeepsValues trees.old.tables trees.new.tables }
     ensures catalog { trees.new.catalog ≡ trees.old.catalog }
 {
     rows_are_read_back();
     rows_with_another_value();
-    values_here_are_the_record();
     nodes_after_a_change();
     nodes_by_bookmark();
     trees.nodes_are_in_order();

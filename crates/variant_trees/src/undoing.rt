@@ -1,29 +1,34 @@
 //! What an open change made is taken back.
 
 ghost use Rattle.std.specs.Prelude.{◌≡◌, ◌<◌, ℕ, true, false, List, Some, [], map, IfSome, length, option_copied, option_map, slice_get, unwrap_or};
-ghost use Rattle.database_state.specs.Table.{Table, schema_of, table_with_id};
-ghost use Rattle.table_trees.specs.StoredTables.{table_nodes};
+ghost use Rattle.database_state.specs.Table.{Table};
+ghost use Rattle.table_trees.specs.StoredTables.{table_long_values, table_nodes};
 ghost use Rattle.version_store.specs.HeldChanges.{HeldChange, is_rewrite};
-ghost use Rattle.variant_trees.specs.GoneKeys.{AreRows};
-ghost use Rattle.variant_trees.specs.LeftVariants.{DistinctIds};
+ghost use Rattle.variant_trees.specs.GoneKeys.{AreRows, KeepsValues};
+ghost use Rattle.variant_trees.specs.LeftVariants.{HasSchema};
+ghost use Rattle.stored_variants.specs.CountedValues.{newest_rows};
 ghost use Rattle.stored_variants.specs.RecordRows.{IsRecordRow, row_under};
-ghost use Rattle.variant_trees.specs.UndoneChanges.{CanPutBack, IsBack, IsUndone, WasOpen, tables_put_back};
-ghost use Rattle.stored_variants.specs.VersionsKept.{AreKept};
-ghost use Rattle.stored_variants.specs.VersionsView.{with_newest};
+ghost use Rattle.variant_trees.specs.UndoneChanges.{CanPutBack, IsBack, IsUndone, WasOpen, rows_put_back, tables_put_back};
+ghost use Rattle.stored_variants.specs.VersionsKept.{AreKept, AreKeptWith};
+ghost use Rattle.stored_variants.specs.VersionsView.{with_newest, with_newest_by};
 
+use crate::gone::Gone;
 use crate::nodes::row_in_node;
 use crate::sums::{add_in_place, opposite};
 use crate::variants::take_variant;
 use arrayvec::ArrayVec;
-use column_set::{MAX_ROW_SIZE, RowRef};
+use column_set::MAX_ROW_SIZE;
 use index_derive::Schema;
 use jet_base::TableId;
 use jet_catalog::Catalog;
+use kept_rows::release_row;
+use long_references::values_keep_their_counts;
+use long_value::{references_after_a_change, values_after_a_change};
 use table_trees::{TableTrees, nodes_after_a_change, nodes_by_bookmark};
 use version_store::{ChangeKind, Versions};
 
 /// Takes back what a change made that has become undone. Of a put or a drop the row before it is again the newest one, and of
-/// the row that goes the keys go that no variant has, with the node where none is left; of a sum the opposite amount is
+/// the row that goes the keys go that no variant has, with the node where none is left, and its references to long values; of a sum the opposite amount is
 /// added; a lock made nothing. It takes no memory.
 pub fn put_back(
     catalog: &Catalog,
@@ -53,7 +58,7 @@ fn take_sum_out(
     what: ChangeKind,
 )
     requires within { place < length versions.now }
-    requires newest { (bookmark : List ℕ) → IfSome (row_under (table_nodes trees.old.tables table.0) bookmark) IsRecordRow }
+    requires newest { (bookmark : List ℕ) → IfSome (row_under (table_nodes trees.old.tables table.0) bookmark) (IsRecordRow (table_long_values trees.old.tables table.0)) }
     ensures back { (tables : List Table) (held : List HeldChange) (h : HeldChange) → WasOpen tables trees.old.tables versions.now place table.0 held h → h.kind ≡ what → is_rewrite h.kind ≡ false → IsBack tables trees.old.tables trees.new.tables versions.now h }
     ensures catalog { trees.new.catalog ≡ trees.old.catalog }
 {
@@ -100,7 +105,8 @@ fn put_back_of(
     }
 }
 
-// The row before a change comes back, and what is left of the newest one goes. The schema is that of its table.
+// The row before a change comes back, and what is left of the newest one goes, its references to long values last. The schema is
+// that of its table.
 fn put_back_in(
     trees: &mut TableTrees,
     versions: &Versions,
@@ -109,9 +115,51 @@ fn put_back_in(
     place: usize,
 )
     requires can { (h : HeldChange) × CanPutBack schema.now table.0 trees.old.tables versions.now place h }
-    requires rows { AreRows versions.now }
-    ensures kept { (tables : List Table) (held : List HeldChange) (h : HeldChange) → DistinctIds tables → IfSome (table_with_id tables table.0) (λ t. schema.now ≡ schema_of t) → IsUndone held place h versions.now → h.table ≡ table.0 → AreKept tables trees.old.tables held → AreKept tables trees.new.tables versions.now }
-    ensures shown { (tables : List Table) (h : HeldChange) → slice_get versions.now place ≡ Some h → map (with_newest trees.new.tables) tables ≡ tables_put_back (map (with_newest trees.old.tables) tables) h }
+    requires rows { AreRows (table_long_values trees.old.tables) versions.now }
+    requires was { (tables : List Table) × ((held : List HeldChange) × ((h : HeldChange) × HasSchema tables table.0 schema.now × WasOpen tables trees.old.tables versions.now place table.0 held h × (is_rewrite h.kind ≡ true))) }
+    ensures back { (tables : List Table) (held : List HeldChange) (h : HeldChange) → HasSchema tables table.0 schema.now → WasOpen tables trees.old.tables versions.now place table.0 held h → is_rewrite h.kind ≡ true → IsBack tables trees.old.tables trees.new.tables versions.now h }
+    ensures catalog { trees.new.catalog ≡ trees.old.catalog }
+{
+    references_after_a_change();
+    values_after_a_change();
+    values_keep_their_counts();
+    trees.nodes_are_in_order();
+    match copied_row(trees, table, versions.bookmark_at(place)) {
+        Some(newest) => {
+            put_row_back(
+                trees,
+                versions,
+                table,
+                schema,
+                place,
+                Some(newest.as_slice()),
+            );
+            trees.nodes_are_in_order();
+            release_row(trees, table, newest.as_slice());
+        }
+        None => {
+            put_row_back(trees, versions, table, schema, place, None);
+            trees.nodes_are_in_order();
+        }
+    }
+}
+
+// The row before a change comes back, and what is left of the newest one goes. All long values stay.
+fn put_row_back(
+    trees: &mut TableTrees,
+    versions: &Versions,
+    table: TableId,
+    schema: &Schema,
+    place: usize,
+    newest: Option<&[u8]>,
+)
+    requires can { (h : HeldChange) × CanPutBack schema.now table.0 trees.old.tables versions.now place h }
+    requires newest { (h : HeldChange) → slice_get versions.now place ≡ Some h → row_under (table_nodes trees.old.tables table.0) h.bookmark ≡ option_copied newest.entry }
+    requires rows { AreRows (table_long_values trees.old.tables) versions.now }
+    ensures kept { (tables : List Table) (held : List HeldChange) (h : HeldChange) → HasSchema tables table.0 schema.now → IsUndone held place h versions.now → h.table ≡ table.0 → AreKept tables trees.old.tables held → AreKeptWith (table_long_values trees.old.tables) tables trees.new.tables versions.now }
+    ensures shown { (tables : List Table) (h : HeldChange) → slice_get versions.now place ≡ Some h → map (with_newest_by (table_long_values trees.old.tables) trees.new.tables) tables ≡ tables_put_back (table_long_values trees.old.tables table.0) (map (with_newest trees.old.tables) tables) h }
+    ensures rows { (h : HeldChange) → slice_get versions.now place ≡ Some h → (other : ℕ) → newest_rows (table_nodes trees.new.tables other) ≡ rows_put_back h table.0 other (newest_rows (table_nodes trees.old.tables other)) }
+    ensures values { KeepsValues trees.old.tables trees.new.tables }
     ensures catalog { trees.new.catalog ≡ trees.old.catalog }
 {
     nodes_after_a_change();
@@ -119,12 +167,12 @@ fn put_back_in(
     trees.nodes_are_in_order();
     let bookmark = versions.bookmark_at(place);
     let row = bytes_of(versions.before_at(place));
-    match copied_row(trees, table, bookmark) {
+    match newest {
         Some(newest) => {
             trees.replace(table, bookmark, row);
             trees.nodes_are_in_order();
-            let gone = RowRef::new(newest.as_slice());
-            take_variant(trees, versions, 0, table, schema, bookmark, &gone);
+            let gone = Gone::Row(newest);
+            take_variant(trees, versions, 0, table, schema, bookmark, gone);
         }
         None => {
             if !row.is_empty() {

@@ -1,20 +1,22 @@
 //! What is left of a variant that is none any more: its keys, and its node where it was the last one.
 
-ghost use Rattle.std.specs.Prelude.{◌≡◌, ◌≤◌, List, map, drop, IfSome, is_some, length, option_copied, option_map};
+ghost use Rattle.std.specs.Prelude.{◌≡◌, ℕ, ◌≤◌, List, map, drop, IfSome, is_some, length, option_copied, option_map};
 ghost use Rattle.std.specs.List.{AllByRecursion};
 ghost use Rattle.btree_inplace.specs.Order.{get_in};
 ghost use Rattle.database_state.specs.Table.{Table, schema_of, table_with_id};
-ghost use Rattle.table_trees.specs.StoredTables.{table_nodes};
+ghost use Rattle.table_trees.specs.StoredTables.{table_long_values, table_nodes};
 ghost use Rattle.versioned_tables.specs.Variants.{has_variant};
+ghost use Rattle.stored_variants.specs.CountedValues.{newest_rows};
 ghost use Rattle.stored_variants.specs.PutRecords.{HasKeysOf};
-ghost use Rattle.stored_variants.specs.RecordRows.{some_before, IsRecordRow, record_of, row_under};
-ghost use Rattle.variant_trees.specs.GoneKeys.{AreRows, held_from};
+ghost use Rattle.stored_variants.specs.RecordRows.{TableValues, some_before, IsRecordRow, record_of, row_under};
+ghost use Rattle.variant_trees.specs.GoneKeys.{AreRows, KeepsValues, held_from};
+ghost use Rattle.variant_trees.specs.GoneRecords.{CanRead, gone_fields};
 ghost use Rattle.variant_trees.specs.LeftVariants.{AreLeft, DistinctIds, LosesNode, is_empty_node};
-ghost use Rattle.stored_variants.specs.VersionsKept.{AreKept};
-ghost use Rattle.stored_variants.specs.VersionsView.{with_newest};
+ghost use Rattle.stored_variants.specs.VersionsKept.{AreKeptWith};
+ghost use Rattle.stored_variants.specs.VersionsView.{with_newest, with_newest_by};
 
+use crate::gone::Gone;
 use crate::keys::take_keys;
-use column_set::Values;
 use index_derive::Schema;
 use jet_base::TableId;
 use table_trees::{TableTrees, nodes_after_a_change, nodes_by_bookmark};
@@ -22,21 +24,24 @@ use version_store::Versions;
 
 /// Takes away what is left of a record that is no variant any more, where only the held changes from a place on count: the keys
 /// that no variant has, and the node where there is none. The newest records stay. It takes no memory.
-pub(crate) fn take_variant<R: Values>(
+pub(crate) fn take_variant(
     trees: &mut TableTrees,
     versions: &Versions,
     from: usize,
     table: TableId,
     schema: &Schema,
     bookmark: &[u8],
-    gone: &R,
+    gone: Gone<'_>,
 )
-    requires rules { AllByRecursion (HasKeysOf schema.now (R.fields gone.now)) schema.now.indexes }
-    requires newest { IfSome (row_under (table_nodes trees.old.tables table.0) bookmark.now) IsRecordRow }
-    requires rows { AreRows versions.now }
+    requires rules { AllByRecursion (HasKeysOf schema.now (gone_fields (table_long_values trees.old.tables table.0) gone)) schema.now.indexes }
+    requires gone { CanRead (table_long_values trees.old.tables table.0) gone }
+    requires newest { IfSome (row_under (table_nodes trees.old.tables table.0) bookmark.now) (IsRecordRow (table_long_values trees.old.tables table.0)) }
+    requires rows { AreRows (table_long_values trees.old.tables) versions.now }
     requires bookmark { length bookmark.now ≤ 255 }
-    ensures kept { (tables : List Table) → DistinctIds tables → IfSome (table_with_id tables table.0) (λ t. schema.now ≡ schema_of t) → AreLeft tables trees.old.tables (drop from versions.now) table.0 bookmark.now (R.fields gone.now) → AreKept tables trees.new.tables (drop from versions.now) }
-    ensures newest { (tables : List Table) → map (with_newest trees.new.tables) tables ≡ map (with_newest trees.old.tables) tables }
+    ensures kept { (tables : List Table) → DistinctIds tables → IfSome (table_with_id tables table.0) (λ t. schema.now ≡ schema_of t) → AreLeft (table_long_values trees.old.tables) tables trees.old.tables (drop from versions.now) table.0 bookmark.now (gone_fields (table_long_values trees.old.tables table.0) gone.entry) → AreKeptWith (table_long_values trees.old.tables) tables trees.new.tables (drop from versions.now) }
+    ensures newest { (tables : List Table) → map (with_newest_by (table_long_values trees.old.tables) trees.new.tables) tables ≡ map (with_newest trees.old.tables) tables }
+    ensures rows { (other : ℕ) → newest_rows (table_nodes trees.new.tables other) ≡ newest_rows (table_nodes trees.old.tables other) }
+    ensures values { KeepsValues trees.old.tables trees.new.tables }
     ensures catalog { trees.new.catalog ≡ trees.old.catalog }
 {
     trees.nodes_are_in_order();
@@ -53,7 +58,7 @@ fn take_node(
     table: TableId,
     bookmark: &[u8],
 )
-    ensures node { LosesNode (has_variant (option_map record_of (row_under (table_nodes trees.old.tables table.0) bookmark.now)) (held_from from versions.now) table.0 bookmark.now) table.0 bookmark.now trees.old.tables trees.new.tables }
+    ensures node { LosesNode (has_variant (option_map (record_of (table_long_values trees.old.tables table.0)) (row_under (table_nodes trees.old.tables table.0) bookmark.now)) (held_from (table_long_values trees.old.tables) from versions.now) table.0 bookmark.now) table.0 bookmark.now trees.old.tables trees.new.tables }
     ensures catalog { trees.new.catalog ≡ trees.old.catalog }
 {
     nodes_after_a_change();
@@ -79,7 +84,7 @@ fn has_empty_node(trees: &TableTrees, table: TableId, bookmark: &[u8]) -> bool
 // Whether there is a record before a held change that is a put or drop of the record and not undone. It goes from the newest
 // of these back.
 fn is_record_before(versions: &Versions, from: usize, table: TableId, bookmark: &[u8]) -> bool
-    ensures { result ≡ some_before is_some table.0 bookmark.now (held_from from versions.now) }
+    ensures { (longs : TableValues) → result ≡ some_before is_some table.0 bookmark.now (held_from longs from versions.now) }
 {
     let mut at = versions.newest_rewrite(table, bookmark);
     while let Some(place) = at {
@@ -96,7 +101,7 @@ fn is_record_before(versions: &Versions, from: usize, table: TableId, bookmark: 
 
 // Whether there is a record.
 fn is_record(row: Option<&[u8]>) -> bool
-    ensures { result ≡ is_some (option_map record_of (option_copied row.entry)) }
+    ensures { result ≡ is_some (option_copied row.entry) }
 {
     match row {
         Some(_) => true,

@@ -7,5 +7,5 @@ use Rattle.variant_trees.proofs.forgetting.forget_oldest.Goals as goal
 pub forget_of-requires-clause-first : goal.forget_of-requires-clause-first
 forget_of-requires-clause-first c = sym c.oldest_table.ensures ∙ ap (option_map (λ (t : TableId). t.0)) c.in-Some.is
 
-pub returns-in-None-clause-kept : goal.returns-in-None-clause-kept
-returns-in-None-clause-kept c = always_first c.args.versions.now c.requires.some (sym (ap (option_map (λ (t : TableId). t.0)) c.in-None.is) ∙ c.oldest_table.ensures)
+pub returns-in-None-clause-forgotten : goal.returns-in-None-clause-forgotten
+returns-in-None-clause-forgotten c = always_first c.args.versions.now c.requires.some (sym (ap (option_map (λ (t : TableId). t.0)) c.in-None.is) ∙ c.oldest_table.ensures)

@@ -7,7 +7,7 @@ use Rattle.variant_trees.proofs.keys.take_entry.Goals as goal
 
 pub returns-then-has_entry-clause-others : goal.returns-then-has_entry-clause-others
 returns-then-has_entry-clause-others c =
-    let laws : IndexLaws = record { named = c.indexes_after_a_change.ensures.named; others = c.indexes_after_a_change.ensures.others; nodes = c.indexes_after_a_change.ensures.nodes } in
+    let laws : IndexLaws = record { named = c.indexes_after_a_change.ensures.named; others = c.indexes_after_a_change.ensures.others; nodes = c.indexes_after_a_change.ensures.nodes; values = c.indexes_after_a_change.ensures.long_values } in
     let there = index_there c.args.trees.now.tables c.args.table.0 c.args.index.0 c.as_bytes-key.result.now c.args.bookmark.now (sym c.has_entry.ensures ∙ c.if-has_entry.true) in
     subst (λ (trees : List StoredTable). ChangesEntries c.args.table.0 c.args.trees.now.tables trees) (sym c.remove_entry.ensures.tables)
     (entries_changed laws c.args.trees.now.tables c.args.table.0 c.args.index.0 (without_entry c.as_bytes-key.result.now c.args.bookmark.now (index_entries c.args.trees.now.tables c.args.table.0 c.args.index.0)) there)

@@ -5,9 +5,11 @@ use Rattle.cursor_nav.specs.Places.{Pair}
 use Rattle.derived_index.specs.KeptEntries.{has_entry}
 use Rattle.index_derive.specs.declared.entries.Place.{Place}
 use Rattle.index_derive.specs.declared.entries.Place.TheVariants.{On}
+use Rattle.long_value.specs.Values.{Values}
+use Rattle.stored_variants.specs.RecordRows.{row_in_node}
 use Rattle.table_trees.specs.StoredNodes.{node_after}
-use Rattle.table_trees.specs.StoredTables.{index_entries, table_nodes}
-use Rattle.variant_trees.specs.NewEntries.{IsTakenRow}
+use Rattle.table_trees.specs.StoredTables.{table_long_values, index_entries, table_nodes}
+use Rattle.variant_trees.specs.NewEntries.{IsTakenRow, is_key_in_node}
 use Rattle.variant_trees.proofs.FilledIndexes.{IsFilledTo, among_apart, filled_all, filled_more, filled_none, next_of_start, not_yet, row_found}
 use Rattle.variant_trees.proofs.NewEntries.{still_there}
 use Rattle.stored_variants.proofs.NodeWalks.{fewer_nodes, nodes_left}
@@ -21,7 +23,8 @@ keys_in_node-requires-clause-row c =
     let was = c.args.trees.now.tables in let nodes = table_nodes was c.args.table.0 in let place = c.loop-bookmark.place in
     let found : Option Pair = Some (c.in-Some.bookmark.now, c.in-Some.bytes.now) in
     let next : node_after place nodes ≡ found = next_of_start c.args.table.0 c.args.rule.now c.args.schema.now place was c.loop-bookmark.trees.tables found c.loop-bookmark.invariant.done c.in-Some.ensures.node in
-    subst (λ (row : Option (List ℕ)). IfSome row (IsTakenRow c.args.rule.now c.args.schema.now)) (row_found place nodes c.in-Some.bookmark.now c.in-Some.bytes.now (c.nodes_are_in_order.ensures.sorted c.args.table.0) next) (c.requires.rows c.in-Some.bookmark.now)
+    subst (λ (v : Values). IfSome (row_in_node c.in-Some.bytes.now) (IsTakenRow v c.args.rule.now c.args.schema.now)) (sym (c.loop-bookmark.invariant.done.only.changes.values c.args.table.0))
+    (subst (λ (row : Option (List ℕ)). IfSome row (IsTakenRow (table_long_values c.args.trees.now.tables c.args.table.0) c.args.rule.now c.args.schema.now)) (row_found place nodes c.in-Some.bookmark.now c.in-Some.bytes.now (c.nodes_are_in_order.ensures.sorted c.args.table.0) next) (c.requires.rows c.in-Some.bookmark.now))
 
 pub put_entries-requires-clause-there : goal.put_entries-requires-clause-there
 put_entries-requires-clause-there c = still_there c.args.table.0 c.args.rule.now.id.0 c.args.trees.now.tables c.loop-bookmark.trees.tables c.loop-bookmark.invariant.done.only c.requires.there
@@ -41,8 +44,8 @@ put_entries-requires-clause-apart c =
     let found : Option Pair = Some (c.in-Some.bookmark.now, c.in-Some.bytes.now) in
     let next : node_after place nodes ≡ found = next_of_start c.args.table.0 c.args.rule.now c.args.schema.now place was c.loop-bookmark.trees.tables found c.loop-bookmark.invariant.done c.in-Some.ensures.node in
     among_apart c.derived_keys_are_apart.ensures c.args.table.0 c.args.rule.now c.args.schema.now place was c.loop-bookmark.trees.tables c.in-Some.bytes.now c.as_slice.result.now c.requires.legal c.requires.rows
-    (subst (λ (row : Option (List ℕ)). IfSome row (IsTakenRow c.args.rule.now c.args.schema.now)) (row_found place nodes c.in-Some.bookmark.now c.in-Some.bytes.now (c.nodes_are_in_order.ensures.sorted c.args.table.0) next) (c.requires.rows c.in-Some.bookmark.now))
-    (λ key. ap (λ (keys : List (List ℕ)). list_any (bytes_eq key) keys) c.as_slice.ensures ∙ c.in-Ok.ensures.keys key)
+    (subst (λ (row : Option (List ℕ)). IfSome row (IsTakenRow (table_long_values c.args.trees.now.tables c.args.table.0) c.args.rule.now c.args.schema.now)) (row_found place nodes c.in-Some.bookmark.now c.in-Some.bytes.now (c.nodes_are_in_order.ensures.sorted c.args.table.0) next) (c.requires.rows c.in-Some.bookmark.now))
+    (λ key. ap (λ (keys : List (List ℕ)). list_any (bytes_eq key) keys) c.as_slice.ensures ∙ c.in-Ok.ensures.keys key ∙ ap (λ (v : Values). is_key_in_node v c.args.rule.now c.args.schema.now c.in-Some.bytes.now key) (c.loop-bookmark.invariant.done.only.changes.values c.args.table.0))
     c.loop-bookmark.invariant.done
 
 pub loop-bookmark-smaller : goal.loop-bookmark-smaller
@@ -62,7 +65,7 @@ loop-bookmark-preserved c = record {
       let bookmark_is : c.as_bytes.result.now ≡ c.in-Some.bookmark.now = c.as_bytes.ensures.value ∙ c.from_slice-bookmark.ensures in
       subst (λ (p : Place). IsFilledTo c.args.table.0 c.args.rule.now c.args.schema.now p was c.put_entries.new.trees.tables) (λ i. On (sym (c.copy.ensures ∙ c.from_slice-bookmark.ensures) i) (sym c.from_slice-bookmark.ensures i))
       (filled_more c.args.table.0 c.args.rule.now c.args.schema.now place was c.loop-bookmark.trees.tables c.put_entries.new.trees.tables c.in-Some.bookmark.now c.in-Some.bytes.now c.as_slice.result.now (c.nodes_are_in_order.ensures.sorted c.args.table.0) next
-      (λ key. ap (λ (keys : List (List ℕ)). list_any (bytes_eq key) keys) c.as_slice.ensures ∙ c.in-Ok.ensures.keys key)
+      (λ key. ap (λ (keys : List (List ℕ)). list_any (bytes_eq key) keys) c.as_slice.ensures ∙ c.in-Ok.ensures.keys key ∙ ap (λ (v : Values). is_key_in_node v c.args.rule.now c.args.schema.now c.in-Some.bytes.now key) (c.loop-bookmark.invariant.done.only.changes.values c.args.table.0))
       c.in-Ok-put_entries.ensures.only
       (λ key own.
       c.in-Ok-put_entries.ensures.ok key own

@@ -25,7 +25,7 @@ insert_entry-requires-clause-apart c =
 pub loop-key-preserved : goal.loop-key-preserved
 loop-key-preserved c = record {
   done = (
-      some_more (record { named = c.indexes_after_a_change.ensures.named; others = c.indexes_after_a_change.ensures.others; nodes = c.indexes_after_a_change.ensures.nodes })
+      some_more (record { named = c.indexes_after_a_change.ensures.named; others = c.indexes_after_a_change.ensures.others; nodes = c.indexes_after_a_change.ensures.nodes; values = c.indexes_after_a_change.ensures.long_values })
       (record { named = c.entries_after_a_change.ensures.named; others = c.entries_after_a_change.ensures.others })
       c.args.table.0 c.args.index.0 c.args.keys.now c.args.bookmark.now c.key-item.result c.loop-key.key-index c.args.trees.now.tables c.loop-key.trees.tables c.insert_entry.new.self.tables c.loop-key-test.true c.key-item.is c.requires.there
       (c.in-Ok.ensures.ok ∙ ap (λ (key : List ℕ). with_entries c.args.table.0 c.args.index.0 (insert_entry (key, c.args.bookmark.now) (index_entries c.loop-key.trees.tables c.args.table.0 c.args.index.0)) c.loop-key.trees.tables) c.as_bytes.ensures.value)

@@ -8,4 +8,4 @@ pub returns-in-Ok-clause-ok : goal.returns-in-Ok-clause-ok
 returns-in-Ok-clause-ok c =
     subst (λ (trees : List StoredTable). HasNewRow c.args.table.0 c.args.bookmark.now c.args.row.now c.args.trees.now.tables trees)
     (sym c.in-Ok.ensures.ok)
-    (row_in_new (record { named = c.nodes_after_a_change.ensures.named; others = c.nodes_after_a_change.ensures.others; indexes = c.nodes_after_a_change.ensures.indexes; put = c.nodes_by_bookmark.ensures.put; removed = c.nodes_by_bookmark.ensures.removed; replaced = c.nodes_by_bookmark.ensures.replaced; widened = c.nodes_by_bookmark.ensures.widened }) c.args.trees.now.tables c.args.table.0 c.args.bookmark.now c.args.row.now c.requires.there c.requires.absent)
+    (row_in_new (record { named = c.nodes_after_a_change.ensures.named; others = c.nodes_after_a_change.ensures.others; indexes = c.nodes_after_a_change.ensures.indexes; values = c.nodes_after_a_change.ensures.long_values; put = c.nodes_by_bookmark.ensures.put; removed = c.nodes_by_bookmark.ensures.removed; replaced = c.nodes_by_bookmark.ensures.replaced; widened = c.nodes_by_bookmark.ensures.widened }) c.args.trees.now.tables c.args.table.0 c.args.bookmark.now c.args.row.now c.requires.there c.requires.absent)

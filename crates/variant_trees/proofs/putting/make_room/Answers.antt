@@ -11,7 +11,7 @@ widen-requires-clause-fits c =
 pub returns-in-Ok-clause-ok : goal.returns-in-Ok-clause-ok
 returns-in-Ok-clause-ok c =
     subst (λ (trees : List StoredTable). HasRoom c.args.table.0 c.args.bookmark.now c.args.size c.args.trees.now.tables trees) (sym c.in-Ok.ensures.ok)
-    (room_in_wider (record { named = c.nodes_after_a_change.ensures.named; others = c.nodes_after_a_change.ensures.others; indexes = c.nodes_after_a_change.ensures.indexes; put = c.nodes_by_bookmark.ensures.put; removed = c.nodes_by_bookmark.ensures.removed; replaced = c.nodes_by_bookmark.ensures.replaced; widened = c.nodes_by_bookmark.ensures.widened })
+    (room_in_wider (record { named = c.nodes_after_a_change.ensures.named; others = c.nodes_after_a_change.ensures.others; indexes = c.nodes_after_a_change.ensures.indexes; values = c.nodes_after_a_change.ensures.long_values; put = c.nodes_by_bookmark.ensures.put; removed = c.nodes_by_bookmark.ensures.removed; replaced = c.nodes_by_bookmark.ensures.replaced; widened = c.nodes_by_bookmark.ensures.widened })
     c.args.trees.now.tables c.args.table.0 c.args.bookmark.now c.args.size c.args.extent c.requires.there c.requires.node (omega (arith, c.if-extent-size.true)))
 
 pub returns-else-extent-size-clause-ok : goal.returns-else-extent-size-clause-ok

@@ -12,6 +12,6 @@ returns-else-has_entry-clause-ok c =
     on_ok c.insert_entry.result c.insert_entry.ensures.ok (λ e.
     subst (λ (trees : List StoredTable). HasKeys c.args.table.0 c.args.bookmark.now (one_key c.args.index.0 c.args.key.now) c.args.trees.now.tables trees)
     (sym (e ∙ (λ i. with_entries c.args.table.0 c.args.index.0 (insert_entry (c.as_bytes-key.ensures.value i, c.args.bookmark.now) (index_entries c.args.trees.now.tables c.args.table.0 c.args.index.0)) c.args.trees.now.tables)))
-    (has_put (record { named = c.indexes_after_a_change.ensures.named; others = c.indexes_after_a_change.ensures.others; nodes = c.indexes_after_a_change.ensures.nodes })
+    (has_put (record { named = c.indexes_after_a_change.ensures.named; others = c.indexes_after_a_change.ensures.others; nodes = c.indexes_after_a_change.ensures.nodes; values = c.indexes_after_a_change.ensures.long_values })
     (record { named = c.entries_after_a_change.ensures.named; others = c.entries_after_a_change.ensures.others })
     c.args.trees.now.tables c.args.table.0 c.args.index.0 c.args.key.now c.args.bookmark.now c.requires.there))

@@ -1,14 +1,15 @@
 use Rattle.std.proofs.Common.{List, ap, ◌∙◌}
 use Rattle.database_state.specs.Table.{table_with_id}
 use Rattle.jet_catalog.specs.Catalog.{CatalogState}
-use Rattle.table_trees.specs.StoredTables.{StoredTable, has_table, without_table}
+use Rattle.table_trees.specs.StoredTables.{table_long_values, StoredTable, has_table, table_nodes, without_table}
 use Rattle.table_trees.specs.StoredTrees.{with_table_roots, without_table_roots}
 use Rattle.variant_trees.proofs.KeptSteps.{shows_in}
 use Rattle.variant_trees.proofs.MadeTables.{create_made, given_back, new_there, no_tree, none_new}
+use Rattle.variant_trees.proofs.Stepping.{counts_stay}
 use Rattle.variant_trees.proofs.schema.create_table.Goals as goal
 
 pub add_table-requires : goal.add_table-requires
-add_table-requires c = (no_tree c.args.catalog.now.tables c.args.trees.now.tables c.requires.kept c.args.table.0 (none_new c.args.catalog.now.greatest_table c.args.catalog.now.tables c.tables.ensures.numbered c.args.table.0 c.requires.new_id))
+add_table-requires c = (no_tree (table_long_values c.args.trees.now.tables) c.args.catalog.now.tables c.args.trees.now.tables c.requires.kept c.args.table.0 (none_new c.args.catalog.now.greatest_table c.args.catalog.now.tables c.tables.ensures.numbered c.args.table.0 c.requires.new_id))
 
 pub keep_and_make-requires-clause-there : goal.keep_and_make-requires-clause-there
 keep_and_make-requires-clause-there c = (ap (λ (t : List StoredTable). has_table t c.args.table.0) c.in-Ok.ensures.ok ∙ new_there c.args.trees.now.tables c.args.table.0)
@@ -24,12 +25,16 @@ returns-in-Ok-keep_and_make-clause-ok c =
     create_made (record { nodes = c.tables_beside_a_new_one.ensures.nodes; indexes = c.tables_beside_a_new_one.ensures.indexes })
     c.args.made.now c.args.table c.args.name.now c.requires.step c.args.catalog.now c.args.trees.now.tables c.requires.kept c.tables.ensures.numbered c.requires.new_id
     c.keep_and_make.new.catalog c.in-Ok-keep_and_make.ensures.made c.keep_and_make.new.trees.tables (c.keep_and_make.ensures.tables ∙ c.in-Ok.ensures.ok)
+    (λ table. ap (λ (t : List StoredTable). table_long_values t table) (c.keep_and_make.ensures.tables ∙ c.in-Ok.ensures.ok) ∙ c.tables_beside_a_new_one.ensures.long_values c.args.trees.now.tables c.args.table.0 table)
+    (counts_stay c.args.trees.now.tables c.keep_and_make.new.trees.tables
+    (λ table. ap (λ (t : List StoredTable). table_long_values t table) (c.keep_and_make.ensures.tables ∙ c.in-Ok.ensures.ok) ∙ c.tables_beside_a_new_one.ensures.long_values c.args.trees.now.tables c.args.table.0 table)
+    (λ table. ap (λ (t : List StoredTable). table_nodes t table) (c.keep_and_make.ensures.tables ∙ c.in-Ok.ensures.ok) ∙ c.tables_beside_a_new_one.ensures.nodes c.args.trees.now.tables c.args.table.0 table) c.requires.counts)
 
 pub returns-in-Err-keep_and_make-clause-err : goal.returns-in-Err-keep_and_make-clause-err
 returns-in-Err-keep_and_make-clause-err c = (
   c.in-Err-keep_and_make.ensures.err,
   c.remove_table.ensures.tables ∙ ap (λ (t : List StoredTable). without_table c.args.table.0 t) (c.keep_and_make.ensures.tables ∙ c.in-Ok.ensures.ok)
-      ∙ given_back c.args.trees.now.tables c.args.table.0 (no_tree c.args.catalog.now.tables c.args.trees.now.tables c.requires.kept c.args.table.0 (none_new c.args.catalog.now.greatest_table c.args.catalog.now.tables c.tables.ensures.numbered c.args.table.0 c.requires.new_id)),
+      ∙ given_back c.args.trees.now.tables c.args.table.0 (no_tree (table_long_values c.args.trees.now.tables) c.args.catalog.now.tables c.args.trees.now.tables c.requires.kept c.args.table.0 (none_new c.args.catalog.now.greatest_table c.args.catalog.now.tables c.tables.ensures.numbered c.args.table.0 c.requires.new_id)),
 )
 
 pub returns-in-Err-keep_and_make-clause-shown : goal.returns-in-Err-keep_and_make-clause-shown

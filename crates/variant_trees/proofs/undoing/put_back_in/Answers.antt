@@ -1,159 +1,100 @@
-use Rattle.std.proofs.Common.{◌≡◌, ℕ, true, List, [], map, Option, Some, None, sym, ap, subst, ◌∙◌}
-use Rattle.std.specs.Prelude.{IfSome, is_some, option_copied, unwrap_or}
+use Rattle.std.proofs.Common.{◌≡◌, ℕ, ◌<◌, List, [], Option, Some, None, option_map, sym, ap, subst, ◌∙◌}
+use Rattle.std.specs.Prelude.{IsSome, option_copied}
 use Rattle.column_set.specs.RowReading.{row_in}
-use Rattle.column_set.specs.Rows.{RowFields, here_fields}
-use Rattle.cursor_nav.specs.Places.{are_sorted}
-use Rattle.table_trees.specs.StoredNodes.{bookmark_entries}
-use Rattle.table_trees.specs.StoredTables.{StoredTable, table_nodes}
-use Rattle.version_store.specs.HeldChanges.{HeldChange}
-use Rattle.variant_trees.specs.LeftVariants.{AreLeft}
-use Rattle.stored_variants.specs.RecordRows.{IsRecordRow, row_under}
-use Rattle.stored_variants.specs.VersionsKept.{AreKept}
-use Rattle.stored_variants.specs.VersionsView.{with_newest}
-use Rattle.stored_variants.proofs.Dropped.{TreeLaws}
-use Rattle.variant_trees.proofs.PutsBack.{Reads, all_back, back_spelled, left_back, newest_read, node_of_bytes, none_back, room_read, shown_back, shown_unchanged}
-use Rattle.variant_trees.proofs.Refilled.{Fills, filled}
-use Rattle.variant_trees.proofs.UndoneThere.{fills, mapped_at, node_of_row}
+use Rattle.column_set.specs.Rows.{IsRowBytes}
+use Rattle.database_state.specs.State.{undone}
+use Rattle.long_references.specs.RowReferences.{identifiers, references}
+use Rattle.long_references.proofs.Taken.{ValueLaws}
+use Rattle.long_value.specs.Values.{Values, value_of}
+use Rattle.stored_variants.proofs.Dropped.{has_trees}
+use Rattle.stored_variants.specs.RecordRows.{row_under}
+use Rattle.table_trees.specs.StoredTables.{table_long_values, table_nodes}
+use Rattle.version_store.specs.HeldChanges.{HeldChange, with_status}
+use Rattle.variant_trees.proofs.OpenUndone.{place_now, was_undone}
+use Rattle.variant_trees.proofs.Released.{Releases}
+use Rattle.variant_trees.proofs.UndoneRows.{change_named, gives_up_nothing, is_back, newest_spelled, newest_there, undone_counted}
+use Rattle.variant_trees.proofs.UndoneThere.{mapped_at, spelled_row}
 use Rattle.variant_trees.proofs.undoing.put_back_in.Goals as goal
 
-pub take_variant-requires-clause-newest : goal.take_variant-requires-clause-newest
-take_variant-requires-clause-newest c =
-    let reads : Reads c.args.schema.now c.args.table.0 c.args.trees.now.tables c.args.versions.now c.args.place c.bookmark_at-bookmark.result.now c.bytes_of-row.result.now = record {
-      change = c.requires.can.0;
-      can = c.requires.can.1;
-      is_bookmark = mapped_at (λ (h : HeldChange). h.bookmark) c.args.versions.now c.args.place c.requires.can.0 c.bookmark_at-bookmark.result.now c.requires.can.1.at c.bookmark_at-bookmark.ensures;
-      is_row = ap (λ (o : Option (List ℕ)). unwrap_or o []) (mapped_at (λ (h : HeldChange). h.before) c.args.versions.now c.args.place c.requires.can.0 (option_copied c.before_at.result) c.requires.can.1.at c.before_at.ensures) ∙ sym c.bytes_of-row.ensures;
-    } in
-    let laws : TreeLaws = record {
-      named = c.nodes_after_a_change.ensures.named;
-      others = c.nodes_after_a_change.ensures.others;
-      indexes = c.nodes_after_a_change.ensures.indexes;
-      replaced = c.nodes_by_bookmark.ensures.replaced;
-    } in
-    let under : row_under (table_nodes c.args.trees.now.tables c.args.table.0) c.bookmark_at-bookmark.result.now ≡ Some c.in-Some.newest.items = sym c.in-Some.ensures in
-    let known : Fills laws c.args.trees.now.tables c.args.table.0 c.bookmark_at-bookmark.result.now c.bytes_of-row.result.now = fills laws c.args.trees.now.tables c.args.table.0 c.bookmark_at-bookmark.result.now c.bytes_of-row.result.now (node_of_row (table_nodes c.args.trees.now.tables c.args.table.0) c.bookmark_at-bookmark.result.now (ap is_some under)) c.nodes_are_in_order.ensures.sorted
-    (λ n. subst (λ (trees : List StoredTable). are_sorted (bookmark_entries (table_nodes trees n)) ≡ true) c.replace.ensures.tables (c.nodes_are_in_order-in-Some.ensures.sorted n)) in
-    subst (λ (trees : List StoredTable). IfSome (row_under (table_nodes trees c.args.table.0) c.bookmark_at-bookmark.result.now) IsRecordRow) (sym c.replace.ensures.tables) (back_spelled laws c.args.schema.now c.args.table.0 c.args.trees.now.tables c.args.versions.now c.args.place c.bookmark_at-bookmark.result.now c.bytes_of-row.result.now reads known)
+pub put_row_back-requires-clause-newest : goal.put_row_back-requires-clause-newest
+put_row_back-requires-clause-newest c = λ h at.
+    ap (row_under (table_nodes c.args.trees.now.tables c.args.table.0)) (mapped_at (λ (x : HeldChange). x.bookmark) c.args.versions.now c.args.place h c.bookmark_at.result.now at c.bookmark_at.ensures)
+    ∙ sym c.in-Some.ensures ∙ ap (λ (bytes : List ℕ). Some bytes) (sym c.as_slice.ensures.value)
 
-pub take_variant-requires-clause-bookmark : goal.take_variant-requires-clause-bookmark
-take_variant-requires-clause-bookmark c =
-    let reads : Reads c.args.schema.now c.args.table.0 c.args.trees.now.tables c.args.versions.now c.args.place c.bookmark_at-bookmark.result.now c.bytes_of-row.result.now = record {
-      change = c.requires.can.0;
-      can = c.requires.can.1;
-      is_bookmark = mapped_at (λ (h : HeldChange). h.bookmark) c.args.versions.now c.args.place c.requires.can.0 c.bookmark_at-bookmark.result.now c.requires.can.1.at c.bookmark_at-bookmark.ensures;
-      is_row = ap (λ (o : Option (List ℕ)). unwrap_or o []) (mapped_at (λ (h : HeldChange). h.before) c.args.versions.now c.args.place c.requires.can.0 (option_copied c.before_at.result) c.requires.can.1.at c.before_at.ensures) ∙ sym c.bytes_of-row.ensures;
-    } in
-    let under : row_under (table_nodes c.args.trees.now.tables c.args.table.0) c.bookmark_at-bookmark.result.now ≡ Some c.in-Some.newest.items = sym c.in-Some.ensures in
-    (newest_read c.args.schema.now c.args.table.0 c.args.trees.now.tables c.args.versions.now c.args.place c.bookmark_at-bookmark.result.now c.bytes_of-row.result.now reads c.in-Some.newest.items under).2
+pub release_row-requires-clause-table : goal.release_row-requires-clause-table
+release_row-requires-clause-table c =
+    let tables = c.requires.was.0 in
+    let held = c.requires.was.1.0 in
+    let h = c.requires.was.1.1.0 in
+    let was = c.requires.was.1.1.1.1.0 in
+    has_trees c.put_row_back.new.trees.tables tables c.args.table.0 (c.put_row_back.ensures.kept tables held h c.requires.was.1.1.1.0 (was_undone tables c.args.trees.now.tables c.args.versions.now c.args.place c.args.table.0 held h was c.requires.was.1.1.1.1.1) was.named was.kept).numbers
+    ∙ change_named tables c.args.trees.now.tables c.args.versions.now c.args.place c.args.table.0 held h was
 
-pub replace-requires-then-not-is_empty : goal.replace-requires-then-not-is_empty
-replace-requires-then-not-is_empty c =
-    let reads : Reads c.args.schema.now c.args.table.0 c.args.trees.now.tables c.args.versions.now c.args.place c.bookmark_at-bookmark.result.now c.bytes_of-row.result.now = record {
-      change = c.requires.can.0;
-      can = c.requires.can.1;
-      is_bookmark = mapped_at (λ (h : HeldChange). h.bookmark) c.args.versions.now c.args.place c.requires.can.0 c.bookmark_at-bookmark.result.now c.requires.can.1.at c.bookmark_at-bookmark.ensures;
-      is_row = ap (λ (o : Option (List ℕ)). unwrap_or o []) (mapped_at (λ (h : HeldChange). h.before) c.args.versions.now c.args.place c.requires.can.0 (option_copied c.before_at.result) c.requires.can.1.at c.before_at.ensures) ∙ sym c.bytes_of-row.ensures;
-    } in
-    room_read c.args.schema.now c.args.table.0 c.args.trees.now.tables c.args.versions.now c.args.place c.bookmark_at-bookmark.result.now c.bytes_of-row.result.now reads (node_of_bytes c.args.schema.now c.args.table.0 c.args.trees.now.tables c.args.versions.now c.args.place c.bookmark_at-bookmark.result.now c.bytes_of-row.result.now reads (sym c.is_empty.ensures ∙ c.if-not-is_empty.true))
+pub release_row-requires-clause-row : goal.release_row-requires-clause-row
+release_row-requires-clause-row c =
+    let under : row_under (table_nodes c.args.trees.now.tables c.args.table.0) c.bookmark_at.result.now ≡ Some c.in-Some.newest.items = sym c.in-Some.ensures in
+    subst IsRowBytes (sym c.as_slice-in-Some.ensures.value)
+    (spelled_row (table_long_values c.args.trees.now.tables c.args.table.0) c.in-Some.newest.items (newest_spelled c.requires.was.0 c.args.trees.now.tables c.requires.was.1.0 c.requires.was.1.1.1.1.0.kept c.args.table.0 c.bookmark_at.result.now c.in-Some.newest.items under))
 
-pub returns-in-Some-clause-kept : goal.returns-in-Some-clause-kept
-returns-in-Some-clause-kept c = λ tables held h ids same was named kept.
-    let reads : Reads c.args.schema.now c.args.table.0 c.args.trees.now.tables c.args.versions.now c.args.place c.bookmark_at-bookmark.result.now c.bytes_of-row.result.now = record {
-      change = c.requires.can.0;
-      can = c.requires.can.1;
-      is_bookmark = mapped_at (λ (h : HeldChange). h.bookmark) c.args.versions.now c.args.place c.requires.can.0 c.bookmark_at-bookmark.result.now c.requires.can.1.at c.bookmark_at-bookmark.ensures;
-      is_row = ap (λ (o : Option (List ℕ)). unwrap_or o []) (mapped_at (λ (h : HeldChange). h.before) c.args.versions.now c.args.place c.requires.can.0 (option_copied c.before_at.result) c.requires.can.1.at c.before_at.ensures) ∙ sym c.bytes_of-row.ensures;
-    } in
-    let laws : TreeLaws = record {
-      named = c.nodes_after_a_change.ensures.named;
-      others = c.nodes_after_a_change.ensures.others;
-      indexes = c.nodes_after_a_change.ensures.indexes;
-      replaced = c.nodes_by_bookmark.ensures.replaced;
-    } in
-    let under : row_under (table_nodes c.args.trees.now.tables c.args.table.0) c.bookmark_at-bookmark.result.now ≡ Some c.in-Some.newest.items = sym c.in-Some.ensures in
-    let known : Fills laws c.args.trees.now.tables c.args.table.0 c.bookmark_at-bookmark.result.now c.bytes_of-row.result.now = fills laws c.args.trees.now.tables c.args.table.0 c.bookmark_at-bookmark.result.now c.bytes_of-row.result.now (node_of_row (table_nodes c.args.trees.now.tables c.args.table.0) c.bookmark_at-bookmark.result.now (ap is_some under)) c.nodes_are_in_order.ensures.sorted
-    (λ n. subst (λ (trees : List StoredTable). are_sorted (bookmark_entries (table_nodes trees n)) ≡ true) c.replace.ensures.tables (c.nodes_are_in_order-in-Some.ensures.sorted n)) in
-    let spelled : IsRecordRow c.in-Some.newest.items = (newest_read c.args.schema.now c.args.table.0 c.args.trees.now.tables c.args.versions.now c.args.place c.bookmark_at-bookmark.result.now c.bytes_of-row.result.now reads c.in-Some.newest.items under).0 in
-    let gone : c.new-gone.result ≡ row_in c.in-Some.newest.items = c.new-gone.ensures.only (row_in c.in-Some.newest.items) spelled.formed (c.as_slice.ensures.value ∙ spelled.spelled) in
-    c.take_variant.ensures.kept tables ids same
-    (subst (λ (trees : List StoredTable). AreLeft tables trees c.args.versions.now c.args.table.0 c.bookmark_at-bookmark.result.now (here_fields c.new-gone.result)) (sym c.replace.ensures.tables)
-    (subst (λ (row : RowFields). AreLeft tables (filled c.args.trees.now.tables c.args.table.0 c.bookmark_at-bookmark.result.now c.bytes_of-row.result.now) c.args.versions.now c.args.table.0 c.bookmark_at-bookmark.result.now (here_fields row)) (sym gone)
-    (left_back laws c.args.schema.now c.args.table.0 c.args.trees.now.tables c.args.versions.now c.args.place c.bookmark_at-bookmark.result.now c.bytes_of-row.result.now reads known c.in-Some.newest.items under tables held h was kept)))
+pub release_row-requires-clause-there : goal.release_row-requires-clause-there
+release_row-requires-clause-there c = λ id some.
+    let under : row_under (table_nodes c.args.trees.now.tables c.args.table.0) c.bookmark_at.result.now ≡ Some c.in-Some.newest.items = sym c.in-Some.ensures in
+    subst (λ (v : Values). IsSome (value_of id v)) (sym (c.put_row_back.ensures.values c.args.table.0))
+    (newest_there c.args.trees.now.tables c.requires.was.1.0 c.requires.was.1.1.1.1.0.counts c.nodes_are_in_order.ensures.sorted c.args.table.0 c.bookmark_at.result.now c.in-Some.newest.items under id (subst (λ (bytes : List ℕ). 0 < references id (Some (row_in bytes))) c.as_slice-in-Some.ensures.value some))
 
-pub returns-in-Some-clause-shown : goal.returns-in-Some-clause-shown
-returns-in-Some-clause-shown c = λ tables h at.
-    let reads : Reads c.args.schema.now c.args.table.0 c.args.trees.now.tables c.args.versions.now c.args.place c.bookmark_at-bookmark.result.now c.bytes_of-row.result.now = record {
-      change = c.requires.can.0;
-      can = c.requires.can.1;
-      is_bookmark = mapped_at (λ (h : HeldChange). h.bookmark) c.args.versions.now c.args.place c.requires.can.0 c.bookmark_at-bookmark.result.now c.requires.can.1.at c.bookmark_at-bookmark.ensures;
-      is_row = ap (λ (o : Option (List ℕ)). unwrap_or o []) (mapped_at (λ (h : HeldChange). h.before) c.args.versions.now c.args.place c.requires.can.0 (option_copied c.before_at.result) c.requires.can.1.at c.before_at.ensures) ∙ sym c.bytes_of-row.ensures;
+pub returns-in-Some-clause-back : goal.returns-in-Some-clause-back
+returns-in-Some-clause-back c = λ tables held h schema was rewrites.
+    let laws : ValueLaws = record {
+      put = c.values_after_a_change.ensures.put;
+      beside = c.values_after_a_change.ensures.beside;
+      more = c.references_after_a_change.ensures.more;
+      more_beside = c.references_after_a_change.ensures.more_beside;
+      less = c.references_after_a_change.ensures.less;
+      less_beside = c.references_after_a_change.ensures.less_beside;
     } in
-    let laws : TreeLaws = record {
-      named = c.nodes_after_a_change.ensures.named;
-      others = c.nodes_after_a_change.ensures.others;
-      indexes = c.nodes_after_a_change.ensures.indexes;
-      replaced = c.nodes_by_bookmark.ensures.replaced;
+    let at = place_now tables c.args.trees.now.tables c.args.versions.now c.args.place c.args.table.0 held h was in
+    let ids : List (List ℕ) = identifiers (Some (row_in c.as_slice-in-Some.result.now)) in
+    let names : identifiers (option_map row_in (row_under (table_nodes c.args.trees.now.tables c.args.table.0) h.bookmark)) ≡ ids =
+    ap (λ (o : Option (List ℕ)). identifiers (option_map row_in o))
+    (ap (row_under (table_nodes c.args.trees.now.tables c.args.table.0)) (mapped_at (λ (x : HeldChange). x.bookmark) c.args.versions.now c.args.place (with_status undone h) c.bookmark_at.result.now at c.bookmark_at.ensures)
+    ∙ sym c.in-Some.ensures ∙ ap (λ (bytes : List ℕ). Some bytes) (sym c.as_slice-in-Some.ensures.value)) in
+    let r : Releases laws tables c.args.trees.now.tables c.put_row_back.new.trees.tables c.release_row.new.trees.tables c.args.table.0 ids c.args.versions.now = record {
+      distinct = schema.ids;
+      values = c.put_row_back.ensures.values;
+      kept = c.put_row_back.ensures.kept tables held h schema (was_undone tables c.args.trees.now.tables c.args.versions.now c.args.place c.args.table.0 held h was rewrites) was.named was.kept;
+      sorted = c.nodes_are_in_order-in-Some.ensures.sorted;
+      released = c.release_row.ensures.tables;
+      counts = undone_counted c.values_keep_their_counts.ensures.undone tables c.args.trees.now.tables c.put_row_back.new.trees.tables c.release_row.new.trees.tables c.args.versions.now c.args.place c.args.table.0 held h was c.nodes_are_in_order.ensures.sorted
+          c.put_row_back.ensures.values (c.put_row_back.ensures.rows (with_status undone h) at) ids names c.release_row.ensures.tables;
     } in
-    let under : row_under (table_nodes c.args.trees.now.tables c.args.table.0) c.bookmark_at-bookmark.result.now ≡ Some c.in-Some.newest.items = sym c.in-Some.ensures in
-    let known : Fills laws c.args.trees.now.tables c.args.table.0 c.bookmark_at-bookmark.result.now c.bytes_of-row.result.now = fills laws c.args.trees.now.tables c.args.table.0 c.bookmark_at-bookmark.result.now c.bytes_of-row.result.now (node_of_row (table_nodes c.args.trees.now.tables c.args.table.0) c.bookmark_at-bookmark.result.now (ap is_some under)) c.nodes_are_in_order.ensures.sorted
-    (λ n. subst (λ (trees : List StoredTable). are_sorted (bookmark_entries (table_nodes trees n)) ≡ true) c.replace.ensures.tables (c.nodes_are_in_order-in-Some.ensures.sorted n)) in
-    c.take_variant.ensures.newest tables ∙ ap (λ (trees : List StoredTable). map (with_newest trees) tables) c.replace.ensures.tables ∙ shown_back laws c.args.schema.now c.args.table.0 c.args.trees.now.tables c.args.versions.now c.args.place c.bookmark_at-bookmark.result.now c.bytes_of-row.result.now reads known tables h at
+    is_back laws tables c.args.trees.now.tables c.put_row_back.new.trees.tables c.release_row.new.trees.tables c.args.versions.now c.args.place c.args.table.0 held h was rewrites ids r (c.put_row_back.ensures.shown tables (with_status undone h) at)
 
-pub returns-then-not-is_empty-clause-kept : goal.returns-then-not-is_empty-clause-kept
-returns-then-not-is_empty-clause-kept c = λ tables held h ids same was named kept.
-    let reads : Reads c.args.schema.now c.args.table.0 c.args.trees.now.tables c.args.versions.now c.args.place c.bookmark_at-bookmark.result.now c.bytes_of-row.result.now = record {
-      change = c.requires.can.0;
-      can = c.requires.can.1;
-      is_bookmark = mapped_at (λ (h : HeldChange). h.bookmark) c.args.versions.now c.args.place c.requires.can.0 c.bookmark_at-bookmark.result.now c.requires.can.1.at c.bookmark_at-bookmark.ensures;
-      is_row = ap (λ (o : Option (List ℕ)). unwrap_or o []) (mapped_at (λ (h : HeldChange). h.before) c.args.versions.now c.args.place c.requires.can.0 (option_copied c.before_at.result) c.requires.can.1.at c.before_at.ensures) ∙ sym c.bytes_of-row.ensures;
-    } in
-    let laws : TreeLaws = record {
-      named = c.nodes_after_a_change.ensures.named;
-      others = c.nodes_after_a_change.ensures.others;
-      indexes = c.nodes_after_a_change.ensures.indexes;
-      replaced = c.nodes_by_bookmark.ensures.replaced;
-    } in
-    let none : row_under (table_nodes c.args.trees.now.tables c.args.table.0) c.bookmark_at-bookmark.result.now ≡ None = sym c.in-None.ensures in
-    let known : Fills laws c.args.trees.now.tables c.args.table.0 c.bookmark_at-bookmark.result.now c.bytes_of-row.result.now = fills laws c.args.trees.now.tables c.args.table.0 c.bookmark_at-bookmark.result.now c.bytes_of-row.result.now (node_of_bytes c.args.schema.now c.args.table.0 c.args.trees.now.tables c.args.versions.now c.args.place c.bookmark_at-bookmark.result.now c.bytes_of-row.result.now reads (sym c.is_empty.ensures ∙ c.if-not-is_empty.true)) c.nodes_are_in_order.ensures.sorted
-    (λ n. subst (λ (trees : List StoredTable). are_sorted (bookmark_entries (table_nodes trees n)) ≡ true) c.replace-then-not-is_empty.ensures.tables (c.nodes_are_in_order-then-not-is_empty.ensures.sorted n)) in
-    subst (λ (trees : List StoredTable). AreKept tables trees c.args.versions.now) (sym c.replace-then-not-is_empty.ensures.tables) (all_back laws c.args.schema.now c.args.table.0 c.args.trees.now.tables c.args.versions.now c.args.place c.bookmark_at-bookmark.result.now c.bytes_of-row.result.now reads known none tables held h was kept)
+pub put_row_back-requires-in-None-clause-newest : goal.put_row_back-requires-in-None-clause-newest
+put_row_back-requires-in-None-clause-newest c = λ h at.
+    ap (row_under (table_nodes c.args.trees.now.tables c.args.table.0)) (mapped_at (λ (x : HeldChange). x.bookmark) c.args.versions.now c.args.place h c.bookmark_at.result.now at c.bookmark_at.ensures) ∙ sym c.in-None.ensures
 
-pub returns-then-not-is_empty-clause-shown : goal.returns-then-not-is_empty-clause-shown
-returns-then-not-is_empty-clause-shown c = λ tables h at.
-    let reads : Reads c.args.schema.now c.args.table.0 c.args.trees.now.tables c.args.versions.now c.args.place c.bookmark_at-bookmark.result.now c.bytes_of-row.result.now = record {
-      change = c.requires.can.0;
-      can = c.requires.can.1;
-      is_bookmark = mapped_at (λ (h : HeldChange). h.bookmark) c.args.versions.now c.args.place c.requires.can.0 c.bookmark_at-bookmark.result.now c.requires.can.1.at c.bookmark_at-bookmark.ensures;
-      is_row = ap (λ (o : Option (List ℕ)). unwrap_or o []) (mapped_at (λ (h : HeldChange). h.before) c.args.versions.now c.args.place c.requires.can.0 (option_copied c.before_at.result) c.requires.can.1.at c.before_at.ensures) ∙ sym c.bytes_of-row.ensures;
+pub returns-in-None-clause-back : goal.returns-in-None-clause-back
+returns-in-None-clause-back c = λ tables held h schema was rewrites.
+    let laws : ValueLaws = record {
+      put = c.values_after_a_change.ensures.put;
+      beside = c.values_after_a_change.ensures.beside;
+      more = c.references_after_a_change.ensures.more;
+      more_beside = c.references_after_a_change.ensures.more_beside;
+      less = c.references_after_a_change.ensures.less;
+      less_beside = c.references_after_a_change.ensures.less_beside;
     } in
-    let laws : TreeLaws = record {
-      named = c.nodes_after_a_change.ensures.named;
-      others = c.nodes_after_a_change.ensures.others;
-      indexes = c.nodes_after_a_change.ensures.indexes;
-      replaced = c.nodes_by_bookmark.ensures.replaced;
+    let at = place_now tables c.args.trees.now.tables c.args.versions.now c.args.place c.args.table.0 held h was in
+    let names : identifiers (option_map row_in (row_under (table_nodes c.args.trees.now.tables c.args.table.0) h.bookmark)) ≡ [] =
+    ap (λ (o : Option (List ℕ)). identifiers (option_map row_in o))
+    (ap (row_under (table_nodes c.args.trees.now.tables c.args.table.0)) (mapped_at (λ (x : HeldChange). x.bookmark) c.args.versions.now c.args.place (with_status undone h) c.bookmark_at.result.now at c.bookmark_at.ensures)
+    ∙ sym c.in-None.ensures) in
+    let r : Releases laws tables c.args.trees.now.tables c.put_row_back-in-None.new.trees.tables c.put_row_back-in-None.new.trees.tables c.args.table.0 [] c.args.versions.now = record {
+      distinct = schema.ids;
+      values = c.put_row_back-in-None.ensures.values;
+      kept = c.put_row_back-in-None.ensures.kept tables held h schema (was_undone tables c.args.trees.now.tables c.args.versions.now c.args.place c.args.table.0 held h was rewrites) was.named was.kept;
+      sorted = c.nodes_are_in_order-in-None.ensures.sorted;
+      released = gives_up_nothing c.args.table.0 c.put_row_back-in-None.new.trees.tables;
+      counts = undone_counted c.values_keep_their_counts.ensures.undone tables c.args.trees.now.tables c.put_row_back-in-None.new.trees.tables c.put_row_back-in-None.new.trees.tables c.args.versions.now c.args.place c.args.table.0 held h was c.nodes_are_in_order.ensures.sorted
+          c.put_row_back-in-None.ensures.values (c.put_row_back-in-None.ensures.rows (with_status undone h) at) [] names (gives_up_nothing c.args.table.0 c.put_row_back-in-None.new.trees.tables);
     } in
-    let known : Fills laws c.args.trees.now.tables c.args.table.0 c.bookmark_at-bookmark.result.now c.bytes_of-row.result.now = fills laws c.args.trees.now.tables c.args.table.0 c.bookmark_at-bookmark.result.now c.bytes_of-row.result.now (node_of_bytes c.args.schema.now c.args.table.0 c.args.trees.now.tables c.args.versions.now c.args.place c.bookmark_at-bookmark.result.now c.bytes_of-row.result.now reads (sym c.is_empty.ensures ∙ c.if-not-is_empty.true)) c.nodes_are_in_order.ensures.sorted
-    (λ n. subst (λ (trees : List StoredTable). are_sorted (bookmark_entries (table_nodes trees n)) ≡ true) c.replace-then-not-is_empty.ensures.tables (c.nodes_are_in_order-then-not-is_empty.ensures.sorted n)) in
-    ap (λ (trees : List StoredTable). map (with_newest trees) tables) c.replace-then-not-is_empty.ensures.tables ∙ shown_back laws c.args.schema.now c.args.table.0 c.args.trees.now.tables c.args.versions.now c.args.place c.bookmark_at-bookmark.result.now c.bytes_of-row.result.now reads known tables h at
-
-pub returns-else-not-is_empty-clause-kept : goal.returns-else-not-is_empty-clause-kept
-returns-else-not-is_empty-clause-kept c = λ tables held h ids same was named kept.
-    let reads : Reads c.args.schema.now c.args.table.0 c.args.trees.now.tables c.args.versions.now c.args.place c.bookmark_at-bookmark.result.now c.bytes_of-row.result.now = record {
-      change = c.requires.can.0;
-      can = c.requires.can.1;
-      is_bookmark = mapped_at (λ (h : HeldChange). h.bookmark) c.args.versions.now c.args.place c.requires.can.0 c.bookmark_at-bookmark.result.now c.requires.can.1.at c.bookmark_at-bookmark.ensures;
-      is_row = ap (λ (o : Option (List ℕ)). unwrap_or o []) (mapped_at (λ (h : HeldChange). h.before) c.args.versions.now c.args.place c.requires.can.0 (option_copied c.before_at.result) c.requires.can.1.at c.before_at.ensures) ∙ sym c.bytes_of-row.ensures;
-    } in
-    let none : row_under (table_nodes c.args.trees.now.tables c.args.table.0) c.bookmark_at-bookmark.result.now ≡ None = sym c.in-None.ensures in
-    none_back c.args.schema.now c.args.table.0 c.args.trees.now.tables c.args.versions.now c.args.place c.bookmark_at-bookmark.result.now c.bytes_of-row.result.now reads c.nodes_are_in_order.ensures.sorted none (sym c.is_empty.ensures ∙ c.if-not-is_empty.false) tables held h was kept
-
-pub returns-else-not-is_empty-clause-shown : goal.returns-else-not-is_empty-clause-shown
-returns-else-not-is_empty-clause-shown c = λ tables h at.
-    let reads : Reads c.args.schema.now c.args.table.0 c.args.trees.now.tables c.args.versions.now c.args.place c.bookmark_at-bookmark.result.now c.bytes_of-row.result.now = record {
-      change = c.requires.can.0;
-      can = c.requires.can.1;
-      is_bookmark = mapped_at (λ (h : HeldChange). h.bookmark) c.args.versions.now c.args.place c.requires.can.0 c.bookmark_at-bookmark.result.now c.requires.can.1.at c.bookmark_at-bookmark.ensures;
-      is_row = ap (λ (o : Option (List ℕ)). unwrap_or o []) (mapped_at (λ (h : HeldChange). h.before) c.args.versions.now c.args.place c.requires.can.0 (option_copied c.before_at.result) c.requires.can.1.at c.before_at.ensures) ∙ sym c.bytes_of-row.ensures;
-    } in
-    let none : row_under (table_nodes c.args.trees.now.tables c.args.table.0) c.bookmark_at-bookmark.result.now ≡ None = sym c.in-None.ensures in
-    shown_unchanged c.args.schema.now c.args.table.0 c.args.trees.now.tables c.args.versions.now c.args.place c.bookmark_at-bookmark.result.now c.bytes_of-row.result.now reads c.nodes_are_in_order.ensures.sorted none (sym c.is_empty.ensures ∙ c.if-not-is_empty.false) tables h at
+    is_back laws tables c.args.trees.now.tables c.put_row_back-in-None.new.trees.tables c.put_row_back-in-None.new.trees.tables c.args.versions.now c.args.place c.args.table.0 held h was rewrites [] r (c.put_row_back-in-None.ensures.shown tables (with_status undone h) at)

@@ -1,6 +1,6 @@
 use Rattle.std.proofs.Common.{List, sym, subst, ◌∙◌}
 use Rattle.std.specs.Prelude.{option_map}
-use Rattle.table_trees.specs.StoredTables.{StoredTable, table_nodes}
+use Rattle.table_trees.specs.StoredTables.{table_long_values, StoredTable, table_nodes}
 use Rattle.versioned_tables.specs.Variants.{has_variant}
 use Rattle.variant_trees.specs.GoneKeys.{held_from}
 use Rattle.variant_trees.specs.LeftVariants.{LosesNode}
@@ -15,9 +15,10 @@ returns-then-not-is_record_before-clause-node c =
       named = c.nodes_after_a_change.ensures.named;
       others = c.nodes_after_a_change.ensures.others;
       indexes = c.nodes_after_a_change.ensures.indexes;
+      values = c.nodes_after_a_change.ensures.long_values;
       replaced = c.nodes_by_bookmark.ensures.replaced;
     } in
-    subst (λ (trees : List StoredTable). LosesNode (has_variant (option_map record_of (row_under (table_nodes c.args.trees.now.tables c.args.table.0) c.args.bookmark.now)) (held_from c.args.from c.args.versions.now) c.args.table.0 c.args.bookmark.now) c.args.table.0 c.args.bookmark.now c.args.trees.now.tables trees)
+    subst (λ (trees : List StoredTable). LosesNode (has_variant (option_map (record_of (table_long_values c.args.trees.now.tables c.args.table.0)) (row_under (table_nodes c.args.trees.now.tables c.args.table.0) c.args.bookmark.now)) (held_from (table_long_values c.args.trees.now.tables) c.args.from c.args.versions.now) c.args.table.0 c.args.bookmark.now) c.args.table.0 c.args.bookmark.now c.args.trees.now.tables trees)
     (sym c.remove.ensures.tables)
-    (node_goes laws c.nodes_by_bookmark.ensures.removed c.args.table.0 c.args.bookmark.now (held_from c.args.from c.args.versions.now) c.args.trees.now.tables (c.nodes_are_in_order.ensures.sorted c.args.table.0)
+    (node_goes (table_long_values c.args.trees.now.tables) laws c.nodes_by_bookmark.ensures.removed c.args.table.0 c.args.bookmark.now (held_from (table_long_values c.args.trees.now.tables) c.args.from c.args.versions.now) c.args.trees.now.tables (c.nodes_are_in_order.ensures.sorted c.args.table.0)
     (sym c.has_empty_node.ensures ∙ c.if-has_empty_node.true) (sym c.is_record_before.ensures ∙ c.if-not-is_record_before.true))
