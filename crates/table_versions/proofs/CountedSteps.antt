@@ -16,7 +16,8 @@ use Rattle.version_store.specs.HeldChanges.{HeldChange}
 use Rattle.stored_variants.specs.CountedValues.{AreCounted, newest_rows, row_before, rows_before}
 use Rattle.stored_variants.specs.RecordRows.{row_under}
 use Rattle.variant_trees.specs.GoneKeys.{KeepsValues}
-use Rattle.table_versions.proofs.CountedRows.{are_rows, held_after, held_mapped, row_if_of, row_lookup, rows_after, rows_same}
+use Rattle.stored_variants.proofs.CountedRows.{newest_with, own_row, own_rows_are, same_newest}
+use Rattle.table_versions.proofs.CountedRows.{held_after, held_mapped, row_if_of}
 
 -- what the laws of counts say
 abbrev pub ChangeCounts : Type 0
@@ -62,22 +63,22 @@ changed_counted law table bookmark row given old new changes sorted sorted_then 
         counts_as (with_all_taken given (table_long_values old table)) (table_long_values new table) (with_row bookmark (option_map row_in row) (newest_rows (table_nodes old table))) (newest_rows (table_nodes new table))
         (with_change bookmark (newest_rows (table_nodes old table)) (rows_before table held)) (rows_before table (held ++ h ∷ []))
         (changes.values table ∙ ap (λ (b : Bool). cond b (with_all_taken given (table_long_values old table)) (table_long_values old table)) (self_equal table))
-        (rows_after (table_nodes old table) (table_nodes new table) (sorted table) (sorted_then table) bookmark row
+        (newest_with (table_nodes old table) (table_nodes new table) bookmark row (sorted table) (sorted_then table)
         (λ at. changes.rows table at ∙ ap (λ (b : Bool). cond (b && bytes_eq bookmark at) row (row_under (table_nodes old table) at)) (self_equal table)))
         (held_after table held h ∙ ap (λ (last : List RowBefore). rows_before table held ++ last) last)
-        (law (table_long_values old table) bookmark (option_map row_in row) given (newest_rows (table_nodes old table)) (rows_before table held) (are_rows (table_nodes old table) (sorted table)) changes.names (counted table))
+        (law (table_long_values old table) bookmark (option_map row_in row) given (newest_rows (table_nodes old table)) (rows_before table held) (own_rows_are (table_nodes old table) (sorted table)) changes.names (counted table))
       where
         last : row_if_of table h ≡ record { bookmark = bookmark; row = lookup_by_key bookmark (newest_rows (table_nodes old table)); is_undone = false } ∷ []
         last =
             ap (λ (b : Bool). cond b (row_before h ∷ []) []) (ap (λ (n : ℕ). n == table) holds.of ∙ self_equal table)
-            ∙ (λ i. record { bookmark = holds.at i; row = (ap (option_map row_in) holds.before ∙ sym (row_lookup (table_nodes old table) (sorted table) bookmark)) i; is_undone = holds.stands i } ∷ [])
+            ∙ (λ i. record { bookmark = holds.at i; row = (ap (option_map row_in) holds.before ∙ sym (own_row (table_nodes old table) (sorted table) bookmark)) i; is_undone = holds.stands i } ∷ [])
 
     by : (b : Bool) → (table == other) ≡ b → HasCounts (table_long_values new other) (newest_rows (table_nodes new other)) (rows_before other (held ++ h ∷ []))
     by true e = subst (λ (n : ℕ). HasCounts (table_long_values new n) (newest_rows (table_nodes new n)) (rows_before n (held ++ h ∷ []))) (same_number table other e) own
     by false e =
         counts_as (table_long_values old other) (table_long_values new other) (newest_rows (table_nodes old other)) (newest_rows (table_nodes new other)) (rows_before other held) (rows_before other (held ++ h ∷ []))
         (changes.values other ∙ ap (λ (b : Bool). cond b (with_all_taken given (table_long_values old table)) (table_long_values old other)) e)
-        (rows_same (table_nodes old other) (table_nodes new other) (sorted other) (sorted_then other)
+        (same_newest (table_nodes new other) (table_nodes old other) (sorted_then other) (sorted other)
         (λ at. changes.rows other at ∙ ap (λ (b : Bool). cond (b && bytes_eq bookmark at) row (row_under (table_nodes old other) at)) e))
         (held_after other held h ∙ ap (λ (b : Bool). rows_before other held ++ cond b (row_before h ∷ []) []) (ap (λ (n : ℕ). n == other) holds.of ∙ e) ∙ append_none (rows_before other held))
         (counted other)
@@ -88,7 +89,7 @@ pub same_counted : (old new : List StoredTable) → KeepsValues old new → ((ot
     → AreCounted old held → AreCounted new held
 same_counted old new keeps same sorted sorted_then held counted other =
     counts_as (table_long_values old other) (table_long_values new other) (newest_rows (table_nodes old other)) (newest_rows (table_nodes new other)) (rows_before other held) (rows_before other held)
-    (keeps other) (rows_same (table_nodes old other) (table_nodes new other) (sorted other) (sorted_then other) (same other)) refl (counted other)
+    (keeps other) (same_newest (table_nodes new other) (table_nodes old other) (sorted_then other) (sorted other) (same other)) refl (counted other)
 
 -- a lock, or a sum, is held without a row
 pub held_counted : HeldCounts → (trees : List StoredTable) (held : List HeldChange) (h : HeldChange) → h.before ≡ None → is_undone h.status ≡ false → AreCounted trees held → AreCounted trees (held ++ h ∷ [])
