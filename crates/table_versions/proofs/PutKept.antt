@@ -136,7 +136,7 @@ equal_keys x y e = same_bytes x y (texts_ties x y ∙ ap is_eq e)
 abbrev pub AreSorted : List StoredTable → Type 0
 AreSorted trees = (table : ℕ) → are_sorted (bookmark_entries (table_nodes trees table)) ≡ true
 
-pub same_rows : (a b : Rows) → RowsRise a → RowsRise b → ((own : List ℕ) → row_at a own ≡ row_at b own) → a ≡ b
+same_rows : (a b : Rows) → RowsRise a → RowsRise b → ((own : List ℕ) → row_at a own ≡ row_at b own) → a ≡ b
 same_rows a b one other same = same_entries (slice_cmp nat_cmp) nat_list_cmp_total equal_keys a b one other same
 
 -- ---- a put that failed
