@@ -252,14 +252,14 @@ put_under table bookmark row given keys old new put some other own = ap (option_
     by true = some
     by false = refl
 
-put_record : (longs : TableValues) (table : ℕ) (bookmark row : List ℕ) (values : RecordFields) (given : List (List ℕ × List ℕ)) (keys : ℕ → List ℕ → Bool) (old new : List StoredTable) → IsPut table bookmark row given keys old new → row_in_node row ≡ Some row → record_of (longs other) row ≡ values → AreSorted old → AreSorted new → (other : ℕ) (own : List ℕ)
+put_record : (longs : TableValues) (table : ℕ) (bookmark row : List ℕ) (values : RecordFields) (given : List (List ℕ × List ℕ)) (keys : ℕ → List ℕ → Bool) (old new : List StoredTable) → IsPut table bookmark row given keys old new → row_in_node row ≡ Some row → record_of (longs table) row ≡ values → AreSorted old → AreSorted new → (other : ℕ) (own : List ℕ)
     → row_at (rows_of_nodes (longs other) (table_nodes new other)) own ≡ cond (is_place table bookmark other own) (Some values) (row_at (rows_of_nodes (longs other) (table_nodes old other)) own)
 put_record longs table bookmark row values given keys old new put some shows sorted sorted_then other own =
-    record_at (longs other) (table_nodes new other) (sorted_then other) own ∙ ap (option_map (record_of (longs other))) (put_under table bookmark row given keys old new put some other own) ∙ by (is_place table bookmark other own)
+    record_at (longs other) (table_nodes new other) (sorted_then other) own ∙ ap (option_map (record_of (longs other))) (put_under table bookmark row given keys old new put some other own) ∙ by (is_place table bookmark other own) refl
   where
-    by : (b : Bool) → option_map (record_of (longs other)) (cond b (Some row) (row_under (table_nodes old other) own)) ≡ cond b (Some values) (row_at (rows_of_nodes (longs other) (table_nodes old other)) own)
-    by true = ap (λ (fields : RecordFields). Some fields) shows
-    by false = sym (record_at (longs other) (table_nodes old other) (sorted other) own)
+    by : (b : Bool) → is_place table bookmark other own ≡ b → option_map (record_of (longs other)) (cond b (Some row) (row_under (table_nodes old other) own)) ≡ cond b (Some values) (row_at (rows_of_nodes (longs other) (table_nodes old other)) own)
+    by true e = ap (λ (n : ℕ). Some (record_of (longs n) row)) (sym (same_number table other (and_left (table == other) _ e))) ∙ ap (λ (fields : RecordFields). Some fields) shows
+    by false e = sym (record_at (longs other) (table_nodes old other) (sorted other) own)
 
 -- the put that is held
 abbrev pub made_put : By → TableId → List ℕ → Option (List ℕ) → RecordFields → List StoredTable → HeldChange
@@ -361,7 +361,7 @@ own_keys schema values index rule rules e key = by (record_keys schema.indexes s
     by false false f g = refl
 
 -- a table after the put
-table_put : (longs : TableValues) (by : By) (table : TableId) (bookmark : List ℕ) (copied : Option (List ℕ)) (row : List ℕ) (values : RecordFields) (given : List (List ℕ × List ℕ)) (own : Table) → IsNewRow (longs t.id) own bookmark row values → AllByRecursion (HasKeysOf (schema_of own) values) (schema_of own).indexes
+table_put : (longs : TableValues) (by : By) (table : TableId) (bookmark : List ℕ) (copied : Option (List ℕ)) (row : List ℕ) (values : RecordFields) (given : List (List ℕ × List ℕ)) (own : Table) → IsNewRow (longs table.0) own bookmark row values → AllByRecursion (HasKeysOf (schema_of own) values) (schema_of own).indexes
     → (old new : List StoredTable) → IsPut table.0 bookmark row given (record_keys (schema_of own).indexes (schema_of own) values) old new → AreSorted old → AreSorted new → (held : List HeldChange) (t : Table) → (t.id ≡ table.0 → own ≡ t)
     → IsKeptTable old (longs t.id) (table_nodes old t.id) (map (held_record_in longs) held) t
     → IsKeptTable new (longs t.id) (table_nodes new t.id) (map (held_record_in longs) (held ++ made_put by table bookmark copied values old ∷ [])) t
@@ -389,8 +389,9 @@ table_put longs by table bookmark copied row values given own is rules old new p
 
     under : (at : List ℕ) (b : Bool) → is_place table.0 bookmark t.id at ≡ b → IfSome (cond b (Some row) (row_under (table_nodes old t.id) at)) (IsRowUnder (longs t.id) t at)
     under at true e =
-        subst (λ (x : Table). IsRowUnder (longs t.id) x at row) (which (sym (same_number table.0 t.id (and_left (table.0 == t.id) _ e))))
-        (subst (λ (b : List ℕ). IsRowUnder (longs t.id) own b row) (same_bytes bookmark at (and_right (table.0 == t.id) _ e)) is.under)
+        let number : table.0 ≡ t.id = same_number table.0 t.id (and_left (table.0 == t.id) _ e) in
+        subst (λ (x : Table). IsRowUnder (longs t.id) x at row) (which (sym number))
+        (subst (λ (n : ℕ). IsRowUnder (longs n) own at row) number (subst (λ (b : List ℕ). IsRowUnder (longs table.0) own b row) (same_bytes bookmark at (and_right (table.0 == t.id) _ e)) is.under))
     under at false e = kept.rows at
 
     stood : (b : Bool) (o : Option (List ℕ)) → is_some (cond b (Some row) o) ≡ (is_some o || (b && true))
@@ -480,7 +481,7 @@ put_kept longs high tables by table bookmark copied row values given own rise fo
 
 -- ---- what it shows
 
-rows_put : (longs : TableValues) (table : ℕ) (bookmark row : List ℕ) (values : RecordFields) (given : List (List ℕ × List ℕ)) (keys : ℕ → List ℕ → Bool) (old new : List StoredTable) → IsPut table bookmark row given keys old new → row_in_node row ≡ Some row → record_of (longs other) row ≡ values → AreSorted old → AreSorted new → (other : ℕ)
+rows_put : (longs : TableValues) (table : ℕ) (bookmark row : List ℕ) (values : RecordFields) (given : List (List ℕ × List ℕ)) (keys : ℕ → List ℕ → Bool) (old new : List StoredTable) → IsPut table bookmark row given keys old new → row_in_node row ≡ Some row → record_of (longs table) row ≡ values → AreSorted old → AreSorted new → (other : ℕ)
     → rows_of_nodes (longs other) (table_nodes new other) ≡ cond (other == table) (with_row (rows_of_nodes (longs other) (table_nodes old other)) bookmark values) (rows_of_nodes (longs other) (table_nodes old other))
 rows_put longs table bookmark row values given keys old new put some shows sorted sorted_then other =
     same_rows (rows_of_nodes (longs other) (table_nodes new other)) (cond (other == table) (with_row rows bookmark values) rows) (rows_rise (longs other) (table_nodes new other) (sorted_then other)) (rises (other == table))
@@ -499,7 +500,7 @@ rows_put longs table bookmark row values given keys old new put some shows sorte
         ∙ sym (find-put (slice_cmp nat_cmp) nat_list_cmp_total at bookmark values rows)
     by at false = refl
 
-tables_put : (longs : TableValues) (table : TableId) (bookmark : List ℕ) (copied : Option (List ℕ)) (row : List ℕ) (values : RecordFields) (given : List (List ℕ × List ℕ)) (keys : ℕ → List ℕ → Bool) (old new : List StoredTable) → IsPut table.0 bookmark row given keys old new → row_in_node row ≡ Some row → record_of (longs t.id) row ≡ values → AreSorted old → AreSorted new
+tables_put : (longs : TableValues) (table : TableId) (bookmark : List ℕ) (copied : Option (List ℕ)) (row : List ℕ) (values : RecordFields) (given : List (List ℕ × List ℕ)) (keys : ℕ → List ℕ → Bool) (old new : List StoredTable) → IsPut table.0 bookmark row given keys old new → row_in_node row ≡ Some row → record_of (longs table.0) row ≡ values → AreSorted old → AreSorted new
     → (tables : List Table) → map (with_newest_by longs new) tables ≡ tables_after (map (with_newest_by longs old) tables) (Put table bookmark copied values)
 tables_put longs table bookmark copied row values given keys old new put some shows sorted sorted_then [] = refl
 tables_put longs table bookmark copied row values given keys old new put some shows sorted sorted_then (t ∷ tables) =
