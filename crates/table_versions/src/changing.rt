@@ -19,8 +19,7 @@ use arrayvec::ArrayVec;
 use column_set::{Change, MAX_ROW_SIZE, Record, rows_are_read_back, size_of_a_row};
 use long_references::{counts_after_a_step, values_keep_their_counts};
 use long_rows::{
-    counts_after_a_put, form_of_a_kept_row, kept_rows_stand_for_their_records,
-    rows_stand_as_values_change,
+    form_of_a_kept_row, kept_rows_stand_for_their_records, rows_stand_as_values_change,
 };
 use table_trees::{nodes_after_a_change, nodes_by_bookmark};
 use variant_trees::{add_sum, put_record, row_in_node};
@@ -131,35 +130,35 @@ impl TableVersions {
         form_of_a_kept_row();
         kept_rows_stand_for_their_records();
         rows_stand_as_values_change();
-        counts_after_a_put();
+        values_keep_their_counts();
         self.trees.nodes_are_in_order();
         let _ = self.catalog.tables();
         let table = table_of(change);
         let bookmark = bookmark_of(change);
         match values_of(change) {
             Some(values) => match self.catalog.by_id(table) {
-                Some(def) => {
-                    let answer = put_record(
-                        self.alloc,
-                        &mut self.trees,
-                        &mut self.versions,
-                        by,
-                        change,
-                        table,
-                        def.schema(),
-                        bookmark,
-                        copied,
-                        values,
-                    );
-                    self.trees.nodes_are_in_order();
-                    match answer {
-                        Ok(()) => {
-                            self.newest_put = by.number;
-                            Ok(())
-                        }
-                        Err(fault) => Err(fault),
+                Some(def) => match put_record(
+                    self.alloc,
+                    &mut self.trees,
+                    &mut self.versions,
+                    by,
+                    change,
+                    table,
+                    def.schema(),
+                    bookmark,
+                    copied,
+                    values,
+                ) {
+                    Ok(()) => {
+                        self.trees.nodes_are_in_order();
+                        self.newest_put = by.number;
+                        Ok(())
                     }
-                }
+                    Err(fault) => {
+                        self.trees.nodes_are_in_order();
+                        Err(fault)
+                    }
+                },
                 None => Err(VersionFault::OutOfMemory),
             },
             None => Err(VersionFault::OutOfMemory),
