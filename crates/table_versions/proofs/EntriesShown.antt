@@ -13,21 +13,22 @@ use Rattle.index_derive.specs.declared.rules.IndexRule.{IndexRule}
 use Rattle.index_derive.specs.declared.rules.Schema.{Schema}
 use Rattle.jet_catalog.specs.Catalog.{CatalogState}
 use Rattle.record_changes.proofs.Tests.{equal_bytes}
-use Rattle.table_trees.specs.StoredTables.{StoredTable, index_entries, table_nodes}
+use Rattle.table_trees.specs.StoredTables.{table_long_values, StoredTable, index_entries, table_nodes}
 use Rattle.version_store.specs.declared.calls.Reader.{Reader}
 use Rattle.version_store.specs.HeldChanges.{HeldChange, is_record, is_rewrite, last_place}
 use Rattle.versioned_tables.specs.HeldRecords.{before_or, hides, is_standing_rewrite, is_unseen, seen_record}
 use Rattle.versioned_tables.specs.Variants.{HoldsVariants}
 use Rattle.versioned_tables.proofs.Neighbours.{IsIn, found_in, last_in, shown_after, shown_before, shown_from, shown_to}
-use Rattle.stored_variants.specs.RecordRows.{held_record, rows_of_nodes}
+use Rattle.stored_variants.specs.RecordRows.{TableValues, held_record_in, rows_of_nodes}
 use Rattle.stored_variants.specs.StoredVersions.{StoredVersions}
-use Rattle.stored_variants.specs.VersionsKept.{AreKept, IsKeptTable, only_secondary}
+use Rattle.stored_variants.specs.VersionsKept.{AreKept, AreKeptWith, IsKeptTable, only_secondary}
 use Rattle.stored_variants.specs.VersionsView.{stored_versions}
 use Rattle.table_versions.specs.Walks.{is_shown}
 use Rattle.table_versions.proofs.NodesShown.{parts_of}
 use Rattle.table_versions.proofs.RecordConflicts.{skipped_newest, up_to}
 use Rattle.table_versions.proofs.ShownEntries.{rule_number}
 use Rattle.table_versions.proofs.StoredConflicts.{in_store, newest_rows}
+use Rattle.long_value.specs.Values.{Values}
 
 -- ---- where the walk stands
 
@@ -93,23 +94,23 @@ pub none_here : {A : Type 0} (o : Option A) → is_some o ≡ false → o ≡ No
 none_here None e = refl
 none_here (Some x) e = absurd (true≢false e)
 
-abbrev key_before : IndexRule → Schema → List ℕ → ℕ → List ℕ → List HeldChange → Bool
-key_before rule schema key table bookmark held = list_any (λ change. is_standing_rewrite table bookmark change && yields_key rule schema key change.before) (map held_record held)
+abbrev key_before : TableValues → IndexRule → Schema → List ℕ → ℕ → List ℕ → List HeldChange → Bool
+key_before longs rule schema key table bookmark held = list_any (λ change. is_standing_rewrite table bookmark change && yields_key rule schema key change.before) (map (held_record_in longs) held)
 
-no_key_before : (rule : IndexRule) (schema : Schema) (key : List ℕ) (table : ℕ) (bookmark : List ℕ) (held : List HeldChange) → last_place (is_record table bookmark) held ≡ None → key_before rule schema key table bookmark held ≡ false
-no_key_before rule schema key table bookmark held none =
-    ap (λ (o : Option ℕ). key_before rule schema key table bookmark (drop (up_to o) held)) (sym none)
-    ∙ skipped_newest (is_record table bookmark) (key_before rule schema key table bookmark)
-    (λ h rest other. ap (λ b. ((b && is_rewrite h.kind && not (is_undone h.status)) && yields_key rule schema key (held_record h).before) || key_before rule schema key table bookmark rest) other) held
+no_key_before : (longs : TableValues) (rule : IndexRule) (schema : Schema) (key : List ℕ) (table : ℕ) (bookmark : List ℕ) (held : List HeldChange) → last_place (is_record table bookmark) held ≡ None → key_before longs rule schema key table bookmark held ≡ false
+no_key_before longs rule schema key table bookmark held none =
+    ap (λ (o : Option ℕ). key_before longs rule schema key table bookmark (drop (up_to o) held)) (sym none)
+    ∙ skipped_newest (is_record table bookmark) (key_before longs rule schema key table bookmark)
+    (λ h rest other. ap (λ b. ((b && is_rewrite h.kind && not (is_undone h.status)) && yields_key rule schema key (held_record_in longs h).before) || key_before longs rule schema key table bookmark rest) other) held
 
-abbrev seen_of : Reader → Option RecordFields → ℕ → List ℕ → List HeldChange → Option RecordFields
-seen_of reader newest table bookmark held = seen_record table bookmark reader newest (map held_record held)
+abbrev seen_of : TableValues → Reader → Option RecordFields → ℕ → List ℕ → List HeldChange → Option RecordFields
+seen_of longs reader newest table bookmark held = seen_record table bookmark reader newest (map (held_record_in longs) held)
 
-newest_is_seen : (reader : Reader) (newest : Option RecordFields) (table : ℕ) (bookmark : List ℕ) (held : List HeldChange) → last_place (is_record table bookmark) held ≡ None → seen_of reader newest table bookmark held ≡ newest
-newest_is_seen reader newest table bookmark held none =
-    ap (λ (o : Option ℕ). seen_of reader newest table bookmark (drop (up_to o) held)) (sym none)
-    ∙ skipped_newest (is_record table bookmark) (seen_of reader newest table bookmark)
-    (λ h rest other. ap (λ b. before_or newest (cond (b && is_rewrite h.kind && is_unseen reader (held_record h)) (Some (held_record h)) (find (hides table bookmark reader) (map held_record rest)))) other) held
+newest_is_seen : (longs : TableValues) (reader : Reader) (newest : Option RecordFields) (table : ℕ) (bookmark : List ℕ) (held : List HeldChange) → last_place (is_record table bookmark) held ≡ None → seen_of longs reader newest table bookmark held ≡ newest
+newest_is_seen longs reader newest table bookmark held none =
+    ap (λ (o : Option ℕ). seen_of longs reader newest table bookmark (drop (up_to o) held)) (sym none)
+    ∙ skipped_newest (is_record table bookmark) (seen_of longs reader newest table bookmark)
+    (λ h rest other. ap (λ b. before_or newest (cond (b && is_rewrite h.kind && is_unseen reader (held_record_in longs h)) (Some (held_record_in longs h)) (find (hides table bookmark reader) (map (held_record_in longs) rest)))) other) held
 
 secondary_found : (o : Option IndexRule) (rule : IndexRule) → only_secondary o ≡ Some rule → o ≡ Some rule
 secondary_found None rule e = e
@@ -120,40 +121,40 @@ secondary_found (Some r) rule e = by r.flags.primary e
     by false e = e
 
 -- each entry of it is one of the record that every reader sees
-pub untouched_is_shown : (reader : Reader) (key bookmark : List ℕ) (index : ℕ) (catalog : CatalogState) (trees : List StoredTable) (held : List HeldChange) → AreKept catalog.tables trees held → (now : StoredVersions) → stored_versions catalog trees held ≡ now
+pub untouched_is_shown : (reader : Reader) (key bookmark : List ℕ) (index : ℕ) (latest : ℕ) (catalog : CatalogState) (trees : List StoredTable) (held : List HeldChange) → AreKept catalog.tables trees held → (now : StoredVersions) → stored_versions latest catalog trees held ≡ now
     → (table : ℕ) (schema : Schema) → IsSomeAnd (table_with_id now.store.tables table) (λ t. schema ≡ schema_of t) → (rule : IndexRule) → only_secondary (rule_with_id schema index) ≡ Some rule
     → has_entry key bookmark (index_entries trees table rule.id.0) ≡ true → last_place (is_record table bookmark) held ≡ None → is_shown reader now.store table schema (Some rule) (key, bookmark) ≡ true
-untouched_is_shown reader key bookmark index catalog trees held kept now shows table schema known rule found =
-    in_store P catalog trees held kept each now shows table schema known rule found
+untouched_is_shown reader key bookmark index latest catalog trees held kept now shows table schema known rule found =
+    in_store P latest catalog trees held kept each now shows table schema known rule found
   where
     P : StoredVersions → ℕ → Schema → Type 0
     P v n s =
         (rule : IndexRule) → only_secondary (rule_with_id s index) ≡ Some rule → has_entry key bookmark (index_entries trees n rule.id.0) ≡ true → last_place (is_record n bookmark) held ≡ None
         → is_shown reader v.store n s (Some rule) (key, bookmark) ≡ true
 
-    each : (t : Table) → table_with_id catalog.tables t.id ≡ Some t → IsKeptTable trees (table_nodes trees t.id) (map held_record held) t → P (stored_versions catalog trees held) t.id (schema_of t)
+    each : (t : Table) → table_with_id catalog.tables t.id ≡ Some t → IsKeptTable trees (table_long_values trees t.id) (table_nodes trees t.id) (map (held_record_in (table_long_values trees)) held) t → P (stored_versions latest catalog trees held) t.id (schema_of t)
     each t named is rule e there none =
-        ap (yields_key rule (schema_of t) key) (newest_is_seen reader newest t.id bookmark held none ∙ newest_rows catalog.tables trees t named bookmark)
-        ∙ alone (yields_key rule (schema_of t) key own) (no_key_before rule (schema_of t) key t.id bookmark held none) (sym (holds key bookmark) ∙ there)
+        ap (yields_key rule (schema_of t) key) (newest_is_seen (table_long_values trees) reader newest t.id bookmark held none ∙ newest_rows (table_long_values trees) catalog.tables trees t named bookmark)
+        ∙ alone (yields_key rule (schema_of t) key own) (no_key_before (table_long_values trees) rule (schema_of t) key t.id bookmark held none) (sym (holds key bookmark) ∙ there)
       where
         newest : Option RecordFields
-        newest = record_in (stored_versions catalog trees held).store.tables t.id bookmark
+        newest = record_in (stored_versions latest catalog trees held).store.tables t.id bookmark
 
         own : Option RecordFields
-        own = row_at (rows_of_nodes (table_nodes trees t.id)) bookmark
+        own = row_at (rows_of_nodes (table_long_values trees t.id) (table_nodes trees t.id)) bookmark
 
         H : Option IndexRule → Type 0
-        H o = IfSome o (λ r. HoldsVariants (rows_of_nodes (table_nodes trees t.id)) (map held_record held) r (schema_of t) t.id (index_entries trees t.id index))
+        H o = IfSome o (λ r. HoldsVariants (rows_of_nodes (table_long_values trees t.id) (table_nodes trees t.id)) (map (held_record_in (table_long_values trees)) held) r (schema_of t) t.id (index_entries trees t.id index))
 
         numbered : rule.id.0 ≡ index
         numbered = rule_number index (schema_of t).indexes rule (secondary_found (rule_with_id (schema_of t) index) rule e)
 
         N : ℕ → Type 0
-        N n = HoldsVariants (rows_of_nodes (table_nodes trees t.id)) (map held_record held) rule (schema_of t) t.id (index_entries trees t.id n)
+        N n = HoldsVariants (rows_of_nodes (table_long_values trees t.id) (table_nodes trees t.id)) (map (held_record_in (table_long_values trees)) held) rule (schema_of t) t.id (index_entries trees t.id n)
 
         holds : N rule.id.0
         holds = subst N (sym numbered) (subst H e (is.entries index))
 
-        alone : (b : Bool) → key_before rule (schema_of t) key t.id bookmark held ≡ false → (b || key_before rule (schema_of t) key t.id bookmark held) ≡ true → b ≡ true
+        alone : (b : Bool) → key_before (table_long_values trees) rule (schema_of t) key t.id bookmark held ≡ false → (b || key_before (table_long_values trees) rule (schema_of t) key t.id bookmark held) ≡ true → b ≡ true
         alone true none e = refl
         alone false none e = sym none ∙ e

@@ -22,23 +22,24 @@ use Rattle.jet_catalog.specs.Catalog.{CatalogState}
 use Rattle.page_image.specs.Page.{Node}
 use Rattle.record_changes.proofs.Tests.{and_left, and_right, impossible, same_bytes, same_number}
 use Rattle.table_trees.specs.StoredNodes.{IsShortNode, bookmark_entries}
-use Rattle.table_trees.specs.StoredTables.{StoredTable, table_nodes}
+use Rattle.table_trees.specs.StoredTables.{table_long_values, StoredTable, table_nodes}
 use Rattle.version_store.specs.declared.calls.Reader.{Reader}
 use Rattle.version_store.specs.HeldChanges.{HeldChange, SeenRow, current, row_before, absent, hides, is_record, is_rewrite, seen_at, seen_before, seen_row}
 use Rattle.versioned_tables.specs.HeldRecords.{HeldRecord, seen_record}
 use Rattle.versioned_tables.specs.VersionedTables.{VersionedTables, seen_rows, seen_table}
 use Rattle.versioned_tables.specs.Variants.{has_variant}
 use Rattle.versioned_tables.specs.Holding.{RowsRise}
-use Rattle.stored_variants.specs.RecordRows.{held_record, record_of, row_under, rows_of_nodes}
+use Rattle.stored_variants.specs.RecordRows.{TableValues, held_record_in, record_of, row_under, rows_of_nodes}
 use Rattle.stored_variants.specs.StoredVersions.{StoredVersions, entries_in, seen_entries}
-use Rattle.stored_variants.specs.VersionsView.{stored_versions, with_newest}
-use Rattle.stored_variants.specs.VersionsKept.{AreKept, IsKeptChange, IsKeptTable, IsRowUnder, only_secondary}
+use Rattle.stored_variants.specs.VersionsView.{with_newest, stored_versions, with_newest_by}
+use Rattle.stored_variants.specs.VersionsKept.{AreKept, AreKeptWith, IsKeptChange, IsKeptTable, IsRowUnder, only_secondary}
 use Rattle.stored_variants.proofs.NodeRecords.{record_at, turned}
 use Rattle.table_versions.proofs.OwnOrder.{order_is, seen_is_variant, seen_rise}
 use Rattle.stored_variants.proofs.RisingRows.{rows_rise}
-use Rattle.table_versions.proofs.SeenRecords.{record_seen, seen_is}
+use Rattle.table_versions.proofs.SeenRecords.{hidden_of, hidden_stands, record_seen, seen_is}
 use Rattle.versioned_tables.proofs.SeenTables.{seen_at_id}
 use Rattle.stored_variants.proofs.Tables.{found_number, table_at}
+use Rattle.long_value.specs.Values.{Values}
 
 -- ---- the entries of the records that a reader sees
 
@@ -57,19 +58,19 @@ seen_entries_are reader store table schema known index =
         ap (λ (n : ℕ). index_entries (schema_of t) (seen_rows n reader store.held t.rows) index) (found_number table store.tables t e)
         ∙ ap (λ (s : Schema). index_entries s (seen_rows table reader store.held t.rows) index) (sym is)
 
-stored_rise : (tables : List Table) (trees : List StoredTable) → ((table : ℕ) → are_sorted (bookmark_entries (table_nodes trees table)) ≡ true) → (table : ℕ) → RowsRise (rows_of (table_with_id (map (with_newest trees) tables) table))
-stored_rise tables trees sorted table = subst (λ (o : Option Table). RowsRise (rows_of o)) (sym (table_at trees tables table)) (by (table_with_id tables table))
+stored_rise : (longs : TableValues) (tables : List Table) (trees : List StoredTable) → ((table : ℕ) → are_sorted (bookmark_entries (table_nodes trees table)) ≡ true) → (table : ℕ) → RowsRise (rows_of (table_with_id (map (with_newest_by longs trees) tables) table))
+stored_rise longs tables trees sorted table = subst (λ (o : Option Table). RowsRise (rows_of o)) (sym (table_at longs trees tables table)) (by (table_with_id tables table))
   where
-    by : (o : Option Table) → RowsRise (rows_of (option_map (with_newest trees) o))
+    by : (o : Option Table) → RowsRise (rows_of (option_map (with_newest_by longs trees) o))
     by None = tt
-    by (Some t) = rows_rise (table_nodes trees t.id) (sorted t.id)
+    by (Some t) = rows_rise (longs t.id) (table_nodes trees t.id) (sorted t.id)
 
-pub seen_in_order : (catalog : CatalogState) (trees : List StoredTable) (held : List HeldChange) → ((table : ℕ) → are_sorted (bookmark_entries (table_nodes trees table)) ≡ true)
-    → (now : StoredVersions) → stored_versions catalog trees held ≡ now → (reader : Reader) (table : ℕ) → are_sorted (own_order (rows_seen reader now.store table)) ≡ true
-seen_in_order catalog trees held sorted now shows reader table =
+pub seen_in_order : (latest : ℕ) (catalog : CatalogState) (trees : List StoredTable) (held : List HeldChange) → ((table : ℕ) → are_sorted (bookmark_entries (table_nodes trees table)) ≡ true)
+    → (now : StoredVersions) → stored_versions latest catalog trees held ≡ now → (reader : Reader) (table : ℕ) → are_sorted (own_order (rows_seen reader now.store table)) ≡ true
+seen_in_order latest catalog trees held sorted now shows reader table =
     subst (λ (v : StoredVersions). are_sorted (own_order (rows_seen reader v.store table)) ≡ true) shows
-    (order_is (rows_seen reader (stored_versions catalog trees held).store table)
-    (seen_rise table reader (map held_record held) (rows_of (table_with_id (map (with_newest trees) catalog.tables) table)) (stored_rise catalog.tables trees sorted table)))
+    (order_is (rows_seen reader (stored_versions latest catalog trees held).store table)
+    (seen_rise table reader (map (held_record_in (table_long_values trees)) held) (rows_of (table_with_id (map (with_newest trees) catalog.tables) table)) (stored_rise (table_long_values trees) catalog.tables trees sorted table)))
 
 -- ---- the least of a record
 
@@ -140,13 +141,13 @@ least_in_index laws schema rows index bookmark sorted found e rule is =
 abbrev pub ShowsSeen : Type 0
 ShowsSeen = (table : ℕ) (reader : Reader) (held : List HeldRecord) (rows : Rows) (bookmark : List ℕ) → row_at (seen_rows table reader held rows) bookmark ≡ seen_record table bookmark reader (row_at rows bookmark) held
 
-pub least_seen : LeastLaws → ShowsSeen → (catalog : CatalogState) (trees : List StoredTable) (held : List HeldChange) → ((table : ℕ) → are_sorted (bookmark_entries (table_nodes trees table)) ≡ true)
-    → (now : StoredVersions) → stored_versions catalog trees held ≡ now → (reader : Reader) (table : ℕ) (schema : Schema) → IsSomeAnd (table_with_id now.store.tables table) (λ t. schema ≡ schema_of t) → (index : ℕ) (bookmark : List ℕ)
+pub least_seen : LeastLaws → ShowsSeen → (latest : ℕ) (catalog : CatalogState) (trees : List StoredTable) (held : List HeldChange) → ((table : ℕ) → are_sorted (bookmark_entries (table_nodes trees table)) ≡ true)
+    → (now : StoredVersions) → stored_versions latest catalog trees held ≡ now → (reader : Reader) (table : ℕ) (schema : Schema) → IsSomeAnd (table_with_id now.store.tables table) (λ t. schema ≡ schema_of t) → (index : ℕ) (bookmark : List ℕ)
     → (found : Option RecordFields) → found ≡ seen_record table bookmark reader (record_in now.store.tables table bookmark) now.store.held → (rule : Option IndexRule) → rule ≡ only_secondary (rule_with_id schema index)
     → least_entry_of bookmark (seen_entries reader now.store table index) ≡ least_by bookmark schema rule found
-least_seen laws shows_seen catalog trees held sorted now shows reader table schema known index bookmark found is rule secondary =
+least_seen laws shows_seen latest catalog trees held sorted now shows reader table schema known index bookmark found is rule secondary =
     ap (least_entry_of bookmark) (seen_entries_are reader now.store table schema known index)
-    ∙ least_in_index laws schema (rows_seen reader now.store table) index bookmark (seen_in_order catalog trees held sorted now shows reader table) found
+    ∙ least_in_index laws schema (rows_seen reader now.store table) index bookmark (seen_in_order latest catalog trees held sorted now shows reader table) found
     (shows_seen table reader now.store.held (rows_of (table_with_id now.store.tables table)) bookmark ∙ sym is) rule secondary
 
 -- ---- a record that is seen has a short bookmark
@@ -165,82 +166,81 @@ short_node bookmark (n ∷ nodes) short there =
 
 -- ---- a record that is seen is refused by no index
 
-abbrev IsIndexed : Option Table → List ℕ → Type 0
-IsIndexed found row = IfSome found (λ t. is_indexable (schema_of t) (record_of row) ≡ true)
+abbrev IsIndexed : Values → Option Table → List ℕ → Type 0
+IsIndexed vals found row = IfSome found (λ t. is_indexable (schema_of t) (record_of vals row) ≡ true)
 
-abbrev IsSeenIndexed : Option Table → SeenRow → Type 0
-IsSeenIndexed found current = Unit {0}
-IsSeenIndexed found (row_before row) = IsIndexed found row
-IsSeenIndexed found absent = Unit {0}
+abbrev IsSeenIndexed : Values → Option Table → SeenRow → Type 0
+IsSeenIndexed vals found current = Unit {0}
+IsSeenIndexed vals found (row_before row) = IsIndexed vals found row
+IsSeenIndexed vals found absent = Unit {0}
 
-before_indexed : (found : Option Table) (bookmark : List ℕ) (row : Option (List ℕ)) → IfSome found (λ table. IfSome row (IsRowUnder table bookmark)) → IsSeenIndexed found (seen_before row)
-before_indexed None bookmark None is = tt
-before_indexed None bookmark (Some row) is = tt
-before_indexed (Some t) bookmark None is = tt
-before_indexed (Some t) bookmark (Some row) is = is.indexable
+before_indexed : (vals : Values) (found : Option Table) (bookmark : List ℕ) (row : Option (List ℕ)) → IfSome found (λ table. IfSome row (IsRowUnder vals table bookmark)) → IsSeenIndexed vals found (seen_before row)
+before_indexed vals None bookmark None is = tt
+before_indexed vals None bookmark (Some row) is = tt
+before_indexed vals (Some t) bookmark None is = tt
+before_indexed vals (Some t) bookmark (Some row) is = is.indexable
 
-seen_indexed : (tables : List Table) (trees : List StoredTable) (table : ℕ) (bookmark : List ℕ) (reader : Reader) (held : List HeldChange) → AllByRecursion (IsKeptChange tables trees) held → IsSeenIndexed (table_with_id tables table) (seen_row table bookmark reader held)
-seen_indexed tables trees table bookmark reader [] kept = tt
-seen_indexed tables trees table bookmark reader (h ∷ held) kept = by (hides table bookmark reader h) refl (seen_indexed tables trees table bookmark reader held kept.1)
+seen_indexed : (longs : TableValues) (tables : List Table) (trees : List StoredTable) (table : ℕ) (bookmark : List ℕ) (reader : Reader) (held : List HeldChange) → AllByRecursion (IsKeptChange longs tables trees) held → IsSeenIndexed (longs table) (table_with_id tables table) (seen_row table bookmark reader held)
+seen_indexed longs tables trees table bookmark reader [] kept = tt
+seen_indexed longs tables trees table bookmark reader (h ∷ held) kept = by (hides table bookmark reader h) refl (seen_indexed longs tables trees table bookmark reader held kept.1)
   where
-    by : (b : Bool) → hides table bookmark reader h ≡ b → IsSeenIndexed (table_with_id tables table) (seen_row table bookmark reader held) → IsSeenIndexed (table_with_id tables table) (seen_at (cond b (Some h) (find (hides table bookmark reader) held)))
+    by : (b : Bool) → hides table bookmark reader h ≡ b → IsSeenIndexed (longs table) (table_with_id tables table) (seen_row table bookmark reader held) → IsSeenIndexed (longs table) (table_with_id tables table) (seen_at (cond b (Some h) (find (hides table bookmark reader) held)))
     by true hit rest =
-        let own : h.table ≡ table = same_number h.table table (and_left (h.table == table) (bytes_eq h.bookmark bookmark) (and_left (is_record table bookmark h) (is_rewrite h.kind) (and_left (is_record table bookmark h && is_rewrite h.kind) _ hit))) in
-        subst (λ (n : ℕ). IsSeenIndexed (table_with_id tables n) (seen_before h.before)) own
-        (before_indexed (table_with_id tables h.table) h.bookmark h.before (kept.0.before (and_right (is_record table bookmark h) (is_rewrite h.kind) (and_left (is_record table bookmark h && is_rewrite h.kind) _ hit))))
+        subst (λ (n : ℕ). IsSeenIndexed (longs n) (table_with_id tables n) (seen_before h.before)) (hidden_of table bookmark reader h hit)
+        (before_indexed (longs h.table) (table_with_id tables h.table) h.bookmark h.before (kept.0.before (hidden_stands table bookmark reader h hit)))
     by false miss rest = rest
 
 -- the newest record, or the one before a change, is one of the table
-record_indexed : (t : Table) (newest : Option RecordFields) (seen : SeenRow) (values : RecordFields) → IfSome newest (λ v. is_indexable (schema_of t) v ≡ true) → IsSeenIndexed (Some t) seen → record_seen newest seen ≡ Some values → is_indexable (schema_of t) values ≡ true
-record_indexed t newest current values own before e = subst (λ (o : Option RecordFields). IfSome o (λ v. is_indexable (schema_of t) v ≡ true)) e own
-record_indexed t newest (row_before row) values own before e = subst (λ (o : Option RecordFields). IfSome o (λ v. is_indexable (schema_of t) v ≡ true)) e before
-record_indexed t newest absent values own before e = impossible (ap (λ (o : Option RecordFields). is_some o) e)
+record_indexed : (vals : Values) (t : Table) (newest : Option RecordFields) (seen : SeenRow) (values : RecordFields) → IfSome newest (λ v. is_indexable (schema_of t) v ≡ true) → IsSeenIndexed vals (Some t) seen → record_seen vals newest seen ≡ Some values → is_indexable (schema_of t) values ≡ true
+record_indexed vals t newest current values own before e = subst (λ (o : Option RecordFields). IfSome o (λ v. is_indexable (schema_of t) v ≡ true)) e own
+record_indexed vals t newest (row_before row) values own before e = subst (λ (o : Option RecordFields). IfSome o (λ v. is_indexable (schema_of t) v ≡ true)) e before
+record_indexed vals t newest absent values own before e = impossible (ap (λ (o : Option RecordFields). is_some o) e)
 
-newest_indexed : (t : Table) (bookmark : List ℕ) (row : Option (List ℕ)) → IfSome row (IsRowUnder t bookmark) → IfSome (option_map record_of row) (λ v. is_indexable (schema_of t) v ≡ true)
-newest_indexed t bookmark None is = tt
-newest_indexed t bookmark (Some row) is = is.indexable
+newest_indexed : (vals : Values) (t : Table) (bookmark : List ℕ) (row : Option (List ℕ)) → IfSome row (IsRowUnder vals t bookmark) → IfSome (option_map (record_of vals) row) (λ v. is_indexable (schema_of t) v ≡ true)
+newest_indexed vals t bookmark None is = tt
+newest_indexed vals t bookmark (Some row) is = is.indexable
 
 -- what is known of a record that a reader sees
 pub record IsSeen (schema : Schema) (bookmark : List ℕ) (values : RecordFields) : Type 0 where
   pub short : length bookmark ≤ 255
   pub indexable : is_indexable schema values ≡ true
 
-seen_of_table : (tables : List Table) (trees : List StoredTable) (held : List HeldChange) → AreKept tables trees held → ((table : ℕ) → are_sorted (bookmark_entries (table_nodes trees table)) ≡ true) → ((table : ℕ) → All IsShortNode (table_nodes trees table))
-    → (reader : Reader) (table : ℕ) (schema : Schema) (bookmark : List ℕ) (values : RecordFields) → IsSomeAnd (table_with_id (map (with_newest trees) tables) table) (λ t. schema ≡ schema_of t)
-    → seen_record table bookmark reader (record_in (map (with_newest trees) tables) table bookmark) (map held_record held) ≡ Some values → IsSeen schema bookmark values
-seen_of_table tables trees held kept sorted short reader table schema bookmark values known seen =
-    by (table_with_id tables table) refl (kept.each table) (subst (λ (o : Option Table). IsSomeAnd o (λ t. schema ≡ schema_of t)) (table_at trees tables table) known)
+seen_of_table : (longs : TableValues) (tables : List Table) (trees : List StoredTable) (held : List HeldChange) → AreKeptWith longs tables trees held → ((table : ℕ) → are_sorted (bookmark_entries (table_nodes trees table)) ≡ true) → ((table : ℕ) → All IsShortNode (table_nodes trees table))
+    → (reader : Reader) (table : ℕ) (schema : Schema) (bookmark : List ℕ) (values : RecordFields) → IsSomeAnd (table_with_id (map (with_newest_by longs trees) tables) table) (λ t. schema ≡ schema_of t)
+    → seen_record table bookmark reader (record_in (map (with_newest_by longs trees) tables) table bookmark) (map (held_record_in longs) held) ≡ Some values → IsSeen schema bookmark values
+seen_of_table longs tables trees held kept sorted short reader table schema bookmark values known seen =
+    by (table_with_id tables table) refl (kept.each table) (subst (λ (o : Option Table). IsSomeAnd o (λ t. schema ≡ schema_of t)) (table_at longs trees tables table) known)
   where
     nodes : List Node
     nodes = table_nodes trees table
 
-    by : (o : Option Table) → table_with_id tables table ≡ o → IfSome o (IsKeptTable trees nodes (map held_record held)) → IsSomeAnd (option_map (with_newest trees) o) (λ t. schema ≡ schema_of t) → IsSeen schema bookmark values
+    by : (o : Option Table) → table_with_id tables table ≡ o → IfSome o (IsKeptTable trees (longs table) nodes (map (held_record_in longs) held)) → IsSomeAnd (option_map (with_newest_by longs trees) o) (λ t. schema ≡ schema_of t) → IsSeen schema bookmark values
     by None e own is = absurd is
     by (Some t) e own is =
         let number : t.id ≡ table = found_number table tables t e in
-        let newest : record_in (map (with_newest trees) tables) table bookmark ≡ row_at (rows_of_nodes nodes) bookmark =
-        ap (λ (o : Option Table). row_at (rows_of o) bookmark) (table_at trees tables table ∙ ap (option_map (with_newest trees)) e) ∙ ap (λ (n : ℕ). row_at (rows_of_nodes (table_nodes trees n)) bookmark) number in
-        let shown : seen_record table bookmark reader (row_at (rows_of_nodes nodes) bookmark) (map held_record held) ≡ Some values =
-        ap (λ (o : Option RecordFields). seen_record table bookmark reader o (map held_record held)) (sym newest) ∙ seen in
-        let variant = seen_is_variant reader table bookmark (row_at (rows_of_nodes nodes) bookmark) (map held_record held) (ap (λ (o : Option RecordFields). is_some o) shown) in
+        let newest : record_in (map (with_newest_by longs trees) tables) table bookmark ≡ row_at (rows_of_nodes (longs table) nodes) bookmark =
+        ap (λ (o : Option Table). row_at (rows_of o) bookmark) (table_at longs trees tables table ∙ ap (option_map (with_newest_by longs trees)) e) ∙ ap (λ (n : ℕ). row_at (rows_of_nodes (longs n) (table_nodes trees n)) bookmark) number in
+        let shown : seen_record table bookmark reader (row_at (rows_of_nodes (longs table) nodes) bookmark) (map (held_record_in longs) held) ≡ Some values =
+        ap (λ (o : Option RecordFields). seen_record table bookmark reader o (map (held_record_in longs) held)) (sym newest) ∙ seen in
+        let variant = seen_is_variant reader table bookmark (row_at (rows_of_nodes (longs table) nodes) bookmark) (map (held_record_in longs) held) (ap (λ (o : Option RecordFields). is_some o) shown) in
         let stands : is_some (get_in nodes bookmark) ≡ true =
-        own.stands bookmark ∙ ap (λ (n : ℕ). has_variant (row_at (rows_of_nodes nodes) bookmark) (map held_record held) n bookmark) number ∙ variant in
+        own.stands bookmark ∙ ap (λ (n : ℕ). has_variant (row_at (rows_of_nodes (longs table) nodes) bookmark) (map (held_record_in longs) held) n bookmark) number ∙ variant in
         record {
           short = short_node bookmark nodes (short table) stands;
           indexable =
               ap (λ (s : Schema). is_indexable s values) is
-              ∙ record_indexed t (row_at (rows_of_nodes nodes) bookmark) (seen_row table bookmark reader held) values
-              (subst (λ (o : Option RecordFields). IfSome o (λ v. is_indexable (schema_of t) v ≡ true)) (sym (record_at nodes (sorted table) bookmark)) (newest_indexed t bookmark (row_under nodes bookmark) (own.rows bookmark)))
-              (subst (λ (o : Option Table). IsSeenIndexed o (seen_row table bookmark reader held)) e (seen_indexed tables trees table bookmark reader held kept.changes))
-              (sym (seen_is table bookmark reader (row_at (rows_of_nodes nodes) bookmark) held) ∙ shown);
+              ∙ record_indexed (longs table) t (row_at (rows_of_nodes (longs table) nodes) bookmark) (seen_row table bookmark reader held) values
+              (subst (λ (o : Option RecordFields). IfSome o (λ v. is_indexable (schema_of t) v ≡ true)) (sym (record_at (longs table) nodes (sorted table) bookmark)) (newest_indexed (longs table) t bookmark (row_under nodes bookmark) (own.rows bookmark)))
+              (subst (λ (o : Option Table). IsSeenIndexed (longs table) o (seen_row table bookmark reader held)) e (seen_indexed longs tables trees table bookmark reader held kept.changes))
+              (sym (seen_is longs table bookmark reader (row_at (rows_of_nodes (longs table) nodes) bookmark) held) ∙ shown);
         }
 
-pub is_seen : (catalog : CatalogState) (trees : List StoredTable) (held : List HeldChange) → AreKept catalog.tables trees held → ((table : ℕ) → are_sorted (bookmark_entries (table_nodes trees table)) ≡ true) → ((table : ℕ) → All IsShortNode (table_nodes trees table))
-    → (now : StoredVersions) → stored_versions catalog trees held ≡ now → (reader : Reader) (table : ℕ) (schema : Schema) (bookmark : List ℕ) (values : RecordFields) → IsSomeAnd (table_with_id now.store.tables table) (λ t. schema ≡ schema_of t)
+pub is_seen : (latest : ℕ) (catalog : CatalogState) (trees : List StoredTable) (held : List HeldChange) → AreKept catalog.tables trees held → ((table : ℕ) → are_sorted (bookmark_entries (table_nodes trees table)) ≡ true) → ((table : ℕ) → All IsShortNode (table_nodes trees table))
+    → (now : StoredVersions) → stored_versions latest catalog trees held ≡ now → (reader : Reader) (table : ℕ) (schema : Schema) (bookmark : List ℕ) (values : RecordFields) → IsSomeAnd (table_with_id now.store.tables table) (λ t. schema ≡ schema_of t)
     → seen_record table bookmark reader (record_in now.store.tables table bookmark) now.store.held ≡ Some values → IsSeen schema bookmark values
-is_seen catalog trees held kept sorted short now shows reader table schema bookmark values =
+is_seen latest catalog trees held kept sorted short now shows reader table schema bookmark values =
     subst (λ (v : StoredVersions). IsSomeAnd (table_with_id v.store.tables table) (λ t. schema ≡ schema_of t) → seen_record table bookmark reader (record_in v.store.tables table bookmark) v.store.held ≡ Some values → IsSeen schema bookmark values) shows
-    (seen_of_table catalog.tables trees held kept sorted short reader table schema bookmark values)
+    (seen_of_table (table_long_values trees) catalog.tables trees held kept sorted short reader table schema bookmark values)
 
 -- a record that no index refuses has keys in each
 abbrev refusals_in : Schema → RecordFields → List IndexRule → Refusals

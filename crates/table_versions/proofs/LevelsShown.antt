@@ -4,15 +4,15 @@ use Rattle.std.specs.Prelude.{◌==◌, IsSomeAnd, slice_get}
 use Rattle.database_state.specs.State.{is_open}
 use Rattle.jet_catalog.specs.Catalog.{CatalogState}
 use Rattle.record_changes.proofs.Tests.{and_left, and_right}
-use Rattle.table_trees.specs.StoredTables.{StoredTable}
+use Rattle.table_trees.specs.StoredTables.{table_long_values, StoredTable}
 use Rattle.version_store.specs.Answers.{change_at}
 use Rattle.version_store.specs.HeldChanges.{HeldChange, is_open_at, last_place, undone_at}
 use Rattle.versioned_tables.specs.HeldRecords.{is_open_at as is_open_record}
 use Rattle.versioned_tables.specs.VersionedTables.{with_last_undone}
-use Rattle.stored_variants.specs.RecordRows.{held_record}
+use Rattle.stored_variants.specs.RecordRows.{held_record_in}
 use Rattle.stored_variants.specs.StoredVersions.{StoredVersions}
 use Rattle.variant_trees.specs.UndoneChanges.{IsBack}
-use Rattle.stored_variants.specs.VersionsView.{stored_versions, with_newest}
+use Rattle.stored_variants.specs.VersionsView.{with_newest, stored_versions, with_newest_by}
 use Rattle.table_versions.proofs.LastUndone.{any_last, last_back, last_changed, none_back, same_level}
 use Rattle.stored_variants.proofs.HeldPlaces.{StandsAt, last_stands, take_all, same_some}
 
@@ -32,27 +32,29 @@ nothing_undone [] = refl
 nothing_undone (h ∷ held) = refl
 
 -- the store after the newest open change of a level is undone
-pub last_shown : (session level : ℕ) (catalog : CatalogState) (old new : List StoredTable) (held now : List HeldChange) (place : ℕ) (h : HeldChange) (store : StoredVersions) → stored_versions catalog old held ≡ store → last_place (is_open_at session level) held ≡ Some place → slice_get held place ≡ Some h
-    → now ≡ undone_at (Some place) held → IsBack catalog.tables old new now h → stored_versions catalog new now ≡ record store { store = with_last_undone (is_open_record session level) store.store }
-last_shown session level catalog old new held now place h store shows last at after back =
+pub last_shown : (session level : ℕ) (latest : ℕ) (catalog : CatalogState) (old new : List StoredTable) (held now : List HeldChange) (place : ℕ) (h : HeldChange) (store : StoredVersions) → stored_versions latest catalog old held ≡ store → last_place (is_open_at session level) held ≡ Some place → slice_get held place ≡ Some h
+    → now ≡ undone_at (Some place) held → IsBack catalog.tables old new now h → stored_versions latest catalog new now ≡ record store { store = with_last_undone (is_open_record session level) store.store }
+last_shown session level latest catalog old new held now place h store shows last at after back =
     (λ i. record {
       greatest_table = catalog.greatest_table;
+      newest_put = latest;
       store = record {
-        tables = (back.shown ∙ sym (last_back (is_open_record session level) (is_open_at session level) (same_level session level) held place h last at (map (with_newest old) catalog.tables))) i;
-        held = (ap (λ (changes : List HeldChange). map held_record changes) (after ∙ ap (λ (o : Option ℕ). undone_at o held) (sym last)) ∙ last_changed (is_open_record session level) (is_open_at session level) (same_level session level) held) i;
+        tables = (back.shown ∙ sym (last_back (table_long_values old) (is_open_record session level) (is_open_at session level) (same_level (table_long_values old) session level) held place h last at (map (with_newest old) catalog.tables))) i;
+        held = (back.held ∙ ap (λ (changes : List HeldChange). map (held_record_in (table_long_values old)) changes) (after ∙ ap (λ (o : Option ℕ). undone_at o held) (sym last)) ∙ last_changed (table_long_values old) (is_open_record session level) (is_open_at session level) (same_level (table_long_values old) session level) held) i;
       };
     })
     ∙ ap (λ (v : StoredVersions). record v { store = with_last_undone (is_open_record session level) v.store }) shows
 
 -- and where there is none
-pub none_shown : (session level : ℕ) (catalog : CatalogState) (trees : List StoredTable) (held now : List HeldChange) (store : StoredVersions) → stored_versions catalog trees held ≡ store → last_place (is_open_at session level) held ≡ None
-    → now ≡ undone_at (last_place (is_open_at session level) held) held → stored_versions catalog trees now ≡ record store { store = with_last_undone (is_open_record session level) store.store }
-none_shown session level catalog trees held now store shows last after =
+pub none_shown : (session level : ℕ) (latest : ℕ) (catalog : CatalogState) (trees : List StoredTable) (held now : List HeldChange) (store : StoredVersions) → stored_versions latest catalog trees held ≡ store → last_place (is_open_at session level) held ≡ None
+    → now ≡ undone_at (last_place (is_open_at session level) held) held → stored_versions latest catalog trees now ≡ record store { store = with_last_undone (is_open_record session level) store.store }
+none_shown session level latest catalog trees held now store shows last after =
     (λ i. record {
       greatest_table = catalog.greatest_table;
+      newest_put = latest;
       store = record {
-        tables = sym (none_back (is_open_record session level) (map held_record held) (map (with_newest trees) catalog.tables) (any_last (is_open_record session level) (is_open_at session level) (same_level session level) held None last)) i;
-        held = (ap (λ (changes : List HeldChange). map held_record changes) after ∙ last_changed (is_open_record session level) (is_open_at session level) (same_level session level) held) i;
+        tables = sym (none_back (is_open_record session level) (map (held_record_in (table_long_values trees)) held) (map (with_newest trees) catalog.tables) (any_last (table_long_values trees) (is_open_record session level) (is_open_at session level) (same_level (table_long_values trees) session level) held None last)) i;
+        held = (ap (λ (changes : List HeldChange). map (held_record_in (table_long_values trees)) changes) after ∙ last_changed (table_long_values trees) (is_open_record session level) (is_open_at session level) (same_level (table_long_values trees) session level) held) i;
       };
     })
     ∙ ap (λ (v : StoredVersions). record v { store = with_last_undone (is_open_record session level) v.store }) shows

@@ -32,3 +32,6 @@ pub mod PutDone
 pub mod SumsHeld
 pub mod OldestHeld
 pub mod LevelsShown
+pub mod CountedRows
+pub mod CountedSteps
+pub mod ValuesTaken

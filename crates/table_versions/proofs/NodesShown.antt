@@ -11,19 +11,20 @@ use Rattle.jet_catalog.specs.Catalog.{CatalogState}
 use Rattle.page_image.specs.Page.{Node}
 use Rattle.record_changes.proofs.Tests.{impossible}
 use Rattle.table_trees.specs.StoredNodes.{bookmark_entries, node_after}
-use Rattle.table_trees.specs.StoredTables.{StoredTable, table_nodes}
+use Rattle.table_trees.specs.StoredTables.{table_long_values, StoredTable, table_nodes}
 use Rattle.version_store.specs.declared.calls.Reader.{Reader}
 use Rattle.version_store.specs.HeldChanges.{HeldChange, SeenRow, current, row_before, absent, seen_row}
 use Rattle.versioned_tables.specs.HeldRecords.{seen_record}
 use Rattle.stored_variants.specs.RecordRows.{record_of, row_in_node}
 use Rattle.stored_variants.specs.StoredVersions.{StoredVersions}
-use Rattle.stored_variants.specs.VersionsKept.{AreKept}
+use Rattle.stored_variants.specs.VersionsKept.{AreKept, AreKeptWith}
 use Rattle.stored_variants.specs.VersionsView.{stored_versions}
 use Rattle.table_versions.specs.Walks.{is_row_seen, is_seen}
 use Rattle.stored_variants.proofs.NodeWalks.{next_is_there, next_node}
 use Rattle.table_versions.proofs.SeenRecords.{record_seen, seen_is}
 use Rattle.stored_variants.proofs.Tables.{newest_at}
 use Rattle.versioned_tables.proofs.Neighbours.{fewer_left, left_from, shown_after, shown_from}
+use Rattle.long_value.specs.Values.{Values}
 
 -- the entry of a node that was found
 abbrev pub entry_at : Option Pair → Option Pair
@@ -72,11 +73,11 @@ pub fewer_from : NeighbourLaw → (nodes : List Node) (bookmark bytes : List ℕ
     → left_from (bookmark_entries nodes) (entry_at next) < left_from (bookmark_entries nodes) (entry_at (Some (bookmark, bytes)))
 fewer_from law nodes bookmark bytes next e = fewer_left (bookmark, bookmark) (entry_at next) (bookmark_entries nodes) (entry_next law (On bookmark bookmark) nodes next e)
 
-there_in : (newest : Option (List ℕ)) (seen : SeenRow) → is_some (record_seen (option_map record_of newest) seen) ≡ is_row_seen newest seen
-there_in None current = refl
-there_in (Some row) current = refl
-there_in newest (row_before row) = refl
-there_in newest absent = refl
+there_in : (vals : Values) (newest : Option (List ℕ)) (seen : SeenRow) → is_some (record_seen vals (option_map (record_of vals) newest) seen) ≡ is_row_seen newest seen
+there_in vals None current = refl
+there_in vals (Some row) current = refl
+there_in vals newest (row_before row) = refl
+there_in vals newest absent = refl
 
 -- its parts where it lies
 abbrev pub parts_of : Option (Bor (List ℕ) × Bor (List ℕ)) → Option Pair
@@ -91,17 +92,17 @@ none_copied None e = refl
 none_copied (Some x) e = impossible (sym e)
 
 -- whether a reader sees the record of a node is told by the node's bytes
-pub seen_in_place : (catalog : CatalogState) (trees : List StoredTable) (held : List HeldChange) → AreKept catalog.tables trees held → ((table : ℕ) → are_sorted (bookmark_entries (table_nodes trees table)) ≡ true)
-    → (now : StoredVersions) → stored_versions catalog trees held ≡ now → (id : ℕ) (reader : Reader) (bookmark bytes : List ℕ) → get_in (table_nodes trees id) bookmark ≡ Some bytes
+pub seen_in_place : (latest : ℕ) (catalog : CatalogState) (trees : List StoredTable) (held : List HeldChange) → AreKept catalog.tables trees held → ((table : ℕ) → are_sorted (bookmark_entries (table_nodes trees table)) ≡ true)
+    → (now : StoredVersions) → stored_versions latest catalog trees held ≡ now → (id : ℕ) (reader : Reader) (bookmark bytes : List ℕ) → get_in (table_nodes trees id) bookmark ≡ Some bytes
     → is_seen reader now.store id (bookmark, bookmark) ≡ is_row_seen (row_in_node bytes) (seen_row id bookmark reader held)
-seen_in_place catalog trees held kept sorted now shows id reader bookmark bytes here =
-    ap is_some (sym (ap (λ (v : StoredVersions). seen_record id bookmark reader newest v.store.held) shows) ∙ seen_is id bookmark reader newest held ∙ ap (λ (o : Option RecordFields). record_seen o (seen_row id bookmark reader held)) newest_is)
-    ∙ there_in (row_in_node bytes) (seen_row id bookmark reader held)
+seen_in_place latest catalog trees held kept sorted now shows id reader bookmark bytes here =
+    ap is_some (sym (ap (λ (v : StoredVersions). seen_record id bookmark reader newest v.store.held) shows) ∙ seen_is (table_long_values trees) id bookmark reader newest held ∙ ap (λ (o : Option RecordFields). record_seen (table_long_values trees id) o (seen_row id bookmark reader held)) newest_is)
+    ∙ there_in (table_long_values trees id) (row_in_node bytes) (seen_row id bookmark reader held)
   where
     newest : Option RecordFields
     newest = record_in now.store.tables id bookmark
 
-    newest_is : newest ≡ option_map record_of (row_in_node bytes)
+    newest_is : newest ≡ option_map (record_of (table_long_values trees id)) (row_in_node bytes)
     newest_is =
-        sym (ap (λ (v : StoredVersions). record_in v.store.tables id bookmark) shows) ∙ newest_at trees catalog.tables kept.numbers sorted id bookmark
-        ∙ ap (λ (o : Option (List ℕ)). option_map record_of (option_and_then row_in_node o)) here
+        sym (ap (λ (v : StoredVersions). record_in v.store.tables id bookmark) shows) ∙ newest_at (table_long_values trees) trees catalog.tables kept.numbers sorted id bookmark
+        ∙ ap (λ (o : Option (List ℕ)). option_map (record_of (table_long_values trees id)) (option_and_then row_in_node o)) here

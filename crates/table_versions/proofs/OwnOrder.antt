@@ -24,6 +24,7 @@ use Rattle.stored_variants.specs.RecordRows.{rows_of_nodes}
 use Rattle.stored_variants.proofs.NodeRecords.{turned}
 use Rattle.table_versions.proofs.SeenRecords.{unseen_stands}
 use Rattle.stored_variants.proofs.RisingRows.{rows_rise}
+use Rattle.long_value.specs.Values.{Values}
 
 -- ---- tests
 
@@ -195,13 +196,13 @@ pub record Laws : Type 0 where
   pub seen : (table : ℕ) (reader : Reader) (held : List HeldRecord) (rows : Rows) (bookmark : List ℕ) → row_at (seen_rows table reader held rows) bookmark ≡ seen_record table bookmark reader (row_at rows bookmark) held
 
 -- where nodes stand for the variants of records
-pub own_order_is : Laws → (table : ℕ) (reader : Reader) (held : List HeldRecord) (nodes : List Node) → are_sorted (bookmark_entries nodes) ≡ true
-    → ((bookmark : List ℕ) → is_some (get_in nodes bookmark) ≡ has_variant (row_at (rows_of_nodes nodes) bookmark) held table bookmark)
-    → own_order (seen_rows table reader held (rows_of_nodes nodes))
-    ≡ filter (λ entry. is_some (seen_record table entry.1 reader (row_at (rows_of_nodes nodes) entry.1) held)) (bookmark_entries nodes)
-own_order_is laws table reader held nodes sorted stands =
+pub own_order_is : (vals : Values) → Laws → (table : ℕ) (reader : Reader) (held : List HeldRecord) (nodes : List Node) → are_sorted (bookmark_entries nodes) ≡ true
+    → ((bookmark : List ℕ) → is_some (get_in nodes bookmark) ≡ has_variant (row_at (rows_of_nodes vals nodes) bookmark) held table bookmark)
+    → own_order (seen_rows table reader held (rows_of_nodes vals nodes))
+    ≡ filter (λ entry. is_some (seen_record table entry.1 reader (row_at (rows_of_nodes vals nodes) entry.1) held)) (bookmark_entries nodes)
+own_order_is vals laws table reader held nodes sorted stands =
     laws.same (own_order (seen_rows table reader held rows)) (filter (λ entry. f entry.1) (bookmark_entries nodes))
-    (order_is (seen_rows table reader held rows) (seen_rise table reader held rows (rows_rise nodes sorted)))
+    (order_is (seen_rows table reader held rows) (seen_rise table reader held rows (rows_rise vals nodes sorted)))
     (laws.some (λ entry. f entry.1) (bookmark_entries nodes) sorted)
     (λ key bookmark.
     there-rows key bookmark (seen_rows table reader held rows)
@@ -210,7 +211,7 @@ own_order_is laws table reader held nodes sorted stands =
     ∙ sym (there-nodes f key bookmark nodes))
   where
     rows : Rows
-    rows = rows_of_nodes nodes
+    rows = rows_of_nodes vals nodes
 
     f : List ℕ → Bool
     f bookmark = is_some (seen_record table bookmark reader (row_at rows bookmark) held)

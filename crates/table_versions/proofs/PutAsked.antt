@@ -19,18 +19,20 @@ use Rattle.page_image.specs.Page.{Node}
 use Rattle.record_changes.proofs.Tests.{and_left, and_right, impossible, same_number, self_equal}
 use Rattle.table_trees.specs.StoredNodes.{bookmark_entries}
 use Rattle.table_trees.specs.StoredTables.{StoredIndex, StoredTable, index_entries, is_table, table_indexes, table_nodes}
-use Rattle.version_store.specs.HeldChanges.{HeldChange, is_rewrite}
+use Rattle.version_store.specs.HeldChanges.{HeldChange, is_rewrite, is_standing}
 use Rattle.versioned_tables.specs.HeldRecords.{HeldRecord, is_change_at, is_standing_rewrite}
 use Rattle.versioned_tables.specs.Variants.{HoldsVariants, is_variant_key}
 use Rattle.stored_variants.specs.PutRecords.{HasKeysOf}
 use Rattle.variant_trees.specs.GoneKeys.{AreRows, held_from, index_numbers}
 use Rattle.variant_trees.specs.PutStages.{AreKeysOfRecords, CanTake, HasVariantKeys, IsKeyOfRecord}
-use Rattle.stored_variants.specs.RecordRows.{IsRecordRow, held_record, record_of, row_under, rows_of_nodes}
-use Rattle.stored_variants.specs.VersionsKept.{AreKept, IsKeptChange, IsKeptTable, IsRowOf, IsRowUnder, IsStoredRule, needed_trees, only_secondary, secondary_rule, secondary_rules, tree_numbers}
+use Rattle.stored_variants.specs.RecordRows.{TableValues, IsRecordRow, held_record_in, record_of, row_under, rows_of_nodes}
+use Rattle.stored_variants.specs.VersionsKept.{AreKeptWith, IsKeptChange, IsKeptTable, IsRowOf, IsRowUnder, IsStoredRule, needed_trees, only_secondary, secondary_rule, secondary_rules, tree_numbers}
 use Rattle.stored_variants.proofs.FoundRules.{list_any_numbers}
 use Rattle.versioned_tables.proofs.Lists.{all_append, all_filter}
 use Rattle.stored_variants.proofs.NodeRecords.{record_at}
+use Rattle.table_versions.proofs.SeenRecords.{before_is_row}
 use Rattle.stored_variants.proofs.Tables.{found_number}
+use Rattle.long_value.specs.Values.{Values}
 
 -- ---- indexes that take a record
 
@@ -136,19 +138,21 @@ have_trees t =
 abbrev FitsBefore : Table → HeldRecord → Type 0
 FitsBefore t change = (change.table == t.id) ≡ true → IfSome change.before (λ values. record_fits t.columns values ≡ true)
 
-before_fits : (tables : List Table) (trees : List StoredTable) (id : ℕ) (t : Table) → table_with_id tables id ≡ Some t → (held : List HeldChange) → AllByRecursion (IsKeptChange tables trees) held → AllByRecursion (FitsBefore t) (map held_record held)
-before_fits tables trees id t found [] kept = tt
-before_fits tables trees id t found (h ∷ held) kept =
-    (λ same. fits (is_rewrite h.kind && not (is_undone h.status)) h.before (row_is same), before_fits tables trees id t found held kept.1)
+before_fits : (longs : TableValues) (tables : List Table) (trees : List StoredTable) (id : ℕ) (t : Table) → table_with_id tables id ≡ Some t → (held : List HeldChange) → AllByRecursion (IsKeptChange longs tables trees) held → AllByRecursion (FitsBefore t) (map (held_record_in longs) held)
+before_fits longs tables trees id t found [] kept = tt
+before_fits longs tables trees id t found (h ∷ held) kept = (λ same. fits same (is_standing h) refl, before_fits longs tables trees id t found held kept.1)
   where
-    row_is : (h.table == t.id) ≡ true → IfSome h.before (IsRowOf t)
-    row_is same =
-        subst (λ (o : Option Table). IfSome o (λ table. IfSome h.before (IsRowOf table))) (ap (table_with_id tables) (same_number h.table t.id same ∙ found_number id tables t found) ∙ found) kept.0.row
+    under : (h.table == t.id) ≡ true → is_standing h ≡ true → IfSome h.before (IsRowUnder (longs h.table) t h.bookmark)
+    under same standing =
+        subst (λ (o : Option Table). IfSome o (λ table. IfSome h.before (IsRowUnder (longs h.table) table h.bookmark))) (ap (table_with_id tables) (same_number h.table t.id same ∙ found_number id tables t found) ∙ found) (kept.0.before standing)
 
-    fits : (b : Bool) (row : Option (List ℕ)) → IfSome row (IsRowOf t) → IfSome (cond b (option_map record_of row) None) (λ values. record_fits t.columns values ≡ true)
-    fits true None is = tt
-    fits true (Some row) is = is.columns
-    fits false row is = tt
+    fit : (row : Option (List ℕ)) → IfSome row (IsRowUnder (longs h.table) t h.bookmark) → IfSome (option_map (record_of (longs h.table)) row) (λ values. record_fits t.columns values ≡ true)
+    fit None is = tt
+    fit (Some row) is = is.fits.columns
+
+    fits : (h.table == t.id) ≡ true → (b : Bool) → is_standing h ≡ b → IfSome (cond b (option_map (record_of (longs h.table)) h.before) None) (λ values. record_fits t.columns values ≡ true)
+    fits same true standing = fit h.before (under same standing)
+    fits same false standing = tt
 
 key_of : (rule : IndexRule) (t : Table) (key : List ℕ) (o : Option RecordFields) → IfSome o (λ values. record_fits t.columns values ≡ true) → yields_key rule (schema_of t) key o ≡ true → IsKeyOfRecord rule (schema_of t) key
 key_of rule t key None fits e = impossible e
@@ -167,23 +171,23 @@ key_before rule t key own (c ∷ held) fits e = by (is_standing_rewrite t.id own
         (and_right (is_standing_rewrite t.id own c) _ h)
     by false h e rest = rest e
 
-newest_fits : (t : Table) (own : List ℕ) (row : Option (List ℕ)) → IfSome row (IsRowUnder t own) → IfSome (option_map record_of row) (λ values. record_fits t.columns values ≡ true)
-newest_fits t own None is = tt
-newest_fits t own (Some row) is = is.fits.columns
+newest_fits : (vals : Values) (t : Table) (own : List ℕ) (row : Option (List ℕ)) → IfSome row (IsRowUnder vals t own) → IfSome (option_map (record_of vals) row) (λ values. record_fits t.columns values ≡ true)
+newest_fits vals t own None is = tt
+newest_fits vals t own (Some row) is = is.fits.columns
 
-keys_are_of_records : (trees : List StoredTable) (t : Table) (held : List HeldRecord) → are_sorted (bookmark_entries (table_nodes trees t.id)) ≡ true → AllByRecursion (FitsBefore t) held → IsKeptTable trees (table_nodes trees t.id) held t
+keys_are_of_records : (longs : TableValues) (trees : List StoredTable) (t : Table) (held : List HeldRecord) → are_sorted (bookmark_entries (table_nodes trees t.id)) ≡ true → AllByRecursion (FitsBefore t) held → IsKeptTable trees (longs t.id) (table_nodes trees t.id) held t
     → (rule : IndexRule) (index : ℕ) → secondary_rule t index ≡ Some rule → AreKeysOfRecords rule (schema_of t) (index_entries trees t.id index)
-keys_are_of_records trees t held sorted fits kept rule index found key own there =
-    by (row_at (rows_of_nodes nodes) own) newest (yields_key rule (schema_of t) key (row_at (rows_of_nodes nodes) own)) refl (sym (holds key own) ∙ there)
+keys_are_of_records longs trees t held sorted fits kept rule index found key own there =
+    by (row_at (rows_of_nodes (longs t.id) nodes) own) newest (yields_key rule (schema_of t) key (row_at (rows_of_nodes (longs t.id) nodes) own)) refl (sym (holds key own) ∙ there)
   where
     nodes : List Node
     nodes = table_nodes trees t.id
 
-    holds : HoldsVariants (rows_of_nodes nodes) held rule (schema_of t) t.id (index_entries trees t.id index)
-    holds = subst (λ (o : Option IndexRule). IfSome o (λ rule. HoldsVariants (rows_of_nodes nodes) held rule (schema_of t) t.id (index_entries trees t.id index))) found (kept.entries index)
+    holds : HoldsVariants (rows_of_nodes (longs t.id) nodes) held rule (schema_of t) t.id (index_entries trees t.id index)
+    holds = subst (λ (o : Option IndexRule). IfSome o (λ rule. HoldsVariants (rows_of_nodes (longs t.id) nodes) held rule (schema_of t) t.id (index_entries trees t.id index))) found (kept.entries index)
 
-    newest : IfSome (row_at (rows_of_nodes nodes) own) (λ values. record_fits t.columns values ≡ true)
-    newest = subst (λ (o : Option RecordFields). IfSome o (λ values. record_fits t.columns values ≡ true)) (sym (record_at nodes sorted own)) (newest_fits t own (row_under nodes own) (kept.rows own))
+    newest : IfSome (row_at (rows_of_nodes (longs t.id) nodes) own) (λ values. record_fits t.columns values ≡ true)
+    newest = subst (λ (o : Option RecordFields). IfSome o (λ values. record_fits t.columns values ≡ true)) (sym (record_at (longs t.id) nodes sorted own)) (newest_fits (longs t.id) t own (row_under nodes own) (kept.rows own))
 
     by : (o : Option RecordFields) → IfSome o (λ values. record_fits t.columns values ≡ true) → (b : Bool) → yields_key rule (schema_of t) key o ≡ b → (b || list_any (λ (change : HeldRecord). is_standing_rewrite t.id own change && yields_key rule (schema_of t) key change.before) held) ≡ true
         → IsKeyOfRecord rule (schema_of t) key
@@ -192,47 +196,47 @@ keys_are_of_records trees t held sorted fits kept rule index found key own there
 
 -- ---- in a store
 
-can_take_all : (trees : List StoredTable) (t : Table) (held : List HeldRecord) (values : RecordFields) → are_sorted (bookmark_entries (table_nodes trees t.id)) ≡ true → AllByRecursion (FitsBefore t) held → IsKeptTable trees (table_nodes trees t.id) held t
+can_take_all : (longs : TableValues) (trees : List StoredTable) (t : Table) (held : List HeldRecord) (values : RecordFields) → are_sorted (bookmark_entries (table_nodes trees t.id)) ≡ true → AllByRecursion (FitsBefore t) held → IsKeptTable trees (longs t.id) (table_nodes trees t.id) held t
     → index_numbers trees t.id ≡ rule_numbers (secondary_rules t) → (rules : List IndexRule) → AllByRecursion (HasKeysOf (schema_of t) values) rules → AllByRecursion (HasTree (rule_numbers (secondary_rules t))) rules
     → AllByRecursion (CanTake (schema_of t) values t.id trees) rules
-can_take_all trees t held values sorted fits kept numbers [] has tree = tt
-can_take_all trees t held values sorted fits kept numbers (r ∷ rules) has tree = (
+can_take_all longs trees t held values sorted fits kept numbers [] has tree = tt
+can_take_all longs trees t held values sorted fits kept numbers (r ∷ rules) has tree = (
   record {
     keys = has.0;
     there = λ secondary. list_any_numbers r.id.0 (table_indexes trees t.id) ∙ ap (list_any (λ n. n == r.id.0)) numbers ∙ tree.0 secondary;
-    derived = λ secondary. keys_are_of_records trees t held sorted fits kept r r.id.0 (ap only_secondary has.0.found ∙ ap (λ b. cond b None (Some r)) secondary);
+    derived = λ secondary. keys_are_of_records longs trees t held sorted fits kept r r.id.0 (ap only_secondary has.0.found ∙ ap (λ b. cond b None (Some r)) secondary);
   },
-  can_take_all trees t held values sorted fits kept numbers rules has.1 tree.1,
+  can_take_all longs trees t held values sorted fits kept numbers rules has.1 tree.1,
 )
 
 abbrev pub AreSorted : List StoredTable → Type 0
 AreSorted trees = (table : ℕ) → are_sorted (bookmark_entries (table_nodes trees table)) ≡ true
 
-pub own_kept : (tables : List Table) (trees : List StoredTable) (held : List HeldChange) → AreKept tables trees held → (id : ℕ) (t : Table) → table_with_id tables id ≡ Some t → IsKeptTable trees (table_nodes trees id) (map held_record held) t
-own_kept tables trees held kept id t found = subst (λ (o : Option Table). IfSome o (IsKeptTable trees (table_nodes trees id) (map held_record held))) found (kept.each id)
+pub own_kept : (longs : TableValues) (tables : List Table) (trees : List StoredTable) (held : List HeldChange) → AreKeptWith longs tables trees held → (id : ℕ) (t : Table) → table_with_id tables id ≡ Some t → IsKeptTable trees (longs id) (table_nodes trees id) (map (held_record_in longs) held) t
+own_kept longs tables trees held kept id t found = subst (λ (o : Option Table). IfSome o (IsKeptTable trees (longs id) (table_nodes trees id) (map (held_record_in longs) held))) found (kept.each id)
 
 -- what a put asks, of the table of this number
-pub record PutAsks (tables : List Table) (trees : List StoredTable) (held : List HeldChange) (id : ℕ) (t : Table) (bookmark : List ℕ) (values : RecordFields) : Type 0 where
+pub record PutAsks (longs : TableValues) (tables : List Table) (trees : List StoredTable) (held : List HeldChange) (id : ℕ) (t : Table) (bookmark : List ℕ) (values : RecordFields) : Type 0 where
   pub rules : AllByRecursion (HasKeysOf (schema_of t) values) (schema_of t).indexes
   pub take : AllByRecursion (CanTake (schema_of t) values id trees) (schema_of t).indexes
-  pub keys : HasVariantKeys (option_map record_of (row_under (table_nodes trees id) bookmark)) (held_from 0 held) (schema_of t) id bookmark trees
+  pub keys : HasVariantKeys (option_map (record_of (longs id)) (row_under (table_nodes trees id) bookmark)) (held_from longs 0 held) (schema_of t) id bookmark trees
 
-variant_keys : (trees : List StoredTable) (t : Table) (held : List HeldChange) (bookmark : List ℕ) → are_sorted (bookmark_entries (table_nodes trees t.id)) ≡ true → IsKeptTable trees (table_nodes trees t.id) (map held_record held) t
-    → HasVariantKeys (option_map record_of (row_under (table_nodes trees t.id) bookmark)) (map held_record held) (schema_of t) t.id bookmark trees
-variant_keys trees t held bookmark sorted kept index = by (secondary_rule t index) (kept.entries index)
+variant_keys : (longs : TableValues) (trees : List StoredTable) (t : Table) (held : List HeldChange) (bookmark : List ℕ) → are_sorted (bookmark_entries (table_nodes trees t.id)) ≡ true → IsKeptTable trees (longs t.id) (table_nodes trees t.id) (map (held_record_in longs) held) t
+    → HasVariantKeys (option_map (record_of (longs t.id)) (row_under (table_nodes trees t.id) bookmark)) (map (held_record_in longs) held) (schema_of t) t.id bookmark trees
+variant_keys longs trees t held bookmark sorted kept index = by (secondary_rule t index) (kept.entries index)
   where
-    by : (o : Option IndexRule) → IfSome o (λ rule. HoldsVariants (rows_of_nodes (table_nodes trees t.id)) (map held_record held) rule (schema_of t) t.id (index_entries trees t.id index))
-        → IfSome o (λ rule. (key : List ℕ) → has_entry key bookmark (index_entries trees t.id index) ≡ is_variant_key (option_map record_of (row_under (table_nodes trees t.id) bookmark)) (map held_record held) rule (schema_of t) t.id key bookmark)
+    by : (o : Option IndexRule) → IfSome o (λ rule. HoldsVariants (rows_of_nodes (longs t.id) (table_nodes trees t.id)) (map (held_record_in longs) held) rule (schema_of t) t.id (index_entries trees t.id index))
+        → IfSome o (λ rule. (key : List ℕ) → has_entry key bookmark (index_entries trees t.id index) ≡ is_variant_key (option_map (record_of (longs t.id)) (row_under (table_nodes trees t.id) bookmark)) (map (held_record_in longs) held) rule (schema_of t) t.id key bookmark)
     by None holds = tt
-    by (Some rule) holds = λ key. holds key bookmark ∙ ap (λ newest. is_variant_key newest (map held_record held) rule (schema_of t) t.id key bookmark) (record_at (table_nodes trees t.id) sorted bookmark)
+    by (Some rule) holds = λ key. holds key bookmark ∙ ap (λ newest. is_variant_key newest (map (held_record_in longs) held) rule (schema_of t) t.id key bookmark) (record_at (longs t.id) (table_nodes trees t.id) sorted bookmark)
 
-pub put_asks : (tables : List Table) (trees : List StoredTable) (held : List HeldChange) → AreKept tables trees held → AreSorted trees → (id : ℕ) (t : Table) → table_with_id tables id ≡ Some t → (bookmark : List ℕ) (values : RecordFields) → is_indexable (schema_of t) values ≡ true
-    → PutAsks tables trees held id t bookmark values
-put_asks tables trees held kept sorted id t found bookmark values indexable =
-    subst (λ (n : ℕ). PutAsks tables trees held n t bookmark values) number (record {
+pub put_asks : (longs : TableValues) (tables : List Table) (trees : List StoredTable) (held : List HeldChange) → AreKeptWith longs tables trees held → AreSorted trees → (id : ℕ) (t : Table) → table_with_id tables id ≡ Some t → (bookmark : List ℕ) (values : RecordFields) → is_indexable (schema_of t) values ≡ true
+    → PutAsks longs tables trees held id t bookmark values
+put_asks longs tables trees held kept sorted id t found bookmark values indexable =
+    subst (λ (n : ℕ). PutAsks longs tables trees held n t bookmark values) number (record {
       rules = rules;
-      take = can_take_all trees t (map held_record held) values (sorted t.id) (before_fits tables trees id t found held kept.changes) own (needed_indexes trees tables t.id t kept.numbers at) (schema_of t).indexes rules (have_trees t);
-      keys = variant_keys trees t held bookmark (sorted t.id) own;
+      take = can_take_all longs trees t (map (held_record_in longs) held) values (sorted t.id) (before_fits longs tables trees id t found held kept.changes) own (needed_indexes trees tables t.id t kept.numbers at) (schema_of t).indexes rules (have_trees t);
+      keys = variant_keys longs trees t held bookmark (sorted t.id) own;
     })
   where
     number : t.id ≡ id
@@ -241,21 +245,14 @@ put_asks tables trees held kept sorted id t found bookmark values indexable =
     at : table_with_id tables t.id ≡ Some t
     at = ap (table_with_id tables) number ∙ found
 
-    own : IsKeptTable trees (table_nodes trees t.id) (map held_record held) t
-    own = own_kept tables trees held kept t.id t at
+    own : IsKeptTable trees (longs t.id) (table_nodes trees t.id) (map (held_record_in longs) held) t
+    own = own_kept longs tables trees held kept t.id t at
 
     rules : AllByRecursion (HasKeysOf (schema_of t) values) (schema_of t).indexes
     rules = rules_take t values own.rules indexable
 
 -- the rows before held changes are spelled as records
-pub are_rows : (tables : List Table) (trees : List StoredTable) (held : List HeldChange) → AllByRecursion (IsKeptChange tables trees) held → AreRows held
-are_rows tables trees [] kept = tt
-are_rows tables trees (h ∷ held) kept = (by (table_with_id tables h.table) kept.0.named kept.0.row, are_rows tables trees held kept.1)
-  where
-    spelled : (t : Table) (row : Option (List ℕ)) → IfSome row (IsRowOf t) → IfSome row IsRecordRow
-    spelled t None is = tt
-    spelled t (Some row) is = is.row
-
-    by : (o : Option Table) → is_some o ≡ true → IfSome o (λ t. IfSome h.before (IsRowOf t)) → IfSome h.before IsRecordRow
-    by None named is = impossible named
-    by (Some t) named is = spelled t h.before is
+pub are_rows : (longs : TableValues) (tables : List Table) (trees : List StoredTable) (held : List HeldChange) → AllByRecursion (IsKeptChange longs tables trees) held → AreRows longs held
+are_rows longs tables trees [] kept = tt
+are_rows longs tables trees (h ∷ held) kept =
+    (λ standing. before_is_row (longs h.table) (table_with_id tables h.table) h.bookmark h.before kept.0.named (kept.0.before standing), are_rows longs tables trees held kept.1)

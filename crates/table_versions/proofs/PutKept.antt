@@ -31,11 +31,11 @@ use Rattle.versioned_tables.specs.Holding.{RowsRise}
 use Rattle.versioned_tables.specs.VersionedTables.{with_change}
 use Rattle.versioned_tables.specs.Variants.{HoldsVariants, has_variant, is_variant_key}
 use Rattle.stored_variants.specs.PutRecords.{HasKeysOf, record_keys}
-use Rattle.stored_variants.specs.RecordRows.{some_before, IsRecordRow, held_record, record_of, row_in_node, row_under, rows_of_nodes}
+use Rattle.stored_variants.specs.RecordRows.{TableValues, some_before, IsRecordRow, held_record_in, record_of, row_in_node, row_under, rows_of_nodes}
 use Rattle.variant_trees.specs.GoneKeys.{index_numbers, table_numbers}
 use Rattle.variant_trees.specs.PutStages.{AreWidened, IsPut, IsSame, IsWidened, is_place}
-use Rattle.stored_variants.specs.VersionsKept.{AreKept, IsKeptChange, IsKeptTable, IsRowOf, IsRowUnder, needed_trees, only_secondary, secondary_rule, tree_numbers}
-use Rattle.stored_variants.specs.VersionsView.{with_newest}
+use Rattle.stored_variants.specs.VersionsKept.{AreKeptWith, IsKeptChange, IsKeptTable, IsRowOf, IsRowUnder, needed_trees, only_secondary, secondary_rule, tree_numbers}
+use Rattle.stored_variants.specs.VersionsView.{with_newest_by}
 use Rattle.stored_variants.proofs.Dropped.{room_in, turned_number}
 use Rattle.table_versions.proofs.Held.{appended, no_sum}
 use Rattle.stored_variants.proofs.FoundRules.{secondary_found, record_yields}
@@ -44,6 +44,7 @@ use Rattle.stored_variants.proofs.NodeRecords.{record_at, turned}
 use Rattle.stored_variants.proofs.RisingRows.{rows_rise}
 use Rattle.table_versions.proofs.Span.{RowSizes, same_cost}
 use Rattle.stored_variants.proofs.Tables.{found_number, newest_at, newest_is_row}
+use Rattle.long_value.specs.Values.{Values}
 
 -- ---- numbers of trees
 
@@ -143,10 +144,10 @@ same_rows a b one other same = same_entries (slice_cmp nat_cmp) nat_list_cmp_tot
 same_under : (table : ℕ) (schema : Schema) (old new : List StoredTable) → IsSame table schema old new → (other : ℕ) (own : List ℕ) → row_under (table_nodes new other) own ≡ row_under (table_nodes old other) own
 same_under table schema old new same other own = ap (option_and_then row_in_node) (same.rows other own)
 
-same_record : (table : ℕ) (schema : Schema) (old new : List StoredTable) → IsSame table schema old new → AreSorted old → AreSorted new → (other : ℕ) (own : List ℕ)
-    → row_at (rows_of_nodes (table_nodes new other)) own ≡ row_at (rows_of_nodes (table_nodes old other)) own
-same_record table schema old new same sorted sorted_then other own =
-    record_at (table_nodes new other) (sorted_then other) own ∙ ap (option_map record_of) (same_under table schema old new same other own) ∙ sym (record_at (table_nodes old other) (sorted other) own)
+same_record : (longs : TableValues) (table : ℕ) (schema : Schema) (old new : List StoredTable) → IsSame table schema old new → AreSorted old → AreSorted new → (other : ℕ) (own : List ℕ)
+    → row_at (rows_of_nodes (longs other) (table_nodes new other)) own ≡ row_at (rows_of_nodes (longs other) (table_nodes old other)) own
+same_record longs table schema old new same sorted sorted_then other own =
+    record_at (longs other) (table_nodes new other) (sorted_then other) own ∙ ap (option_map (record_of (longs other))) (same_under table schema old new same other own) ∙ sym (record_at (longs other) (table_nodes old other) (sorted other) own)
 
 wider_room : (row : List ℕ) (old new : Option ℕ) → IsWidened old new → IsSomeAnd old (λ extent. length row ≤ extent) → IsSomeAnd new (λ extent. length row ≤ extent)
 wider_room row None new wide room = absurd room
@@ -157,10 +158,9 @@ wider_rooms : (row : Option (List ℕ)) (old new : Option ℕ) → IsWidened old
 wider_rooms None old new wide room = tt
 wider_rooms (Some row) old new wide room = wider_room row old new wide room
 
-change_stays : (tables : List Table) (old new : List StoredTable) → AreWidened old new → (h : HeldChange) → IsKeptChange tables old h → IsKeptChange tables new h
-change_stays tables old new wide h kept = record {
+change_stays : (longs : TableValues) (tables : List Table) (old new : List StoredTable) → AreWidened old new → (h : HeldChange) → IsKeptChange longs tables old h → IsKeptChange longs tables new h
+change_stays longs tables old new wide h kept = record {
   named = kept.named;
-  row = kept.row;
   before = kept.before;
   drop = kept.drop;
   room = λ uncommitted. wider_rooms h.before (extent_in (table_nodes old h.table) h.bookmark) (extent_in (table_nodes new h.table) h.bookmark) (wide h.table h.bookmark) (kept.room uncommitted);
@@ -168,9 +168,9 @@ change_stays tables old new wide h kept = record {
   sum = kept.sum;
 }
 
-changes_stay : (tables : List Table) (old new : List StoredTable) → AreWidened old new → (held : List HeldChange) → AllByRecursion (IsKeptChange tables old) held → AllByRecursion (IsKeptChange tables new) held
-changes_stay tables old new wide [] kept = tt
-changes_stay tables old new wide (h ∷ held) kept = (change_stays tables old new wide h kept.0, changes_stay tables old new wide held kept.1)
+changes_stay : (longs : TableValues) (tables : List Table) (old new : List StoredTable) → AreWidened old new → (held : List HeldChange) → AllByRecursion (IsKeptChange longs tables old) held → AllByRecursion (IsKeptChange longs tables new) held
+changes_stay longs tables old new wide [] kept = tt
+changes_stay longs tables old new wide (h ∷ held) kept = (change_stays longs tables old new wide h kept.0, changes_stay longs tables old new wide held kept.1)
 
 -- what is asked of the entries of a table's indexes
 abbrev SameIndex : (old new : List StoredTable) → ℕ → ℕ → Option IndexRule → Type 0
@@ -190,76 +190,76 @@ same_index table schema old new same t is index = by (t.id == table) refl
         (subst (λ (s : Schema). SameIndex old new table index (only_secondary (rule_with_id s index))) (is found) (same.entries index))
     by false e = any (secondary_rule t index) (λ at. impossible (sym e ∙ ap (λ n. n == table) at ∙ self_equal table))
 
-table_same : (table : ℕ) (schema : Schema) (old new : List StoredTable) → IsSame table schema old new → AreSorted old → AreSorted new → (held : List HeldRecord) (t : Table) → (t.id ≡ table → schema ≡ schema_of t)
-    → IsKeptTable old (table_nodes old t.id) held t → IsKeptTable new (table_nodes new t.id) held t
-table_same table schema old new same sorted sorted_then held t is kept = record {
+table_same : (longs : TableValues) (table : ℕ) (schema : Schema) (old new : List StoredTable) → IsSame table schema old new → AreSorted old → AreSorted new → (held : List HeldRecord) (t : Table) → (t.id ≡ table → schema ≡ schema_of t)
+    → IsKeptTable old (longs t.id) (table_nodes old t.id) held t → IsKeptTable new (longs t.id) (table_nodes new t.id) held t
+table_same longs table schema old new same sorted sorted_then held t is kept = record {
   rules = kept.rules;
-  rows = λ own. subst (λ (row : Option (List ℕ)). IfSome row (IsRowUnder t own)) (sym (same_under table schema old new same t.id own)) (kept.rows own);
+  rows = λ own. subst (λ (row : Option (List ℕ)). IfSome row (IsRowUnder (longs t.id) t own)) (sym (same_under table schema old new same t.id own)) (kept.rows own);
   stands = λ own. ap is_some (same.rows t.id own) ∙ kept.stands own ∙ ap (λ newest. has_variant newest held t.id own) (sym (record_is own));
   entries = λ index. each index (secondary_rule t index) (same_index table schema old new same t is index) (kept.entries index);
 }
   where
-    record_is : (own : List ℕ) → row_at (rows_of_nodes (table_nodes new t.id)) own ≡ row_at (rows_of_nodes (table_nodes old t.id)) own
-    record_is = same_record table schema old new same sorted sorted_then t.id
+    record_is : (own : List ℕ) → row_at (rows_of_nodes (longs t.id) (table_nodes new t.id)) own ≡ row_at (rows_of_nodes (longs t.id) (table_nodes old t.id)) own
+    record_is = same_record longs table schema old new same sorted sorted_then t.id
 
     each : (index : ℕ) (o : Option IndexRule) → SameIndex old new t.id index o
-        → IfSome o (λ rule. HoldsVariants (rows_of_nodes (table_nodes old t.id)) held rule (schema_of t) t.id (index_entries old t.id index))
-        → IfSome o (λ rule. HoldsVariants (rows_of_nodes (table_nodes new t.id)) held rule (schema_of t) t.id (index_entries new t.id index))
+        → IfSome o (λ rule. HoldsVariants (rows_of_nodes (longs t.id) (table_nodes old t.id)) held rule (schema_of t) t.id (index_entries old t.id index))
+        → IfSome o (λ rule. HoldsVariants (rows_of_nodes (longs t.id) (table_nodes new t.id)) held rule (schema_of t) t.id (index_entries new t.id index))
     each index None entries holds = tt
     each index (Some rule) entries holds = λ key own. entries key own ∙ holds key own ∙ ap (λ newest. is_variant_key newest held rule (schema_of t) t.id key own) (sym (record_is own))
 
 one_table : (a b : Table) → Some a ≡ Some b → a ≡ b
 one_table a b e = ap (λ (o : Option Table). unwrap_or o a) e
 
-pub same_kept : (high : ℕ) (tables : List Table) (old new : List StoredTable) (held : List HeldChange) (own : Table) (table : ℕ) → ids_rise 0 high tables ≡ true → table_with_id tables table ≡ Some own → IsSame table (schema_of own) old new → AreSorted old → AreSorted new
-    → AreKept tables old held → AreKept tables new held
-same_kept high tables old new held own table rise found same sorted sorted_then kept = record {
+pub same_kept : (longs : TableValues) (high : ℕ) (tables : List Table) (old new : List StoredTable) (held : List HeldChange) (own : Table) (table : ℕ) → ids_rise 0 high tables ≡ true → table_with_id tables table ≡ Some own → IsSame table (schema_of own) old new → AreSorted old → AreSorted new
+    → AreKeptWith longs tables old held → AreKeptWith longs tables new held
+same_kept longs high tables old new held own table rise found same sorted sorted_then kept = record {
   plain = kept.plain;
   numbers = numbers_kept high tables new old rise kept.numbers same.numbers same.indexes;
   each = λ other. each other (table_with_id tables other) refl (kept.each other);
-  changes = changes_stay tables old new same.extents held kept.changes;
+  changes = changes_stay longs tables old new same.extents held kept.changes;
 }
   where
-    each : (other : ℕ) (o : Option Table) → table_with_id tables other ≡ o → IfSome o (IsKeptTable old (table_nodes old other) (map held_record held)) → IfSome o (IsKeptTable new (table_nodes new other) (map held_record held))
+    each : (other : ℕ) (o : Option Table) → table_with_id tables other ≡ o → IfSome o (IsKeptTable old (longs other) (table_nodes old other) (map (held_record_in longs) held)) → IfSome o (IsKeptTable new (longs other) (table_nodes new other) (map (held_record_in longs) held))
     each other None e is = tt
     each other (Some t) e is =
         let number = found_number other tables t e in
-        subst (λ (n : ℕ). IsKeptTable new (table_nodes new n) (map held_record held) t) number
-        (table_same table (schema_of own) old new same sorted sorted_then (map held_record held) t
+        subst (λ (n : ℕ). IsKeptTable new (longs n) (table_nodes new n) (map (held_record_in longs) held) t) number
+        (table_same longs table (schema_of own) old new same sorted sorted_then (map (held_record_in longs) held) t
         (λ at. ap schema_of (one_table own t (sym found ∙ ap (table_with_id tables) (sym (sym number ∙ at)) ∙ e)))
-        (subst (λ (n : ℕ). IsKeptTable old (table_nodes old n) (map held_record held) t) (sym number) is))
+        (subst (λ (n : ℕ). IsKeptTable old (longs n) (table_nodes old n) (map (held_record_in longs) held) t) (sym number) is))
 
 -- and show the same tables
-pub same_tables : (table : ℕ) (schema : Schema) (old new : List StoredTable) → IsSame table schema old new → AreSorted old → AreSorted new → (tables : List Table) → map (with_newest new) tables ≡ map (with_newest old) tables
-same_tables table schema old new same sorted sorted_then [] = refl
-same_tables table schema old new same sorted sorted_then (t ∷ tables) =
-    λ i. record t { rows = same_rows (rows_of_nodes (table_nodes new t.id)) (rows_of_nodes (table_nodes old t.id)) (rows_rise (table_nodes new t.id) (sorted_then t.id)) (rows_rise (table_nodes old t.id) (sorted t.id)) (same_record table schema old new same sorted sorted_then t.id) i }
-    ∷ same_tables table schema old new same sorted sorted_then tables i
+pub same_tables : (longs : TableValues) (table : ℕ) (schema : Schema) (old new : List StoredTable) → IsSame table schema old new → AreSorted old → AreSorted new → (tables : List Table) → map (with_newest_by longs new) tables ≡ map (with_newest_by longs old) tables
+same_tables longs table schema old new same sorted sorted_then [] = refl
+same_tables longs table schema old new same sorted sorted_then (t ∷ tables) =
+    λ i. record t { rows = same_rows (rows_of_nodes (longs t.id) (table_nodes new t.id)) (rows_of_nodes (longs t.id) (table_nodes old t.id)) (rows_rise (longs t.id) (table_nodes new t.id) (sorted_then t.id)) (rows_rise (longs t.id) (table_nodes old t.id) (sorted t.id)) (same_record longs table schema old new same sorted sorted_then t.id) i }
+    ∷ same_tables longs table schema old new same sorted sorted_then tables i
 
 -- ---- a put that is done
 
 -- the row that was put
-pub record IsNewRow (own : Table) (bookmark row : List ℕ) (values : RecordFields) : Type 0 where
-  pub under : IsRowUnder own bookmark row
-  pub shows : record_of row ≡ values
+pub record IsNewRow (vals : Values) (own : Table) (bookmark row : List ℕ) (values : RecordFields) : Type 0 where
+  pub under : IsRowUnder vals own bookmark row
+  pub shows : record_of vals row ≡ values
   pub some : row_in_node row ≡ Some row
 
-put_under : (table : ℕ) (bookmark row : List ℕ) (keys : ℕ → List ℕ → Bool) (old new : List StoredTable) → IsPut table bookmark row keys old new → row_in_node row ≡ Some row → (other : ℕ) (own : List ℕ)
+pub put_under : (table : ℕ) (bookmark row : List ℕ) (given : List (List ℕ × List ℕ)) (keys : ℕ → List ℕ → Bool) (old new : List StoredTable) → IsPut table bookmark row given keys old new → row_in_node row ≡ Some row → (other : ℕ) (own : List ℕ)
     → row_under (table_nodes new other) own ≡ cond (is_place table bookmark other own) (Some row) (row_under (table_nodes old other) own)
-put_under table bookmark row keys old new put some other own = ap (option_and_then row_in_node) (put.rows other own) ∙ by (is_place table bookmark other own)
+put_under table bookmark row given keys old new put some other own = ap (option_and_then row_in_node) (put.rows other own) ∙ by (is_place table bookmark other own)
   where
     by : (b : Bool) → option_and_then row_in_node (cond b (Some row) (get_in (table_nodes old other) own)) ≡ cond b (Some row) (row_under (table_nodes old other) own)
     by true = some
     by false = refl
 
-put_record : (table : ℕ) (bookmark row : List ℕ) (values : RecordFields) (keys : ℕ → List ℕ → Bool) (old new : List StoredTable) → IsPut table bookmark row keys old new → row_in_node row ≡ Some row → record_of row ≡ values → AreSorted old → AreSorted new → (other : ℕ) (own : List ℕ)
-    → row_at (rows_of_nodes (table_nodes new other)) own ≡ cond (is_place table bookmark other own) (Some values) (row_at (rows_of_nodes (table_nodes old other)) own)
-put_record table bookmark row values keys old new put some shows sorted sorted_then other own =
-    record_at (table_nodes new other) (sorted_then other) own ∙ ap (option_map record_of) (put_under table bookmark row keys old new put some other own) ∙ by (is_place table bookmark other own)
+put_record : (longs : TableValues) (table : ℕ) (bookmark row : List ℕ) (values : RecordFields) (given : List (List ℕ × List ℕ)) (keys : ℕ → List ℕ → Bool) (old new : List StoredTable) → IsPut table bookmark row given keys old new → row_in_node row ≡ Some row → record_of (longs table) row ≡ values → AreSorted old → AreSorted new → (other : ℕ) (own : List ℕ)
+    → row_at (rows_of_nodes (longs other) (table_nodes new other)) own ≡ cond (is_place table bookmark other own) (Some values) (row_at (rows_of_nodes (longs other) (table_nodes old other)) own)
+put_record longs table bookmark row values given keys old new put some shows sorted sorted_then other own =
+    record_at (longs other) (table_nodes new other) (sorted_then other) own ∙ ap (option_map (record_of (longs other))) (put_under table bookmark row given keys old new put some other own) ∙ by (is_place table bookmark other own) refl
   where
-    by : (b : Bool) → option_map record_of (cond b (Some row) (row_under (table_nodes old other) own)) ≡ cond b (Some values) (row_at (rows_of_nodes (table_nodes old other)) own)
-    by true = ap (λ (fields : RecordFields). Some fields) shows
-    by false = sym (record_at (table_nodes old other) (sorted other) own)
+    by : (b : Bool) → is_place table bookmark other own ≡ b → option_map (record_of (longs other)) (cond b (Some row) (row_under (table_nodes old other) own)) ≡ cond b (Some values) (row_at (rows_of_nodes (longs other) (table_nodes old other)) own)
+    by true e = ap (λ (n : ℕ). Some (record_of (longs n) row)) (sym (same_number table other (and_left (table == other) _ e))) ∙ ap (λ (fields : RecordFields). Some fields) shows
+    by false e = sym (record_at (longs other) (table_nodes old other) (sorted other) own)
 
 -- the put that is held
 abbrev pub made_put : By → TableId → List ℕ → Option (List ℕ) → RecordFields → List StoredTable → HeldChange
@@ -269,12 +269,12 @@ made_put by table bookmark copied values trees = new_change by (Put table bookma
 abbrev pub variants : (Option RecordFields → Bool) → Option RecordFields → ℕ → List ℕ → List HeldRecord → Bool
 variants test newest table bookmark held = test newest || some_before test table bookmark held
 
-more_variants : (by : By) (table : TableId) (bookmark : List ℕ) (copied : Option (List ℕ)) (values : RecordFields) (old : List StoredTable) → AreSorted old → (held : List HeldChange) (test : Option RecordFields → Bool) → test None ≡ false → (other : ℕ) (own : List ℕ)
-    → variants test (cond (is_place table.0 bookmark other own) (Some values) (row_at (rows_of_nodes (table_nodes old other)) own)) other own (map held_record (held ++ made_put by table bookmark copied values old ∷ []))
-    ≡ (variants test (row_at (rows_of_nodes (table_nodes old other)) own) other own (map held_record held) || (is_place table.0 bookmark other own && test (Some values)))
-more_variants by table bookmark copied values old sorted held test none other own =
-    ap (λ records. variants test (cond hit (Some values) newest) other own records) (appended held new)
-    ∙ ap (λ b. test (cond hit (Some values) newest) || b) (list_any-append passes (map held_record held) (held_record new ∷ []))
+more_variants : (longs : TableValues) (by : By) (table : TableId) (bookmark : List ℕ) (copied : Option (List ℕ)) (values : RecordFields) (old : List StoredTable) → AreSorted old → (held : List HeldChange) (test : Option RecordFields → Bool) → test None ≡ false → (other : ℕ) (own : List ℕ)
+    → variants test (cond (is_place table.0 bookmark other own) (Some values) (row_at (rows_of_nodes (longs other) (table_nodes old other)) own)) other own (map (held_record_in longs) (held ++ made_put by table bookmark copied values old ∷ []))
+    ≡ (variants test (row_at (rows_of_nodes (longs other) (table_nodes old other)) own) other own (map (held_record_in longs) held) || (is_place table.0 bookmark other own && test (Some values)))
+more_variants longs by table bookmark copied values old sorted held test none other own =
+    ap (λ records. variants test (cond hit (Some values) newest) other own records) (appended longs held new)
+    ∙ ap (λ b. test (cond hit (Some values) newest) || b) (list_any-append passes (map (held_record_in longs) held) (held_record_in longs new ∷ []))
     ∙ cases hit refl
   where
     new : HeldChange
@@ -284,15 +284,15 @@ more_variants by table bookmark copied values old sorted held test none other ow
     hit = is_place table.0 bookmark other own
 
     newest : Option RecordFields
-    newest = row_at (rows_of_nodes (table_nodes old other)) own
+    newest = row_at (rows_of_nodes (longs other) (table_nodes old other)) own
 
     passes : HeldRecord → Bool
     passes change = is_standing_rewrite other own change && test change.before
 
-    before_is : hit ≡ true → (held_record new).before ≡ newest
+    before_is : hit ≡ true → (held_record_in longs new).before ≡ newest
     before_is e =
-        (λ i. option_map record_of (row_under (table_nodes old (same_number table.0 other (and_left (table.0 == other) _ e) i)) (same_bytes bookmark own (and_right (table.0 == other) _ e) i)))
-        ∙ sym (record_at (table_nodes old other) (sorted other) own)
+        (λ i. option_map (record_of (longs (same_number table.0 other (and_left (table.0 == other) _ e) i))) (row_under (table_nodes old (same_number table.0 other (and_left (table.0 == other) _ e) i)) (same_bytes bookmark own (and_right (table.0 == other) _ e) i)))
+        ∙ sym (record_at (longs other) (table_nodes old other) (sorted other) own)
 
     moved : (v a b : Bool) → (v || (b || (((true && true) && true) && a || false))) ≡ ((a || b) || (true && v))
     moved true true true = refl
@@ -309,13 +309,13 @@ more_variants by table bookmark copied values old sorted held test none other ow
     kept v false true c = refl
     kept v false false c = refl
 
-    cases : (b : Bool) → hit ≡ b → (test (cond b (Some values) newest) || (list_any passes (map held_record held) || (passes (held_record new) || false))) ≡ ((test newest || list_any passes (map held_record held)) || (b && test (Some values)))
+    cases : (b : Bool) → hit ≡ b → (test (cond b (Some values) newest) || (list_any passes (map (held_record_in longs) held) || (passes (held_record_in longs new) || false))) ≡ ((test newest || list_any passes (map (held_record_in longs) held)) || (b && test (Some values)))
     cases true e =
-        (λ i. test (Some values) || (list_any passes (map held_record held) || (((e i && true) && true) && test (before_is e i) || false)))
-        ∙ moved (test (Some values)) (test newest) (list_any passes (map held_record held))
+        (λ i. test (Some values) || (list_any passes (map (held_record_in longs) held) || (((e i && true) && true) && test (before_is e i) || false)))
+        ∙ moved (test (Some values)) (test newest) (list_any passes (map (held_record_in longs) held))
     cases false e =
-        (λ i. test newest || (list_any passes (map held_record held) || (((e i && true) && true) && test (held_record new).before || false)))
-        ∙ kept (test (Some values)) (test newest) (list_any passes (map held_record held)) (test (held_record new).before)
+        (λ i. test newest || (list_any passes (map (held_record_in longs) held) || (((e i && true) && true) && test (held_record_in longs new).before || false)))
+        ∙ kept (test (Some values)) (test newest) (list_any passes (map (held_record_in longs) held)) (test (held_record_in longs new).before)
 
 -- the keys of a record in one index
 own_keys : (schema : Schema) (values : RecordFields) (index : ℕ) (rule : IndexRule) → AllByRecursion (HasKeysOf schema values) schema.indexes → only_secondary (rule_with_id schema index) ≡ Some rule → (key : List ℕ)
@@ -361,20 +361,20 @@ own_keys schema values index rule rules e key = by (record_keys schema.indexes s
     by false false f g = refl
 
 -- a table after the put
-table_put : (by : By) (table : TableId) (bookmark : List ℕ) (copied : Option (List ℕ)) (row : List ℕ) (values : RecordFields) (own : Table) → IsNewRow own bookmark row values → AllByRecursion (HasKeysOf (schema_of own) values) (schema_of own).indexes
-    → (old new : List StoredTable) → IsPut table.0 bookmark row (record_keys (schema_of own).indexes (schema_of own) values) old new → AreSorted old → AreSorted new → (held : List HeldChange) (t : Table) → (t.id ≡ table.0 → own ≡ t)
-    → IsKeptTable old (table_nodes old t.id) (map held_record held) t
-    → IsKeptTable new (table_nodes new t.id) (map held_record (held ++ made_put by table bookmark copied values old ∷ [])) t
-table_put by table bookmark copied row values own is rules old new put sorted sorted_then held t which kept = record {
+table_put : (longs : TableValues) (by : By) (table : TableId) (bookmark : List ℕ) (copied : Option (List ℕ)) (row : List ℕ) (values : RecordFields) (given : List (List ℕ × List ℕ)) (own : Table) → IsNewRow (longs table.0) own bookmark row values → AllByRecursion (HasKeysOf (schema_of own) values) (schema_of own).indexes
+    → (old new : List StoredTable) → IsPut table.0 bookmark row given (record_keys (schema_of own).indexes (schema_of own) values) old new → AreSorted old → AreSorted new → (held : List HeldChange) (t : Table) → (t.id ≡ table.0 → own ≡ t)
+    → IsKeptTable old (longs t.id) (table_nodes old t.id) (map (held_record_in longs) held) t
+    → IsKeptTable new (longs t.id) (table_nodes new t.id) (map (held_record_in longs) (held ++ made_put by table bookmark copied values old ∷ [])) t
+table_put longs by table bookmark copied row values given own is rules old new put sorted sorted_then held t which kept = record {
   rules = kept.rules;
   rows = λ at.
-      subst (λ (r : Option (List ℕ)). IfSome r (IsRowUnder t at)) (sym (put_under table.0 bookmark row keys old new put is.some t.id at))
+      subst (λ (r : Option (List ℕ)). IfSome r (IsRowUnder (longs t.id) t at)) (sym (put_under table.0 bookmark row given keys old new put is.some t.id at))
       (under at (is_place table.0 bookmark t.id at) refl);
   stands = λ at.
       ap is_some (put.rows t.id at) ∙ stood (is_place table.0 bookmark t.id at) (get_in (table_nodes old t.id) at)
       ∙ ap (λ b. b || (is_place table.0 bookmark t.id at && true)) (kept.stands at)
-      ∙ sym (more_variants by table bookmark copied values old sorted held is_some refl t.id at)
-      ∙ ap (λ newest. has_variant newest (map held_record (held ++ new_held ∷ [])) t.id at) (sym (record_is at));
+      ∙ sym (more_variants longs by table bookmark copied values old sorted held is_some refl t.id at)
+      ∙ ap (λ newest. has_variant newest (map (held_record_in longs) (held ++ new_held ∷ [])) t.id at) (sym (record_is at));
   entries = λ index. each index (secondary_rule t index) refl (kept.entries index);
 }
   where
@@ -384,13 +384,14 @@ table_put by table bookmark copied row values own is rules old new put sorted so
     new_held : HeldChange
     new_held = made_put by table bookmark copied values old
 
-    record_is : (at : List ℕ) → row_at (rows_of_nodes (table_nodes new t.id)) at ≡ cond (is_place table.0 bookmark t.id at) (Some values) (row_at (rows_of_nodes (table_nodes old t.id)) at)
-    record_is = put_record table.0 bookmark row values keys old new put is.some is.shows sorted sorted_then t.id
+    record_is : (at : List ℕ) → row_at (rows_of_nodes (longs t.id) (table_nodes new t.id)) at ≡ cond (is_place table.0 bookmark t.id at) (Some values) (row_at (rows_of_nodes (longs t.id) (table_nodes old t.id)) at)
+    record_is = put_record longs table.0 bookmark row values given keys old new put is.some is.shows sorted sorted_then t.id
 
-    under : (at : List ℕ) (b : Bool) → is_place table.0 bookmark t.id at ≡ b → IfSome (cond b (Some row) (row_under (table_nodes old t.id) at)) (IsRowUnder t at)
+    under : (at : List ℕ) (b : Bool) → is_place table.0 bookmark t.id at ≡ b → IfSome (cond b (Some row) (row_under (table_nodes old t.id) at)) (IsRowUnder (longs t.id) t at)
     under at true e =
-        subst (λ (x : Table). IsRowUnder x at row) (which (sym (same_number table.0 t.id (and_left (table.0 == t.id) _ e))))
-        (subst (λ (b : List ℕ). IsRowUnder own b row) (same_bytes bookmark at (and_right (table.0 == t.id) _ e)) is.under)
+        let number : table.0 ≡ t.id = same_number table.0 t.id (and_left (table.0 == t.id) _ e) in
+        subst (λ (x : Table). IsRowUnder (longs t.id) x at row) (which (sym number))
+        (subst (λ (n : ℕ). IsRowUnder (longs n) own at row) number (subst (λ (b : List ℕ). IsRowUnder (longs table.0) own b row) (same_bytes bookmark at (and_right (table.0 == t.id) _ e)) is.under))
     under at false e = kept.rows at
 
     stood : (b : Bool) (o : Option (List ℕ)) → is_some (cond b (Some row) o) ≡ (is_some o || (b && true))
@@ -422,14 +423,14 @@ table_put by table bookmark copied row values own is rules old new put sorted so
         other false h = h
 
     each : (index : ℕ) (o : Option IndexRule) → secondary_rule t index ≡ o
-        → IfSome o (λ rule. HoldsVariants (rows_of_nodes (table_nodes old t.id)) (map held_record held) rule (schema_of t) t.id (index_entries old t.id index))
-        → IfSome o (λ rule. HoldsVariants (rows_of_nodes (table_nodes new t.id)) (map held_record (held ++ new_held ∷ [])) rule (schema_of t) t.id (index_entries new t.id index))
+        → IfSome o (λ rule. HoldsVariants (rows_of_nodes (longs t.id) (table_nodes old t.id)) (map (held_record_in longs) held) rule (schema_of t) t.id (index_entries old t.id index))
+        → IfSome o (λ rule. HoldsVariants (rows_of_nodes (longs t.id) (table_nodes new t.id)) (map (held_record_in longs) (held ++ new_held ∷ [])) rule (schema_of t) t.id (index_entries new t.id index))
     each index None e holds = tt
     each index (Some rule) e holds = λ key at.
         entry index rule e (t.id == table.0) refl key at
         ∙ ap (λ b. b || (is_place table.0 bookmark t.id at && yields_key rule (schema_of t) key (Some values))) (holds key at)
-        ∙ sym (more_variants by table bookmark copied values old sorted held (yields_key rule (schema_of t) key) refl t.id at)
-        ∙ ap (λ newest. is_variant_key newest (map held_record (held ++ new_held ∷ [])) rule (schema_of t) t.id key at) (sym (record_is at))
+        ∙ sym (more_variants longs by table bookmark copied values old sorted held (yields_key rule (schema_of t) key) refl t.id at)
+        ∙ ap (λ newest. is_variant_key newest (map (held_record_in longs) (held ++ new_held ∷ [])) rule (schema_of t) t.id key at) (sym (record_is at))
 
 -- ---- the change that is held
 
@@ -439,11 +440,10 @@ is_drop kind.Drop = true
 is_drop kind.Hold = false
 is_drop (kind.Add column amount) = false
 
-made_kept : (by : By) (table : TableId) (bookmark : List ℕ) (copied : Option (List ℕ)) (values : RecordFields) (old new : List StoredTable) → AreWidened old new → All IsShortNode (table_nodes old table.0) → (tables : List Table) (own : Table) → table_with_id tables table.0 ≡ Some own
-    → (held : List HeldRecord) → IfSome (table_with_id tables table.0) (IsKeptTable old (table_nodes old table.0) held) → IsKeptChange tables new (made_put by table bookmark copied values old)
-made_kept by table bookmark copied values old new wide short tables own found held kept = record {
+made_kept : (longs : TableValues) (by : By) (table : TableId) (bookmark : List ℕ) (copied : Option (List ℕ)) (values : RecordFields) (old new : List StoredTable) → AreWidened old new → All IsShortNode (table_nodes old table.0) → (tables : List Table) (own : Table) → table_with_id tables table.0 ≡ Some own
+    → (held : List HeldRecord) → IfSome (table_with_id tables table.0) (IsKeptTable old (longs table.0) (table_nodes old table.0) held) → IsKeptChange longs tables new (made_put by table bookmark copied values old)
+made_kept longs by table bookmark copied values old new wide short tables own found held kept = record {
   named = ap is_some found;
-  row = row_of (table_with_id tables table.0) kept;
   before = λ standing. before_of (table_with_id tables table.0) kept;
   drop = λ standing dropped. impossible (ap is_drop dropped);
   room = λ uncommitted.
@@ -452,55 +452,47 @@ made_kept by table bookmark copied values old new wide short tables own found he
   sum = no_sum (table_with_id tables table.0) kind.Put refl;
 }
   where
-    fits : (t : Table) (row : Option (List ℕ)) → IfSome row (IsRowUnder t bookmark) → IfSome row (IsRowOf t)
-    fits t None is = tt
-    fits t (Some row) is = is.fits
-
-    row_of : (o : Option Table) → IfSome o (IsKeptTable old (table_nodes old table.0) held) → IfSome o (λ t. IfSome (row_under (table_nodes old table.0) bookmark) (IsRowOf t))
-    row_of None is = tt
-    row_of (Some t) is = fits t (row_under (table_nodes old table.0) bookmark) (is.rows bookmark)
-
-    before_of : (o : Option Table) → IfSome o (IsKeptTable old (table_nodes old table.0) held) → IfSome o (λ t. IfSome (row_under (table_nodes old table.0) bookmark) (IsRowUnder t bookmark))
+    before_of : (o : Option Table) → IfSome o (IsKeptTable old (longs table.0) (table_nodes old table.0) held) → IfSome o (λ t. IfSome (row_under (table_nodes old table.0) bookmark) (IsRowUnder (longs table.0) t bookmark))
     before_of None is = tt
     before_of (Some t) is = is.rows bookmark
 
-pub put_kept : (high : ℕ) (tables : List Table) (by : By) (table : TableId) (bookmark : List ℕ) (copied : Option (List ℕ)) (row : List ℕ) (values : RecordFields) (own : Table) → ids_rise 0 high tables ≡ true → table_with_id tables table.0 ≡ Some own
-    → IsNewRow own bookmark row values → AllByRecursion (HasKeysOf (schema_of own) values) (schema_of own).indexes
-    → (old new : List StoredTable) → IsPut table.0 bookmark row (record_keys (schema_of own).indexes (schema_of own) values) old new → AreSorted old → AreSorted new → All IsShortNode (table_nodes old table.0)
-    → (held : List HeldChange) → AreKept tables old held → AreKept tables new (held ++ made_put by table bookmark copied values old ∷ [])
-put_kept high tables by table bookmark copied row values own rise found is rules old new put sorted sorted_then short held kept = record {
+pub put_kept : (longs : TableValues) (high : ℕ) (tables : List Table) (by : By) (table : TableId) (bookmark : List ℕ) (copied : Option (List ℕ)) (row : List ℕ) (values : RecordFields) (given : List (List ℕ × List ℕ)) (own : Table) → ids_rise 0 high tables ≡ true → table_with_id tables table.0 ≡ Some own
+    → IsNewRow (longs table.0) own bookmark row values → AllByRecursion (HasKeysOf (schema_of own) values) (schema_of own).indexes
+    → (old new : List StoredTable) → IsPut table.0 bookmark row given (record_keys (schema_of own).indexes (schema_of own) values) old new → AreSorted old → AreSorted new → All IsShortNode (table_nodes old table.0)
+    → (held : List HeldChange) → AreKeptWith longs tables old held → AreKeptWith longs tables new (held ++ made_put by table bookmark copied values old ∷ [])
+put_kept longs high tables by table bookmark copied row values given own rise found is rules old new put sorted sorted_then short held kept = record {
   plain = kept.plain;
   numbers = numbers_kept high tables new old rise kept.numbers put.numbers put.indexes;
   each = λ other. each other (table_with_id tables other) refl (kept.each other);
   changes =
-      all_append (IsKeptChange tables new) held (made_put by table bookmark copied values old ∷ []) (changes_stay tables old new put.extents held kept.changes)
-      (made_kept by table bookmark copied values old new put.extents short tables own found (map held_record held) (kept.each table.0), tt);
+      all_append (IsKeptChange longs tables new) held (made_put by table bookmark copied values old ∷ []) (changes_stay longs tables old new put.extents held kept.changes)
+      (made_kept longs by table bookmark copied values old new put.extents short tables own found (map (held_record_in longs) held) (kept.each table.0), tt);
 }
   where
-    each : (other : ℕ) (o : Option Table) → table_with_id tables other ≡ o → IfSome o (IsKeptTable old (table_nodes old other) (map held_record held))
-        → IfSome o (IsKeptTable new (table_nodes new other) (map held_record (held ++ made_put by table bookmark copied values old ∷ [])))
+    each : (other : ℕ) (o : Option Table) → table_with_id tables other ≡ o → IfSome o (IsKeptTable old (longs other) (table_nodes old other) (map (held_record_in longs) held))
+        → IfSome o (IsKeptTable new (longs other) (table_nodes new other) (map (held_record_in longs) (held ++ made_put by table bookmark copied values old ∷ [])))
     each other None e is_kept = tt
     each other (Some t) e is_kept =
         let number = found_number other tables t e in
-        subst (λ (n : ℕ). IsKeptTable new (table_nodes new n) (map held_record (held ++ made_put by table bookmark copied values old ∷ [])) t) number
-        (table_put by table bookmark copied row values own is rules old new put sorted sorted_then held t
+        subst (λ (n : ℕ). IsKeptTable new (longs n) (table_nodes new n) (map (held_record_in longs) (held ++ made_put by table bookmark copied values old ∷ [])) t) number
+        (table_put longs by table bookmark copied row values given own is rules old new put sorted sorted_then held t
         (λ at. one_table own t (sym found ∙ ap (table_with_id tables) (sym (sym number ∙ at)) ∙ e))
-        (subst (λ (n : ℕ). IsKeptTable old (table_nodes old n) (map held_record held) t) (sym number) is_kept))
+        (subst (λ (n : ℕ). IsKeptTable old (longs n) (table_nodes old n) (map (held_record_in longs) held) t) (sym number) is_kept))
 
 -- ---- what it shows
 
-rows_put : (table : ℕ) (bookmark row : List ℕ) (values : RecordFields) (keys : ℕ → List ℕ → Bool) (old new : List StoredTable) → IsPut table bookmark row keys old new → row_in_node row ≡ Some row → record_of row ≡ values → AreSorted old → AreSorted new → (other : ℕ)
-    → rows_of_nodes (table_nodes new other) ≡ cond (other == table) (with_row (rows_of_nodes (table_nodes old other)) bookmark values) (rows_of_nodes (table_nodes old other))
-rows_put table bookmark row values keys old new put some shows sorted sorted_then other =
-    same_rows (rows_of_nodes (table_nodes new other)) (cond (other == table) (with_row rows bookmark values) rows) (rows_rise (table_nodes new other) (sorted_then other)) (rises (other == table))
-    (λ at. put_record table bookmark row values keys old new put some shows sorted sorted_then other at ∙ ap (λ b. cond (b && bytes_eq bookmark at) (Some values) (row_at rows at)) (turned_number table other) ∙ by at (other == table))
+rows_put : (longs : TableValues) (table : ℕ) (bookmark row : List ℕ) (values : RecordFields) (given : List (List ℕ × List ℕ)) (keys : ℕ → List ℕ → Bool) (old new : List StoredTable) → IsPut table bookmark row given keys old new → row_in_node row ≡ Some row → record_of (longs table) row ≡ values → AreSorted old → AreSorted new → (other : ℕ)
+    → rows_of_nodes (longs other) (table_nodes new other) ≡ cond (other == table) (with_row (rows_of_nodes (longs other) (table_nodes old other)) bookmark values) (rows_of_nodes (longs other) (table_nodes old other))
+rows_put longs table bookmark row values given keys old new put some shows sorted sorted_then other =
+    same_rows (rows_of_nodes (longs other) (table_nodes new other)) (cond (other == table) (with_row rows bookmark values) rows) (rows_rise (longs other) (table_nodes new other) (sorted_then other)) (rises (other == table))
+    (λ at. put_record longs table bookmark row values given keys old new put some shows sorted sorted_then other at ∙ ap (λ b. cond (b && bytes_eq bookmark at) (Some values) (row_at rows at)) (turned_number table other) ∙ by at (other == table))
   where
     rows : Rows
-    rows = rows_of_nodes (table_nodes old other)
+    rows = rows_of_nodes (longs other) (table_nodes old other)
 
     rises : (b : Bool) → RowsRise (cond b (with_row rows bookmark values) rows)
-    rises true = is_sorted-put (slice_cmp nat_cmp) nat_list_cmp_total bookmark values rows (rows_rise (table_nodes old other) (sorted other))
-    rises false = rows_rise (table_nodes old other) (sorted other)
+    rises true = is_sorted-put (slice_cmp nat_cmp) nat_list_cmp_total bookmark values rows (rows_rise (longs other) (table_nodes old other) (sorted other))
+    rises false = rows_rise (longs other) (table_nodes old other) (sorted other)
 
     by : (at : List ℕ) (b : Bool) → cond (b && bytes_eq bookmark at) (Some values) (row_at rows at) ≡ row_at (cond b (with_row rows bookmark values) rows) at
     by at true =
@@ -508,34 +500,34 @@ rows_put table bookmark row values keys old new put some shows sorted sorted_the
         ∙ sym (find-put (slice_cmp nat_cmp) nat_list_cmp_total at bookmark values rows)
     by at false = refl
 
-tables_put : (table : TableId) (bookmark : List ℕ) (copied : Option (List ℕ)) (row : List ℕ) (values : RecordFields) (keys : ℕ → List ℕ → Bool) (old new : List StoredTable) → IsPut table.0 bookmark row keys old new → row_in_node row ≡ Some row → record_of row ≡ values → AreSorted old → AreSorted new
-    → (tables : List Table) → map (with_newest new) tables ≡ tables_after (map (with_newest old) tables) (Put table bookmark copied values)
-tables_put table bookmark copied row values keys old new put some shows sorted sorted_then [] = refl
-tables_put table bookmark copied row values keys old new put some shows sorted sorted_then (t ∷ tables) =
-    λ i. (ap (λ (rows : Rows). record t { rows = rows }) (rows_put table.0 bookmark row values keys old new put some shows sorted sorted_then t.id) ∙ by (t.id == table.0)) i
-    ∷ tables_put table bookmark copied row values keys old new put some shows sorted sorted_then tables i
+tables_put : (longs : TableValues) (table : TableId) (bookmark : List ℕ) (copied : Option (List ℕ)) (row : List ℕ) (values : RecordFields) (given : List (List ℕ × List ℕ)) (keys : ℕ → List ℕ → Bool) (old new : List StoredTable) → IsPut table.0 bookmark row given keys old new → row_in_node row ≡ Some row → record_of (longs table.0) row ≡ values → AreSorted old → AreSorted new
+    → (tables : List Table) → map (with_newest_by longs new) tables ≡ tables_after (map (with_newest_by longs old) tables) (Put table bookmark copied values)
+tables_put longs table bookmark copied row values given keys old new put some shows sorted sorted_then [] = refl
+tables_put longs table bookmark copied row values given keys old new put some shows sorted sorted_then (t ∷ tables) =
+    λ i. (ap (λ (rows : Rows). record t { rows = rows }) (rows_put longs table.0 bookmark row values given keys old new put some shows sorted sorted_then t.id) ∙ by (t.id == table.0)) i
+    ∷ tables_put longs table bookmark copied row values given keys old new put some shows sorted sorted_then tables i
   where
-    by : (b : Bool) → record t { rows = cond b (with_row (rows_of_nodes (table_nodes old t.id)) bookmark values) (rows_of_nodes (table_nodes old t.id)) }
-        ≡ cond b (record (with_newest old t) { rows = with_row (rows_of_nodes (table_nodes old t.id)) bookmark values }) (with_newest old t)
+    by : (b : Bool) → record t { rows = cond b (with_row (rows_of_nodes (longs t.id) (table_nodes old t.id)) bookmark values) (rows_of_nodes (longs t.id) (table_nodes old t.id)) }
+        ≡ cond b (record (with_newest_by longs old t) { rows = with_row (rows_of_nodes (longs t.id) (table_nodes old t.id)) bookmark values }) (with_newest_by longs old t)
     by true = refl
     by false = refl
 
-held_put : (sizes : RowSizes) (by : By) (table : TableId) (bookmark : List ℕ) (copied : Option (List ℕ)) (values : RecordFields) (row : Option (List ℕ)) → IfSome row IsRecordRow
-    → held_record (new_change by (Put table bookmark copied values) row) ≡ new_record by (Put table bookmark copied values) (option_map record_of row)
-held_put sizes by table bookmark copied values row is = λ i. record (held_record (new_change by (Put table bookmark copied values) row)) { cost = same_cost sizes (Put table bookmark copied values) row is i }
+held_put : (longs : TableValues) (sizes : RowSizes) (by : By) (table : TableId) (bookmark : List ℕ) (copied : Option (List ℕ)) (values : RecordFields) (row : Option (List ℕ)) → IfSome row (IsRecordRow (longs table.0))
+    → held_record_in longs (new_change by (Put table bookmark copied values) row) ≡ new_record by (Put table bookmark copied values) (option_map (record_of (longs table.0)) row)
+held_put longs sizes by table bookmark copied values row is = λ i. record (held_record_in longs (new_change by (Put table bookmark copied values) row)) { cost = same_cost (longs table.0) sizes (Put table bookmark copied values) row is i }
 
 -- the trees and the held changes after a put show the versioned tables after it
-pub put_shown : (sizes : RowSizes) (by : By) (table : TableId) (bookmark : List ℕ) (copied : Option (List ℕ)) (row : List ℕ) (values : RecordFields) (keys : ℕ → List ℕ → Bool) (old new : List StoredTable) → IsPut table.0 bookmark row keys old new → row_in_node row ≡ Some row → record_of row ≡ values
-    → AreSorted old → AreSorted new → (tables : List Table) (held : List HeldChange) → AreKept tables old held
-    → record { tables = map (with_newest new) tables; held = map held_record (held ++ made_put by table bookmark copied values old ∷ []) }
-    ≡ with_change by (Put table bookmark copied values) (record { tables = map (with_newest old) tables; held = map held_record held })
-put_shown sizes by table bookmark copied row values keys old new put some shows sorted sorted_then tables held kept =
+pub put_shown : (longs : TableValues) (sizes : RowSizes) (by : By) (table : TableId) (bookmark : List ℕ) (copied : Option (List ℕ)) (row : List ℕ) (values : RecordFields) (given : List (List ℕ × List ℕ)) (keys : ℕ → List ℕ → Bool) (old new : List StoredTable) → IsPut table.0 bookmark row given keys old new → row_in_node row ≡ Some row → record_of (longs table.0) row ≡ values
+    → AreSorted old → AreSorted new → (tables : List Table) (held : List HeldChange) → AreKeptWith longs tables old held
+    → record { tables = map (with_newest_by longs new) tables; held = map (held_record_in longs) (held ++ made_put by table bookmark copied values old ∷ []) }
+    ≡ with_change by (Put table bookmark copied values) (record { tables = map (with_newest_by longs old) tables; held = map (held_record_in longs) held })
+put_shown longs sizes by table bookmark copied row values given keys old new put some shows sorted sorted_then tables held kept =
     λ i. record {
-      tables = tables_put table bookmark copied row values keys old new put some shows sorted sorted_then tables i;
-      held = (appended held (made_put by table bookmark copied values old) ∙ ap (λ r. map held_record held ++ r ∷ []) last) i;
+      tables = tables_put longs table bookmark copied row values given keys old new put some shows sorted sorted_then tables i;
+      held = (appended longs held (made_put by table bookmark copied values old) ∙ ap (λ r. map (held_record_in longs) held ++ r ∷ []) last) i;
     }
   where
-    last : held_record (made_put by table bookmark copied values old) ≡ new_record by (Put table bookmark copied values) (record_in (map (with_newest old) tables) table.0 bookmark)
+    last : held_record_in longs (made_put by table bookmark copied values old) ≡ new_record by (Put table bookmark copied values) (record_in (map (with_newest_by longs old) tables) table.0 bookmark)
     last =
-        held_put sizes by table bookmark copied values (row_under (table_nodes old table.0) bookmark) (newest_is_row tables old held kept table.0 bookmark)
-        ∙ ap (new_record by (Put table bookmark copied values)) (sym (newest_at old tables kept.numbers sorted table.0 bookmark))
+        held_put longs sizes by table bookmark copied values (row_under (table_nodes old table.0) bookmark) (newest_is_row longs tables old held kept table.0 bookmark)
+        ∙ ap (new_record by (Put table bookmark copied values)) (sym (newest_at longs old tables kept.numbers sorted table.0 bookmark))

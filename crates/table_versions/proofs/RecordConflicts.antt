@@ -10,7 +10,8 @@ use Rattle.version_store.specs.declared.calls.Reader.{Reader}
 use Rattle.version_store.specs.HeldChanges.{HeldChange, is_concurrent, is_record, is_rewrite, is_standing, last_place, later_place}
 use Rattle.versioned_tables.specs.HeldRecords.{is_standing_rewrite}
 use Rattle.table_versions.specs.KeyConflicts.{conflicts_under, next_yields, yields_before, yields_before_change}
-use Rattle.stored_variants.specs.RecordRows.{held_record, record_of}
+use Rattle.stored_variants.specs.RecordRows.{TableValues, held_record_in, record_of}
+use Rattle.long_value.specs.Values.{Values}
 
 -- ---- places
 
@@ -101,49 +102,52 @@ pub record Asked : Type 0 where
   pub bookmark : List ℕ
 
 -- whether the record before the oldest of its puts and drops that stand has the key, and whether there is a conflict
-abbrev pub first_yields : Asked → List HeldChange → Bool
-first_yields a held = next_yields a.rule a.schema a.key a.newest a.table a.bookmark (map held_record held)
+abbrev pub first_yields : TableValues → Asked → List HeldChange → Bool
+first_yields longs a held = next_yields a.rule a.schema a.key a.newest a.table a.bookmark (map (held_record_in longs) held)
 
-abbrev pub conflicts_in : Asked → List HeldChange → Bool
-conflicts_in a held = conflicts_under a.reader a.rule a.schema a.key a.newest a.table a.bookmark (map held_record held)
+abbrev pub conflicts_in : TableValues → Asked → List HeldChange → Bool
+conflicts_in longs a held = conflicts_under a.reader a.rule a.schema a.key a.newest a.table a.bookmark (map (held_record_in longs) held)
 
 abbrev pub is_of : Asked → HeldChange → Bool
 is_of a h = is_record a.table a.bookmark h
 
-pub other_yields : (a : Asked) (h : HeldChange) (rest : List HeldChange) → is_of a h ≡ false → first_yields a (h ∷ rest) ≡ first_yields a rest
-other_yields a h rest e =
-    ap (λ b. yields_before a.rule a.schema a.key a.newest (cond (b && is_rewrite h.kind && not (is_undone h.status)) (Some (held_record h)) (find (is_standing_rewrite a.table a.bookmark) (map held_record rest)))) e
+pub own_table : (a : Asked) (h : HeldChange) → is_of a h ≡ true → h.table ≡ a.table
+own_table a h own = same_number h.table a.table (and_left (h.table == a.table) _ own)
 
-pub other_conflicts : (a : Asked) (h : HeldChange) (rest : List HeldChange) → is_of a h ≡ false → conflicts_in a (h ∷ rest) ≡ conflicts_in a rest
-other_conflicts a h rest e =
-    ap (λ b. (is_concurrent a.reader h && (b && (first_yields a (h ∷ rest) || first_yields a rest))) || conflicts_in a rest) e
-    ∙ ap (λ b. b || conflicts_in a rest) (and_false (is_concurrent a.reader h))
+pub other_yields : (longs : TableValues) (a : Asked) (h : HeldChange) (rest : List HeldChange) → is_of a h ≡ false → first_yields longs a (h ∷ rest) ≡ first_yields longs a rest
+other_yields longs a h rest e =
+    ap (λ b. yields_before a.rule a.schema a.key a.newest (cond (b && is_rewrite h.kind && not (is_undone h.status)) (Some (held_record_in longs h)) (find (is_standing_rewrite a.table a.bookmark) (map (held_record_in longs) rest)))) e
 
-own_yields : (a : Asked) (h : HeldChange) (rest : List HeldChange) → is_of a h ≡ true → first_yields a (h ∷ rest) ≡ yields_before_change a.rule a.schema a.key (first_yields a rest) h
-own_yields a h rest e =
-    ap (λ b. yields_before a.rule a.schema a.key a.newest (cond (b && is_rewrite h.kind && not (is_undone h.status)) (Some (held_record h)) (find (is_standing_rewrite a.table a.bookmark) (map held_record rest)))) e
+pub other_conflicts : (longs : TableValues) (a : Asked) (h : HeldChange) (rest : List HeldChange) → is_of a h ≡ false → conflicts_in longs a (h ∷ rest) ≡ conflicts_in longs a rest
+other_conflicts longs a h rest e =
+    ap (λ b. (is_concurrent a.reader h && (b && (first_yields longs a (h ∷ rest) || first_yields longs a rest))) || conflicts_in longs a rest) e
+    ∙ ap (λ b. b || conflicts_in longs a rest) (and_false (is_concurrent a.reader h))
+
+own_yields : (longs : TableValues) (a : Asked) (h : HeldChange) (rest : List HeldChange) → is_of a h ≡ true → first_yields longs a (h ∷ rest) ≡ yields_before_change longs a.rule a.schema a.key (first_yields longs a rest) h
+own_yields longs a h rest e =
+    ap (λ b. yields_before a.rule a.schema a.key a.newest (cond (b && is_rewrite h.kind && not (is_undone h.status)) (Some (held_record_in longs h)) (find (is_standing_rewrite a.table a.bookmark) (map (held_record_in longs) rest)))) e
     ∙ by (is_standing h) refl
   where
-    by : (b : Bool) → is_standing h ≡ b → yields_before a.rule a.schema a.key a.newest (cond b (Some (held_record h)) (find (is_standing_rewrite a.table a.bookmark) (map held_record rest)))
-        ≡ cond b (yields_key a.rule a.schema a.key (option_map record_of h.before)) (first_yields a rest)
-    by true s = ap (λ c. yields_key a.rule a.schema a.key (cond c (option_map record_of h.before) None)) s
+    by : (b : Bool) → is_standing h ≡ b → yields_before a.rule a.schema a.key a.newest (cond b (Some (held_record_in longs h)) (find (is_standing_rewrite a.table a.bookmark) (map (held_record_in longs) rest)))
+        ≡ cond b (yields_key a.rule a.schema a.key (option_map (record_of (longs h.table)) h.before)) (first_yields longs a rest)
+    by true s = ap (λ c. yields_key a.rule a.schema a.key (cond c (option_map (record_of (longs h.table)) h.before) None)) s
     by false s = refl
 
-own_conflicts : (a : Asked) (h : HeldChange) (rest : List HeldChange) → is_of a h ≡ true → conflicts_in a rest ≡ false
-    → conflicts_in a (h ∷ rest) ≡ (is_concurrent a.reader h && (first_yields a (h ∷ rest) || first_yields a rest))
-own_conflicts a h rest e none =
-    (λ i. (is_concurrent a.reader h && (e i && (first_yields a (h ∷ rest) || first_yields a rest))) || none i)
-    ∙ or_none (is_concurrent a.reader h && (first_yields a (h ∷ rest) || first_yields a rest))
+own_conflicts : (longs : TableValues) (a : Asked) (h : HeldChange) (rest : List HeldChange) → is_of a h ≡ true → conflicts_in longs a rest ≡ false
+    → conflicts_in longs a (h ∷ rest) ≡ (is_concurrent a.reader h && (first_yields longs a (h ∷ rest) || first_yields longs a rest))
+own_conflicts longs a h rest e none =
+    (λ i. (is_concurrent a.reader h && (e i && (first_yields longs a (h ∷ rest) || first_yields longs a rest))) || none i)
+    ∙ or_none (is_concurrent a.reader h && (first_yields longs a (h ∷ rest) || first_yields longs a rest))
   where
     or_none : (b : Bool) → (b || false) ≡ b
     or_none true = refl
     or_none false = refl
 
 -- a conflict of the newer changes is one
-later_conflict : (a : Asked) (count : ℕ) (held : List HeldChange) → conflicts_in a (drop count held) ≡ true → conflicts_in a held ≡ true
-later_conflict a zero held e = e
-later_conflict a (suc count) [] e = e
-later_conflict a (suc count) (h ∷ held) e = or_right _ (conflicts_in a held) (later_conflict a count held e)
+later_conflict : (longs : TableValues) (a : Asked) (count : ℕ) (held : List HeldChange) → conflicts_in longs a (drop count held) ≡ true → conflicts_in longs a held ≡ true
+later_conflict longs a zero held e = e
+later_conflict longs a (suc count) [] e = e
+later_conflict longs a (suc count) (h ∷ held) e = or_right _ (conflicts_in longs a held) (later_conflict longs a count held e)
   where
     or_right : (b c : Bool) → c ≡ true → (b || c) ≡ true
     or_right true c e = refl
@@ -153,33 +157,33 @@ later_conflict a (suc count) (h ∷ held) e = or_right _ (conflicts_in a held) (
 
 -- The walk stands on a change of the record, or has passed all. No conflict is among the changes that it has passed, and it
 -- knows whether the record after the next one has the key.
-pub record Walks (a : Asked) (held : List HeldChange) (found : Option ℕ) (after : Bool) : Type 0 where
+pub record Walks (longs : TableValues) (a : Asked) (held : List HeldChange) (found : Option ℕ) (after : Bool) : Type 0 where
   pub within : IfSome found (λ place. place < length held)
   pub own : (place : ℕ) (h : HeldChange) → found ≡ Some place → slice_get held place ≡ Some h → is_of a h ≡ true
-  pub yields : first_yields a (drop (up_to found) held) ≡ after
-  pub none : conflicts_in a (drop (up_to found) held) ≡ false
+  pub yields : first_yields longs a (drop (up_to found) held) ≡ after
+  pub none : conflicts_in longs a (drop (up_to found) held) ≡ false
 
-pub walk_begins : (a : Asked) (held : List HeldChange) (found : Option ℕ) → found ≡ last_place (is_record a.table a.bookmark) held → IfSome found (λ place. place < length held) → Walks a held found a.newest
-walk_begins a held found is within = record {
+pub walk_begins : (longs : TableValues) (a : Asked) (held : List HeldChange) (found : Option ℕ) → found ≡ last_place (is_record a.table a.bookmark) held → IfSome found (λ place. place < length held) → Walks longs a held found a.newest
+walk_begins longs a held found is within = record {
   within = within;
   own = λ place h e g. newest_passes (is_of a) held place h (sym is ∙ e) g;
-  yields = ap (λ (o : Option ℕ). first_yields a (drop (up_to o) held)) is ∙ skipped_newest (is_of a) (first_yields a) (other_yields a) held;
-  none = ap (λ (o : Option ℕ). conflicts_in a (drop (up_to o) held)) is ∙ skipped_newest (is_of a) (conflicts_in a) (other_conflicts a) held;
+  yields = ap (λ (o : Option ℕ). first_yields longs a (drop (up_to o) held)) is ∙ skipped_newest (is_of a) (first_yields longs a) (other_yields longs a) held;
+  none = ap (λ (o : Option ℕ). conflicts_in longs a (drop (up_to o) held)) is ∙ skipped_newest (is_of a) (conflicts_in longs a) (other_conflicts longs a) held;
 }
 
 -- what the change at the place tells
-record Here (a : Asked) (held : List HeldChange) (place : ℕ) (before after concurrent : Bool) : Type 0 where
-  yields : first_yields a (drop place held) ≡ before
-  conflict : conflicts_in a (drop place held) ≡ (concurrent && (before || after))
+record Here (longs : TableValues) (a : Asked) (held : List HeldChange) (place : ℕ) (before after concurrent : Bool) : Type 0 where
+  yields : first_yields longs a (drop place held) ≡ before
+  conflict : conflicts_in longs a (drop place held) ≡ (concurrent && (before || after))
 
-here : (a : Asked) (held : List HeldChange) (place : ℕ) (before after concurrent : Bool) → Walks a held (Some place) after
-    → ((h : HeldChange) → slice_get held place ≡ Some h → before ≡ yields_before_change a.rule a.schema a.key after h) → slice_get (map (is_concurrent a.reader) held) place ≡ Some concurrent
-    → (h : HeldChange) → slice_get held place ≡ Some h → Here a held place before after concurrent
-here a held place before after concurrent walk before_is concurrent_is h at = record {
+here : (longs : TableValues) (a : Asked) (held : List HeldChange) (place : ℕ) (before after concurrent : Bool) → Walks longs a held (Some place) after
+    → ((h : HeldChange) → slice_get held place ≡ Some h → before ≡ yields_before_change longs a.rule a.schema a.key after h) → slice_get (map (is_concurrent a.reader) held) place ≡ Some concurrent
+    → (h : HeldChange) → slice_get held place ≡ Some h → Here longs a held place before after concurrent
+here longs a held place before after concurrent walk before_is concurrent_is h at = record {
   yields = yielding;
   conflict =
-      ap (conflicts_in a) start ∙ own_conflicts a h rest own walk.none
-      ∙ (λ i. mapped (is_concurrent a.reader) held place h concurrent at concurrent_is i && ((sym (ap (first_yields a) start) ∙ yielding) i || walk.yields i));
+      ap (conflicts_in longs a) start ∙ own_conflicts longs a h rest own walk.none
+      ∙ (λ i. mapped (is_concurrent a.reader) held place h concurrent at concurrent_is i && ((sym (ap (first_yields longs a) start) ∙ yielding) i || walk.yields i));
 }
   where
     rest : List HeldChange
@@ -191,38 +195,38 @@ here a held place before after concurrent walk before_is concurrent_is h at = re
     own : is_of a h ≡ true
     own = walk.own place h refl at
 
-    yielding : first_yields a (drop place held) ≡ before
-    yielding = ap (first_yields a) start ∙ own_yields a h rest own ∙ ap (λ b. yields_before_change a.rule a.schema a.key b h) walk.yields ∙ sym (before_is h at)
+    yielding : first_yields longs a (drop place held) ≡ before
+    yielding = ap (first_yields longs a) start ∙ own_yields longs a h rest own ∙ ap (λ b. yields_before_change longs a.rule a.schema a.key b h) walk.yields ∙ sym (before_is h at)
 
-pub walk_finds : (a : Asked) (held : List HeldChange) (place : ℕ) (before after concurrent : Bool) → Walks a held (Some place) after
-    → ((h : HeldChange) → slice_get held place ≡ Some h → before ≡ yields_before_change a.rule a.schema a.key after h) → slice_get (map (is_concurrent a.reader) held) place ≡ Some concurrent
-    → (concurrent && (before || after)) ≡ true → conflicts_in a held ≡ true
-walk_finds a held place before after concurrent walk before_is concurrent_is meets =
+pub walk_finds : (longs : TableValues) (a : Asked) (held : List HeldChange) (place : ℕ) (before after concurrent : Bool) → Walks longs a held (Some place) after
+    → ((h : HeldChange) → slice_get held place ≡ Some h → before ≡ yields_before_change longs a.rule a.schema a.key after h) → slice_get (map (is_concurrent a.reader) held) place ≡ Some concurrent
+    → (concurrent && (before || after)) ≡ true → conflicts_in longs a held ≡ true
+walk_finds longs a held place before after concurrent walk before_is concurrent_is meets =
     at_place held place walk.within (λ h at.
-    later_conflict a place held ((here a held place before after concurrent walk before_is concurrent_is h at).conflict ∙ meets))
+    later_conflict longs a place held ((here longs a held place before after concurrent walk before_is concurrent_is h at).conflict ∙ meets))
 
-pub walk_goes_on : (a : Asked) (held : List HeldChange) (place : ℕ) (before after concurrent : Bool) → Walks a held (Some place) after
-    → ((h : HeldChange) → slice_get held place ≡ Some h → before ≡ yields_before_change a.rule a.schema a.key after h) → slice_get (map (is_concurrent a.reader) held) place ≡ Some concurrent
+pub walk_goes_on : (longs : TableValues) (a : Asked) (held : List HeldChange) (place : ℕ) (before after concurrent : Bool) → Walks longs a held (Some place) after
+    → ((h : HeldChange) → slice_get held place ≡ Some h → before ≡ yields_before_change longs a.rule a.schema a.key after h) → slice_get (map (is_concurrent a.reader) held) place ≡ Some concurrent
     → (concurrent && (before || after)) ≡ false → (next : Option ℕ) → ((h : HeldChange) → slice_get held place ≡ Some h → next ≡ last_place (is_record h.table h.bookmark) (take place held))
-    → IfSome next (λ older. older < place) → Walks a held next before
-walk_goes_on a held place before after concurrent walk before_is concurrent_is meets next next_is below = at_place held place walk.within goes_on
+    → IfSome next (λ older. older < place) → Walks longs a held next before
+walk_goes_on longs a held place before after concurrent walk before_is concurrent_is meets next next_is below = at_place held place walk.within goes_on
   where
     less : (o : Option ℕ) → IfSome o (λ older. older < place) → IfSome o (λ older. older < length held)
     less None is = tt
     less (Some older) is = omega (arith, is, walk.within)
 
-    goes_on : (h : HeldChange) → slice_get held place ≡ Some h → Walks a held next before
+    goes_on : (h : HeldChange) → slice_get held place ≡ Some h → Walks longs a held next before
     goes_on h at =
         let own : is_of a h ≡ true = walk.own place h refl at in
         let number : h.table ≡ a.table = same_number h.table a.table (and_left (h.table == a.table) _ own) in
         let bookmark : h.bookmark ≡ a.bookmark = same_bytes h.bookmark a.bookmark (and_right (h.table == a.table) _ own) in
         let is : next ≡ last_place (is_of a) (take place held) = next_is h at ∙ (λ i. last_place (is_record (number i) (bookmark i)) (take place held)) in
-        let told = here a held place before after concurrent walk before_is concurrent_is h at in
+        let told = here longs a held place before after concurrent walk before_is concurrent_is h at in
         record {
           within = less next below;
           own = λ older g e at_older. last_passes (is_of a) place held older g (sym is ∙ e) at_older;
-          yields = ap (λ (o : Option ℕ). first_yields a (drop (up_to o) held)) is ∙ skipped (is_of a) (first_yields a) (other_yields a) place held ∙ told.yields;
-          none = ap (λ (o : Option ℕ). conflicts_in a (drop (up_to o) held)) is ∙ skipped (is_of a) (conflicts_in a) (other_conflicts a) place held ∙ told.conflict ∙ meets;
+          yields = ap (λ (o : Option ℕ). first_yields longs a (drop (up_to o) held)) is ∙ skipped (is_of a) (first_yields longs a) (other_yields longs a) place held ∙ told.yields;
+          none = ap (λ (o : Option ℕ). conflicts_in longs a (drop (up_to o) held)) is ∙ skipped (is_of a) (conflicts_in longs a) (other_conflicts longs a) place held ∙ told.conflict ∙ meets;
         }
 
 -- each place is before the one that the walk stands on
@@ -233,22 +237,22 @@ falls found next place is below = subst (λ (o : Option ℕ). up_to next < up_to
     by None h = omega arith
     by (Some older) h = omega (arith, h)
 
-pub walk_ends : (a : Asked) (held : List HeldChange) (found : Option ℕ) (after : Bool) → Walks a held found after → found ≡ None → conflicts_in a held ≡ false
-walk_ends a held found after walk is = ap (λ (o : Option ℕ). conflicts_in a (drop (up_to o) held)) (sym is) ∙ walk.none
+pub walk_ends : (longs : TableValues) (a : Asked) (held : List HeldChange) (found : Option ℕ) (after : Bool) → Walks longs a held found after → found ≡ None → conflicts_in longs a held ≡ false
+walk_ends longs a held found after walk is = ap (λ (o : Option ℕ). conflicts_in longs a (drop (up_to o) held)) (sym is) ∙ walk.none
 
 -- a change that is not concurrent is passed over, whatever the rows before it and after it have
-pub walk_passes : (a : Asked) (held : List HeldChange) (found : Option ℕ) (place : ℕ) → found ≡ Some place → ((after : Bool) × Walks a held found after) → slice_get (map (is_concurrent a.reader) held) place ≡ Some false
-    → (next : Option ℕ) → ((h : HeldChange) → slice_get held place ≡ Some h → next ≡ last_place (is_record h.table h.bookmark) (take place held)) → IfSome next (λ older. older < place) → (before : Bool) × Walks a held next before
-walk_passes a held found place is (after, walk) apart next next_is below = at_place held place stands.within passes
+pub walk_passes : (longs : TableValues) (a : Asked) (held : List HeldChange) (found : Option ℕ) (place : ℕ) → found ≡ Some place → ((after : Bool) × Walks longs a held found after) → slice_get (map (is_concurrent a.reader) held) place ≡ Some false
+    → (next : Option ℕ) → ((h : HeldChange) → slice_get held place ≡ Some h → next ≡ last_place (is_record h.table h.bookmark) (take place held)) → IfSome next (λ older. older < place) → (before : Bool) × Walks longs a held next before
+walk_passes longs a held found place is (after, walk) apart next next_is below = at_place held place stands.within passes
   where
-    stands : Walks a held (Some place) after
-    stands = subst (λ (o : Option ℕ). Walks a held o after) is walk
+    stands : Walks longs a held (Some place) after
+    stands = subst (λ (o : Option ℕ). Walks longs a held o after) is walk
 
-    passes : (h : HeldChange) → slice_get held place ≡ Some h → (before : Bool) × Walks a held next before
+    passes : (h : HeldChange) → slice_get held place ≡ Some h → (before : Bool) × Walks longs a held next before
     passes h at = (
-      yields_before_change a.rule a.schema a.key after h,
-      walk_goes_on a held place (yields_before_change a.rule a.schema a.key after h) after false stands
-          (λ other there. ap (yields_before_change a.rule a.schema a.key after) (ap (λ (o : Option HeldChange). unwrap_or o h) (sym at ∙ there))) apart refl next next_is below,
+      yields_before_change longs a.rule a.schema a.key after h,
+      walk_goes_on longs a held place (yields_before_change longs a.rule a.schema a.key after h) after false stands
+          (λ other there. ap (yields_before_change longs a.rule a.schema a.key after) (ap (λ (o : Option HeldChange). unwrap_or o h) (sym at ∙ there))) apart refl next next_is below,
     )
 
 pub older_within : (next : Option ℕ) (place count : ℕ) → IfSome next (λ older. older < place) → place < count → IfSome next (λ older. older < count)

@@ -9,7 +9,7 @@ use Rattle.index_derive.specs.Entries.{derive, own_order}
 use Rattle.jet_catalog.specs.Catalog.{CatalogState}
 use Rattle.record_changes.proofs.Tests.{same_number}
 use Rattle.table_trees.specs.StoredNodes.{bookmark_entries}
-use Rattle.table_trees.specs.StoredTables.{StoredTable, index_entries as entries_in_tree, table_nodes}
+use Rattle.table_trees.specs.StoredTables.{table_long_values, StoredTable, index_entries as entries_in_tree, table_nodes}
 use Rattle.version_store.specs.declared.calls.Reader.{Reader}
 use Rattle.version_store.specs.HeldChanges.{HeldChange}
 use Rattle.versioned_tables.specs.HeldRecords.{HeldRecord, seen_record}
@@ -17,14 +17,15 @@ use Rattle.versioned_tables.specs.VersionedTables.{VersionedTables, seen_rows, s
 use Rattle.versioned_tables.specs.Variants.{HoldsVariants, shown_entries}
 use Rattle.versioned_tables.proofs.SeenTables.{seen_at_id}
 use Rattle.versioned_tables.specs.Holding.{RowsRise}
-use Rattle.stored_variants.specs.RecordRows.{held_record, rows_of_nodes}
+use Rattle.stored_variants.specs.RecordRows.{TableValues, held_record_in, rows_of_nodes}
 use Rattle.stored_variants.specs.StoredVersions.{StoredVersions, entries_in, seen_entries}
-use Rattle.stored_variants.specs.VersionsView.{stored_versions, with_newest}
-use Rattle.stored_variants.specs.VersionsKept.{AreKept, IsKeptTable, only_secondary}
+use Rattle.stored_variants.specs.VersionsView.{stored_versions, with_newest_by}
+use Rattle.stored_variants.specs.VersionsKept.{AreKept, AreKeptWith, IsKeptTable, only_secondary}
 use Rattle.table_versions.specs.Walks.{is_entry_of, is_shown, stored_entries}
 use Rattle.table_versions.proofs.OwnOrder.{Laws, own_order_is}
 use Rattle.stored_variants.proofs.RisingRows.{rows_rise}
 use Rattle.stored_variants.proofs.Tables.{found_number, table_at}
+use Rattle.long_value.specs.Values.{Values}
 
 abbrev pub WalksSeen : Type 0
 WalksSeen =
@@ -49,16 +50,16 @@ rule_number index (r ∷ rules) rule e = by (r.id.0 == index) refl (rule_number 
     by false h rest e = rest e
 
 -- the entries that are derived of the records which the reader sees
-derived_is : WalkLaws → (trees : List StoredTable) (held : List HeldRecord) (t : Table) (reader : Reader) (index : ℕ)
-    → are_sorted (bookmark_entries (table_nodes trees t.id)) ≡ true → ((index : ℕ) → are_sorted (entries_in_tree trees t.id index) ≡ true) → IsKeptTable trees (table_nodes trees t.id) held t
+derived_is : (longs : TableValues) → WalkLaws → (trees : List StoredTable) (held : List HeldRecord) (t : Table) (reader : Reader) (index : ℕ)
+    → are_sorted (bookmark_entries (table_nodes trees t.id)) ≡ true → ((index : ℕ) → are_sorted (entries_in_tree trees t.id index) ≡ true) → IsKeptTable trees (longs t.id) (table_nodes trees t.id) held t
     → (rule : Option IndexRule) → rule_with_id (schema_of t) index ≡ rule
-    → entries_of_rule (schema_of t) (seen_rows t.id reader held (rows_of_nodes (table_nodes trees t.id))) rule
-    ≡ filter (λ entry. is_entry_of (only_secondary rule) (schema_of t) entry.0 (seen_record t.id entry.1 reader (row_at (rows_of_nodes (table_nodes trees t.id)) entry.1) held)) (stored_entries trees t.id (only_secondary rule))
-derived_is walks trees held t reader index sorted each kept None e = own_order_is walks.own t.id reader held (table_nodes trees t.id) sorted kept.stands
-derived_is walks trees held t reader index sorted each kept (Some rule) e = by rule.flags.primary refl
+    → entries_of_rule (schema_of t) (seen_rows t.id reader held (rows_of_nodes (longs t.id) (table_nodes trees t.id))) rule
+    ≡ filter (λ entry. is_entry_of (only_secondary rule) (schema_of t) entry.0 (seen_record t.id entry.1 reader (row_at (rows_of_nodes (longs t.id) (table_nodes trees t.id)) entry.1) held)) (stored_entries trees t.id (only_secondary rule))
+derived_is longs walks trees held t reader index sorted each kept None e = own_order_is (longs t.id) walks.own t.id reader held (table_nodes trees t.id) sorted kept.stands
+derived_is longs walks trees held t reader index sorted each kept (Some rule) e = by rule.flags.primary refl
   where
     rows : Rows
-    rows = rows_of_nodes (table_nodes trees t.id)
+    rows = rows_of_nodes (longs t.id) (table_nodes trees t.id)
 
     schema : Schema
     schema = schema_of t
@@ -73,53 +74,53 @@ derived_is walks trees held t reader index sorted each kept (Some rule) e = by r
     by : (b : Bool) → rule.flags.primary ≡ b
         → cond b (own_order (seen_rows t.id reader held rows)) (derive rule schema (seen_rows t.id reader held rows))
         ≡ filter (λ entry. is_entry_of (cond b None (Some rule)) schema entry.0 (seen_record t.id entry.1 reader (row_at rows entry.1) held)) (stored_entries trees t.id (cond b None (Some rule)))
-    by true p = own_order_is walks.own t.id reader held (table_nodes trees t.id) sorted kept.stands
-    by false p = sym (walks.walks t.id reader held rows rule schema (entries_in_tree trees t.id rule.id.0) (rows_rise (table_nodes trees t.id) sorted) (holds p) (each rule.id.0))
+    by true p = own_order_is (longs t.id) walks.own t.id reader held (table_nodes trees t.id) sorted kept.stands
+    by false p = sym (walks.walks t.id reader held rows rule schema (entries_in_tree trees t.id rule.id.0) (rows_rise (longs t.id) (table_nodes trees t.id) sorted) (holds p) (each rule.id.0))
 
 -- the same of the tables of the catalog
-abbrev pub store_of : List StoredTable → List Table → List HeldChange → VersionedTables
-store_of trees tables held = record { tables = map (with_newest trees) tables; held = map held_record held }
+abbrev pub store_of : TableValues → List StoredTable → List Table → List HeldChange → VersionedTables
+store_of longs trees tables held = record { tables = map (with_newest_by longs trees) tables; held = map (held_record_in longs) held }
 
-at_id : WalkLaws → (tables : List Table) (trees : List StoredTable) (held : List HeldChange) → AreKept tables trees held → ((table : ℕ) → are_sorted (bookmark_entries (table_nodes trees table)) ≡ true) → ((table index : ℕ) → are_sorted (entries_in_tree trees table index) ≡ true)
+at_id : (longs : TableValues) → WalkLaws → (tables : List Table) (trees : List StoredTable) (held : List HeldChange) → AreKeptWith longs tables trees held → ((table : ℕ) → are_sorted (bookmark_entries (table_nodes trees table)) ≡ true) → ((table index : ℕ) → are_sorted (entries_in_tree trees table index) ≡ true)
     → (t : Table) → table_with_id tables t.id ≡ Some t → (reader : Reader) (index : ℕ)
-    → seen_entries reader (store_of trees tables held) t.id index
-    ≡ filter (is_shown reader (store_of trees tables held) t.id (schema_of t) (only_secondary (rule_with_id (schema_of t) index))) (stored_entries trees t.id (only_secondary (rule_with_id (schema_of t) index)))
+    → seen_entries reader (store_of longs trees tables held) t.id index
+    ≡ filter (is_shown reader (store_of longs trees tables held) t.id (schema_of t) (only_secondary (rule_with_id (schema_of t) index))) (stored_entries trees t.id (only_secondary (rule_with_id (schema_of t) index)))
 unfolding index_entries
-at_id walks tables trees held kept sorted each t e reader index =
-    ap (entries_in index) (seen_at_id reader records (map (with_newest trees) tables) t.id ∙ ap (option_map (seen_table reader records)) newest)
-    ∙ derived_is walks trees records t reader index (sorted t.id) (each t.id) (subst P e (kept.each t.id)) (rule_with_id (schema_of t) index) refl
+at_id longs walks tables trees held kept sorted each t e reader index =
+    ap (entries_in index) (seen_at_id reader records (map (with_newest_by longs trees) tables) t.id ∙ ap (option_map (seen_table reader records)) newest)
+    ∙ derived_is longs walks trees records t reader index (sorted t.id) (each t.id) (subst P e (kept.each t.id)) (rule_with_id (schema_of t) index) refl
     ∙ ap (λ (o : Option Table). filter (λ entry. is_entry_of rule (schema_of t) entry.0 (seen_record t.id entry.1 reader (row_at (rows_of o) entry.1) records)) (stored_entries trees t.id rule)) (sym newest)
   where
     records : List HeldRecord
-    records = map held_record held
+    records = map (held_record_in longs) held
 
     rule : Option IndexRule
     rule = only_secondary (rule_with_id (schema_of t) index)
 
-    newest : table_with_id (map (with_newest trees) tables) t.id ≡ Some (with_newest trees t)
-    newest = table_at trees tables t.id ∙ ap (option_map (with_newest trees)) e
+    newest : table_with_id (map (with_newest_by longs trees) tables) t.id ≡ Some (with_newest_by longs trees t)
+    newest = table_at longs trees tables t.id ∙ ap (option_map (with_newest_by longs trees)) e
 
     P : Option Table → Type 0
-    P o = IfSome o (IsKeptTable trees (table_nodes trees t.id) records)
+    P o = IfSome o (IsKeptTable trees (longs t.id) (table_nodes trees t.id) records)
 
-pub shown_is_seen : WalkLaws → (tables : List Table) (trees : List StoredTable) (held : List HeldChange) → AreKept tables trees held → ((table : ℕ) → are_sorted (bookmark_entries (table_nodes trees table)) ≡ true) → ((table index : ℕ) → are_sorted (entries_in_tree trees table index) ≡ true)
-    → (table : ℕ) (schema : Schema) → IsSomeAnd (table_with_id (map (with_newest trees) tables) table) (λ t. schema ≡ schema_of t) → (reader : Reader) (index : ℕ)
-    → seen_entries reader (store_of trees tables held) table index
-    ≡ filter (is_shown reader (store_of trees tables held) table schema (only_secondary (rule_with_id schema index))) (stored_entries trees table (only_secondary (rule_with_id schema index)))
-shown_is_seen walks tables trees held kept sorted each table schema known reader index =
-    by (table_with_id tables table) refl (subst (λ (o : Option Table). IsSomeAnd o (λ t. schema ≡ schema_of t)) (table_at trees tables table) known)
+pub shown_is_seen : (longs : TableValues) → WalkLaws → (tables : List Table) (trees : List StoredTable) (held : List HeldChange) → AreKeptWith longs tables trees held → ((table : ℕ) → are_sorted (bookmark_entries (table_nodes trees table)) ≡ true) → ((table index : ℕ) → are_sorted (entries_in_tree trees table index) ≡ true)
+    → (table : ℕ) (schema : Schema) → IsSomeAnd (table_with_id (map (with_newest_by longs trees) tables) table) (λ t. schema ≡ schema_of t) → (reader : Reader) (index : ℕ)
+    → seen_entries reader (store_of longs trees tables held) table index
+    ≡ filter (is_shown reader (store_of longs trees tables held) table schema (only_secondary (rule_with_id schema index))) (stored_entries trees table (only_secondary (rule_with_id schema index)))
+shown_is_seen longs walks tables trees held kept sorted each table schema known reader index =
+    by (table_with_id tables table) refl (subst (λ (o : Option Table). IsSomeAnd o (λ t. schema ≡ schema_of t)) (table_at longs trees tables table) known)
   where
     Shown : Schema → ℕ → Type 0
     Shown s n =
-        seen_entries reader (store_of trees tables held) n index
-        ≡ filter (is_shown reader (store_of trees tables held) n s (only_secondary (rule_with_id s index))) (stored_entries trees n (only_secondary (rule_with_id s index)))
+        seen_entries reader (store_of longs trees tables held) n index
+        ≡ filter (is_shown reader (store_of longs trees tables held) n s (only_secondary (rule_with_id s index))) (stored_entries trees n (only_secondary (rule_with_id s index)))
 
-    by : (o : Option Table) → table_with_id tables table ≡ o → IsSomeAnd (option_map (with_newest trees) o) (λ t. schema ≡ schema_of t) → Shown schema table
+    by : (o : Option Table) → table_with_id tables table ≡ o → IsSomeAnd (option_map (with_newest_by longs trees) o) (λ t. schema ≡ schema_of t) → Shown schema table
     by None e is = absurd is
     by (Some t) e is =
         let found = found_number table tables t e in
         subst (λ (n : ℕ). Shown schema n) found
-        (subst (λ (s : Schema). Shown s t.id) (sym is) (at_id walks tables trees held kept sorted each t (ap (table_with_id tables) found ∙ e) reader index))
+        (subst (λ (s : Schema). Shown s t.id) (sym is) (at_id longs walks tables trees held kept sorted each t (ap (table_with_id tables) found ∙ e) reader index))
 
 -- ---- in a store
 
@@ -129,12 +130,12 @@ stored_sorted trees table nodes entries None = nodes table
 stored_sorted trees table nodes entries (Some rule) = entries table rule.id.0
 
 -- the entries that the reader sees are those of the stored ones that are shown
-pub seen_of_stored : WalkLaws → (catalog : CatalogState) (trees : List StoredTable) (held : List HeldChange) → AreKept catalog.tables trees held → ((table : ℕ) → are_sorted (bookmark_entries (table_nodes trees table)) ≡ true) → ((table index : ℕ) → are_sorted (entries_in_tree trees table index) ≡ true)
-    → (now : StoredVersions) → stored_versions catalog trees held ≡ now → (table : ℕ) (schema : Schema) → IsSomeAnd (table_with_id now.store.tables table) (λ t. schema ≡ schema_of t) → (reader : Reader) (index : ℕ)
+pub seen_of_stored : WalkLaws → (latest : ℕ) (catalog : CatalogState) (trees : List StoredTable) (held : List HeldChange) → AreKept catalog.tables trees held → ((table : ℕ) → are_sorted (bookmark_entries (table_nodes trees table)) ≡ true) → ((table index : ℕ) → are_sorted (entries_in_tree trees table index) ≡ true)
+    → (now : StoredVersions) → stored_versions latest catalog trees held ≡ now → (table : ℕ) (schema : Schema) → IsSomeAnd (table_with_id now.store.tables table) (λ t. schema ≡ schema_of t) → (reader : Reader) (index : ℕ)
     → (rule : Option IndexRule) → rule ≡ only_secondary (rule_with_id schema index)
     → seen_entries reader now.store table index ≡ filter (is_shown reader now.store table schema rule) (stored_entries trees table rule)
-seen_of_stored walks catalog trees held kept nodes entries now shows table schema known reader index rule found =
+seen_of_stored walks latest catalog trees held kept nodes entries now shows table schema known reader index rule found =
     subst (λ (v : StoredVersions). seen_entries reader v.store table index ≡ filter (is_shown reader v.store table schema rule) (stored_entries trees table rule)) shows
-    (subst (λ (o : Option IndexRule). seen_entries reader (store_of trees catalog.tables held) table index ≡ filter (is_shown reader (store_of trees catalog.tables held) table schema o) (stored_entries trees table o)) (sym found)
-    (shown_is_seen walks catalog.tables trees held kept nodes entries table schema
+    (subst (λ (o : Option IndexRule). seen_entries reader (store_of (table_long_values trees) trees catalog.tables held) table index ≡ filter (is_shown reader (store_of (table_long_values trees) trees catalog.tables held) table schema o) (stored_entries trees table o)) (sym found)
+    (shown_is_seen (table_long_values trees) walks catalog.tables trees held kept nodes entries table schema
     (subst (λ (v : StoredVersions). IsSomeAnd (table_with_id v.store.tables table) (λ t. schema ≡ schema_of t)) (sym shows) known) reader index))

@@ -8,12 +8,12 @@ use Rattle.index_derive.specs.declared.rules.IndexRule.{IndexRule}
 use Rattle.index_derive.specs.declared.rules.Schema.{Schema}
 use Rattle.index_derive.specs.Entries.{is_legal}
 use Rattle.jet_catalog.specs.Catalog.{CatalogState}
-use Rattle.table_trees.specs.StoredTables.{StoredTable, table_nodes}
+use Rattle.table_trees.specs.StoredTables.{table_long_values, StoredTable, table_nodes}
 use Rattle.version_store.specs.HeldChanges.{HeldChange}
-use Rattle.stored_variants.specs.RecordRows.{held_record}
+use Rattle.stored_variants.specs.RecordRows.{TableValues, held_record_in}
 use Rattle.stored_variants.specs.StoredVersions.{StoredVersions}
-use Rattle.stored_variants.specs.VersionsKept.{AreKept, IsKeptTable, IsStoredRule, only_secondary}
-use Rattle.stored_variants.specs.VersionsView.{stored_versions, with_newest}
+use Rattle.stored_variants.specs.VersionsKept.{AreKept, AreKeptWith, IsKeptTable, IsStoredRule, only_secondary}
+use Rattle.stored_variants.specs.VersionsView.{stored_versions, with_newest_by}
 use Rattle.stored_variants.proofs.Tables.{table_at}
 use Rattle.common_lemmas.proofs.Found.{of_found}
 
@@ -51,19 +51,19 @@ legal_rule table index all = by (rule_with_id (schema_of table) index) refl
         secondary false = let stored = stored_rule table index rule all e in (stored.legal, stored.short)
 
 -- the secondary index of a number is legal, where the schema is the table's
-pub legal_secondary : (tables : List Table) (trees : List StoredTable) (held : List HeldChange) → AreKept tables trees held → (table : ℕ) (schema : Schema) → IsSomeAnd (table_with_id (map (with_newest trees) tables) table) (λ t. schema ≡ schema_of t)
+pub legal_secondary : (longs : TableValues) (tables : List Table) (trees : List StoredTable) (held : List HeldChange) → AreKeptWith longs tables trees held → (table : ℕ) (schema : Schema) → IsSomeAnd (table_with_id (map (with_newest_by longs trees) tables) table) (λ t. schema ≡ schema_of t)
     → (index : ℕ) → IfSome (only_secondary (rule_with_id schema index)) (IsLegalRule schema)
-legal_secondary tables trees held kept table schema known index =
-    by (table_with_id tables table) (kept.each table) (subst (λ (o : Option Table). IsSomeAnd o (λ t. schema ≡ schema_of t)) (table_at trees tables table) known)
+legal_secondary longs tables trees held kept table schema known index =
+    by (table_with_id tables table) (kept.each table) (subst (λ (o : Option Table). IsSomeAnd o (λ t. schema ≡ schema_of t)) (table_at longs trees tables table) known)
   where
-    by : (o : Option Table) → IfSome o (IsKeptTable trees (table_nodes trees table) (map held_record held)) → IsSomeAnd (option_map (with_newest trees) o) (λ t. schema ≡ schema_of t)
+    by : (o : Option Table) → IfSome o (IsKeptTable trees (longs table) (table_nodes trees table) (map (held_record_in longs) held)) → IsSomeAnd (option_map (with_newest_by longs trees) o) (λ t. schema ≡ schema_of t)
         → IfSome (only_secondary (rule_with_id schema index)) (IsLegalRule schema)
     by None is_kept is = absurd is
     by (Some t) is_kept is = subst (λ (s : Schema). IfSome (only_secondary (rule_with_id s index)) (IsLegalRule s)) (sym is) (legal_rule t index is_kept.rules)
 
 -- the same of what the store shows
-pub legal_in_store : (catalog : CatalogState) (trees : List StoredTable) (held : List HeldChange) → AreKept catalog.tables trees held → (now : StoredVersions) → stored_versions catalog trees held ≡ now
+pub legal_in_store : (latest : ℕ) (catalog : CatalogState) (trees : List StoredTable) (held : List HeldChange) → AreKept catalog.tables trees held → (now : StoredVersions) → stored_versions latest catalog trees held ≡ now
     → (table : ℕ) (schema : Schema) → IsSomeAnd (table_with_id now.store.tables table) (λ t. schema ≡ schema_of t) → (index : ℕ) (rule : Option IndexRule) → rule ≡ only_secondary (rule_with_id schema index) → IfSome rule (IsLegalRule schema)
-legal_in_store catalog trees held kept now shows table schema known index rule found =
+legal_in_store latest catalog trees held kept now shows table schema known index rule found =
     subst (λ (o : Option IndexRule). IfSome o (IsLegalRule schema)) (sym found)
-    (legal_secondary catalog.tables trees held kept table schema (subst (λ (v : StoredVersions). IsSomeAnd (table_with_id v.store.tables table) (λ t. schema ≡ schema_of t)) (sym shows) known) index)
+    (legal_secondary (table_long_values trees) catalog.tables trees held kept table schema (subst (λ (v : StoredVersions). IsSomeAnd (table_with_id v.store.tables table) (λ t. schema ≡ schema_of t)) (sym shows) known) index)

@@ -9,13 +9,15 @@ use Rattle.database_state.specs.Table.{Table, record_in, schema_of, table_with_i
 use Rattle.index_derive.specs.declared.rules.Schema.{Schema}
 use Rattle.jet_catalog.specs.Catalog.{CatalogState}
 use Rattle.record_changes.proofs.Tests.{impossible}
-use Rattle.table_trees.specs.StoredTables.{StoredTable}
+use Rattle.table_trees.specs.StoredTables.{table_long_values, StoredTable}
 use Rattle.version_store.specs.declared.calls.By.{By}
 use Rattle.version_store.specs.HeldChanges.{HeldChange, is_rewrite, kind_of, new_change}
 use Rattle.versioned_tables.specs.HeldRecords.{HeldRecord, new_change as new_record}
 use Rattle.versioned_tables.specs.VersionedTables.{with_change}
-use Rattle.stored_variants.specs.RecordRows.{held_record}
-use Rattle.stored_variants.specs.VersionsView.{stored_versions, with_newest}
+use Rattle.stored_variants.specs.RecordRows.{TableValues, held_record_in}
+use Rattle.stored_variants.specs.VersionsView.{with_newest, stored_versions, with_newest_by}
+use Rattle.variant_trees.specs.GoneKeys.{KeepsValues}
+use Rattle.table_versions.proofs.StepInStore.{same_values}
 use Rattle.table_versions.proofs.Held.{appended}
 use Rattle.stored_variants.proofs.Tables.{table_at}
 
@@ -25,28 +27,31 @@ plain_sum (Drop table bookmark) e = impossible e
 plain_sum (Hold table bookmark) e = impossible e
 plain_sum (Add table bookmark column amount) e = refl
 
-sum_record : (by : By) (made : Change) → is_sum made ≡ true → (before : Option RecordFields) → held_record (new_change by made None) ≡ new_record by made before
-sum_record by (Put table bookmark copied values) e before = impossible e
-sum_record by (Drop table bookmark) e before = impossible e
-sum_record by (Hold table bookmark) e before = impossible e
-sum_record by (Add table bookmark column amount) e before = refl
+sum_record : (longs : TableValues) (by : By) (made : Change) → is_sum made ≡ true → (before : Option RecordFields) → held_record_in longs (new_change by made None) ≡ new_record by made before
+sum_record longs by (Put table bookmark copied values) e before = impossible e
+sum_record longs by (Drop table bookmark) e before = impossible e
+sum_record longs by (Hold table bookmark) e before = impossible e
+sum_record longs by (Add table bookmark column amount) e before = refl
 
 -- the store with a sum
-pub store_summed : (catalog : CatalogState) (trees other : List StoredTable) (held : List HeldChange) (by : By) (made : Change) → is_sum made ≡ true → map (with_newest other) catalog.tables ≡ tables_after (map (with_newest trees) catalog.tables) made
-    → stored_versions catalog other (held ++ new_change by made None ∷ []) ≡ record (stored_versions catalog trees held) { store = with_change by made (record { tables = map (with_newest trees) catalog.tables; held = map held_record held }) }
-store_summed catalog trees other held by made sum shown = λ i. record {
+pub store_summed : (latest : ℕ) (catalog : CatalogState) (trees other : List StoredTable) (held : List HeldChange) (by : By) (made : Change) → is_sum made ≡ true → KeepsValues trees other → map (with_newest other) catalog.tables ≡ tables_after (map (with_newest trees) catalog.tables) made
+    → stored_versions latest catalog other (held ++ new_change by made None ∷ []) ≡ record (stored_versions latest catalog trees held) { store = with_change by made (record { tables = map (with_newest trees) catalog.tables; held = map (held_record_in (table_long_values trees)) held }) }
+store_summed latest catalog trees other held by made sum keeps shown = λ i. record {
   greatest_table = catalog.greatest_table;
+  newest_put = latest;
   store = record {
     tables = shown i;
-    held = (appended held (new_change by made None) ∙ ap (λ (r : HeldRecord). map held_record held ++ r ∷ []) (sum_record by made sum (record_in (map (with_newest trees) catalog.tables) (changed_table made) (changed_bookmark made)))) i;
+    held = ((λ j. map (held_record_in (same_values trees other keeps j)) (held ++ new_change by made None ∷ []))
+        ∙ appended (table_long_values trees) held (new_change by made None)
+        ∙ ap (λ (r : HeldRecord). map (held_record_in (table_long_values trees)) held ++ r ∷ []) (sum_record (table_long_values trees) by made sum (record_in (map (with_newest trees) catalog.tables) (changed_table made) (changed_bookmark made)))) i;
   };
 }
 
 -- what is asked of a table with its records is asked of the one in the catalog
-pub asked_of : (P : Schema → Type 0) (trees : List StoredTable) (tables : List Table) (id : ℕ) → IsSomeAnd (table_with_id (map (with_newest trees) tables) id) (λ t. P (schema_of t)) → IsSomeAnd (table_with_id tables id) (λ t. P (schema_of t))
-asked_of P trees tables id h = by (table_with_id tables id) (subst (λ (o : Option Table). IsSomeAnd o (λ t. P (schema_of t))) (table_at trees tables id) h)
+pub asked_of : (longs : TableValues) (P : Schema → Type 0) (trees : List StoredTable) (tables : List Table) (id : ℕ) → IsSomeAnd (table_with_id (map (with_newest_by longs trees) tables) id) (λ t. P (schema_of t)) → IsSomeAnd (table_with_id tables id) (λ t. P (schema_of t))
+asked_of longs P trees tables id h = by (table_with_id tables id) (subst (λ (o : Option Table). IsSomeAnd o (λ t. P (schema_of t))) (table_at longs trees tables id) h)
   where
-    by : (o : Option Table) → IsSomeAnd (option_map (with_newest trees) o) (λ t. P (schema_of t)) → IsSomeAnd o (λ t. P (schema_of t))
+    by : (o : Option Table) → IsSomeAnd (option_map (with_newest_by longs trees) o) (λ t. P (schema_of t)) → IsSomeAnd o (λ t. P (schema_of t))
     by None h = absurd h
     by (Some t) h = h
 

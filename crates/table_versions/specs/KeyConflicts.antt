@@ -14,7 +14,7 @@ use Rattle.version_store.specs.declared.calls.Reader.{Reader}
 use Rattle.version_store.specs.HeldChanges.{HeldChange, is_standing}
 use Rattle.versioned_tables.specs.HeldRecords.{HeldRecord, has_key_conflict, is_change_at, is_concurrent, is_standing_rewrite, seen_record}
 use Rattle.versioned_tables.specs.VersionedTables.{VersionedTables}
-use Rattle.stored_variants.specs.RecordRows.{IsRecordRow, record_of}
+use Rattle.stored_variants.specs.RecordRows.{IsRecordRow, TableValues, record_of}
 use Rattle.stored_variants.specs.StoredVersions.{seen_entries}
 
 -- ---- conflicts
@@ -37,13 +37,13 @@ conflicts_under reader rule schema key newest table bookmark (held ∷ changes) 
     && (next_yields rule schema key newest table bookmark (held ∷ changes) || next_yields rule schema key newest table bookmark changes)))
     || conflicts_under reader rule schema key newest table bookmark changes
 
--- The rows before the puts and drops that stand are rows.
-abbrev pub AreRowsBefore : List HeldChange → Type 0
-AreRowsBefore held = (place : ℕ) (h : HeldChange) → slice_get held place ≡ Some h → is_standing h ≡ true → IfSome h.before IsRecordRow
+-- The rows before the puts and drops that stand are rows, and each long value that they name is there.
+abbrev pub AreRowsBefore : TableValues → List HeldChange → Type 0
+AreRowsBefore longs held = (place : ℕ) (h : HeldChange) → slice_get held place ≡ Some h → is_standing h ≡ true → IfSome h.before (IsRecordRow (longs h.table))
 
 -- whether the row before the change has the key, where the change is a put or a drop that stands; any other leaves it as it is
-abbrev pub yields_before_change : IndexRule → Schema → List ℕ → Bool → HeldChange → Bool
-yields_before_change rule schema key after h = if is_standing h then yields_key rule schema key (option_map record_of h.before) else after
+abbrev pub yields_before_change : TableValues → IndexRule → Schema → List ℕ → Bool → HeldChange → Bool
+yields_before_change longs rule schema key after h = if is_standing h then yields_key rule schema key (option_map (record_of (longs h.table)) h.before) else after
 
 -- ---- double keys
 

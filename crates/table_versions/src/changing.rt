@@ -1,6 +1,7 @@
 //! Changes of records.
 
-ghost use Rattle.std.specs.Prelude.{◌≡◌, ◌↔◌, true, false, is_some, option_copied, IfSome, IsErrOf, IsSomeAnd, OnErr, OnOk};
+ghost use Rattle.std.specs.Prelude.{◌≡◌, ◌↔◌, ◌<◌, ◌≤◌, ◌+◌, ◌++◌, length, true, false, is_some, option_copied, IfSome, IsErrOf, IsSomeAnd, OnErr, OnOk};
+ghost use Rattle.column_set.specs.Rows.{IsRowBytes, largest_row};
 ghost use Rattle.database_state.specs.Changes.{changed_bookmark, changed_table, is_sum};
 ghost use Rattle.database_state.specs.Table.{record_in, table_with_id, schema_of};
 ghost use Rattle.version_store.specs.HeldChanges.{kind_of};
@@ -11,12 +12,18 @@ ghost use Rattle.stored_variants.specs.VersionsKept.{AddsToEscrow};
 ghost use Rattle.version_store.specs.declared.calls.ChangeKind.TheVariants as kind;
 ghost use Rattle.version_store.specs.declared.fault.VersionFault.TheVariants as fault;
 
+use crate::reading::shown_row;
 use crate::store::TableVersions;
 use crate::telling::{bookmark_of, table_of};
-use column_set::{Change, Record, rows_are_read_back, size_of_a_row, values_here_are_the_record};
+use arrayvec::ArrayVec;
+use column_set::{Change, MAX_ROW_SIZE, Record, rows_are_read_back, size_of_a_row};
+use long_references::{counts_after_a_step, values_keep_their_counts};
+use long_rows::{
+    form_of_a_kept_row, kept_rows_stand_for_their_records, rows_stand_as_values_change,
+};
 use table_trees::{nodes_after_a_change, nodes_by_bookmark};
 use variant_trees::{add_sum, put_record, row_in_node};
-use version_store::{By, VersionFault};
+use version_store::{By, Reader, VersionFault};
 
 impl TableVersions {
     /// Drops a record that is there, and holds the drop behind the other changes with the record before it. It is refused where
@@ -29,7 +36,7 @@ impl TableVersions {
         ensures err { OnErr result (self.new ≡ self.old) }
     {
         size_of_a_row();
-        values_here_are_the_record();
+        values_keep_their_counts();
         nodes_after_a_change();
         nodes_by_bookmark();
         self.trees.nodes_are_in_order();
@@ -50,41 +57,108 @@ impl TableVersions {
     /// the record before it. It is refused where it does not fit, as `fits` says. After a refusal and after want of memory all
     /// is as it was.
     ///
-    /// An index is looked up once for each key of the record, and the row is written once, in its node.
+    /// An index is looked up once for each key of the record, and the row is written once, in its node. A value of more than 255
+    /// bytes is kept apart, and written once: where an equal one stands under the same column and sequence of the row before, or of
+    /// the row of the record that was copied as the transaction sees it, that one is shared. The put is of a later log entry than all
+    /// puts before it, so that no long value has its number.
     pub fn put(&mut self, by: By, change: &Change) -> Result<(), VersionFault>
         requires put { kind_of change.now ≡ kind.Put }
+        requires later { self.old.newest_put < by.number }
         requires storable { IsSomeAnd (table_with_id self.old.store.tables (changed_table change.now)) (λ table. IsStorable table (changed_bookmark change.now) (put_values change.now)) }
         ensures over { IsErrOf result fault.OverSpan ↔ (has_room by change.now self.old.store ≡ false) }
-        ensures ok { OnOk result (self.new ≡ record self.old { store = with_change by change.now self.old.store }) }
+        ensures ok { OnOk result (self.new ≡ record self.old { newest_put = by.number; store = with_change by change.now self.old.store }) }
         ensures err { OnErr result (self.new ≡ self.old) }
     {
-        size_of_a_row();
-        values_here_are_the_record();
-        rows_are_read_back();
-        self.trees.nodes_are_in_order();
-        let _ = self.catalog.tables();
         if !self.fits(by, change) {
             return Err(VersionFault::OverSpan);
         }
+        match copied_of(change) {
+            Some(copied) => self.put_copy(by, change, copied),
+            None => self.put_beside(by, change, None),
+        }
+    }
+
+    // The same of a change that fits, where a record was copied. The trees that have its row change: it is copied out.
+    fn put_copy(&mut self, by: By, change: &Change, copied: &[u8]) -> Result<(), VersionFault>
+        requires put { kind_of change.now ≡ kind.Put }
+        requires later { self.old.newest_put < by.number }
+        requires storable { IsSomeAnd (table_with_id self.old.store.tables (changed_table change.now)) (λ table. IsStorable table (changed_bookmark change.now) (put_values change.now)) }
+        requires room { has_room by change.now self.old.store ≡ true }
+        ensures over { IsErrOf result fault.OverSpan → ⊥ }
+        ensures ok { OnOk result (self.new ≡ record self.old { newest_put = by.number; store = with_change by change.now self.old.store }) }
+        ensures err { OnErr result (self.new ≡ self.old) }
+    {
+        self.trees.nodes_are_in_order();
+        let reader = Reader {
+            session: by.session,
+            begin: Some(by.begin),
+        };
+        let mut row = ArrayVec::new();
+        match shown_row(
+            &self.trees,
+            &self.versions,
+            table_of(change),
+            copied,
+            reader,
+        ) {
+            Some(bytes) => {
+                append(&mut row, bytes);
+                self.put_beside(by, change, Some(row.as_slice()))
+            }
+            None => self.put_beside(by, change, None),
+        }
+    }
+
+    // The same, with the row of the record that was copied, if there is one.
+    fn put_beside(
+        &mut self,
+        by: By,
+        change: &Change,
+        copied: Option<&[u8]>,
+    ) -> Result<(), VersionFault>
+        requires put { kind_of change.now ≡ kind.Put }
+        requires later { self.old.newest_put < by.number }
+        requires storable { IsSomeAnd (table_with_id self.old.store.tables (changed_table change.now)) (λ table. IsStorable table (changed_bookmark change.now) (put_values change.now)) }
+        requires room { has_room by change.now self.old.store ≡ true }
+        requires copied { IfSome (option_copied copied) IsRowBytes }
+        ensures over { IsErrOf result fault.OverSpan → ⊥ }
+        ensures ok { OnOk result (self.new ≡ record self.old { newest_put = by.number; store = with_change by change.now self.old.store }) }
+        ensures err { OnErr result (self.new ≡ self.old) }
+    {
+        size_of_a_row();
+        rows_are_read_back();
+        form_of_a_kept_row();
+        kept_rows_stand_for_their_records();
+        rows_stand_as_values_change();
+        values_keep_their_counts();
+        self.trees.nodes_are_in_order();
+        let _ = self.catalog.tables();
         let table = table_of(change);
         let bookmark = bookmark_of(change);
         match values_of(change) {
             Some(values) => match self.catalog.by_id(table) {
-                Some(def) => {
-                    let answer = put_record(
-                        self.alloc,
-                        &mut self.trees,
-                        &mut self.versions,
-                        by,
-                        change,
-                        table,
-                        def.schema(),
-                        bookmark,
-                        values,
-                    );
-                    self.trees.nodes_are_in_order();
-                    answer
-                }
+                Some(def) => match put_record(
+                    self.alloc,
+                    &mut self.trees,
+                    &mut self.versions,
+                    by,
+                    change,
+                    table,
+                    def.schema(),
+                    bookmark,
+                    copied,
+                    values,
+                ) {
+                    Ok(()) => {
+                        self.trees.nodes_are_in_order();
+                        self.newest_put = by.number;
+                        Ok(())
+                    }
+                    Err(fault) => {
+                        self.trees.nodes_are_in_order();
+                        Err(fault)
+                    }
+                },
                 None => Err(VersionFault::OutOfMemory),
             },
             None => Err(VersionFault::OutOfMemory),
@@ -103,6 +177,7 @@ impl TableVersions {
         ensures ok { OnOk result (self.new ≡ record self.old { store = with_change by change.now self.old.store }) }
         ensures err { OnErr result (self.new ≡ self.old) }
     {
+        counts_after_a_step();
         match self.versions.push(by, change, None) {
             Ok(()) => {
                 add_sum(&mut self.trees, change);
@@ -122,5 +197,29 @@ fn values_of(change: &Change) -> Option<&Record>
         Change::Drop { .. } => None,
         Change::Hold { .. } => None,
         Change::Add { .. } => None,
+    }
+}
+
+// The bookmark of the record that was copied.
+fn copied_of(change: &Change) -> Option<&[u8]> {
+    match change {
+        Change::Put { copied, .. } => match copied {
+            Some(bookmark) => Some(bookmark.as_bytes()),
+            None => None,
+        },
+        Change::Drop { .. } => None,
+        Change::Hold { .. } => None,
+        Change::Add { .. } => None,
+    }
+}
+
+// Writes bytes behind what the buffer holds.
+fn append(buffer: &mut ArrayVec<u8, MAX_ROW_SIZE>, bytes: &[u8])
+    requires { length buffer.old.items + length bytes.now ≤ largest_row }
+    ensures { buffer.new.items ≡ buffer.old.items ++ bytes.now }
+{
+    match buffer.try_extend_from_slice(bytes) {
+        Ok(()) => {}
+        Err(_) => unreachable!(),
     }
 }

@@ -10,9 +10,9 @@ ghost use Rattle.index_derive.specs.Entries.{is_legal};
 ghost use Rattle.version_store.specs.HeldChanges.{HeldChange};
 ghost use Rattle.versioned_tables.specs.HeldRecords.{has_key_conflict};
 ghost use Rattle.table_versions.specs.KeyConflicts.{AreRowsBefore, conflicts_under, is_taken_for, yields_before_change};
-ghost use Rattle.stored_variants.specs.RecordRows.{held_record};
+ghost use Rattle.stored_variants.specs.RecordRows.{TableValues, held_record_in};
+ghost use Rattle.table_trees.specs.StoredTables.{table_long_values};
 
-use crate::reading::in_place;
 use crate::store::TableVersions;
 use crate::walking::entry_behind;
 use index_derive::derive::yields;
@@ -21,6 +21,7 @@ use jet_base::{IndexId, TableId};
 use kept_rows::ShownRow;
 use key_normal::Key;
 use table_trees::TableTrees;
+use variant_trees::in_place;
 use version_store::{Reader, Versions};
 
 impl TableVersions {
@@ -173,7 +174,7 @@ pub(crate) fn is_replaced(own: Option<&[u8]>, bookmark: &[u8]) -> bool
 
 // Whether some change of a record is concurrent; none stands against any key where none is.
 fn has_concurrent(versions: &Versions, reader: Reader, table: TableId, bookmark: &[u8]) -> bool
-    ensures { result ≡ false → (rule : IndexRule) (schema : Schema) (key : List ℕ) (newest : Bool) → conflicts_under reader rule schema key newest table.0 bookmark.now (map held_record versions.now) ≡ false }
+    ensures { result ≡ false → (longs : TableValues) (rule : IndexRule) (schema : Schema) (key : List ℕ) (newest : Bool) → conflicts_under reader rule schema key newest table.0 bookmark.now (map (held_record_in longs) versions.now) ≡ false }
 {
     let mut found = versions.newest_change(table, bookmark);
     while let Some(place) = found {
@@ -216,8 +217,8 @@ fn conflict_in(
 ) -> bool
     requires legal { is_legal rule.now schema.now ≡ true }
     requires short { rule.now.key_most ≤ 255 }
-    requires rows { AreRowsBefore versions.now }
-    ensures { result ≡ conflicts_under reader rule.now schema.now key.now newest table.0 bookmark.now (map held_record versions.now) }
+    requires rows { AreRowsBefore (table_long_values trees.now.tables) versions.now }
+    ensures { result ≡ conflicts_under reader rule.now schema.now key.now newest table.0 bookmark.now (map (held_record_in (table_long_values trees.now.tables)) versions.now) }
 {
     let mut after = newest;
     let mut found = versions.newest_change(table, bookmark);
@@ -240,7 +241,7 @@ fn is_met(concurrent: bool, before: bool, after: bool) -> bool
     concurrent && (before || after)
 }
 
-// Whether the row before the change at a place has the key, given whether the one after it has.
+// Whether the row before the change at a place, one of the table, has the key, given whether the one after it has.
 fn yields_before(
     trees: &TableTrees,
     versions: &Versions,
@@ -254,8 +255,9 @@ fn yields_before(
     requires within { place < length versions.now }
     requires legal { is_legal rule.now schema.now ≡ true }
     requires short { rule.now.key_most ≤ 255 }
-    requires rows { AreRowsBefore versions.now }
-    ensures { (h : HeldChange) → slice_get versions.now place ≡ Some h → result ≡ yields_before_change rule.now schema.now key.now after h }
+    requires of { (h : HeldChange) → slice_get versions.now place ≡ Some h → h.table ≡ table.0 }
+    requires rows { AreRowsBefore (table_long_values trees.now.tables) versions.now }
+    ensures { (h : HeldChange) → slice_get versions.now place ≡ Some h → result ≡ yields_before_change (table_long_values trees.now.tables) rule.now schema.now key.now after h }
 {
     if versions.is_standing_at(place) {
         let before = in_place(trees, table, versions.before_at(place));

@@ -15,6 +15,7 @@ ghost use Rattle.version_store.specs.declared.fault.VersionFault.TheVariants as 
 use crate::store::TableVersions;
 use column_set::Change;
 use jet_base::Session;
+use long_references::counts_after_a_step;
 use variant_trees::{forget_oldest, put_back};
 use version_store::{By, VersionFault};
 use versioned_tables::changes_undone_one_by_one_are_undone_at_once;
@@ -47,6 +48,7 @@ impl TableVersions {
         ensures ok { OnOk result (self.new ≡ record self.old { store = with_change by change.now self.old.store }) }
         ensures err { OnErr result (self.new ≡ self.old) }
     {
+        counts_after_a_step();
         self.versions.push(by, change, None)
     }
 

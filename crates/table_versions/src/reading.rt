@@ -1,21 +1,23 @@
 //! What a reader sees of records.
 
-ghost use Rattle.std.specs.Prelude.{◌≡◌, ℕ, List, IfSome, IsTrue, option_copied, option_map};
+ghost use Rattle.std.specs.Prelude.{◌≡◌, ℕ, List, IfSome, IsTrue, option_copied};
 ghost use Rattle.column_set.specs.Record.{is_record};
 ghost use Rattle.database_state.specs.Table.{record_in};
 ghost use Rattle.version_store.specs.declared.calls.Reader.{Reader};
 ghost use Rattle.version_sums.specs.EscrowSums.{amounts_to, seen_value};
 ghost use Rattle.versioned_tables.specs.HeldRecords.{seen_record};
 ghost use Rattle.versioned_tables.specs.HeldSums.{unseen_sums};
-ghost use Rattle.stored_variants.specs.RecordRows.{IsRecordRow, record_of, row_in_node};
+ghost use Rattle.stored_variants.specs.RecordRows.{row_under};
+ghost use Rattle.table_trees.specs.StoredTables.{table_nodes};
+ghost use Rattle.version_store.specs.HeldChanges.{seen_row};
+ghost use Rattle.table_versions.specs.SeenRows.{row_seen};
 
 use crate::store::TableVersions;
 use jet_base::{ColumnId, TableId};
 use kept_rows::ShownRow;
-use long_rows::rows_without_long_values;
 use table_trees::TableTrees;
-use variant_trees::row_in_node;
-use version_store::{Reader, Variant};
+use variant_trees::{in_place, row_in_node};
+use version_store::{Reader, Variant, Versions};
 use versioned_tables::an_unseen_sum_is_that_of_the_unseen_amounts;
 
 impl TableVersions {
@@ -24,7 +26,8 @@ impl TableVersions {
     pub fn look_up(&self, table: TableId, bookmark: &[u8], reader: Reader) -> Option<ShownRow<'_>>
         ensures { result ≡ seen_record table.0 bookmark.now reader (record_in self.now.store.tables table.0 bookmark.now) self.now.store.held }
     {
-        let row = self.seen_row(table, bookmark, reader);
+        self.trees.nodes_are_in_order();
+        let row = shown_row(&self.trees, &self.versions, table, bookmark, reader);
         in_place(&self.trees, table, row)
     }
 
@@ -32,7 +35,8 @@ impl TableVersions {
     pub fn newest(&self, table: TableId, bookmark: &[u8]) -> Option<ShownRow<'_>>
         ensures { result ≡ record_in self.now.store.tables table.0 bookmark.now }
     {
-        in_place(&self.trees, table, self.newest_row(table, bookmark))
+        self.trees.nodes_are_in_order();
+        in_place(&self.trees, table, newest_row(&self.trees, table, bookmark))
     }
 
     /// The number that a reader sees in an escrow column of a record, where the record that it is shown has this one: without the
@@ -61,41 +65,32 @@ impl TableVersions {
     {
         self.trees.nodes_are_in_order();
     }
+}
 
-    // The row that the reader sees.
-    fn seen_row(&self, table: TableId, bookmark: &[u8], reader: Reader) -> Option<&[u8]>
-        ensures values { option_map record_of (option_copied result) ≡ seen_record table.0 bookmark.now reader (record_in self.now.store.tables table.0 bookmark.now) self.now.store.held }
-        ensures row { IfSome (option_copied result) IsRecordRow }
-    {
-        match self.versions.variant(table, bookmark, reader) {
-            Variant::Current => self.newest_row(table, bookmark),
-            Variant::Before(row) => Some(row),
-            Variant::Absent => None,
-        }
-    }
-
-    // The newest row.
-    pub(crate) fn newest_row(&self, table: TableId, bookmark: &[u8]) -> Option<&[u8]>
-        ensures values { option_map record_of (option_copied result) ≡ record_in self.now.store.tables table.0 bookmark.now }
-        ensures row { IfSome (option_copied result) IsRecordRow }
-    {
-        self.trees.nodes_are_in_order();
-        row_in_node(self.trees.get(table, bookmark))
+/// The row that the reader sees under a bookmark.
+pub(crate) fn shown_row<'a>(
+    trees: &'a TableTrees,
+    versions: &'a Versions,
+    table: TableId,
+    bookmark: &[u8],
+    reader: Reader,
+) -> Option<&'a [u8]>
+    ensures { option_copied result ≡ row_seen (row_under (table_nodes trees.now.tables table.0) bookmark.now) (seen_row table.0 bookmark.now reader versions.now) }
+{
+    match versions.variant(table, bookmark, reader) {
+        Variant::Current => newest_row(trees, table, bookmark),
+        Variant::Before(row) => Some(row),
+        Variant::Absent => None,
     }
 }
 
-// The record of a row of a table, read where it lies. The trees keep no value of a row that keeps all its values.
-pub(crate) fn in_place<'a>(
+/// The newest row under a bookmark.
+pub(crate) fn newest_row<'a>(
     trees: &'a TableTrees,
     table: TableId,
-    row: Option<&'a [u8]>,
-) -> Option<ShownRow<'a>>
-    requires { IfSome (option_copied row) IsRecordRow }
-    ensures { result ≡ option_map record_of (option_copied row.entry) }
+    bookmark: &[u8],
+) -> Option<&'a [u8]>
+    ensures { option_copied result ≡ row_under (table_nodes trees.now.tables table.0) bookmark.now }
 {
-    rows_without_long_values();
-    match row {
-        Some(row) => Some(ShownRow::new(trees, table, row)),
-        None => None,
-    }
+    row_in_node(trees.get(table, bookmark))
 }

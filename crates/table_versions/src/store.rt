@@ -1,11 +1,16 @@
 //! The store and its tables.
 
-ghost use Rattle.std.specs.Prelude.{◌≡◌, ℕ, ◌≤◌, true, [], map, slice_get, IsSomeAnd, Some, option_copied, option_map};
+ghost use Rattle.std.specs.Prelude.{◌≡◌, ℕ, ◌≤◌, true, List, [], map, slice_get, IfSome, IsSomeAnd, Some, option_copied, option_map};
 ghost use Rattle.database_state.specs.Table.{rule_with_id, schema_of, table_named, table_with_id};
 ghost use Rattle.index_derive.specs.declared.rules.IndexRule.{IndexRule};
 ghost use Rattle.index_derive.specs.declared.rules.Schema.{Schema};
 ghost use Rattle.index_derive.specs.Entries.{is_legal};
 ghost use Rattle.jet_catalog.specs.Catalog.{without_rows};
+ghost use Rattle.long_value.specs.Values.{AreLong};
+ghost use Rattle.table_trees.specs.StoredTables.{table_long_values, table_nodes};
+ghost use Rattle.version_store.specs.HeldChanges.{HeldChange};
+ghost use Rattle.stored_variants.specs.CountedValues.{AreCounted, HasNoValueBehind};
+ghost use Rattle.stored_variants.specs.RecordRows.{held_record_in, rows_of_nodes};
 
 use jet_base::TableId;
 use jet_catalog::{Catalog, TableDef, tables_are_found_without_records};
@@ -22,12 +27,18 @@ use version_store::Versions;
 /// record, and an index has the keys of all of them. Reading takes no memory.
 ///
 /// The catalog stands in a tree beside those of the tables too: a schema step changes its nodes with the definitions.
+///
+/// A value of more than 255 bytes is kept apart, in a tree of its table. Each has as many references as newest rows, and rows before
+/// of changes that are not undone, name it, and none stands without one. Its identifier has the number of the log entry of the put
+/// that made it: contracts see the number of the newest put, 0 where there was none.
 #[derive(Drop)]
 pub struct TableVersions {
     pub(crate) alloc: Global,
     pub(crate) catalog: Catalog,
     pub(crate) trees: TableTrees,
     pub(crate) versions: Versions,
+    /// The number of the log entry of the newest put, 0 where there was none.
+    pub(crate) newest_put: u64,
 }
 
 impl Model for TableVersions {
@@ -38,21 +49,22 @@ impl Model for TableVersions {
     ghost use Rattle.stored_variants.specs.VersionsView.{stored_versions};
     ghost use Rattle.stored_variants.specs.VersionsKept.{IsStore};
 
-    ghost view = { λ a. stored_versions a.catalog a.trees.tables a.versions };
+    ghost view = { λ a. stored_versions a.newest_put a.catalog a.trees.tables a.versions };
 
-    ghost invariant = { λ a. IsStore a.catalog a.trees a.versions };
+    ghost invariant = { λ a. IsStore a.newest_put a.catalog a.trees a.versions };
 }
 
 impl TableVersions {
     /// No table. It takes no memory.
     pub fn new(alloc: Global) -> TableVersions
-        ensures { result ≡ record { greatest_table = 0; store = record { tables = []; held = [] } } }
+        ensures { result ≡ record { greatest_table = 0; newest_put = 0; store = record { tables = []; held = [] } } }
     {
         TableVersions {
             alloc,
             catalog: Catalog::new(alloc),
             trees: TableTrees::new(alloc),
             versions: Versions::new(alloc),
+            newest_put: 0,
         }
     }
 
@@ -75,6 +87,19 @@ impl TableVersions {
         ensures { result.now ≡ map without_rows self.now.store.tables }
     {
         self.catalog.tables()
+    }
+
+    /// The trees of all tables, as they stand. The records that contracts see are those of their nodes, and of the rows before the
+    /// held changes, each with its long values. Each long value of a table has as many references as newest rows, and rows before of
+    /// changes that are not undone, name it: none stands without one. None is of a later log entry than the newest put.
+    pub fn trees(&self) -> &TableTrees
+        ensures newest { (table : ℕ) → IfSome (table_with_id self.now.store.tables table) (λ t. t.rows ≡ rows_of_nodes (table_long_values result.now.tables table) (table_nodes result.now.tables table)) }
+        ensures counted { (held : List HeldChange) × (map (held_record_in (table_long_values result.now.tables)) held ≡ self.now.store.held) × AreCounted result.now.tables held }
+        ensures whole { (table : ℕ) → AreLong (table_long_values result.now.tables table) }
+        ensures behind { HasNoValueBehind self.now.newest_put result.now.tables }
+    {
+        self.trees.long_values_are_whole();
+        &self.trees
     }
 
     /// The table of this name, without its records.

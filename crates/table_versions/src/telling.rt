@@ -6,8 +6,9 @@ ghost use Rattle.database_state.specs.Changes.{changed_bookmark, changed_table};
 ghost use Rattle.versioned_tables.specs.HeldRecords.{has_conflict};
 ghost use Rattle.stored_variants.specs.StoredVersions.{has_room, next_to_forget};
 
+use crate::reading::newest_row;
 use crate::store::TableVersions;
-use column_set::{Change, size_of_a_row, values_here_are_the_record};
+use column_set::{Change, size_of_a_row};
 use jet_base::TableId;
 use version_store::{By, Reader};
 
@@ -36,7 +37,6 @@ impl TableVersions {
         ensures { result ≡ has_room by change.now self.now.store }
     {
         size_of_a_row();
-        values_here_are_the_record();
         self.trees.nodes_are_in_order();
         // Where the longest row fits every row does, and none is looked for.
         if self.versions.fits(by, change, Some(longest_row())) {
@@ -51,8 +51,8 @@ impl TableVersions {
         ensures { result ≡ has_room by change.now self.now.store }
     {
         size_of_a_row();
-        values_here_are_the_record();
-        let before = self.newest_row(table_of(change), bookmark_of(change));
+        self.trees.nodes_are_in_order();
+        let before = newest_row(&self.trees, table_of(change), bookmark_of(change));
         self.versions.fits(by, change, before)
     }
 

@@ -2,11 +2,12 @@ use Rattle.std.proofs.Common.{ℕ, ◌<◌, Option, Some, length, ap, subst, ◌
 use Rattle.std.specs.Prelude.{IfSome}
 use Rattle.table_versions.proofs.RecordConflicts.{falls, older_within, walk_begins, walk_ends, walk_passes}
 use Rattle.table_versions.proofs.conflicting_keys.has_concurrent.Goals as goal
+use Rattle.table_trees.specs.StoredTables.{table_long_values}
 
 pub loop-found-init : goal.loop-found-init
 loop-found-init c = (
   c.newest_change-found.ensures.within,
-  λ rule schema key newest. (newest, walk_begins (record { reader = c.args.reader; rule = rule; schema = schema; key = key; newest = newest; table = c.args.table.0; bookmark = c.args.bookmark.now }) c.args.versions.now c.newest_change-found.result c.newest_change-found.ensures.place c.newest_change-found.ensures.within),
+  λ longs rule schema key newest. (newest, walk_begins longs (record { reader = c.args.reader; rule = rule; schema = schema; key = key; newest = newest; table = c.args.table.0; bookmark = c.args.bookmark.now }) c.args.versions.now c.newest_change-found.result c.newest_change-found.ensures.place c.newest_change-found.ensures.within),
 )
 
 pub is_concurrent_at-requires : goal.is_concurrent_at-requires
@@ -22,12 +23,12 @@ pub loop-found-preserved : goal.loop-found-preserved
 loop-found-preserved c = (
   older_within c.older_change-found.result c.in-Some.place (length c.args.versions.now) c.older_change-found.ensures.within
       (subst (λ (o : Option ℕ). IfSome o (λ place. place < length c.args.versions.now)) c.in-Some.is c.loop-found.invariant.0),
-  λ rule schema key newest.
-      walk_passes (record { reader = c.args.reader; rule = rule; schema = schema; key = key; newest = newest; table = c.args.table.0; bookmark = c.args.bookmark.now }) c.args.versions.now c.loop-found.found c.in-Some.place c.in-Some.is (c.loop-found.invariant.1 rule schema key newest)
+  λ longs rule schema key newest.
+      walk_passes longs (record { reader = c.args.reader; rule = rule; schema = schema; key = key; newest = newest; table = c.args.table.0; bookmark = c.args.bookmark.now }) c.args.versions.now c.loop-found.found c.in-Some.place c.in-Some.is (c.loop-found.invariant.1 longs rule schema key newest)
       (c.is_concurrent_at.ensures ∙ ap Some c.if-is_concurrent_at.false) c.older_change-found.result c.older_change-found.ensures.place c.older_change-found.ensures.within,
 )
 
 pub returns : goal.returns
-returns c = λ none rule schema key newest.
-    let (after, walk) = c.loop-found.invariant.1 rule schema key newest in
-    walk_ends (record { reader = c.args.reader; rule = rule; schema = schema; key = key; newest = newest; table = c.args.table.0; bookmark = c.args.bookmark.now }) c.args.versions.now c.loop-found.found after walk c.in_default.is
+returns c = λ none longs rule schema key newest.
+    let (after, walk) = c.loop-found.invariant.1 longs rule schema key newest in
+    walk_ends longs (record { reader = c.args.reader; rule = rule; schema = schema; key = key; newest = newest; table = c.args.table.0; bookmark = c.args.bookmark.now }) c.args.versions.now c.loop-found.found after walk c.in_default.is

@@ -27,15 +27,15 @@ returns-then-ne c =
     let entry : Pair = (c.in-Some.found_key.now, c.in-Some.bookmark.now) in
     sym (walk_passes test c.args.key.now entries entry (subst (λ (o : Option Pair). KeyWalk test c.args.key.now entries o) (ap parts_of c.in-Some.is) c.loop-found.invariant.0)
     (not_true (bytes_eq entry.0 c.args.key.now) (ap (λ (k : List ℕ). not (bytes_eq entry.0 k)) (sym c.as_bytes.ensures.value) ∙ sym c.ne.ensures ∙ c.if-ne.true)))
-    ∙ conflict_in_tree c.args.reader c.args.key.now c.self.inside.catalog c.self.inside.trees.tables c.self.inside.versions c.self.invariant.kept c.args.self.now c.self.view_is c.args.table.0 c.args.schema.now c.requires.named c.args.rule.now c.requires.rule c.requires.secondary
+    ∙ conflict_in_tree c.args.reader c.args.key.now c.self.inside.newest_put c.self.inside.catalog c.self.inside.trees.tables c.self.inside.versions c.self.invariant.kept c.args.self.now c.self.view_is c.args.table.0 c.args.schema.now c.requires.named c.args.rule.now c.requires.rule c.requires.secondary
 
 pub conflict_under-requires-clause-legal : goal.conflict_under-requires-clause-legal
 conflict_under-requires-clause-legal c =
-    (rule_in_store c.self.inside.catalog c.self.inside.trees.tables c.self.inside.versions c.self.invariant.kept c.args.self.now c.self.view_is c.args.table.0 c.args.schema.now c.requires.named c.args.rule.now c.requires.rule).0
+    (rule_in_store c.self.inside.newest_put c.self.inside.catalog c.self.inside.trees.tables c.self.inside.versions c.self.invariant.kept c.args.self.now c.self.view_is c.args.table.0 c.args.schema.now c.requires.named c.args.rule.now c.requires.rule).0
 
 pub conflict_under-requires-clause-short : goal.conflict_under-requires-clause-short
 conflict_under-requires-clause-short c =
-    (rule_in_store c.self.inside.catalog c.self.inside.trees.tables c.self.inside.versions c.self.invariant.kept c.args.self.now c.self.view_is c.args.table.0 c.args.schema.now c.requires.named c.args.rule.now c.requires.rule).1
+    (rule_in_store c.self.inside.newest_put c.self.inside.catalog c.self.inside.trees.tables c.self.inside.versions c.self.invariant.kept c.args.self.now c.self.view_is c.args.table.0 c.args.schema.now c.requires.named c.args.rule.now c.requires.rule).1
 
 pub returns-then-conflict_under : goal.returns-then-conflict_under
 returns-then-conflict_under c =
@@ -45,7 +45,7 @@ returns-then-conflict_under c =
     sym (walk_finds test c.args.key.now entries entry (subst (λ (o : Option Pair). KeyWalk test c.args.key.now entries o) (ap parts_of c.in-Some.is) c.loop-found.invariant.0)
     (not_false (bytes_eq entry.0 c.args.key.now) (ap (λ (k : List ℕ). not (bytes_eq entry.0 k)) (sym c.as_bytes.ensures.value) ∙ sym c.ne.ensures ∙ c.if-ne.false))
     (sym c.conflict_under.ensures ∙ c.if-conflict_under.true))
-    ∙ conflict_in_tree c.args.reader c.args.key.now c.self.inside.catalog c.self.inside.trees.tables c.self.inside.versions c.self.invariant.kept c.args.self.now c.self.view_is c.args.table.0 c.args.schema.now c.requires.named c.args.rule.now c.requires.rule c.requires.secondary
+    ∙ conflict_in_tree c.args.reader c.args.key.now c.self.inside.newest_put c.self.inside.catalog c.self.inside.trees.tables c.self.inside.versions c.self.invariant.kept c.args.self.now c.self.view_is c.args.table.0 c.args.schema.now c.requires.named c.args.rule.now c.requires.rule c.requires.secondary
 
 pub loop-found-smaller : goal.loop-found-smaller
 loop-found-smaller c =
@@ -76,4 +76,4 @@ returns c =
     let entries : List Pair = index_entries c.self.inside.trees.tables c.args.table.0 c.args.rule.now.id.0 in
     let test : List ℕ → Bool = OfRecord c.args.reader c.args.self.now c.args.table.0 c.args.rule.now c.args.schema.now c.args.key.now in
     sym (walk_ends test c.args.key.now entries (parts_of c.loop-found.found) c.loop-found.invariant.0 (ap parts_of c.in_default.is))
-    ∙ conflict_in_tree c.args.reader c.args.key.now c.self.inside.catalog c.self.inside.trees.tables c.self.inside.versions c.self.invariant.kept c.args.self.now c.self.view_is c.args.table.0 c.args.schema.now c.requires.named c.args.rule.now c.requires.rule c.requires.secondary
+    ∙ conflict_in_tree c.args.reader c.args.key.now c.self.inside.newest_put c.self.inside.catalog c.self.inside.trees.tables c.self.inside.versions c.self.invariant.kept c.args.self.now c.self.view_is c.args.table.0 c.args.schema.now c.requires.named c.args.rule.now c.requires.rule c.requires.secondary

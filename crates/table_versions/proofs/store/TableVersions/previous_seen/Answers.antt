@@ -30,9 +30,9 @@ returns-then-is_shown_in_place c =
     let stands : StandsAt test c.args.place.now nodes (Some (c.in-Some.bookmark.now, c.in-Some.row.now)) =
     subst (λ (o : Option Pair). StandsAt test c.args.place.now nodes o) (ap parts_of c.in-Some.is) c.loop-found.invariant in
     let told : test (c.in-Some.bookmark.now, c.in-Some.bookmark.now) ≡ is_row_seen (row_in_node c.in-Some.row.now) (seen_row c.args.table.0 c.in-Some.bookmark.now c.args.reader c.self.inside.versions) =
-    seen_in_place c.self.inside.catalog trees c.self.inside.versions c.self.invariant.kept c.nodes_are_in_order.ensures.sorted c.args.self.now c.self.view_is c.args.table.0 c.args.reader c.in-Some.bookmark.now c.in-Some.row.now stands.row in
+    seen_in_place c.self.inside.newest_put c.self.inside.catalog trees c.self.inside.versions c.self.invariant.kept c.nodes_are_in_order.ensures.sorted c.args.self.now c.self.view_is c.args.table.0 c.args.reader c.in-Some.bookmark.now c.in-Some.row.now stands.row in
     let seen = seen_of_nodes (record { same = c.entries_in_order_are_told_by_those_that_are_there.ensures.same; some = c.entries_in_order_are_told_by_those_that_are_there.ensures.some; seen = c.a_reader_is_shown_the_records_that_it_sees.ensures })
-    c.self.inside.catalog trees c.self.inside.versions c.self.invariant.kept c.nodes_are_in_order.ensures.sorted c.args.self.now c.self.view_is c.args.table.0 c.args.reader in
+    c.self.inside.newest_put c.self.inside.catalog trees c.self.inside.versions c.self.invariant.kept c.nodes_are_in_order.ensures.sorted c.args.self.now c.self.view_is c.args.table.0 c.args.reader in
     record {
       bookmark = sym (stands_on_it test c.args.place.now nodes c.in-Some.bookmark.now c.in-Some.row.now stands (told ∙ sym c.is_shown_in_place.ensures ∙ c.if-is_shown_in_place.true)) ∙ ap (entry_before c.args.place.now) (sym seen);
       short = stands.short;
@@ -56,7 +56,7 @@ loop-found-preserved c =
     let stands : StandsAt test c.args.place.now nodes (Some (c.in-Some.bookmark.now, c.in-Some.row.now)) =
     subst (λ (o : Option Pair). StandsAt test c.args.place.now nodes o) (ap parts_of c.in-Some.is) c.loop-found.invariant in
     let told : test (c.in-Some.bookmark.now, c.in-Some.bookmark.now) ≡ is_row_seen (row_in_node c.in-Some.row.now) (seen_row c.args.table.0 c.in-Some.bookmark.now c.args.reader c.self.inside.versions) =
-    seen_in_place c.self.inside.catalog trees c.self.inside.versions c.self.invariant.kept c.nodes_are_in_order.ensures.sorted c.args.self.now c.self.view_is c.args.table.0 c.args.reader c.in-Some.bookmark.now c.in-Some.row.now stands.row in
+    seen_in_place c.self.inside.newest_put c.self.inside.catalog trees c.self.inside.versions c.self.invariant.kept c.nodes_are_in_order.ensures.sorted c.args.self.now c.self.view_is c.args.table.0 c.args.reader c.in-Some.bookmark.now c.in-Some.row.now stands.row in
     let next : Option Pair = parts_of c.node_in_front-found.result in
     let next_is : next ≡ node_before (On c.in-Some.bookmark.now c.in-Some.bookmark.now) nodes = c.node_in_front-found.ensures.node in
     goes_on c.neighbours_are_those_of_bookmarks.ensures.before test c.args.place.now nodes c.in-Some.bookmark.now c.in-Some.row.now next (c.nodes_are_in_order.ensures.sorted c.args.table.0) stands
@@ -68,6 +68,6 @@ returns c =
     let nodes : List Node = table_nodes trees c.args.table.0 in
     let test : Pair → Bool = is_seen c.args.reader c.args.self.now.store c.args.table.0 in
     let seen = seen_of_nodes (record { same = c.entries_in_order_are_told_by_those_that_are_there.ensures.same; some = c.entries_in_order_are_told_by_those_that_are_there.ensures.some; seen = c.a_reader_is_shown_the_records_that_it_sees.ensures })
-    c.self.inside.catalog trees c.self.inside.versions c.self.invariant.kept c.nodes_are_in_order.ensures.sorted c.args.self.now c.self.view_is c.args.table.0 c.args.reader in
+    c.self.inside.newest_put c.self.inside.catalog trees c.self.inside.versions c.self.invariant.kept c.nodes_are_in_order.ensures.sorted c.args.self.now c.self.view_is c.args.table.0 c.args.reader in
     let stands : StandsAt test c.args.place.now nodes None = subst (λ (o : Option Pair). StandsAt test c.args.place.now nodes o) (ap parts_of c.in_default.is) c.loop-found.invariant in
     record { bookmark = sym stands.shown ∙ ap (entry_before c.args.place.now) (sym seen); short = tt }

@@ -27,12 +27,12 @@ returns-then-is_none c =
     let stands : StandsOn (entry_before c.args.place.now (filter test entries)) (shown_to test entries) entries (Some entry) =
     subst (λ (o : Option Pair). StandsOn (entry_before c.args.place.now (filter test entries)) (shown_to test entries) entries o) (ap parts_of c.in-Some.is) c.loop-found.invariant in
     let seen : seen_entries c.args.reader c.args.self.now.store c.args.table.0 c.args.index.0 ≡ filter test entries =
-    seen_of_stored (record { walks = c.a_reader_walks_the_index_of_what_it_sees.ensures; own = record { same = c.entries_in_order_are_told_by_those_that_are_there.ensures.same; some = c.entries_in_order_are_told_by_those_that_are_there.ensures.some; seen = c.a_reader_is_shown_the_records_that_it_sees.ensures } }) c.self.inside.catalog c.self.inside.trees.tables c.self.inside.versions c.self.invariant.kept c.nodes_are_in_order.ensures.sorted c.entries_are_in_order.ensures.sorted
+    seen_of_stored (record { walks = c.a_reader_walks_the_index_of_what_it_sees.ensures; own = record { same = c.entries_in_order_are_told_by_those_that_are_there.ensures.same; some = c.entries_in_order_are_told_by_those_that_are_there.ensures.some; seen = c.a_reader_is_shown_the_records_that_it_sees.ensures } }) c.self.inside.newest_put c.self.inside.catalog c.self.inside.trees.tables c.self.inside.versions c.self.invariant.kept c.nodes_are_in_order.ensures.sorted c.entries_are_in_order.ensures.sorted
     c.args.self.now c.self.view_is c.args.table.0 c.args.schema.now c.requires.named c.args.reader c.args.index.0 (Some c.args.rule.now) (sym c.requires.rule) in
     record {
       entry =
           sym (stands.shown ∙ shown_is_it test entry (entry_before (On entry.0 entry.1) (filter test entries))
-          (untouched_is_shown c.args.reader entry.0 entry.1 c.args.index.0 c.self.inside.catalog c.self.inside.trees.tables c.self.inside.versions c.self.invariant.kept c.args.self.now c.self.view_is c.args.table.0 c.args.schema.now c.requires.named c.args.rule.now c.requires.rule
+          (untouched_is_shown c.args.reader entry.0 entry.1 c.args.index.0 c.self.inside.newest_put c.self.inside.catalog c.self.inside.trees.tables c.self.inside.versions c.self.invariant.kept c.args.self.now c.self.view_is c.args.table.0 c.args.schema.now c.requires.named c.args.rule.now c.requires.rule
           stands.there (sym c.newest_change.ensures.place ∙ none_here c.newest_change.result c.if-is_none.ensures)))
           ∙ ap (entry_before c.args.place.now) (sym seen);
       short = stands.short;
@@ -45,7 +45,7 @@ shows-requires c =
     let entry : Pair = (c.in-Some.key.now, c.in-Some.bookmark.now) in
     let stands : StandsOn (entry_before c.args.place.now (filter test entries)) (shown_to test entries) entries (Some entry) =
     subst (λ (o : Option Pair). StandsOn (entry_before c.args.place.now (filter test entries)) (shown_to test entries) entries o) (ap parts_of c.in-Some.is) c.loop-found.invariant in
-    let legal = legal_in_store c.self.inside.catalog c.self.inside.trees.tables c.self.inside.versions c.self.invariant.kept c.args.self.now c.self.view_is c.args.table.0 c.args.schema.now c.requires.named c.args.index.0 (Some c.args.rule.now) (sym c.requires.rule) in
+    let legal = legal_in_store c.self.inside.newest_put c.self.inside.catalog c.self.inside.trees.tables c.self.inside.versions c.self.invariant.kept c.args.self.now c.self.view_is c.args.table.0 c.args.schema.now c.requires.named c.args.index.0 (Some c.args.rule.now) (sym c.requires.rule) in
     record { legal = legal.0; most = legal.1; short = stands.short.0 }
 
 pub returns-then-shows : goal.returns-then-shows
@@ -56,7 +56,7 @@ returns-then-shows c =
     let stands : StandsOn (entry_before c.args.place.now (filter test entries)) (shown_to test entries) entries (Some entry) =
     subst (λ (o : Option Pair). StandsOn (entry_before c.args.place.now (filter test entries)) (shown_to test entries) entries o) (ap parts_of c.in-Some.is) c.loop-found.invariant in
     let seen : seen_entries c.args.reader c.args.self.now.store c.args.table.0 c.args.index.0 ≡ filter test entries =
-    seen_of_stored (record { walks = c.a_reader_walks_the_index_of_what_it_sees.ensures; own = record { same = c.entries_in_order_are_told_by_those_that_are_there.ensures.same; some = c.entries_in_order_are_told_by_those_that_are_there.ensures.some; seen = c.a_reader_is_shown_the_records_that_it_sees.ensures } }) c.self.inside.catalog c.self.inside.trees.tables c.self.inside.versions c.self.invariant.kept c.nodes_are_in_order.ensures.sorted c.entries_are_in_order.ensures.sorted
+    seen_of_stored (record { walks = c.a_reader_walks_the_index_of_what_it_sees.ensures; own = record { same = c.entries_in_order_are_told_by_those_that_are_there.ensures.same; some = c.entries_in_order_are_told_by_those_that_are_there.ensures.some; seen = c.a_reader_is_shown_the_records_that_it_sees.ensures } }) c.self.inside.newest_put c.self.inside.catalog c.self.inside.trees.tables c.self.inside.versions c.self.invariant.kept c.nodes_are_in_order.ensures.sorted c.entries_are_in_order.ensures.sorted
     c.args.self.now c.self.view_is c.args.table.0 c.args.schema.now c.requires.named c.args.reader c.args.index.0 (Some c.args.rule.now) (sym c.requires.rule) in
     record {
       entry = sym (stands.shown ∙ shown_is_it test entry (entry_before (On entry.0 entry.1) (filter test entries)) (sym c.shows.ensures ∙ c.if-shows.true)) ∙ ap (entry_before c.args.place.now) (sym seen);
@@ -96,7 +96,7 @@ returns c =
     let entries : List Pair = index_entries c.self.inside.trees.tables c.args.table.0 c.args.rule.now.id.0 in
     let test : Pair → Bool = is_shown c.args.reader c.args.self.now.store c.args.table.0 c.args.schema.now (Some c.args.rule.now) in
     let seen : seen_entries c.args.reader c.args.self.now.store c.args.table.0 c.args.index.0 ≡ filter test entries =
-    seen_of_stored (record { walks = c.a_reader_walks_the_index_of_what_it_sees.ensures; own = record { same = c.entries_in_order_are_told_by_those_that_are_there.ensures.same; some = c.entries_in_order_are_told_by_those_that_are_there.ensures.some; seen = c.a_reader_is_shown_the_records_that_it_sees.ensures } }) c.self.inside.catalog c.self.inside.trees.tables c.self.inside.versions c.self.invariant.kept c.nodes_are_in_order.ensures.sorted c.entries_are_in_order.ensures.sorted
+    seen_of_stored (record { walks = c.a_reader_walks_the_index_of_what_it_sees.ensures; own = record { same = c.entries_in_order_are_told_by_those_that_are_there.ensures.same; some = c.entries_in_order_are_told_by_those_that_are_there.ensures.some; seen = c.a_reader_is_shown_the_records_that_it_sees.ensures } }) c.self.inside.newest_put c.self.inside.catalog c.self.inside.trees.tables c.self.inside.versions c.self.invariant.kept c.nodes_are_in_order.ensures.sorted c.entries_are_in_order.ensures.sorted
     c.args.self.now c.self.view_is c.args.table.0 c.args.schema.now c.requires.named c.args.reader c.args.index.0 (Some c.args.rule.now) (sym c.requires.rule) in
     let stands : StandsOn (entry_before c.args.place.now (filter test entries)) (shown_to test entries) entries None =
     subst (λ (o : Option Pair). StandsOn (entry_before c.args.place.now (filter test entries)) (shown_to test entries) entries o) (ap parts_of c.in_default.is) c.loop-found.invariant in

@@ -1,0 +1,5 @@
+use Rattle.record_changes.proofs.Tests.{impossible}
+use Rattle.table_versions.proofs.changing.append.Goals as goal
+
+pub unreachable-requires : goal.unreachable-requires
+unreachable-requires c = impossible (c.in-Err.ensures.variant.1 c.requires)
