@@ -1,7 +1,7 @@
 -- What a session reads of a state that the engine holds.
 use Rattle.std.proofs.Common.{◌≡◌, ℕ, ◌≤◌, Bool, true, false, cond, List, [], ◌∷◌, Option, Some, None, map, option_map, unwrap_or, refl, sym, ap, subst, ◌∙◌}
 use Rattle.std.specs.Prelude.{ℤ, ◌==◌, bytes_eq, IfSome, IsTrue, is_some}
-use Rattle.std.specs.List.{AllByRecursion, list_all}
+use Rattle.std.specs.List.{AllByRecursion}
 use Rattle.column_set.specs.RecordValues.{RecordFields, record_fits, record_size}
 use Rattle.common_lemmas.proofs.Found.{of_found}
 use Rattle.database_state.specs.State.{DatabaseState, PastChange, transaction_of}
@@ -9,7 +9,7 @@ use Rattle.database_state.specs.Table.{Table, index_entries, record_in, row_at, 
 use Rattle.database_state.specs.View.{view}
 use Rattle.index_derive.specs.declared.rules.Schema.{Schema}
 use Rattle.record_changes.specs.Records.{Records, records_of}
-use Rattle.record_changes.proofs.Tests.{and_left, and_right, impossible}
+use Rattle.record_changes.proofs.Tests.{impossible}
 use Rattle.version_history.specs.History.{IsHistory, without_rows}
 use Rattle.version_sums.specs.EscrowSums.{with_sums}
 use Rattle.version_keys.specs.KeySums.{SeesNoSum}
@@ -32,7 +32,6 @@ use Rattle.stored_variants.specs.StoredVersions.{entries_in}
 use Rattle.session_local.specs.Agreement.{HasSchemaOf}
 use Rattle.session_local.specs.Local.{LocalState, OpenCursor, cursor_labelled}
 use Rattle.agreeing_sessions.specs.InStep.{IsInStep}
-use Rattle.built_calls.specs.BuiltTables.{is_built_column, is_built_table}
 use Rattle.engine_versions.specs.EngineState.{EngineState}
 use Rattle.engine_versions.specs.HoldsState.{HoldsState}
 use Rattle.engine_versions.proofs.Telling.{begin_told}
@@ -173,25 +172,6 @@ numbers_read views numbers engine state session local label c h step found bookm
     has_at (HoldsNumbers state.number) c (table_with_id state.tables id) (records_of (view state session) id) bookmark values (schema_at state session local label c step found)
     (numbers h.base h.dropped h.kept state h.reached.history h.reached.numbers session id)
     (sym (views engine state h session id bookmark) ∙ is)
-
--- ---- columns are built
-
-found_built : (tables : List Table) (id : ℕ) (t : Table) → list_all is_built_table tables ≡ true → table_with_id tables id ≡ Some t → is_built_table t ≡ true
-found_built [] id t all e = none_is_some t e
-found_built (u ∷ tables) id t all e = by (u.id == id) e (found_built tables id t (and_right (is_built_table u) _ all))
-  where
-    by : (b : Bool) → cond b (Some u) (table_with_id tables id) ≡ Some t → (table_with_id tables id ≡ Some t → is_built_table t ≡ true) → is_built_table t ≡ true
-    by true e rest = subst (λ (t : Table). is_built_table t ≡ true) (ap (λ (o : Option Table). unwrap_or o u) e) (and_left (is_built_table u) _ all)
-    by false e rest = rest e
-
-built_at : (c : OpenCursor) (committed : Option Table) → HasSchemaOf c committed → ((t : Table) → committed ≡ Some t → is_built_table t ≡ true) → list_all is_built_column c.schema.columns ≡ true
-built_at c None has built = absurd has
-built_at c (Some u) has built = ap (λ (s : Schema). list_all is_built_column s.columns) has.0 ∙ and_left (list_all is_built_column u.columns) _ (built u refl)
-
-pub built_read : (engine : EngineState) (state : DatabaseState) (session : ℕ) (local : LocalState) (label : ℕ) (c : OpenCursor) → HoldsState engine state → IsInStep state session local → cursor_labelled local label ≡ Some c
-    → IsTrue (list_all is_built_column c.schema.columns)
-built_read engine state session local label c h step found =
-    built_at c (table_with_id state.tables c.cursor.table) (schema_at state session local label c step found) (λ t e. found_built state.tables c.cursor.table t h.built e)
 
 -- ---- rows
 

@@ -1,6 +1,6 @@
 -- What decides RetrieveColumn.
 use Rattle.std.proofs.Common.{◌≡◌, ℕ, Bool, true, false, cond, List, [], ◌∷◌, length, map, Ok, Err, Option, Some, None, unwrap_or, slice_get, refl, sym, ap, subst, ◌∙◌}
-use Rattle.std.specs.Prelude.{ℤ, ◌==◌, ◌-◌, ◌||◌, bytes_eq, option_map, IsTrue, is_none, not}
+use Rattle.std.specs.Prelude.{ℤ, ◌==◌, ◌-◌, ◌||◌, bytes_eq, option_map, is_none, not}
 use Rattle.std.specs.List.{list_all}
 use Rattle.jet_base.specs.declared.ids.CursorId.{CursorId}
 use Rattle.jet_base.specs.declared.replies.Jet.{Jet}
@@ -29,7 +29,6 @@ use Rattle.session_local.specs.Showing.{names_within}
 use Rattle.session_local.specs.WellFormed.{IsWellFormed, is_well_formed_cursor, is_well_formed_schema, is_long_if_sum, is_well_formed_update, number_of_column}
 use Rattle.session_local.specs.Calls.{answer}
 use Rattle.agreeing_sessions.specs.InStep.{IsInStep}
-use Rattle.built_calls.specs.BuiltTables.{is_built_column}
 use Rattle.engine_versions.specs.EngineState.{EngineState}
 use Rattle.engine_versions.specs.HoldsState.{HoldsState, asked_of}
 use Rattle.engine_parts.specs.Deciding.{Decides, IsBeside, IsDecision}
@@ -153,9 +152,9 @@ column_shown-still : (asked : Asked) (sequence most : ℕ) (fields : RecordField
 column_shown-still asked sequence most fields column =
     still_either asked (sequence == 0) _ _ (record { step = refl; local = refl }) (value_shown-still asked column most (slice_get (values_of fields column.id.0) (sequence - 1)))
 
-pub column_shown-value : (asked : Asked) (sequence most : ℕ) (fields : RecordFields) (column : Column) (value : List ℕ) → (sequence == 0) ≡ false → slice_get (values_of fields column.id.0) (sequence - 1) ≡ Some value
-    → column_shown asked sequence most fields column ≡ value_shown asked column most (Some value)
-column_shown-value asked sequence most fields column value ne is = rw (ne, is) refl
+pub column_shown-value : (asked : Asked) (sequence most : ℕ) (fields : RecordFields) (column : Column) → (sequence == 0) ≡ false
+    → column_shown asked sequence most fields column ≡ value_shown asked column most (slice_get (values_of fields column.id.0) (sequence - 1))
+column_shown-value asked sequence most fields column ne = rw ne refl
 
 pub retrieve-shown : ReadsRecords → (engine : EngineState) (side new : SessionSide) (cursor : CursorId) (name : List ℕ) (sequence most : ℕ) (c : OpenCursor) (row : RecordFields) (column : Column) (decision : Decision)
     → side.state.begun ≡ true → cursor_labelled side.state cursor.0 ≡ Some c → IsRecordAt (shown_for engine side.session c.cursor.table) c.cursor.place (Ok row)
@@ -191,28 +190,25 @@ reading-decision engine side new cursor name sequence most decision nothing sess
 
 -- ---- the values are readable
 
--- laws of what a session reads
-pub record ReadsRows : Type 0 where
-  pub rows : (engine : EngineState) (state : DatabaseState) (session : ℕ) (local : LocalState) (label : ℕ) (c : OpenCursor) → HoldsState engine state → IsInStep state session local → cursor_labelled local label ≡ Some c
-      → (bookmark : List ℕ) (row seen : RecordFields) → shown_for engine session c.cursor.table bookmark ≡ Some row → record_for engine session c.cursor.table bookmark ≡ Some seen
-      → IsRowOf c.schema (unseen_amounts engine session c.cursor.table bookmark) row seen
-  pub built : (engine : EngineState) (state : DatabaseState) (session : ℕ) (local : LocalState) (label : ℕ) (c : OpenCursor) → HoldsState engine state → IsInStep state session local → cursor_labelled local label ≡ Some c
-      → IsTrue (list_all is_built_column c.schema.columns)
+-- what a session reads tells its record
+abbrev pub ReadsRows : Type 0
+ReadsRows =
+    (engine : EngineState) (state : DatabaseState) (session : ℕ) (local : LocalState) (label : ℕ) (c : OpenCursor) → HoldsState engine state → IsInStep state session local → cursor_labelled local label ≡ Some c
+    → (bookmark : List ℕ) (row seen : RecordFields) → shown_for engine session c.cursor.table bookmark ≡ Some row → record_for engine session c.cursor.table bookmark ≡ Some seen
+    → IsRowOf c.schema (unseen_amounts engine session c.cursor.table bookmark) row seen
 
 pub row_read_at : ReadsRows → (engine : EngineState) (side : SessionSide) (label : ℕ) (c : OpenCursor) (row : RecordFields)
     → IsBeside engine side → cursor_labelled side.state label ≡ Some c → IsRecordAt (shown_for engine side.session c.cursor.table) c.cursor.place (Ok row) → IsRowAt engine side.session c row
-row_read_at laws engine side label c row beside found at =
+row_read_at rows engine side label c row beside found at =
     let held = beside.held in
-    laws.rows engine held.state side.session side.state label c held.holds held.in_step found (place_bookmark c.cursor.place) row (fields_at engine side.session c) at.1 (seen_at engine side.session c row at.1)
+    rows engine held.state side.session side.state label c held.holds held.in_step found (place_bookmark c.cursor.place) row (fields_at engine side.session c) at.1 (seen_at engine side.session c row at.1)
 
 pub readable_at : ReadsRows → (engine : EngineState) (side : SessionSide) (label : ℕ) (name : List ℕ) (c : OpenCursor) (row : RecordFields) (column : Column)
     → IsBeside engine side → cursor_labelled side.state label ≡ Some c → IsRecordAt (shown_for engine side.session c.cursor.table) c.cursor.place (Ok row) → column_named c.schema.columns name ≡ Some column
     → AreReadable column.kind (values_of row column.id.0)
-readable_at laws engine side label name c row column beside found at named =
-    let held = beside.held in
-    let is = row_read_at laws engine side label c row beside found at in
-    readable c.schema.columns row name column (distinct_at side.state label c beside.formed found) is.fits is.small
-    (laws.built engine held.state side.session side.state label c held.holds held.in_step found) named
+readable_at rows engine side label name c row column beside found at named =
+    let is = row_read_at rows engine side label c row beside found at in
+    readable c.schema.columns row name column (distinct_at side.state label c beside.formed found) is.fits is.small named
 
 long_type : (kind : ColType) → is_type_long kind ≡ true → kind ≡ Long
 long_type kind.Long h = refl

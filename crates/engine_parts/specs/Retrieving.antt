@@ -1,20 +1,19 @@
 -- What RetrieveColumn finds in the record at a cursor, before its bytes are written to the reply buffer.
-use Rattle.std.specs.Prelude.{◌≡◌, ◌≤◌, ℕ, true, not, List, [], ◌∷◌, length, Option, Some, Result, Ok, Err, is_none, IsTrue}
+use Rattle.std.specs.Prelude.{◌≡◌, ◌≤◌, ℕ, true, not, List, [], ◌∷◌, length, slice_get, Option, Some, Result, Ok, Err, is_none, IfSome, IsTrue}
 use Rattle.std.specs.List.{list_all}
 use Rattle.jet_base.specs.declared.replies.Jet.{Jet}
 use Rattle.jet_base.specs.declared.replies.Jet.TheVariants as jet
 use Rattle.jet_base.specs.declared.words.ColType.{ColType}
 use Rattle.jet_base.specs.declared.words.ColType.TheVariants.{Long}
 use Rattle.column_set.specs.declared.columns.Column.{Column}
-use Rattle.column_set.specs.RecordValues.{RecordFields, value_fits}
-use Rattle.column_set.specs.Rows.{are_short}
+use Rattle.column_set.specs.RecordValues.{RecordFields, value_fits, values_of}
 use Rattle.index_derive.specs.declared.entries.Place.{Place}
 use Rattle.index_derive.specs.declared.rules.Schema.{Schema}
 use Rattle.index_derive.specs.Entries.{is_escrow_column}
 use Rattle.cursor_nav.specs.Places.{is_on, place_bookmark}
 use Rattle.database_state.specs.Refusals.{Refusals, first_refusal}
 use Rattle.session_local.specs.Answer.{Answered, Nothing, Number}
-use Rattle.session_local.specs.Showing.{bytes_answered}
+use Rattle.session_local.specs.Showing.{value_answered}
 use Rattle.engine_parts.specs.declared.record_calls.Shown.{Shown}
 use Rattle.engine_parts.specs.declared.record_calls.Shown.TheVariants as shown
 
@@ -31,10 +30,9 @@ IsRecordAt records place (Err refusal) = first_refusal (place_refusals records p
 
 -- ---- its values
 
--- The values of a column are of its type, short, and few.
+-- The values of a column are of its type, and few.
 pub record AreReadable (kind : ColType) (values : List (List ℕ)) : Type 0 where
   pub fit : IsTrue (list_all (value_fits kind) values)
-  pub short : IsTrue (are_short values)
   pub few : length values ≤ 1700
 
 -- The column is one of the schema, where it is a sum if it says so; and a sum is a Long.
@@ -42,9 +40,13 @@ pub record IsColumnOf (schema : Schema) (column : Column) : Type 0 where
   pub its : is_escrow_column schema column.id.0 ≡ column.escrow
   pub long : column.escrow ≡ true → column.kind ≡ Long
 
+-- the bytes of the column's value at a place, counted from 0
+abbrev pub bytes_at : RecordFields → ℕ → ℕ → Option (List ℕ)
+bytes_at fields column at = slice_get (values_of fields column) at
+
 abbrev pub answered_with : ℕ → Shown → Answered
 answered_with most (shown.Number number) = record { jet = jet.Success; shown = Number number }
-answered_with most (shown.Bytes bytes) = bytes_answered most bytes.now
+answered_with most (shown.Stored value) = value_answered most (bytes_at value.row.now value.column.0 value.at)
 
 abbrev pub answered_or : ℕ → Result Shown Jet → Answered
 answered_or most (Ok value) = answered_with most value
@@ -53,4 +55,4 @@ answered_or most (Err reply) = record { jet = reply; shown = Nothing }
 -- the bytes have room in the reply buffer
 abbrev pub HasRoom : Shown → Type 0
 HasRoom (shown.Number number) = Unit {0}
-HasRoom (shown.Bytes bytes) = length bytes.now ≤ 1048576
+HasRoom (shown.Stored value) = IfSome (bytes_at value.row.now value.column.0 value.at) (λ bytes. length bytes ≤ 1048576)

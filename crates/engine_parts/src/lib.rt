@@ -7,6 +7,7 @@ mod cursor_calls;
 mod engine;
 mod laws;
 mod record_calls;
+mod row_values;
 mod sums;
 mod view;
 

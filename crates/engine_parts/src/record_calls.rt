@@ -1,7 +1,7 @@
 //! RetrieveColumn.
 
 ghost use Rattle.std.specs.Prelude.{◌≡◌, ◌≤◌, ℕ, Some, None, IfOk, IsTrue, false, true, length};
-ghost use Rattle.column_set.specs.RecordValues.{value_fits, values_of};
+ghost use Rattle.column_set.specs.RecordValues.{values_of};
 ghost use Rattle.cursor_nav.specs.Places.{is_on};
 ghost use Rattle.index_derive.specs.Entries.{is_escrow_column};
 ghost use Rattle.session_local.specs.declared.request.Request.TheVariants as call;
@@ -9,15 +9,16 @@ ghost use Rattle.session_local.specs.Answer.{Bytes, answered_by, shown_by};
 ghost use Rattle.session_local.specs.LocalCalls.{is_answered_locally};
 ghost use Rattle.session_local.specs.Outcome.{Asked};
 ghost use Rattle.session_local.specs.RecordCalls.{column_shown, value_shown};
-ghost use Rattle.session_local.specs.Showing.{names_within, bytes_answered};
+ghost use Rattle.session_local.specs.Showing.{names_within};
 ghost use Rattle.engine_parts.specs.Deciding.{Decides, IsBeside, IsDecision, only_reply};
 ghost use Rattle.version_sums.specs.EscrowSums.{escrow_value};
 ghost use Rattle.engine_parts.specs.Reading.{IsRowAt, fields_at, shown_for};
-ghost use Rattle.engine_parts.specs.Retrieving.{AreReadable, HasRoom, IsColumnOf, IsRecordAt, answered_or, answered_with};
+ghost use Rattle.engine_parts.specs.Retrieving.{AreReadable, HasRoom, IsColumnOf, IsRecordAt, answered_or, answered_with, bytes_at};
 
 use crate::answers::refusal;
 use crate::engine::Engine;
 use crate::laws::a_session_reads_its_view;
+use crate::row_values::RowValue;
 use column_set::{Column, Values, column_named};
 use index_derive::Place;
 use jet_base::{CursorId, Jet, Name, Session};
@@ -29,8 +30,8 @@ use stored_value::{is_number_type, number_of};
 pub(crate) enum Shown<'a> {
     /// A number of the data.
     Number(i64),
-    /// Bytes, of which a front is shown.
-    Bytes(&'a [u8]),
+    /// A value of a record, of which the first bytes are shown.
+    Stored(RowValue<'a>),
 }
 
 impl Engine {
@@ -130,7 +131,7 @@ impl Engine {
     }
 }
 
-// A value of the column in the row, the first being 1; for 0 the count of its values.
+// A value of the column in the record, the first being 1; for 0 the count of its values.
 fn value_in<'a>(row: &'a ShownRow<'_>, column: &Column, sequence: u32) -> Result<Shown<'a>, Jet>
     requires { AreReadable column.now.kind (values_of row.now column.now.id.0) }
     ensures answer { (asked : Asked) (most : ℕ) → (column_shown asked sequence most row.now column.now).answered ≡ answered_or most result }
@@ -140,22 +141,26 @@ fn value_in<'a>(row: &'a ShownRow<'_>, column: &Column, sequence: u32) -> Result
         let count = row.count(column.id) as u32;
         return Ok(Shown::Number(i64::from(count)));
     }
-    let Some(value) = row.value(column.id, sequence as usize - 1) else {
-        return Err(Jet::ColumnNull);
-    };
-    Ok(shown_value(column, value))
+    value_at(row, column, sequence as usize - 1)
 }
 
-// A value of the column as it is shown: a number as one.
-fn shown_value<'a>(column: &Column, value: &'a [u8]) -> Shown<'a>
-    requires { IsTrue (value_fits column.now.kind value.now) }
-    ensures answer { (asked : Asked) (most : ℕ) → (value_shown asked column.now most (Some value.now)).answered ≡ answered_with most result }
-    ensures room { HasRoom result }
+// The column's value at a place, counted from 0: a number as one.
+fn value_at<'a>(row: &'a ShownRow<'_>, column: &Column, at: usize) -> Result<Shown<'a>, Jet>
+    requires { AreReadable column.now.kind (values_of row.now column.now.id.0) }
+    ensures answer { (asked : Asked) (most : ℕ) → (value_shown asked column.now most (bytes_at row.now column.now.id.0 at)).answered ≡ answered_or most result }
+    ensures room { IfOk result HasRoom }
 {
     if is_number_type(column.kind) {
-        Shown::Number(number_of(column.kind, value))
+        match row.value(column.id, at) {
+            Some(value) => Ok(Shown::Number(number_of(column.kind, value))),
+            None => Err(Jet::ColumnNull),
+        }
     } else {
-        Shown::Bytes(value)
+        Ok(Shown::Stored(RowValue {
+            row,
+            column: column.id,
+            at,
+        }))
     }
 }
 
@@ -174,28 +179,8 @@ fn show_value(local: &mut Local, value: Shown<'_>, most: u32) -> Reply
             jet: Jet::Success,
             value: Value::Number(number),
         },
-        Shown::Bytes(bytes) => show_front(local, bytes, most as usize),
+        Shown::Stored(value) => local.show_value(&value, most),
     }
-}
-
-// Success or a truncated value: its first bytes, and the length of the whole.
-fn show_front(local: &mut Local, value: &[u8], most: usize) -> Reply
-    requires begun { IsTrue local.old.state.begun }
-    requires room { length value.now ≤ 1048576 }
-    ensures shown { answered_by result local.new.reply ≡ bytes_answered most value.now }
-    ensures named { IsTrue (names_within result.value (length local.new.reply)) }
-    ensures room { length local.new.reply ≡ length local.old.reply }
-    ensures state { local.new.state ≡ local.old.state }
-    ensures session { local.new.session ≡ local.old.session }
-{
-    let (front, _) = value.split_at(most.min(value.len()));
-    let jet = if most < value.len() {
-        Jet::BufferTruncated
-    } else {
-        Jet::Success
-    };
-    let value = show_bytes(local, front, value.len() as u64);
-    Reply { jet, value }
 }
 
 // The bytes at the front of the reply buffer, as the front of a value of so many.

@@ -1,18 +1,20 @@
 //! What a session holds from its begin to its end.
 
-ghost use Rattle.std.specs.Prelude.{◌≡◌, ◌≤◌, ◌<◌, ◌==◌, ◌||◌, ◌++◌, [], ◌∷◌, true, Option, Some, None, MatchOption, length, nat_le, find, filter, map, not, is_some, option_map, drop, remove, vec_len, vec_capacity, if◌then◌else◌};
-ghost use Rattle.session_local.specs.Answer.{Bytes, shown_by};
+ghost use Rattle.std.specs.Prelude.{◌≡◌, ◌≤◌, ◌<◌, ◌==◌, ◌||◌, ◌++◌, [], ◌∷◌, true, Option, Some, None, IfSome, IsTrue, MatchOption, length, nat_le, find, filter, map, not, is_some, option_map, drop, remove, vec_len, vec_capacity, if◌then◌else◌};
+ghost use Rattle.session_local.specs.Answer.{Bytes, answered_by, shown_by};
 ghost use Rattle.session_local.specs.declared.reply.Value.TheVariants as value;
 ghost use Rattle.session_local.specs.Local.{unprepared};
 ghost use Rattle.session_local.specs.Finishing.{with_update_at};
 ghost use Rattle.session_local.specs.Holding.{position_of, begun_with_cursors};
 ghost use Rattle.session_local.specs.Preparing.{update_of, FitsCursor};
 ghost use Rattle.session_local.specs.SessionSide.{label_of, are_distinct};
+ghost use Rattle.session_local.specs.Showing.{names_within, value_answered};
 
 use crate::buffers::{Buffers, MOST_CURSORS};
 use crate::open_cursor::OpenCursor;
 use crate::prepared::Prepared;
-use crate::reply::Value;
+use crate::reply::{Reply, Value};
+use crate::retrieved_value::{RetrievedValue, show_front};
 use jet_base::CursorId;
 use std::marker::Model;
 
@@ -143,6 +145,18 @@ impl Begun {
     {
         write_front(&mut self.reply, front);
         Value::Bytes(front.len(), whole)
+    }
+
+    /// Reads the first bytes of a value, up to the most that was asked for, to the front of the reply buffer.
+    pub(crate) fn show_value<V: RetrievedValue>(&mut self, value: &V, most: u32) -> Reply
+        requires { IfSome (V.bytes value.now) (λ bytes. length bytes ≤ 1048576) }
+        ensures shown { answered_by result self.new.reply ≡ value_answered most (V.bytes value.now) }
+        ensures named { IsTrue (names_within result.value (length self.new.reply)) }
+        ensures room { length self.new.reply ≡ 1048576 }
+        ensures held { length self.old.reply ≡ 1048576 }
+        ensures cursors { self.new.cursors ≡ self.old.cursors }
+    {
+        show_front(&mut self.reply, value, most as usize)
     }
 }
 

@@ -1,19 +1,21 @@
 //! One session's own state.
 
-ghost use Rattle.std.specs.Prelude.{◌≡◌, ◌≤◌, true, [], IsTrue, Option, Some, None, MatchOption, option_map, length, map, if◌then◌else◌};
-ghost use Rattle.session_local.specs.Answer.{Bytes, shown_by};
+ghost use Rattle.std.specs.Prelude.{◌≡◌, ◌≤◌, true, [], IfSome, IsTrue, Option, Some, None, MatchOption, option_map, length, map, if◌then◌else◌};
+ghost use Rattle.session_local.specs.Answer.{Bytes, answered_by, shown_by};
 ghost use Rattle.session_local.specs.declared.reply.Value.TheVariants as value;
 ghost use Rattle.session_local.specs.Local.{no_session, cursor_labelled, without_cursor, without_prepared};
 ghost use Rattle.session_local.specs.Finishing.{with_opened, with_update_at};
 ghost use Rattle.session_local.specs.Holding.{begun_with_cursors};
 ghost use Rattle.session_local.specs.Preparing.{update_of, FitsCursor};
 ghost use Rattle.session_local.specs.SessionSide.{label_of, are_distinct};
+ghost use Rattle.session_local.specs.Showing.{names_within, value_answered};
 
 use crate::begun::Begun;
 use crate::buffers::Buffers;
 use crate::open_cursor::OpenCursor;
 use crate::prepared::Prepared;
-use crate::reply::Value;
+use crate::reply::{Reply, Value};
+use crate::retrieved_value::RetrievedValue;
 use index_derive::Schema;
 use jet_base::{CursorId, Session, TableId};
 use std::marker::Model;
@@ -110,6 +112,24 @@ impl Local {
         match &mut self.begun {
             Some(begun) => begun.show(front, whole),
             None => Value::Nothing,
+        }
+    }
+
+    /// Reads the first bytes of a value, up to the most that was asked for, to the front of the reply buffer: success or a
+    /// truncated value, with the length of the whole, or that there is no such value.
+    pub fn show_value<V: RetrievedValue>(&mut self, value: &V, most: u32) -> Reply
+        requires begun { IsTrue self.old.state.begun }
+        requires room { IfSome (V.bytes value.now) (λ bytes. length bytes ≤ 1048576) }
+        ensures shown { answered_by result self.new.reply ≡ value_answered most (V.bytes value.now) }
+        ensures named { IsTrue (names_within result.value (length self.new.reply)) }
+        ensures room { length self.new.reply ≡ 1048576 }
+        ensures held { length self.old.reply ≡ 1048576 }
+        ensures state { self.new.state ≡ self.old.state }
+        ensures session { self.new.session ≡ self.old.session }
+    {
+        match &mut self.begun {
+            Some(begun) => begun.show_value(value, most),
+            None => unreachable!(),
         }
     }
 

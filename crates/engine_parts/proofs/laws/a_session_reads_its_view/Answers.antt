@@ -1,4 +1,4 @@
-use Rattle.engine_parts.proofs.ReadsView.{built_read, entries_read, record_read, row_read, stored_read}
+use Rattle.engine_parts.proofs.ReadsView.{entries_read, record_read, row_read, stored_read}
 use Rattle.engine_parts.proofs.laws.a_session_reads_its_view.Goals as goal
 
 pub returns-clause-entries : goal.returns-clause-entries
@@ -24,6 +24,3 @@ returns-clause-rows c engine state session local label cursor h step found =
       numbers = c.every_record_seen_holds_numbers.ensures;
     })
     engine state session local label cursor h step found
-
-pub returns-clause-built : goal.returns-clause-built
-returns-clause-built c engine state session local label cursor h step found = built_read engine state session local label cursor h step found

@@ -31,7 +31,7 @@ value_seen-requires-clause-on c = c.in-Ok.ensures.0
 pub value_seen-requires-clause-row : goal.value_seen-requires-clause-row
 value_seen-requires-clause-row c =
     own_row c.args.self.now c.session-session.result.0 c.args.local.now.session c.in-Some.found.now c.in-Ok.row c.session-session.ensures
-    (row_read_at (record { rows = c.a_session_reads_its_view.ensures.rows; built = c.a_session_reads_its_view.ensures.built }) c.args.self.now c.args.local.now c.args.cursor.0 c.in-Some.found.now c.in-Ok.row c.requires.beside c.in-Some.ensures
+    (row_read_at c.a_session_reads_its_view.ensures.rows c.args.self.now c.args.local.now c.args.cursor.0 c.in-Some.found.now c.in-Ok.row c.requires.beside c.in-Some.ensures
     (own_record c.args.self.now c.session-session.result.0 c.args.local.now.session c.in-Some.found.now c.session-session.ensures (Ok c.in-Ok.row) c.in-Ok.ensures))
 
 pub value_seen-requires-clause-column : goal.value_seen-requires-clause-column
@@ -48,7 +48,7 @@ value_seen-requires-clause-values c =
     let found = c.in-Some.found.now in
     let named : column_named found.schema.columns c.args.column.now ≡ Some column =
     ap (λ (s : Schema). column_named s.columns c.args.column.now) (sym c.schema.ensures) ∙ sym c.column_named.ensures ∙ ap option_copied c.in-Some-column_named.is in
-    readable_at (record { rows = c.a_session_reads_its_view.ensures.rows; built = c.a_session_reads_its_view.ensures.built }) c.args.self.now c.args.local.now c.args.cursor.0 c.args.column.now found c.in-Ok.row column c.requires.beside c.in-Some.ensures (own_record c.args.self.now c.session-session.result.0 c.args.local.now.session found c.session-session.ensures (Ok c.in-Ok.row) c.in-Ok.ensures) named
+    readable_at c.a_session_reads_its_view.ensures.rows c.args.self.now c.args.local.now c.args.cursor.0 c.args.column.now found c.in-Ok.row column c.requires.beside c.in-Some.ensures (own_record c.args.self.now c.session-session.result.0 c.args.local.now.session found c.session-session.ensures (Ok c.in-Ok.row) c.in-Ok.ensures) named
 
 -- what is answered of the record that the session sees
 own_answer : (engine : EngineState) (session own : ℕ) (c : OpenCursor) (sequence : ℕ) (column : Column) (asked : Asked) (most : ℕ) (answered : Answered) → session ≡ own
