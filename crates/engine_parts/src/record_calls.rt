@@ -1,7 +1,8 @@
 //! RetrieveColumn.
 
 ghost use Rattle.std.specs.Prelude.{◌≡◌, ◌≤◌, ℕ, Some, None, IfOk, IsTrue, false, true, length};
-ghost use Rattle.column_set.specs.RecordValues.{values_of};
+ghost use Rattle.jet_base.specs.ColumnType.{is_number_type};
+ghost use Rattle.column_set.specs.RecordValues.{value_fits, values_of};
 ghost use Rattle.cursor_nav.specs.Places.{is_on};
 ghost use Rattle.index_derive.specs.Entries.{is_escrow_column};
 ghost use Rattle.session_local.specs.declared.request.Request.TheVariants as call;
@@ -152,7 +153,7 @@ fn value_at<'a>(row: &'a ShownRow<'_>, column: &Column, at: usize) -> Result<Sho
 {
     if is_number_type(column.kind) {
         match row.value(column.id, at) {
-            Some(value) => Ok(Shown::Number(number_of(column.kind, value))),
+            Some(value) => Ok(number_shown(column, value)),
             None => Err(Jet::ColumnNull),
         }
     } else {
@@ -162,6 +163,16 @@ fn value_at<'a>(row: &'a ShownRow<'_>, column: &Column, at: usize) -> Result<Sho
             at,
         }))
     }
+}
+
+// A number of the column as it is shown.
+fn number_shown(column: &Column, value: &[u8]) -> Shown<'static>
+    requires number { is_number_type column.now.kind ≡ true }
+    requires fits { IsTrue (value_fits column.now.kind value.now) }
+    ensures answer { (asked : Asked) (most : ℕ) → (value_shown asked column.now most (Some value.now)).answered ≡ answered_with most result }
+    ensures room { HasRoom result }
+{
+    Shown::Number(number_of(column.kind, value))
 }
 
 // What is answered with the value, of whose bytes so many are shown.

@@ -1,4 +1,4 @@
-use Rattle.std.proofs.Common.{◌≡◌, ◌-◌, ap, arith, false, ◌∙◌}
+use Rattle.std.proofs.Common.{◌≡◌, ap, arith, false, ◌∙◌}
 use Rattle.std.specs.Prelude.{◌==◌}
 use Rattle.std.proofs.lemmas.Bool.Decides.{nat_tests}
 use Rattle.session_local.specs.Outcome.{Outcome}
