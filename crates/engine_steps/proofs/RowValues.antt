@@ -1,4 +1,4 @@
--- A record that fits its columns stands in its row, with its long values apart; and in the row alone where all columns are built.
+-- The values of a record that fits the columns of its table.
 use Rattle.std.proofs.Common.{◌≡◌, ℕ, ◌≤◌, Bool, true, false, ◌&&◌, ◌||◌, cond, List, [], ◌∷◌, length, Option, Some, None, refl, sym, ap, ◌∙◌, arith}
 use Rattle.std.specs.Prelude.{◌==◌, ◌^◌, bytes_eq, nat_le, nat_lt}
 use Rattle.std.specs.List.{list_all}
@@ -7,15 +7,12 @@ use Rattle.jet_base.specs.declared.words.ColType.{ColType}
 use Rattle.jet_base.specs.declared.words.ColType.TheVariants as kind
 use Rattle.column_set.specs.declared.columns.Column.{Column}
 use Rattle.column_set.specs.RecordValues.{RecordFields, column_of_id, value_fits, values_fit}
-use Rattle.column_set.specs.Rows.{are_short, is_all_here}
 use Rattle.database_state.specs.Table.{GreatestColumns}
 use Rattle.record_changes.proofs.Tests.{and_left, and_right, and_both, impossible, same_bytes, same_number}
 use Rattle.long_rows.specs.KeptRows.{are_values}
 use Rattle.session_local.specs.WellFormed.{stands_in}
 use Rattle.common_lemmas.proofs.Found.{all_found, found_passes}
 use Rattle.lawful_answers.specs.ColumnNumbers.{are_in_range, is_given_number}
-use Rattle.built_calls.specs.BuiltTables.{is_built_column}
-use Rattle.built_calls.proofs.BuiltColumns.{not_long, values_short}
 
 -- ---- numbers that were given
 
@@ -44,11 +41,6 @@ fits_found values found = elim found [ Some column ↦ values_fit column values 
 pub record AreNumbered (greatest : GreatestColumns) (columns : List Column) : Type 0 where
   pub range : are_in_range greatest ≡ true
   pub given : list_all (is_given_number greatest) columns ≡ true
-
--- the same where all are built
-pub record AreColumns (greatest : GreatestColumns) (columns : List Column) : Type 0 where
-  pub numbered : AreNumbered greatest columns
-  pub built : list_all is_built_column columns ≡ true
 
 -- ---- the values of a field
 
@@ -106,19 +98,3 @@ each_kept greatest columns (field ∷ fields) are fits =
       and_both (are_values field.1) (list_all (λ field. are_values field.1) fields) one.0 rest.0,
       and_both (nat_lt field.0 (2 ^ 16)) (list_all (λ field. nat_lt field.0 (2 ^ 16)) fields) one.1 rest.1,
     )
-
--- ---- values that stand in the row
-
-field_short : (columns : List Column) (field : ℕ × List (List ℕ)) (found : Option Column) → list_all is_built_column columns ≡ true → column_of_id columns field.0 ≡ found → fits_found field.1 found ≡ true → are_short field.1 ≡ true
-field_short columns field None built is fits = impossible fits
-field_short columns field (Some column) built is fits =
-    values_short column.kind field.1
-    (not_long column (all_found is_built_column (λ (c : Column). c.id.0 == field.0) columns column built is))
-    (and_right (column.multi || nat_le (length field.1) 1) (list_all (value_fits column.kind) field.1) fits)
-
-pub each_short : (columns : List Column) (fields : RecordFields) → list_all is_built_column columns ≡ true → list_all (stands_in columns) fields ≡ true → is_all_here fields ≡ true
-each_short columns [] built fits = refl
-each_short columns (field ∷ fields) built fits =
-    and_both (are_short field.1) (is_all_here fields)
-    (field_short columns field (column_of_id columns field.0) built refl (and_left (stands_in columns field) (list_all (stands_in columns) fields) fits))
-    (each_short columns fields built (and_right (stands_in columns field) (list_all (stands_in columns) fields) fits))

@@ -10,7 +10,7 @@ use Rattle.column_set.specs.declared.changes.Change.{Change}
 use Rattle.column_set.specs.declared.changes.Change.TheVariants.{Put, Drop, Hold, Add}
 use Rattle.column_set.specs.Record.{is_record}
 use Rattle.column_set.specs.RecordValues.{RecordFields, has_value, is_kept_column, is_missing_a_value, record_fits, record_size}
-use Rattle.column_set.specs.Rows.{all_here, is_all_here, is_row, largest_row}
+use Rattle.column_set.specs.Rows.{largest_row}
 use Rattle.index_derive.specs.declared.log.EntryKind.TheVariants as entry
 use Rattle.index_derive.specs.declared.rules.IndexRule.{IndexRule}
 use Rattle.index_derive.specs.declared.rules.Schema.{Schema}
@@ -37,7 +37,6 @@ use Rattle.common_lemmas.proofs.Found.{found_passes, of_found}
 use Rattle.version_records.proofs.Standing.{bookmarks_seen}
 use Rattle.lawful_answers.specs.ColumnNumbers.{are_in_range, has_own_numbers, is_given_number}
 use Rattle.lawful_answers.proofs.TableTests.{all_found}
-use Rattle.built_calls.specs.BuiltTables.{is_built_column, is_built_rule, is_built_table}
 use Rattle.engine_versions.specs.EngineState.{EngineState}
 use Rattle.engine_versions.specs.HoldsState.{HoldsState}
 use Rattle.stored_variants.specs.PutRecords.{IsStorable}
@@ -46,11 +45,7 @@ use Rattle.engine_steps.specs.Changing.{CanChange, IsFormed}
 use Rattle.engine_steps.specs.Steps.{MayCome, entry_by}
 use Rattle.engine_steps.proofs.Fitting.{lawful_by_kind}
 use Rattle.engine_steps.proofs.PrimaryKeys.{IsLegalKey, key_short, key_some, legal_key}
-use Rattle.engine_steps.proofs.RowValues.{AreColumns, each_kept, each_short}
-
--- a law of rows: each value of such a record may stand in its row
-abbrev pub StandInRows : Type 0
-StandInRows = (fields : RecordFields) → IsTrue (is_record fields) → IsTrue (is_all_here fields) → IsTrue (list_all (λ field. nat_lt field.0 (2 ^ 16)) fields) → record_size fields ≤ largest_row → IsTrue (is_row (all_here fields))
+use Rattle.engine_steps.proofs.RowValues.{AreNumbered, each_kept}
 
 -- ---- a table of the state
 
@@ -64,16 +59,12 @@ legal_primary engine state h id table found rule e =
     let primary : rule.flags.primary ≡ true = found_passes (λ r. r.flags.primary) (schema_of table).indexes rule e in
     legal_key rule (schema_of table) ((of_found (IsSoundIndex table) (λ r. r.flags.primary) (schema_of table).indexes rule e sound).2 primary).1 primary
 
-columns_of : (engine : EngineState) (state : DatabaseState) → HoldsState engine state → (id : ℕ) (table : Table) → table_with_id state.tables id ≡ Some table → AreColumns table.greatest table.columns
+columns_of : (engine : EngineState) (state : DatabaseState) → HoldsState engine state → (id : ℕ) (table : Table) → table_with_id state.tables id ≡ Some table → AreNumbered table.greatest table.columns
 columns_of engine state h id table found =
-    let built : is_built_table table ≡ true = subst (λ (o : Option Table). IfSome o (λ t. is_built_table t ≡ true)) found (all_found is_built_table state.tables h.built id) in
     let own : has_own_numbers table ≡ true = subst (λ (o : Option Table). IfSome o (λ t. has_own_numbers t ≡ true)) found (all_found has_own_numbers state.tables h.reached.columns id) in
     let given = list_all (is_given_number table.greatest) table.columns in
     let both : (are_in_range table.greatest && given) ≡ true = and_left (are_in_range table.greatest && given) _ own in
-    record {
-      numbered = record { range = and_left (are_in_range table.greatest) given both; given = and_right (are_in_range table.greatest) given both };
-      built = and_left (list_all is_built_column table.columns) (list_all is_built_rule table.indexes) built;
-    }
+    record { range = and_left (are_in_range table.greatest) given both; given = and_right (are_in_range table.greatest) given both }
 
 -- ---- a bookmark
 
@@ -128,9 +119,8 @@ seen_eight engine state h session id table found bookmark none there = by (recor
 
 -- ---- a put
 
--- what is asked of a put whose values may be long, of the schema of its table: the record fits its columns, no index refuses it, and
--- its row has room in a page
-pub record IsKeptIn (schema : Schema) (bookmark : List ℕ) (values : RecordFields) : Type 0 where
+-- the same as is asked of a put, of the schema of its table
+pub record IsStorableIn (schema : Schema) (bookmark : List ℕ) (values : RecordFields) : Type 0 where
   pub columns : record_fits schema.columns values ≡ true
   pub numbers : HoldsNumbers schema values
   pub indexable : is_indexable schema values ≡ true
@@ -140,23 +130,18 @@ pub record IsKeptIn (schema : Schema) (bookmark : List ℕ) (values : RecordFiel
   pub lengths : IsTrue (list_all (λ field. are_values field.1) values)
   pub small : record_size values ≤ largest_row
 
--- the same where all its values stand in the row
-pub record IsStorableIn (schema : Schema) (bookmark : List ℕ) (values : RecordFields) : Type 0 where
-  pub kept : IsKeptIn schema bookmark values
-  pub here : IsTrue (is_all_here values)
-  pub formed : IsTrue (is_row (all_here values))
-
 storable_of : (table : Table) (bookmark : List ℕ) (values : RecordFields) → IsStorableIn (schema_of table) bookmark values → IsStorable table bookmark values
 storable_of table bookmark values s = record {
-  columns = s.kept.columns;
-  numbers = s.kept.numbers;
-  indexable = s.kept.indexable;
-  own = s.kept.own.own;
-  some = s.kept.own.some;
-  short = s.kept.own.short;
-  here = s.here;
+  columns = s.columns;
+  numbers = s.numbers;
+  indexable = s.indexable;
+  own = s.own.own;
+  some = s.own.some;
+  short = s.own.short;
   formed = s.formed;
-  small = s.kept.small;
+  numbered = s.numbered;
+  lengths = s.lengths;
+  small = s.small;
 }
 
 -- it holds numbers in the escrow columns, as the record in whose place it comes does
@@ -173,10 +158,10 @@ at_most : (n m : ℕ) → nat_le n m ≡ true → n ≤ m
 at_most n m h = grind (arith, nat_tests)
 
 -- a lawful put is one of a record that can be kept
-put_kept : (engine : EngineState) (state : DatabaseState) → HoldsState engine state → (session id : ℕ) (table : Table) (bookmark : List ℕ) (copied : Option (List ℕ)) (values : RecordFields)
+put_storable : (engine : EngineState) (state : DatabaseState) → HoldsState engine state → (session id : ℕ) (table : Table) (bookmark : List ℕ) (copied : Option (List ℕ)) (values : RecordFields)
     → table_with_id state.tables id ≡ Some table → IsTrue (is_record values)
-    → is_lawful_put state session table (rows_of (table_with_id (view state session) table.id)) bookmark copied values ≡ true → IsKeptIn (schema_of table) bookmark values
-put_kept engine state h session id table bookmark copied values found is lawful =
+    → is_lawful_put state session table (rows_of (table_with_id (view state session) table.id)) bookmark copied values ≡ true → IsStorableIn (schema_of table) bookmark values
+put_storable engine state h session id table bookmark copied values found is lawful =
     let rows : Rows = rows_of (table_with_id (view state session) table.id) in
     let same : table.id ≡ id = same_number table.id id (found_passes (λ (t : Table). t.id == id) state.tables table found) in
     let free = has_free_keys state session table.id (schema_of table) rows bookmark values in
@@ -191,7 +176,7 @@ put_kept engine state h session id table bookmark copied values found is lawful 
     let with_small : (fits && whole && small) ≡ true = and_left (fits && whole && small) indexed with_index in
     let fit : fits ≡ true = and_left fits whole (and_left (fits && whole) small with_small) in
     let few : record_size values ≤ 1700 = at_most (record_size values) 1700 (and_right (fits && whole) small with_small) in
-    let each = each_kept table.greatest table.columns values (columns_of engine state h id table found).numbered (and_left (list_all (stands_in table.columns) values) (list_all (λ column. not (is_kept_column column) || has_value values column.id.0) table.columns) fit) in
+    let each = each_kept table.greatest table.columns values (columns_of engine state h id table found) (and_left (list_all (stands_in table.columns) values) (list_all (λ column. not (is_kept_column column) || has_value values column.id.0) table.columns) fit) in
     record {
       columns = fit;
       numbers = put_holds engine state h session id table bookmark copied values (ap (table_with_id state.tables) same ∙ found) is lawful;
@@ -205,15 +190,6 @@ put_kept engine state h session id table bookmark copied values found is lawful 
       lengths = each.0;
       small = few;
     }
-
-put_storable : StandInRows → (engine : EngineState) (state : DatabaseState) → HoldsState engine state → (session id : ℕ) (table : Table) (bookmark : List ℕ) (copied : Option (List ℕ)) (values : RecordFields)
-    → table_with_id state.tables id ≡ Some table → IsTrue (is_record values)
-    → is_lawful_put state session table (rows_of (table_with_id (view state session) table.id)) bookmark copied values ≡ true → IsStorableIn (schema_of table) bookmark values
-put_storable row engine state h session id table bookmark copied values found is lawful =
-    let kept = put_kept engine state h session id table bookmark copied values found is lawful in
-    let here : is_all_here values ≡ true =
-    each_short table.columns values (columns_of engine state h id table found).built (and_left (list_all (stands_in table.columns) values) (list_all (λ column. not (is_kept_column column) || has_value values column.id.0) table.columns) kept.columns) in
-    record { kept = kept; here = here; formed = row values is here kept.numbered kept.small }
 
 -- ---- the engine's table
 
@@ -250,7 +226,6 @@ abbrev pub TellsNewest : Type 0
 TellsNewest = (engine : EngineState) (state : DatabaseState) → HoldsState engine state → (table : ℕ) (bookmark : List ℕ) → record_in engine.store.tables table bookmark ≡ record_in (newest state) table bookmark
 
 pub record ChangeLaws : Type 0 where
-  pub row : StandInRows
   pub schema : TellsSchema
   pub newest : TellsNewest
 
@@ -278,7 +253,7 @@ put_can : ChangeLaws → (engine : EngineState) (state : DatabaseState) → Hold
 put_can laws engine state h session id table bookmark copied values found is lawful =
     some_and (table_with_id engine.store.tables id) (λ t. IsStorableIn (schema_of t) bookmark values) (λ t. IsStorable t bookmark values) (λ t s. storable_of t bookmark values s)
     (schema_found (table_with_id engine.store.tables id) (Some table) (λ schema. IsStorableIn schema bookmark values) (laws.schema engine state h id ∙ ap (option_map schema_of) found)
-    (put_storable laws.row engine state h session id table bookmark copied values found is lawful))
+    (put_storable engine state h session id table bookmark copied values found is lawful))
 
 drop_can : ChangeLaws → (engine : EngineState) (state : DatabaseState) → HoldsState engine state → (session id : ℕ) (bookmark : List ℕ) (change : Change) → change ≡ Drop (record { 0 = id }) bookmark
     → nat_lt 0 (levels state session) ≡ true → has_write_conflict state session change ≡ false → is_some (record_in (view state session) id bookmark) ≡ true → is_some (record_in engine.store.tables id bookmark) ≡ true

@@ -20,7 +20,6 @@ ghost use Rattle.engine_steps.specs.Steps.{IsSettledForStep, MayCome, MayTake, b
 ghost use Rattle.loggable_steps.specs.Loggable.{schema_fits_types};
 ghost use Rattle.stored_variants.specs.SchemaSteps.{CanMake};
 
-use column_set::values_here_are_the_record;
 use engine_versions::{
     a_clean_leaves_the_state, a_lawful_entry_makes_the_next_state, ends_always_find_room,
     newest_records_are_told, sessions_are_told, tables_are_told,
@@ -49,7 +48,6 @@ pub(crate) fn lawful_entries_fit_the_sessions()
 pub(crate) fn lawful_changes_can_be_made()
     ensures { (engine : EngineState) (session : ℕ) (made : Change) → MayCome engine (entry_by session (entry.Change made)) → IsFormed made → CanChange engine.store made }
 {
-    values_here_are_the_record();
     tables_are_told();
     newest_records_are_told();
 }

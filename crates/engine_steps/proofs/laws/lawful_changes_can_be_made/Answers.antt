@@ -4,7 +4,6 @@ use Rattle.engine_steps.proofs.laws.lawful_changes_can_be_made.Goals as goal
 pub returns : goal.returns
 returns c =
     let laws : ChangeLaws = record {
-      row = c.values_here_are_the_record.ensures.row;
       schema = c.tables_are_told.ensures.schema;
       newest = c.newest_records_are_told.ensures.newest;
     } in
