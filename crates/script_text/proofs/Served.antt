@@ -37,5 +37,3 @@ requests_of-served ((number, line) ∷ lines) calls h =
 
 pub script_lines-served : (bytes : List ℕ) (calls : List (ℕ × Request)) → script_lines bytes ≡ Ok calls → are_built calls ≡ true
 script_lines-served bytes calls h = requests_of-served (said_lines bytes) calls h
-
-pub ruleset served = script_lines-served

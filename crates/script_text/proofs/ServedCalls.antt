@@ -1,5 +1,5 @@
 -- A call of the grammar is one that the engine answers.
-use Rattle.std.proofs.Common.{◌≡◌, ℕ, suc, ◌+◌, ◌-◌, Bool, true, false, not, ◌&&◌, ◌||◌, cond, List, [], ◌∷◌, length, Option, Some, None, refl, arith}
+use Rattle.std.proofs.Common.{◌≡◌, ℕ, zero, suc, ◌+◌, ◌-◌, Bool, true, false, not, ◌&&◌, ◌||◌, cond, List, [], ◌∷◌, length, Option, Some, None, refl, arith}
 use Rattle.std.specs.Prelude.{◌^◌, ◌==◌, drop, codes, nat_le, unwrap_or, if◌then◌else◌, IfSome, bytes_eq, ℤ, pos, neg_ℤ}
 use Rattle.std.specs.Char.{is_ascii_alphabetic}
 use Rattle.std.specs.List.{AllByRecursion, list_all}
@@ -95,7 +95,7 @@ amount_below : (n : ℕ) → (nat_le 0 n && nat_le n (2 ^ 31 - 1)) ≡ true → 
 amount_below n e = (and_parts (nat_le 0 n) (nat_le n (2 ^ 31 - 1)) e).1
 
 amount_above : (n : ℕ) → (nat_le 0 n && nat_le n (2 ^ 31)) ≡ true → is_amount (neg_ℤ (pos n)) ≡ true
-amount_above 0 e = refl
+amount_above zero e = refl
 amount_above (suc n) e = less n (suc n) (omega arith) (and_parts (nat_le 0 (suc n)) (nat_le (suc n) (2 ^ 31)) e).1
 
 within : (most : ℕ) (made : ℕ → ℤ) → ((n : ℕ) → (nat_le 0 n && nat_le n most) ≡ true → is_amount (made n) ≡ true)

@@ -51,7 +51,6 @@ fn calls_of_lines(alloc: Global, bytes: &[u8]) -> Result<Vec<(Session, Request)>
 ///
 /// The script is read once, line by line; names and values are copied, lines and words are read in place. The fault
 /// `BadLine` comes exactly where some line is outside the grammar, and names the first such line.
-#[tactic(auto, using(crate::proofs::Served::served))]
 pub fn parse(alloc: Global, bytes: &[u8]) -> Result<Vec<(Session, Request)>, ScriptFault>
     // They are what the grammar reads.
     ensures read { IfOk result (λ calls. script_lines bytes.now ≡ Ok (calls_of calls.items)) }
