@@ -93,8 +93,9 @@ IsRefused bytes = (script_limit < length bytes) ⊎ IsErr (script_lines bytes)
 -- no line of it runs
 runs_not : {A : Type 0} (o : Outside) (bytes text : List ℕ) (lines : List Line) → o.left_before ≡ Some bytes → o.left_before ≡ prepend_known text o.left_after
     → IsScript o text lines → IsRefused bytes → A
-runs_not o bytes text lines left read script refused = by refused
+runs_not {A = A} o bytes text lines left read script refused = by refused
   where
+    whole : text ≡ bytes
     whole = read_whole bytes text o.left_after (sym left ∙ read) script.0
     by : IsRefused bytes → A
     by (inl long) =
@@ -106,13 +107,13 @@ refuses_by : (limit named : ℕ) (o : Outside) (bytes text : List ℕ) (ending :
     → form_of_ending limit ending ≡ form.OrderedRun named → o.source_after ≡ o.source_before → EndsBy limit o text ending
     → IsRefused bytes → (status_of ending ≡ 2) ⊎ (status_of ending ≡ 7)
 unfolding is_run
-refuses_by limit named o bytes text done left read run source ends refused = let (lines, pairs, script, rest) = ends.2 in runs_not o bytes text lines left read script refused
+refuses_by limit named o bytes text done left read run source ends refused = let run_of = ends.2 in runs_not o bytes text run_of.0 left read run_of.2 refused
 refuses_by limit named o bytes text bad_words left read run source ends refused = not_run form.Unknown named refl run
 refuses_by limit named o bytes text (told about) left read run source ends refused = not_run (form.About about) named refl run
 refuses_by limit named o bytes text (sink_failed_telling about) left read run source ends refused = not_run (form.About about) named refl run
 refuses_by limit named o bytes text too_long left read run source ends refused = inl refl
 refuses_by limit named o bytes text source_failed left read run source ends refused = below_itself o.source_before o.source_after ends.0 source
-refuses_by limit named o bytes text sink_failed left read run source ends refused = let (lines, pairs, count, n, script, rest) = ends.2 in runs_not o bytes text lines left read script refused
+refuses_by limit named o bytes text sink_failed left read run source ends refused = let run_of = ends.2 in runs_not o bytes text run_of.0 left read run_of.4 refused
 refuses_by limit named o bytes text want_of_memory left read run source ends refused = inr refl
 refuses_by limit named o bytes text (bad_script number) left read run source ends refused = inl refl
 
