@@ -97,6 +97,7 @@ runs_not {A = A} o bytes text lines left read script refused = by refused
   where
     whole : text ≡ bytes
     whole = read_whole bytes text o.left_after (sym left ∙ read) script.0
+
     by : IsRefused bytes → A
     by (inl long) =
         let short : length bytes ≤ script_limit = subst (λ (t : List ℕ). length t ≤ script_limit) whole script.1 in
