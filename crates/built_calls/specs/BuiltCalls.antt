@@ -3,17 +3,18 @@ use Rattle.std.specs.Prelude.{Bool, true, ◌&&◌, nat_le, ℤ, pos, negsuc, So
 use Rattle.jet_catalog.specs.Decisions.{makes_named as makes_named_in_catalog}
 use Rattle.session_local.specs.declared.request.Request.{Request}
 use Rattle.session_local.specs.declared.request.Request.TheVariants as call
-use Rattle.built_calls.specs.BuiltTables.{is_built_kind, is_built_limit}
+use Rattle.built_calls.specs.BuiltTables.{is_unnumbered, is_built_limit}
 use Rattle.built_calls.specs.SchemaRequests.{schema_call_of}
 
--- a number of 32 bits, as the amount of a sum is by its type
+-- a number of 32 bits: the amount of a sum is one by its type, and by the grammar
 abbrev pub is_amount : ℤ → Bool
 is_amount (pos n) = nat_le n 2147483647
 is_amount (negsuc n) = nat_le n 2147483647
 
--- All calls but those that make a column or an index that is not built.
+-- All calls but those that make a column that the engine numbers, or an index with keys of more than 255 bytes. No line of a
+-- script tells one of these.
 abbrev pub is_built_call : Request → Bool
-is_built_call (call.AddColumn table column kind flags) = is_built_kind kind flags.version flags.auto
+is_built_call (call.AddColumn table column kind flags) = is_unnumbered flags.version flags.auto
 is_built_call (call.CreateIndex table index flags key_most segments conditions) = is_built_limit key_most
 is_built_call (call.EscrowUpdate cursor column amount) = is_amount amount
 is_built_call _ = true

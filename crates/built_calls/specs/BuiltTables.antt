@@ -1,8 +1,7 @@
--- Which columns, indexes and tables are built: those whose records stand whole in their rows. And which entries make only such.
+-- Which columns, indexes and tables are built: of all that the definitions speak of, the columns that the engine numbers by
+-- itself and the keys of more than 255 bytes are not. And which entries make only what is built.
 use Rattle.std.specs.Prelude.{◌≡◌, ℕ, Bool, true, not, ◌&&◌, ◌||◌, nat_le, List}
 use Rattle.std.specs.List.{list_all, AllByRecursion}
-use Rattle.jet_base.specs.declared.words.ColType.{ColType}
-use Rattle.jet_base.specs.TypeKinds.{is_long_type}
 use Rattle.column_set.specs.declared.columns.Column.{Column}
 use Rattle.index_derive.specs.declared.rules.IndexRule.{IndexRule}
 use Rattle.index_derive.specs.declared.log.Entry.{Entry}
@@ -12,19 +11,19 @@ use Rattle.index_derive.specs.declared.schema_calls.SchemaStep.TheVariants as st
 use Rattle.database_state.specs.SchemaChanges.{is_type_long}
 use Rattle.database_state.specs.Table.{Table}
 
--- the columns of a type with these flags: of no long type, and not numbered by the engine
-abbrev pub is_built_kind : ColType → (version auto : Bool) → Bool
-is_built_kind kind version auto = not (is_long_type kind) && not (version || auto)
+-- the flags of a column that the engine does not number, neither at each change nor at each insert
+abbrev pub is_unnumbered : (version auto : Bool) → Bool
+is_unnumbered version auto = not (version || auto)
 
-abbrev pub has_built_kind : Column → Bool
-has_built_kind column = is_built_kind column.kind column.version column.auto
+abbrev pub is_unnumbered_column : Column → Bool
+is_unnumbered_column column = is_unnumbered column.version column.auto
 
 -- An escrow column is a Long with one value, and a fixed column, whose number is one of 1 to 127: no other is ever added.
 abbrev pub is_built_sum : Column → Bool
 is_built_sum column = not column.escrow || (is_type_long column.kind && (not column.multi && (nat_le 1 column.id.0 && nat_le column.id.0 127)))
 
 abbrev pub is_built_column : Column → Bool
-is_built_column column = has_built_kind column && is_built_sum column
+is_built_column column = is_unnumbered_column column && is_built_sum column
 
 -- keys of so many bytes at most: of 255
 abbrev pub is_built_limit : ℕ → Bool
@@ -41,7 +40,7 @@ are_built tables = list_all is_built_table tables
 
 -- whether an entry makes only what is built: of an escrow column the entry is lawful only where it is a sum that is built
 abbrev pub makes_built : EntryKind → Bool
-makes_built (entry.Schema (step.AddColumn table column)) = has_built_kind column
+makes_built (entry.Schema (step.AddColumn table column)) = is_unnumbered_column column
 makes_built (entry.Schema (step.CreateIndex table rule)) = is_built_rule rule
 makes_built _ = true
 

@@ -21,7 +21,7 @@ use Rattle.version_keys.proofs.FreeKeys.{in_any_order}
 use Rattle.version_keys.proofs.IndexNumbers.{all_primary_first, none_of}
 use Rattle.version_keys.proofs.SchemaKeys.{IsNewIndex, at_found, new_index, unrefused}
 use Rattle.common_lemmas.proofs.Found.{found_passes, of_found}
-use Rattle.built_calls.specs.BuiltTables.{has_built_kind, makes_built}
+use Rattle.built_calls.specs.BuiltTables.{is_unnumbered_column, makes_built}
 use Rattle.built_calls.proofs.BuiltColumns.{kept_is_sum}
 use Rattle.engine_parts.specs.Parts.{tables_of}
 use Rattle.engine_versions.specs.EngineState.{EngineState}
@@ -84,7 +84,7 @@ above : (a b : ℕ) → (a == (b + 1)) ≡ true → b < a
 above a b e = grind (arith, nat_tests)
 
 -- an escrow column comes to a table without records
-takes_column : (o : Option Table) (column : Column) → has_built_kind column ≡ true → ((t : Table) → o ≡ Some t → (column.escrow && nat_lt 0 (length t.rows)) ≡ false) → IfSome o (TakesColumn column)
+takes_column : (o : Option Table) (column : Column) → is_unnumbered_column column ≡ true → ((t : Table) → o ≡ Some t → (column.escrow && nat_lt 0 (length t.rows)) ≡ false) → IfSome o (TakesColumn column)
 takes_column None column built empty = tt
 takes_column (Some t) column built empty = λ kept. no_records t.rows (and_second column.escrow (nat_lt 0 (length t.rows)) (kept_is_sum column built kept) (empty t refl))
 

@@ -33,7 +33,7 @@ use Rattle.agreeing_sessions.proofs.OwnSessions.{closes, commits, opens, rolls_b
 use Rattle.agreeing_sessions.proofs.Replacing.{replaces}
 use Rattle.agreeing_sessions.proofs.SchemaCalls.{column_added, column_deleted, index_created, index_deleted, table_created, table_deleted}
 use Rattle.built_calls.specs.BuiltCalls.{is_built_request}
-use Rattle.built_calls.specs.BuiltTables.{AllMakeBuilt, is_built_kind, is_built_limit}
+use Rattle.built_calls.specs.BuiltTables.{AllMakeBuilt, is_unnumbered, is_built_limit}
 use Rattle.engine_versions.specs.EngineState.{EngineState, HasRoomForEnds}
 use Rattle.engine_versions.specs.EngineSteps.{engine_after_answer, engine_after_step}
 use Rattle.engine_versions.specs.HoldsState.{HoldsAllInStep, HoldsState, asked_of, with_local}
@@ -60,7 +60,7 @@ answer_lawful one rise engine state h session local request step built = elim (t
     stepping (call.CreateTable table) b e = lawful_schema.table_made (asked_of engine state session local) table step.agrees (and_left (is_name table) true b)
     stepping (call.DeleteTable table) b e = lawful_schema.table_deleted (asked_of engine state session local) table step.agrees
     stepping (call.AddColumn table column kind flags) b e =
-        lawful_schema.column_made (asked_of engine state session local) table column kind flags step.agrees h.reached.order (and_left (is_name column) (is_built_kind kind flags.version flags.auto) b)
+        lawful_schema.column_made (asked_of engine state session local) table column kind flags step.agrees h.reached.order (and_left (is_name column) (is_unnumbered flags.version flags.auto) b)
     stepping (call.DeleteColumn table column) b e = lawful_schema.column_deleted (asked_of engine state session local) table column step.agrees
     stepping (call.CreateIndex table index flags key_most segments conditions) b e =
         lawful_schema.index_made (asked_of engine state session local) table index flags key_most segments conditions step.agrees h.reached.order (and_left (is_name index) (is_built_limit key_most) b)

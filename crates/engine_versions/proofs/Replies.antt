@@ -33,7 +33,7 @@ use Rattle.lawful_answers.specs.EntryTypes.{HasItsAmount}
 use Rattle.lawful_answers.proofs.Replies.{Quiet, passed_each, unless_each, cursor_each, begun_each, column_each, prepared_each, either, takes_no_step, without_step}
 use Rattle.built_calls.specs.BuiltCalls.{is_built_request}
 use Rattle.built_calls.proofs.BuiltAmounts.{amount_fits}
-use Rattle.built_calls.specs.BuiltTables.{AllMakeBuilt, is_built_kind, is_built_limit, makes_built}
+use Rattle.built_calls.specs.BuiltTables.{AllMakeBuilt, is_unnumbered, is_built_limit, makes_built}
 
 -- an entry of the session that makes only what is built
 abbrev IsOwnBuilt : ℕ → Entry → Type 0
@@ -107,7 +107,7 @@ step_built asked (call.Rollback all) e f = begun_each (TakesBuilt asked.session)
 step_built asked (call.CreateTable table) e f = begun_each (TakesBuilt asked.session) asked _ (λ b. schema_built asked (table_step asked.state table) refl) (λ b. tt)
 step_built asked (call.DeleteTable table) e f = begun_each (TakesBuilt asked.session) asked _ (λ b. schema_built asked (deleted_table_step asked.state table) refl) (λ b. tt)
 step_built asked (call.AddColumn table column kind flags) e f =
-    begun_each (TakesBuilt asked.session) asked _ (λ b. schema_built asked (column_step asked.state table column kind flags) (and_right (is_name column) (is_built_kind kind flags.version flags.auto) e)) (λ b. tt)
+    begun_each (TakesBuilt asked.session) asked _ (λ b. schema_built asked (column_step asked.state table column kind flags) (and_right (is_name column) (is_unnumbered flags.version flags.auto) e)) (λ b. tt)
 step_built asked (call.DeleteColumn table column) e f = begun_each (TakesBuilt asked.session) asked _ (λ b. schema_built asked (deleted_column_step asked.state table column) refl) (λ b. tt)
 step_built asked (call.CreateIndex table index flags key_most segments conditions) e f =
     begun_each (TakesBuilt asked.session) asked _ (λ b. schema_built asked (index_step asked.state table index flags key_most segments conditions) (and_right (is_name index) (is_built_limit key_most) e)) (λ b. tt)

@@ -22,7 +22,7 @@ use Rattle.version_history.specs.KeptSteps.{with_next_number}
 use Rattle.version_keys.specs.TableOrder.{IdsRise}
 use Rattle.version_keys.proofs.SchemaKeys.{at_found, at_table, with_last, without_table}
 use Rattle.lawful_answers.proofs.TableTests.{all_filtered, all_found, all_listed, definitions_stay, is_schema_entry, tested_alike}
-use Rattle.built_calls.specs.BuiltTables.{are_built, has_built_kind, is_built_column, is_built_rule, is_built_sum, is_built_table, makes_built}
+use Rattle.built_calls.specs.BuiltTables.{are_built, is_unnumbered_column, is_built_column, is_built_rule, is_built_sum, is_built_table, makes_built}
 
 all_with_last : {X : Type 0} (p : X → Bool) (xs : List X) (y : X) → list_all p xs ≡ true → p y ≡ true → list_all p (xs ++ y ∷ []) ≡ true
 all_with_last p [] y h own = and_both (p y) true own refl
@@ -54,7 +54,7 @@ step_built state label (step.CreateTable table name) free next e h id = with_las
 step_built state label (step.DeleteTable table) free next e h id = without_table Built table.0 state.tables id (h id)
 step_built state label (step.AddColumn table column) free next e h id =
     at_table Built table.0 (with_column column) (λ t. refl) state.tables
-    (λ t found b. and_both (list_all is_built_column (with_column column t).columns) (list_all is_built_rule t.indexes) (list_all-columns_with is_built_column column t.columns (built-parts t b).0 (and_both (has_built_kind column) (is_built_sum column) e (its_sum t found))) (built-parts t b).1) h id
+    (λ t found b. and_both (list_all is_built_column (with_column column t).columns) (list_all is_built_rule t.indexes) (list_all-columns_with is_built_column column t.columns (built-parts t b).0 (and_both (is_unnumbered_column column) (is_built_sum column) e (its_sum t found))) (built-parts t b).1) h id
   where
     denied : (b : Bool) → not b ≡ false → b ≡ true
     denied true f = refl

@@ -4,14 +4,13 @@ use Rattle.std.proofs.Common.{◌≡◌, ◌<◌, ◌≤◌, ◌⊎◌, inl, inr
 use Rattle.std.specs.Prelude.{IfSome, IsOk, IsErr, unwrap_or}
 use Rattle.std.proofs.lemmas.List.{append-nil}
 use Rattle.std.specs.Io.KnownBytes.{prepend_known}
-use Rattle.script_text.specs.Built.{long_column_line}
 use Rattle.script_text.specs.Grammar.{ScriptResult, script_lines}
 use Rattle.session_local.specs.Run.{Line}
 use Rattle.esentutl.specs.declared.words.Form.{Form}
 use Rattle.esentutl.specs.declared.words.Form.TheVariants as form
 use Rattle.esentutl.specs.declared.words.Topic.{Topic}
 use Rattle.esentutl.specs.About.{text_about}
-use Rattle.esentutl.specs.TopCall.{Outside, Ending, done, bad_words, told, sink_failed_telling, too_long, source_failed, sink_failed, want_of_memory, bad_script, not_built, script_limit, IsScript, Took, EndsBy, status_of, form_of_ending}
+use Rattle.esentutl.specs.TopCall.{Outside, Ending, done, bad_words, told, sink_failed_telling, too_long, source_failed, sink_failed, want_of_memory, bad_script, script_limit, IsScript, Took, EndsBy, status_of, form_of_ending}
 use Rattle.esentutl.proofs.Endings.{prepend_nothing}
 
 below_itself : {A : Type 0} (a b : ℕ) → a < b → b ≡ a → A
@@ -31,13 +30,6 @@ not_both (Err n) number e ok = absurd (true≢false (sym ok))
 neither : {A : Type 0} (read : ScriptResult) (lines : List Line) → read ≡ Ok lines → IsErr read → A
 neither (Ok own) lines e bad = absurd (true≢false (sym bad))
 neither (Err n) lines e bad = let never : ⊥ = cc in absurd never
-
-not_opposed : {A : Type 0} (read : ScriptResult) → IsOk read → IsErr read → A
-not_opposed (Ok lines) good bad = absurd (true≢false (sym bad))
-not_opposed (Err n) good bad = absurd (true≢false (sym good))
-
-no_line : {A : Type 0} (line : Option ℕ) (number : ℕ) → line ≡ Some number → line ≡ None → A
-no_line line number e none = let never : ⊥ = cc in absurd never
 
 -- ---- the form of the words
 
@@ -69,31 +61,28 @@ same_topic a b is = ap (topic_or a) is
 
 completes_by : (limit named : ℕ) (o : Outside) (bytes text : List ℕ) (ending : Ending) → o.left_before ≡ Some bytes → o.left_before ≡ prepend_known text o.left_after
     → form_of_ending limit ending ≡ form.OrderedRun named → o.source_after ≡ o.source_before → o.sink_after ≡ o.sink_before → EndsBy limit o text ending
-    → length bytes ≤ script_limit → IsOk (script_lines bytes) → long_column_line bytes ≡ None → (status_of ending ≡ 0) ⊎ (status_of ending ≡ 7)
+    → length bytes ≤ script_limit → IsOk (script_lines bytes) → (status_of ending ≡ 0) ⊎ (status_of ending ≡ 7)
 unfolding is_run
-completes_by limit named o bytes text done left read run source sink ends short good built = inl refl
-completes_by limit named o bytes text bad_words left read run source sink ends short good built = not_run form.Unknown named refl run
-completes_by limit named o bytes text (told about) left read run source sink ends short good built = inl refl
-completes_by limit named o bytes text (sink_failed_telling about) left read run source sink ends short good built = below_itself o.sink_before o.sink_after ends.1 sink
-completes_by limit named o bytes text too_long left read run source sink ends short good built =
+completes_by limit named o bytes text done left read run source sink ends short good = inl refl
+completes_by limit named o bytes text bad_words left read run source sink ends short good = not_run form.Unknown named refl run
+completes_by limit named o bytes text (told about) left read run source sink ends short good = inl refl
+completes_by limit named o bytes text (sink_failed_telling about) left read run source sink ends short good = below_itself o.sink_before o.sink_after ends.1 sink
+completes_by limit named o bytes text too_long left read run source sink ends short good =
     let long : script_limit < length bytes = subst (λ (bytes_left : Option (List ℕ)). IfSome bytes_left (λ b. script_limit < length b)) left ends.2 in
     let never : ⊥ = omega (arith, long, short) in absurd never
-completes_by limit named o bytes text source_failed left read run source sink ends short good built = below_itself o.source_before o.source_after ends.0 source
-completes_by limit named o bytes text sink_failed left read run source sink ends short good built = below_itself o.sink_before o.sink_after ends.1 sink
-completes_by limit named o bytes text want_of_memory left read run source sink ends short good built = inr refl
-completes_by limit named o bytes text (bad_script number) left read run source sink ends short good built =
+completes_by limit named o bytes text source_failed left read run source sink ends short good = below_itself o.source_before o.source_after ends.0 source
+completes_by limit named o bytes text sink_failed left read run source sink ends short good = below_itself o.sink_before o.sink_after ends.1 sink
+completes_by limit named o bytes text want_of_memory left read run source sink ends short good = inr refl
+completes_by limit named o bytes text (bad_script number) left read run source sink ends short good =
     let whole = read_whole bytes text o.left_after (sym left ∙ read) ends.2 in
     not_both (script_lines bytes) number (subst (λ (t : List ℕ). script_lines t ≡ Err number) whole ends.4) good
-completes_by limit named o bytes text (not_built number) left read run source sink ends short good built =
-    let whole = read_whole bytes text o.left_after (sym left ∙ read) ends.2 in
-    no_line (long_column_line bytes) number (subst (λ (t : List ℕ). long_column_line t ≡ Some number) whole ends.5) built
 
 pub completes_told : (limit named : ℕ) (o : Outside) (text : List ℕ) (ending : Ending) (left : Option (List ℕ)) → o.left_before ≡ left → o.left_before ≡ prepend_known text o.left_after
     → form_of_ending limit ending ≡ form.OrderedRun named → o.source_after ≡ o.source_before → o.sink_after ≡ o.sink_before → EndsBy limit o text ending → (status : ℕ) → status ≡ status_of ending
-    → IfSome left (λ bytes. length bytes ≤ script_limit → IsOk (script_lines bytes) → long_column_line bytes ≡ None → (status ≡ 0) ⊎ (status ≡ 7))
+    → IfSome left (λ bytes. length bytes ≤ script_limit → IsOk (script_lines bytes) → (status ≡ 0) ⊎ (status ≡ 7))
 completes_told limit named o text ending None told_left read run source sink ends status is = tt
-completes_told limit named o text ending (Some bytes) told_left read run source sink ends status is = λ short good built.
-    subst (λ (s : ℕ). (s ≡ 0) ⊎ (s ≡ 7)) (sym is) (completes_by limit named o bytes text ending told_left read run source sink ends short good built)
+completes_told limit named o text ending (Some bytes) told_left read run source sink ends status is = λ short good.
+    subst (λ (s : ℕ). (s ≡ 0) ⊎ (s ≡ 7)) (sym is) (completes_by limit named o bytes text ending told_left read run source sink ends short good)
 
 -- ---- the refusal of a script
 
@@ -128,16 +117,6 @@ refuses_by limit named o bytes text source_failed left read run source ends refu
 refuses_by limit named o bytes text sink_failed left read run source ends refused = let run_of = ends.2 in runs_not o bytes text run_of.0 left read run_of.4 refused
 refuses_by limit named o bytes text want_of_memory left read run source ends refused = inr refl
 refuses_by limit named o bytes text (bad_script number) left read run source ends refused = inl refl
-refuses_by limit named o bytes text (not_built number) left read run source ends refused = by refused
-  where
-    whole : text ≡ bytes
-    whole = read_whole bytes text o.left_after (sym left ∙ read) ends.2
-
-    by : IsRefused bytes → (status_of (not_built number) ≡ 2) ⊎ (status_of (not_built number) ≡ 7)
-    by (inl long) =
-        let short : length bytes ≤ script_limit = subst (λ (t : List ℕ). length t ≤ script_limit) whole ends.3 in
-        let never : ⊥ = omega (arith, long, short) in absurd never
-    by (inr bad) = not_opposed (script_lines bytes) (subst (λ (t : List ℕ). IsOk (script_lines t)) whole ends.4) bad
 
 pub refuses_told : (limit named : ℕ) (o : Outside) (text : List ℕ) (ending : Ending) (left : Option (List ℕ)) → o.left_before ≡ left → o.left_before ≡ prepend_known text o.left_after
     → form_of_ending limit ending ≡ form.OrderedRun named → o.source_after ≡ o.source_before → EndsBy limit o text ending → (status : ℕ) → status ≡ status_of ending
@@ -171,4 +150,3 @@ tells_whole limit o text source_failed asked read is sink ends status status_is 
 tells_whole limit o text sink_failed asked read is sink ends status status_is = not_text (form.OrderedRun limit) asked refl is
 tells_whole limit o text want_of_memory asked read is sink ends status status_is = not_text (form.OrderedRun limit) asked refl is
 tells_whole limit o text (bad_script number) asked read is sink ends status status_is = not_text (form.OrderedRun limit) asked refl is
-tells_whole limit o text (not_built number) asked read is sink ends status status_is = not_text (form.OrderedRun limit) asked refl is

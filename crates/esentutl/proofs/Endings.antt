@@ -8,7 +8,7 @@ use Rattle.esentutl.specs.declared.words.Form.TheVariants as form
 use Rattle.esentutl.specs.declared.words.Topic.{Topic}
 use Rattle.esentutl.specs.About.{text_about, Tells}
 use Rattle.esentutl.specs.Reading.{ReadsAs, line_of_fault, status_of_fault}
-use Rattle.esentutl.specs.TopCall.{Outside, Ending, told, sink_failed_telling, too_long, source_failed, want_of_memory, bad_script, not_built, SaysOnly, SourceIsSound, SinkIsSound, Took, EndsBy, status_of, form_of_ending}
+use Rattle.esentutl.specs.TopCall.{Outside, Ending, told, sink_failed_telling, too_long, source_failed, want_of_memory, bad_script, SaysOnly, SourceIsSound, SinkIsSound, Took, EndsBy, status_of, form_of_ending}
 
 -- nothing is written
 pub append_nothing : (known : Option (List ℕ)) → known ≡ append_known known []
@@ -24,7 +24,6 @@ pub ending_of : ReadScriptFault → Ending
 ending_of fault.Source = source_failed
 ending_of fault.TooLong = too_long
 ending_of (fault.BadLine number) = bad_script number
-ending_of (fault.NotBuilt number) = not_built number
 ending_of fault.Memory = want_of_memory
 
 pub status_of-ending_of : (f : ReadScriptFault) → status_of_fault f ≡ status_of (ending_of f)
@@ -32,7 +31,6 @@ unfolding ending_of
 status_of-ending_of fault.Source = refl
 status_of-ending_of fault.TooLong = refl
 status_of-ending_of (fault.BadLine number) = refl
-status_of-ending_of (fault.NotBuilt number) = refl
 status_of-ending_of fault.Memory = refl
 
 pub form_of_ending-ending_of : (limit : ℕ) (f : ReadScriptFault) → form.OrderedRun limit ≡ form_of_ending limit (ending_of f)
@@ -40,7 +38,6 @@ unfolding ending_of
 form_of_ending-ending_of limit fault.Source = refl
 form_of_ending-ending_of limit fault.TooLong = refl
 form_of_ending-ending_of limit (fault.BadLine number) = refl
-form_of_ending-ending_of limit (fault.NotBuilt number) = refl
 form_of_ending-ending_of limit fault.Memory = refl
 
 -- a line without a byte says nothing
@@ -55,7 +52,6 @@ unfolding ending_of
 ends_by_fault limit o text fault.Source reads says = (reads, says)
 ends_by_fault limit o text fault.TooLong reads says = (reads.0, says, reads.1)
 ends_by_fault limit o text (fault.BadLine number) reads says = (reads.0.0, says, reads.0.1, reads.0.2, reads.1)
-ends_by_fault limit o text (fault.NotBuilt number) reads says = (reads.0.0, says, reads.0.1, reads.0.2, reads.1, reads.2)
 ends_by_fault limit o text fault.Memory reads says = let nothing = says_nothing o says in (reads, nothing.0, inl nothing.1)
 
 pub ends_by_telling : (limit : ℕ) (o : Outside) (topic : Topic) (status : ℕ) → SourceIsSound o

@@ -4,7 +4,7 @@ use Rattle.session_local.specs.Run.{Line}
 use Rattle.ordered_run.specs.declared.session_engine.SessionEngine.{SessionEngine}
 use Rattle.esentutl.specs.declared.words.Form.TheVariants as form
 use Rattle.esentutl.specs.RunEnds.{RunEndsBy, RunsBy}
-use Rattle.esentutl.specs.TopCall.{Outside, Ending, done, bad_words, told, sink_failed_telling, too_long, source_failed, sink_failed, want_of_memory, bad_script, not_built, SourceIsSound, IsScript, EndsBy, form_of_ending}
+use Rattle.esentutl.specs.TopCall.{Outside, Ending, done, bad_words, told, sink_failed_telling, too_long, source_failed, sink_failed, want_of_memory, bad_script, SourceIsSound, IsScript, EndsBy, form_of_ending}
 use Rattle.esentutl.proofs.Endings.{append_nothing}
 
 -- the run of a script's calls ends the call
@@ -22,7 +22,6 @@ ends_by_run_over limit o text lines engine (sink_failed_telling topic) sound scr
 ends_by_run_over limit o text lines engine too_long sound script run = absurd run
 ends_by_run_over limit o text lines engine source_failed sound script run = absurd run
 ends_by_run_over limit o text lines engine (bad_script number) sound script run = absurd run
-ends_by_run_over limit o text lines engine (not_built number) sound script run = absurd run
 
 -- so does the run of one for which an engine was to be made
 pub ends_by_run : (limit : ℕ) (o : Outside) (text : List ℕ) (lines : List Line) (ending : Ending) → SourceIsSound o → IsScript o text lines

@@ -26,7 +26,6 @@ help_text = text_of (
     ∷ codes "  5  the script could not be read"
     ∷ codes "  6  the output could not be written"
     ∷ codes "  7  out of memory, outside a line of the script"
-    ∷ codes "  9  a line makes a column of type LongBinary or LongText, which are not built yet; the first one is named"
     ∷ []
     ∷ codes "docs/SCRIPT.md describes scripts, replies and statuses."
     ∷ [])

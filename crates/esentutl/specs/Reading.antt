@@ -1,13 +1,12 @@
 -- Why a run stops early, and what each reason says before its line is printed.
-use Rattle.std.specs.Prelude.{◌≡◌, ℕ, ◌<◌, ◌≤◌, List, [], codes, length, Option, Some, None, Result, Ok, Err, IfSome, IsOk}
+use Rattle.std.specs.Prelude.{◌≡◌, ℕ, ◌<◌, ◌≤◌, List, [], codes, length, Option, Result, Ok, Err, IfSome}
 use Rattle.jet_base.specs.declared.ids.Session.{Session}
 use Rattle.session_local.specs.declared.request.Request.{Request}
-use Rattle.script_text.specs.Built.{long_column_line}
 use Rattle.script_text.specs.Grammar.{script_lines}
 use Rattle.script_text.specs.Parsed.{calls_of}
 use Rattle.esentutl.specs.declared.reading.ReadScriptFault.{ReadScriptFault}
 use Rattle.esentutl.specs.declared.reading.ReadScriptFault.TheVariants as fault
-use Rattle.esentutl.specs.Words.{last_line, bad_line, not_built_line}
+use Rattle.esentutl.specs.Words.{last_line, bad_line}
 use Rattle.esentutl.specs.TopCall.{script_limit}
 
 -- the source before a call and after it
@@ -23,11 +22,10 @@ IsWholeScript s text = (s.faults_after ≡ s.faults_before) × IfSome s.left_aft
 
 -- over the text that the source gave: its calls, or why there are none
 abbrev pub ReadsAs : SourceChange → List ℕ → Result (List (Session × Request)) ReadScriptFault → Type 0
-ReadsAs s text (Ok lines) = IsWholeScript s text × (script_lines text ≡ Ok (calls_of lines)) × (long_column_line text ≡ None)
+ReadsAs s text (Ok lines) = IsWholeScript s text × (script_lines text ≡ Ok (calls_of lines))
 ReadsAs s text (Err fault.Source) = s.faults_before < s.faults_after
 ReadsAs s text (Err fault.TooLong) = (s.faults_after ≡ s.faults_before) × IfSome s.left_before (λ bytes. script_limit < length bytes)
 ReadsAs s text (Err (fault.BadLine number)) = IsWholeScript s text × (script_lines text ≡ Err number)
-ReadsAs s text (Err (fault.NotBuilt number)) = IsWholeScript s text × IsOk (script_lines text) × (long_column_line text ≡ Some number)
 ReadsAs s text (Err fault.Memory) = s.faults_after ≡ s.faults_before
 
 -- the line that tells why, none for want of memory, and the status
@@ -35,12 +33,10 @@ abbrev pub line_of_fault : ReadScriptFault → List ℕ
 line_of_fault fault.Source = last_line (codes "source")
 line_of_fault fault.TooLong = last_line (codes "script too long")
 line_of_fault (fault.BadLine number) = bad_line number
-line_of_fault (fault.NotBuilt number) = not_built_line number
 line_of_fault fault.Memory = []
 
 abbrev pub status_of_fault : ReadScriptFault → ℕ
 status_of_fault fault.Source = 5
 status_of_fault fault.TooLong = 2
 status_of_fault (fault.BadLine number) = 2
-status_of_fault (fault.NotBuilt number) = 9
 status_of_fault fault.Memory = 7

@@ -3,7 +3,7 @@ use Rattle.std.specs.Prelude.{◌≡◌, ℕ, ◌<◌, ◌⊎◌, List, [], leng
 use Rattle.std.specs.Io.KnownBytes.{append_known}
 use Rattle.session_local.specs.Run.{Line, LineOutcome}
 use Rattle.ordered_run.specs.declared.session_engine.SessionEngine.{SessionEngine}
-use Rattle.esentutl.specs.TopCall.{Ending, done, bad_words, told, sink_failed_telling, too_long, source_failed, sink_failed, want_of_memory, bad_script, not_built}
+use Rattle.esentutl.specs.TopCall.{Ending, done, bad_words, told, sink_failed_telling, too_long, source_failed, sink_failed, want_of_memory, bad_script}
 use Rattle.ordered_run.specs.Outcomes.{AreOutcomesOf, run_transcript, HasServed}
 
 -- With all lines run the sink has their transcript. Where it failed, it has a front of the transcript of the lines that were
@@ -28,7 +28,6 @@ RunEndsBy limit lines engine before after faults_before faults_after (sink_faile
 RunEndsBy limit lines engine before after faults_before faults_after too_long = ⊥
 RunEndsBy limit lines engine before after faults_before faults_after source_failed = ⊥
 RunEndsBy limit lines engine before after faults_before faults_after (bad_script number) = ⊥
-RunEndsBy limit lines engine before after faults_before faults_after (not_built number) = ⊥
 
 -- The same of a run for which an engine is made: there may be no memory for it, and then nothing is served.
 abbrev pub RunsBy : ℕ → List Line → Option (List ℕ) → Option (List ℕ) → ℕ → ℕ → Ending → Type 0

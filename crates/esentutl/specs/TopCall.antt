@@ -1,14 +1,13 @@
 -- What a call of the program comes to.
-use Rattle.std.specs.Prelude.{◌≡◌, ℕ, ◌<◌, ◌≤◌, ◌⊎◌, List, [], length, take, codes, Option, Some, None, Ok, Err, IfSome, IsOk}
+use Rattle.std.specs.Prelude.{◌≡◌, ℕ, ◌<◌, ◌≤◌, ◌⊎◌, List, [], length, take, codes, Option, Ok, Err, IfSome}
 use Rattle.std.specs.Io.KnownBytes.{append_known}
 use Rattle.session_local.specs.Run.{Line, LineOutcome}
-use Rattle.script_text.specs.Built.{long_column_line}
 use Rattle.script_text.specs.Grammar.{script_lines}
 use Rattle.ordered_run.specs.Outcomes.{AreOutcomesOf, run_transcript}
 use Rattle.esentutl.specs.declared.words.Form.{Form}
 use Rattle.esentutl.specs.declared.words.Form.TheVariants as form
 use Rattle.esentutl.specs.declared.words.Topic.{Topic}
-use Rattle.esentutl.specs.Words.{last_line, bad_line, not_built_line}
+use Rattle.esentutl.specs.Words.{last_line, bad_line}
 use Rattle.esentutl.specs.About.{text_about}
 
 -- the most bytes of a script
@@ -69,8 +68,6 @@ pub data Ending : Type 0 where
   want_of_memory : Ending
   -- the first line that is outside the grammar
   bad_script : ℕ → Ending
-  -- the first line that makes a column of a long type, which is not built
-  not_built : ℕ → Ending
 
 abbrev pub status_of : Ending → ℕ
 status_of done = 0
@@ -82,7 +79,6 @@ status_of source_failed = 5
 status_of sink_failed = 6
 status_of want_of_memory = 7
 status_of (bad_script number) = 2
-status_of (not_built number) = 9
 
 -- the form of the words of a call that ends so, where a run has this limit
 abbrev pub form_of_ending : ℕ → Ending → Form
@@ -91,9 +87,9 @@ form_of_ending limit (told topic) = form.About topic
 form_of_ending limit (sink_failed_telling topic) = form.About topic
 form_of_ending limit _ = form.OrderedRun limit
 
--- the script is read, is not too long, and these are its lines; none of them makes a column of a long type
+-- the script is read, is not too long, and these are its lines
 abbrev pub IsScript : Outside → List ℕ → List Line → Type 0
-IsScript o text lines = IsReadOut o × (length text ≤ script_limit) × (script_lines text ≡ Ok lines) × (long_column_line text ≡ None)
+IsScript o text lines = IsReadOut o × (length text ≤ script_limit) × (script_lines text ≡ Ok lines)
 
 -- What each ending says, over the limit of a run's span and the text that the source gave.
 abbrev pub EndsBy : ℕ → Outside → List ℕ → Ending → Type 0
@@ -123,6 +119,3 @@ EndsBy limit o text want_of_memory =
 EndsBy limit o text (bad_script number) =
     SourceIsSound o × SaysOnly o (bad_line number)
     × IsReadOut o × (length text ≤ script_limit) × (script_lines text ≡ Err number)
-EndsBy limit o text (not_built number) =
-    SourceIsSound o × SaysOnly o (not_built_line number)
-    × IsReadOut o × (length text ≤ script_limit) × IsOk (script_lines text) × (long_column_line text ≡ Some number)

@@ -40,6 +40,3 @@ last_line text = codes "esentutl: " ++ text ++ 10 ∷ []
 
 abbrev pub bad_line : ℕ → List ℕ
 bad_line number = last_line (codes "script line " ++ decimal number)
-
-abbrev pub not_built_line : ℕ → List ℕ
-not_built_line number = last_line (codes "not built line " ++ decimal number)

@@ -27,7 +27,6 @@ const HELP: &str = concat!(
     "  5  the script could not be read\n",
     "  6  the output could not be written\n",
     "  7  out of memory, outside a line of the script\n",
-    "  9  a line makes a column of type LongBinary or LongText, which are not built yet; the first one is named\n",
     "\n",
     "docs/SCRIPT.md describes scripts, replies and statuses.\n",
 );

@@ -12,7 +12,7 @@ ghost use Rattle.ordered_run.specs.Serving.{span_limit, IsReady};
 ghost use Rattle.esentutl.specs.RunEnds.{RunEndsBy, RunsBy};
 
 use crate::reading::ReadScriptFault;
-use crate::report::{make_bad_line, make_last_line, make_not_built_line, say_only};
+use crate::report::{make_bad_line, make_last_line, say_only};
 use jet_base::{OutOfMemory, Session};
 use jet_io::Sink;
 use ordered_run::{LineFault, SessionEngine, run_lines};
@@ -36,10 +36,6 @@ pub fn tell<K: Sink>(fault: ReadScriptFault, out: &mut K) -> u8
         ReadScriptFault::BadLine(line) => {
             say_only(out, &make_bad_line(line));
             2
-        }
-        ReadScriptFault::NotBuilt(line) => {
-            say_only(out, &make_not_built_line(line));
-            9
         }
         ReadScriptFault::Memory => 7,
     }

@@ -28,9 +28,6 @@ pub enum ReadScriptFault {
     /// The first line that is outside the grammar, counted from 1.
     #[error("script line {0}")]
     BadLine(u64),
-    /// The first line that makes a column of a long type, which is not built, counted from 1.
-    #[error("not built line {0}")]
-    NotBuilt(u64),
     /// There was no memory for the script.
     #[error("out of memory")]
     Memory,
@@ -52,7 +49,6 @@ pub fn read_script<S: Source>(
         Ok(text) => match parse(alloc, &text) {
             Ok(lines) => Ok(lines),
             Err(ScriptFault::BadLine(line)) => Err(ReadScriptFault::BadLine(line)),
-            Err(ScriptFault::NotBuilt(line)) => Err(ReadScriptFault::NotBuilt(line)),
             Err(ScriptFault::OutOfMemory) => Err(ReadScriptFault::Memory),
         },
         Err(ReadFault::Failed) => Err(ReadScriptFault::Source),

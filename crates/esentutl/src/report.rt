@@ -1,7 +1,7 @@
 //! The one line that is printed where no script runs.
 
 ghost use Rattle.std.specs.Prelude.{◌≡◌, ◌≤◌, length, codes};
-ghost use Rattle.esentutl.specs.Words.{last_line, bad_line, not_built_line};
+ghost use Rattle.esentutl.specs.Words.{last_line, bad_line};
 ghost use Rattle.esentutl.specs.TopCall.{Says};
 
 use arrayvec::ArrayString;
@@ -31,19 +31,6 @@ pub fn make_bad_line(number: u64) -> LastLine
     let mut line = ArrayString::new();
     line.push_str("esentutl: ");
     line.push_str("script line ");
-    line.push_str(buffer.format(number));
-    line.push_str("\n");
-    line
-}
-
-/// The line that names the first line of a script that is not built, counted from 1.
-pub fn make_not_built_line(number: u64) -> LastLine
-    ensures { result.bytes ≡ not_built_line number }
-{
-    let mut buffer = Buffer::new();
-    let mut line = ArrayString::new();
-    line.push_str("esentutl: ");
-    line.push_str("not built line ");
     line.push_str(buffer.format(number));
     line.push_str("\n");
     line

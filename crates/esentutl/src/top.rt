@@ -1,8 +1,7 @@
 //! The call that the program is.
 
-ghost use Rattle.std.specs.Prelude.{◌≡◌, ◌<◌, ◌≤◌, ◌⊎◌, ℕ, List, length, None, IfSome, IsOk, IsErr};
+ghost use Rattle.std.specs.Prelude.{◌≡◌, ◌<◌, ◌≤◌, ◌⊎◌, ℕ, List, length, IfSome, IsOk, IsErr};
 ghost use Rattle.std.specs.Io.KnownBytes.{append_known, prepend_known};
-ghost use Rattle.script_text.specs.Built.{long_column_line};
 ghost use Rattle.script_text.specs.Grammar.{script_lines};
 ghost use Rattle.esentutl.specs.declared.words.Form.TheVariants as form;
 ghost use Rattle.esentutl.specs.declared.words.Topic.{Topic};
@@ -44,9 +43,9 @@ pub fn esentutl<S: Source, K: Sink>(
           sink_before = K.faults out.old;
           sink_after = K.faults out.new;
         }) text ending }
-    // A script of the grammar that is built and not too long runs to its end, where nothing outside fails and there is memory.
+    // A script of the grammar that is not too long runs to its end, where nothing outside fails and there is memory.
     ensures completes { (limit : ℕ) → form_of (words_of words.now) ≡ form.OrderedRun limit → S.faults script.new ≡ S.faults script.old → K.faults out.new ≡ K.faults out.old
-        → IfSome (S.left script.old) (λ bytes. length bytes ≤ script_limit → IsOk (script_lines bytes) → long_column_line bytes ≡ None → (result ≡ 0) ⊎ (result ≡ 7)) }
+        → IfSome (S.left script.old) (λ bytes. length bytes ≤ script_limit → IsOk (script_lines bytes) → (result ≡ 0) ⊎ (result ≡ 7)) }
     // A script that is outside the grammar or too long is refused, where the source does not fail and there is memory.
     ensures refuses { (limit : ℕ) → form_of (words_of words.now) ≡ form.OrderedRun limit → S.faults script.new ≡ S.faults script.old
         → IfSome (S.left script.old) (λ bytes. (script_limit < length bytes) ⊎ IsErr (script_lines bytes) → (result ≡ 2) ⊎ (result ≡ 7)) }

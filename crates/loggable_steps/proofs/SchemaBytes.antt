@@ -23,7 +23,7 @@ use Rattle.database_state.specs.SchemaChanges.{greatest_order, has_column, is_in
 use Rattle.database_state.specs.Lawful.{has_next_numbers, is_name}
 use Rattle.record_changes.proofs.Tests.{and_left, and_right, and_second, impossible, same_number}
 use Rattle.version_keys.proofs.SchemaKeys.{IsNewIndex, at_found, new_index, unrefused}
-use Rattle.built_calls.specs.BuiltTables.{has_built_kind, is_built_rule, makes_built}
+use Rattle.built_calls.specs.BuiltTables.{is_unnumbered_column, is_built_rule, makes_built}
 use Rattle.built_calls.proofs.BuiltColumns.{not_numbered}
 use Rattle.log_grammar.specs.EntryBytes.{column_bytes, column_fits, condition_bytes, condition_fits, index_bytes, index_fits, index_flags, name_bytes, name_fits, schema_bytes, schema_fits, segment_bytes, segment_fits}
 use Rattle.loggable_steps.specs.Loggable.{schema_fits_types}
@@ -161,7 +161,7 @@ neither : (a b : Bool) → (a || b) ≡ false → (not a && not b) ≡ true
 neither true b h = impossible (sym h)
 neither false b h = ap not h
 
-column_spelled : (table : TableId) (column : Column) → nat_lt table.0 (2 ^ 32) ≡ true → nat_lt column.id.0 (2 ^ 16) ≡ true → is_name column.name ≡ true → has_built_kind column ≡ true → IsSpelled (step.AddColumn table column)
+column_spelled : (table : TableId) (column : Column) → nat_lt table.0 (2 ^ 32) ≡ true → nat_lt column.id.0 (2 ^ 16) ≡ true → is_name column.name ≡ true → is_unnumbered_column column ≡ true → IsSpelled (step.AddColumn table column)
 column_spelled table column low numbered named built =
     let plain : (not column.version && not column.auto) ≡ true = neither column.version column.auto (not_numbered column built) in
     let whole : column_fits column ≡ true = and_from (nat_lt column.id.0 (2 ^ 16)) (name_fits column.name && (not column.version && not column.auto)) numbered (and_from (name_fits column.name) (not column.version && not column.auto) named plain) in

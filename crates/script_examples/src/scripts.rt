@@ -1,4 +1,4 @@
-//! Whole scripts: their calls, their first bad line, and the first line that makes a column of a long type.
+//! Whole scripts: their calls, and their first bad line.
 #![tactic(auto, unfolding(script_text::specs::Computing::computing))]
 
 ghost use Rattle.std.specs.Prelude.{◌≡◌, [], ◌∷◌, ◌++◌, true, false, None, Some, Ok, Err, codes, neg_ℤ, pos};
@@ -8,13 +8,11 @@ ghost use Rattle.jet_base.specs.declared.words.Given.TheVariants as given;
 ghost use Rattle.session_local.specs.declared.request.Request.TheVariants as call;
 ghost use Rattle.script_words.specs.Words.{text_of_lines};
 ghost use Rattle.script_text.specs.Grammar.{script_lines};
-ghost use Rattle.script_text.specs.Built.{long_column_line};
 ghost use Rattle.script_examples.specs.OrdinaryRun.{plain_column, sum_column, only_primary, filling_lines, walking_lines, ordinary_lines, ordinary_calls};
 
-/// The ordinary run is read as its calls, of which none makes a column of a long type.
+/// The ordinary run is read as its calls.
 pub fn ordinary_run_is_read()
-    ensures calls { script_lines (text_of_lines ordinary_lines) ≡ Ok ordinary_calls }
-    ensures built { long_column_line (text_of_lines ordinary_lines) ≡ None }
+    ensures { script_lines (text_of_lines ordinary_lines) ≡ Ok ordinary_calls }
 {}
 
 /// A script without a byte has no call.
@@ -40,10 +38,15 @@ pub fn spaces_stand_between_words()
     ensures last { script_lines (codes "1 BeginSession ") ≡ Err 1 }
 {}
 
-/// With a column of a long type in the place of its first move, the ordinary run is in the grammar, and line 16 is not built.
-pub fn long_column_is_not_built()
-    ensures read { script_lines (codes "1 AddColumn T a LongText") ≡ Ok ((1, call.AddColumn (codes "T") (codes "a") kind.LongText plain_column) ∷ []) }
-    ensures not_built { long_column_line (text_of_lines (filling_lines ++ codes "1 AddColumn T a LongText" ∷ walking_lines)) ≡ Some 16 }
+/// In the place of its first move, line 16 of the ordinary run is the first bad one.
+pub fn a_bad_line_is_told_by_its_number()
+    ensures { script_lines (text_of_lines (filling_lines ++ codes "1 AddColumn T a Longtext" ∷ walking_lines)) ≡ Err 16 }
+{}
+
+/// Columns of every type are read, the long ones among them.
+pub fn long_columns_are_read()
+    ensures text { script_lines (codes "1 AddColumn T a LongText") ≡ Ok ((1, call.AddColumn (codes "T") (codes "a") kind.LongText plain_column) ∷ []) }
+    ensures binary { script_lines (codes "1 AddColumn T a LongBinary") ≡ Ok ((1, call.AddColumn (codes "T") (codes "a") kind.LongBinary plain_column) ∷ []) }
 {}
 
 /// A sum and the column that it adds to. An amount is one of 32 bits.
@@ -75,11 +78,4 @@ pub fn lines_of_every_session_are_read()
     ensures last { script_lines (codes "99 GetLock 3") ≡ Ok ((99, call.GetLock (cursor_id 3)) ∷ []) }
     ensures none { script_lines (codes "0 BeginSession") ≡ Err 1 }
     ensures too_many { script_lines (codes "100 BeginSession") ≡ Err 1 }
-{}
-
-/// A column of a long type is not built. A bad line is told before it, wherever it stands.
-pub fn long_columns_are_not_built()
-    ensures text { long_column_line (text_of_lines (codes "1 AddColumn T a LongText" ∷ [])) ≡ Some 1 }
-    ensures binary { long_column_line (text_of_lines ([] ∷ codes "1 AddColumn T a LongBinary" ∷ codes "1 AddColumn T b LongText" ∷ [])) ≡ Some 2 }
-    ensures bad { script_lines (text_of_lines (codes "1 AddColumn T a LongText" ∷ codes "1 Fly" ∷ [])) ≡ Err 2 }
 {}

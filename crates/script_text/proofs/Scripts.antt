@@ -1,12 +1,10 @@
 -- The calls of a script, line by line.
-use Rattle.std.proofs.Common.{◌≡◌, ℕ, ◌+◌, ◌≤◌, Option, None, Ok, Err, List, [], ◌++◌, length, refl, ap, ◌∙◌, arith}
+use Rattle.std.proofs.Common.{◌≡◌, ℕ, ◌+◌, ◌≤◌, Ok, Err, List, [], ◌++◌, length, refl, ap, ◌∙◌, arith}
 use Rattle.std.specs.Prelude.{◌==◌}
-use Rattle.std.specs.Option.{option_or}
 use Rattle.jet_base.specs.declared.ids.Session.{Session}
 use Rattle.session_local.specs.declared.request.Request.{Request}
 use Rattle.script_text.specs.Grammar.{ScriptResult, numbered_from, requests_of, script_lines}
 use Rattle.script_words.specs.Words.{lines_of}
-use Rattle.script_text.specs.Built.{long_column_from, long_column_line}
 use Rattle.std.proofs.lemmas.List.Splits.{length-slice_split}
 use Rattle.std.proofs.lemmas.List.Sums.{count_by-le-length}
 use Rattle.script_text.specs.Parsed.{calls_of}
@@ -23,16 +21,6 @@ with_calls-nil (Err number) = refl
 -- what is left of a script behind so many lines
 abbrev pub left_from : ℕ → List (List ℕ) → ScriptResult
 left_from number lines = requests_of (numbered_from (number + 1) lines)
-
--- the first line that makes a column of a long type: the one that is known, or one that is left behind so many lines
-abbrev pub long_column_left : Option ℕ → ℕ → List (List ℕ) → Option ℕ
-long_column_left first number lines = option_or first (long_column_from (numbered_from (number + 1) lines))
-
-pub begun_short : (first : Option ℕ) (lines : List (List ℕ)) (bytes : List ℕ) → first ≡ None → lines ≡ lines_of bytes
-    → long_column_left first 0 lines ≡ long_column_line bytes
-begun_short first lines bytes none cut =
-    ap (λ (f : Option ℕ). long_column_left f 0 lines) none
-    ∙ ap (λ (ls : List (List ℕ)). long_column_from (numbered_from 1 ls)) cut
 
 -- at the begin nothing is read
 pub begun : (calls : List (Session × Request)) (lines : List (List ℕ)) (bytes : List ℕ) → calls ≡ [] → lines ≡ lines_of bytes

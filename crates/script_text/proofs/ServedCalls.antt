@@ -1,4 +1,4 @@
--- A call of the grammar is one that the engine answers, but where it makes a column of a long type.
+-- A call of the grammar is one that the engine answers.
 use Rattle.std.proofs.Common.{◌≡◌, ℕ, zero, suc, ◌+◌, ◌-◌, Bool, true, false, not, ◌&&◌, ◌||◌, cond, List, [], ◌∷◌, length, Option, Some, None, refl, arith}
 use Rattle.std.specs.Prelude.{◌^◌, ◌==◌, drop, codes, nat_le, unwrap_or, if◌then◌else◌, IfSome, bytes_eq, ℤ, pos, neg_ℤ}
 use Rattle.std.specs.Char.{is_ascii_alphabetic}
@@ -8,12 +8,10 @@ use Rattle.std.proofs.lemmas.Bool.{and_from, and_parts, not_from_false}
 use Rattle.std.proofs.lemmas.Bool.Decides.{nat_tests}
 use Rattle.jet_base.specs.declared.ids.CursorId.{CursorId}
 use Rattle.jet_base.specs.declared.words.ColumnFlags.{ColumnFlags}
-use Rattle.jet_base.specs.TypeKinds.{is_long_type}
 use Rattle.database_state.specs.Lawful.{is_name as is_short_name}
 use Rattle.session_local.specs.declared.request.Request.{Request}
 use Rattle.session_local.specs.declared.request.Request.TheVariants as call
-use Rattle.built_calls.specs.BuiltCalls.{is_amount, is_built_request}
-use Rattle.script_text.specs.Built.{makes_long_column}
+use Rattle.built_calls.specs.BuiltCalls.{is_amount, is_built_call, is_built_request, makes_named}
 use Rattle.script_words.specs.Words.{◌>>=◌, after_prefix, are_distinct, begins_with_word, choice_of, first_word, has_word, hex_bytes_of, is_empty_list, is_name, is_name_byte, label_of, name_of, number_of, number_within, only_word, optional_word, signed_number_of, three_words, two_words, where_within, words_of}
 use Rattle.script_words.specs.Values.{given_of}
 use Rattle.script_text.specs.Calls.{add_column_call, are_index_words, bare_call, call_of_cursor, column_flags_of, column_types, commit_call, comparisons, count_call, create_index_call, cursor_call, cursor_calls, escrow_update_call, goto_bookmark_call, is_column_flag, limit_call, limited_count_call, make_key_call, most_bytes_of, move_call, named_call, only_cursor, open_table_call, part_call, place_call, place_calls, preparations, prepare_update_call, record_call, record_calls, retrieve_column_call, rollback_call, schema_call, schema_calls, seek_call, sequence_of, set_column_call, set_current_index_call, set_index_range_call, table_call, transaction_calls, ways}
@@ -38,9 +36,9 @@ short (letter ∷ rest) e = one_more (length rest) (length (letter ∷ rest)) (o
 
 -- ---- readings
 
--- a call that the engine answers, or one that makes a column of a long type
+-- a call that the engine answers
 abbrev Serves : Request → Type 0
-Serves request = (makes_long_column request || is_built_request request) ≡ true
+Serves request = is_built_request request ≡ true
 
 -- what is read, if anything, is one of these
 abbrev IsServed : Option Request → Type 0
@@ -86,9 +84,8 @@ behind_flags words next each = by (list_all is_column_flag words && are_distinct
     by true = each flags refl
     by false = tt
 
-column_served : (long named numbered : Bool) → named ≡ true → numbered ≡ false → (long || (named && (not long && not numbered))) ≡ true
-column_served true named numbered is none = refl
-column_served false named numbered is none = and_from named (not numbered) is (not_from_false numbered none)
+column_served : (named numbered : Bool) → named ≡ true → numbered ≡ false → (named && not numbered) ≡ true
+column_served named numbered is none = and_from named (not numbered) is (not_from_false numbered none)
 
 -- the amount of a sum: a number of 32 bits
 less : (n m : ℕ) → m ≡ n + 1 → nat_le m 2147483648 ≡ true → nat_le n 2147483647 ≡ true
@@ -242,7 +239,7 @@ adds_column : ReadsServed add_column_call
 unfolding add_column_call
 adds_column words =
     behind (first_word words) _ (λ first. behind (first_word first.1) _ (λ second. behind (first_word second.1) _ (λ third. behind (name_of first.0) _ (λ table.
-    behind_name second.0 _ (λ column is. behind (choice_of column_types third.0) _ (λ type. behind_flags third.1 _ (λ flags unnumbered. column_served (is_long_type type) _ _ is unnumbered)))))))
+    behind_name second.0 _ (λ column is. behind (choice_of column_types third.0) _ (λ type. behind_flags third.1 _ (λ flags unnumbered. column_served _ _ is unnumbered)))))))
 
 creates_index : ReadsServed create_index_call
 unfolding create_index_call
@@ -290,14 +287,6 @@ unfolding words_request
 words-served words =
     said_behind (first_word words) _ (λ first. said_behind (first_word first.1) _ (λ second. said_behind (label_of first.0) _ (λ session. by_session session (named_call second.0 second.1) (calls second.0 second.1))))
 
-otherwise_served : (long served : Bool) → (long || served) ≡ true → long ≡ false → served ≡ true
-otherwise_served true served h short = absurd cc
-otherwise_served false served h short = h
-
-short_served : (found : Option (ℕ × Request)) → SaysServed found → IfSome found (λ said. makes_long_column said.1 ≡ false → is_built_request said.1 ≡ true)
-short_served None served = tt
-short_served (Some said) served = otherwise_served (makes_long_column said.1) (is_built_request said.1) served
-
-pub line-served : (line : List ℕ) → IfSome (line_request line) (λ said. makes_long_column said.1 ≡ false → is_built_request said.1 ≡ true)
+pub line-served : (line : List ℕ) → IfSome (line_request line) (λ said. is_built_request said.1 ≡ true)
 unfolding line_request
-line-served line = short_served (words_request (words_of line)) (words-served (words_of line))
+line-served line = words-served (words_of line)

@@ -1,9 +1,8 @@
 //! The calls of the lines that are read so far.
 
-ghost use Rattle.std.specs.Prelude.{◌≡◌, [], None};
+ghost use Rattle.std.specs.Prelude.{◌≡◌, []};
 ghost use Rattle.script_words.specs.Reading.{Reads};
-ghost use Rattle.script_text.specs.Built.{makes_long_column};
-ghost use Rattle.script_text.specs.Kept.{kept_behind, long_column_with};
+ghost use Rattle.script_text.specs.Kept.{kept_behind};
 
 use jet_base::Session;
 use script_words::Refusal;
@@ -11,15 +10,11 @@ use session_local::Request;
 use std::alloc::Global;
 use std::marker::Model;
 
-/// Calls in the order of their lines, each with the session that makes it, and the number and the session of the line that is
-/// being read.
+/// Calls in the order of their lines, each with the session that makes it, and the session of the line that is being read.
 #[derive(Drop)]
 pub struct Calls {
-    number: u64,
     session: Session,
     calls: Vec<(Session, Request)>,
-    /// The number of the first line that makes a column of a long type.
-    long_column: Option<u64>,
 }
 
 impl Model for Calls {
@@ -35,30 +30,19 @@ impl Model for Calls {
 impl Calls {
     /// No calls. It takes no memory.
     pub fn new(alloc: Global) -> Calls
-        ensures calls { result.calls ≡ [] }
-        ensures long_column { result.long_column ≡ None }
+        ensures { result.calls ≡ [] }
     {
         Calls {
-            number: 0,
             session: Session(1),
             calls: Vec::new(alloc),
-            long_column: None,
         }
     }
 
-    /// The calls that are put in from now on are of the session, and stand at the line of this number.
-    pub fn begin_line(&mut self, number: u64, session: Session)
-        ensures { self.new ≡ record self.old { number = number; session = session } }
+    /// The calls that are put in from now on are of the session.
+    pub fn begin_line(&mut self, session: Session)
+        ensures { self.new ≡ record self.old { session = session } }
     {
-        self.number = number;
         self.session = session;
-    }
-
-    /// The number of the first line that makes a column of a long type.
-    pub fn long_column(&self) -> Option<u64>
-        ensures { result ≡ self.now.long_column }
-    {
-        self.long_column
     }
 
     /// The calls.
@@ -76,31 +60,6 @@ impl Calls {
 pub fn keep(kept: &mut Calls, request: Request) -> Result<(), Refusal>
     ensures { Reads (λ _. kept.new) result (kept_behind kept.old request) }
 {
-    let first = long_column_with(kept.long_column, kept.number, &request);
     kept.calls.push((kept.session, request))?;
-    kept.long_column = first;
     Ok(())
-}
-
-// The first line that makes a column of a long type, with a call more, at a line of this number.
-#[inline(always)]
-fn long_column_with(first: Option<u64>, number: u64, request: &Request) -> Option<u64>
-    ensures { result ≡ long_column_with first number request.now }
-{
-    if makes_long_column(request) {
-        first.or(Some(number))
-    } else {
-        first
-    }
-}
-
-// Whether a call makes a column of a long type.
-#[inline(always)]
-fn makes_long_column(request: &Request) -> bool
-    ensures { result ≡ makes_long_column request.now }
-{
-    match request {
-        Request::AddColumn { kind, .. } => kind.is_long(),
-        _ => false,
-    }
 }

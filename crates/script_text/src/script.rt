@@ -1,7 +1,7 @@
 //! A whole script.
 
-ghost use Rattle.std.specs.Prelude.{◌≡◌, ℕ, true, Some, None, Ok, Err, IfOk, IsOk};
-ghost use Rattle.script_text.specs.Built.{are_built, long_column_line};
+ghost use Rattle.std.specs.Prelude.{◌≡◌, ℕ, true, Ok, Err, IfOk};
+ghost use Rattle.script_text.specs.Built.{are_built};
 ghost use Rattle.script_text.specs.Grammar.{script_lines};
 ghost use Rattle.script_text.specs.Parsed.{calls_of};
 
@@ -20,10 +20,6 @@ pub enum ScriptFault {
     /// The line of this number, from 1, is the first that is outside the grammar. Skipped lines count.
     #[error("script line {0}")]
     BadLine(u64),
-    /// Every line is in the grammar, and the one of this number is the first that is not built: it makes a column of a long
-    /// type.
-    #[error("not built line {0}")]
-    NotBuilt(u64),
     /// There was no memory to keep the calls.
     #[error("out of memory")]
     OutOfMemory,
@@ -32,10 +28,7 @@ pub enum ScriptFault {
 /// The calls of a script in order, line by line.
 fn calls_of_lines(alloc: Global, bytes: &[u8]) -> Result<Vec<(Session, Request)>, ScriptFault>
     ensures read { IfOk result (λ calls. script_lines bytes.now ≡ Ok (calls_of calls.items)) }
-    ensures built { IfOk result (λ _. long_column_line bytes.now ≡ None) }
     ensures bad_line { (line : ℕ) → result ≡ Err (ScriptFault.BadLine line) → script_lines bytes.now ≡ Err line }
-    ensures not_built { (line : ℕ) → result ≡ Err (ScriptFault.NotBuilt line)
-        → IsOk (script_lines bytes.now) × (long_column_line bytes.now ≡ Some line) }
 {
     let mut kept = Calls::new(alloc);
     let mut number: u64 = 0;
@@ -45,32 +38,25 @@ fn calls_of_lines(alloc: Global, bytes: &[u8]) -> Result<Vec<(Session, Request)>
         if is_skipped(line) {
             continue;
         }
-        match keep_line(alloc, number, line, &mut kept) {
+        match keep_line(alloc, line, &mut kept) {
             Ok(()) => {}
             Err(Refusal::Bad) => return Err(ScriptFault::BadLine(number)),
             Err(Refusal::Memory) => return Err(ScriptFault::OutOfMemory),
         }
     }
-    match kept.long_column() {
-        None => Ok(kept.into_calls()),
-        Some(line) => Err(ScriptFault::NotBuilt(line)),
-    }
+    Ok(kept.into_calls())
 }
 
 /// The calls of a script in order, each with the session that makes it.
 ///
 /// The script is read once, line by line; names and values are copied, lines and words are read in place. The fault
-/// `BadLine` comes exactly where some line is outside the grammar, and names the first such line; `NotBuilt` comes exactly
-/// where none is and some line makes a column of a long type.
+/// `BadLine` comes exactly where some line is outside the grammar, and names the first such line.
 pub fn parse(alloc: Global, bytes: &[u8]) -> Result<Vec<(Session, Request)>, ScriptFault>
     // They are what the grammar reads.
     ensures read { IfOk result (λ calls. script_lines bytes.now ≡ Ok (calls_of calls.items)) }
-    ensures built { IfOk result (λ _. long_column_line bytes.now ≡ None) }
     // Each is of a session, and one that the engine answers. What it makes has a name of 1 to 64 bytes.
     ensures served { IfOk result (λ calls. are_built (calls_of calls.items) ≡ true) }
     ensures bad_line { (line : ℕ) → result ≡ Err (ScriptFault.BadLine line) → script_lines bytes.now ≡ Err line }
-    ensures not_built { (line : ℕ) → result ≡ Err (ScriptFault.NotBuilt line)
-        → IsOk (script_lines bytes.now) × (long_column_line bytes.now ≡ Some line) }
 {
     let calls = calls_of_lines(alloc, bytes)?;
     Ok(calls)

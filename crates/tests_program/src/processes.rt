@@ -79,12 +79,6 @@ static ENDS: &[(&[&[u8]], &[u8], u8, &[u8])] = &[
         2,
         b"esentutl: script line 2\n",
     ),
-    (
-        RUN,
-        b"1 BeginSession\n1 AddColumn T a LongText\n",
-        9,
-        b"esentutl: not built line 2\n",
-    ),
 ];
 
 /// Whether a process ends so.

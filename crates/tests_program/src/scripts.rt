@@ -11,7 +11,7 @@ const SCRIPT: &[u8] = b"1 BeginSession
 1 AddColumn Staff id Long notnull
 # columns in any place
 
-1 AddColumn Staff name Text tagged multi
+1 AddColumn Staff name LongText tagged multi
 #\xff
 1 CreateTable Staff
 1 CreateIndex Staff pk +id primary -name disallownull ifnotnull:id
@@ -98,19 +98,5 @@ fn the_first_bad_line_is_named(rt: HostRuntime) {
     ] {
         let fault = parse(rt.alloc(), script).err();
         assert_eq!(rt; fault, Some(ScriptFault::BadLine(line)));
-    }
-}
-
-#[test]
-fn the_first_line_that_is_not_built_is_named(rt: HostRuntime) {
-    for (script, line) in [
-        (
-            b"1 CreateTable T\n1 AddColumn T a LongText\n1 EndSession".as_slice(),
-            2,
-        ),
-        (b"1 BeginSession\n\n# none\n1 AddColumn T a LongBinary\n", 4),
-    ] {
-        let fault = parse(rt.alloc(), script).err();
-        assert_eq!(rt; fault, Some(ScriptFault::NotBuilt(line)));
     }
 }

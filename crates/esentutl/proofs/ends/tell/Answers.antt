@@ -17,8 +17,3 @@ pub returns-in-BadLine-clause-line : goal.returns-in-BadLine-clause-line
 returns-in-BadLine-clause-line g c =
     subst (λ (line : List ℕ). Says (g.K.Sink.taken c.args.out.now) (g.K.Sink.taken c.say_only-in-BadLine.new.out) (g.K.Sink.faults c.args.out.now) (g.K.Sink.faults c.say_only-in-BadLine.new.out) line)
     (c.make_bad_line.ensures ∙ sym (ap line_of_fault c.in-BadLine.is)) c.say_only-in-BadLine.ensures
-
-pub returns-in-NotBuilt-clause-line : goal.returns-in-NotBuilt-clause-line
-returns-in-NotBuilt-clause-line g c =
-    subst (λ (line : List ℕ). Says (g.K.Sink.taken c.args.out.now) (g.K.Sink.taken c.say_only-in-NotBuilt.new.out) (g.K.Sink.faults c.args.out.now) (g.K.Sink.faults c.say_only-in-NotBuilt.new.out) line)
-    (c.make_not_built_line.ensures ∙ sym (ap line_of_fault c.in-NotBuilt.is)) c.say_only-in-NotBuilt.ensures

@@ -84,7 +84,7 @@ returns-in-Ok g c =
       sink_before = g.K.Sink.faults c.args.out.now;
       sink_after = g.K.Sink.faults c.run_script.new.out;
     } in
-    let ends = ends_by_run limit o read.0 lines run.0 read.2.0.0 (read.2.0.1, read.2.0.2, said, read.2.2) run.2 in (
+    let ends = ends_by_run limit o read.0 lines run.0 read.2.0.0 (read.2.0.1, read.2.0.2, said) run.2 in (
       read.0,
       limit,
       run.0,
