@@ -1,5 +1,6 @@
 -- The bytes of the entries that end what is begun.
-use Rattle.std.specs.Prelude.{ℕ, ◌+◌, ◌*◌, Bool, true, false, List, [], ◌∷◌, length}
+use Rattle.std.specs.Prelude.{ℕ, ◌+◌, ◌*◌, Bool, true, false, List, length}
+use Rattle.std.specs.List.{sum_by}
 use Rattle.index_derive.specs.declared.log.EntryKind.{EntryKind}
 use Rattle.index_derive.specs.declared.log.EntryKind.TheVariants as entry
 use Rattle.version_cleanup.specs.LiveSessions.{LiveState, levels_of}
@@ -9,8 +10,7 @@ abbrev pub end_bytes_of : LiveState → ℕ
 end_bytes_of session = 9 + 13 * length session.open_tables + 9 * levels_of session.transaction
 
 abbrev pub end_bytes : List LiveState → ℕ
-end_bytes [] = 0
-end_bytes (session ∷ sessions) = end_bytes_of session + end_bytes sessions
+end_bytes sessions = sum_by end_bytes_of sessions
 
 -- the bytes by which what an entry begins is to end
 abbrev pub begun_bytes : EntryKind → ℕ
