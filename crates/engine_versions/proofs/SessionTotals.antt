@@ -36,14 +36,14 @@ le_self n = omega arith
 
 -- ---- more
 
-abbrev LabelBelow : ℕ → LiveState → Type 0
+abbrev pub LabelBelow : ℕ → LiveState → Type 0
 LabelBelow label s = label < s.label
 
 abbrev pub RisesTo : LiveState → LiveState → Type 0
 RisesTo one other = one.label < other.label
 
 -- no session has a label below all of theirs
-untouched : (label : ℕ) (change : LiveState → LiveState) (sessions : List LiveState) → AllByRecursion (LabelBelow label) sessions → with_session label change sessions ≡ sessions
+pub untouched : (label : ℕ) (change : LiveState → LiveState) (sessions : List LiveState) → AllByRecursion (LabelBelow label) sessions → with_session label change sessions ≡ sessions
 untouched label change [] h = refl
 untouched label change (s ∷ sessions) h = λ i. cond (apart s.label label h.0 i) (change s) s ∷ untouched label change sessions h.1 i
   where

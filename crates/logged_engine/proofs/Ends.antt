@@ -155,7 +155,7 @@ by_kind engine state session entry.Undo h e rise =
           (ends_by end_bytes_of 9 session ended ended_keeps engine.sessions (in_levels end_bytes_of 9 ended ended_ends session engine.sessions is_in))
     ]
 
-kind_of : (state : DatabaseState) (made : Entry) → is_lawful state made ≡ true → is_lawful_kind state made.session.0 made.kind ≡ true
+pub kind_of : (state : DatabaseState) (made : Entry) → is_lawful state made ≡ true → is_lawful_kind state made.session.0 made.kind ≡ true
 unfolding is_lawful
 kind_of state made e = and_right (has_number state.number made.kind) (is_lawful_kind state made.session.0 made.kind) e
 
