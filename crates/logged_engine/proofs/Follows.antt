@@ -41,11 +41,11 @@ found_other label other change keeps apart_from [] = refl
 found_other label other change keeps apart_from (s ∷ sessions) =
     elim (s.label == label) as (λ b. (s.label == label) ≡ b → cond ((cond b (change s) s).label == other) (Some (cond b (change s) s)) (session_in other (with_session label change sessions)) ≡ cond (s.label == other) (Some s) (session_in other sessions)) [
       | true ↦ λ e.
-          let no : (s.label == other) ≡ false = apart s.label label other e apart_from in
+          let unlike : (s.label == other) ≡ false = apart s.label label other e apart_from in
           ap (λ (n : ℕ). cond (n == other) (Some (change s)) (session_in other (with_session label change sessions))) (keeps s)
-          ∙ ap (λ (b : Bool). cond b (Some (change s)) (session_in other (with_session label change sessions))) no
+          ∙ ap (λ (b : Bool). cond b (Some (change s)) (session_in other (with_session label change sessions))) unlike
           ∙ found_other label other change keeps apart_from sessions
-          ∙ sym (ap (λ (b : Bool). cond b (Some s) (session_in other sessions)) no)
+          ∙ sym (ap (λ (b : Bool). cond b (Some s) (session_in other sessions)) unlike)
       | false ↦ λ e. ap (λ (o : Option LiveState). cond (s.label == other) (Some s) o) (found_other label other change keeps apart_from sessions)
     ] refl
 
@@ -88,18 +88,18 @@ changed_follows : (label : ℕ) (kind : EntryKind) (change : LiveState → LiveS
 changed_follows label kind change sessions keeps rise counted = record {
   sum = sum_changed label change sessions rise ∙ ap (λ (o : Option LiveState). end_bytes sessions + bytes_in o) (sym (found_own label change keeps sessions));
   own = ap open_in (found_own label change keeps sessions) ∙ counted;
-  others = λ other no. ap open_in (found_other label other change keeps no sessions);
+  others = λ other unlike. ap open_in (found_other label other change keeps unlike sessions);
   labels = λ have own. labels_changed label change keeps sessions have;
 }
 
 -- ---- a session that begins
 
 entered_other : (label other : ℕ) → (other == label) ≡ false → (sessions : List LiveState) → session_in other (entered label sessions) ≡ session_in other sessions
-entered_other label other no [] = ap (λ (b : Bool). cond b (Some (new_session label)) None) (apart label label other (same_test label) no)
-entered_other label other no (s ∷ sessions) =
+entered_other label other unlike [] = ap (λ (b : Bool). cond b (Some (new_session label)) None) (apart label label other (same_test label) unlike)
+entered_other label other unlike (s ∷ sessions) =
     elim (nat_lt label s.label) as (λ b. session_in other (cond b (new_session label ∷ s ∷ sessions) (s ∷ entered label sessions)) ≡ cond (s.label == other) (Some s) (session_in other sessions)) [
-      | true ↦ ap (λ (b : Bool). cond b (Some (new_session label)) (session_in other (s ∷ sessions))) (apart label label other (same_test label) no)
-      | false ↦ ap (λ (o : Option LiveState). cond (s.label == other) (Some s) o) (entered_other label other no sessions)
+      | true ↦ ap (λ (b : Bool). cond b (Some (new_session label)) (session_in other (s ∷ sessions))) (apart label label other (same_test label) unlike)
+      | false ↦ ap (λ (o : Option LiveState). cond (s.label == other) (Some s) o) (entered_other label other unlike sessions)
     ]
 
 entered_own : (label : ℕ) (sessions : List LiveState) → is_some (session_in label sessions) ≡ false → session_in label (entered label sessions) ≡ Some (new_session label)
@@ -108,8 +108,8 @@ entered_own label (s ∷ sessions) none =
     elim (nat_lt label s.label) as (λ b. session_in label (cond b (new_session label ∷ s ∷ sessions) (s ∷ entered label sessions)) ≡ Some (new_session label)) [
       | true ↦ ap (λ (b : Bool). cond b (Some (new_session label)) (session_in label (s ∷ sessions))) (same_test label)
       | false ↦ elim (s.label == label) as (λ b. is_some (cond b (Some s) (session_in label sessions)) ≡ false → cond b (Some s) (session_in label (entered label sessions)) ≡ Some (new_session label)) [
-        | true ↦ λ no. impossible (sym no)
-        | false ↦ λ no. entered_own label sessions no
+        | true ↦ λ live. impossible (sym live)
+        | false ↦ λ gone. entered_own label sessions gone
       ] none
     ]
 
@@ -129,7 +129,7 @@ entered_follows label sessions none =
     record {
       sum = by (end_bytes (entered label sessions)) (end_bytes sessions) (session_bytes label sessions) (session_bytes label (entered label sessions)) (end_bytes_of (new_session label)) (inserted end_bytes_of (new_session label) sessions) (ap bytes_in before) (ap bytes_in after);
       own = ap open_in after ∙ sym (ap open_in before);
-      others = λ other no. ap open_in (entered_other label other no sessions);
+      others = λ other unlike. ap open_in (entered_other label other unlike sessions);
       labels = λ have own. entered_labels label sessions own have;
     }
   where
@@ -139,11 +139,11 @@ entered_follows label sessions none =
 -- ---- a session that ends
 
 left_other : (label other : ℕ) → (other == label) ≡ false → (sessions : List LiveState) → session_in other (left label sessions) ≡ session_in other sessions
-left_other label other no [] = refl
-left_other label other no (s ∷ sessions) =
+left_other label other unlike [] = refl
+left_other label other unlike (s ∷ sessions) =
     elim (s.label == label) as (λ b. (s.label == label) ≡ b → session_in other (cond (not b) (s ∷ left label sessions) (left label sessions)) ≡ cond (s.label == other) (Some s) (session_in other sessions)) [
-      | true ↦ λ e. left_other label other no sessions ∙ sym (ap (λ (b : Bool). cond b (Some s) (session_in other sessions)) (apart s.label label other e no))
-      | false ↦ λ e. ap (λ (o : Option LiveState). cond (s.label == other) (Some s) o) (left_other label other no sessions)
+      | true ↦ λ e. left_other label other unlike sessions ∙ sym (ap (λ (b : Bool). cond b (Some s) (session_in other sessions)) (apart s.label label other e unlike))
+      | false ↦ λ e. ap (λ (o : Option LiveState). cond (s.label == other) (Some s) o) (left_other label other unlike sessions)
     ] refl
 
 left_own : (label : ℕ) (sessions : List LiveState) → session_in label (left label sessions) ≡ None
@@ -187,7 +187,7 @@ left_follows : (label : ℕ) (sessions : List LiveState) → EachTwo RisesTo ses
 left_follows label sessions rise = record {
   sum = sum_left label sessions rise ∙ sym (ap (λ (o : Option LiveState). end_bytes sessions + bytes_in o) (left_own label sessions));
   own = ap open_in (left_own label sessions);
-  others = λ other no. ap open_in (left_other label other no sessions);
+  others = λ other unlike. ap open_in (left_other label other unlike sessions);
   labels = λ have own. left_labels label sessions have;
 }
 
@@ -212,7 +212,7 @@ one_less table (Some s) h = by (length (without_one table s.open_tables)) (lengt
     by a b e = omega (arith, e)
 
 stays : (label : ℕ) (kind : EntryKind) (sessions : List LiveState) → open_count label sessions ≡ open_after kind (open_count label sessions) → Follows label kind sessions sessions
-stays label kind sessions same = record { sum = refl; own = same; others = λ other no. refl; labels = λ have own. have }
+stays label kind sessions same = record { sum = refl; own = same; others = λ other unlike. refl; labels = λ have own. have }
 
 -- the change keeps the cursors
 keeps_follows : (label : ℕ) (kind : EntryKind) (change : LiveState → LiveState) (sessions : List LiveState) → KeepsLabel change → KeepsOpen change → EachTwo RisesTo sessions → open_count label sessions ≡ open_after kind (open_count label sessions) → Follows label kind sessions (with_session label change sessions)
@@ -254,7 +254,7 @@ pub between : (label : ℕ) (kind : EntryKind) (a b c d : List LiveState) → Fo
 between label kind a b c d first next last = record {
   sum = by (end_bytes a) (end_bytes b) (end_bytes c) (end_bytes d) (session_bytes label a) (session_bytes label b) (session_bytes label c) (session_bytes label d) first.sum next.sum last.sum;
   own = last.own ∙ next.own ∙ ap (open_after kind) first.own;
-  others = λ other no. last.others other no ∙ next.others other no ∙ first.others other no;
+  others = λ other unlike. last.others other unlike ∙ next.others other unlike ∙ first.others other unlike;
   labels = λ have own. last.labels (next.labels (first.labels have own) own) own;
 }
   where
