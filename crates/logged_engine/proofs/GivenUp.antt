@@ -70,11 +70,11 @@ all_left (s ∷ sessions) h = absurd (never s.label h.0.0 h.0.1)
 
 -- ---- counting the labels
 
-pub one_further : (n : ℕ) → nat_le n 99 ≡ true → n + 1 ≤ 100
-one_further n h = grind (arith, nat_tests)
+pub one_further : (n : ℕ) → n ≤ 99 → n + 1 ≤ 100
+one_further n h = omega (arith, h)
 
-pub last_label : (n : ℕ) → nat_le n 99 ≡ false → n ≤ 100 → n ≡ 100
-last_label n h most = grind (arith, nat_tests)
+pub last_label : (n : ℕ) → 99 < n → n ≤ 100 → n ≡ 100
+last_label n h most = omega (arith, h, most)
 
 -- ---- a session is given up
 

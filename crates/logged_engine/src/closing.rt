@@ -6,11 +6,13 @@ ghost use Rattle.versioned_tables.specs.HeldRecords.{from_oldest_kept};
 ghost use Rattle.stored_variants.specs.StoredVersions.{next_to_forget};
 ghost use Rattle.engine_versions.specs.EngineState.{engine_of};
 ghost use Rattle.engine_versions.specs.HoldsState.{HoldsState};
+ghost use Rattle.entry_log.specs.LogState.{empty_stream};
 ghost use Rattle.loggable_steps.specs.Replays.{closed};
 ghost use Rattle.logged_engine.specs.Closing.{HaveLabels, HoldsTables, IsGivenUpTo, without_live};
 
 use engine_core::Engine;
 use engine_versions::{a_lawful_entry_makes_the_next_state, open_changes_stand_by_rising_levels};
+use entry_log::EntryLog;
 use jet_base::Session;
 use loggable_steps::an_engine_without_sessions_tells_its_state;
 use table_versions::TableVersions;
@@ -27,6 +29,13 @@ pub(crate) fn give_up_all(engine: &mut Engine)
     an_engine_without_sessions_tells_its_state();
     give_up_sessions(engine);
     forget_all(&mut engine.tables);
+}
+
+/// A log that begins, in the engine's memory.
+pub(crate) fn new_log(engine: &Engine) -> EntryLog
+    ensures { result.stream ≡ empty_stream }
+{
+    EntryLog::new(engine.alloc)
 }
 
 /// Gives up the sessions in the order of their labels.

@@ -79,9 +79,11 @@ fn write_alone(log: &mut EntryLog, made: &Entry)
     ensures stream { log.new.stream ≡ appended (stream_bytes (entries_of_step (Some (Alone made.now)))) log.old.stream }
     ensures room { log.old.room ≤ log.new.room + (18 + length (entry_bytes made.now)) }
 {
-    log.append(&plain(made.session, EntryKind::Begin));
+    let begin = plain(made.session, EntryKind::Begin);
+    let commit = plain(made.session, EntryKind::Commit);
+    log.append(&begin);
     log.append(made);
-    log.append(&plain(made.session, EntryKind::Commit));
+    log.append(&commit);
 }
 
 /// The bytes by which what an entry begins is to end.

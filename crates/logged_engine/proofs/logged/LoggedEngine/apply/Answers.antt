@@ -1,8 +1,8 @@
-use Rattle.std.proofs.Common.{sym, subst}
+use Rattle.std.proofs.Common.{◌≡◌, ℕ, ◌+◌, ◌^◌, ◌<◌, ◌≤◌, sym, subst}
 use Rattle.engine_versions.specs.EngineState.{EngineState, HasRoomForEnds}
 use Rattle.engine_steps.specs.Steps.{MayTake}
 use Rattle.loggable_steps.specs.Loggable.{made_by}
-use Rattle.logged_engine.specs.Ends.{Follows}
+use Rattle.logged_engine.specs.Ends.{Follows, begun_bytes, ended_bytes}
 use Rattle.logged_engine.specs.LoggedState.{HasRoom, LoggedState}
 use Rattle.logged_engine.proofs.Rooms.{bytes_few, bytes_within, cursors_few, ends_there, lacking, own_open, own_within, room_counted}
 use Rattle.logged_engine.proofs.logged.LoggedEngine.apply.Goals as goal
@@ -20,18 +20,22 @@ invariant_of-self c =
     let lawful = subst (λ (s : LoggedState). MayTake s.engine c.args.step.now) (sym c.self.view_is) c.requires.lawful in
     let law = c.what_is_begun_keeps_the_bytes_of_its_end.ensures.step c.self.inside.engine c.args.step.now lawful in
     let follows = c.ends_follow_their_steps.ensures c.self.inside.engine c.args.step.now lawful in
+    let by = made_by c.args.step.now in
+    let counted = subst (λ (n : ℕ). c.ends_after-ends.result + ended_bytes by.kind ≡ n + begun_bytes by.kind) c.bytes.ensures c.ends_after-ends.ensures in
     room_counted c.self.inside.engine c.make.new.engine c.self.inside.log c.make.new.log c.self.inside.ends c.count_anew.new.ends c.ends_after-ends.result c.own_bytes-own.result c.args.step.now
-    c.self.invariant c.the_step_can_be_logged.ensures c.requires.label law follows c.own_bytes-own.ensures c.ends_after-ends.ensures c.in-Ok.ensures.engine c.in-Ok.ensures.stream c.in-Ok.ensures.ends c.count_anew.ensures
+    c.self.invariant c.the_step_can_be_logged.ensures c.requires.label law follows c.own_bytes-own.ensures counted c.in-Ok.ensures.engine c.in-Ok.ensures.stream c.in-Ok.ensures.ends c.count_anew.ensures
 
 pub ends_after-ends-requires-clause-few : goal.ends_after-ends-requires-clause-few
 ends_after-ends-requires-clause-few c =
     let room = subst (λ (s : LoggedState). HasRoomForEnds s.engine) (sym c.self.view_is) c.requires.room in
-    bytes_few c.self.inside.engine c.self.inside.log c.self.inside.ends c.self.invariant (c.ends_always_find_room.ensures.most c.self.inside.engine room)
+    subst (λ (n : ℕ). n < 2 ^ 40) (sym c.bytes.ensures) (bytes_few c.self.inside.engine c.self.inside.log c.self.inside.ends c.self.invariant (c.ends_always_find_room.ensures.most c.self.inside.engine room))
 
 pub ends_after-ends-requires-clause-there : goal.ends_after-ends-requires-clause-there
 ends_after-ends-requires-clause-there c =
     let lawful = subst (λ (s : LoggedState). MayTake s.engine c.args.step.now) (sym c.self.view_is) c.requires.lawful in
-    ends_there c.args.step.now c.self.inside.engine c.self.inside.log c.self.inside.ends c.self.invariant (c.what_is_begun_keeps_the_bytes_of_its_end.ensures.step c.self.inside.engine c.args.step.now lawful)
+    let by = made_by c.args.step.now in
+    subst (λ (n : ℕ). ended_bytes by.kind ≤ n + begun_bytes by.kind) (sym c.bytes.ensures)
+    (ends_there c.args.step.now c.self.inside.engine c.self.inside.log c.self.inside.ends c.self.invariant (c.what_is_begun_keeps_the_bytes_of_its_end.ensures.step c.self.inside.engine c.args.step.now lawful))
 
 pub count_anew-requires-clause-few : goal.count_anew-requires-clause-few
 count_anew-requires-clause-few c =
@@ -59,4 +63,6 @@ count_anew-requires-clause-own c =
 
 pub returns-in-Err-clause-memory : goal.returns-in-Err-clause-memory
 returns-in-Err-clause-memory c =
-    lacking c.args.step.now c.self.inside.ends.bytes c.ends_after-ends.result c.self.inside.log.room (bytes_within c.self.inside.engine c.self.inside.log c.self.inside.ends c.self.invariant) c.ends_after-ends.ensures c.in-Err.ensures.memory
+    let by = made_by c.args.step.now in
+    let counted = subst (λ (n : ℕ). c.ends_after-ends.result + ended_bytes by.kind ≡ n + begun_bytes by.kind) c.bytes.ensures c.ends_after-ends.ensures in
+    lacking c.args.step.now c.self.inside.ends.bytes c.ends_after-ends.result c.self.inside.log.room (bytes_within c.self.inside.engine c.self.inside.log c.self.inside.ends c.self.invariant) counted c.in-Err.ensures.memory
