@@ -10,7 +10,7 @@ use Rattle.logged_engine.proofs.logged.LoggedEngine.close.Goals as goal
 pub invariant_of-self : goal.invariant_of-self
 invariant_of-self c =
     let held = subst (λ (s : LoggedState). HoldsState s.engine c.requires.held.0) (sym c.self.view_is) c.requires.held.1 in
-    room_closed c.give_up_all.new.engine c.new_log.result c.none.result (ap (λ (e : EngineState). e.sessions) (c.give_up_all.ensures c.requires.held.0 held)) c.new_log.ensures c.none.ensures
+    room_closed c.give_up_all.new.engine c.new_log.result c.none-self-inside.result (ap (λ (e : EngineState). e.sessions) (c.give_up_all.ensures c.requires.held.0 held)) c.new_log.ensures c.none-self-inside.ensures
 
 pub returns-clause-engine : goal.returns-clause-engine
 returns-clause-engine c = λ state h.
