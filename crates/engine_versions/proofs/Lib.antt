@@ -14,3 +14,4 @@ pub mod Replies
 pub mod Preparing
 pub mod Answering
 pub mod NoneOpen
+pub mod SessionTotals

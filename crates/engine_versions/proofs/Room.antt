@@ -1,7 +1,6 @@
 -- The number of the log has room for all that is to end.
-use Rattle.std.proofs.Common.{◌≡◌, ℕ, suc, ◌+◌, ◌-◌, ◌^◌, ◌<◌, ◌≤◌, Bool, true, false, not, ◌||◌, cond, List, [], ◌∷◌, map, length, Option, Some, None, refl, sym, ap, subst, ◌∙◌, arith}
-use Rattle.std.specs.Prelude.{◌==◌, nat_le, nat_lt, find, is_some, option_and_then, option_map}
-use Rattle.std.specs.List.{AllByRecursion, list_any}
+use Rattle.std.proofs.Common.{◌≡◌, ℕ, ◌+◌, ◌-◌, ◌^◌, ◌<◌, ◌≤◌, Bool, true, false, cond, List, [], ◌∷◌, map, length, Option, Some, None, sym, ap, subst, ◌∙◌, arith}
+use Rattle.std.specs.Prelude.{◌==◌, nat_le, nat_lt, find, is_some, option_map}
 use Rattle.std.proofs.lemmas.Bool.Decides.{nat_tests}
 use Rattle.index_derive.specs.declared.log.Entry.{Entry}
 use Rattle.index_derive.specs.declared.log.EntryKind.{EntryKind}
@@ -12,10 +11,9 @@ use Rattle.database_state.specs.State.{DatabaseState, LiveSession, levels}
 use Rattle.database_state.specs.Step.{state_after, with_one, without_one}
 use Rattle.database_state.specs.Lawful.{has_number, has_open as has_open_in, is_lawful, is_lawful_kind, log_limit}
 use Rattle.record_changes.proofs.Tests.{and_left, and_right, impossible}
-use Rattle.version_history.specs.History.{EachTwo, LabelsRise}
-use Rattle.version_history.proofs.Lists.{each_map, all_true}
+use Rattle.version_history.specs.History.{EachTwo}
 use Rattle.version_cleanup.specs.declared.live.Transaction.{Transaction}
-use Rattle.version_cleanup.specs.LiveSessions.{LiveState, at_levels, began, ended, entered, insert_session, left, levels_in, levels_of, live_state, lowered, new_session, opened, saved, session_in, sessions_after, shut, with_session}
+use Rattle.version_cleanup.specs.LiveSessions.{LiveState, at_levels, began, ended, entered, left, levels_in, levels_of, live_state, lowered, new_session, opened, saved, session_in, sessions_after, shut, with_session}
 use Rattle.lawful_answers.specs.LawfulSteps.{AreLawful}
 use Rattle.version_records.specs.RecordNumbers.{HasItsType}
 use Rattle.lawful_answers.specs.EntryTypes.{AreOfTheirTypes}
@@ -23,82 +21,11 @@ use Rattle.built_calls.specs.BuiltTables.{AllMakeBuilt, makes_built}
 use Rattle.engine_versions.specs.EngineState.{EngineState, HasRoomForEnds, ends_in, ends_of}
 use Rattle.engine_versions.specs.EngineSteps.{cleaned_for, engine_after, engine_after_all, engine_after_step, step_cleans}
 use Rattle.engine_versions.specs.HoldsState.{HoldsState}
-use Rattle.engine_versions.proofs.AfterEntries.{levels_told}
 use Rattle.engine_versions.proofs.Cleans.{CleanHolds, clean_for_holds}
+use Rattle.engine_versions.proofs.SessionTotals.{EndsBy, RisesTo, ends_by, grows, in_levels, inserted, le_self, left_fewer, level_of, levels_there, one_level, one_more_open, rise_told, shut_fewer, shut_no_more, two_levels}
 use Rattle.engine_versions.proofs.Sessions.{live_alike, session_alike}
 
--- ---- numbers
-
-more : (a b c d : ℕ) → a ≤ b + 1 → c ≡ d → a + c ≤ (b + d) + 1
-more a b c d h e = omega (arith, h, e)
-
-more_later : (s a b : ℕ) → a ≤ b + 1 → s + a ≤ (s + b) + 1
-more_later s a b h = omega (arith, h)
-
-fewer : (a b c d : ℕ) → a + 1 ≤ b → c ≤ d → (a + c) + 1 ≤ b + d
-fewer a b c d h g = omega (arith, h, g)
-
-fewer_later : (s a b : ℕ) → a + 1 ≤ b → (s + a) + 1 ≤ s + b
-fewer_later s a b h = omega (arith, h)
-
-no_more : (a b c d : ℕ) → a ≤ b → c ≤ d → a + c ≤ b + d
-no_more a b c d h g = omega (arith, h, g)
-
-le_self : (n : ℕ) → n ≤ n
-le_self n = omega arith
-
 -- ---- one more
-
-abbrev LabelBelow : ℕ → LiveState → Type 0
-LabelBelow label s = label < s.label
-
-abbrev RisesTo : LiveState → LiveState → Type 0
-RisesTo one other = one.label < other.label
-
--- no session has a label below all of theirs
-untouched : (label : ℕ) (change : LiveState → LiveState) (sessions : List LiveState) → AllByRecursion (LabelBelow label) sessions → with_session label change sessions ≡ sessions
-untouched label change [] h = refl
-untouched label change (s ∷ sessions) h = λ i. cond (apart s.label label h.0 i) (change s) s ∷ untouched label change sessions h.1 i
-  where
-    apart : (a b : ℕ) → b < a → (a == b) ≡ false
-    apart a b lt = grind (arith, nat_tests)
-
-grows_once : (label : ℕ) (change : LiveState → LiveState) → ((s : LiveState) → ends_of (change s) ≤ ends_of s + 1) → (sessions : List LiveState) → EachTwo RisesTo sessions → ends_in (with_session label change sessions) ≤ ends_in sessions + 1
-grows_once label change grows [] h = omega arith
-grows_once label change grows (s ∷ sessions) h =
-    elim (s.label == label) as (λ b. (s.label == label) ≡ b → ends_of (cond b (change s) s) + ends_in (with_session label change sessions) ≤ (ends_of s + ends_in sessions) + 1) [
-      | true ↦ λ e. more (ends_of (change s)) (ends_of s) (ends_in (with_session label change sessions)) (ends_in sessions) (grows s)
-          (ap ends_in (untouched label change sessions (subst (λ (n : ℕ). AllByRecursion (LabelBelow n) sessions) (same s.label label e) h.0)))
-      | false ↦ λ e. more_later (ends_of s) (ends_in (with_session label change sessions)) (ends_in sessions) (grows_once label change grows sessions h.1)
-    ] refl
-  where
-    same : (a b : ℕ) → (a == b) ≡ true → a ≡ b
-    same a b e = grind (arith, nat_tests)
-
-inserted : (s : LiveState) (sessions : List LiveState) → ends_in (insert_session s sessions) ≡ ends_of s + ends_in sessions
-inserted s [] = refl
-inserted s (other ∷ sessions) =
-    elim (nat_lt s.label other.label) as (λ b. ends_in (cond b (s ∷ other ∷ sessions) (other ∷ insert_session s sessions)) ≡ ends_of s + (ends_of other + ends_in sessions)) [
-      | true ↦ refl
-      | false ↦ ap (λ (n : ℕ). ends_of other + n) (inserted s sessions) ∙ swap (ends_of other) (ends_of s) (ends_in sessions)
-    ]
-  where
-    swap : (a b c : ℕ) → a + (b + c) ≡ b + (a + c)
-    swap a b c = omega arith
-
-one_more_open : (table : ℕ) (tables : List ℕ) → length (with_one table tables) ≡ length tables + 1
-one_more_open table [] = refl
-one_more_open table (other ∷ tables) =
-    elim (nat_lt table other) as (λ b. length (cond b (table ∷ other ∷ tables) (other ∷ with_one table tables)) ≡ suc (length tables) + 1) [
-      | true ↦ up (length tables)
-      | false ↦ ap (λ (n : ℕ). suc n) (one_more_open table tables) ∙ turn (length tables)
-    ]
-  where
-    up : (n : ℕ) → suc (suc n) ≡ suc n + 1
-    up n = omega arith
-
-    turn : (n : ℕ) → suc (n + 1) ≡ suc n + 1
-    turn n = omega arith
 
 opened_grows : (table : ℕ) (s : LiveState) → ends_of (opened table s) ≤ ends_of s + 1
 opened_grows table s = by (length (with_one table s.open_tables)) (length s.open_tables) (levels_of s.transaction) (one_more_open table s.open_tables)
@@ -127,24 +54,6 @@ saved_grows s = by (length s.open_tables) s.transaction
 
 -- ---- one less
 
-no_more_all : (label : ℕ) (change : LiveState → LiveState) → ((s : LiveState) → ends_of (change s) ≤ ends_of s) → (sessions : List LiveState) → ends_in (with_session label change sessions) ≤ ends_in sessions
-no_more_all label change keeps [] = omega arith
-no_more_all label change keeps (s ∷ sessions) =
-    no_more (ends_of (cond (s.label == label) (change s) s)) (ends_of s) (ends_in (with_session label change sessions)) (ends_in sessions)
-    (elim (s.label == label) as (λ b. ends_of (cond b (change s) s) ≤ ends_of s) [ true ↦ keeps s | false ↦ le_self (ends_of s) ]) (no_more_all label change keeps sessions)
-
-abbrev EndsOne : (LiveState → LiveState) → Option LiveState → Type 0
-EndsOne change None = ⊥
-EndsOne change (Some s) = ends_of (change s) + 1 ≤ ends_of s
-
-ends_one : (label : ℕ) (change : LiveState → LiveState) → ((s : LiveState) → ends_of (change s) ≤ ends_of s) → (sessions : List LiveState) → EndsOne change (session_in label sessions) → ends_in (with_session label change sessions) + 1 ≤ ends_in sessions
-ends_one label change keeps [] h = absurd h
-ends_one label change keeps (s ∷ sessions) h =
-    elim (s.label == label) as (λ b. EndsOne change (cond b (Some s) (session_in label sessions)) → (ends_of (cond b (change s) s) + ends_in (with_session label change sessions)) + 1 ≤ ends_of s + ends_in sessions) [
-      | true ↦ λ g. fewer (ends_of (change s)) (ends_of s) (ends_in (with_session label change sessions)) (ends_in sessions) g (no_more_all label change keeps sessions)
-      | false ↦ λ g. fewer_later (ends_of s) (ends_in (with_session label change sessions)) (ends_in sessions) (ends_one label change keeps sessions g)
-    ] h
-
 lowered_keeps : (s : LiveState) → ends_of (lowered s) ≤ ends_of s
 lowered_keeps s = by (length s.open_tables) s.transaction
   where
@@ -161,63 +70,24 @@ ended_keeps s = by (length s.open_tables) (levels_of s.transaction)
     by : (a b : ℕ) → 1 + a + 0 ≤ 1 + a + b
     by a b = omega arith
 
-lowered_ends : (s : LiveState) → 1 ≤ levels_of s.transaction → ends_of (lowered s) + 1 ≤ ends_of s
+lowered_ends : (s : LiveState) → 1 ≤ levels_of s.transaction → 1 + ends_of (lowered s) ≤ ends_of s
 lowered_ends s h = by (length s.open_tables) s.transaction h
   where
-    none : (a : ℕ) → 1 ≤ 0 → (1 + a + 0) + 1 ≤ 1 + a + 0
+    none : (a : ℕ) → 1 ≤ 0 → 1 + (1 + a + 0) ≤ 1 + a + 0
     none a h = omega (arith, h)
 
-    some : (a b : ℕ) → 1 ≤ b → (1 + a + (b - 1)) + 1 ≤ 1 + a + b
+    some : (a b : ℕ) → 1 ≤ b → 1 + (1 + a + (b - 1)) ≤ 1 + a + b
     some a b h = omega (arith, h)
 
-    by : (a : ℕ) (t : Option Transaction) → 1 ≤ levels_of t → (1 + a + levels_of (at_levels (λ n. n - 1) t)) + 1 ≤ 1 + a + levels_of t
+    by : (a : ℕ) (t : Option Transaction) → 1 ≤ levels_of t → 1 + (1 + a + levels_of (at_levels (λ n. n - 1) t)) ≤ 1 + a + levels_of t
     by a None h = none a h
     by a (Some t) h = some a t.levels h
 
-ended_ends : (s : LiveState) → 1 ≤ levels_of s.transaction → ends_of (ended s) + 1 ≤ ends_of s
+ended_ends : (s : LiveState) → 1 ≤ levels_of s.transaction → 1 + ends_of (ended s) ≤ ends_of s
 ended_ends s h = by (length s.open_tables) (levels_of s.transaction) h
   where
-    by : (a b : ℕ) → 1 ≤ b → (1 + a + 0) + 1 ≤ 1 + a + b
+    by : (a b : ℕ) → 1 ≤ b → 1 + (1 + a + 0) ≤ 1 + a + b
     by a b h = omega (arith, h)
-
--- of a session in a transaction
-in_levels : (change : LiveState → LiveState) → ((s : LiveState) → 1 ≤ levels_of s.transaction → ends_of (change s) + 1 ≤ ends_of s) → (label : ℕ) (sessions : List LiveState) → 1 ≤ levels_in label sessions → EndsOne change (session_in label sessions)
-in_levels change one label sessions h = by (session_in label sessions) h
-  where
-    never : 1 ≤ 0 → ⊥
-    never h = omega (arith, h)
-
-    by : (o : Option LiveState) → 1 ≤ levels_of (option_and_then (λ (s : LiveState). s.transaction) o) → EndsOne change o
-    by None h = never h
-    by (Some s) h = one s h
-
--- of a table that is open
-shut_fewer : (table : ℕ) (tables : List ℕ) → list_any (λ id. id == table) tables ≡ true → length (without_one table tables) + 1 ≡ length tables
-shut_fewer table [] h = impossible h
-shut_fewer table (id ∷ tables) h =
-    elim (id == table) as (λ b. (b || list_any (λ id. id == table) tables) ≡ true → length (cond b tables (id ∷ without_one table tables)) + 1 ≡ suc (length tables)) [
-      | true ↦ λ g. up (length tables)
-      | false ↦ λ g. turn (length (without_one table tables)) ∙ ap (λ (n : ℕ). suc n) (shut_fewer table tables g)
-    ] h
-  where
-    up : (n : ℕ) → n + 1 ≡ suc n
-    up n = omega arith
-
-    turn : (n : ℕ) → suc n + 1 ≡ suc (n + 1)
-    turn n = omega arith
-
-shut_no_more : (table : ℕ) (tables : List ℕ) → length (without_one table tables) ≤ length tables
-shut_no_more table [] = omega arith
-shut_no_more table (id ∷ tables) = elim (id == table) as (λ b. length (cond b tables (id ∷ without_one table tables)) ≤ suc (length tables)) [
-  | true ↦ up (length tables)
-  | false ↦ both (length (without_one table tables)) (length tables) (shut_no_more table tables)
-]
-  where
-    up : (n : ℕ) → n ≤ suc n
-    up n = omega arith
-
-    both : (a b : ℕ) → a ≤ b → suc a ≤ suc b
-    both a b h = omega (arith, h)
 
 shut_keeps : (table : ℕ) (s : LiveState) → ends_of (shut table s) ≤ ends_of s
 shut_keeps table s = by (length (without_one table s.open_tables)) (length s.open_tables) (levels_of s.transaction) (shut_no_more table s.open_tables)
@@ -225,37 +95,22 @@ shut_keeps table s = by (length (without_one table s.open_tables)) (length s.ope
     by : (a b c : ℕ) → a ≤ b → 1 + a + c ≤ 1 + b + c
     by a b c h = omega (arith, h)
 
-shut_ends : (table label : ℕ) (sessions : List LiveSession) → has_open_in (find (λ s. s.label == label) sessions) table ≡ true → EndsOne (shut table) (session_in label (map live_state sessions))
-shut_ends table label sessions h = subst (EndsOne (shut table)) (sym (session_alike label sessions)) (by (find (λ s. s.label == label) sessions) h)
+shut_ends : (table label : ℕ) (sessions : List LiveSession) → has_open_in (find (λ s. s.label == label) sessions) table ≡ true → EndsBy ends_of 1 (shut table) (session_in label (map live_state sessions))
+shut_ends table label sessions h = subst (EndsBy ends_of 1 (shut table)) (sym (session_alike label sessions)) (by (find (λ s. s.label == label) sessions) h)
   where
-    less : (a b c : ℕ) → a + 1 ≡ b → (1 + a + c) + 1 ≤ 1 + b + c
+    less : (a b c : ℕ) → a + 1 ≡ b → 1 + (1 + a + c) ≤ 1 + b + c
     less a b c e = omega (arith, e)
 
-    by : (o : Option LiveSession) → has_open_in o table ≡ true → EndsOne (shut table) (option_map live_state o)
+    by : (o : Option LiveSession) → has_open_in o table ≡ true → EndsBy ends_of 1 (shut table) (option_map live_state o)
     by None h = impossible h
     by (Some s) h = less (length (without_one table s.open_tables)) (length s.open_tables) (levels_of (live_state s).transaction) (shut_fewer table s.open_tables h)
 
--- of a session that leaves
-left_no_more : (label : ℕ) (sessions : List LiveState) → ends_in (left label sessions) ≤ ends_in sessions
-left_no_more label [] = omega arith
-left_no_more label (s ∷ sessions) = elim (s.label == label) as (λ b. ends_in (cond (not b) (s ∷ left label sessions) (left label sessions)) ≤ ends_of s + ends_in sessions) [
-  | true ↦ over (ends_of s) (ends_in (left label sessions)) (ends_in sessions) (left_no_more label sessions)
-  | false ↦ no_more (ends_of s) (ends_of s) (ends_in (left label sessions)) (ends_in sessions) (le_self (ends_of s)) (left_no_more label sessions)
-]
+-- a session is one to end
+ends_count : (s : LiveState) → 1 ≤ ends_of s
+ends_count s = by (length s.open_tables) (levels_of s.transaction)
   where
-    over : (a b c : ℕ) → b ≤ c → b ≤ a + c
-    over a b c h = omega (arith, h)
-
-left_fewer : (label : ℕ) (sessions : List LiveState) → is_some (session_in label sessions) ≡ true → ends_in (left label sessions) + 1 ≤ ends_in sessions
-left_fewer label [] h = impossible h
-left_fewer label (s ∷ sessions) h =
-    elim (s.label == label) as (λ b. is_some (cond b (Some s) (session_in label sessions)) ≡ true → ends_in (cond (not b) (s ∷ left label sessions) (left label sessions)) + 1 ≤ ends_of s + ends_in sessions) [
-      | true ↦ λ g. over (length s.open_tables) (levels_of s.transaction) (ends_in (left label sessions)) (ends_in sessions) (left_no_more label sessions)
-      | false ↦ λ g. fewer_later (ends_of s) (ends_in (left label sessions)) (ends_in sessions) (left_fewer label sessions g)
-    ] h
-  where
-    over : (a b c d : ℕ) → c ≤ d → c + 1 ≤ (1 + a + b) + d
-    over a b c d h = omega (arith, h)
+    by : (a b : ℕ) → 1 ≤ 1 + a + b
+    by a b = omega arith
 
 -- ---- the room
 
@@ -284,26 +139,17 @@ changes_room n e l h k = (first n e k, second n e l (less n l h) k)
     second : (n e l : ℕ) → n ≤ l → e ≤ n → (n + 1) + e ≤ (l + l) + 1
     second n e l h k = omega (arith, h, k)
 
-ends_room : (n e e' b : ℕ) → e' + 1 ≤ e → e ≤ n → n + e ≤ b → (e' ≤ n + 1) × ((n + 1) + e' ≤ b)
+ends_room : (n e e' b : ℕ) → 1 + e' ≤ e → e ≤ n → n + e ≤ b → (e' ≤ n + 1) × ((n + 1) + e' ≤ b)
 ends_room n e e' b h k r = (first n e e' h k, second n e e' b h r)
   where
-    first : (n e e' : ℕ) → e' + 1 ≤ e → e ≤ n → e' ≤ n + 1
+    first : (n e e' : ℕ) → 1 + e' ≤ e → e ≤ n → e' ≤ n + 1
     first n e e' h k = omega (arith, h, k)
 
-    second : (n e e' b : ℕ) → e' + 1 ≤ e → n + e ≤ b → (n + 1) + e' ≤ b
+    second : (n e e' b : ℕ) → 1 + e' ≤ e → n + e ≤ b → (n + 1) + e' ≤ b
     second n e e' b h r = omega (arith, h, r)
 
 abbrev HasRoom : ℕ → ℕ → Type 0
 HasRoom number ends = (ends ≤ number) × (number + ends ≤ 2 ^ 35 + 1)
-
-level_of : (n : ℕ) → nat_le 1 n ≡ true → 1 ≤ n
-level_of n h = grind (arith, nat_tests)
-
-two_levels : (n : ℕ) → nat_le 2 n ≡ true → 1 ≤ n
-two_levels n h = grind (arith, nat_tests)
-
-one_level : (n : ℕ) → (n == 1) ≡ true → 1 ≤ n
-one_level n h = grind (arith, nat_tests)
 
 less_le : (n l : ℕ) → nat_lt n l ≡ true → nat_le n l ≡ true
 less_le n l h = grind (arith, nat_tests)
@@ -311,45 +157,41 @@ less_le n l h = grind (arith, nat_tests)
 room_by_kind : (engine : EngineState) (state : DatabaseState) (session : ℕ) (kind : EntryKind) → HoldsState engine state → has_number engine.number kind ≡ true → is_lawful_kind state session kind ≡ true → EachTwo RisesTo engine.sessions → HasRoom engine.number (ends_in engine.sessions)
     → HasRoom (engine.number + 1) (ends_in (sessions_after (engine.number + 1) session kind engine.sessions))
 room_by_kind engine state session entry.Enter h number e rise room =
-    begins_room engine.number (ends_in engine.sessions) (ends_in (entered session engine.sessions)) log_limit number (by (ends_in (entered session engine.sessions)) (ends_in engine.sessions) (inserted (new_session session) engine.sessions)) room.0
+    begins_room engine.number (ends_in engine.sessions) (ends_in (entered session engine.sessions)) log_limit number (by (ends_in (entered session engine.sessions)) (ends_in engine.sessions) (inserted ends_of (new_session session) engine.sessions)) room.0
   where
     by : (a b : ℕ) → a ≡ (1 + 0 + 0) + b → a ≤ b + 1
     by a b e = omega (arith, e)
 room_by_kind engine state session (entry.Open table) h number e rise room =
-    begins_room engine.number (ends_in engine.sessions) (ends_in (with_session session (opened table.0) engine.sessions)) log_limit number (grows_once session (opened table.0) (opened_grows table.0) engine.sessions rise) room.0
+    begins_room engine.number (ends_in engine.sessions) (ends_in (with_session session (opened table.0) engine.sessions)) log_limit number (grows ends_of 1 session (opened table.0) (opened_grows table.0) engine.sessions rise) room.0
 room_by_kind engine state session entry.Begin h number e rise room =
-    begins_room engine.number (ends_in engine.sessions) (ends_in (with_session session (began (engine.number + 1)) engine.sessions)) log_limit number (grows_once session (began (engine.number + 1)) (began_grows (engine.number + 1)) engine.sessions rise) room.0
+    begins_room engine.number (ends_in engine.sessions) (ends_in (with_session session (began (engine.number + 1)) engine.sessions)) log_limit number (grows ends_of 1 session (began (engine.number + 1)) (began_grows (engine.number + 1)) engine.sessions rise) room.0
 room_by_kind engine state session entry.Save h number e rise room =
-    begins_room engine.number (ends_in engine.sessions) (ends_in (with_session session saved engine.sessions)) log_limit number (grows_once session saved saved_grows engine.sessions rise) room.0
+    begins_room engine.number (ends_in engine.sessions) (ends_in (with_session session saved engine.sessions)) log_limit number (grows ends_of 1 session saved saved_grows engine.sessions rise) room.0
 room_by_kind engine state session (entry.Change change) h number e rise room = changes_room engine.number (ends_in engine.sessions) log_limit number room.0
 room_by_kind engine state session (entry.Schema made) h number e rise room = changes_room engine.number (ends_in engine.sessions) log_limit (less_le engine.number log_limit number) room.0
 room_by_kind engine state session entry.Leave h number e rise room =
     ends_room engine.number (ends_in engine.sessions) (ends_in (left session engine.sessions)) (2 ^ 35 + 1)
-    (left_fewer session engine.sessions (ap (λ (sessions : List LiveState). is_some (session_in session sessions)) (sym h.sessions) ∙ live_alike session state.sessions ∙ e)) room.0 room.1
+    (left_fewer ends_of 1 ends_count session engine.sessions (ap (λ (sessions : List LiveState). is_some (session_in session sessions)) (sym h.sessions) ∙ live_alike session state.sessions ∙ e)) room.0 room.1
 room_by_kind engine state session (entry.Shut table) h number e rise room =
     ends_room engine.number (ends_in engine.sessions) (ends_in (with_session session (shut table.0) engine.sessions)) (2 ^ 35 + 1)
-    (ends_one session (shut table.0) (shut_keeps table.0) engine.sessions (subst (λ (sessions : List LiveState). EndsOne (shut table.0) (session_in session sessions)) h.sessions (shut_ends table.0 session state.sessions e))) room.0 room.1
+    (ends_by ends_of 1 session (shut table.0) (shut_keeps table.0) engine.sessions (subst (λ (sessions : List LiveState). EndsBy ends_of 1 (shut table.0) (session_in session sessions)) h.sessions (shut_ends table.0 session state.sessions e))) room.0 room.1
 room_by_kind engine state session entry.Release h number e rise room =
     ends_room engine.number (ends_in engine.sessions) (ends_in (with_session session lowered engine.sessions)) (2 ^ 35 + 1)
-    (ends_one session lowered lowered_keeps engine.sessions (in_levels lowered lowered_ends session engine.sessions (subst (λ (n : ℕ). 1 ≤ n) (sym (levels_told engine state h session)) (two_levels (levels state session) e)))) room.0 room.1
+    (ends_by ends_of 1 session lowered lowered_keeps engine.sessions (in_levels ends_of 1 lowered lowered_ends session engine.sessions (levels_there engine state session h (two_levels (levels state session) e)))) room.0 room.1
 room_by_kind engine state session entry.UndoAll h number e rise room =
     ends_room engine.number (ends_in engine.sessions) (ends_in (with_session session ended engine.sessions)) (2 ^ 35 + 1)
-    (ends_one session ended ended_keeps engine.sessions (in_levels ended ended_ends session engine.sessions (subst (λ (n : ℕ). 1 ≤ n) (sym (levels_told engine state h session)) (level_of (levels state session) e)))) room.0 room.1
+    (ends_by ends_of 1 session ended ended_keeps engine.sessions (in_levels ends_of 1 ended ended_ends session engine.sessions (levels_there engine state session h (level_of (levels state session) e)))) room.0 room.1
 room_by_kind engine state session entry.Commit h number e rise room =
     ends_room engine.number (ends_in engine.sessions) (ends_in (with_session session ended engine.sessions)) (2 ^ 35 + 1)
-    (ends_one session ended ended_keeps engine.sessions (in_levels ended ended_ends session engine.sessions (subst (λ (n : ℕ). 1 ≤ n) (sym (levels_told engine state h session)) (one_level (levels state session) (and_left _ _ e))))) room.0 room.1
+    (ends_by ends_of 1 session ended ended_keeps engine.sessions (in_levels ends_of 1 ended ended_ends session engine.sessions (levels_there engine state session h (one_level (levels state session) (and_left _ _ e))))) room.0 room.1
 room_by_kind engine state session entry.Undo h number e rise room =
-    let is_in : 1 ≤ levels_in session engine.sessions = subst (λ (n : ℕ). 1 ≤ n) (sym (levels_told engine state h session)) (level_of (levels state session) e) in
+    let is_in : 1 ≤ levels_in session engine.sessions = levels_there engine state session h (level_of (levels state session) e) in
     elim (nat_lt 1 (levels_in session engine.sessions)) as (λ b. HasRoom (engine.number + 1) (ends_in (cond b (with_session session lowered engine.sessions) (with_session session ended engine.sessions)))) [
       | true ↦ ends_room engine.number (ends_in engine.sessions) (ends_in (with_session session lowered engine.sessions)) (2 ^ 35 + 1)
-          (ends_one session lowered lowered_keeps engine.sessions (in_levels lowered lowered_ends session engine.sessions is_in)) room.0 room.1
+          (ends_by ends_of 1 session lowered lowered_keeps engine.sessions (in_levels ends_of 1 lowered lowered_ends session engine.sessions is_in)) room.0 room.1
       | false ↦ ends_room engine.number (ends_in engine.sessions) (ends_in (with_session session ended engine.sessions)) (2 ^ 35 + 1)
-          (ends_one session ended ended_keeps engine.sessions (in_levels ended ended_ends session engine.sessions is_in)) room.0 room.1
+          (ends_by ends_of 1 session ended ended_keeps engine.sessions (in_levels ends_of 1 ended ended_ends session engine.sessions is_in)) room.0 room.1
     ]
-
-rise_told : (engine : EngineState) (state : DatabaseState) → HoldsState engine state → EachTwo RisesTo engine.sessions
-rise_told engine state h =
-    subst (EachTwo RisesTo) h.sessions (each_map (λ (s : LiveSession). Unit {0}) LabelsRise RisesTo live_state (λ x y p q lt. lt) state.sessions (all_true (λ (s : LiveSession). Unit {0}) (λ s. tt) state.sessions) h.labels)
 
 number_of : (state : DatabaseState) (made : Entry) → is_lawful state made ≡ true → (has_number state.number made.kind ≡ true) × (is_lawful_kind state made.session.0 made.kind ≡ true)
 unfolding is_lawful

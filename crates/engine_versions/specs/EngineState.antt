@@ -1,5 +1,6 @@
 -- What an engine with versions holds, as contracts see it.
-use Rattle.std.specs.Prelude.{ℕ, ◌+◌, ◌^◌, ◌≤◌, Bool, false, List, [], ◌∷◌, length, Option, Some, None}
+use Rattle.std.specs.Prelude.{ℕ, ◌+◌, ◌^◌, ◌≤◌, Bool, false, List, [], length, Option, Some, None}
+use Rattle.std.specs.List.{sum_by}
 use Rattle.database_state.specs.Table.{Table}
 use Rattle.database_state.specs.State.{DatabaseState}
 use Rattle.version_cleanup.specs.LiveSessions.{LiveState, has_open, levels_of, oldest_begin}
@@ -39,8 +40,7 @@ abbrev pub ends_of : LiveState → ℕ
 ends_of session = 1 + length session.open_tables + levels_of session.transaction
 
 abbrev pub ends_in : List LiveState → ℕ
-ends_in [] = 0
-ends_in (session ∷ sessions) = ends_of session + ends_in sessions
+ends_in sessions = sum_by ends_of sessions
 
 -- The number has room for all that is to end: no more is to end than was begun, and all of it can end below 2^36. An entry
 -- that begins something comes only below 2^34, and a change up to there.

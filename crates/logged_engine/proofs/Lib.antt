@@ -1,4 +1,8 @@
+pub mod GivenUp
+pub mod Labels
+pub mod EndingCalls
 pub mod Ends
+pub mod Follows
 pub mod Numbers
 pub mod Rooms
 pub mod StepBytes

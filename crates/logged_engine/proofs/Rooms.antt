@@ -1,5 +1,7 @@
 -- Room is kept for all that is to end.
-use Rattle.std.proofs.Common.{◌≡◌, ℕ, ◌+◌, ◌-◌, ◌*◌, ◌^◌, ◌<◌, ◌≤◌, inl, inr, Bool, true, false, not, [], ◌∷◌, length, Some, refl, sym, ap, subst, ◌∙◌, arith}
+use Rattle.std.proofs.Common.{◌≡◌, ℕ, ◌+◌, ◌-◌, ◌*◌, ◌^◌, ◌<◌, ◌≤◌, inl, inr, Bool, true, false, not, cond, List, [], ◌∷◌, length, Some, refl, sym, ap, subst, ◌∙◌, arith}
+use Rattle.std.specs.Prelude.{◌==◌}
+use Rattle.std.proofs.lemmas.Bool.Decides.{nat_tests}
 use Rattle.record_changes.proofs.Tests.{impossible}
 use Rattle.jet_base.specs.declared.ids.Session.{Session}
 use Rattle.index_derive.specs.declared.log.EntryKind.{EntryKind}
@@ -7,15 +9,18 @@ use Rattle.index_derive.specs.declared.log.EntryKind.TheVariants as entry
 use Rattle.index_derive.specs.declared.log.Step.{Step}
 use Rattle.index_derive.specs.declared.log.Step.TheVariants.{One, Alone}
 use Rattle.index_derive.specs.Steps.{entries_of_step, step_length}
+use Rattle.version_cleanup.specs.LiveSessions.{LiveState}
 use Rattle.engine_versions.specs.EngineState.{EngineState}
 use Rattle.engine_versions.specs.EngineSteps.{cleaned_for, cleans_first, engine_after_step}
 use Rattle.engine_steps.specs.Steps.{may_lack_memory}
-use Rattle.entry_log.specs.LogState.{LogState, appended, stream_end}
+use Rattle.entry_log.specs.LogState.{LogState, appended, empty_stream, stream_end}
 use Rattle.log_grammar.specs.EntryBytes.{entry_bytes}
 use Rattle.log_grammar.specs.EntryStreams.{stream_bytes}
-use Rattle.loggable_steps.specs.Loggable.{is_loggable, made_by}
-use Rattle.logged_engine.specs.Ends.{begun_bytes, end_bytes, ended_bytes, ends_something}
+use Rattle.loggable_steps.specs.Loggable.{is_label, is_loggable, made_by}
+use Rattle.logged_engine.specs.Closing.{HaveLabels}
+use Rattle.logged_engine.specs.Ends.{CountsEnds, EndsState, Follows, IsCountedAnew, begun_bytes, count_of, end_bytes, ended_bytes, ends_something, open_after, open_count, session_bytes, with_count}
 use Rattle.logged_engine.specs.LoggedState.{HasRoom, MayLackMemory, logged_step_may_lack_memory}
+use Rattle.logged_engine.proofs.Follows.{open_within}
 use Rattle.logged_engine.proofs.StepBytes.{alone_size, end_appended, loggable_parts, one_size}
 use Rattle.logged_engine.proofs.Steps.{same_sessions}
 
@@ -62,51 +67,135 @@ few_begun (entry.Schema step) = omega arith
 
 -- ---- after a step
 
-enough_after : (d b e e' n n' : ℕ) → e ≤ n → d + e' ≤ e + b → n' + d ≡ n + b → e' ≤ n'
-enough_after d b e e' n n' p q r = omega (arith, p, q, r)
+-- so many bytes were enough for the step, and the bytes of all ends are no more
+no_more_ends : (d b e e' n : ℕ) → d + e' ≤ e + b → n + d ≡ e + b → e' ≤ n
+no_more_ends d b e e' n p q = omega (arith, p, q)
 
-few_after : (d b n n' number number' k : ℕ) → n ≤ 16 * number → b ≤ 13 → n' + d ≡ n + b → number' ≡ number + k → 1 ≤ k → n' ≤ 16 * number'
-few_after d b n n' number number' k p q r s t = omega (arith, p, q, r, s, t)
+few_after : (d b e e' number number' k : ℕ) → e ≤ 16 * number → b ≤ 13 → d + e' ≤ e + b → number' ≡ number + k → 1 ≤ k → e' ≤ 16 * number'
+few_after d b e e' number number' k p q r s t = omega (arith, p, q, r, s, t)
 
 short_after : (end size number number' k : ℕ) → end ≤ 2 ^ 27 * number → size ≤ 2 ^ 27 * k → number' ≡ number + k → end + size ≤ 2 ^ 27 * number'
 short_after end size number number' k p q r = omega (arith, p, q, r)
 
-pub room_after : (engine : EngineState) (old new : LogState) (ends ends' : ℕ) (step : Step) → HasRoom engine old ends → is_loggable (made_by step) ≡ true
-    → ended_bytes (made_by step).kind + end_bytes (engine_after_step engine step).sessions ≤ end_bytes engine.sessions + begun_bytes (made_by step).kind
-    → ends' + ended_bytes (made_by step).kind ≡ ends + begun_bytes (made_by step).kind
-    → new.stream ≡ appended (stream_bytes (entries_of_step (Some step))) old.stream → ends' ≤ new.room → HasRoom (engine_after_step engine step) new ends'
-room_after engine old new ends ends' step has loggable law counted stream room = record {
-  enough = enough_after (ended_bytes (made_by step).kind) (begun_bytes (made_by step).kind) (end_bytes engine.sessions) (end_bytes (engine_after_step engine step).sessions) ends ends' has.enough law counted;
-  room = room;
-  few = few_after (ended_bytes (made_by step).kind) (begun_bytes (made_by step).kind) ends ends' engine.number (engine_after_step engine step).number (step_length step) has.few (few_begun (made_by step).kind) counted (number_after engine step) (step_counts step);
-  short = subst (λ (n : ℕ). n ≤ 2 ^ 27 * (engine_after_step engine step).number) (sym (end_appended (stream_bytes (entries_of_step (Some step))) old.stream new.stream stream))
-      (short_after (stream_end old.stream) (length (stream_bytes (entries_of_step (Some step)))) engine.number (engine_after_step engine step).number (step_length step) has.short (step_short step loggable) (number_after engine step));
+-- ---- the ends as they are counted
+
+pub counted_after : (label : ℕ) (kind : EntryKind) (old new : List LiveState) (ends ends' : EndsState) (own : ℕ) → Follows label kind old new → CountsEnds old ends → own ≡ session_bytes label old
+    → IsCountedAnew label (open_after kind (count_of ends label)) ((ends.bytes + session_bytes label new) - own) ends ends' → CountsEnds new ends'
+counted_after label kind old new ends ends' own follows exact is_own told = record {
+  bytes = told.bytes_are ∙ by ends.bytes (end_bytes old) (end_bytes new) own (session_bytes label new) exact.bytes (subst (λ (n : ℕ). end_bytes new + n ≡ end_bytes old + session_bytes label new) (sym is_own) follows.sum);
+  cursors = λ other. told.cursors_are other ∙ count other;
 }
+  where
+    by : (n e e' b l : ℕ) → n ≡ e → e' + b ≡ e + l → (n + l) - b ≡ e'
+    by n e e' b l p q = omega (arith, p, q)
+
+    same : (a b : ℕ) → (a == b) ≡ true → a ≡ b
+    same a b e = grind (arith, nat_tests)
+
+    count : (other : ℕ) → with_count label (open_after kind (count_of ends label)) (count_of ends) other ≡ open_count other new
+    count other = elim (other == label) as (λ b. (other == label) ≡ b → cond b (open_after kind (count_of ends label)) (count_of ends other) ≡ open_count other new) [
+      | true ↦ λ e. ap (open_after kind) (exact.cursors label) ∙ sym follows.own ∙ ap (λ (n : ℕ). open_count n new) (sym (same other label e))
+      | false ↦ λ e. exact.cursors other ∙ sym (follows.others other e)
+    ] refl
+
+pub bytes_few : (engine : EngineState) (log : LogState) (ends : EndsState) → HasRoom engine log ends → engine.number ≤ 2 ^ 35 + 1 → ends.bytes < 2 ^ 40
+bytes_few engine log ends has few = by ends.bytes (end_bytes engine.sessions) engine.number has.exact.bytes has.few few
+  where
+    by : (b e n : ℕ) → b ≡ e → e ≤ 16 * n → n ≤ 2 ^ 35 + 1 → b < 2 ^ 40
+    by b e n p q r = omega (arith, p, q, r)
+
+pub bytes_within : (engine : EngineState) (log : LogState) (ends : EndsState) → HasRoom engine log ends → ends.bytes ≤ log.room
+bytes_within engine log ends has = subst (λ (n : ℕ). n ≤ log.room) (sym has.exact.bytes) has.room
+
+pub ends_there : (step : Step) (engine : EngineState) (log : LogState) (ends : EndsState) → HasRoom engine log ends
+    → ended_bytes (made_by step).kind + end_bytes (engine_after_step engine step).sessions ≤ end_bytes engine.sessions + begun_bytes (made_by step).kind
+    → ended_bytes (made_by step).kind ≤ ends.bytes + begun_bytes (made_by step).kind
+ends_there step engine log ends has law = by (ended_bytes (made_by step).kind) (begun_bytes (made_by step).kind) ends.bytes (end_bytes engine.sessions) (end_bytes (engine_after_step engine step).sessions) has.exact.bytes law
+  where
+    by : (d b n e e' : ℕ) → n ≡ e → d + e' ≤ e + b → d ≤ n + b
+    by d b n e e' p q = omega (arith, p, q)
+
+pub cursors_few : (label : ℕ) (engine : EngineState) (log : LogState) (ends : EndsState) → HasRoom engine log ends → engine.number ≤ 2 ^ 35 + 1 → count_of ends label < 2 ^ 40
+cursors_few label engine log ends has few = by (count_of ends label) (open_count label engine.sessions) (end_bytes engine.sessions) engine.number (has.exact.cursors label) (open_within label engine.sessions) has.few few
+  where
+    by : (c o e n : ℕ) → c ≡ o → o ≤ e → e ≤ 16 * n → n ≤ 2 ^ 35 + 1 → c < 2 ^ 40
+    by c o e n p q r s = omega (arith, p, q, r, s)
+
+pub own_open : (label : ℕ) (kind : EntryKind) (engine : EngineState) (new : List LiveState) (log : LogState) (ends : EndsState) → HasRoom engine log ends → Follows label kind engine.sessions new → open_after kind (count_of ends label) ≡ open_count label new
+own_open label kind engine new log ends has follows = ap (open_after kind) (has.exact.cursors label) ∙ sym follows.own
+
+pub own_within : (label : ℕ) (kind : EntryKind) (engine : EngineState) (new : List LiveState) (log : LogState) (ends : EndsState) (own : ℕ) → HasRoom engine log ends → Follows label kind engine.sessions new → own ≡ session_bytes label engine.sessions → own ≤ ends.bytes + session_bytes label new
+own_within label kind engine new log ends own has follows is_own =
+    by own (session_bytes label engine.sessions) ends.bytes (end_bytes engine.sessions) (end_bytes new) (session_bytes label new) is_own has.exact.bytes follows.sum
+  where
+    by : (o s b e e' s' : ℕ) → o ≡ s → b ≡ e → e' + s ≡ e + s' → o ≤ b + s'
+    by o s b e e' s' p q r = omega (arith, p, q, r)
+
+-- ---- room after a step
+
+pub room_after : (engine : EngineState) (old new : LogState) (ends : EndsState) (enough : ℕ) (ends' : EndsState) (step : Step) → HasRoom engine old ends → is_loggable (made_by step) ≡ true → is_label (made_by step).session.0 ≡ true
+    → ended_bytes (made_by step).kind + end_bytes (engine_after_step engine step).sessions ≤ end_bytes engine.sessions + begun_bytes (made_by step).kind
+    → Follows (made_by step).session.0 (made_by step).kind engine.sessions (engine_after_step engine step).sessions
+    → enough + ended_bytes (made_by step).kind ≡ ends.bytes + begun_bytes (made_by step).kind
+    → new.stream ≡ appended (stream_bytes (entries_of_step (Some step))) old.stream → enough ≤ new.room → CountsEnds (engine_after_step engine step).sessions ends' → HasRoom (engine_after_step engine step) new ends'
+room_after engine old new ends enough ends' step has loggable label law follows counted stream room exact =
+    let counted_now : enough + ended_bytes (made_by step).kind ≡ end_bytes engine.sessions + begun_bytes (made_by step).kind = subst (λ (n : ℕ). enough + ended_bytes (made_by step).kind ≡ n + begun_bytes (made_by step).kind) has.exact.bytes counted in
+    record {
+      exact = exact;
+      labels = follows.labels has.labels label;
+      room = within (end_bytes (engine_after_step engine step).sessions) enough new.room (no_more_ends (ended_bytes (made_by step).kind) (begun_bytes (made_by step).kind) (end_bytes engine.sessions) (end_bytes (engine_after_step engine step).sessions) enough law counted_now) room;
+      few = few_after (ended_bytes (made_by step).kind) (begun_bytes (made_by step).kind) (end_bytes engine.sessions) (end_bytes (engine_after_step engine step).sessions) engine.number (engine_after_step engine step).number (step_length step) has.few (few_begun (made_by step).kind) law (number_after engine step) (step_counts step);
+      short = subst (λ (n : ℕ). n ≤ 2 ^ 27 * (engine_after_step engine step).number) (sym (end_appended (stream_bytes (entries_of_step (Some step))) old.stream new.stream stream))
+          (short_after (stream_end old.stream) (length (stream_bytes (entries_of_step (Some step)))) engine.number (engine_after_step engine step).number (step_length step) has.short (step_short step loggable) (number_after engine step));
+    }
+  where
+    within : (a b c : ℕ) → a ≤ b → b ≤ c → a ≤ c
+    within a b c p q = omega (arith, p, q)
+
+pub room_counted : (engine made : EngineState) (old new : LogState) (ends ends' : EndsState) (enough own : ℕ) (step : Step) → HasRoom engine old ends → is_loggable (made_by step) ≡ true → is_label (made_by step).session.0 ≡ true
+    → ended_bytes (made_by step).kind + end_bytes (engine_after_step engine step).sessions ≤ end_bytes engine.sessions + begun_bytes (made_by step).kind
+    → Follows (made_by step).session.0 (made_by step).kind engine.sessions (engine_after_step engine step).sessions
+    → own ≡ session_bytes (made_by step).session.0 engine.sessions → enough + ended_bytes (made_by step).kind ≡ ends.bytes + begun_bytes (made_by step).kind
+    → made ≡ engine_after_step engine step → new.stream ≡ appended (stream_bytes (entries_of_step (Some step))) old.stream → enough ≤ new.room
+    → IsCountedAnew (made_by step).session.0 (open_after (made_by step).kind (count_of ends (made_by step).session.0)) ((ends.bytes + session_bytes (made_by step).session.0 made.sessions) - own) ends ends' → HasRoom made new ends'
+room_counted engine made old new ends ends' enough own step has loggable label law follows is_own counted is_made stream room told =
+    let after = engine_after_step engine step in
+    let by = made_by step in
+    let told_after = subst (λ (e : EngineState). IsCountedAnew by.session.0 (open_after by.kind (count_of ends by.session.0)) ((ends.bytes + session_bytes by.session.0 e.sessions) - own) ends ends') is_made told in
+    subst (λ (e : EngineState). HasRoom e new ends') (sym is_made)
+    (room_after engine old new ends enough ends' step has loggable label law follows counted stream room
+    (counted_after by.session.0 by.kind engine.sessions after.sessions ends ends' own follows has.exact is_own told_after))
 
 -- ---- after want of memory
 
-pub room_cleaned : (cleans : Bool) (engine : EngineState) (old new : LogState) (ends : ℕ) → HasRoom engine old ends → new.stream ≡ old.stream → old.room ≤ new.room → HasRoom (cleaned_for cleans engine) new ends
+cleaned_sessions : (b : Bool) (engine : EngineState) → (cleaned_for b engine).sessions ≡ engine.sessions
+cleaned_sessions true engine = refl
+cleaned_sessions false engine = refl
+
+pub room_cleaned : (cleans : Bool) (engine : EngineState) (old new : LogState) (ends : EndsState) → HasRoom engine old ends → new.stream ≡ old.stream → old.room ≤ new.room → HasRoom (cleaned_for cleans engine) new ends
 room_cleaned cleans engine old new ends has stream room = record {
-  enough = subst (λ (n : ℕ). n ≤ ends) (sym (same_sessions cleans engine)) has.enough;
-  room = by ends old.room new.room has.room room;
-  few = subst (λ (n : ℕ). ends ≤ 16 * n) (sym (same_number cleans engine)) has.few;
+  exact = subst (λ (sessions : List LiveState). CountsEnds sessions ends) (sym (cleaned_sessions cleans engine)) has.exact;
+  labels = subst HaveLabels (sym (cleaned_sessions cleans engine)) has.labels;
+  room = subst (λ (n : ℕ). n ≤ new.room) (sym (same_sessions cleans engine)) (by (end_bytes engine.sessions) old.room new.room has.room room);
+  few = subst (λ (n : ℕ). n ≤ 16 * (cleaned_for cleans engine).number) (sym (same_sessions cleans engine)) (subst (λ (n : ℕ). end_bytes engine.sessions ≤ 16 * n) (sym (same_number cleans engine)) has.few);
   short = subst (λ (n : ℕ). stream_end new.stream ≤ 2 ^ 27 * n) (sym (same_number cleans engine)) (subst (λ (s : ℕ). s ≤ 2 ^ 27 * engine.number) (sym (ap stream_end stream)) has.short);
 }
   where
     by : (a b c : ℕ) → a ≤ b → b ≤ c → a ≤ c
     by a b c p q = omega (arith, p, q)
 
--- less is kept where less is enough
-pub room_lowered : (engine : EngineState) (log : LogState) (ends less : ℕ) → HasRoom engine log ends → end_bytes engine.sessions ≤ less → less ≤ ends → HasRoom engine log less
-room_lowered engine log ends less has enough le = record {
-  enough = enough;
-  room = by less ends log.room le has.room;
-  few = by less ends (16 * engine.number) le has.few;
-  short = has.short;
+-- where no session is live
+pub room_closed : (engine : EngineState) (log : LogState) (ends : EndsState) → engine.sessions ≡ [] → log.stream ≡ empty_stream → CountsEnds [] ends → HasRoom engine log ends
+room_closed engine log ends none stream told = record {
+  exact = subst (λ (sessions : List LiveState). CountsEnds sessions ends) (sym none) told;
+  labels = subst HaveLabels (sym none) tt;
+  room = nothing (end_bytes engine.sessions) log.room (ap end_bytes none);
+  few = nothing (end_bytes engine.sessions) (16 * engine.number) (ap end_bytes none);
+  short = nothing (stream_end log.stream) (2 ^ 27 * engine.number) (ap stream_end stream);
 }
   where
-    by : (a b c : ℕ) → a ≤ b → b ≤ c → a ≤ c
-    by a b c p q = omega (arith, p, q)
+    nothing : (a b : ℕ) → a ≡ 0 → a ≤ b
+    nothing a b e = omega (arith, e)
 
 -- ---- what ends something
 

@@ -6,18 +6,21 @@ use Rattle.engine_versions.specs.EngineState.{EngineState}
 use Rattle.engine_versions.specs.EngineSteps.{cleaned_for}
 use Rattle.engine_steps.specs.Steps.{step_may_lack_memory}
 use Rattle.entry_log.specs.LogState.{KeptStream, LogState, stream_end}
-use Rattle.logged_engine.specs.Ends.{end_bytes, ends_something}
+use Rattle.logged_engine.specs.Closing.{HaveLabels}
+use Rattle.logged_engine.specs.Ends.{CountsEnds, EndsState, end_bytes, ends_something}
 
 -- What the engine holds, and what is kept of the bytes of the entries that it has made since its log began.
 pub record LoggedState : Type 0 where
   pub engine : EngineState
   pub stream : KeptStream
 
--- Room is kept for the bytes of all that is to end. No entry has more than 2^27 bytes, so that positions stay far below 2^64.
-pub record HasRoom (engine : EngineState) (log : LogState) (ends : ℕ) : Type 0 where
-  pub enough : end_bytes engine.sessions ≤ ends
-  pub room : ends ≤ log.room
-  pub few : ends ≤ 16 * engine.number
+-- Room is kept for the bytes of all that is to end, and it is known how many these are. No entry has more than 2^27 bytes, so
+-- that positions stay far below 2^64.
+pub record HasRoom (engine : EngineState) (log : LogState) (ends : EndsState) : Type 0 where
+  pub exact : CountsEnds engine.sessions ends
+  pub labels : HaveLabels engine.sessions
+  pub room : end_bytes engine.sessions ≤ log.room
+  pub few : end_bytes engine.sessions ≤ 16 * engine.number
   pub short : stream_end log.stream ≤ 2 ^ 27 * engine.number
 
 -- A clean may have been made.

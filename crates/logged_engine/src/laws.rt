@@ -1,17 +1,20 @@
 //! Laws of what is to end, and of how many entries there are. The functions do nothing: their contracts are the laws.
 
 ghost use Rattle.std.specs.Prelude.{◌≡◌, ◌+◌, ◌^◌, ◌≤◌, [], ℕ, Bool, true, max};
+ghost use Rattle.jet_base.specs.declared.ids.CursorId.{CursorId};
 ghost use Rattle.index_derive.specs.declared.log.Entry.{Entry};
 ghost use Rattle.index_derive.specs.declared.log.Step.{Step};
 ghost use Rattle.database_state.specs.State.{DatabaseState};
 ghost use Rattle.database_state.specs.Lawful.{is_lawful};
+ghost use Rattle.session_local.specs.declared.request.Request.TheVariants as call;
 ghost use Rattle.engine_versions.specs.EngineState.{EngineState, HasRoomForEnds};
 ghost use Rattle.engine_versions.specs.EngineSteps.{cleaned_for, engine_after, engine_after_step};
 ghost use Rattle.engine_versions.specs.HoldsState.{HoldsState};
 ghost use Rattle.engine_steps.specs.Steps.{MayTake};
 ghost use Rattle.loggable_steps.specs.Loggable.{made_by};
 ghost use Rattle.logged_engine.specs.Bounds.{IsBounded};
-ghost use Rattle.logged_engine.specs.Ends.{begun_bytes, end_bytes, ended_bytes};
+ghost use Rattle.logged_engine.specs.EndingCalls.{TakesNoMemory};
+ghost use Rattle.logged_engine.specs.Ends.{Follows, begun_bytes, end_bytes, ended_bytes};
 
 use engine_versions::{
     a_clean_leaves_the_state, a_lawful_entry_makes_the_next_state, ends_always_find_room,
@@ -29,6 +32,24 @@ pub fn what_is_begun_keeps_the_bytes_of_its_end()
     a_lawful_entry_makes_the_next_state();
     a_clean_leaves_the_state();
 }
+
+/// A step leaves the cursors of all other sessions open, and what these are to end.
+pub(crate) fn ends_follow_their_steps()
+    ensures { (engine : EngineState) (step : Step) → MayTake engine step → Follows (made_by step).session.0 (made_by step).kind engine.sessions (engine_after_step engine step).sessions }
+{
+    a_lawful_entry_makes_the_next_state();
+    a_clean_leaves_the_state();
+}
+
+/// `CommitTransaction`, `Rollback`, `EndSession` and `CloseTable` take no memory: they are decided without any, and so is their
+/// step made and logged by [`LoggedEngine::apply`](crate::LoggedEngine::apply), since room for its entry is kept from the begin
+/// on.
+pub fn ends_take_no_memory()
+    ensures commit_transaction { (lazy : Bool) → TakesNoMemory (call.CommitTransaction lazy) }
+    ensures rollback { (all : Bool) → TakesNoMemory (call.Rollback all) }
+    ensures end_session { TakesNoMemory call.EndSession }
+    ensures close_table { (cursor : CursorId) → TakesNoMemory (call.CloseTable cursor) }
+{}
 
 /// The number of an engine's log is at most that of its opening or 2^35 + 1, so that the entries of one run are far less than
 /// 2^62. An engine without sessions is an opening, at any number; from there each step that may be taken finds room for all that

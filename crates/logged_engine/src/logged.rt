@@ -6,7 +6,7 @@ ghost use Rattle.database_state.specs.State.{DatabaseState};
 ghost use Rattle.session_local.specs.LocalCalls.{is_answered_locally};
 ghost use Rattle.session_local.specs.Run.{takes_no_memory};
 ghost use Rattle.built_calls.specs.BuiltCalls.{is_built_request};
-ghost use Rattle.engine_versions.specs.EngineState.{HasRoomForEnds, cleaned};
+ghost use Rattle.engine_versions.specs.EngineState.{HasRoomForEnds, cleaned, engine_of};
 ghost use Rattle.engine_versions.specs.EngineSteps.{engine_after_step};
 ghost use Rattle.engine_versions.specs.HoldsState.{HoldsState};
 ghost use Rattle.engine_parts.specs.Deciding.{Decides, IsBeside, IsDecision};
@@ -15,10 +15,13 @@ ghost use Rattle.engine_steps.specs.Steps.{MayTake};
 ghost use Rattle.log_grammar.specs.EntryStreams.{stream_bytes};
 ghost use Rattle.entry_log.specs.LogState.{appended, bytes_from, empty_stream, stream_end, trimmed_to};
 ghost use Rattle.loggable_steps.specs.Loggable.{is_label, is_loggable, made_by};
+ghost use Rattle.loggable_steps.specs.Replays.{closed, opened_state};
 ghost use Rattle.logged_engine.specs.Ends.{end_bytes};
 ghost use Rattle.logged_engine.specs.LoggedState.{MayBeCleaned, MayLackMemory, logged_step_may_lack_memory};
 
-use crate::laws::what_is_begun_keeps_the_bytes_of_its_end;
+use crate::closing::{give_up_all, new_log};
+use crate::counting::{Ends, count_anew, own_bytes};
+use crate::laws::{ends_follow_their_steps, what_is_begun_keeps_the_bytes_of_its_end};
 use crate::types::the_step_can_be_logged;
 use crate::writing::{ends_after, step_size, write};
 use engine_core::Engine;
@@ -26,6 +29,9 @@ use engine_versions::ends_always_find_room;
 use entry_log::EntryLog;
 use index_derive::Step;
 use jet_base::OutOfMemory;
+use loggable_steps::{
+    a_closed_state_is_held_by_its_tables, an_engine_without_sessions_tells_its_state,
+};
 use session_local::{Decision, Local, Request};
 use std::alloc::Global;
 use std::marker::Model;
@@ -35,8 +41,8 @@ use std::marker::Model;
 pub struct LoggedEngine {
     engine: Engine,
     log: EntryLog,
-    /// The room that is kept for the entries that end what is begun, in bytes.
-    ends: usize,
+    /// What is to end. The log has room for its entries.
+    ends: Ends,
 }
 
 impl Model for LoggedEngine {
@@ -61,7 +67,7 @@ impl LoggedEngine {
         LoggedEngine {
             engine,
             log: EntryLog::new(alloc),
-            ends: 0,
+            ends: Ends::none(),
         }
     }
 
@@ -164,17 +170,41 @@ impl LoggedEngine {
         ensures loggable { is_loggable (made_by step.now) ≡ true }
     {
         what_is_begun_keeps_the_bytes_of_its_end();
+        ends_follow_their_steps();
         ends_always_find_room();
         the_step_can_be_logged(&self.engine, step);
-        let ends = ends_after(self.ends, step);
+        let own = own_bytes(&self.ends, &self.engine, step);
+        let ends = ends_after(self.ends.bytes(), step);
         match make(&mut self.engine, &mut self.log, step, ends) {
             Ok(()) => {
-                let kept = kept_for(&self.engine, ends);
-                self.ends = kept;
+                count_anew(&mut self.ends, &self.engine, step, own);
                 Ok(())
             }
             Err(fault) => Err(fault),
         }
+    }
+
+    /// The room that is kept for the entries that end all that is begun, in bytes: just what these entries have.
+    pub fn room_for_ends(&self) -> usize
+        ensures { result ≡ end_bytes self.now.engine.sessions }
+    {
+        self.ends.bytes()
+    }
+
+    /// Gives up all sessions with their open transactions, writes no entry, and begins a log anew at position 0. What is left
+    /// is the engine of the committed tables and the numbers that were given. It takes no memory.
+    pub fn close(&mut self)
+        requires held { (state : DatabaseState) × HoldsState self.old.engine state }
+        ensures engine { (state : DatabaseState) → HoldsState self.old.engine state → self.new.engine ≡ engine_of self.old.engine.limit (closed state) }
+        ensures state { (state : DatabaseState) → HoldsState self.old.engine state → opened_state self.new.engine ≡ closed state }
+        ensures holds { (state : DatabaseState) → HoldsState self.old.engine state → HoldsState self.new.engine (closed state) }
+        ensures stream { self.new.stream ≡ empty_stream }
+    {
+        an_engine_without_sessions_tells_its_state();
+        a_closed_state_is_held_by_its_tables();
+        give_up_all(&mut self.engine);
+        self.log = new_log(&self.engine);
+        self.ends = Ends::none();
     }
 }
 
@@ -207,18 +237,5 @@ fn make(
             Err(fault) => Err(fault),
         },
         Err(fault) => Err(fault),
-    }
-}
-
-/// The room to keep where so much is enough: none once no session is live.
-fn kept_for(engine: &Engine, ends: usize) -> usize
-    requires { end_bytes engine.now.sessions ≤ ends }
-    ensures enough { end_bytes engine.now.sessions ≤ result }
-    ensures few { result ≤ ends }
-{
-    if engine.sessions().is_empty() {
-        0
-    } else {
-        ends
     }
 }

@@ -15,13 +15,13 @@ use jet_base::Session;
 use log_record::entry_size;
 
 /// The bytes of an entry without fields.
-const PLAIN_BYTES: usize = 9;
+pub(crate) const PLAIN_BYTES: usize = 9;
 
 /// The bytes of an entry that has a table alone.
-const TABLE_BYTES: usize = 13;
+pub(crate) const TABLE_BYTES: usize = 13;
 
 /// The entry of a step that is not its begin or its commit.
-fn made_by(step: &Step) -> &Entry
+pub(crate) fn made_by(step: &Step) -> &Entry
     ensures { result.now ≡ made_by step.now }
 {
     match step {
@@ -113,7 +113,7 @@ fn ended_bytes(kind: &EntryKind) -> usize
     }
 }
 
-/// The room for all ends once a step is made.
+/// Room that is enough for all ends once a step is made.
 pub(crate) fn ends_after(ends: usize, step: &Step) -> usize
     requires few { ends < 2 ^ 40 }
     requires there { ended_bytes (made_by step.now).kind ≤ ends + begun_bytes (made_by step.now).kind }

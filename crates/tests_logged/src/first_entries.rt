@@ -4,10 +4,14 @@ ghost use Rattle.std.specs.Prelude.{◌≡◌};
 ghost use Rattle.jet_base.specs.Ids.{session_id};
 ghost use Rattle.index_derive.specs.declared.log.EntryKind.TheVariants.{Enter};
 ghost use Rattle.index_derive.specs.declared.log.Step.TheVariants.{One};
+ghost use Rattle.database_state.specs.State.{DatabaseState};
 ghost use Rattle.engine_versions.specs.EngineState.{empty_engine};
+ghost use Rattle.engine_versions.specs.HoldsState.{HoldsState};
 
 use engine_core::Engine;
-use engine_versions::an_empty_engine_holds_the_empty_state;
+use engine_versions::{
+    a_lawful_step_makes_the_next_state, an_empty_engine_holds_the_empty_state,
+};
 use index_derive::{Entry, EntryKind, Step};
 use jet_base::Session;
 use logged_engine::{LoggedEngine, has_label};
@@ -33,8 +37,11 @@ fn empty(alloc: Global) -> LoggedEngine
 }
 
 /// Session 1 begins in an empty engine.
-fn entered(rt: &impl Abort, alloc: Global) -> LoggedEngine {
+fn entered(rt: &impl Abort, alloc: Global) -> LoggedEngine
+    ensures { (state : DatabaseState) × HoldsState result.engine state }
+{
     an_empty_engine_holds_the_empty_state();
+    a_lawful_step_makes_the_next_state();
     let mut engine = empty(alloc);
     let step = enter();
     assert!(rt; has_label(&step));
@@ -58,4 +65,13 @@ fn the_first_entry_stands_in_the_log(rt: HostRuntime) {
     assert!(&rt; 5 <= engine.stream_end());
     engine.trim(5);
     assert!(&rt; is_pending(&rt, &engine, 5, &[1, 0, 0, 0]));
+}
+
+#[test]
+fn a_closed_engine_has_no_session_and_begins_its_log_anew(rt: HostRuntime) {
+    let mut engine = entered(&rt, rt.alloc());
+    assert!(&rt; engine.room_for_ends() == 9);
+    engine.close();
+    assert!(&rt; engine.engine().sessions().is_empty());
+    assert!(&rt; engine.number() == 1 && engine.stream_end() == 0 && engine.room_for_ends() == 0);
 }

@@ -1,0 +1,23 @@
+use Rattle.std.proofs.Common.{◌≡◌, sym, ap, subst, ◌∙◌}
+use Rattle.database_state.specs.State.{DatabaseState}
+use Rattle.engine_versions.specs.EngineState.{EngineState, engine_of}
+use Rattle.engine_versions.specs.HoldsState.{HoldsState}
+use Rattle.loggable_steps.specs.Replays.{closed, opened_state}
+use Rattle.logged_engine.specs.LoggedState.{LoggedState}
+use Rattle.logged_engine.proofs.Rooms.{room_closed}
+use Rattle.logged_engine.proofs.logged.LoggedEngine.close.Goals as goal
+
+pub invariant_of-self : goal.invariant_of-self
+invariant_of-self c =
+    let held = subst (λ (s : LoggedState). HoldsState s.engine c.requires.held.0) (sym c.self.view_is) c.requires.held.1 in
+    room_closed c.give_up_all.new.engine c.new_log.result c.none-self-inside.result (ap (λ (e : EngineState). e.sessions) (c.give_up_all.ensures c.requires.held.0 held)) c.new_log.ensures c.none-self-inside.ensures
+
+pub returns-clause-engine : goal.returns-clause-engine
+returns-clause-engine c = λ state h.
+    c.give_up_all.ensures state (subst (λ (s : LoggedState). HoldsState s.engine state) (sym c.self.view_is) h)
+    ∙ ap (λ (s : LoggedState). engine_of s.engine.limit (closed state)) c.self.view_is
+
+pub returns-clause-state : goal.returns-clause-state
+returns-clause-state c = λ state h.
+    ap opened_state (c.give_up_all.ensures state (subst (λ (s : LoggedState). HoldsState s.engine state) (sym c.self.view_is) h))
+    ∙ c.an_engine_without_sessions_tells_its_state.ensures.opened c.self.inside.engine.limit state
