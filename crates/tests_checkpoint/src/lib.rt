@@ -3,10 +3,9 @@
 
 #[cfg(test)]
 mod checkpoints;
+#[cfg(test)]
 mod images;
 #[cfg(test)]
 mod readings;
+#[cfg(test)]
 mod reopening;
-
-pub use images::{image_of, pages_of};
-pub use reopening::{Reopened, reopen};

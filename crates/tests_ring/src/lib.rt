@@ -9,6 +9,5 @@ mod counting;
 mod crashes;
 #[cfg(test)]
 mod hostile;
+#[cfg(test)]
 mod reopening;
-
-pub use reopening::{Reopened, open, reopen};

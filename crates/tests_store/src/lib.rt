@@ -1,6 +1,7 @@
 //! Tests of stores: volumes that are opened, written, crashed and opened again.
 #![tactic(auto)]
 
+#[cfg(test)]
 mod reopening;
 #[cfg(test)]
 mod rounds;
@@ -8,5 +9,3 @@ mod rounds;
 mod stops;
 #[cfg(test)]
 mod stores;
-
-pub use reopening::{Reopened, reopen};

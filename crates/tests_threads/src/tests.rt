@@ -1,4 +1,4 @@
-use crate::{two_in_threads, two_in_turns};
+use crate::run::{two_in_threads, two_in_turns};
 use jet_base::Session;
 use std::process::Abort;
 use std::test::*;
