@@ -11,6 +11,5 @@ mod naming;
 mod run;
 #[cfg(test)]
 mod store;
-
 #[cfg(test)]
 mod tests;
