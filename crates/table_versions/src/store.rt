@@ -75,6 +75,13 @@ impl TableVersions {
         self.catalog.greatest()
     }
 
+    /// The number of the log entry of the newest put, 0 where there was none. A put is of a later entry.
+    pub fn newest_put(&self) -> u64
+        ensures { result ≡ self.now.newest_put }
+    {
+        self.newest_put
+    }
+
     /// The catalog: the greatest number that a table was ever given, and the tables without their records.
     pub fn catalog(&self) -> &Catalog
         ensures { result.now ≡ record { greatest_table = self.now.greatest_table; tables = map without_rows self.now.store.tables } }
