@@ -61,7 +61,12 @@ fn has_value(row: &ShownRow<'_>, room: &mut [u8], bytes: &[u8]) -> bool {
 }
 
 /// Whether this is the record of a row of the model: with its value, or none.
-fn is_row(rt: &impl Abort, alloc: Global, found: Option<ShownRow<'_>>, named: Option<Named>) -> bool {
+fn is_row(
+    rt: &impl Abort,
+    alloc: Global,
+    found: Option<ShownRow<'_>>,
+    named: Option<Named>,
+) -> bool {
     match found {
         Some(row) => match named {
             Some(named) => {

@@ -178,7 +178,13 @@ impl Model {
     }
 
     /// A record is put, or goes.
-    pub fn change(&mut self, rt: &impl Abort, transaction: Transaction, key: u8, value: Option<Named>) {
+    pub fn change(
+        &mut self,
+        rt: &impl Abort,
+        transaction: Transaction,
+        key: u8,
+        value: Option<Named>,
+    ) {
         let past = Past {
             session: transaction.session,
             level: transaction.level,
@@ -221,7 +227,8 @@ impl Model {
 
     /// The transaction of a session ends.
     pub fn end(&mut self, session: u32) {
-        self.transactions.retain(|transaction| transaction.session != session);
+        self.transactions
+            .retain(|transaction| transaction.session != session);
     }
 
     /// The changes at a level are undone, the newest first.

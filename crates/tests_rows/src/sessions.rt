@@ -83,7 +83,8 @@ impl Both {
 
     fn save(&mut self, rt: &impl Abort, transaction: Transaction) {
         assert!(rt; transaction.level < 7);
-        self.model.set_level(transaction.session, transaction.level + 1);
+        self.model
+            .set_level(transaction.session, transaction.level + 1);
     }
 
     // Who makes a change.
@@ -98,7 +99,14 @@ impl Both {
         }
     }
 
-    fn put(&mut self, rt: &impl Abort, transaction: Transaction, key: u8, copied: Option<u8>, fill: u8) {
+    fn put(
+        &mut self,
+        rt: &impl Abort,
+        transaction: Transaction,
+        key: u8,
+        copied: Option<u8>,
+        fill: u8,
+    ) {
         let by = self.by(transaction);
         let named = self.model.named(transaction, key, copied, fill);
         put_record(rt, self.alloc, &mut self.tables, by, key, copied, fill);
@@ -113,20 +121,24 @@ impl Both {
 
     fn release(&mut self, rt: &impl Abort, transaction: Transaction) {
         assert!(rt; transaction.level >= 2);
-        self.tables.release(Session(transaction.session), transaction.level);
+        self.tables
+            .release(Session(transaction.session), transaction.level);
         self.model.release(transaction.session, transaction.level);
     }
 
     fn commit(&mut self, transaction: Transaction) {
-        self.tables.commit(Session(transaction.session), self.model.number);
+        self.tables
+            .commit(Session(transaction.session), self.model.number);
         self.model.commit(transaction.session);
     }
 
     fn rollback(&mut self, rt: &impl Abort, transaction: Transaction) {
-        self.tables.undo_level(Session(transaction.session), transaction.level);
+        self.tables
+            .undo_level(Session(transaction.session), transaction.level);
         self.model.undo(rt, transaction.session, transaction.level);
         if transaction.level > 1 {
-            self.model.set_level(transaction.session, transaction.level - 1);
+            self.model
+                .set_level(transaction.session, transaction.level - 1);
         } else {
             self.model.end(transaction.session);
         }
@@ -262,7 +274,13 @@ fn a_rollback_gives_references_back(rt: HostRuntime) {
 }
 
 /// What is left goes.
-static GONE: &[Act] = &[Act::Begin, Act::Delete(1), Act::Delete(2), Act::Commit, Act::Clean];
+static GONE: &[Act] = &[
+    Act::Begin,
+    Act::Delete(1),
+    Act::Delete(2),
+    Act::Commit,
+    Act::Clean,
+];
 
 #[test]
 fn the_last_reference_takes_the_value_with_it(rt: HostRuntime) {
