@@ -2,7 +2,7 @@
 
 use crate::model::{Model, Named, Transaction};
 use crate::tables::{COLUMN, TABLE, bookmark_of};
-use crate::values::{LONGEST, bytes_of};
+use crate::values::{LONGEST, begins_with, size_of};
 use column_set::Values;
 use jet_base::Session;
 use kept_rows::ShownRow;
@@ -43,36 +43,28 @@ fn compare_counts(rt: &impl Abort, trees: &TableTrees, model: &Model) {
 }
 
 /// Whether a record has this value: whole where it is read, and its first bytes in place.
-fn has_value(row: &ShownRow<'_>, room: &mut [u8], bytes: &[u8]) -> bool {
+fn has_value(row: &ShownRow<'_>, room: &mut [u8], fill: u8) -> bool {
     let front = match row.value(COLUMN, 0) {
-        Some(front) => front == &bytes[..bytes.len().min(FIRST_BYTES)],
+        Some(front) => { front.len() == size_of(fill).min(FIRST_BYTES) && begins_with(fill, front) }
         None => false,
     };
     match row.read(COLUMN, 0, room) {
         Some((read, size)) => {
-            front
-                && size == bytes.len()
-                && read == size
-                && read <= room.len()
-                && room[..read] == bytes[..read]
+            read <= room.len()
+                && begins_with(fill, &room[..read])
+                && read == size_of(fill)
+                && size == read
+                && front
         }
         None => false,
     }
 }
 
 /// Whether this is the record of a row of the model: with its value, or none.
-fn is_row(
-    rt: &impl Abort,
-    alloc: Global,
-    found: Option<ShownRow<'_>>,
-    named: Option<Named>,
-) -> bool {
+fn is_row(found: Option<ShownRow<'_>>, room: &mut [u8], named: Option<Named>) -> bool {
     match found {
         Some(row) => match named {
-            Some(named) => {
-                let mut room = vec![in alloc; 0u8; LONGEST].expect(rt, "memory");
-                has_value(&row, &mut room, &bytes_of(rt, alloc, named.fill))
-            }
+            Some(named) => has_value(&row, room, named.fill),
             None => false,
         },
         None => named.is_none(),
@@ -80,36 +72,52 @@ fn is_row(
 }
 
 /// Compares the newest record under a key.
-fn compare_newest(rt: &impl Abort, alloc: Global, tables: &TableVersions, model: &Model, key: u8) {
-    let bookmark = bookmark_of(rt, alloc, key);
-    let found = tables.newest(TABLE, bookmark.as_bytes());
-    assert!(rt; is_row(rt, alloc, found, model.newest(key)));
+fn compare_newest(
+    rt: &impl Abort,
+    tables: &TableVersions,
+    model: &Model,
+    key: u8,
+    bookmark: &[u8],
+    room: &mut [u8],
+) {
+    let found = tables.newest(TABLE, bookmark);
+    assert!(rt; is_row(found, room, model.newest(key)));
 }
 
 /// Compares what a session in a transaction reads under a key.
 fn compare_seen(
     rt: &impl Abort,
-    alloc: Global,
     tables: &TableVersions,
     model: &Model,
     transaction: Transaction,
     key: u8,
+    bookmark: &[u8],
+    room: &mut [u8],
 ) {
     let reader = Reader {
         session: Session(transaction.session),
         begin: Some(transaction.begin),
     };
-    let bookmark = bookmark_of(rt, alloc, key);
-    let found = tables.look_up(TABLE, bookmark.as_bytes(), reader);
+    let found = tables.look_up(TABLE, bookmark, reader);
     let named = model.seen(key, transaction.session, transaction.begin);
-    assert!(rt; is_row(rt, alloc, found, named));
+    assert!(rt; is_row(found, room, named));
 }
 
 /// Compares what stands under a key, and what each session in a transaction reads there.
 fn compare_key(rt: &impl Abort, alloc: Global, tables: &TableVersions, model: &Model, key: u8) {
-    compare_newest(rt, alloc, tables, model, key);
+    let bookmark = bookmark_of(rt, alloc, key);
+    let mut room = vec![in alloc; 0u8; LONGEST].expect(rt, "memory");
+    compare_newest(rt, tables, model, key, bookmark.as_bytes(), &mut room);
     for transaction in model.transactions() {
-        compare_seen(rt, alloc, tables, model, *transaction, key);
+        compare_seen(
+            rt,
+            tables,
+            model,
+            *transaction,
+            key,
+            bookmark.as_bytes(),
+            &mut room,
+        );
     }
 }
 

@@ -7,7 +7,7 @@ use std::process::Abort;
 use std::test::*;
 
 /// How many steps are drawn.
-const STEPS: u32 = 300;
+const STEPS: u32 = 150;
 
 /// What a session in a transaction does, by a number.
 fn drawn(seed: u32) -> Act {

@@ -198,7 +198,10 @@ pub fn meets_conflict(
 
 /// Forgets the oldest change, where one may be forgotten, and says whether it did.
 pub fn forget_oldest(tables: &mut TableVersions, oldest: Option<u64>) -> bool {
-    if tables.next_to_forget(oldest).is_none() || tables.held() == 0 {
+    if tables.next_to_forget(oldest).is_none() {
+        return false;
+    }
+    if tables.held() == 0 {
         return false;
     }
     tables.forget();
