@@ -138,4 +138,3 @@ returns-in-Some-clause-put c =
     subst (λ (r : RowFields). IsPut c.args.table.0 c.args.bookmark.now (row_bytes (kept_row (put_found c.args.by.number c.args.trees.now.tables c.args.table.0 c.args.bookmark.now (option_copied c.args.copied)) c.args.values.now)) (given_values r c.args.values.now) (record_keys c.args.schema.now.indexes c.args.schema.now c.args.values.now) c.args.trees.now.tables c.put_over.new.trees.tables) kept.read
     (subst (λ (row : List ℕ). IsPut c.args.table.0 c.args.bookmark.now row (given_values (row_in c.as_slice-bytes.result.now) c.args.values.now) (record_keys c.args.schema.now.indexes c.args.schema.now c.args.values.now) c.args.trees.now.tables c.put_over.new.trees.tables)
     (c.as_slice-bytes.ensures.value ∙ c.in-Ok.ensures.row) put))
-
