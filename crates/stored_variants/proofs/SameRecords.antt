@@ -162,14 +162,17 @@ newest_moved longs one other same (t ∷ tables) = λ i. record t { rows = rows_
 
 changes_moved : (longs : TableValues) (one other : List StoredTable) → HaveSameNodes one other → (tables : List Table) (held : List HeldChange) → AllByRecursion (IsKeptChange longs tables one) held → AllByRecursion (IsKeptChange longs tables other) held
 changes_moved longs one other same tables [] kept = tt
-changes_moved longs one other same tables (h ∷ held) kept = (record {
-  named = kept.0.named;
-  before = kept.0.before;
-  drop = kept.0.drop;
-  room = λ still. subst (λ (nodes : List Node). IfSome h.before (λ row. IsSomeAnd (extent_in nodes h.bookmark) (λ extent. length row ≤ extent))) (sym (same.nodes h.table)) (kept.0.room still);
-  other = kept.0.other;
-  sum = kept.0.sum;
-}, changes_moved longs one other same tables held kept.1)
+changes_moved longs one other same tables (h ∷ held) kept = (
+  record {
+    named = kept.0.named;
+    before = kept.0.before;
+    drop = kept.0.drop;
+    room = λ still. subst (λ (nodes : List Node). IfSome h.before (λ row. IsSomeAnd (extent_in nodes h.bookmark) (λ extent. length row ≤ extent))) (sym (same.nodes h.table)) (kept.0.room still);
+    other = kept.0.other;
+    sum = kept.0.sum;
+  },
+  changes_moved longs one other same tables held kept.1,
+)
 
 pub kept_moved : (longs : TableValues) (one other : List StoredTable) → HaveSameNodes one other → (tables : List Table) (held : List HeldChange) → AreKeptWith longs tables one held → AreKeptWith longs tables other held
 kept_moved longs one other same tables held kept = record {
