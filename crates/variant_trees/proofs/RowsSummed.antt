@@ -58,6 +58,7 @@ too_short size n least same four = grind (arith, nat_tests)
 
 -- one value of four bytes stands in the row
 single_here : (vals : Values) (xs : List RowValue) (old : List ℕ) → map (whole_value vals) xs ≡ old ∷ [] → length old ≡ 4 → list_all value_fits_row xs ≡ true → list_all (is_there vals) xs ≡ true → xs ≡ Here old ∷ []
+unfolding is_single first_or
 single_here vals [] old e four fits there = impossible (ap is_single e)
 single_here vals (Here bytes ∷ []) old e four fits there = ap (λ (vs : List (List ℕ)). Here (first_or vs) ∷ []) e
 single_here vals (Apart entry place size ∷ []) old e four fits there =

@@ -124,8 +124,8 @@ returns-in-None-clause-put c =
     (subst (λ (row : List ℕ). IsPut c.args.table.0 c.args.bookmark.now row (given_values (row_in c.as_slice-bytes.result.now) c.args.values.now) (record_keys c.args.schema.now.indexes c.args.schema.now c.args.values.now) c.args.trees.now.tables c.put_new.new.trees.tables)
     (c.as_slice-bytes.ensures.value ∙ c.in-Ok.ensures.row) put))
 
-pub returns-in-Some-clause-put : goal.returns-in-Some-clause-put
-returns-in-Some-clause-put c =
+pub returns-clause-put : goal.returns-clause-put
+returns-clause-put c =
     let laws : KeepLaws = record {
       read = c.rows_are_read_back.ensures;
       form = c.form_of_a_kept_row.ensures.form;
