@@ -1,6 +1,6 @@
 -- The oldest held change is forgotten.
 use Rattle.std.proofs.Common.{◌≡◌, ℕ, ◌<◌, ◌≤◌, zero, suc, ◌+◌, Bool, true, false, not, ◌&&◌, ◌||◌, ◌⊎◌, inl, inr, cond, List, [], ◌∷◌, length, take, drop, Option, Some, None, Result, Ok, Err, find, filter, map, option_map, refl, sym, ap, subst, ◌∙◌, arith}
-use Rattle.std.specs.Prelude.{◌==◌, IfSome, IsOk, IsSomeAnd, MatchOption, is_none, is_some, nat_lt, flat_map, slice_get, sum_by, IsSome}
+use Rattle.std.specs.Prelude.{◌==◌, IfSome, IsOk, MatchOption, is_none, is_some, nat_lt, flat_map, slice_get, sum_by, IsSome}
 use Rattle.std.specs.List.{AllByRecursion, list_any}
 use Rattle.std.proofs.lemmas.Bool.Decides.{nat_tests}
 use Rattle.column_set.specs.Refusals.{Refusals, first_refusal}

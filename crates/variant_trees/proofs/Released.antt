@@ -1,5 +1,5 @@
 -- A row gives up its references to long values, and each row in use stands for the record that it stood for.
-use Rattle.std.proofs.Common.{◌≡◌, ◌≢◌, ℕ, ◌<◌, Bool, true, false, inl, inr, List, [], ◌∷◌, Option, Some, None, map, option_map, refl, sym, ap, subst, ◌∙◌, true≢false}
+use Rattle.std.proofs.Common.{◌≡◌, ℕ, ◌<◌, Bool, true, false, inl, inr, List, [], ◌∷◌, Option, Some, None, map, option_map, refl, sym, ap, subst, ◌∙◌, true≢false}
 use Rattle.std.specs.Prelude.{◌==◌, IfSome, IsSome, IsTrue, bytes_eq, is_some, not, unwrap_or}
 use Rattle.std.specs.List.{AllByRecursion}
 use Rattle.column_set.specs.RowReading.{row_in}
@@ -12,7 +12,7 @@ use Rattle.long_references.specs.RowReferences.{references}
 use Rattle.long_references.proofs.Taken.{ValueLaws}
 use Rattle.long_references.proofs.Totals.{by_test, equal_bytes, itself}
 use Rattle.long_rows.specs.RowsInUse.{IsInUse, newest, before as before_change}
-use Rattle.long_rows.specs.WholeRows.{StandsFor, is_whole, record_in}
+use Rattle.long_rows.specs.WholeRows.{is_whole, record_in}
 use Rattle.long_rows.proofs.InUse.{counted, is_there, stands_less}
 use Rattle.long_value.specs.Values.{LongValue, Values, released, value_of, without_reference}
 use Rattle.page_image.specs.Page.{Node}

@@ -1,15 +1,11 @@
-use Rattle.std.proofs.Common.{◌≡◌, ℕ, List, Option, Some, None, sym, ap, subst, ◌∙◌}
-use Rattle.std.specs.Prelude.{OnOk, option_and_then, option_copied, option_map}
-use Rattle.btree_inplace.specs.Order.{get_in}
+use Rattle.std.proofs.Common.{ℕ, List, subst, ◌∙◌}
+use Rattle.std.specs.Prelude.{option_copied}
 use Rattle.column_set.specs.RowReading.{row_in}
 use Rattle.column_set.specs.Rows.{RowFields, row_bytes}
 use Rattle.long_rows.specs.KeptRows.{given_values, kept_row}
-use Rattle.page_image.specs.Page.{Node}
 use Rattle.stored_variants.specs.PutRecords.{record_keys}
-use Rattle.stored_variants.specs.RecordRows.{row_in_node, row_under}
 use Rattle.stored_variants.proofs.Outcomes.{on_ok}
-use Rattle.table_trees.specs.StoredTables.{StoredTable, table_long_values, table_nodes}
-use Rattle.variant_trees.specs.PutStages.{HasVariantKeys, IsPut, put_found}
+use Rattle.variant_trees.specs.PutStages.{IsPut, put_found}
 use Rattle.variant_trees.proofs.PutRows.{IsKeptRow, KeepLaws, is_kept_row}
 use Rattle.variant_trees.proofs.putting.put_record.Goals as goal
 

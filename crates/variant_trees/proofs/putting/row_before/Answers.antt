@@ -1,5 +1,5 @@
-use Rattle.std.proofs.Common.{◌≡◌, ℕ, ◌≤◌, List, [], Option, Some, None, length, refl, sym, ap, subst, ◌∙◌, arith}
-use Rattle.std.specs.Prelude.{IfSome, not, option_and_then, option_copied, unwrap_or}
+use Rattle.std.proofs.Common.{ℕ, ◌≤◌, List, [], Option, Some, None, length, sym, ap, subst, ◌∙◌, arith}
+use Rattle.std.specs.Prelude.{IfSome, not, option_and_then, unwrap_or}
 use Rattle.stored_variants.specs.RecordRows.{row_in_node, row_under}
 use Rattle.table_trees.specs.StoredTables.{table_nodes}
 use Rattle.variant_trees.specs.PutStages.{row_if}

@@ -1,4 +1,4 @@
-use Rattle.std.proofs.Common.{◌≡◌, ℕ, true, false, List, [], map, Option, Some, None, cond, refl, sym, ap, subst, ◌∙◌}
+use Rattle.std.proofs.Common.{◌≡◌, ℕ, true, List, [], map, Option, Some, None, sym, ap, subst, ◌∙◌}
 use Rattle.std.specs.Prelude.{IfSome, IsTrue, is_some, option_copied, unwrap_or}
 use Rattle.std.specs.List.{AllByRecursion}
 use Rattle.column_set.specs.RowReading.{row_in}
@@ -17,8 +17,8 @@ use Rattle.stored_variants.specs.RecordRows.{IsRecordRow, TableValues, record_of
 use Rattle.stored_variants.specs.VersionsKept.{AreKeptWith}
 use Rattle.stored_variants.specs.VersionsView.{with_newest_by}
 use Rattle.stored_variants.proofs.Dropped.{TreeLaws}
-use Rattle.variant_trees.proofs.PutsBack.{Reads, all_back, back_spelled, left_back, newest_read, node_of_bytes, node_read, none_back, room_read, rows_back, rows_unchanged, shown_back, shown_unchanged}
-use Rattle.variant_trees.proofs.Refilled.{Fills, filled}
+use Rattle.variant_trees.proofs.PutsBack.{Reads, all_back, back_spelled, left_back, newest_read, node_of_bytes, none_back, room_read, rows_back, rows_unchanged, shown_back, shown_unchanged}
+use Rattle.variant_trees.proofs.Refilled.{Fills}
 use Rattle.variant_trees.proofs.UndoneThere.{fills, mapped_at, node_of_row, spelled_row}
 use Rattle.variant_trees.proofs.undoing.put_row_back.Goals as goal
 
