@@ -8,10 +8,11 @@ engine_state inside = record {
   limit = inside.limit;
   number = inside.number;
   greatest_table = inside.tables.greatest_table;
+  newest_put = inside.tables.newest_put;
   sessions = inside.sessions;
   store = inside.tables.store;
 }
 
 -- the tables and the held changes of an engine
 abbrev pub tables_of : EngineState → StoredVersions
-tables_of engine = record { greatest_table = engine.greatest_table; store = engine.store }
+tables_of engine = record { greatest_table = engine.greatest_table; newest_put = engine.newest_put; store = engine.store }

@@ -7,6 +7,7 @@ use kept_rows::ShownRow;
 use session_local::RetrievedValue;
 
 /// A value of a record that is read in place: that of a column at a place, counted from 0.
+#[derive(Drop)]
 pub(crate) struct RowValue<'a> {
     pub(crate) row: &'a ShownRow<'a>,
     pub(crate) column: ColumnId,

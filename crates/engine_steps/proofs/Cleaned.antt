@@ -58,6 +58,7 @@ given_up keeps count engine state u h =
       stored = left.stored;
       number = h.number;
       greatest = h.greatest;
+      newest = h.newest;
       sessions = h.sessions;
       labels = h.labels;
       built = h.built;

@@ -164,25 +164,25 @@ index_for state id rule t refused number short fits =
 
 -- ---- all steps
 
--- the store of the committed tables
-abbrev committed_store : DatabaseState → List HeldRecord → StoredVersions
-committed_store state held = record { greatest_table = state.greatest_table; store = record { tables = state.tables; held = held } }
+-- the store of the committed tables, given the number of the newest put
+abbrev committed_store : DatabaseState → ℕ → List HeldRecord → StoredVersions
+committed_store state newest held = record { greatest_table = state.greatest_table; newest_put = newest; store = record { tables = state.tables; held = held } }
 
-can_make : (state : DatabaseState) → IsAsked state → (session : ℕ) (made : SchemaStep) → IsLawfulStep state session made → makes_built (entry.Schema made) ≡ true → schema_fits made ≡ true → (held : List HeldRecord) → CanMake made (committed_store state held)
-can_make state asked session (step.CreateTable table name) is built fits held =
+can_make : (state : DatabaseState) → IsAsked state → (session : ℕ) (made : SchemaStep) → IsLawfulStep state session made → makes_built (entry.Schema made) ≡ true → schema_fits made ≡ true → (newest : ℕ) (held : List HeldRecord) → CanMake made (committed_store state newest held)
+can_make state asked session (step.CreateTable table name) is built fits newest held =
     (above table.0 state.greatest_table (and_left (table.0 == (state.greatest_table + 1)) (is_name name) is.numbers), and_right (table.0 == (state.greatest_table + 1)) (is_name name) is.numbers)
-can_make state asked session (step.DeleteTable table) is built fits held = table_there state session (step.DeleteTable table) is.free refl
-can_make state asked session (step.AddColumn table column) is built fits held = (
+can_make state asked session (step.DeleteTable table) is built fits newest held = table_there state session (step.DeleteTable table) is.free refl
+can_make state asked session (step.AddColumn table column) is built fits newest held = (
   takes_column (table_with_id state.tables table.0) column built (λ t found. (at_found state session (step.AddColumn table column) t is.free found).1.1.1.0),
   some_or (table_with_id state.tables table.0) (IsColumnFor column) (table_there state session (step.AddColumn table column) is.free refl) (column_for state asked session table column is (and_right _ (column_fits column) fits)),
 )
-can_make state asked session (step.DeleteColumn table column) is built fits held = (
+can_make state asked session (step.DeleteColumn table column) is built fits newest held = (
   some_or (table_with_id state.tables table.0) (λ t. column_is_used column t.indexes ≡ false) (table_there state session (step.DeleteColumn table column) is.free refl)
       (λ t found. column_unused column t.indexes (at_found state session (step.DeleteColumn table column) t is.free found).1.0),
   some_or (table_with_id state.tables table.0) (λ t. has_column t column.0 ≡ true) (table_there state session (step.DeleteColumn table column) is.free refl)
       (λ t found. there_if (has_column t column.0) (at_found state session (step.DeleteColumn table column) t is.free found).0),
 )
-can_make state asked session (step.CreateIndex table rule) is built fits held =
+can_make state asked session (step.CreateIndex table rule) is built fits newest held =
     some_or (table_with_id state.tables table.0) (IsIndexFor rule) (table_there state session (step.CreateIndex table rule) is.free refl)
     (λ t found. index_for state table rule t (at_found state session (step.CreateIndex table rule) t is.free found) (number t found) built (and_right _ (index_fits rule) fits))
   where
@@ -191,7 +191,7 @@ can_make state asked session (step.CreateIndex table rule) is built fits held =
 
     number : (t : Table) → table_with_id state.tables table.0 ≡ Some t → rule.id.0 ≡ next_index_id t.indexes
     number t found = same_number rule.id.0 (next_index_id t.indexes) (and_left _ _ (and_left _ _ (subst (λ (o : Option Table). has_numbers (unwrap_or o (new_table 0 [])) ≡ true) found is.numbers)))
-can_make state asked session (step.DeleteIndex table index) is built fits held =
+can_make state asked session (step.DeleteIndex table index) is built fits newest held =
     some_or (table_with_id state.tables table.0) (λ t. is_some (secondary_rule t index.0) ≡ true) (table_there state session (step.DeleteIndex table index) is.free refl)
     (λ t found. let refused = at_found state session (step.DeleteIndex table index) t is.free found in other_index t index.0 refused.0 refused.1.0)
 
@@ -202,6 +202,6 @@ lawful_can_make one engine session made may sized =
     let asked : IsAsked may.state = record { one = one; base = may.holds.base; dropped = may.holds.dropped; kept = may.holds.kept; reached = may.holds.reached } in
     let fits : schema_fits made ≡ true = (schema_spelled may.state asked session made is.free is.numbers may.built sized).fits in
     let same : engine.store.tables ≡ may.state.tables = tables_settled engine may.state may.holds (none_open engine may.state may.holds session made is) in
-    subst (λ (n : ℕ). CanMake made (record { greatest_table = n; store = engine.store })) may.holds.greatest
-    (subst (λ (tables : List Table). CanMake made (record { greatest_table = may.state.greatest_table; store = record { tables = tables; held = engine.store.held } })) (sym same)
-    (can_make may.state asked session made is may.built fits engine.store.held))
+    subst (λ (n : ℕ). CanMake made (record { greatest_table = n; newest_put = engine.newest_put; store = engine.store })) may.holds.greatest
+    (subst (λ (tables : List Table). CanMake made (record { greatest_table = may.state.greatest_table; newest_put = engine.newest_put; store = record { tables = tables; held = engine.store.held } })) (sym same)
+    (can_make may.state asked session made is may.built fits engine.newest_put engine.store.held))

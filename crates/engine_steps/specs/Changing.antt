@@ -5,8 +5,11 @@ use Rattle.column_set.specs.declared.changes.Change.{Change}
 use Rattle.column_set.specs.declared.changes.Change.TheVariants.{Put, Drop, Hold, Add}
 use Rattle.database_state.specs.Table.{record_in, schema_of, table_with_id}
 use Rattle.index_derive.specs.Entries.{is_escrow_column}
-use Rattle.versioned_tables.specs.VersionedTables.{VersionedTables}
+use Rattle.version_store.specs.declared.calls.By.{By}
+use Rattle.versioned_tables.specs.VersionedTables.{VersionedTables, with_change}
 use Rattle.stored_variants.specs.PutRecords.{IsStorable}
+use Rattle.stored_variants.specs.StoredVersions.{StoredVersions}
+use Rattle.engine_versions.specs.EngineSteps.{newest_with}
 
 -- A record that is put can be stored in its table, one that is dropped is there, a lock is in a table, and a sum is one of an
 -- escrow column of a table.
@@ -15,6 +18,13 @@ CanChange store (Put table bookmark copied values) = IsSomeAnd (table_with_id st
 CanChange store (Drop table bookmark) = is_some (record_in store.tables table.0 bookmark) ≡ true
 CanChange store (Hold table bookmark) = is_some (table_with_id store.tables table.0) ≡ true
 CanChange store (Add table bookmark column amount) = IsSomeAnd (table_with_id store.tables table.0) (λ t. is_escrow_column (schema_of t) column.0 ≡ true)
+
+-- the tables with a change, of which a put is the newest one
+abbrev pub changed : By → Change → StoredVersions → StoredVersions
+changed by made tables = record tables {
+  newest_put = newest_with by.number made tables.newest_put;
+  store = with_change by made tables.store;
+}
 
 -- the record of a put has its columns in order, each with a value
 abbrev pub IsFormed : Change → Type 0

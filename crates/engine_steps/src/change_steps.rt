@@ -1,17 +1,16 @@
 //! Changes of records.
 
-ghost use Rattle.std.specs.Prelude.{◌≡◌, ◌+◌, ◌^◌, ◌≤◌, OnOk, OnErr};
+ghost use Rattle.std.specs.Prelude.{◌≡◌, ◌+◌, ◌^◌, ◌≤◌, ◌<◌, OnOk, OnErr};
 ghost use Rattle.index_derive.specs.declared.log.EntryKind.TheVariants as entry;
 ghost use Rattle.engine_versions.specs.EngineSteps.{begin_or_none, effect_on, maker};
-ghost use Rattle.versioned_tables.specs.VersionedTables.{with_change};
-ghost use Rattle.engine_steps.specs.Changing.{CanChange, IsFormed};
+ghost use Rattle.engine_steps.specs.Changing.{CanChange, IsFormed, changed};
 
 use column_set::Change;
 use engine_parts::Engine;
 use jet_base::{OutOfMemory, Session};
 use table_versions::TableVersions;
 use version_cleanup::Transaction;
-use version_store::By;
+use version_store::{By, VersionFault};
 
 /// A record changes, or is locked. Where memory fails all is as it was.
 pub(crate) fn change(
@@ -20,6 +19,7 @@ pub(crate) fn change(
     made: &Change,
 ) -> Result<(), OutOfMemory>
     requires number { engine.old.number ≤ 2 ^ 35 + 1 }
+    requires newest { engine.old.newest_put ≤ engine.old.number }
     requires can { CanChange engine.old.store made.now }
     ensures done { OnOk result (engine.new ≡ effect_on engine.old session.0 (entry.Change made.now)) }
     ensures kept { OnErr result (engine.new ≡ engine.old) }
@@ -59,22 +59,32 @@ fn begin_of(transaction: Option<Transaction>) -> u64
     }
 }
 
-// The change itself. What all held changes cost ends before 2^64, which no run reaches: a change past it is refused as for want
-// of memory.
+// The change itself, later than the newest put. What all held changes cost ends before 2^64, which no run reaches: a change past
+// it is refused as for want of memory.
 fn make_change(tables: &mut TableVersions, by: By, made: &Change) -> Result<(), OutOfMemory>
-    requires { CanChange tables.old.store made.now }
-    ensures ok { OnOk result (tables.new ≡ record tables.old { store = with_change by made.now tables.old.store }) }
+    requires later { tables.old.newest_put < by.number }
+    requires can { CanChange tables.old.store made.now }
+    ensures ok { OnOk result (tables.new ≡ changed by made.now tables.old) }
     ensures err { OnErr result (tables.new ≡ tables.old) }
 {
-    let answer = match made {
+    match try_change(tables, by, made) {
+        Ok(()) => Ok(()),
+        Err(_) => Err(OutOfMemory),
+    }
+}
+
+// The same, with the tables' own refusal.
+fn try_change(tables: &mut TableVersions, by: By, made: &Change) -> Result<(), VersionFault>
+    requires later { tables.old.newest_put < by.number }
+    requires can { CanChange tables.old.store made.now }
+    ensures ok { OnOk result (tables.new ≡ changed by made.now tables.old) }
+    ensures err { OnErr result (tables.new ≡ tables.old) }
+{
+    match made {
         Change::Put { .. } => tables.put(by, made),
         Change::Drop { .. } => tables.drop_record(by, made),
         Change::Hold { .. } => tables.hold(by, made),
         Change::Add { .. } => tables.add(by, made),
-    };
-    match answer {
-        Ok(()) => Ok(()),
-        Err(_) => Err(OutOfMemory),
     }
 }
 

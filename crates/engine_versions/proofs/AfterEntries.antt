@@ -1,6 +1,8 @@
 -- The engine after an entry, after a clean and after a step.
-use Rattle.std.proofs.Common.{◌≡◌, ℕ, ◌+◌, ◌-◌, Bool, true, false, cond, List, [], ◌∷◌, map, None, refl, sym, ap, subst, ◌∙◌, inr}
+use Rattle.std.proofs.Common.{◌≡◌, ℕ, ◌+◌, ◌-◌, ◌≤◌, Bool, true, false, cond, List, [], ◌∷◌, map, None, refl, sym, ap, subst, ◌∙◌, inr, arith}
 use Rattle.std.specs.Prelude.{nat_lt}
+use Rattle.column_set.specs.declared.changes.Change.{Change}
+use Rattle.column_set.specs.declared.changes.Change.TheVariants.{Put, Drop, Hold, Add}
 use Rattle.index_derive.specs.declared.log.Entry.{Entry}
 use Rattle.index_derive.specs.declared.log.EntryKind.{EntryKind}
 use Rattle.index_derive.specs.declared.log.EntryKind.TheVariants as entry
@@ -28,7 +30,7 @@ use Rattle.lawful_answers.proofs.ReachedStates.{reaches}
 use Rattle.built_calls.specs.BuiltTables.{AllMakeBuilt, makes_built}
 use Rattle.built_calls.proofs.BuiltColumns.{not_numbered}
 use Rattle.engine_versions.specs.EngineState.{EngineState}
-use Rattle.engine_versions.specs.EngineSteps.{engine_after, engine_after_all, greatest_after, maker, store_after}
+use Rattle.engine_versions.specs.EngineSteps.{engine_after, engine_after_all, greatest_after, maker, newest_after, newest_with, store_after}
 use Rattle.engine_versions.specs.HoldsState.{HoldsState}
 use Rattle.engine_versions.proofs.Sessions.{levels_alike}
 use Rattle.engine_versions.proofs.Tables.{built_kept}
@@ -105,6 +107,23 @@ greatest_stays state session entry.UndoAll = refl
 greatest_stays state session entry.Commit = refl
 greatest_stays state session (entry.Schema made) = refl
 
+-- no put comes after the last entry
+newest_within : (number newest : ℕ) (kind : EntryKind) → newest ≤ number → newest_after (number + 1) kind newest ≤ number + 1
+newest_within number newest kind h = by kind
+  where
+    later : newest ≤ number + 1
+    later = omega (arith, h)
+
+    of_change : (made : Change) → newest_with (number + 1) made newest ≤ number + 1
+    of_change (Put table bookmark copied values) = omega arith
+    of_change (Drop table bookmark) = later
+    of_change (Hold table bookmark) = later
+    of_change (Add table bookmark column amount) = later
+
+    by : (kind : EntryKind) → newest_after (number + 1) kind newest ≤ number + 1
+    by (entry.Change made) = of_change made
+    by _ = later
+
 -- an entry that makes only what is built leaves no record short
 short_of : (kind : EntryKind) → makes_built kind ≡ true → leaves_records_short kind ≡ false
 short_of (entry.Schema (step.AddColumn table column)) e = not_numbered column e
@@ -135,6 +154,7 @@ entry_holds one alike engine state made h e built type =
       stored = stored_kept_with_sums h.base h.dropped h.kept state made h.reached.history e h.reached.numbers type (short_of made.kind built) h.stored;
       number = number_after state session made.kind ∙ ap (λ (n : ℕ). n + 1) h.number;
       greatest = greatest_stays state session made.kind ∙ ap (λ (n : ℕ). greatest_after n made.kind) h.greatest;
+      newest = newest_within engine.number engine.newest_put made.kind h.newest;
       sessions = alike state made ∙ (λ i. sessions_after (h.number i + 1) session made.kind (h.sessions i));
       labels = labels_rise state made h.labels e;
       built = built_kept state made reached.order.ids e built h.built;

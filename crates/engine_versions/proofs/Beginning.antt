@@ -41,13 +41,13 @@ built_single state built id = by (table_with_id state.tables id) (all_found is_b
         all_mono is_built_column (λ c. not c.escrow || not c.multi) (λ c b. single c.escrow (is_type_long c.kind) (not c.multi) _ (its_sum c b)) table.columns
         (and_left (list_all is_built_column table.columns) (list_all is_built_rule table.indexes) h)
 
-pub tables_hold : (limit : ℕ) (state : DatabaseState) → state.sessions ≡ [] → state.past ≡ [] → HasTablesInOrder state → ((id : ℕ) → IfSome (table_with_id state.tables id) IsUniqueTable)
+pub tables_hold : (limit newest : ℕ) (state : DatabaseState) → newest ≤ state.number → state.sessions ≡ [] → state.past ≡ [] → HasTablesInOrder state → ((id : ℕ) → IfSome (table_with_id state.tables id) IsUniqueTable)
     → ((id : ℕ) → IfSome (table_with_id state.tables id) (λ table. AllByRecursion (IsPlainIndex table) table.indexes))
     → ((id : ℕ) → IfSome (table_with_id state.tables id) (λ table. (bookmark : List ℕ) → IfSome (row_at table.rows bookmark) (StandsUnder state.number (schema_of table) bookmark)))
     → ((id : ℕ) → IfSome (table_with_id state.tables id) (λ table. (bookmark : List ℕ) → IfSome (row_at table.rows bookmark) (IsStored state.number (schema_of table) bookmark)))
     → ((id : ℕ) → IfSome (table_with_id state.tables id) (λ table. (bookmark : List ℕ) → IfSome (row_at table.rows bookmark) (HoldsNumbers state.number (schema_of table) bookmark)))
-    → are_built state.tables ≡ true → have_own_numbers state.tables ≡ true → HoldsState (engine_of limit state) state
-tables_hold limit state sessions past order unique plain marks stored numbers built columns = record {
+    → are_built state.tables ≡ true → have_own_numbers state.tables ≡ true → HoldsState (engine_of limit newest state) state
+tables_hold limit newest state within sessions past order unique plain marks stored numbers built columns = record {
   base = records_of state.tables;
   dropped = [];
   kept = [];
@@ -56,16 +56,17 @@ tables_hold limit state sessions past order unique plain marks stored numbers bu
   stored = each_begun IsStored state stored;
   number = refl;
   greatest = refl;
+  newest = within;
   sessions = ap (map live_state) sessions;
   labels = subst (EachTwo LabelsRise) (sym sessions) tt;
   built = built;
 }
 
 pub empty_holds : (limit : ℕ) → HoldsState (empty_engine limit) empty_state
-empty_holds limit = tables_hold limit empty_state refl refl (record { ids = tt; given = tt; rows = tt }) (λ id. tt) (λ id. tt) (λ id. tt) (λ id. tt) (λ id. tt) refl refl
+empty_holds limit = tables_hold limit 0 empty_state (omega arith) refl refl (record { ids = tt; given = tt; rows = tt }) (λ id. tt) (λ id. tt) (λ id. tt) (λ id. tt) (λ id. tt) refl refl
 
-pub tables_have_room : (limit : ℕ) (state : DatabaseState) → state.number ≤ 2 ^ 35 + 1 → HasRoomForEnds (engine_of limit state)
-tables_have_room limit state h = record { begun = least state.number; room = same state.number (2 ^ 35 + 1) h }
+pub tables_have_room : (limit newest : ℕ) (state : DatabaseState) → state.number ≤ 2 ^ 35 + 1 → HasRoomForEnds (engine_of limit newest state)
+tables_have_room limit newest state h = record { begun = least state.number; room = same state.number (2 ^ 35 + 1) h }
   where
     least : (n : ℕ) → 0 ≤ n
     least n = omega arith

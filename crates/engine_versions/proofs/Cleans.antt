@@ -69,6 +69,7 @@ clean_holds keeps engine state h =
       stored = left.stored;
       number = h.number;
       greatest = h.greatest;
+      newest = h.newest;
       sessions = h.sessions;
       labels = h.labels;
       built = h.built;

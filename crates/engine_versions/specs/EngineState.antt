@@ -7,22 +7,24 @@ use Rattle.version_cleanup.specs.LiveSessions.{LiveState, has_open, levels_of, o
 use Rattle.versioned_tables.specs.HeldRecords.{from_oldest_kept}
 use Rattle.versioned_tables.specs.VersionedTables.{VersionedTables}
 
--- The limit of the version store's span in bytes, the number of log entries, the greatest table id ever given, the live
--- sessions without snapshots, and the tables with their newest records beside the held changes.
+-- The limit of the version store's span in bytes, the number of log entries, the greatest table id ever given, the number of the
+-- newest log entry that put a record, 0 where none did, the live sessions without snapshots, and the tables with their newest
+-- records beside the held changes.
 pub record EngineState : Type 0 where
   pub limit : ℕ
   pub number : ℕ
   pub greatest_table : ℕ
+  pub newest_put : ℕ
   pub sessions : List LiveState
   pub store : VersionedTables
 
 -- the engine of an empty database
 abbrev pub empty_engine : ℕ → EngineState
-empty_engine limit = record { limit = limit; number = 0; greatest_table = 0; sessions = []; store = record { tables = []; held = [] } }
+empty_engine limit = record { limit = limit; number = 0; greatest_table = 0; newest_put = 0; sessions = []; store = record { tables = []; held = [] } }
 
--- the engine of a database without sessions, as it stands on disk
-abbrev pub engine_of : ℕ → DatabaseState → EngineState
-engine_of limit state = record { limit = limit; number = state.number; greatest_table = state.greatest_table; sessions = []; store = record { tables = state.tables; held = [] } }
+-- the engine of a database without sessions, as it stands on disk, given the number of its newest put
+abbrev pub engine_of : ℕ → ℕ → DatabaseState → EngineState
+engine_of limit newest state = record { limit = limit; number = state.number; greatest_table = state.greatest_table; newest_put = newest; sessions = []; store = record { tables = state.tables; held = [] } }
 
 -- without the held changes before the oldest one that must be kept
 abbrev pub cleaned : EngineState → EngineState

@@ -1,6 +1,8 @@
 -- What a log entry does to what the engine holds.
 use Rattle.std.specs.Prelude.{ℕ, ◌+◌, ◌^◌, ◌-◌, Bool, true, false, List, [], ◌∷◌, Option, Some, None}
 use Rattle.jet_base.specs.Ids.{session_id}
+use Rattle.column_set.specs.declared.changes.Change.{Change}
+use Rattle.column_set.specs.declared.changes.Change.TheVariants.{Put, Drop, Hold, Add}
 use Rattle.index_derive.specs.declared.log.Entry.{Entry}
 use Rattle.index_derive.specs.declared.log.EntryKind.{EntryKind}
 use Rattle.index_derive.specs.declared.log.EntryKind.TheVariants as entry
@@ -50,11 +52,23 @@ abbrev pub greatest_after : ℕ → EntryKind → ℕ
 greatest_after greatest (entry.Schema made) = greatest_table_after greatest made
 greatest_after greatest _ = greatest
 
+-- the number of the newest put once a change comes with a number
+abbrev pub newest_with : ℕ → Change → ℕ → ℕ
+newest_with number (Put table bookmark copied values) newest = number
+newest_with number (Drop table bookmark) newest = newest
+newest_with number (Hold table bookmark) newest = newest
+newest_with number (Add table bookmark column amount) newest = newest
+
+abbrev pub newest_after : ℕ → EntryKind → ℕ → ℕ
+newest_after number (entry.Change made) newest = newest_with number made newest
+newest_after number _ newest = newest
+
 -- what an entry of the session makes of all
 abbrev pub effect_on : EngineState → ℕ → EntryKind → EngineState
 effect_on engine session kind = record engine {
   number = engine.number + 1;
   greatest_table = greatest_after engine.greatest_table kind;
+  newest_put = newest_after (engine.number + 1) kind engine.newest_put;
   sessions = sessions_after (engine.number + 1) session kind engine.sessions;
   store = store_after engine session kind;
 }

@@ -1,5 +1,5 @@
 -- When an engine with versions holds a database state.
-use Rattle.std.specs.Prelude.{◌≡◌, ℕ, ◌==◌, true, List, map, if◌then◌else◌}
+use Rattle.std.specs.Prelude.{◌≡◌, ℕ, ◌==◌, ◌≤◌, true, List, map, if◌then◌else◌}
 use Rattle.database_state.specs.State.{DatabaseState, PastChange}
 use Rattle.record_changes.specs.Records.{Records}
 use Rattle.version_history.specs.History.{EachTwo, LabelsRise}
@@ -15,7 +15,8 @@ use Rattle.built_calls.specs.BuiltTables.{are_built}
 use Rattle.engine_versions.specs.EngineState.{EngineState}
 
 -- The engine holds a state that lawful entries reach: its tables and held changes hold it, its sessions are those of the state
--- without their snapshots, and its number is that of the state. Each record fits its row and its columns, and all is built.
+-- without their snapshots, and its number is that of the state, up to which all puts came. Each record fits its row and its
+-- columns, and all is built.
 pub record HoldsState (engine : EngineState) (state : DatabaseState) : Type 0 where
   pub base : Records
   pub dropped : List PastChange
@@ -25,6 +26,7 @@ pub record HoldsState (engine : EngineState) (state : DatabaseState) : Type 0 wh
   pub stored : EachRecordHas IsStored base kept state
   pub number : state.number ≡ engine.number
   pub greatest : state.greatest_table ≡ engine.greatest_table
+  pub newest : engine.newest_put ≤ engine.number
   pub sessions : map live_state state.sessions ≡ engine.sessions
   pub labels : EachTwo LabelsRise state.sessions
   pub built : are_built state.tables ≡ true

@@ -26,14 +26,15 @@ pub fn an_empty_engine_holds_the_empty_state()
 
 /// An engine of tables alone holds each state without sessions and past changes whose tables these are: they are in order,
 /// unique and built, their indexes name no escrow column, their columns have numbers of their own, and their records have their
-/// bookmarks, fit and hold numbers in their escrow columns. All sessions that have not begun are in step with it.
+/// bookmarks, fit and hold numbers in their escrow columns. No put came after the state's number. All sessions that have not begun
+/// are in step with it.
 pub fn an_engine_of_tables_alone_holds_their_state()
-    ensures holds { (limit : ℕ) (state : DatabaseState) → state.sessions ≡ [] → state.past ≡ [] → HasTablesInOrder state → ((id : ℕ) → IfSome (table_with_id state.tables id) IsUniqueTable)
+    ensures holds { (limit newest : ℕ) (state : DatabaseState) → newest ≤ state.number → state.sessions ≡ [] → state.past ≡ [] → HasTablesInOrder state → ((id : ℕ) → IfSome (table_with_id state.tables id) IsUniqueTable)
         → ((id : ℕ) → IfSome (table_with_id state.tables id) (λ table. AllByRecursion (IsPlainIndex table) table.indexes))
         → ((id : ℕ) → IfSome (table_with_id state.tables id) (λ table. (bookmark : List ℕ) → IfSome (row_at table.rows bookmark) (StandsUnder state.number (schema_of table) bookmark)))
         → ((id : ℕ) → IfSome (table_with_id state.tables id) (λ table. (bookmark : List ℕ) → IfSome (row_at table.rows bookmark) (IsStored state.number (schema_of table) bookmark)))
         → ((id : ℕ) → IfSome (table_with_id state.tables id) (λ table. (bookmark : List ℕ) → IfSome (row_at table.rows bookmark) (HoldsNumbers state.number (schema_of table) bookmark)))
-        → are_built state.tables ≡ true → have_own_numbers state.tables ≡ true → HoldsState (engine_of limit state) state }
+        → are_built state.tables ≡ true → have_own_numbers state.tables ≡ true → HoldsState (engine_of limit newest state) state }
     ensures in_step { (state : DatabaseState) → state.sessions ≡ [] → (session : ℕ) → IsInStep state session no_session }
-    ensures room { (limit : ℕ) (state : DatabaseState) → state.number ≤ 2 ^ 35 + 1 → HasRoomForEnds (engine_of limit state) }
+    ensures room { (limit newest : ℕ) (state : DatabaseState) → state.number ≤ 2 ^ 35 + 1 → HasRoomForEnds (engine_of limit newest state) }
 {}

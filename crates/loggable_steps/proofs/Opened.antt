@@ -48,11 +48,12 @@ pub opened_told : (engine : EngineState) (state : DatabaseState) → HoldsState 
 opened_told engine state h none =
     λ i. record { number = sym h.number i; greatest_table = sym h.greatest i; tables = tables_settled engine state h (outside engine state h none) i; sessions = []; past = [] }
 
-pub cleaned_told : (engine : EngineState) (state : DatabaseState) → HoldsState engine state → engine.sessions ≡ [] → cleaned engine ≡ engine_of engine.limit (closed state)
+pub cleaned_told : (engine : EngineState) (state : DatabaseState) → HoldsState engine state → engine.sessions ≡ [] → cleaned engine ≡ engine_of engine.limit engine.newest_put (closed state)
 cleaned_told engine state h none = λ i. record {
   limit = engine.limit;
   number = sym h.number i;
   greatest_table = sym h.greatest i;
+  newest_put = engine.newest_put;
   sessions = none i;
   store = record {
     tables = tables_settled engine state h (outside engine state h none) i;

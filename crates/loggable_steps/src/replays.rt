@@ -83,14 +83,14 @@ pub fn a_front_of_a_log_is_a_log_of_its_first_entries()
 /// cleaned it is the very engine that is made of these tables.
 pub fn an_engine_without_sessions_tells_its_state()
     ensures state { (engine : EngineState) (state : DatabaseState) → HoldsState engine state → engine.sessions ≡ [] → opened_state engine ≡ closed state }
-    ensures cleaned { (engine : EngineState) (state : DatabaseState) → HoldsState engine state → engine.sessions ≡ [] → cleaned engine ≡ engine_of engine.limit (closed state) }
-    ensures opened { (limit : ℕ) (state : DatabaseState) → opened_state (engine_of limit state) ≡ closed state }
+    ensures cleaned { (engine : EngineState) (state : DatabaseState) → HoldsState engine state → engine.sessions ≡ [] → cleaned engine ≡ engine_of engine.limit engine.newest_put (closed state) }
+    ensures opened { (limit newest : ℕ) (state : DatabaseState) → opened_state (engine_of limit newest state) ≡ closed state }
 {}
 
 /// What is left once all sessions are given up is a state that an engine of its tables holds. So an engine that was read back and
 /// replayed goes on from there.
 pub fn a_closed_state_is_held_by_its_tables()
-    ensures holds { (engine : EngineState) (state : DatabaseState) → HoldsState engine state → (limit : ℕ) → HoldsState (engine_of limit (closed state)) (closed state) }
+    ensures holds { (engine : EngineState) (state : DatabaseState) → HoldsState engine state → (limit newest : ℕ) → newest ≤ state.number → HoldsState (engine_of limit newest (closed state)) (closed state) }
 {
     a_primary_index_has_one_entry();
     entries_rise();

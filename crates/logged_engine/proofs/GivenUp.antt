@@ -103,6 +103,7 @@ pub first_given_up : (engine : EngineState) → HaveLabels engine.sessions → I
 first_given_up engine labels = record {
   limit = refl;
   number = refl;
+  newest = refl;
   sessions = labels_left engine.sessions labels;
   holds = λ state h. record { number = engine.number; held = state; holds = h; tables = refl; greatest = refl };
 }
@@ -113,12 +114,14 @@ next_given_up next label old engine is =
       | true ↦ λ live. record {
         limit = is.limit;
         number = is.number;
+        newest = is.newest;
         sessions = left_behind label engine.sessions is.sessions;
         holds = λ state h. given_up_holds next state engine label (is.holds state h) live;
       }
       | false ↦ λ none. record {
         limit = is.limit;
         number = is.number;
+        newest = is.newest;
         sessions = none_behind label engine.sessions is.sessions none;
         holds = is.holds;
       }
@@ -167,14 +170,14 @@ none_left (h ∷ held) e s = by (is_kept_status None h.status) e s
 -- ---- all are given up
 
 abbrev pub CleanedTells : Type 0
-CleanedTells = (engine : EngineState) (state : DatabaseState) → HoldsState engine state → engine.sessions ≡ [] → cleaned engine ≡ engine_of engine.limit (closed state)
+CleanedTells = (engine : EngineState) (state : DatabaseState) → HoldsState engine state → engine.sessions ≡ [] → cleaned engine ≡ engine_of engine.limit engine.newest_put (closed state)
 
 pub none_needed : CleanedTells → (state : DatabaseState) (engine : EngineState) → HoldsTables state engine → engine.sessions ≡ [] → from_oldest_kept None engine.store.held ≡ []
 none_needed tells state engine h none =
     subst (λ (sessions : List LiveState). from_oldest_kept (oldest_begin sessions) engine.store.held ≡ []) none
     (ap (λ (e : EngineState). e.store.held) (tells (record engine { number = h.number }) h.held h.holds none))
 
-pub closed_told : CleanedTells → (old engine : EngineState) → IsGivenUpTo 100 old engine → (state : DatabaseState) → HoldsState old state → record engine { store = record engine.store { held = [] } } ≡ engine_of old.limit (closed state)
+pub closed_told : CleanedTells → (old engine : EngineState) → IsGivenUpTo 100 old engine → (state : DatabaseState) → HoldsState old state → record engine { store = record engine.store { held = [] } } ≡ engine_of old.limit old.newest_put (closed state)
 closed_told tells old engine is state h =
     let there : HoldsTables state engine = is.holds state h in
     let none : engine.sessions ≡ [] = all_left engine.sessions is.sessions in
@@ -186,6 +189,7 @@ closed_told tells old engine is state h =
       limit = is.limit i;
       number = number i;
       greatest_table = greatest i;
+      newest_put = is.newest i;
       sessions = none i;
       store = record { tables = tables i; held = [] };
     }

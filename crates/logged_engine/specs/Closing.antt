@@ -32,5 +32,6 @@ pub record HoldsTables (state : DatabaseState) (engine : EngineState) : Type 0 w
 pub record IsGivenUpTo (label : ℕ) (old engine : EngineState) : Type 0 where
   pub limit : engine.limit ≡ old.limit
   pub number : engine.number ≡ old.number
+  pub newest : engine.newest_put ≡ old.newest_put
   pub sessions : AllByRecursion (λ s. (label ≤ s.label) × (s.label ≤ 99)) engine.sessions
   pub holds : (state : DatabaseState) → HoldsState old state → HoldsTables state engine

@@ -24,7 +24,7 @@ pub(crate) const LAST_LABEL: u32 = 99;
 pub(crate) fn give_up_all(engine: &mut Engine)
     requires held { (state : DatabaseState) × HoldsState engine.old state }
     requires labels { HaveLabels engine.old.sessions }
-    ensures { (state : DatabaseState) → HoldsState engine.old state → engine.new ≡ engine_of engine.old.limit (closed state) }
+    ensures { (state : DatabaseState) → HoldsState engine.old state → engine.new ≡ engine_of engine.old.limit engine.old.newest_put (closed state) }
 {
     an_engine_without_sessions_tells_its_state();
     give_up_sessions(engine);

@@ -195,7 +195,7 @@ impl LoggedEngine {
     /// is the engine of the committed tables and the numbers that were given. It takes no memory.
     pub fn close(&mut self)
         requires held { (state : DatabaseState) × HoldsState self.old.engine state }
-        ensures engine { (state : DatabaseState) → HoldsState self.old.engine state → self.new.engine ≡ engine_of self.old.engine.limit (closed state) }
+        ensures engine { (state : DatabaseState) → HoldsState self.old.engine state → self.new.engine ≡ engine_of self.old.engine.limit self.old.engine.newest_put (closed state) }
         ensures state { (state : DatabaseState) → HoldsState self.old.engine state → opened_state self.new.engine ≡ closed state }
         ensures holds { (state : DatabaseState) → HoldsState self.old.engine state → HoldsState self.new.engine (closed state) }
         ensures stream { self.new.stream ≡ empty_stream }

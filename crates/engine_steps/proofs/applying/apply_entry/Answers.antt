@@ -11,6 +11,9 @@ enter-requires-clause-few c =
     c.lawful_entries_fit_the_sessions.ensures.few c.args.engine.now c.args.session.0
     (subst (λ (kind : EntryKind). MayCome c.args.engine.now (entry_by c.args.session.0 kind)) c.in-Enter.is c.requires.lawful)
 
+pub change-requires-clause-newest : goal.change-requires-clause-newest
+change-requires-clause-newest c = c.requires.lawful.holds.newest
+
 pub change-requires-clause-can : goal.change-requires-clause-can
 change-requires-clause-can c =
     c.lawful_changes_can_be_made.ensures c.args.engine.now c.args.session.0 c.in-Change.made

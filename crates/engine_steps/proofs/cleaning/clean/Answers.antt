@@ -11,6 +11,7 @@ returns-clause-holds c = λ state h.
       limit = c.engine.inside.limit;
       number = c.engine.inside.number;
       greatest_table = c.engine.inside.tables.greatest_table;
+      newest_put = c.engine.inside.tables.newest_put;
       sessions = c.engine.inside.sessions;
       store = c.engine.inside.tables.store;
     } in
@@ -20,6 +21,7 @@ returns-clause-holds c = λ state h.
       limit = c.engine.inside.limit;
       number = c.engine.inside.number;
       greatest_table = v.greatest_table;
+      newest_put = v.newest_put;
       sessions = c.engine.inside.sessions;
       store = v.store;
     }) state) (sym c.forget_first.ensures.gone) (c.changes_that_are_not_needed_may_go.ensures c.forget_first.result was state may_go held)

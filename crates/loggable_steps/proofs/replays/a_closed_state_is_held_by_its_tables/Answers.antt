@@ -11,10 +11,10 @@ use Rattle.loggable_steps.proofs.replays.a_closed_state_is_held_by_its_tables.Go
 
 pub returns : goal.returns
 returns c = record {
-  holds = λ engine state h limit.
+  holds = λ engine state h limit newest within.
       let keys : KeyLaws = record { one = c.a_primary_index_has_one_entry.ensures; rise = c.entries_rise.ensures } in
       let sees = unseen_now h.base h.kept state h.reached.sums in
-      c.an_engine_of_tables_alone_holds_their_state.ensures.holds limit (closed state) refl refl (still_in_order state h.reached.order) (unique_tables keys h.base h.dropped h.kept state h.reached) (plain_tables h.base h.kept state h.dropped h.reached)
+      c.an_engine_of_tables_alone_holds_their_state.ensures.holds limit newest (closed state) within refl refl (still_in_order state h.reached.order) (unique_tables keys h.base h.dropped h.kept state h.reached) (plain_tables h.base h.kept state h.dropped h.reached)
       (rows_have StandsUnder state (bookmarks_seen h.base h.dropped h.kept state h.reached.history sees h.reached.bookmarks))
       (rows_have IsStored state (c.every_record_seen_is_stored.ensures.with_sums h.base h.dropped h.kept state h.reached.history h.reached.numbers h.stored))
       (rows_have HoldsNumbers state (numbers_seen h.base h.dropped h.kept state h.reached.history h.reached.numbers))

@@ -14,6 +14,6 @@ forget_all-requires c =
 
 pub returns : goal.returns
 returns c = λ state h.
-    ap (λ (v : StoredVersions). record { limit = c.engine.inside.limit; number = c.engine.inside.number; greatest_table = v.greatest_table; sessions = c.engine.inside.sessions; store = v.store }) c.forget_all.ensures
+    ap (λ (v : StoredVersions). record { limit = c.engine.inside.limit; number = c.engine.inside.number; greatest_table = v.greatest_table; newest_put = v.newest_put; sessions = c.engine.inside.sessions; store = v.store }) c.forget_all.ensures
     ∙ ap (λ (e : EngineState). record e { store = record e.store { held = [] } }) c.engine.view_is
     ∙ closed_told c.an_engine_without_sessions_tells_its_state.ensures.cleaned c.args.engine.now c.give_up_sessions.new.engine c.give_up_sessions.ensures state h

@@ -15,9 +15,9 @@ invariant_of-self c =
 pub returns-clause-engine : goal.returns-clause-engine
 returns-clause-engine c = λ state h.
     c.give_up_all.ensures state (subst (λ (s : LoggedState). HoldsState s.engine state) (sym c.self.view_is) h)
-    ∙ ap (λ (s : LoggedState). engine_of s.engine.limit (closed state)) c.self.view_is
+    ∙ ap (λ (s : LoggedState). engine_of s.engine.limit s.engine.newest_put (closed state)) c.self.view_is
 
 pub returns-clause-state : goal.returns-clause-state
 returns-clause-state c = λ state h.
     ap opened_state (c.give_up_all.ensures state (subst (λ (s : LoggedState). HoldsState s.engine state) (sym c.self.view_is) h))
-    ∙ c.an_engine_without_sessions_tells_its_state.ensures.opened c.self.inside.engine.limit state
+    ∙ c.an_engine_without_sessions_tells_its_state.ensures.opened c.self.inside.engine.limit c.self.inside.engine.newest_put state
