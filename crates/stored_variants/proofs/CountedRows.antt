@@ -1,5 +1,5 @@
 -- The newest rows of a table by their bookmarks, and the rows before its held changes.
-use Rattle.std.proofs.Common.{◌≡◌, ℕ, zero, suc, Bool, true, false, T, not, ◌&&◌, ◌||◌, ◌⊎◌, inl, inr, cond, List, [], ◌∷◌, ◌++◌, Option, Some, None, find, filter, map, option_map, refl, sym, ap, subst, ◌∙◌}
+use Rattle.std.proofs.Common.{◌≡◌, ℕ, zero, suc, Bool, true, false, T, not, ◌&&◌, ◌||◌, inl, inr, cond, List, [], ◌∷◌, ◌++◌, Option, Some, None, find, filter, map, option_map, refl, sym, ap, subst, ◌∙◌}
 use Rattle.std.specs.Prelude.{◌==◌, bytes_eq, option_and_then, slice_get}
 use Rattle.std.specs.List.{AllByRecursion, list_all}
 use Rattle.std.specs.Ordering.{is_eq, nat_cmp}
@@ -11,7 +11,7 @@ use Rattle.column_set.specs.RowReading.{row_in}
 use Rattle.column_set.specs.Rows.{RowFields}
 use Rattle.btree_inplace.specs.Order.{has_key}
 use Rattle.cursor_nav.specs.Places.{are_sorted, pair_lt}
-use Rattle.database_state.specs.State.{is_undone, undone}
+use Rattle.database_state.specs.State.{undone}
 use Rattle.long_references.specs.ReferenceCounts.{AreRows, NewestRows, RowBefore, as_undone, with_row}
 use Rattle.page_image.specs.Page.{Node}
 use Rattle.record_changes.proofs.Tests.{and_left, and_right, impossible, same_bytes, self_equal}

@@ -1,17 +1,16 @@
 -- Long values change, and each row in use stands for the record that it stood for.
-use Rattle.std.proofs.Common.{◌≡◌, ℕ, ◌≤◌, length, Bool, true, false, ◌&&◌, cond, List, [], ◌∷◌, Option, Some, None, map, option_map, refl, sym, ap, subst, ◌∙◌}
-use Rattle.std.specs.Prelude.{IfSome, IsSomeAnd, IsTrue, is_some, not}
+use Rattle.std.proofs.Common.{◌≡◌, ℕ, ◌≤◌, length, Bool, true, false, cond, List, [], ◌∷◌, Option, Some, None, map, option_map, refl, sym, ap, subst, ◌∙◌}
+use Rattle.std.specs.Prelude.{IfSome, IsSomeAnd, IsTrue}
 use Rattle.std.specs.List.{AllByRecursion}
 use Rattle.std.specs.Ordering.{is_eq, nat_cmp}
 use Rattle.std.specs.Cmp.Lexicographic.{nat_list_cmp_total, slice_cmp, texts_ties}
 use Rattle.std.specs.declared.cmp.Ordering.TheVariants.{Equal}
 use Rattle.std.specs.FinMap.Entries.{same_entries}
-use Rattle.btree_inplace.specs.Order.{extent_in, get_in}
+use Rattle.btree_inplace.specs.Order.{extent_in}
 use Rattle.column_set.specs.RecordValues.{RecordFields, record_fits}
 use Rattle.column_set.specs.RowReading.{row_in}
 use Rattle.cursor_nav.specs.Places.{are_sorted}
 use Rattle.database_state.specs.Lawful.{is_indexable}
-use Rattle.database_state.specs.State.{is_undone}
 use Rattle.database_state.specs.Table.{Rows, Table, row_at, schema_of, table_with_id}
 use Rattle.index_derive.specs.declared.rules.IndexRule.{IndexRule}
 use Rattle.long_rows.specs.WholeRows.{is_whole}
@@ -20,7 +19,7 @@ use Rattle.page_image.specs.Page.{Node}
 use Rattle.record_changes.proofs.Tests.{same_bytes}
 use Rattle.table_trees.specs.StoredNodes.{bookmark_entries}
 use Rattle.table_trees.specs.StoredTables.{StoredIndex, StoredTable, index_entries, is_index, part_of, table_indexes, table_nodes}
-use Rattle.version_store.specs.HeldChanges.{HeldChange, is_rewrite, is_standing}
+use Rattle.version_store.specs.HeldChanges.{HeldChange, is_standing}
 use Rattle.versioned_tables.specs.HeldRecords.{HeldRecord}
 use Rattle.versioned_tables.specs.Variants.{HoldsVariants, has_variant}
 use Rattle.stored_variants.specs.RecordRows.{IsRecordRow, TableValues, held_record_in, record_of, row_under, rows_of_nodes}
@@ -28,7 +27,6 @@ use Rattle.stored_variants.specs.VersionsKept.{AreKeptWith, HoldsNumbers, IsBook
 use Rattle.stored_variants.specs.VersionsView.{with_newest_by}
 use Rattle.stored_variants.proofs.NodeRecords.{record_at}
 use Rattle.stored_variants.proofs.RisingRows.{rows_rise}
-use Rattle.stored_variants.proofs.Tables.{found_number}
 
 -- a row stands for the same record, and can be read whole still
 pub record StaysSame (old new : Values) (row : List ℕ) : Type 0 where
@@ -162,14 +160,17 @@ newest_moved longs one other same (t ∷ tables) = λ i. record t { rows = rows_
 
 changes_moved : (longs : TableValues) (one other : List StoredTable) → HaveSameNodes one other → (tables : List Table) (held : List HeldChange) → AllByRecursion (IsKeptChange longs tables one) held → AllByRecursion (IsKeptChange longs tables other) held
 changes_moved longs one other same tables [] kept = tt
-changes_moved longs one other same tables (h ∷ held) kept = (record {
-  named = kept.0.named;
-  before = kept.0.before;
-  drop = kept.0.drop;
-  room = λ still. subst (λ (nodes : List Node). IfSome h.before (λ row. IsSomeAnd (extent_in nodes h.bookmark) (λ extent. length row ≤ extent))) (sym (same.nodes h.table)) (kept.0.room still);
-  other = kept.0.other;
-  sum = kept.0.sum;
-}, changes_moved longs one other same tables held kept.1)
+changes_moved longs one other same tables (h ∷ held) kept = (
+  record {
+    named = kept.0.named;
+    before = kept.0.before;
+    drop = kept.0.drop;
+    room = λ still. subst (λ (nodes : List Node). IfSome h.before (λ row. IsSomeAnd (extent_in nodes h.bookmark) (λ extent. length row ≤ extent))) (sym (same.nodes h.table)) (kept.0.room still);
+    other = kept.0.other;
+    sum = kept.0.sum;
+  },
+  changes_moved longs one other same tables held kept.1,
+)
 
 pub kept_moved : (longs : TableValues) (one other : List StoredTable) → HaveSameNodes one other → (tables : List Table) (held : List HeldChange) → AreKeptWith longs tables one held → AreKeptWith longs tables other held
 kept_moved longs one other same tables held kept = record {

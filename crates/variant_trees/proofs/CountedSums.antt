@@ -1,20 +1,18 @@
 -- Counts of long values where a row has a sum made in it.
-use Rattle.std.proofs.Common.{◌≡◌, ℕ, Bool, true, false, ◌&&◌, cond, List, [], Option, Some, None, option_map, refl, sym, ap, subst, ◌∙◌}
+use Rattle.std.proofs.Common.{◌≡◌, ℕ, Bool, true, false, ◌&&◌, cond, List, Option, Some, option_map, refl, sym, ap, ◌∙◌}
 use Rattle.std.specs.Prelude.{◌==◌, bytes_eq}
-use Rattle.column_set.specs.RecordValues.{lookup_by_key}
 use Rattle.column_set.specs.RowReading.{row_in}
 use Rattle.btree_inplace.specs.Changes.{with_data_at}
-use Rattle.long_references.specs.ReferenceCounts.{RowBefore, count_of, reference_count}
+use Rattle.long_references.specs.ReferenceCounts.{count_of, reference_count}
 use Rattle.long_references.specs.RowReferences.{identifiers, references, times_among}
 use Rattle.long_references.proofs.CountSteps.{rewritten}
 use Rattle.record_changes.proofs.Tests.{same_number}
-use Rattle.table_trees.specs.StoredTables.{StoredTable, table_long_values, table_nodes}
+use Rattle.table_trees.specs.StoredTables.{StoredTable, table_nodes}
 use Rattle.version_store.specs.HeldChanges.{HeldChange}
 use Rattle.stored_variants.specs.CountedValues.{AreCounted, newest_rows, rows_before}
 use Rattle.stored_variants.specs.RecordRows.{row_in_node, row_under}
 use Rattle.stored_variants.proofs.CountedRows.{newest_with, own_row, own_rows_are, same_newest}
 use Rattle.stored_variants.proofs.Dropped.{TreeLaws}
-use Rattle.variant_trees.specs.LeftVariants.{is_this}
 use Rattle.variant_trees.proofs.Refilled.{Fills, filled, row_filled}
 
 -- a row that names the same long values in the place of another

@@ -1,10 +1,10 @@
 -- Counts of long values as changes are undone, forgotten and made.
-use Rattle.std.proofs.Common.{◌≡◌, ℕ, zero, suc, ◌+◌, Bool, true, false, cond, List, [], ◌∷◌, Option, Some, None, filter, map, option_map, refl, sym, ap, subst, ◌∙◌, arith}
+use Rattle.std.proofs.Common.{◌≡◌, ℕ, zero, suc, ◌+◌, Bool, true, false, cond, List, [], ◌∷◌, Option, Some, None, filter, map, option_map, refl, sym, ap, ◌∙◌}
 use Rattle.std.specs.Prelude.{◌==◌, slice_get, sum_by}
 use Rattle.std.proofs.lemmas.List.Sums.{sum_by-cons}
 use Rattle.column_set.specs.RowReading.{row_in}
 use Rattle.database_state.specs.State.{is_undone, undone}
-use Rattle.long_references.specs.ReferenceCounts.{RowBefore, references_before}
+use Rattle.long_references.specs.ReferenceCounts.{references_before}
 use Rattle.version_store.specs.HeldChanges.{HeldChange, undone_at, with_status}
 use Rattle.stored_variants.specs.CountedValues.{row_before, rows_before}
 

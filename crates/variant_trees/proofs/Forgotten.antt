@@ -1,6 +1,6 @@
 -- The oldest held change is forgotten.
 use Rattle.std.proofs.Common.{◌≡◌, ℕ, ◌<◌, ◌≤◌, zero, suc, ◌+◌, Bool, true, false, not, ◌&&◌, ◌||◌, ◌⊎◌, inl, inr, cond, List, [], ◌∷◌, length, take, drop, Option, Some, None, Result, Ok, Err, find, filter, map, option_map, refl, sym, ap, subst, ◌∙◌, arith}
-use Rattle.std.specs.Prelude.{◌==◌, IfSome, IsOk, IsSomeAnd, MatchOption, is_none, is_some, nat_lt, flat_map, slice_get, sum_by, IsSome}
+use Rattle.std.specs.Prelude.{◌==◌, IfSome, IsOk, MatchOption, is_none, is_some, nat_lt, flat_map, slice_get, sum_by, IsSome}
 use Rattle.std.specs.List.{AllByRecursion, list_any}
 use Rattle.std.proofs.lemmas.Bool.Decides.{nat_tests}
 use Rattle.column_set.specs.Refusals.{Refusals, first_refusal}
@@ -268,15 +268,15 @@ pub record IsOldest (held : List HeldChange) (table : ℕ) (bookmark row : List 
 
 pub oldest_is : (held : List HeldChange) (table : ℕ) (bookmark row : List ℕ) → first_table held ≡ Some table → slice_get (map is_standing held) 0 ≡ Some true
     → slice_get (map (λ (h : HeldChange). h.before) held) 0 ≡ Some (Some row) → slice_get (map (λ (h : HeldChange). h.bookmark) held) 0 ≡ Some bookmark → IsOldest held table bookmark row
-oldest_is [] table bookmark row first stands before at = none_is table first
-oldest_is (h ∷ rest) table bookmark row first stands before at = record {
+oldest_is [] table bookmark row first stands was at = none_is table first
+oldest_is (h ∷ rest) table bookmark row first stands was at = record {
   change = h;
   rest = rest;
   is = refl;
   of_table = same_some h.table table first;
   standing = same_some (is_standing h) true stands;
   at_bookmark = same_some h.bookmark bookmark at;
-  before = same_some h.before (Some row) before;
+  before = same_some h.before (Some row) was;
 }
 
 -- what the row before it is
@@ -354,6 +354,9 @@ fallen_references id h other (inl fallen) = by (is_rewrite h.kind) (is_undone h.
     by true true e f fallen = ap (λ b. cond b 0 (references id (option_map row_in h.before))) f
     by true false e f fallen = impossible (sym fallen)
 
+none_more : (n : ℕ) → 0 + n ≡ n
+none_more n = omega arith
+
 nothing_counted : (trees : List StoredTable) (h : HeldChange) (held : List HeldChange) → (is_rewrite h.kind ≡ false → h.before ≡ None) → LeavesNothing h → AreCounted trees (h ∷ held) → AreCounted trees held
 nothing_counted trees h held other nothing counts = λ table id. counts table id ∙ ap (λ n. sum_by (λ row. references id (Some row.1)) (newest_rows (table_nodes trees table)) + n) (by table id (h.table == table))
   where
@@ -364,6 +367,7 @@ nothing_counted trees h held other nothing counts = λ table id. counts table id
     by table id true =
         sum_by-cons (references_before id) (row_before h) (map row_before (rest table))
         ∙ ap (λ n. n + sum_by (references_before id) (map row_before (rest table))) (fallen_references id h other nothing)
+        ∙ none_more (sum_by (references_before id) (map row_before (rest table)))
     by table id false = refl
 
 pub nothing_forgotten : (tables : List Table) (trees : List StoredTable) (held : List HeldChange) → ((h : HeldChange) → slice_get held 0 ≡ Some h → LeavesNothing h) → 0 < length held → AreKept tables trees held → AreCounted trees held → IsForgotten tables trees trees held

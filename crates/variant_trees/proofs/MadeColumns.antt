@@ -33,7 +33,6 @@ use Rattle.common_lemmas.proofs.Found.{of_found}
 use Rattle.stored_variants.proofs.Tables.{table_at}
 use Rattle.long_value.specs.Values.{Values}
 use Rattle.stored_variants.specs.CountedValues.{AreCounted}
-use Rattle.variant_trees.specs.GoneKeys.{KeepsValues}
 
 -- ---- a column comes
 

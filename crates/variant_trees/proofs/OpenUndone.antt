@@ -101,6 +101,11 @@ rows_now tables trees now place table held h was =
     P : HeldChange → Type 0
     P x = is_standing x ≡ true → IfSome x.before (IsRecordRow (table_long_values trees x.table))
 
+stands : (s : Status) → is_open s ≡ true → not (is_undone s) ≡ true
+stands uncommitted e = refl
+stands (committed n) e = impossible e
+stands undone e = impossible e
+
 pub can_put_back : (tables : List Table) (trees : List StoredTable) (now : List HeldChange) (place table : ℕ) (held : List HeldChange) (h : HeldChange) → WasOpen tables trees now place table held h → is_rewrite h.kind ≡ true → (schema : Schema) → IsSomeAnd (table_with_id tables table) (λ t. schema ≡ schema_of t)
     → CanPutBack schema table trees now place (with_status undone h)
 can_put_back tables trees now place table held h was rewrites schema same = record {
@@ -124,11 +129,6 @@ can_put_back tables trees now place table held h was rewrites schema same = reco
 
 pub was_undone : (tables : List Table) (trees : List StoredTable) (now : List HeldChange) (place table : ℕ) (held : List HeldChange) (h : HeldChange) → WasOpen tables trees now place table held h → is_rewrite h.kind ≡ true → IsUndone held place h now
 was_undone tables trees now place table held h was rewrites = record { at = was.at; rewrites = rewrites; is_uncommitted = was.is_uncommitted; after = was.after }
-
-stands : (s : Status) → is_open s ≡ true → not (is_undone s) ≡ true
-stands uncommitted e = refl
-stands (committed n) e = impossible e
-stands undone e = impossible e
 
 pub before_is : (longs : TableValues) (h : HeldChange) → is_rewrite h.kind ≡ true → is_open h.status ≡ true → (held_record_in longs h).before ≡ option_map (record_of (longs h.table)) h.before
 before_is longs h rewrites is_uncommitted = λ i. cond (rewrites i && stands h.status is_uncommitted i) (option_map (record_of (longs h.table)) h.before) None

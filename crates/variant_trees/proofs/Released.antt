@@ -1,5 +1,5 @@
 -- A row gives up its references to long values, and each row in use stands for the record that it stood for.
-use Rattle.std.proofs.Common.{◌≡◌, ◌≢◌, ℕ, ◌<◌, Bool, true, false, inl, inr, List, [], ◌∷◌, Option, Some, None, map, option_map, refl, sym, ap, subst, ◌∙◌, true≢false}
+use Rattle.std.proofs.Common.{◌≡◌, ℕ, ◌<◌, Bool, true, false, inl, inr, List, [], ◌∷◌, Option, Some, None, map, option_map, refl, sym, ap, subst, ◌∙◌, true≢false}
 use Rattle.std.specs.Prelude.{◌==◌, IfSome, IsSome, IsTrue, bytes_eq, is_some, not, unwrap_or}
 use Rattle.std.specs.List.{AllByRecursion}
 use Rattle.column_set.specs.RowReading.{row_in}
@@ -12,7 +12,7 @@ use Rattle.long_references.specs.RowReferences.{references}
 use Rattle.long_references.proofs.Taken.{ValueLaws}
 use Rattle.long_references.proofs.Totals.{by_test, equal_bytes, itself}
 use Rattle.long_rows.specs.RowsInUse.{IsInUse, newest, before as before_change}
-use Rattle.long_rows.specs.WholeRows.{StandsFor, is_whole, record_in}
+use Rattle.long_rows.specs.WholeRows.{is_whole, record_in}
 use Rattle.long_rows.proofs.InUse.{counted, is_there, stands_less}
 use Rattle.long_value.specs.Values.{LongValue, Values, released, value_of, without_reference}
 use Rattle.page_image.specs.Page.{Node}
@@ -74,15 +74,15 @@ untouched one other row same is = record {
 
 -- and one that is in use reads what it read
 pub used : (laws : ValueLaws) (ids : List (List ℕ)) (one other : Values) (rows : NewestRows) (held : List RowBefore) (row : List ℕ) → other ≡ with_all_released ids one → HasCounts other rows held → IsInUse rows held (row_in row) → IsRecordRow one row → StaysSame one other row
-used laws ids one other rows held row same counts use is =
-    let stands = stands_less laws ids one rows held (row_in row) (record_in one (row_in row)) (subst (λ (v : Values). HasCounts v rows held) same counts) use (record { formed = is.formed; whole = is.whole; shown = refl }) in
+used laws ids one other rows held row same counts needed is =
+    let stands = stands_less laws ids one rows held (row_in row) (record_in one (row_in row)) (subst (λ (v : Values). HasCounts v rows held) same counts) needed (record { formed = is.formed; whole = is.whole; shown = refl }) in
     subst (λ (v : Values). StaysSame one v row) (sym same) (record { shown = stands.shown; whole = stands.whole })
 
--- ---- each row in use stands for its record
+-- ---- each row in needed stands for its record
 
 in_use : (laws : ValueLaws) (tables : List Table) (old mid new : List StoredTable) (id : ℕ) (ids : List (List ℕ)) (held : List HeldChange) → Releases laws tables old mid new id ids held
     → (table : ℕ) (row : List ℕ) → IsInUse (newest_rows (table_nodes mid table)) (rows_before table held) (row_in row) → IsRecordRow (table_long_values mid table) row → StaysSame (table_long_values mid table) (table_long_values new table) row
-in_use laws tables old mid new id ids held r table row use is = by (id == table) refl
+in_use laws tables old mid new id ids held r table row needed is = by (id == table) refl
   where
     counts : HasCounts (table_long_values new table) (newest_rows (table_nodes mid table)) (rows_before table held)
     counts = subst (λ (nodes : List Node). HasCounts (table_long_values new table) (newest_rows nodes) (rows_before table held)) (r.released.nodes table) (r.counts table)
@@ -90,7 +90,7 @@ in_use laws tables old mid new id ids held r table row use is = by (id == table)
     by : (b : Bool) → (id == table) ≡ b → StaysSame (table_long_values mid table) (table_long_values new table) row
     by true e =
         used laws ids (table_long_values mid table) (table_long_values new table) (newest_rows (table_nodes mid table)) (rows_before table held) row
-        (subst (λ (n : ℕ). table_long_values new n ≡ with_all_released ids (table_long_values mid n)) (same_number id table e) r.released.named) counts use is
+        (subst (λ (n : ℕ). table_long_values new n ≡ with_all_released ids (table_long_values mid n)) (same_number id table e) r.released.named) counts needed is
     by false e = untouched (table_long_values mid table) (table_long_values new table) row (r.released.others table (λ same. other_number id table e (sym same))) is
 
 are_same : (laws : ValueLaws) (tables : List Table) (old mid new : List StoredTable) (id : ℕ) (ids : List (List ℕ)) (held : List HeldChange) → Releases laws tables old mid new id ids held → AreSame (table_long_values mid) (table_long_values new) mid held
@@ -172,4 +172,4 @@ no_value_came laws tables old mid new id ids held r = λ table x none.
 
 -- what a row in use names is there
 pub named_is_there : (values : Values) (rows : NewestRows) (held : List RowBefore) (row : RowFields) → HasCounts values rows held → IsInUse rows held row → (id : List ℕ) → 0 < references id (Some row) → IsSome (value_of id values)
-named_is_there values rows held row counts use id some = is_there (value_of id values) (counted values rows held row id counts use some)
+named_is_there values rows held row counts needed id some = is_there (value_of id values) (counted values rows held row id counts needed some)

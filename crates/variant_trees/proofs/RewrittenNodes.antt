@@ -1,5 +1,5 @@
 -- Rows that are written anew one after the other, by the order of their bookmarks.
-use Rattle.std.proofs.Common.{◌≡◌, ◌≢◌, ℕ, ◌≤◌, ◌<◌, Bool, true, false, cond, List, [], ◌∷◌, length, Option, Some, None, find, map, option_map, refl, sym, ap, subst, ◌∙◌, arith, inl, inr}
+use Rattle.std.proofs.Common.{◌≡◌, ℕ, ◌≤◌, ◌<◌, Bool, true, false, cond, List, [], ◌∷◌, length, Option, Some, None, find, map, option_map, refl, sym, ap, subst, ◌∙◌, arith, inl, inr}
 use Rattle.std.specs.Prelude.{All, IsSomeAnd, is_some, unwrap_or}
 use Rattle.std.specs.List.{AllByRecursion, list_all}
 use Rattle.std.proofs.lemmas.List.Elements.{All-head, All-tail}
@@ -12,7 +12,7 @@ use Rattle.page_image.specs.Page.{Node}
 use Rattle.record_changes.proofs.Tests.{and_left, and_right, equal_bytes, refuted}
 use Rattle.std.specs.Cmp.Lexicographic.{texts_ties}
 use Rattle.table_trees.specs.StoredNodes.{IsShortNode, bookmark_entries, node_after, put_data}
-use Rattle.table_trees.specs.StoredTables.{StoredTable, has_table, table_indexes, table_nodes, with_nodes}
+use Rattle.table_trees.specs.StoredTables.{StoredTable, has_table, table_nodes}
 use Rattle.stored_variants.specs.RecordRows.{IsRecordRow}
 use Rattle.variant_trees.specs.LostColumns.{HasNodes, HoldsRecord, node_without, row_without}
 use Rattle.versioned_tables.proofs.Neighbours.{IsIn, found_in}

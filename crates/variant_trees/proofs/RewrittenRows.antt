@@ -1,6 +1,6 @@
 -- A row is written anew, and gives up the references to long values that it has no more.
-use Rattle.std.proofs.Common.{◌≡◌, ◌≢◌, ℕ, ◌≤◌, Bool, true, false, ◌&&◌, cond, List, [], ◌∷◌, length, Option, Some, None, find, map, option_map, refl, sym, ap, subst, ◌∙◌}
-use Rattle.std.specs.Prelude.{◌==◌, ◌<◌, IfSome, IsSome, bytes_eq, is_some, option_and_then}
+use Rattle.std.proofs.Common.{◌≡◌, ◌≢◌, ℕ, Bool, true, false, cond, List, [], Option, Some, None, find, option_map, refl, sym, ap, subst, ◌∙◌}
+use Rattle.std.specs.Prelude.{◌<◌, IsSome, bytes_eq, is_some, option_and_then}
 use Rattle.btree_inplace.specs.Changes.{with_data_at}
 use Rattle.btree_inplace.specs.Order.{has_key}
 use Rattle.column_set.specs.RowReading.{row_in}
@@ -18,7 +18,7 @@ use Rattle.record_changes.proofs.Tests.{same_bytes}
 use Rattle.table_trees.specs.StoredNodes.{bookmark_entries, put_data}
 use Rattle.table_trees.specs.StoredTables.{StoredTable, has_table, table_indexes, table_long_values, table_nodes, with_nodes}
 use Rattle.stored_variants.specs.CountedValues.{newest_rows}
-use Rattle.stored_variants.specs.RecordRows.{IsRecordRow, record_of, row_in_node, row_under}
+use Rattle.stored_variants.specs.RecordRows.{IsRecordRow, row_in_node, row_under}
 use Rattle.stored_variants.proofs.CountedRows.{newest_with, own_row, own_rows_are}
 use Rattle.variant_trees.specs.GoneKeys.{table_numbers}
 use Rattle.variant_trees.specs.LostColumns.{GivesUp, HasNodes}

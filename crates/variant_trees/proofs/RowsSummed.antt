@@ -1,5 +1,5 @@
 -- Rows in which the one value of a column is another, of at most 255 bytes.
-use Rattle.std.proofs.Common.{◌≡◌, ℕ, Bool, true, false, ◌&&◌, cond, Option, Some, None, List, [], ◌∷◌, ◌++◌, length, map, refl, sym, ap, subst, ◌∙◌, arith}
+use Rattle.std.proofs.Common.{◌≡◌, ℕ, Bool, true, false, ◌&&◌, cond, Some, List, [], ◌∷◌, ◌++◌, length, map, refl, sym, ap, ◌∙◌, arith}
 use Rattle.std.specs.Prelude.{◌==◌, ◌^◌, nat_le, nat_lt, unwrap_or}
 use Rattle.std.specs.List.{list_all}
 use Rattle.std.specs.Ordering.{eq_by_cmp, is_eq, nat_cmp}
@@ -15,7 +15,7 @@ use Rattle.long_references.specs.RowReferences.{identifier, identifiers, named_b
 use Rattle.long_rows.specs.WholeRows.{bytes_of_value, is_there, is_whole, record_in, whole_value}
 use Rattle.long_rows.proofs.Keeping.{found_one}
 use Rattle.long_rows.proofs.Kept.{and_four}
-use Rattle.long_value.specs.Values.{LongValue, Values, value_of}
+use Rattle.long_value.specs.Values.{Values, value_of}
 use Rattle.record_changes.proofs.Tests.{and_both, and_left, and_right, impossible}
 
 -- ---- the values of a column
@@ -58,6 +58,7 @@ too_short size n least same four = grind (arith, nat_tests)
 
 -- one value of four bytes stands in the row
 single_here : (vals : Values) (xs : List RowValue) (old : List ℕ) → map (whole_value vals) xs ≡ old ∷ [] → length old ≡ 4 → list_all value_fits_row xs ≡ true → list_all (is_there vals) xs ≡ true → xs ≡ Here old ∷ []
+unfolding is_single first_or
 single_here vals [] old e four fits there = impossible (ap is_single e)
 single_here vals (Here bytes ∷ []) old e four fits there = ap (λ (vs : List (List ℕ)). Here (first_or vs) ∷ []) e
 single_here vals (Apart entry place size ∷ []) old e four fits there =

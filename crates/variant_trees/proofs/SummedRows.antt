@@ -10,7 +10,7 @@ use Rattle.column_set.specs.declared.changes.Change.TheVariants.{Add}
 use Rattle.column_set.specs.declared.rows.RowValue.TheVariants.{Here}
 use Rattle.column_set.specs.RecordValues.{RecordFields, column_of_id, put_by_number, record_fits, values_of}
 use Rattle.column_set.specs.RowReading.{row_in}
-use Rattle.column_set.specs.Rows.{RowFields, all_here, here_fields, is_row, row_bytes, row_values_of}
+use Rattle.column_set.specs.Rows.{RowFields, is_row, row_bytes, row_values_of}
 use Rattle.cursor_nav.specs.Places.{are_sorted}
 use Rattle.database_state.specs.Changes.{escrow_bytes, escrow_sum, rows_with_sum, tables_after, with_sum}
 use Rattle.database_state.specs.Conflicts.{yields_key}

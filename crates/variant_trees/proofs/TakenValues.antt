@@ -1,8 +1,7 @@
 -- The long values that a put takes, and those that it gives back where it fails.
-use Rattle.std.proofs.Common.{◌≡◌, ℕ, ◌+◌, ◌<◌, ◌≤◌, Bool, true, false, List, Option, Some, map, option_map, refl, sym, ap, subst, ◌∙◌, arith}
-use Rattle.std.specs.Prelude.{◌==◌, IfSome, IsSome, IsSomeAnd, is_some}
-use Rattle.std.specs.List.{AllByRecursion}
-use Rattle.btree_inplace.specs.Order.{extent_in, get_in}
+use Rattle.std.proofs.Common.{◌≡◌, ℕ, ◌+◌, ◌<◌, ◌≤◌, Bool, true, false, List, Option, Some, map, refl, sym, ap, subst, ◌∙◌, arith}
+use Rattle.std.specs.Prelude.{◌==◌, IfSome, IsSome, IsSomeAnd}
+use Rattle.btree_inplace.specs.Order.{extent_in}
 use Rattle.column_set.specs.Rows.{RowFields}
 use Rattle.kept_rows.specs.ValuesChanged.{HasLongValues}
 use Rattle.long_references.specs.ReferenceCounts.{count_of, with_all_released, with_all_taken}
@@ -14,7 +13,7 @@ use Rattle.page_image.specs.Page.{Node}
 use Rattle.record_changes.proofs.Tests.{same_number}
 use Rattle.stored_variants.specs.PutRecords.{Keys}
 use Rattle.stored_variants.specs.RecordRows.{IsRecordRow, TableValues, row_under}
-use Rattle.table_trees.specs.StoredTables.{StoredTable, has_table, table_long_values, table_nodes}
+use Rattle.table_trees.specs.StoredTables.{StoredTable, table_long_values, table_nodes}
 use Rattle.version_store.specs.HeldChanges.{HeldChange}
 use Rattle.variant_trees.specs.GoneKeys.{AreRows, KeepsValues}
 use Rattle.variant_trees.specs.PutStages.{IsHalfPut}

@@ -1,5 +1,5 @@
 -- Long values once a put or a drop is undone: the row that was newest gives up its references, and each value is counted.
-use Rattle.std.proofs.Common.{◌≡◌, ℕ, ◌<◌, Bool, true, false, cond, List, Option, Some, None, map, option_map, refl, sym, ap, subst, ◌∙◌}
+use Rattle.std.proofs.Common.{◌≡◌, ℕ, ◌<◌, Bool, true, false, cond, List, Option, Some, map, option_map, refl, sym, ap, subst, ◌∙◌}
 use Rattle.std.specs.Prelude.{◌==◌, ◌++◌, ◌∷◌, IfSome, IsSome, is_some}
 use Rattle.column_set.specs.RecordValues.{lookup_by_key}
 use Rattle.column_set.specs.RowReading.{row_in}

@@ -1,5 +1,5 @@
 -- A record that goes, as the code has it.
-use Rattle.std.specs.Prelude.{List, IsTrue}
+use Rattle.std.specs.Prelude.{IsTrue}
 use Rattle.column_set.specs.RecordValues.{RecordFields}
 use Rattle.column_set.specs.Rows.{IsRowBytes}
 use Rattle.column_set.specs.RowReading.{row_in}

@@ -1,5 +1,5 @@
 -- A store in which a record still has what is left of a variant that is none any more.
-use Rattle.std.specs.Prelude.{◌≡◌, ℕ, ◌==◌, ◌≤◌, length, Bool, true, false, not, ◌&&◌, List, [], ◌∷◌, drop, map, find, Option, Some, None, if◌then◌else◌, IfSome, bytes_eq, is_some, option_map, slice_get}
+use Rattle.std.specs.Prelude.{◌≡◌, ℕ, ◌==◌, Bool, true, false, not, ◌&&◌, List, [], ◌∷◌, drop, map, find, Option, Some, None, if◌then◌else◌, IfSome, bytes_eq, is_some, option_map, slice_get}
 use Rattle.std.specs.List.{AllByRecursion, list_any}
 use Rattle.btree_inplace.specs.Order.{get_in, has_key}
 use Rattle.column_set.specs.RecordValues.{RecordFields}
@@ -10,13 +10,12 @@ use Rattle.jet_catalog.specs.Catalog.{without_rows}
 use Rattle.long_value.specs.Values.{Values}
 use Rattle.page_image.specs.Page.{Node}
 use Rattle.table_trees.specs.StoredTables.{StoredTable, index_entries, table_indexes, table_long_values, table_nodes}
-use Rattle.version_store.specs.HeldChanges.{HeldChange, is_standing}
+use Rattle.version_store.specs.HeldChanges.{HeldChange}
 use Rattle.versioned_tables.specs.HeldRecords.{HeldRecord}
 use Rattle.versioned_tables.specs.Variants.{has_variant, is_variant_key}
-use Rattle.stored_variants.specs.PutRecords.{HasKeysOf}
 use Rattle.variant_trees.specs.GoneKeys.{KeepsValues, is_gone_key}
 use Rattle.stored_variants.specs.CountedValues.{AreCounted, BringsNoValue, newest_rows}
-use Rattle.stored_variants.specs.RecordRows.{TableValues, held_record_in, record_of, row_under, rows_of_nodes}
+use Rattle.stored_variants.specs.RecordRows.{TableValues, held_record_in, row_under, rows_of_nodes}
 use Rattle.stored_variants.specs.VersionsView.{with_newest}
 use Rattle.stored_variants.specs.VersionsKept.{AreKept, IsKeptChange, IsRowUnder, IsStoredRule, needed_trees, secondary_rule, tree_numbers}
 

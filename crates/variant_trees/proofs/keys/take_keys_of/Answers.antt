@@ -30,12 +30,12 @@ take_key-requires-clause-newest c =
 pub take_key-requires-clause-rows : goal.take_key-requires-clause-rows
 take_key-requires-clause-rows c = subst (λ (longs : TableValues). AreRows longs c.args.versions.now) (λ i table. sym (c.loop-next.invariant.others.values table) i) c.requires.rows
 
-pub next_key-next-in-Some-requires-clause-row : goal.next_key-next-in-Some-requires-clause-row
-next_key-next-in-Some-requires-clause-row c =
+pub next_key-next-requires-in-Some-clause-row : goal.next_key-next-requires-in-Some-clause-row
+next_key-next-requires-in-Some-clause-row c =
     subst (λ (v : Values). CanRead v c.args.gone) (sym (c.take_key.ensures.others.values c.args.table.0 ∙ c.loop-next.invariant.others.values c.args.table.0)) c.requires.gone
 
-pub next_key-next-in-Some-requires-clause-taken : goal.next_key-next-in-Some-requires-clause-taken
-next_key-next-in-Some-requires-clause-taken c =
+pub next_key-next-requires-in-Some-clause-taken : goal.next_key-next-requires-in-Some-clause-taken
+next_key-next-requires-in-Some-clause-taken c =
     subst (λ (v : Values). IsOk (entries c.args.rule.now c.args.schema.now (gone_fields v c.args.gone))) (sym (c.take_key.ensures.others.values c.args.table.0 ∙ c.loop-next.invariant.others.values c.args.table.0)) c.requires.rule.taken
 
 pub loop-next-smaller : goal.loop-next-smaller

@@ -1,15 +1,11 @@
-use Rattle.std.proofs.Common.{◌≡◌, ℕ, List, Option, Some, None, sym, ap, subst, ◌∙◌}
-use Rattle.std.specs.Prelude.{OnOk, option_and_then, option_copied, option_map}
-use Rattle.btree_inplace.specs.Order.{get_in}
+use Rattle.std.proofs.Common.{ℕ, List, subst, ◌∙◌}
+use Rattle.std.specs.Prelude.{option_copied}
 use Rattle.column_set.specs.RowReading.{row_in}
 use Rattle.column_set.specs.Rows.{RowFields, row_bytes}
 use Rattle.long_rows.specs.KeptRows.{given_values, kept_row}
-use Rattle.page_image.specs.Page.{Node}
 use Rattle.stored_variants.specs.PutRecords.{record_keys}
-use Rattle.stored_variants.specs.RecordRows.{row_in_node, row_under}
 use Rattle.stored_variants.proofs.Outcomes.{on_ok}
-use Rattle.table_trees.specs.StoredTables.{StoredTable, table_long_values, table_nodes}
-use Rattle.variant_trees.specs.PutStages.{HasVariantKeys, IsPut, put_found}
+use Rattle.variant_trees.specs.PutStages.{IsPut, put_found}
 use Rattle.variant_trees.proofs.PutRows.{IsKeptRow, KeepLaws, is_kept_row}
 use Rattle.variant_trees.proofs.putting.put_record.Goals as goal
 
@@ -124,8 +120,8 @@ returns-in-None-clause-put c =
     (subst (λ (row : List ℕ). IsPut c.args.table.0 c.args.bookmark.now row (given_values (row_in c.as_slice-bytes.result.now) c.args.values.now) (record_keys c.args.schema.now.indexes c.args.schema.now c.args.values.now) c.args.trees.now.tables c.put_new.new.trees.tables)
     (c.as_slice-bytes.ensures.value ∙ c.in-Ok.ensures.row) put))
 
-pub returns-in-Some-clause-put : goal.returns-in-Some-clause-put
-returns-in-Some-clause-put c =
+pub returns-clause-put : goal.returns-clause-put
+returns-clause-put c =
     let laws : KeepLaws = record {
       read = c.rows_are_read_back.ensures;
       form = c.form_of_a_kept_row.ensures.form;
@@ -138,4 +134,3 @@ returns-in-Some-clause-put c =
     subst (λ (r : RowFields). IsPut c.args.table.0 c.args.bookmark.now (row_bytes (kept_row (put_found c.args.by.number c.args.trees.now.tables c.args.table.0 c.args.bookmark.now (option_copied c.args.copied)) c.args.values.now)) (given_values r c.args.values.now) (record_keys c.args.schema.now.indexes c.args.schema.now c.args.values.now) c.args.trees.now.tables c.put_over.new.trees.tables) kept.read
     (subst (λ (row : List ℕ). IsPut c.args.table.0 c.args.bookmark.now row (given_values (row_in c.as_slice-bytes.result.now) c.args.values.now) (record_keys c.args.schema.now.indexes c.args.schema.now c.args.values.now) c.args.trees.now.tables c.put_over.new.trees.tables)
     (c.as_slice-bytes.ensures.value ∙ c.in-Ok.ensures.row) put))
-

@@ -1,6 +1,7 @@
 use Rattle.std.proofs.Common.{List, Option, ℕ, sym, ap, subst, ◌∙◌}
 use Rattle.std.specs.Prelude.{IfSome, is_none, is_some, option_and_then, option_map}
 use Rattle.btree_inplace.specs.Order.{get_in}
+use Rattle.long_value.specs.Values.{Values}
 use Rattle.table_trees.specs.StoredTables.{table_long_values, StoredTable, table_nodes}
 use Rattle.variant_trees.specs.GoneKeys.{held_from, table_numbers}
 use Rattle.stored_variants.specs.PutRecords.{record_keys}
@@ -13,8 +14,9 @@ use Rattle.variant_trees.proofs.putting.take_back_new.Goals as goal
 
 pub take_back-requires-clause-newest : goal.take_back-requires-clause-newest
 take_back-requires-clause-newest c =
-    subst (λ (trees : List StoredTable). IfSome (row_under (table_nodes trees c.args.table.0) c.args.bookmark.now) (IsRecordRow (table_long_values c.args.trees.now.tables c.args.table.0))) (sym c.replace.ensures.tables)
-    (subst (λ (o : Option (List ℕ)). IfSome (option_and_then row_in_node o) (IsRecordRow (table_long_values c.args.trees.now.tables c.args.table.0))) (sym (emptied_at (record { named = c.nodes_after_a_change.ensures.named; others = c.nodes_after_a_change.ensures.others; indexes = c.nodes_after_a_change.ensures.indexes; values = c.nodes_after_a_change.ensures.long_values; put = c.nodes_by_bookmark.ensures.put; removed = c.nodes_by_bookmark.ensures.removed; replaced = c.nodes_by_bookmark.ensures.replaced; widened = c.nodes_by_bookmark.ensures.widened }) c.args.table.0 c.args.bookmark.now c.args.trees.now.tables c.requires.there c.requires.node)) tt)
+    subst (λ (v : Values). IfSome (row_under (table_nodes c.replace.new.self.tables c.args.table.0) c.args.bookmark.now) (IsRecordRow v)) (sym (ap (λ (trees : List StoredTable). table_long_values trees c.args.table.0) c.replace.ensures.tables ∙ c.nodes_after_a_change.ensures.long_values c.args.trees.now.tables c.args.table.0 c.args.table.0 _))
+    (subst (λ (trees : List StoredTable). IfSome (row_under (table_nodes trees c.args.table.0) c.args.bookmark.now) (IsRecordRow (table_long_values c.args.trees.now.tables c.args.table.0))) (sym c.replace.ensures.tables)
+    (subst (λ (o : Option (List ℕ)). IfSome (option_and_then row_in_node o) (IsRecordRow (table_long_values c.args.trees.now.tables c.args.table.0))) (sym (emptied_at (record { named = c.nodes_after_a_change.ensures.named; others = c.nodes_after_a_change.ensures.others; indexes = c.nodes_after_a_change.ensures.indexes; values = c.nodes_after_a_change.ensures.long_values; put = c.nodes_by_bookmark.ensures.put; removed = c.nodes_by_bookmark.ensures.removed; replaced = c.nodes_by_bookmark.ensures.replaced; widened = c.nodes_by_bookmark.ensures.widened }) c.args.table.0 c.args.bookmark.now c.args.trees.now.tables c.requires.there c.requires.node)) tt))
 
 pub take_back-requires-clause-there : goal.take_back-requires-clause-there
 take_back-requires-clause-there c =

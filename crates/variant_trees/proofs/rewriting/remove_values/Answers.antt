@@ -57,7 +57,7 @@ rewrite_row-requires-clause-table c =
       shown = c.rows_without_a_columns_values.ensures.shown;
       stand = c.rows_without_a_columns_values.ensures.stand;
     } in
-    let written : c.as_slice-row.result.now ≡ row_without c.args.column.0 c.in-Some.bytes.now = c.as_slice-row.ensures.value ∙ c.write_without_column.ensures (row_in c.in-Some.bytes.now) row.formed row.spelled in
+    let written : c.as_slice-in-Some.result.now ≡ row_without c.args.column.0 c.in-Some.bytes.now = c.as_slice-in-Some.ensures.value ∙ c.write_without_column.ensures (row_in c.in-Some.bytes.now) row.formed row.spelled in
     let copied : c.as_slice.result.now ≡ c.in-Some.bytes.now = c.as_slice.ensures.value ∙ c.copy_row.ensures in
     let key : c.as_bytes.result.now ≡ c.in-Some.bookmark.now = c.as_bytes.ensures.value ∙ c.own_entry-found.ensures.key in
     let got = next_there c.args.table.0 c.loop-bookmark.place c.args.column.0 c.args.trees.now.tables c.loop-bookmark.trees.tables c.in-Some.bookmark.now c.in-Some.bytes.now (next_of place) c.loop-bookmark.invariant.done in
@@ -76,7 +76,7 @@ rewrite_row-requires-clause-node c =
       shown = c.rows_without_a_columns_values.ensures.shown;
       stand = c.rows_without_a_columns_values.ensures.stand;
     } in
-    let written : c.as_slice-row.result.now ≡ row_without c.args.column.0 c.in-Some.bytes.now = c.as_slice-row.ensures.value ∙ c.write_without_column.ensures (row_in c.in-Some.bytes.now) row.formed row.spelled in
+    let written : c.as_slice-in-Some.result.now ≡ row_without c.args.column.0 c.in-Some.bytes.now = c.as_slice-in-Some.ensures.value ∙ c.write_without_column.ensures (row_in c.in-Some.bytes.now) row.formed row.spelled in
     let copied : c.as_slice.result.now ≡ c.in-Some.bytes.now = c.as_slice.ensures.value ∙ c.copy_row.ensures in
     let key : c.as_bytes.result.now ≡ c.in-Some.bookmark.now = c.as_bytes.ensures.value ∙ c.own_entry-found.ensures.key in
     let got = next_there c.args.table.0 c.loop-bookmark.place c.args.column.0 c.args.trees.now.tables c.loop-bookmark.trees.tables c.in-Some.bookmark.now c.in-Some.bytes.now (next_of place) c.loop-bookmark.invariant.done in
@@ -95,7 +95,7 @@ rewrite_row-requires-clause-row c =
       shown = c.rows_without_a_columns_values.ensures.shown;
       stand = c.rows_without_a_columns_values.ensures.stand;
     } in
-    let written : c.as_slice-row.result.now ≡ row_without c.args.column.0 c.in-Some.bytes.now = c.as_slice-row.ensures.value ∙ c.write_without_column.ensures (row_in c.in-Some.bytes.now) row.formed row.spelled in
+    let written : c.as_slice-in-Some.result.now ≡ row_without c.args.column.0 c.in-Some.bytes.now = c.as_slice-in-Some.ensures.value ∙ c.write_without_column.ensures (row_in c.in-Some.bytes.now) row.formed row.spelled in
     let copied : c.as_slice.result.now ≡ c.in-Some.bytes.now = c.as_slice.ensures.value ∙ c.copy_row.ensures in
     let key : c.as_bytes.result.now ≡ c.in-Some.bookmark.now = c.as_bytes.ensures.value ∙ c.own_entry-found.ensures.key in
     let got = next_there c.args.table.0 c.loop-bookmark.place c.args.column.0 c.args.trees.now.tables c.loop-bookmark.trees.tables c.in-Some.bookmark.now c.in-Some.bytes.now (next_of place) c.loop-bookmark.invariant.done in
@@ -114,7 +114,7 @@ rewrite_row-requires-clause-rewritten c =
       shown = c.rows_without_a_columns_values.ensures.shown;
       stand = c.rows_without_a_columns_values.ensures.stand;
     } in
-    let written : c.as_slice-row.result.now ≡ row_without c.args.column.0 c.in-Some.bytes.now = c.as_slice-row.ensures.value ∙ c.write_without_column.ensures (row_in c.in-Some.bytes.now) row.formed row.spelled in
+    let written : c.as_slice-in-Some.result.now ≡ row_without c.args.column.0 c.in-Some.bytes.now = c.as_slice-in-Some.ensures.value ∙ c.write_without_column.ensures (row_in c.in-Some.bytes.now) row.formed row.spelled in
     let copied : c.as_slice.result.now ≡ c.in-Some.bytes.now = c.as_slice.ensures.value ∙ c.copy_row.ensures in
     let key : c.as_bytes.result.now ≡ c.in-Some.bookmark.now = c.as_bytes.ensures.value ∙ c.own_entry-found.ensures.key in
     let got = next_there c.args.table.0 c.loop-bookmark.place c.args.column.0 c.args.trees.now.tables c.loop-bookmark.trees.tables c.in-Some.bookmark.now c.in-Some.bytes.now (next_of place) c.loop-bookmark.invariant.done in
@@ -133,7 +133,7 @@ rewrite_row-requires-clause-fewer c =
       shown = c.rows_without_a_columns_values.ensures.shown;
       stand = c.rows_without_a_columns_values.ensures.stand;
     } in
-    let written : c.as_slice-row.result.now ≡ row_without c.args.column.0 c.in-Some.bytes.now = c.as_slice-row.ensures.value ∙ c.write_without_column.ensures (row_in c.in-Some.bytes.now) row.formed row.spelled in
+    let written : c.as_slice-in-Some.result.now ≡ row_without c.args.column.0 c.in-Some.bytes.now = c.as_slice-in-Some.ensures.value ∙ c.write_without_column.ensures (row_in c.in-Some.bytes.now) row.formed row.spelled in
     let copied : c.as_slice.result.now ≡ c.in-Some.bytes.now = c.as_slice.ensures.value ∙ c.copy_row.ensures in
     let key : c.as_bytes.result.now ≡ c.in-Some.bookmark.now = c.as_bytes.ensures.value ∙ c.own_entry-found.ensures.key in
     let got = next_there c.args.table.0 c.loop-bookmark.place c.args.column.0 c.args.trees.now.tables c.loop-bookmark.trees.tables c.in-Some.bookmark.now c.in-Some.bytes.now (next_of place) c.loop-bookmark.invariant.done in
@@ -154,7 +154,7 @@ rewrite_row-requires-clause-room c =
       shown = c.rows_without_a_columns_values.ensures.shown;
       stand = c.rows_without_a_columns_values.ensures.stand;
     } in
-    let written : c.as_slice-row.result.now ≡ row_without c.args.column.0 c.in-Some.bytes.now = c.as_slice-row.ensures.value ∙ c.write_without_column.ensures (row_in c.in-Some.bytes.now) row.formed row.spelled in
+    let written : c.as_slice-in-Some.result.now ≡ row_without c.args.column.0 c.in-Some.bytes.now = c.as_slice-in-Some.ensures.value ∙ c.write_without_column.ensures (row_in c.in-Some.bytes.now) row.formed row.spelled in
     let copied : c.as_slice.result.now ≡ c.in-Some.bytes.now = c.as_slice.ensures.value ∙ c.copy_row.ensures in
     let key : c.as_bytes.result.now ≡ c.in-Some.bookmark.now = c.as_bytes.ensures.value ∙ c.own_entry-found.ensures.key in
     let got = next_there c.args.table.0 c.loop-bookmark.place c.args.column.0 c.args.trees.now.tables c.loop-bookmark.trees.tables c.in-Some.bookmark.now c.in-Some.bytes.now (next_of place) c.loop-bookmark.invariant.done in
@@ -162,7 +162,7 @@ rewrite_row-requires-clause-room c =
     let now = read_now c.args.table.0 c.args.trees.now.tables c.loop-bookmark.trees.tables c.in-Some.bookmark.now c.in-Some.bytes.now c.loop-bookmark.invariant.lost got some in
     let low : length (row_without c.args.column.0 c.in-Some.bytes.now) ≤ length c.in-Some.bytes.now =
     subst (λ (bytes : List ℕ). length (row_without c.args.column.0 c.in-Some.bytes.now) ≤ length bytes) (sym row.spelled) (c.rows_without_a_column.ensures.shorter (row_in c.in-Some.bytes.now) c.args.column.0) in
-    moved_room _ (table_nodes c.loop-bookmark.trees.tables c.args.table.0) c.in-Some.bookmark.now c.as_bytes.result.now (row_without c.args.column.0 c.in-Some.bytes.now) c.as_slice-row.result.now
+    moved_room _ (table_nodes c.loop-bookmark.trees.tables c.args.table.0) c.in-Some.bookmark.now c.as_bytes.result.now (row_without c.args.column.0 c.in-Some.bytes.now) c.as_slice-in-Some.result.now
     (sym c.loop-bookmark.invariant.done.nodes) (sym key) (sym written)
     (room_of_next c.loop-bookmark.place c.args.column.0 (table_nodes c.args.trees.now.tables c.args.table.0) c.in-Some.bookmark.now c.in-Some.bytes.now (next_of place) (c.nodes_are_in_order.ensures.short c.args.table.0) low)
 
@@ -182,7 +182,7 @@ loop-bookmark-preserved c =
       shown = c.rows_without_a_columns_values.ensures.shown;
       stand = c.rows_without_a_columns_values.ensures.stand;
     } in
-    let written : c.as_slice-row.result.now ≡ row_without c.args.column.0 c.in-Some.bytes.now = c.as_slice-row.ensures.value ∙ c.write_without_column.ensures (row_in c.in-Some.bytes.now) row.formed row.spelled in
+    let written : c.as_slice-in-Some.result.now ≡ row_without c.args.column.0 c.in-Some.bytes.now = c.as_slice-in-Some.ensures.value ∙ c.write_without_column.ensures (row_in c.in-Some.bytes.now) row.formed row.spelled in
     let copied : c.as_slice.result.now ≡ c.in-Some.bytes.now = c.as_slice.ensures.value ∙ c.copy_row.ensures in
     let key : c.as_bytes.result.now ≡ c.in-Some.bookmark.now = c.as_bytes.ensures.value ∙ c.own_entry-found.ensures.key in
     let got = next_there c.args.table.0 c.loop-bookmark.place c.args.column.0 c.args.trees.now.tables c.loop-bookmark.trees.tables c.in-Some.bookmark.now c.in-Some.bytes.now (next_of place) c.loop-bookmark.invariant.done in
@@ -190,10 +190,10 @@ loop-bookmark-preserved c =
     let now = read_now c.args.table.0 c.args.trees.now.tables c.loop-bookmark.trees.tables c.in-Some.bookmark.now c.in-Some.bytes.now c.loop-bookmark.invariant.lost got some in record {
       done =
           replaced_next c.args.table.0 c.loop-bookmark.place c.args.column.0 c.args.trees.now.tables c.loop-bookmark.trees.tables c.in-Some.bookmark.now c.in-Some.bytes.now (next_of place) (c.nodes_are_in_order.ensures.sorted c.args.table.0) c.loop-bookmark.invariant.done
-          c.as_bytes.result.now c.own_entry-found.result.key c.own_entry-found.result.bookmark c.as_slice-row.result.now key c.own_entry-found.ensures.key c.own_entry-found.ensures.bookmark written
+          c.as_bytes.result.now c.own_entry-found.result.key c.own_entry-found.result.bookmark c.as_slice-in-Some.result.now key c.own_entry-found.ensures.key c.own_entry-found.ensures.bookmark written
           c.rewrite_row.new.trees.tables c.rewrite_row.ensures.nodes;
       lost =
-          one_lost laws c.nodes_by_bookmark.ensures.replaced c.args.table.0 c.args.column.0 c.args.trees.now.tables c.loop-bookmark.trees.tables c.rewrite_row.new.trees.tables c.in-Some.bookmark.now c.in-Some.bytes.now c.as_bytes.result.now c.as_slice-row.result.now row
+          one_lost laws c.nodes_by_bookmark.ensures.replaced c.args.table.0 c.args.column.0 c.args.trees.now.tables c.loop-bookmark.trees.tables c.rewrite_row.new.trees.tables c.in-Some.bookmark.now c.in-Some.bytes.now c.as_bytes.result.now c.as_slice-in-Some.result.now row
           c.loop-bookmark.invariant.lost got key written c.rewrite_row.ensures.nodes c.rewrite_row.ensures.values;
       catalog = c.rewrite_row.ensures.catalog ∙ c.loop-bookmark.invariant.catalog;
     }

@@ -1,5 +1,5 @@
-use Rattle.std.proofs.Common.{◌≡◌, ℕ, ◌<◌, List, [], Option, Some, None, option_map, sym, ap, subst, ◌∙◌}
-use Rattle.std.specs.Prelude.{IsSome, option_copied}
+use Rattle.std.proofs.Common.{◌≡◌, ℕ, ◌<◌, List, [], Option, Some, option_map, sym, ap, subst, ◌∙◌}
+use Rattle.std.specs.Prelude.{IsSome}
 use Rattle.column_set.specs.RowReading.{row_in}
 use Rattle.column_set.specs.Rows.{IsRowBytes}
 use Rattle.database_state.specs.State.{undone}
@@ -29,21 +29,21 @@ release_row-requires-clause-table c =
     let tables = c.requires.was.0 in
     let held = c.requires.was.1.0 in
     let h = c.requires.was.1.1.0 in
-    let was = c.requires.was.1.1.1.1.0 in
-    has_trees c.put_row_back.new.trees.tables tables c.args.table.0 (c.put_row_back.ensures.kept tables held h c.requires.was.1.1.1.0 (was_undone tables c.args.trees.now.tables c.args.versions.now c.args.place c.args.table.0 held h was c.requires.was.1.1.1.1.1) was.named was.kept).numbers
+    let was = c.requires.was.1.1.2 in
+    has_trees c.put_row_back.new.trees.tables tables c.args.table.0 (c.put_row_back.ensures.kept tables held h c.requires.was.1.1.1 (was_undone tables c.args.trees.now.tables c.args.versions.now c.args.place c.args.table.0 held h was c.requires.was.1.1.3) was.named was.kept).numbers
     ∙ change_named tables c.args.trees.now.tables c.args.versions.now c.args.place c.args.table.0 held h was
 
 pub release_row-requires-clause-row : goal.release_row-requires-clause-row
 release_row-requires-clause-row c =
     let under : row_under (table_nodes c.args.trees.now.tables c.args.table.0) c.bookmark_at.result.now ≡ Some c.in-Some.newest.items = sym c.in-Some.ensures in
     subst IsRowBytes (sym c.as_slice-row.ensures.value)
-    (spelled_row (table_long_values c.args.trees.now.tables c.args.table.0) c.in-Some.newest.items (newest_spelled c.requires.was.0 c.args.trees.now.tables c.requires.was.1.0 c.requires.was.1.1.1.1.0.kept c.args.table.0 c.bookmark_at.result.now c.in-Some.newest.items under))
+    (spelled_row (table_long_values c.args.trees.now.tables c.args.table.0) c.in-Some.newest.items (newest_spelled c.requires.was.0 c.args.trees.now.tables c.requires.was.1.0 c.requires.was.1.1.2.kept c.args.table.0 c.bookmark_at.result.now c.in-Some.newest.items under))
 
 pub release_row-requires-clause-there : goal.release_row-requires-clause-there
 release_row-requires-clause-there c = λ id some.
     let under : row_under (table_nodes c.args.trees.now.tables c.args.table.0) c.bookmark_at.result.now ≡ Some c.in-Some.newest.items = sym c.in-Some.ensures in
     subst (λ (v : Values). IsSome (value_of id v)) (sym (c.put_row_back.ensures.values c.args.table.0))
-    (newest_there c.args.trees.now.tables c.requires.was.1.0 c.requires.was.1.1.1.1.0.counts c.nodes_are_in_order.ensures.sorted c.args.table.0 c.bookmark_at.result.now c.in-Some.newest.items under id (subst (λ (bytes : List ℕ). 0 < references id (Some (row_in bytes))) c.as_slice-row.ensures.value some))
+    (newest_there c.args.trees.now.tables c.requires.was.1.0 c.requires.was.1.1.2.counts c.nodes_are_in_order.ensures.sorted c.args.table.0 c.bookmark_at.result.now c.in-Some.newest.items under id (subst (λ (bytes : List ℕ). 0 < references id (Some (row_in bytes))) c.as_slice-row.ensures.value some))
 
 pub returns-in-Some-clause-back : goal.returns-in-Some-clause-back
 returns-in-Some-clause-back c = λ tables held h schema was rewrites.

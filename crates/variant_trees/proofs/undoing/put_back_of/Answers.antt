@@ -25,9 +25,18 @@ put_back_in-requires-clause-was c =
     let same : IfSome (table_with_id c.args.catalog.now.tables c.args.table.0) (λ t. c.schema.result.now ≡ schema_of t) = subst (λ (o : Option Table). IfSome o (λ t. c.schema.result.now ≡ schema_of t)) found c.schema.ensures in
     let held = c.requires.was.0 in
     let h = c.requires.was.1.0 in
-    let was = c.requires.was.1.1 in
-    (c.args.catalog.now.tables, (held, (h, (record { ids = distinct_ids c.args.catalog.now c.tables.ensures.numbered; same = same },
-    (was, c.requires.rewrites (with_status undone h) (place_now c.args.catalog.now.tables c.args.trees.now.tables c.args.versions.now c.args.place c.args.table.0 held h was))))))
+    let was = c.requires.was.1.1 in (
+      c.args.catalog.now.tables,
+      (
+        held,
+        (
+          h,
+          record { ids = distinct_ids c.args.catalog.now c.tables.ensures.numbered; same = same },
+          was,
+          c.requires.rewrites (with_status undone h) (place_now c.args.catalog.now.tables c.args.trees.now.tables c.args.versions.now c.args.place c.args.table.0 held h was),
+        ),
+      ),
+    )
 
 pub returns-in-Some-clause-back : goal.returns-in-Some-clause-back
 returns-in-Some-clause-back c = λ held h was.

@@ -1,13 +1,15 @@
-use Rattle.std.proofs.Common.{◌≡◌, ℕ, true, false, List, [], map, Option, Some, None, cond, refl, sym, ap, subst, ◌∙◌}
-use Rattle.std.specs.Prelude.{IfSome, is_some, option_copied, unwrap_or}
+use Rattle.std.proofs.Common.{◌≡◌, ℕ, true, List, [], map, Option, Some, None, sym, ap, subst, ◌∙◌}
+use Rattle.std.specs.Prelude.{IfSome, IsTrue, is_some, option_copied, unwrap_or}
 use Rattle.std.specs.List.{AllByRecursion}
+use Rattle.column_set.specs.RowReading.{row_in}
+use Rattle.column_set.specs.Rows.{IsRowBytes}
 use Rattle.cursor_nav.specs.Places.{are_sorted}
+use Rattle.long_rows.specs.WholeRows.{is_whole}
 use Rattle.long_value.specs.Values.{Values}
 use Rattle.table_trees.specs.StoredNodes.{bookmark_entries}
 use Rattle.table_trees.specs.StoredTables.{StoredTable, table_long_values, table_nodes}
 use Rattle.version_store.specs.HeldChanges.{HeldChange}
 use Rattle.variant_trees.specs.GoneKeys.{AreRows}
-use Rattle.variant_trees.specs.GoneRecords.{CanRead}
 use Rattle.variant_trees.specs.LeftVariants.{AreLeft}
 use Rattle.stored_variants.specs.CountedValues.{newest_rows}
 use Rattle.stored_variants.specs.PutRecords.{HasKeysOf}
@@ -15,8 +17,8 @@ use Rattle.stored_variants.specs.RecordRows.{IsRecordRow, TableValues, record_of
 use Rattle.stored_variants.specs.VersionsKept.{AreKeptWith}
 use Rattle.stored_variants.specs.VersionsView.{with_newest_by}
 use Rattle.stored_variants.proofs.Dropped.{TreeLaws}
-use Rattle.variant_trees.proofs.PutsBack.{Reads, all_back, back_spelled, left_back, newest_read, node_of_bytes, node_read, none_back, room_read, rows_back, rows_unchanged, shown_back, shown_unchanged}
-use Rattle.variant_trees.proofs.Refilled.{Fills, filled}
+use Rattle.variant_trees.proofs.PutsBack.{Reads, all_back, back_spelled, left_back, newest_read, node_of_bytes, none_back, room_read, rows_back, rows_unchanged, shown_back, shown_unchanged}
+use Rattle.variant_trees.proofs.Refilled.{Fills}
 use Rattle.variant_trees.proofs.UndoneThere.{fills, mapped_at, node_of_row, spelled_row}
 use Rattle.variant_trees.proofs.undoing.put_row_back.Goals as goal
 
@@ -55,7 +57,7 @@ take_variant-requires-clause-gone c =
     let under : row_under (table_nodes c.args.trees.now.tables c.args.table.0) c.bookmark_at-bookmark.result.now ≡ Some c.in-Some.newest.now = ap (row_under (table_nodes c.args.trees.now.tables c.args.table.0)) (sym reads.is_bookmark) ∙ c.requires.newest c.requires.can.0 c.requires.can.1.at ∙ ap option_copied c.in-Some.is in
     let spelled = newest_read c.args.schema.now c.args.table.0 c.args.trees.now.tables c.args.versions.now c.args.place c.bookmark_at-bookmark.result.now c.bytes_of-row.result.now reads c.in-Some.newest.now under in
     let same : (n : ℕ) → table_long_values c.replace.new.self.tables n ≡ table_long_values c.args.trees.now.tables n = λ n. ap (λ (trees : List StoredTable). table_long_values trees n) c.replace.ensures.tables ∙ c.nodes_after_a_change.ensures.long_values c.args.trees.now.tables c.args.table.0 n _ in
-    subst (λ (v : Values). CanRead v c.gone.result) (sym (same c.args.table.0)) (spelled_row (table_long_values c.args.trees.now.tables c.args.table.0) c.in-Some.newest.now spelled.0, spelled.0.whole)
+    subst (λ (v : Values). IsRowBytes c.in-Some.newest.now × IsTrue (is_whole v (row_in c.in-Some.newest.now))) (sym (same c.args.table.0)) (spelled_row (table_long_values c.args.trees.now.tables c.args.table.0) c.in-Some.newest.now spelled.0, spelled.0.whole)
 
 pub take_variant-requires-clause-newest : goal.take_variant-requires-clause-newest
 take_variant-requires-clause-newest c =

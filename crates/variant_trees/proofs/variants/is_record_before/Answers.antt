@@ -1,6 +1,6 @@
-use Rattle.std.proofs.Common.{◌≡◌, List, Option, [], option_map, sym, ◌∙◌}
+use Rattle.std.proofs.Common.{[], sym, ◌∙◌}
 use Rattle.std.specs.Prelude.{is_some, option_copied}
-use Rattle.stored_variants.specs.RecordRows.{TableValues, record_of}
+use Rattle.stored_variants.specs.RecordRows.{TableValues}
 use Rattle.version_store.specs.HeldChanges.{is_standing_rewrite}
 use Rattle.variant_trees.proofs.StandingChanges.{fewer_places, place_within, some_mapped, walk_at, walk_begins, walk_done, walk_ends, walk_finds, walk_goes_on}
 use Rattle.variant_trees.proofs.variants.is_record_before.Goals as goal
