@@ -1,5 +1,5 @@
 -- The rows before the held changes of a table, as what refers to long values.
-use Rattle.std.proofs.Common.{◌≡◌, ℕ, Bool, true, false, cond, List, [], ◌∷◌, ◌++◌, filter, map, refl, ap}
+use Rattle.std.proofs.Common.{◌≡◌, ℕ, Bool, true, false, cond, List, [], ◌∷◌, ◌++◌, filter, map, refl, ap, ◌∙◌}
 use Rattle.std.specs.Prelude.{◌==◌}
 use Rattle.long_references.specs.ReferenceCounts.{RowBefore}
 use Rattle.version_store.specs.HeldChanges.{HeldChange}

@@ -9,7 +9,7 @@ use Rattle.database_state.specs.State.{is_undone}
 use Rattle.long_references.specs.ReferenceCounts.{AreRows, HasCounts, NewestRows, RowBefore, reference_count, with_all_taken, with_change, with_row}
 use Rattle.long_references.specs.RowReferences.{identifiers}
 use Rattle.long_value.specs.Values.{Values}
-use Rattle.record_changes.proofs.Tests.{impossible, same_number, self_equal}
+use Rattle.record_changes.proofs.Tests.{same_number, self_equal}
 use Rattle.table_trees.specs.StoredNodes.{bookmark_entries}
 use Rattle.table_trees.specs.StoredTables.{StoredTable, table_long_values, table_nodes}
 use Rattle.version_store.specs.HeldChanges.{HeldChange}

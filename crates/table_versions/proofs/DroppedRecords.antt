@@ -30,7 +30,7 @@ use Rattle.versioned_tables.specs.Variants.{HoldsVariants}
 use Rattle.stored_variants.specs.RecordRows.{TableValues, IsRecordRow, held_record_in, record_of, row_in_node, row_under, rows_of_nodes, some_before}
 use Rattle.stored_variants.specs.StoredVersions.{StoredVersions}
 use Rattle.stored_variants.specs.VersionsView.{with_newest, stored_versions, with_newest_by}
-use Rattle.stored_variants.specs.VersionsKept.{AreKept, AreKeptWith, IsKeptChange, IsKeptTable, IsRowOf, IsRowUnder, secondary_rule}
+use Rattle.stored_variants.specs.VersionsKept.{AreKept, AreKeptWith, IsKeptChange, IsKeptTable, IsRowUnder, secondary_rule}
 use Rattle.stored_variants.proofs.Dropped.{TreeLaws, emptied, extent_at, has_trees, nodes_are, row_then, same_numbers, there_at, room_in, turned_number, rows_emptied}
 use Rattle.stored_variants.specs.CountedValues.{AreCounted, HasNoValueBehind}
 use Rattle.table_versions.proofs.CountedSteps.{ChangeCounts, ChangesRow, changed_counted}

@@ -21,14 +21,13 @@ use Rattle.versioned_tables.specs.Variants.{HoldsVariants}
 use Rattle.versioned_tables.proofs.Neighbours.{IsIn, found_in, last_in, shown_after, shown_before, shown_from, shown_to}
 use Rattle.stored_variants.specs.RecordRows.{TableValues, held_record_in, rows_of_nodes}
 use Rattle.stored_variants.specs.StoredVersions.{StoredVersions}
-use Rattle.stored_variants.specs.VersionsKept.{AreKept, AreKeptWith, IsKeptTable, only_secondary}
+use Rattle.stored_variants.specs.VersionsKept.{AreKept, IsKeptTable, only_secondary}
 use Rattle.stored_variants.specs.VersionsView.{stored_versions}
 use Rattle.table_versions.specs.Walks.{is_shown}
 use Rattle.table_versions.proofs.NodesShown.{parts_of}
 use Rattle.table_versions.proofs.RecordConflicts.{skipped_newest, up_to}
 use Rattle.table_versions.proofs.ShownEntries.{rule_number}
 use Rattle.table_versions.proofs.StoredConflicts.{in_store, newest_rows}
-use Rattle.long_value.specs.Values.{Values}
 
 -- ---- where the walk stands
 

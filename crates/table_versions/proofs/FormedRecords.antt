@@ -14,8 +14,8 @@ use Rattle.version_store.specs.HeldChanges.{HeldChange, SeenRow, current, row_be
 use Rattle.versioned_tables.specs.HeldRecords.{seen_record}
 use Rattle.stored_variants.specs.RecordRows.{IsRecordRow, record_of, row_under}
 use Rattle.stored_variants.specs.StoredVersions.{StoredVersions}
-use Rattle.stored_variants.specs.VersionsKept.{AreKept, AreKeptWith}
-use Rattle.stored_variants.specs.VersionsView.{with_newest, stored_versions, with_newest_by}
+use Rattle.stored_variants.specs.VersionsKept.{AreKept}
+use Rattle.stored_variants.specs.VersionsView.{with_newest, stored_versions}
 use Rattle.table_versions.proofs.SeenRecords.{IsSeenRow, record_seen, seen_is, seen_is_row}
 use Rattle.stored_variants.proofs.Tables.{newest_at, newest_is_row}
 use Rattle.stored_variants.proofs.RowRecords.{row-formed}

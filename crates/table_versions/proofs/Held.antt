@@ -18,7 +18,7 @@ use Rattle.versioned_tables.specs.VersionedTables.{VersionedTables, with_change}
 use Rattle.stored_variants.specs.RecordRows.{TableValues, held_record_in}
 use Rattle.stored_variants.specs.StoredVersions.{has_room}
 use Rattle.stored_variants.specs.VersionsView.{with_newest_by}
-use Rattle.stored_variants.specs.VersionsKept.{AddsToEscrow, AreKeptWith, IsKeptChange, IsRowOf}
+use Rattle.stored_variants.specs.VersionsKept.{AddsToEscrow, AreKeptWith, IsKeptChange}
 use Rattle.table_versions.proofs.Span.{same_span}
 use Rattle.stored_variants.proofs.Tables.{table_at, unchanged}
 use Rattle.stored_variants.proofs.ChangesKept.{SameVariants, changes_kept}

@@ -12,7 +12,7 @@ use Rattle.versioned_tables.specs.VersionedTables.{with_last_undone}
 use Rattle.stored_variants.specs.RecordRows.{held_record_in}
 use Rattle.stored_variants.specs.StoredVersions.{StoredVersions}
 use Rattle.variant_trees.specs.UndoneChanges.{IsBack}
-use Rattle.stored_variants.specs.VersionsView.{with_newest, stored_versions, with_newest_by}
+use Rattle.stored_variants.specs.VersionsView.{with_newest, stored_versions}
 use Rattle.table_versions.proofs.LastUndone.{any_last, last_back, last_changed, none_back, same_level}
 use Rattle.stored_variants.proofs.HeldPlaces.{StandsAt, last_stands, take_all, same_some}
 

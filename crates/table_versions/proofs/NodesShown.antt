@@ -17,7 +17,7 @@ use Rattle.version_store.specs.HeldChanges.{HeldChange, SeenRow, current, row_be
 use Rattle.versioned_tables.specs.HeldRecords.{seen_record}
 use Rattle.stored_variants.specs.RecordRows.{record_of, row_in_node}
 use Rattle.stored_variants.specs.StoredVersions.{StoredVersions}
-use Rattle.stored_variants.specs.VersionsKept.{AreKept, AreKeptWith}
+use Rattle.stored_variants.specs.VersionsKept.{AreKept}
 use Rattle.stored_variants.specs.VersionsView.{stored_versions}
 use Rattle.table_versions.specs.Walks.{is_row_seen, is_seen}
 use Rattle.stored_variants.proofs.NodeWalks.{next_is_there, next_node}

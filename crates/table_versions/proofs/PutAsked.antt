@@ -1,6 +1,6 @@
 -- What a put asks of the trees and of the held changes, in a store.
 use Rattle.std.proofs.Common.{◌≡◌, ℕ, Bool, true, false, not, ◌&&◌, ◌||◌, cond, List, [], ◌∷◌, filter, find, map, Option, Some, None, Result, Ok, Err, option_map, refl, sym, ap, subst, ◌∙◌}
-use Rattle.std.specs.Prelude.{◌==◌, IfSome, IsOk, is_none, is_some, unwrap_or}
+use Rattle.std.specs.Prelude.{◌==◌, IfSome, IsOk, is_none, unwrap_or}
 use Rattle.std.specs.List.{AllByRecursion, flat_map, list_any}
 use Rattle.jet_base.specs.declared.replies.Jet.TheVariants as jet
 use Rattle.column_set.specs.RecordValues.{RecordFields, record_fits}
@@ -9,7 +9,6 @@ use Rattle.cursor_nav.specs.Places.{are_sorted}
 use Rattle.database_state.specs.Conflicts.{yields_key}
 use Rattle.database_state.specs.Lawful.{is_indexable}
 use Rattle.database_state.specs.Puts.{is_cut_refusal, is_null_refusal}
-use Rattle.database_state.specs.State.{is_undone}
 use Rattle.database_state.specs.Table.{Table, row_at, schema_of, table_with_id}
 use Rattle.derived_index.specs.KeptEntries.{has_entry}
 use Rattle.index_derive.specs.declared.rules.IndexRule.{IndexRule}
@@ -25,8 +24,8 @@ use Rattle.versioned_tables.specs.Variants.{HoldsVariants, is_variant_key}
 use Rattle.stored_variants.specs.PutRecords.{HasKeysOf}
 use Rattle.variant_trees.specs.GoneKeys.{AreRows, held_from, index_numbers}
 use Rattle.variant_trees.specs.PutStages.{AreKeysOfRecords, CanTake, HasVariantKeys, IsKeyOfRecord}
-use Rattle.stored_variants.specs.RecordRows.{TableValues, IsRecordRow, held_record_in, record_of, row_under, rows_of_nodes}
-use Rattle.stored_variants.specs.VersionsKept.{AreKeptWith, IsKeptChange, IsKeptTable, IsRowOf, IsRowUnder, IsStoredRule, needed_trees, only_secondary, secondary_rule, secondary_rules, tree_numbers}
+use Rattle.stored_variants.specs.RecordRows.{TableValues, held_record_in, record_of, row_under, rows_of_nodes}
+use Rattle.stored_variants.specs.VersionsKept.{AreKeptWith, IsKeptChange, IsKeptTable, IsRowUnder, IsStoredRule, needed_trees, only_secondary, secondary_rule, secondary_rules, tree_numbers}
 use Rattle.stored_variants.proofs.FoundRules.{list_any_numbers}
 use Rattle.versioned_tables.proofs.Lists.{all_append, all_filter}
 use Rattle.stored_variants.proofs.NodeRecords.{record_at}

@@ -301,8 +301,11 @@ asked_of_put longs tables trees held kept sorted id t found schema schema_is boo
 pub row_room : (sizes : RowSizes) (latest : ℕ) (catalog : CatalogState) (trees : List StoredTable) (held : List HeldChange) → AreKept catalog.tables trees held → AreSorted trees → (now : StoredVersions) → stored_versions latest catalog trees held ≡ now
     → (by : By) (made : Change) (id : ℕ) (bookmark : List ℕ) → id ≡ changed_table made → bookmark ≡ changed_bookmark made → has_room_for_row by made (row_under (table_nodes trees id) bookmark) held ≡ has_room by made now.store
 row_room sizes latest catalog trees held kept sorted now shows by made id bookmark id_is bookmark_is =
-    same_room (table_long_values trees) sizes by made (row_under (table_nodes trees id) bookmark) (newest_is_row (table_long_values trees) catalog.tables trees held kept id bookmark) held now.store (ap (λ (v : StoredVersions). v.store.held) shows)
-    (sym (newest_at (table_long_values trees) trees catalog.tables kept.numbers sorted id bookmark)
+    same_room (table_long_values trees) sizes by made (row_under (table_nodes trees id) bookmark)
+    (subst (λ (n : ℕ). IfSome (row_under (table_nodes trees id) bookmark) (IsRecordRow (table_long_values trees n))) id_is (newest_is_row (table_long_values trees) catalog.tables trees held kept id bookmark)) held now.store
+    (ap (λ (v : StoredVersions). v.store.held) shows)
+    ((λ i. option_map (record_of (table_long_values trees (sym id_is i))) (row_under (table_nodes trees id) bookmark))
+    ∙ sym (newest_at (table_long_values trees) trees catalog.tables kept.numbers sorted id bookmark)
     ∙ (λ i. record_in (map (with_newest trees) catalog.tables) (id_is i) (bookmark_is i))
     ∙ ap (λ (v : StoredVersions). record_in v.store.tables (changed_table made) (changed_bookmark made)) shows)
 

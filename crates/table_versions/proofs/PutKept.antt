@@ -34,7 +34,7 @@ use Rattle.stored_variants.specs.PutRecords.{HasKeysOf, record_keys}
 use Rattle.stored_variants.specs.RecordRows.{TableValues, some_before, IsRecordRow, held_record_in, record_of, row_in_node, row_under, rows_of_nodes}
 use Rattle.variant_trees.specs.GoneKeys.{index_numbers, table_numbers}
 use Rattle.variant_trees.specs.PutStages.{AreWidened, IsPut, IsSame, IsWidened, is_place}
-use Rattle.stored_variants.specs.VersionsKept.{AreKeptWith, IsKeptChange, IsKeptTable, IsRowOf, IsRowUnder, needed_trees, only_secondary, secondary_rule, tree_numbers}
+use Rattle.stored_variants.specs.VersionsKept.{AreKeptWith, IsKeptChange, IsKeptTable, IsRowUnder, needed_trees, only_secondary, secondary_rule, tree_numbers}
 use Rattle.stored_variants.specs.VersionsView.{with_newest_by}
 use Rattle.stored_variants.proofs.Dropped.{room_in, turned_number}
 use Rattle.table_versions.proofs.Held.{appended, no_sum}

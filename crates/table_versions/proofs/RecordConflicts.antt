@@ -11,7 +11,6 @@ use Rattle.version_store.specs.HeldChanges.{HeldChange, is_concurrent, is_record
 use Rattle.versioned_tables.specs.HeldRecords.{is_standing_rewrite}
 use Rattle.table_versions.specs.KeyConflicts.{conflicts_under, next_yields, yields_before, yields_before_change}
 use Rattle.stored_variants.specs.RecordRows.{TableValues, held_record_in, record_of}
-use Rattle.long_value.specs.Values.{Values}
 
 -- ---- places
 

@@ -25,7 +25,6 @@ use Rattle.table_versions.specs.Walks.{is_entry_of, is_shown, stored_entries}
 use Rattle.table_versions.proofs.OwnOrder.{Laws, own_order_is}
 use Rattle.stored_variants.proofs.RisingRows.{rows_rise}
 use Rattle.stored_variants.proofs.Tables.{found_number, table_at}
-use Rattle.long_value.specs.Values.{Values}
 
 abbrev pub WalksSeen : Type 0
 WalksSeen =

@@ -1,10 +1,8 @@
 -- What held changes cost, by the records before them.
 use Rattle.std.proofs.Common.{◌≡◌, ℕ, ◌+◌, ◌*◌, ◌/◌, ◌≤◌, Bool, true, false, ◌&&◌, not, cond, List, [], ◌∷◌, length, Option, Some, None, map, option_map, refl, sym, ap, ◌∙◌, arith}
-use Rattle.std.specs.Prelude.{IfSome, IsTrue, nat_le, nat_lt, sum_by, unwrap_or}
-use Rattle.std.specs.List.{list_all}
+use Rattle.std.specs.Prelude.{IfSome, IsTrue, nat_lt, sum_by, unwrap_or}
 use Rattle.std.proofs.lemmas.Bool.Decides.{nat_tests}
 use Rattle.std.proofs.lemmas.List.Sums.{sum_by-cons}
-use Rattle.column_set.specs.declared.rows.RowValue.TheVariants.{Here}
 use Rattle.column_set.specs.declared.changes.Change.{Change}
 use Rattle.column_set.specs.declared.changes.Change.TheVariants.{Put, Drop, Hold, Add}
 use Rattle.column_set.specs.RecordValues.{RecordFields, record_size}
@@ -13,7 +11,6 @@ use Rattle.column_set.specs.RowReading.{row_in}
 use Rattle.database_state.specs.Table.{record_in}
 use Rattle.database_state.specs.Changes.{changed_bookmark, changed_table}
 use Rattle.database_state.specs.VersionStore.{cost_of as cost_of_change}
-use Rattle.record_changes.proofs.Tests.{and_both, and_left, and_right}
 use Rattle.version_store.specs.declared.calls.By.{By}
 use Rattle.version_store.specs.declared.calls.ChangeKind.{ChangeKind}
 use Rattle.version_store.specs.HeldChanges.{HeldChange, cost, cost_of, from_oldest_kept, has_room as has_room_for_row, is_kept, is_rewrite, kind_of, rounded_size, span}

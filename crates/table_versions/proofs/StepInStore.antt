@@ -17,7 +17,7 @@ use Rattle.stored_variants.specs.RecordRows.{TableValues, held_record_in}
 use Rattle.stored_variants.specs.SchemaSteps.{IsMade, after_step}
 use Rattle.stored_variants.specs.StoredVersions.{StoredVersions}
 use Rattle.stored_variants.specs.VersionsKept.{AreKept, IsStore, secondary_rule}
-use Rattle.stored_variants.specs.VersionsView.{with_newest, stored_versions, with_newest_by}
+use Rattle.stored_variants.specs.VersionsView.{with_newest, stored_versions}
 use Rattle.stored_variants.proofs.Tables.{table_at}
 use Rattle.index_derive.specs.Entries.{column_is_used}
 use Rattle.jet_base.specs.declared.ids.ColumnId.{ColumnId}

@@ -150,8 +150,8 @@ impl TableVersions {
                     values,
                 ) {
                     Ok(()) => {
-                        self.trees.nodes_are_in_order();
                         self.newest_put = by.number;
+                        self.trees.nodes_are_in_order();
                         Ok(())
                     }
                     Err(fault) => {

@@ -2,7 +2,6 @@ use Rattle.std.proofs.Common.{ℕ, ◌<◌, Option, Some, length, ap, subst, ◌
 use Rattle.std.specs.Prelude.{IfSome}
 use Rattle.table_versions.proofs.RecordConflicts.{falls, older_within, walk_begins, walk_ends, walk_passes}
 use Rattle.table_versions.proofs.conflicting_keys.has_concurrent.Goals as goal
-use Rattle.table_trees.specs.StoredTables.{table_long_values}
 
 pub loop-found-init : goal.loop-found-init
 loop-found-init c = (

@@ -3,7 +3,6 @@ use Rattle.index_derive.specs.declared.rules.IndexRule.{IndexRule}
 use Rattle.index_derive.specs.declared.rules.Schema.{Schema}
 use Rattle.table_versions.proofs.RecordConflicts.{Walks, up_to}
 use Rattle.table_versions.proofs.conflicting_keys.has_concurrent.Given as goal
-use Rattle.table_trees.specs.StoredTables.{table_long_values}
 use Rattle.stored_variants.specs.RecordRows.{TableValues}
 
 -- so far no change stands against any key

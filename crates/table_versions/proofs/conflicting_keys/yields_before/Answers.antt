@@ -1,5 +1,5 @@
-use Rattle.std.proofs.Common.{◌≡◌, Bool, cond, List, ℕ, Option, Some, option_map, sym, ap, subst, ◌∙◌}
-use Rattle.std.specs.Prelude.{IfSome, option_copied, slice_get}
+use Rattle.std.proofs.Common.{◌≡◌, Bool, cond, List, ℕ, Option, option_map, sym, ap, subst, ◌∙◌}
+use Rattle.std.specs.Prelude.{IfSome, option_copied}
 use Rattle.database_state.specs.Conflicts.{yields_key}
 use Rattle.table_trees.specs.StoredTables.{table_long_values}
 use Rattle.version_store.specs.HeldChanges.{HeldChange, is_standing}

@@ -5,7 +5,7 @@ use Rattle.database_state.specs.Table.{Table, schema_of, table_with_id}
 use Rattle.version_store.specs.HeldChanges.{new_change, HeldChange, has_room as has_room_for_row, kind_of}
 use Rattle.versioned_tables.specs.VersionedTables.{with_change}
 use Rattle.stored_variants.specs.StoredVersions.{StoredVersions, has_room}
-use Rattle.stored_variants.specs.VersionsKept.{AreKept, AddsToEscrow, AreKeptWith}
+use Rattle.stored_variants.specs.VersionsKept.{AreKept, AddsToEscrow}
 use Rattle.stored_variants.specs.VersionsView.{stored_versions}
 use Rattle.table_versions.proofs.Held.{is_held, other_room}
 use Rattle.table_versions.proofs.SumsHeld.{asked_of, if_of, plain_sum, some_of, store_summed}

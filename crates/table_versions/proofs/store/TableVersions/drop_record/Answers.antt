@@ -33,6 +33,7 @@ after c =
       named = c.nodes_after_a_change.ensures.named;
       others = c.nodes_after_a_change.ensures.others;
       indexes = c.nodes_after_a_change.ensures.indexes;
+      values = c.nodes_after_a_change.ensures.long_values;
       replaced = c.nodes_by_bookmark.ensures.replaced;
     } in
     after_drop sizes laws c.values_keep_their_counts.ensures.changed c.self.inside.newest_put c.self.inside.catalog c.self.inside.trees.tables c.self.inside.versions (parts_of_store c.self.inside.newest_put c.self.inside.catalog c.self.inside.trees c.self.inside.versions c.self.invariant) c.nodes_are_in_order.ensures.sorted c.nodes_are_in_order.ensures.short c.args.self.now c.self.view_is

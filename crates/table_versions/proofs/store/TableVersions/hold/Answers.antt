@@ -6,7 +6,7 @@ use Rattle.version_store.specs.declared.fault.VersionFault.TheVariants as fault
 use Rattle.version_store.specs.HeldChanges.{new_change, HeldChange}
 use Rattle.versioned_tables.specs.VersionedTables.{VersionedTables, with_change}
 use Rattle.stored_variants.specs.StoredVersions.{StoredVersions}
-use Rattle.stored_variants.specs.VersionsView.{with_newest, stored_versions, with_newest_by}
+use Rattle.stored_variants.specs.VersionsView.{with_newest, stored_versions}
 use Rattle.stored_variants.specs.VersionsKept.{AreKeptWith}
 use Rattle.stored_variants.proofs.Outcomes.{either, on_err, on_ok}
 use Rattle.table_versions.proofs.Held.{lock_is_kept, lock_room, lock_shown, named_in_catalog}

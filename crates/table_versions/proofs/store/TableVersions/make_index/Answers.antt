@@ -5,7 +5,6 @@ use Rattle.stored_variants.specs.SchemaSteps.{IsIndexFor}
 use Rattle.stored_variants.proofs.Outcomes.{either, on_err, on_ok}
 use Rattle.table_versions.proofs.StepInStore.{parts_of_store, unchanged_stored, settled_counts, IsStored, in_catalog, is_after, settled_parts, unchanged_shown}
 use Rattle.table_versions.proofs.store.TableVersions.make_index.Goals as goal
-use Rattle.table_trees.specs.StoredTables.{table_long_values}
 
 pub create_index-requires-clause-kept : goal.create_index-requires-clause-kept
 create_index-requires-clause-kept c = settled_parts c.self.inside.newest_put c.self.inside.catalog c.self.inside.trees.tables c.self.inside.versions c.self.invariant.kept c.args.self.now c.self.view_is c.requires.settled

@@ -3,7 +3,6 @@ use Rattle.stored_variants.specs.StoredVersions.{StoredVersions}
 use Rattle.stored_variants.proofs.Outcomes.{either, on_err, on_ok}
 use Rattle.table_versions.proofs.StepInStore.{parts_of_store, unchanged_stored, settled_counts, IsStored, is_after, settled_parts, unchanged_shown}
 use Rattle.table_versions.proofs.store.TableVersions.make_table.Goals as goal
-use Rattle.table_trees.specs.StoredTables.{table_long_values}
 
 pub create_table-requires-clause-kept : goal.create_table-requires-clause-kept
 create_table-requires-clause-kept c = settled_parts c.self.inside.newest_put c.self.inside.catalog c.self.inside.trees.tables c.self.inside.versions c.self.invariant.kept c.args.self.now c.self.view_is c.requires.settled

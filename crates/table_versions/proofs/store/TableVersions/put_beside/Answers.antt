@@ -1,16 +1,14 @@
-use Rattle.std.proofs.Common.{◌≡◌, ℕ, ◌<◌, ◌^◌, List, [], ◌∷◌, ◌++◌, Option, Some, sym, ap, subst, ◌∙◌, arith}
+use Rattle.std.proofs.Common.{◌≡◌, ℕ, ◌<◌, ◌^◌, List, [], ◌∷◌, ◌++◌, Some, sym, ap, subst, ◌∙◌, arith}
 use Rattle.std.specs.Prelude.{IsSomeAnd, option_copied}
 use Rattle.column_set.specs.RecordValues.{RecordFields}
 use Rattle.database_state.specs.Changes.{changed_bookmark, changed_table}
 use Rattle.database_state.specs.Table.{schema_of, table_with_id}
-use Rattle.long_rows.specs.KeptRows.{MayKeep}
 use Rattle.table_trees.specs.StoredTables.{table_long_values, table_nodes}
 use Rattle.version_store.specs.HeldChanges.{new_change}
-use Rattle.stored_variants.specs.PutRecords.{IsStorable, put_values, record_keys}
+use Rattle.stored_variants.specs.PutRecords.{IsStorable, put_values}
 use Rattle.stored_variants.specs.RecordRows.{row_under}
 use Rattle.stored_variants.specs.StoredVersions.{StoredVersions}
-use Rattle.variant_trees.specs.PutStages.{IsPut, IsSame, put_found}
-use Rattle.table_versions.proofs.PutDone.{IsAfterNone, IsAfterPut, PutGiven, PutLaws, after_none, after_put, asked_of_put, may_keep, put_as, put_given, put_row, row_room, same_as, storable_in}
+use Rattle.table_versions.proofs.PutDone.{IsAfterNone, IsAfterPut, PutGiven, PutLaws, after_none, after_put, asked_of_put, may_keep, put_as, row_room, same_as, storable_in}
 use Rattle.table_versions.proofs.Span.{RowSizes}
 use Rattle.table_versions.proofs.StepInStore.{IsStored, parts_of_store, still_shown}
 use Rattle.table_versions.proofs.store.TableVersions.put_beside.Goals as goal

@@ -3,7 +3,7 @@ use Rattle.version_store.specs.HeldChanges.{HeldChange, released_change}
 use Rattle.versioned_tables.specs.HeldRecords.{HeldRecord, released_change as released_record}
 use Rattle.versioned_tables.specs.VersionedTables.{with_level_released}
 use Rattle.stored_variants.specs.StoredVersions.{StoredVersions}
-use Rattle.stored_variants.specs.VersionsView.{with_newest, stored_versions, with_newest_by}
+use Rattle.stored_variants.specs.VersionsView.{with_newest, stored_versions}
 use Rattle.stored_variants.specs.VersionsKept.{AreKeptWith, IsKeptChange}
 use Rattle.stored_variants.proofs.ChangesKept.{all_changed, changes_kept, map_held, same_variants}
 use Rattle.table_versions.proofs.Ends.{released_row, released_kept, released_leaves, released_same}

@@ -5,7 +5,7 @@ use Rattle.version_store.specs.HeldChanges.{HeldChange, is_open_at, last_place, 
 use Rattle.versioned_tables.specs.HeldRecords.{is_open_at as is_open_record}
 use Rattle.stored_variants.specs.StoredVersions.{StoredVersions}
 use Rattle.variant_trees.specs.UndoneChanges.{IsBack, WasOpen}
-use Rattle.stored_variants.specs.VersionsKept.{AreKept, AreKeptWith}
+use Rattle.stored_variants.specs.VersionsKept.{AreKept}
 use Rattle.table_versions.proofs.LastUndone.{any_last, same_level}
 use Rattle.table_versions.proofs.LevelsShown.{last_shown, newest_there, none_shown, nothing_undone, open_there, same_table}
 use Rattle.table_versions.proofs.StepInStore.{entries_stay, still_shown}
