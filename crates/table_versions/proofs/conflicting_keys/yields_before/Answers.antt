@@ -1,4 +1,4 @@
-use Rattle.std.proofs.Common.{◌≡◌, Bool, cond, List, ℕ, Option, option_map, sym, ap, subst, ◌∙◌}
+use Rattle.std.proofs.Common.{Bool, cond, List, ℕ, Option, option_map, sym, ap, subst, ◌∙◌}
 use Rattle.std.specs.Prelude.{IfSome, option_copied}
 use Rattle.database_state.specs.Conflicts.{yields_key}
 use Rattle.table_trees.specs.StoredTables.{table_long_values}
