@@ -6,4 +6,7 @@ pub returns : goal.returns
 returns c = c.in_ok-insert.ensures.items ∙ inserted _ _ c.self.view_is _ _ _ _ c.requires c.in_ok-field.ensures
 
 pub invariant_of-self-2 : goal.invariant_of-self-2
-invariant_of-self-2 c = is_record-changed _ _ c.self.view_is c.args.column.0 c.args.place c.self.invariant _ (c.args.value ∷ []) (c.in_ok-insert.ensures.items ∙ inserted _ _ c.self.view_is _ _ _ _ c.requires c.in_ok-field.ensures)
+invariant_of-self-2 c = record {
+  formed = is_record-changed _ _ c.self.view_is c.args.column.0 c.args.place c.self.invariant.formed _ (c.args.value ∷ []) (c.in_ok-insert.ensures.items ∙ inserted _ _ c.self.view_is _ _ _ _ c.requires c.in_ok-field.ensures);
+  measured = ?;
+}

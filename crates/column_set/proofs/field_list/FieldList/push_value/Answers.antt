@@ -7,7 +7,10 @@ pub returns-in-Ok : goal.returns-in-Ok
 returns-in-Ok c = pushed _ _ c.self.view_is _ _ (is_ok c.push.result) c.args.value _ _ c.index_mut.ensures.value c.in-Ok.ensures.found c.push.ensures
 
 pub invariant_of-self : goal.invariant_of-self
-invariant_of-self c = is_record-pushed _ _ c.self.view_is c.args.column.0 c.in-Ok.place c.self.invariant (is_ok c.push.result) _ _ (pushed _ _ c.self.view_is _ _ (is_ok c.push.result) c.args.value _ _ c.index_mut.ensures.value c.in-Ok.ensures.found c.push.ensures)
+invariant_of-self c = record {
+  formed = is_record-pushed _ _ c.self.view_is c.args.column.0 c.in-Ok.place c.self.invariant.formed (is_ok c.push.result) _ _ (pushed _ _ c.self.view_is _ _ (is_ok c.push.result) c.args.value _ _ c.index_mut.ensures.value c.in-Ok.ensures.found c.push.ensures);
+  measured = ?;
+}
 
 -- a column without a value has only the new one
 pub returns-in-Err : goal.returns-in-Err

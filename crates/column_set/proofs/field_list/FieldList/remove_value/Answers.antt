@@ -22,7 +22,10 @@ pub returns-then-values-gt1 : goal.returns-then-values-gt1
 returns-then-values-gt1 c = written _ _ c.self.view_is _ _ _ _ (λ values. remove values c.args.at) c.index_mut.ensures.value c.in-Ok.ensures.found c.remove.ensures (some_left _ _ c.requires (many c.if-values-gt1.true c.values.ensures (field_at _ _ c.self.view_is _ _ _ c.index.ensures c.in-Ok.ensures.found)))
 
 pub invariant_of-self : goal.invariant_of-self
-invariant_of-self c = is_record-changed _ _ c.self.view_is c.args.column.0 c.in-Ok.place c.self.invariant _ (remove (values_of c.args.self.now c.args.column.0) c.args.at) (written _ _ c.self.view_is _ _ _ _ (λ values. remove values c.args.at) c.index_mut.ensures.value c.in-Ok.ensures.found c.remove.ensures (some_left _ _ c.requires (many c.if-values-gt1.true c.values.ensures (field_at _ _ c.self.view_is _ _ _ c.index.ensures c.in-Ok.ensures.found))))
+invariant_of-self c = record {
+  formed = is_record-changed _ _ c.self.view_is c.args.column.0 c.in-Ok.place c.self.invariant.formed _ (remove (values_of c.args.self.now c.args.column.0) c.args.at) (written _ _ c.self.view_is _ _ _ _ (λ values. remove values c.args.at) c.index_mut.ensures.value c.in-Ok.ensures.found c.remove.ensures (some_left _ _ c.requires (many c.if-values-gt1.true c.values.ensures (field_at _ _ c.self.view_is _ _ _ c.index.ensures c.in-Ok.ensures.found))));
+  measured = ?;
+}
 
 pub returns-else-values-gt1 : goal.returns-else-values-gt1
 returns-else-values-gt1 c =
@@ -30,7 +33,10 @@ returns-else-values-gt1 c =
     c.remove-else-values-gt1.ensures.items ∙ removed _ _ c.self.view_is _ _ c.in-Ok.ensures.found ∙ ap (with_values c.args.self.now c.args.column.0) (sym (none_left _ _ c.requires few))
 
 pub invariant_of-self-else-values-gt1 : goal.invariant_of-self-else-values-gt1
-invariant_of-self-else-values-gt1 c = is_record-changed _ _ c.self.view_is c.args.column.0 c.in-Ok.place c.self.invariant _ [] (c.remove-else-values-gt1.ensures.items ∙ removed _ _ c.self.view_is _ _ c.in-Ok.ensures.found)
+invariant_of-self-else-values-gt1 c = record {
+  formed = is_record-changed _ _ c.self.view_is c.args.column.0 c.in-Ok.place c.self.invariant.formed _ [] (c.remove-else-values-gt1.ensures.items ∙ removed _ _ c.self.view_is _ _ c.in-Ok.ensures.found);
+  measured = ?;
+}
 
 pub returns-in_default : goal.returns-in_default
 returns-in_default c =

@@ -6,4 +6,7 @@ pub returns-in-Ok : goal.returns-in-Ok
 returns-in-Ok c = written _ _ c.self.view_is _ _ _ _ (λ values. c.args.value ∷ []) c.index_mut.ensures.value c.in-Ok.ensures.found c.set_only.ensures (omega arith)
 
 pub invariant_of-self : goal.invariant_of-self
-invariant_of-self c = is_record-changed _ _ c.self.view_is c.args.column.0 c.in-Ok.place c.self.invariant _ (c.args.value ∷ []) (written _ _ c.self.view_is _ _ _ _ (λ values. c.args.value ∷ []) c.index_mut.ensures.value c.in-Ok.ensures.found c.set_only.ensures (omega arith))
+invariant_of-self c = record {
+  formed = is_record-changed _ _ c.self.view_is c.args.column.0 c.in-Ok.place c.self.invariant.formed _ (c.args.value ∷ []) (written _ _ c.self.view_is _ _ _ _ (λ values. c.args.value ∷ []) c.index_mut.ensures.value c.in-Ok.ensures.found c.set_only.ensures (omega arith));
+  measured = ?;
+}

@@ -11,7 +11,10 @@ pub returns-in-Ok : goal.returns-in-Ok
 returns-in-Ok c = written _ _ c.self.view_is _ _ _ _ (λ values. slice_set values c.args.at c.args.value) c.index_mut.ensures.value c.in-Ok.ensures.found c.set.ensures (omega (arith, c.requires, length-set (values_of c.args.self.now c.args.column.0) c.args.at c.args.value))
 
 pub invariant_of-self : goal.invariant_of-self
-invariant_of-self c = is_record-changed _ _ c.self.view_is c.args.column.0 c.in-Ok.place c.self.invariant _ _ (written _ _ c.self.view_is _ _ _ _ (λ values. slice_set values c.args.at c.args.value) c.index_mut.ensures.value c.in-Ok.ensures.found c.set.ensures (omega (arith, c.requires, length-set (values_of c.args.self.now c.args.column.0) c.args.at c.args.value)))
+invariant_of-self c = record {
+  formed = is_record-changed _ _ c.self.view_is c.args.column.0 c.in-Ok.place c.self.invariant.formed _ _ (written _ _ c.self.view_is _ _ _ _ (λ values. slice_set values c.args.at c.args.value) c.index_mut.ensures.value c.in-Ok.ensures.found c.set.ensures (omega (arith, c.requires, length-set (values_of c.args.self.now c.args.column.0) c.args.at c.args.value)));
+  measured = ?;
+}
 
 -- a place that is required is one of a value
 pub returns-in_default : goal.returns-in_default

@@ -5,4 +5,4 @@ use Rattle.column_set.proofs.Edits.{record_size-with_values}
 use Rattle.column_set.proofs.field_list.FieldList.size_without.Goals as goal
 
 pub returns-clause-room : goal.returns-clause-room
-returns-clause-room c values = record_size-with_values c.args.self.now c.args.column.0 values (subst (λ (l : List (ℕ × List (List ℕ))). IsTrue (is_record l)) c.self.view_is c.self.invariant)
+returns-clause-room c values = record_size-with_values c.args.self.now c.args.column.0 values (subst (λ (l : List (ℕ × List (List ℕ))). IsTrue (is_record l)) c.self.view_is c.self.invariant.formed)
