@@ -1,5 +1,5 @@
 -- The size that is kept beside the fields of a record, and edits of them.
-use Rattle.std.proofs.Common.{◌≡◌, ℕ, ◌+◌, ◌-◌, ◌<◌, ◌^◌, min, Bool, true, false, List, [], ◌∷◌, ◌++◌, refl, sym, ap, ◌∙◌, arith, if◌then◌else◌}
+use Rattle.std.proofs.Common.{◌≡◌, ℕ, ◌+◌, ◌-◌, ◌<◌, ◌≤◌, ◌^◌, min, Bool, true, false, List, [], ◌∷◌, ◌++◌, refl, sym, ap, subst, ◌∙◌, arith, if◌then◌else◌}
 use Rattle.std.specs.Prelude.{IsTrue}
 use Rattle.std.proofs.lemmas.List.Sums.{sum_by_push}
 use Rattle.column_set.specs.Record.{is_record, IsMeasured}
@@ -56,3 +56,36 @@ module _ (fields : RecordFields) (column : ℕ) (h : IsTrue (is_record fields)) 
   pub size_in_gap : (place : ℕ) → IsGapFor fields column place → (value : List ℕ) (old room size : ℕ) → old ≡ min (record_size fields) (2 ^ 64 - 1) → room ≡ size_of_values (value ∷ []) → size ≡ min (old + room) (2 ^ 64 - 1) → size ≡ min (record_size (with_values fields column (value ∷ []))) (2 ^ 64 - 1)
   size_in_gap place gap value old room size o r e =
       size_with_one value old room size (o ∙ ap (λ (f : RecordFields). min (record_size f) (2 ^ 64 - 1)) (sym (no_values_in_gap fields column place gap))) r e
+
+-- ---- where a list of fields stands for the record
+
+abbrev pub ends : RecordFields → ℕ
+ends fields = min (record_size fields) (2 ^ 64 - 1)
+
+module _ (list fields : RecordFields) (view_is : list ≡ fields) where
+  -- a list that was written back as it was
+  pub measured-same : (size : ℕ) → size ≡ ends list → {new : RecordFields} → new ≡ fields → size ≡ ends new
+  measured-same size is e = is ∙ ap ends (view_is ∙ sym e)
+
+  module _ (column : ℕ) (invariant : IsTrue (is_record list)) where
+    kept : IsTrue (is_record fields)
+    kept = subst (λ (l : RecordFields). IsTrue (is_record l)) view_is invariant
+
+    pub measured-changed : (new : RecordFields) (values : List (List ℕ)) (others room size : ℕ) → new ≡ with_values fields column values → others ≡ ends (with_values fields column []) → room ≡ min (size_of_values values) (2 ^ 64 - 1) → size ≡ min (others + room) (2 ^ 64 - 1) → size ≡ ends new
+    measured-changed new values others room size e o r s = size_with fields column kept values others room size o r s ∙ ap ends (sym e)
+
+    pub measured-one : (new : RecordFields) (value : List ℕ) (others room size : ℕ) → new ≡ with_values fields column (value ∷ []) → others ≡ ends (with_values fields column []) → room ≡ size_of_values (value ∷ []) → size ≡ min (others + room) (2 ^ 64 - 1) → size ≡ ends new
+    measured-one new value others room size e o r s = size_with_one fields column kept value others room size o r s ∙ ap ends (sym e)
+
+    pub measured-pushed : (new : RecordFields) (value : List ℕ) (old room size : ℕ) → new ≡ with_values fields column (values_of fields column ++ value ∷ []) → old ≡ ends list → room ≡ size_of_values (value ∷ []) → size ≡ min (old + room) (2 ^ 64 - 1) → size ≡ ends new
+    measured-pushed new value old room size e o r s = size_pushed fields column kept value old room size (o ∙ ap ends view_is) r s ∙ ap ends (sym e)
+
+    pub measured-inserted : (place : ℕ) → IsGapFor fields column place → (new : RecordFields) (value : List ℕ) (old room size : ℕ) → new ≡ with_values fields column (value ∷ []) → old ≡ ends list → room ≡ size_of_values (value ∷ []) → size ≡ min (old + room) (2 ^ 64 - 1) → size ≡ ends new
+    measured-inserted place gap new value old room size e o r s = size_in_gap fields column kept place gap value old room size (o ∙ ap ends view_is) r s ∙ ap ends (sym e)
+
+    -- what the values of a column take is within the size
+    pub room_within : (size room : ℕ) → size ≡ ends list → room ≡ min (size_of_values (values_of fields column)) (2 ^ 64 - 1) → room ≤ size
+    room_within size room is of = omega (arith, is, of, ap ends view_is, total fields column kept)
+
+    pub left : (size room : ℕ) → size ≡ ends list → size < 2 ^ 64 - 1 → room ≡ min (size_of_values (values_of fields column)) (2 ^ 64 - 1) → size - room ≡ ends (with_values fields column [])
+    left size room is small of = size_but fields column kept size room (is ∙ ap ends view_is) small of

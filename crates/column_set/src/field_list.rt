@@ -146,16 +146,7 @@ impl FieldList {
         ensures { self.new ≡ (if is_ok result then with_values self.old column.0 (values_of self.old column.0 ++ value ∷ []) else self.old) }
     {
         match self.search(column) {
-            Ok(place) => {
-                let room = size_of_value(&value);
-                match self.fields[place].push(value) {
-                    Ok(()) => {
-                        self.size = self.size.saturating_add(room);
-                        Ok(())
-                    }
-                    Err(fault) => Err(fault),
-                }
-            }
+            Ok(place) => self.push_at(place, column, value),
             Err(place) => self.insert(place, column, value),
         }
     }
@@ -166,15 +157,10 @@ impl FieldList {
         ensures { self.new ≡ with_values self.old column.0 (remove (values_of self.old column.0) at) }
     {
         if let Ok(place) = self.search(column) {
-            let others = self.size_but(column, place);
             if self.fields[place].values().len() > 1 {
-                let field = &mut self.fields[place];
-                field.remove(at);
-                let room = size_of_values(field.values());
-                self.size = others.saturating_add(room);
+                self.remove_at(place, column, at);
             } else {
-                self.fields.remove(place);
-                self.size = others;
+                self.take_out(place, column);
             }
         }
     }
@@ -184,10 +170,47 @@ impl FieldList {
         ensures { self.new ≡ with_values self.old column.0 [] }
     {
         if let Ok(place) = self.search(column) {
-            let others = self.size_but(column, place);
-            self.fields.remove(place);
-            self.size = others;
+            self.take_out(place, column);
         }
+    }
+
+    // Puts one more value behind those of the column, whose field is at the place. Where there is no memory all stays.
+    fn push_at(&mut self, place: usize, column: ColumnId, value: Octets) -> Result<(), OutOfMemory>
+        requires { IsPlaceOf self.old column.0 place }
+        ensures { self.new ≡ (if is_ok result then with_values self.old column.0 (values_of self.old column.0 ++ value ∷ []) else self.old) }
+    {
+        let room = size_of_value(&value);
+        match self.fields[place].push(value) {
+            Ok(()) => {
+                self.size = self.size.saturating_add(room);
+                Ok(())
+            }
+            Err(fault) => Err(fault),
+        }
+    }
+
+    // Takes one of several values of the column out, whose field is at the place.
+    fn remove_at(&mut self, place: usize, column: ColumnId, at: usize)
+        requires place { IsPlaceOf self.old column.0 place }
+        requires at { at < length (values_of self.old column.0) }
+        requires several { 1 < length (values_of self.old column.0) }
+        ensures { self.new ≡ with_values self.old column.0 (remove (values_of self.old column.0) at) }
+    {
+        let others = self.size_but(column, place);
+        let field = &mut self.fields[place];
+        field.remove(at);
+        let room = size_of_values(field.values());
+        self.size = others.saturating_add(room);
+    }
+
+    // Takes the column out, whose field is at the place.
+    fn take_out(&mut self, place: usize, column: ColumnId)
+        requires { IsPlaceOf self.old column.0 place }
+        ensures { self.new ≡ with_values self.old column.0 [] }
+    {
+        let others = self.size_but(column, place);
+        self.fields.remove(place);
+        self.size = others;
     }
 
     // Puts a column with one value into its gap.
