@@ -85,7 +85,9 @@ module _ (list fields : RecordFields) (view_is : list ≡ fields) where
 
     -- what the values of a column take is within the size
     pub room_within : (size room : ℕ) → size ≡ ends list → room ≡ min (size_of_values (values_of fields column)) (2 ^ 64 - 1) → room ≤ size
-    room_within size room is of = omega (arith, is, of, ap ends view_is, total fields column kept)
+    room_within size room is of =
+        let measured : size ≡ min (record_size fields) (2 ^ 64 - 1) = is ∙ ap ends view_is in
+        omega (arith, measured, of, total fields column kept)
 
     pub left : (size room : ℕ) → size ≡ ends list → size < 2 ^ 64 - 1 → room ≡ min (size_of_values (values_of fields column)) (2 ^ 64 - 1) → size - room ≡ ends (with_values fields column [])
     left size room is small of = size_but fields column kept size room (is ∙ ap ends view_is) small of

@@ -90,7 +90,9 @@ gap_in_nothing [] column none = record {
   smaller_before = λ j within. absurd (omega arith);
   greater_after = λ j le within. absurd (omega arith);
 }
-gap_in_nothing (field ∷ fields) column none = absurd (none_is_no_field (field ∷ fields) (length fields) (omega arith) (ap (slice_get (field ∷ fields)) (omega arith) ∙ none))
+gap_in_nothing (field ∷ fields) column none =
+    let last : length fields ≡ length (field ∷ fields) - 1 = omega arith in
+    absurd (none_is_no_field (field ∷ fields) (length fields) (omega arith) (ap (slice_get (field ∷ fields)) last ∙ none))
   where
     none_is_no_field : (xs : RecordFields) (at : ℕ) → at < length xs → slice_get xs at ≡ None → ⊥
     none_is_no_field [] at lt e = absurd (omega arith)
