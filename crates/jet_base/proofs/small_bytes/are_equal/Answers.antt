@@ -36,9 +36,9 @@ pub returns-then-first_word : goal.returns-then-first_word
 returns-then-first_word c =
     let other : IsInPlace c.args.count c.args.other_bytes.now = subst (λ (n : ℕ). IsInPlace n c.args.other_bytes.now) (sym c.if-count-other_count.false) c.requires.other in
     differ (take c.args.count c.args.bytes.now) (take c.args.other_count c.args.other_bytes.now) (λ e.
-      let same : take c.args.count c.args.bytes.now ≡ take c.args.count c.args.other_bytes.now = e ∙ ap (λ (n : ℕ). take n c.args.other_bytes.now) (sym c.if-count-other_count.false) in
-      let all = all_equal c.args.count c.args.bytes.now c.args.other_bytes.now c.requires.own other same in
-      c.if-first_word.true (c.first_word.ensures ∙ (ap (from_le_bytes w64) all ∙ sym c.first_word-2.ensures)))
+    let same : take c.args.count c.args.bytes.now ≡ take c.args.count c.args.other_bytes.now = e ∙ ap (λ (n : ℕ). take n c.args.other_bytes.now) (sym c.if-count-other_count.false) in
+    let all = all_equal c.args.count c.args.bytes.now c.args.other_bytes.now c.requires.own other same in
+    c.if-first_word.true (c.first_word.ensures ∙ (ap (from_le_bytes w64) all ∙ sym c.first_word-2.ensures)))
 
 pub returns : goal.returns
 returns c =
