@@ -9,7 +9,7 @@ overflow_sub-result c =
     let held = c.values.ensures ∙ ap (λ (f : ℕ × List (List ℕ)). f.1) (field_at _ _ c.self.view_is _ _ _ c.index.ensures c.requires) in
     room_within _ _ c.self.view_is c.args.column.0 c.self.invariant.formed _ _ c.self.invariant.measured (c.size_of_values.ensures ∙ ap (λ (v : List (List ℕ)). min (size_of_values v) (2 ^ 64 - 1)) held)
 
-pub returns-then-size : goal.returns-then-size
-returns-then-size c =
+pub returns-then-self-lt18446744073709551615 : goal.returns-then-self-lt18446744073709551615
+returns-then-self-lt18446744073709551615 c =
     let held = c.values.ensures ∙ ap (λ (f : ℕ × List (List ℕ)). f.1) (field_at _ _ c.self.view_is _ _ _ c.index.ensures c.requires) in
     left _ _ c.self.view_is c.args.column.0 c.self.invariant.formed _ _ c.self.invariant.measured (omega arith) (c.size_of_values.ensures ∙ ap (λ (v : List (List ℕ)). min (size_of_values v) (2 ^ 64 - 1)) held)
