@@ -11,5 +11,5 @@ invariant_of-self-2 c =
     let e = c.in_ok-insert.ensures.items ∙ inserted _ _ c.self.view_is _ _ _ _ c.requires c.new-field.ensures in
     record {
       formed = is_record-changed _ _ c.self.view_is c.args.column.0 c.args.place c.self.invariant.formed _ (c.args.value ∷ []) e;
-      measured = measured-inserted _ _ c.self.view_is c.args.column.0 c.self.invariant.formed c.args.place c.requires _ c.args.value _ _ _ e c.self.invariant.measured c.size_of_value-room.ensures c.saturating_add.ensures;
+      measured = measured-inserted _ _ c.self.view_is c.args.column.0 c.self.invariant.formed c.args.place c.requires _ c.args.value _ _ _ e c.self.invariant.measured c.size_of_value-room.ensures c.saturating_add-self-inside.ensures;
     }
