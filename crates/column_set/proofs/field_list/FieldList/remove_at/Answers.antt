@@ -24,5 +24,5 @@ invariant_of-self c =
     let held = c.values.ensures ∙ (ap (λ (f : ℕ × List (List ℕ)). f.1) c.remove.ensures ∙ ap (λ (f : ℕ × List (List ℕ)). remove f.1 c.args.at) (field_at _ _ c.self.view_is _ _ _ c.index_mut-field.ensures.value c.requires.place)) in
     record {
       formed = is_record-changed _ _ c.self.view_is c.args.column.0 c.args.place c.self.invariant.formed _ (remove now c.args.at) e;
-      measured = measured-changed _ _ c.self.view_is c.args.column.0 c.self.invariant.formed _ (remove now c.args.at) _ _ _ e c.size_but-others.ensures (c.size_of_values-room.ensures ∙ ap (λ (v : List (List ℕ)). min (size_of_values v) (2 ^ 64 - 1)) held) c.saturating_add.ensures;
+      measured = measured-changed _ _ c.self.view_is c.args.column.0 c.self.invariant.formed _ (remove now c.args.at) _ _ _ e c.size_but-others.ensures (c.size_of_values-room.ensures ∙ ap (λ (v : List (List ℕ)). min (size_of_values v) (2 ^ 64 - 1)) held) c.saturating_add-self-inside.ensures;
     }

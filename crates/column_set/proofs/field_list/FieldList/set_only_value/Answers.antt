@@ -11,5 +11,5 @@ invariant_of-self c =
     let e = written _ _ c.self.view_is _ _ _ _ (λ values. c.args.value ∷ []) c.index_mut.ensures.value c.in-Ok.ensures.found c.set_only.ensures (omega arith) in
     record {
       formed = is_record-changed _ _ c.self.view_is c.args.column.0 c.in-Ok.place c.self.invariant.formed _ (c.args.value ∷ []) e;
-      measured = measured-one _ _ c.self.view_is c.args.column.0 c.self.invariant.formed _ c.args.value _ _ _ e c.size_but-others.ensures c.size_of_value-room.ensures c.saturating_add.ensures;
+      measured = measured-one _ _ c.self.view_is c.args.column.0 c.self.invariant.formed _ c.args.value _ _ _ e c.size_but-others.ensures c.size_of_value-room.ensures c.saturating_add-self-inside.ensures;
     }

@@ -18,7 +18,7 @@ invariant_of-self c =
     let held = c.values.ensures ∙ (ap (λ (f : ℕ × List (List ℕ)). f.1) c.set.ensures ∙ ap (λ (f : ℕ × List (List ℕ)). slice_set f.1 c.args.at c.args.value) (field_at _ _ c.self.view_is _ _ _ c.index_mut-field.ensures.value c.in-Ok.ensures.found)) in
     record {
       formed = is_record-changed _ _ c.self.view_is c.args.column.0 c.in-Ok.place c.self.invariant.formed _ _ e;
-      measured = measured-changed _ _ c.self.view_is c.args.column.0 c.self.invariant.formed _ (slice_set now c.args.at c.args.value) _ _ _ e c.size_but-others.ensures (c.size_of_values-room.ensures ∙ ap (λ (v : List (List ℕ)). min (size_of_values v) (2 ^ 64 - 1)) held) c.saturating_add.ensures;
+      measured = measured-changed _ _ c.self.view_is c.args.column.0 c.self.invariant.formed _ (slice_set now c.args.at c.args.value) _ _ _ e c.size_but-others.ensures (c.size_of_values-room.ensures ∙ ap (λ (v : List (List ℕ)). min (size_of_values v) (2 ^ 64 - 1)) held) c.saturating_add-self-inside.ensures;
     }
 
 -- a place that is required is one of a value
