@@ -1,6 +1,6 @@
 -- A node put into a leaf, widened or taken out of it.
-use Rattle.std.proofs.Common.{◌≡◌, ℕ, zero, suc, ◌+◌, ◌<◌, ◌≤◌, inl, inr, Bool, true, false, Some, List, [], ◌∷◌, ◌++◌, length, get_or, set, cond, map, refl, sym, ap, subst, ◌∙◌, arith}
-use Rattle.std.specs.Prelude.{All, insert, if◌then◌else◌}
+use Rattle.std.proofs.Common.{◌≡◌, ◌≢◌, ℕ, zero, suc, ◌+◌, ◌<◌, ◌≤◌, inl, inr, Bool, true, false, Some, List, [], ◌∷◌, ◌++◌, length, get_or, set, cond, map, refl, sym, ap, subst, ◌∙◌, arith}
+use Rattle.std.specs.Prelude.{All, AllPairs, Contains, insert, if◌then◌else◌}
 use Rattle.std.specs.Ordering.{nat_cmp, ordering_reverse, is_lt}
 use Rattle.std.specs.declared.cmp.Ordering.{Ordering}
 use Rattle.std.specs.declared.cmp.Ordering.TheVariants.{Less, Equal, Greater}
@@ -14,17 +14,18 @@ use Rattle.page_image.specs.Page.{Node, PageContents, HasRisingKeys, IsBelow, Is
 use Rattle.common_lemmas.proofs.Edits.{All-insert}
 use Rattle.page_space.specs.Frames.{Frames, page_at}
 use Rattle.btree_inplace.specs.Alterations.{Altered, AlteredTree, Swaps, copies}
-use Rattle.btree_inplace.specs.Changes.{IsLocal, IsOldKey, StayBut, inserted, with_extent_at}
+use Rattle.btree_inplace.specs.Changes.{Changed, IsLocal, IsOldKey, StayBut, inserted, with_extent_at}
 use Rattle.btree_inplace.specs.Order.{has_key}
 use Rattle.btree_inplace.specs.Shape.{IsSubtree, IsTreeNode, page_in}
-use Rattle.btree_inplace.specs.Trees.{Exchanges, IsTree, pages_of}
+use Rattle.btree_inplace.specs.Trees.{Exchanges, IsTree, nodes_of, pages_of}
 use Rattle.btree_inplace.specs.declared.Tree.{Tree}
 use Rattle.btree_inplace.proofs.Altering.{same_keys}
 use Rattle.btree_inplace.proofs.Below.{has_key-itself, other_above, other_below}
-use Rattle.btree_inplace.proofs.Changing.{map-fixed}
+use Rattle.btree_inplace.proofs.Changing.{map-fixed, set-stays}
 use Rattle.btree_inplace.proofs.Counting.{AllPairs-copies, copies-itself, copies-one}
 use Rattle.btree_inplace.proofs.Splitting.{nodes_written, written}
 use Rattle.btree_inplace.proofs.Swapping.{swaps-exchanges}
+use Rattle.btree_inplace.proofs.Writes.{wrote}
 
 -- a tree after a change
 pub altered_is_tree : (change : List Node → List Node) (old new : Frames) (tree tree' : Tree) → AlteredTree change old tree new tree' → IsTree new tree'
@@ -149,3 +150,53 @@ leaf-widen old new leaf i key wide tree h here small stay now page =
       keys = subst (λ (ns : List Node). All (IsOldKey key nodes) ns) (sym list) (All-set (IsOldKey key nodes) nodes i m (inl here) old_keys);
       some = λ _. omega (arith, ap (λ (ns : List Node). length ns) list, length-set nodes i m);
     }
+
+inserted-some : (nodes : List Node) (n : Node) → 0 < length (inserted nodes n)
+inserted-some [] n = omega arith
+inserted-some (x ∷ xs) n = by_test (is_lt (slice_cmp nat_cmp x.key n.key))
+  where
+    by_test : (t : Bool) → 0 < length (cond t (x ∷ inserted xs n) (n ∷ x ∷ xs))
+    by_test true = omega arith
+    by_test false = omega arith
+
+-- a leaf that takes a node keeps its page
+pub leaf-takes : (old new : Frames) (leaf i : ℕ) (n : Node) → IsSubtree zero old leaf → IsInsertPlace (page_in old leaf).nodes n.key i → IsTreeNode n → StayBut old new leaf → page_at new leaf ≡ Some (record (page_in old leaf) { nodes = insert (page_in old leaf).nodes i n }) → IsPage (record (page_in old leaf) { nodes = insert (page_in old leaf).nodes i n }) → Changed (λ nodes. inserted nodes n) n.key zero old new leaf
+leaf-takes old new leaf i n tree place is_node stay now page =
+    let altered = leaf-insert old new leaf i n tree place is_node stay now page in
+    record {
+      shape = altered.shape;
+      nodes = altered.nodes;
+      same = refl;
+      keys = altered.keys;
+      some = subst (λ (ns : List Node). 0 < length ns) (sym altered.nodes) (inserted-some (page_in old leaf).nodes n);
+    }
+
+pub same_exchanges : (frames : Frames) (list : List ℕ) → Exchanges frames frames list list
+same_exchanges frames list = record {
+  taken = λ p h. inl h;
+  given_back = λ p h not. absurd (not h);
+  others = λ p h not. refl;
+}
+
+-- a tree that keeps its pages, of which one was written
+pub one_page_changes : (old new : Frames) (before after : List ℕ) (page : ℕ) → after ≡ before → Contains before page → StayBut old new page → Exchanges old new before after
+one_page_changes old new before after page same own stay = record {
+  taken = λ p h. inl (subst (λ (l : List ℕ). Contains l p) same h);
+  given_back = λ p h not. absurd (not (subst (λ (l : List ℕ). Contains l p) (sym same) h));
+  others = λ p h not. stay p (λ e. h (subst (Contains before) (sym e) own));
+}
+
+-- a tree of which one leaf takes a node
+pub leaf_taken : (frames : Frames) (tree : Tree) (leaf i : ℕ) (n : Node) (x : PageContents) → IsTree frames tree → IsSubtree zero frames leaf → Contains (pages_of frames tree) leaf
+    → ((change : List Node → List Node) (new : Frames) → IsLocal change n.key → StayBut frames new leaf → Changed change n.key zero frames new leaf → Changed change n.key tree.depth frames new tree.root)
+    → IsInsertPlace (page_in frames leaf).nodes n.key i → IsTreeNode n → x ≡ record (page_in frames leaf) { nodes = insert (page_in frames leaf).nodes i n } → IsPage x
+    → IsTree (set frames leaf (Some x)) tree × (nodes_of (set frames leaf (Some x)) tree ≡ inserted (nodes_of frames tree) n) × Exchanges frames (set frames leaf (Some x)) (pages_of frames tree) (pages_of (set frames leaf (Some x)) tree)
+leaf_taken frames tree leaf i n x is shape own lifts place is_node value page =
+    let new = set frames leaf (Some x) in
+    let stay = set-stays frames leaf (Some x) in
+    let changed = lifts (λ nodes. inserted nodes n) new (inserted-local n) stay
+    (leaf-takes frames new leaf i n shape place is_node stay (wrote frames leaf x shape.taken ∙ ap Some value) (subst IsPage value page)) in (
+      record { shape = changed.shape; once = subst (λ (l : List ℕ). AllPairs (λ p q. p ≢ q) l) (sym changed.same) is.once },
+      changed.nodes,
+      one_page_changes frames new (pages_of frames tree) (pages_of new tree) leaf changed.same own stay,
+    )

@@ -1,5 +1,5 @@
 -- A change at one key, in one leaf of a tree.
-use Rattle.std.specs.Prelude.{◌≡◌, ◌≢◌, ℕ, ◌<◌, ◌⊎◌, List, [], ◌∷◌, ◌++◌, length, map, not, filter, All, if◌then◌else◌}
+use Rattle.std.specs.Prelude.{◌≡◌, ◌≢◌, ℕ, ◌<◌, ◌⊎◌, List, [], ◌∷◌, ◌++◌, length, map, not, filter, find, is_some, All, if◌then◌else◌}
 use Rattle.std.specs.Ordering.{nat_cmp, is_lt}
 use Rattle.std.specs.Cmp.Lexicographic.{slice_cmp}
 use Rattle.page_image.specs.Page.{Node, IsBelow, node_at}
@@ -19,6 +19,10 @@ with_extent_at nodes key extent = map (λ n. if has_key key n then record n { ex
 abbrev pub inserted : List Node → Node → List Node
 inserted [] node = node ∷ []
 inserted (n ∷ nodes) node = if is_lt (slice_cmp nat_cmp n.key node.key) then n ∷ inserted nodes node else node ∷ n ∷ nodes
+
+-- the nodes with one more, where its key is not there
+abbrev pub inserted_if_absent : List Node → Node → List Node
+inserted_if_absent nodes node = if is_some (find (has_key node.key) nodes) then nodes else inserted nodes node
 
 -- the nodes without the one that has a key
 abbrev pub without_key : List Node → List ℕ → List Node

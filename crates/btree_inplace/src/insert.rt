@@ -5,8 +5,8 @@ ghost use Rattle.byteorder.specs.Endian.{little_number};
 ghost use Rattle.page_image.specs.Page.{IsInsertPlace, IsPage, node_at, node_size, page_size};
 ghost use Rattle.btree_node.specs.Cut.{IsChildPlace};
 ghost use Rattle.btree_inplace.specs.Alterations.{AlteredTree, Entered, HasRoom, IsParted, IsRootAbove, Needs, Reaches, cleared, room_at, separator};
-ghost use Rattle.btree_inplace.specs.Changes.{inserted, with_extent_at};
-ghost use Rattle.btree_inplace.specs.Order.{has_key};
+ghost use Rattle.btree_inplace.specs.Changes.{inserted, inserted_if_absent, with_extent_at};
+ghost use Rattle.btree_inplace.specs.Order.{extent_in, has_key};
 ghost use Rattle.btree_inplace.specs.Shape.{IsSubtree, IsTreeNode, child_of, entries, page_in, pages};
 ghost use Rattle.btree_inplace.specs.Trees.{Exchanges, IsTree, nodes_of, pages_of};
 
@@ -65,6 +65,44 @@ impl Tree {
             }
         }
         Ok(())
+    }
+
+    /// Puts a node in its place where its key is not there, as `insert` does. Where the key is there, all stays as it is and
+    /// no memory is taken: then it answers how many bytes are kept for the data that is there, as `extent` does.
+    pub fn insert_if_absent(
+        &mut self,
+        space: &mut Space,
+        key: &[u8],
+        data: &[u8],
+        extent: usize,
+    ) -> Result<Option<usize>, OutOfMemory>
+        requires tree { IsTree space.old self.old }
+        requires short { length key.now ≤ 755 }
+        requires fits { length «data».now ≤ extent }
+        requires small { 6 + length key.now + extent ≤ 2032 }
+        ensures tree { IsTree space.new self.new }
+        ensures there { IfOk result (λ there. there ≡ extent_in (nodes_of space.old self.old) key.now) }
+        ensures ok { OnOk result (nodes_of space.new self.new ≡ inserted_if_absent (nodes_of space.old self.old) (record { key = key.now; extent = extent; «data» = «data».now })) }
+        ensures err { OnErr result (nodes_of space.new self.new ≡ nodes_of space.old self.old) }
+        ensures absent { OnErr result (extent_in (nodes_of space.old self.old) key.now ≡ None) }
+        ensures pages { Exchanges space.old space.new (pages_of space.old self.old) (pages_of space.new self.new) }
+        ensures root { self.new.root ≡ self.old.root }
+    {
+        let page = self.leaf(space, key);
+        let leaf = space.page(page);
+        match leaf.find(key) {
+            Ok(i) => Ok(Some(leaf.extent(i))),
+            Err(i) => {
+                if leaf.used() + NODE_HEAD_BYTES + key.len() + extent <= PAGE_BYTES {
+                    let _ = space.page_mut(page).insert(i, key, data, extent);
+                    return Ok(None);
+                }
+                match self.insert(space, key, data, extent) {
+                    Ok(()) => Ok(None),
+                    Err(fault) => Err(fault),
+                }
+            }
+        }
     }
 
     /// Keeps another number of bytes for the data under a key that is there, at least as many as the

@@ -9,3 +9,4 @@ pub mod Spelling
 pub mod Places
 pub mod Edits
 pub mod Walking
+pub mod Measures

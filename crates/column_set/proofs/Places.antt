@@ -1,7 +1,9 @@
 -- What a search finds among the fields of a record.
-use Rattle.std.proofs.Common.{◌≡◌, ℕ, suc, zero, ◌<◌, ◌≤◌, [], ◌∷◌, length, Result, Ok, Err, IfOk, IfErr, Bool, true, false, ◌&&◌, refl, sym, ap, arith}
+use Rattle.std.proofs.Common.{◌≡◌, ℕ, suc, zero, ◌<◌, ◌≤◌, [], ◌∷◌, length, Result, Ok, Err, IfOk, IfErr, Bool, true, false, ◌&&◌, refl, sym, ap, ◌∙◌, ◌-◌, get_or, Some, None, inl, inr, List, arith}
 use mathlib.Core.Bool.{false≢true}
-use Rattle.std.specs.Prelude.{IsTrue, ltb}
+use Rattle.std.specs.Prelude.{IsTrue, ltb, slice_get}
+use Rattle.std.proofs.lemmas.Bool.{cases_lt}
+use Rattle.std.proofs.lemmas.Option.{get_or_from_slice_get}
 use Rattle.std.specs.List.{list_all}
 use Rattle.std.specs.List.Sorted.{IsSearchInRange, IsBinarySearchResult, IsNonDecreasingBy}
 use Rattle.std.specs.Ordering.{nat_cmp, is_lt, ordering_index}
@@ -65,3 +67,34 @@ module _ (fields : RecordFields) (rising : Rises fields) (column : ℕ) where
       greater_after = λ j le lt. ranked _ column _ (sym ((parted comparisons_rise).1 j (0, []) le lt));
     };
   }
+
+-- a column above that of the last field goes in behind it
+pub gap_at_end : (fields : RecordFields) (column : ℕ) (last : ℕ × List (List ℕ)) → IsTrue (is_record fields) → slice_get fields (length fields - 1) ≡ Some last → last.0 < column → IsGapFor fields column (length fields)
+gap_at_end fields column last h there lt =
+    let read : get_or fields (length fields - 1) (0, []) ≡ last = get_or_from_slice_get fields (length fields - 1) last (0, []) there in
+    let at_last : column_at fields (length fields - 1) ≡ last.0 = ap (λ (f : ℕ × List (List ℕ)). f.0) read in
+    record {
+      in_range = omega arith;
+      smaller_before = λ j within. elim (cases_lt j (length fields - 1)) [
+        | inl before ↦ omega (arith, at_last, lt, rises fields h j (length fields - 1) before (omega arith))
+        | inr from ↦
+            let same : j ≡ length fields - 1 = omega arith in
+            omega (arith, ap (column_at fields) same, at_last, lt)
+      ];
+      greater_after = λ j le within. absurd (omega arith);
+    }
+
+pub gap_in_nothing : (fields : RecordFields) (column : ℕ) → slice_get fields (length fields - 1) ≡ None → IsGapFor fields column (length fields)
+gap_in_nothing [] column none = record {
+  in_range = omega arith;
+  smaller_before = λ j within. absurd (omega arith);
+  greater_after = λ j le within. absurd (omega arith);
+}
+gap_in_nothing (field ∷ fields) column none =
+    let last : length fields ≡ length (field ∷ fields) - 1 = omega arith in
+    absurd (none_is_no_field (field ∷ fields) (length fields) (omega arith) (ap (slice_get (field ∷ fields)) last ∙ none))
+  where
+    none_is_no_field : (xs : RecordFields) (at : ℕ) → at < length xs → slice_get xs at ≡ None → ⊥
+    none_is_no_field [] at lt e = absurd (omega arith)
+    none_is_no_field (x ∷ xs) zero lt e = absurd cc
+    none_is_no_field (x ∷ xs) (suc at) lt e = none_is_no_field xs at (omega arith) e

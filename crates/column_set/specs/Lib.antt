@@ -7,3 +7,4 @@ pub mod RowSeen
 pub mod Rows
 pub mod Refusals
 pub mod Shared
+pub mod HeldValues

@@ -6,7 +6,7 @@ ghost use Rattle.std.specs.Cmp.{partial_equiv_from_equiv};
 ghost use Rattle.std.specs.Cmp.Lexicographic.{slice_cmp, nat_list_eq_equiv, nat_list_cmp_total, texts_ties, texts_po};
 
 use crate::records::Record;
-use jet_base::{ColumnId, OutOfMemory, TableId};
+use jet_base::{ColumnId, OutOfMemory, SmallBytes, TableId};
 use std::alloc::{AllocError, Global};
 use std::cmp::Ordering;
 use std::marker::Model;
@@ -15,7 +15,7 @@ use std::marker::Model;
 /// it, in 8 bytes big-endian. A stored record's has 1 to 255 bytes.
 #[derive(Debug, Drop)]
 pub struct Bookmark {
-    bytes: Vec<u8>,
+    bytes: SmallBytes,
 }
 
 impl Model for Bookmark {
@@ -23,15 +23,17 @@ impl Model for Bookmark {
 
     ghost Value = { List ℕ };
 
-    ghost view = { λ a. a.bytes.items };
+    ghost view = { λ a. a.bytes };
 }
 
 impl Bookmark {
     /// The bookmark of these bytes, which it takes over.
-    pub fn new(bytes: Vec<u8>) -> Bookmark
-        ensures { result ≡ bytes.items }
+    pub fn new(bytes: Vec<u8>) -> Result<Bookmark, OutOfMemory>
+        ensures { IfOk result (λ made. made ≡ bytes.items) }
     {
-        Bookmark { bytes }
+        Ok(Bookmark {
+            bytes: SmallBytes::new(bytes)?,
+        })
     }
 
     /// The bookmark of these bytes, copied.
@@ -39,7 +41,7 @@ impl Bookmark {
         ensures { IfOk result (λ made. made ≡ bytes.now) }
     {
         Ok(Bookmark {
-            bytes: Vec::from_slice(alloc, bytes)?,
+            bytes: SmallBytes::from_slice(alloc, bytes)?,
         })
     }
 
@@ -74,7 +76,7 @@ impl PartialEq for Bookmark {
     ghost laws = { partial_equiv_from_equiv nat_list_eq_equiv };
 
     fn eq(&self, other: &Bookmark) -> bool {
-        self.as_bytes() == other.as_bytes()
+        self.bytes.is(&other.bytes)
     }
 }
 

@@ -64,9 +64,9 @@ fn put_place(bytes: &mut Vec<u8>, entry: u64, place: u32, length: u32) -> Result
 fn put_head(bytes: &mut Vec<u8>, column: u16, form: u8, count: u16) -> Result<(), AllocError>
     ensures { OnOk result (bytes.new.items ≡ bytes.old.items ++ (to_le_bytes w16 column ++ (form ∷ to_le_bytes w16 count))) }
 {
-    bytes.extend_from_slice(&column.to_le_bytes())?;
-    bytes.push(form)?;
-    bytes.extend_from_slice(&count.to_le_bytes())
+    let [column_low, column_high] = column.to_le_bytes();
+    let [low, high] = count.to_le_bytes();
+    bytes.extend_from_slice(&[column_low, column_high, form, low, high])
 }
 
 /// Writes a value that stands in its row, with its column.

@@ -6,6 +6,7 @@ ghost use Rattle.column_set.specs.RecordValues.{size_of_length, size_of_values};
 use jet_base::{ColumnId, Octets, OutOfMemory};
 use std::alloc::{AllocError, Global};
 use std::marker::Model;
+use std::slice;
 
 /// What a value takes in its row beside its bytes, in bytes: its column, its sequence and its length.
 pub const VALUE_HEADER: usize = 5;
@@ -38,32 +39,47 @@ pub fn size_of_values(values: &[Octets]) -> usize
     total
 }
 
-/// A column with its values, in their order.
+/// The room of one value in its row, in bytes, with its header.
+pub(crate) fn size_of_value(value: &Octets) -> usize
+    ensures { result ≡ size_of_values (value.now ∷ []) }
+{
+    VALUE_HEADER + size_of_length(value.as_bytes().len())
+}
+
+// The values of a column: one, as most columns have, or any number of them.
+#[derive(Debug, Drop)]
+enum Held {
+    One(Octets),
+    Many(Vec<Octets>),
+}
+
+/// A column with its values, in their order. One value takes no memory beside its own.
 #[derive(Debug, Drop)]
 pub struct Field {
+    alloc: Global,
     column: u16,
-    values: Vec<Octets>,
+    values: Held,
 }
 
 impl Model for Field {
     ghost use Rattle.std.specs.Prelude.{List, ℕ};
+    ghost use Rattle.column_set.specs.HeldValues.{held_values};
 
     ghost Value = { ℕ × List (List ℕ) };
 
-    ghost view = { λ a. (a.column, a.values.items) };
+    ghost view = { λ a. (a.column, held_values a.values) };
 }
 
 impl Field {
     /// The column with one value.
-    pub fn new(alloc: Global, column: ColumnId, value: Octets) -> Result<Field, OutOfMemory>
-        ensures { IfOk result (λ made. made ≡ (column.0, value ∷ [])) }
+    pub fn new(alloc: Global, column: ColumnId, value: Octets) -> Field
+        ensures { result ≡ (column.0, value ∷ []) }
     {
-        let mut values = Vec::new(alloc);
-        values.push(value)?;
-        Ok(Field {
+        Field {
+            alloc,
             column: column.0,
-            values,
-        })
+            values: Held::One(value),
+        }
     }
 
     /// The column's number.
@@ -77,15 +93,27 @@ impl Field {
     pub fn values(&self) -> &[Octets]
         ensures { result.now ≡ self.now.1 }
     {
-        self.values.as_slice()
+        match &self.values {
+            Held::One(value) => slice::from_ref(value),
+            Held::Many(values) => values.as_slice(),
+        }
     }
 
     /// Puts one more value at the end. Where there is no memory all stays.
     pub fn push(&mut self, value: Octets) -> Result<(), OutOfMemory>
         ensures { self.new ≡ (self.old.0, if is_ok result then self.old.1 ++ value ∷ [] else self.old.1) }
     {
-        self.values.push(value)?;
-        Ok(())
+        match &mut self.values {
+            Held::One(first) => {
+                let values = two_values(self.alloc, first, value)?;
+                self.values = Held::Many(values);
+                Ok(())
+            }
+            Held::Many(values) => {
+                values.push(value)?;
+                Ok(())
+            }
+        }
     }
 
     /// Puts the value in the place of another.
@@ -93,34 +121,56 @@ impl Field {
         requires { at < length self.old.1 }
         ensures { self.new ≡ (self.old.0, slice_set self.old.1 at value) }
     {
-        self.values[at] = value;
+        match &mut self.values {
+            Held::One(_) => self.values = Held::One(value),
+            Held::Many(values) => values[at] = value,
+        }
     }
 
     /// Puts the value in the place of all.
     pub fn set_only(&mut self, value: Octets)
-        requires { 0 < length self.old.1 }
         ensures { self.new ≡ (self.old.0, value ∷ []) }
     {
-        self.values.truncate(1);
-        self.values[0] = value;
+        self.values = Held::One(value);
     }
 
-    /// Takes a value out. The later ones close up.
+    /// Takes a value out, and not the last one. The later ones close up.
     pub fn remove(&mut self, at: usize)
-        requires { at < length self.old.1 }
+        requires place { at < length self.old.1 }
+        requires several { 1 < length self.old.1 }
         ensures { self.new ≡ (self.old.0, remove self.old.1 at) }
     {
-        self.values.remove(at);
+        match &mut self.values {
+            Held::One(_) => unreachable!(),
+            Held::Many(values) => {
+                values.remove(at);
+            }
+        }
     }
+}
+
+// A copy of the first value, and the second one.
+fn two_values(alloc: Global, first: &Octets, second: Octets) -> Result<Vec<Octets>, OutOfMemory>
+    ensures { IfOk result (λ made. made.items ≡ first.now ∷ second ∷ []) }
+{
+    let mut values = Vec::with_capacity(alloc, 2)?;
+    values.push(first.copy()?)?;
+    values.push(second)?;
+    Ok(values)
 }
 
 impl Clone for Field {
     ghost is_clone = { λ a b. b ≡ a };
 
     fn clone(&self) -> Result<Field, AllocError> {
+        let values = match &self.values {
+            Held::One(value) => Held::One(value.clone()?),
+            Held::Many(values) => Held::Many(values.clone()?),
+        };
         Ok(Field {
+            alloc: self.alloc,
             column: self.column,
-            values: self.values.clone()?,
+            values,
         })
     }
 }

@@ -1,6 +1,6 @@
 -- Entries that come and go, and their nodes.
 use Rattle.std.proofs.Common.{◌≡◌, Bool, true, false, not, ◌&&◌, List, [], ◌∷◌, ◌++◌, map, filter, find, Option, Some, None, option_map, Result, Ok, Err, refl, sym, ap, subst, ◌∙◌, true≢false}
-use Rattle.std.specs.Prelude.{All, AllPairs, IsSome, OnErr, OnOk}
+use Rattle.std.specs.Prelude.{All, AllPairs, IsSome, OnErr, OnOk, if◌then◌else◌, is_some}
 use Rattle.std.specs.List.{list_all, list_any}
 use Rattle.std.specs.Cmp.{IsTotalOrder, then_total, on_total}
 use Rattle.std.proofs.lemmas.List.Elements.{All-cons, All-filter, All-head, All-tail, All-weaker}
@@ -10,12 +10,12 @@ use Rattle.std.specs.declared.cmp.Ordering.TheVariants.{Less, Equal, Greater}
 use Rattle.std.specs.Ordering.{nat_cmp, is_eq, is_lt, is_le, ordering_then, ordering_reverse, on, then_cmp}
 use Rattle.std.specs.Cmp.Lexicographic.{slice_cmp, nat_list_cmp_total}
 use Rattle.page_image.specs.Page.{Node}
-use Rattle.btree_inplace.specs.Changes.{inserted, without_key}
+use Rattle.btree_inplace.specs.Changes.{inserted, inserted_if_absent, without_key}
 use Rattle.btree_inplace.specs.Order.{has_key}
 use Rattle.index_derive.specs.Entries.{entry_le, insert_entry}
 use Rattle.cursor_nav.specs.Places.{Pair, are_sorted, pair_lt}
 use Rattle.derived_index.specs.KeptEntries.{has_entry, without_entry}
-use Rattle.index_tree.specs.Entries.{AreApart, IsApart, IsApartFromAll, IsShort, node_of_entry}
+use Rattle.index_tree.specs.Entries.{AreApart, IsApart, IsApartFromAll, IsShort, insert_entry_if_absent, node_of_entry}
 use Rattle.index_tree.proofs.Bytes.{apart_turned, by_test, order, turned}
 use Rattle.index_tree.proofs.PairOrder.{is_same, order_of_entries, pair_lower, pair_same, then_turned}
 use Rattle.index_tree.proofs.Lists.{all_from, filter_alike, find_alike, find_map, found_all, none_from_any, pairs_head, pairs_tail, to_all}
@@ -181,6 +181,48 @@ absent_node nodes es e same apart h =
     ap (find (has_key (e.0 ++ e.1))) same
     ∙ find_map node_of_entry (has_key (e.0 ++ e.1)) es
     ∙ ap (option_map node_of_entry) (find_alike (λ x. has_key (e.0 ++ e.1) (node_of_entry x)) (is_same e) es (alike e es apart) ∙ find_none (is_same e) es h)
+
+some_mapped : (o : Option Pair) → is_some (option_map node_of_entry o) ≡ is_some o
+some_mapped None = refl
+some_mapped (Some e) = refl
+
+some_any : (p : Pair → Bool) (es : List Pair) → is_some (find p es) ≡ list_any p es
+some_any p [] = refl
+some_any p (x ∷ es) = by_test (p x) (λ t. rw t refl) (λ t. rw t (some_any p es))
+
+-- an entry is there where its node is
+pub some_there : (nodes : List Node) (es : List Pair) (e : Pair) → nodes ≡ map node_of_entry es → IsApartFromAll e.0 es → is_some (find (has_key (e.0 ++ e.1)) nodes) ≡ has_entry e.0 e.1 es
+some_there nodes es e same apart =
+    ap (λ ns. is_some (find (has_key (e.0 ++ e.1)) ns)) same
+    ∙ ap is_some (find_map node_of_entry (has_key (e.0 ++ e.1)) es
+    ∙ ap (option_map node_of_entry) (find_alike (λ x. has_key (e.0 ++ e.1) (node_of_entry x)) (is_same e) es (alike e es apart)))
+    ∙ some_mapped (find (is_same e) es) ∙ some_any (is_same e) es
+
+pub nodes_if_absent : (nodes : List Node) (es : List Pair) (e : Pair) → nodes ≡ map node_of_entry es → IsApartFromAll e.0 es → inserted_if_absent nodes (node_of_entry e) ≡ map node_of_entry (insert_entry_if_absent e es)
+nodes_if_absent nodes es e same apart =
+    let there = some_there nodes es e same apart in
+    let put : Bool → List Node = λ b. if b then nodes else inserted nodes (node_of_entry e) in
+    let kept : Bool → List Node = λ b. map node_of_entry (if b then es else insert_entry e es) in
+    by_test (has_entry e.0 e.1 es)
+    (λ t. ap put (there ∙ t) ∙ same ∙ ap kept (sym t))
+    (λ t. ap put (there ∙ t) ∙ ap (λ ns. inserted ns (node_of_entry e)) same ∙ inserted_nodes es e apart ∙ ap kept (sym t))
+
+-- what the entries of an index are, they are with one more
+pub record AreInOrder (es : List Pair) : Type 0 where
+  pub sorted : are_sorted es ≡ true
+  pub short : All IsShort es
+  pub apart : AreApart es
+
+pub in_order_if_absent : (e : Pair) (es : List Pair) → IsShort e → IsApartFromAll e.0 es → AreInOrder es → AreInOrder (insert_entry_if_absent e es)
+in_order_if_absent e es short apart is =
+    let P : Bool → Type 0 = λ b. AreInOrder (if b then es else insert_entry e es) in
+    by_test (has_entry e.0 e.1 es)
+    (λ t. subst P (sym t) is)
+    (λ t. subst P (sym t) (record {
+      sorted = insert_sorted e es t is.sorted;
+      short = insert_short e es short is.short;
+      apart = insert_apart e es apart is.apart;
+    }))
 
 -- ---- one less
 

@@ -11,14 +11,10 @@ use Rattle.std.specs.Cmp.Lexicographic.{nat_list_cmp_total, texts_ties}
 use Rattle.index_derive.specs.declared.entries.Place.TheVariants.{On, Gap}
 use Rattle.cursor_nav.specs.Places.{Pair, are_sorted, entry_after, entry_before, is_beyond, is_short_of, pair_lt}
 use Rattle.derived_index.specs.KeptEntries.{has_key}
-use Rattle.index_tree.specs.Entries.{AreApart, CutsAt, IsApart, IsApartFromAll, IsShort, gap_bookmark}
+use Rattle.index_tree.specs.Entries.{AreApart, CutsAt, IsApart, IsApartFromAll, IsShort, gap_bookmark, is_at_or_after}
 use Rattle.index_tree.proofs.Bytes.{apart_itself, apart_turned, by_test, is_front, front_lower, order, order_of_pairs, tied, turned}
 use Rattle.index_tree.proofs.PairOrder.{beyond_gap, beyond_pair, key_order, le_by, pair_lower, short_below_top, short_of_gap}
 use Rattle.index_tree.proofs.Lists.{all_both, all_from, any_found, any_none, filter_alike, find_alike, found_passes, none_passes, pairs_found}
-
--- whether an entry's node is not below a key
-abbrev pub is_at_or_after : List ℕ → Pair → Bool
-is_at_or_after key entry = is_ge (order (entry.0 ++ entry.1) key)
 
 -- the entries that are apart from a key that was found
 pub found_apart : (p : Pair → Bool) (entries : List Pair) (f : Pair) → Some f ≡ find p entries → AreApart entries → IsApartFromAll f.0 entries

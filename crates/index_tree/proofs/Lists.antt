@@ -1,5 +1,5 @@
 -- What is found in a list, from its front and from its end, and what holds of all of it.
-use Rattle.std.proofs.Common.{◌≡◌, suc, Bool, true, false, cond, reverse, ◌++◌, List, [], ◌∷◌, map, filter, find, Option, Some, None, IfSome, option_map, refl, sym, ap, subst, ◌∙◌, true≢false, arith}
+use Rattle.std.proofs.Common.{◌≡◌, suc, length, Bool, true, false, cond, reverse, ◌++◌, List, [], ◌∷◌, map, filter, find, Option, Some, None, IfSome, option_map, refl, sym, ap, subst, ◌∙◌, true≢false, arith}
 use Rattle.std.specs.Prelude.{All, AllPairs}
 use Rattle.std.specs.List.{last_or, list_all, list_any}
 use Rattle.std.proofs.lemmas.List.{reverse-append}
@@ -165,3 +165,7 @@ pairs_found R own back p (x ∷ xs) f e h =
 pub all_both : {X : Type 0} (P Q : X → Type 0) (xs : List X) → All P xs → All Q xs → All (λ x. P x × Q x) xs
 all_both P Q [] h k = All-nil (λ x. P x × Q x)
 all_both P Q (x ∷ xs) h k = All-cons (λ x. P x × Q x) x xs (All-head P x xs h, All-head Q x xs k) (all_both P Q xs (All-tail P x xs h) (All-tail Q x xs k))
+
+pub no_bytes : {X : Type 0} (xs : List X) → length xs ≡ 0 → xs ≡ []
+no_bytes [] e = refl
+no_bytes (x ∷ xs) e = absurd (omega (arith, e))

@@ -1,10 +1,12 @@
 -- The entries of an index as nodes, and the plain list of them.
-use Rattle.std.specs.Prelude.{◌≡◌, ℕ, ◌≤◌, ◌<◌, Bool, true, false, List, [], ◌++◌, length, take, drop, replicate, All, AllPairs}
-use Rattle.std.specs.Ordering.{nat_cmp, is_lt}
+use Rattle.std.specs.Prelude.{◌≡◌, ℕ, ◌≤◌, ◌<◌, Bool, true, false, List, [], ◌++◌, length, take, drop, replicate, if◌then◌else◌, All, AllPairs}
+use Rattle.std.specs.Ordering.{nat_cmp, is_ge, is_lt}
 use Rattle.std.specs.Cmp.Lexicographic.{slice_cmp}
 use Rattle.byteorder.specs.Endian.{little_bytes, little_number}
 use Rattle.page_image.specs.Page.{Node}
 use Rattle.cursor_nav.specs.Places.{Pair, pair_lt}
+use Rattle.derived_index.specs.KeptEntries.{has_entry}
+use Rattle.index_derive.specs.Entries.{insert_entry}
 
 -- The key of a node is an entry's key with its bookmark behind it, and the data tells how long the entry's key is, in two bytes, the lowest first.
 abbrev pub node_of_entry : Pair → Node
@@ -30,6 +32,10 @@ IsApartFromAll key entries = All (λ entry. IsApart key entry.0) entries
 abbrev pub AreApart : List Pair → Type 0
 AreApart entries = AllPairs (λ one other. IsApart one.0 other.0) entries
 
+-- the entries with one more in its place, where it is not there
+abbrev pub insert_entry_if_absent : Pair → List Pair → List Pair
+insert_entry_if_absent entry entries = if has_entry entry.0 entry.1 entries then entries else insert_entry entry entries
+
 -- ---- look-ups
 
 -- a bookmark above those of all entries with a key, or below them
@@ -40,3 +46,7 @@ gap_bookmark false = []
 -- The nodes with keys below this one are those of the entries below the pair.
 abbrev pub CutsAt : List ℕ → Pair → List Pair → Type 0
 CutsAt node_key pair entries = All (λ entry. is_lt (slice_cmp nat_cmp (entry.0 ++ entry.1) node_key) ≡ pair_lt entry pair) entries
+
+-- whether an entry's node is not below a key
+abbrev pub is_at_or_after : List ℕ → Pair → Bool
+is_at_or_after key entry = is_ge (slice_cmp nat_cmp (entry.0 ++ entry.1) key)

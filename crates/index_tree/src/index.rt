@@ -9,7 +9,7 @@ ghost use Rattle.index_derive.specs.Entries.{insert_entry};
 ghost use Rattle.index_derive.specs.declared.entries.Place.TheVariants.{On};
 ghost use Rattle.cursor_nav.specs.Places.{entry_after, entry_before, pair_lt};
 ghost use Rattle.derived_index.specs.KeptEntries.{has_entry, has_key, without_entry};
-ghost use Rattle.index_tree.specs.Entries.{CutsAt, IsApartFromAll};
+ghost use Rattle.index_tree.specs.Entries.{CutsAt, IsApartFromAll, insert_entry_if_absent, is_at_or_after};
 ghost use Rattle.index_tree.specs.IndexTrees.{IsIndexTree, entries_of, own_pages, root_of};
 ghost use Rattle.index_tree.specs.declared.index.IndexTree.{IndexTree};
 
@@ -72,6 +72,39 @@ impl IndexTree {
         let node_key = joined(key, bookmark);
         self.tree
             .insert(space, node_key.as_slice(), size.as_slice(), 2)
+    }
+
+    /// Puts an entry in its place where it is not there, and says whether it was put. After a refusal, which only an entry
+    /// that is not there meets, the entries are the same.
+    pub fn insert_if_absent(
+        &mut self,
+        space: &mut Space,
+        key: &[u8],
+        bookmark: &[u8],
+    ) -> Result<bool, OutOfMemory>
+        requires index { IsIndexTree space.old self.old }
+        requires apart { IsApartFromAll key.now (entries_of space.old self.old) }
+        requires key { length key.now ≤ 255 }
+        requires bookmark { length bookmark.now ≤ 255 }
+        ensures index { IsIndexTree space.new self.new }
+        ensures put { IfOk result (λ is_new. is_new ≡ not (has_entry key.now bookmark.now (entries_of space.old self.old))) }
+        ensures ok { OnOk result (entries_of space.new self.new ≡ insert_entry_if_absent (key.now, bookmark.now) (entries_of space.old self.old)) }
+        ensures err { OnErr result (entries_of space.new self.new ≡ entries_of space.old self.old) }
+        ensures absent { OnErr result (has_entry key.now bookmark.now (entries_of space.old self.old) ≡ false) }
+        ensures pages { Exchanges space.old space.new (own_pages space.old self.old) (own_pages space.new self.new) }
+        ensures root { root_of self.new ≡ root_of self.old }
+    {
+        let mut size = [0; 2];
+        LittleEndian::write_u16(&mut size, key.len() as u16);
+        let node_key = joined(key, bookmark);
+        match self
+            .tree
+            .insert_if_absent(space, node_key.as_slice(), size.as_slice(), 2)
+        {
+            Ok(None) => Ok(true),
+            Ok(Some(_)) => Ok(false),
+            Err(fault) => Err(fault),
+        }
     }
 
     /// Takes out an entry that is there.
@@ -189,7 +222,8 @@ impl IndexTree {
         }
     }
 
-    /// The least entry that is not below a key with a bookmark that has these bytes behind it, 256 bytes together.
+    /// The least entry that is not below a key with a bookmark that has these bytes behind it, 256 bytes together. Where no
+    /// entry has the key or begins it, it is that of the first node at the key or after it.
     fn from<'a>(
         &self,
         space: &'a Space,
@@ -202,8 +236,38 @@ impl IndexTree {
         requires bookmark { length bookmark.now + length behind.now ≤ 256 }
         ensures { option_map (λ found. (found.0.now, found.1.now)) result ≡ find (λ entry. not (pair_lt entry (key.now, bookmark.now ++ behind.now))) (entries_of space.now self.now) }
     {
+        let found = parts(self.tree.at_or_after(space, key));
+        match found {
+            Some((own, _)) => match own.cmp(key) {
+                Ordering::Less => self.at_node_or_after(space, own, gap_bookmark(true), &[]),
+                Ordering::Equal => {
+                    let size = bookmark.len() + behind.len();
+                    if size == 0 {
+                        return found;
+                    }
+                    self.at_node_or_after(space, key, bookmark, behind)
+                }
+                Ordering::Greater => found,
+            },
+            None => None,
+        }
+    }
+
+    /// The entry of the first node whose key is not below these bytes, one behind the other.
+    fn at_node_or_after<'a>(
+        &self,
+        space: &'a Space,
+        key: &[u8],
+        bookmark: &[u8],
+        behind: &[u8],
+    ) -> Option<(&'a [u8], &'a [u8])>
+        requires index { IsIndexTree space.now self.now }
+        requires key { length key.now ≤ 255 }
+        requires bookmark { length bookmark.now + length behind.now ≤ 256 }
+        ensures { option_map (λ found. (found.0.now, found.1.now)) result ≡ find (is_at_or_after (key.now ++ bookmark.now ++ behind.now)) (entries_of space.now self.now) }
+    {
         let mut node_key = NodeKey::new();
-        self.cut(space, key, bookmark, behind, &mut node_key);
+        join(&mut node_key, key, bookmark, behind);
         parts(self.tree.at_or_after(space, node_key.as_slice()))
     }
 
@@ -220,23 +284,22 @@ impl IndexTree {
         ensures { option_map (λ found. (found.0.now, found.1.now)) result ≡ last_or None (filter (λ entry. pair_lt entry (key.now, bookmark.now)) (entries_of space.now self.now)) }
     {
         let mut node_key = NodeKey::new();
-        self.cut(space, key, bookmark, &[], &mut node_key);
+        self.cut(space, key, bookmark, &mut node_key);
         parts(self.tree.before(space, node_key.as_slice()))
     }
 
-    /// Makes it a node's key that parts the nodes as a key with a bookmark, and these bytes behind it, parts the entries. The
-    /// key need not be apart from the entries' keys: the nodes of one that begins it may lie on both sides of it, though all
-    /// their entries are below.
-    fn cut(&self, space: &Space, key: &[u8], bookmark: &[u8], behind: &[u8], node_key: &mut NodeKey)
+    /// Makes it a node's key that parts the nodes as a key with a bookmark parts the entries. The key need not be apart from the
+    /// entries' keys: the nodes of one that begins it may lie on both sides of it, though all their entries are below.
+    fn cut(&self, space: &Space, key: &[u8], bookmark: &[u8], node_key: &mut NodeKey)
         requires index { IsIndexTree space.now self.now }
         requires key { length key.now ≤ 255 }
-        requires bookmark { length bookmark.now + length behind.now ≤ 256 }
-        ensures { CutsAt node_key.new.items (key.now, bookmark.now ++ behind.now) (entries_of space.now self.now) }
+        requires bookmark { length bookmark.now ≤ 256 }
+        ensures { CutsAt node_key.new.items (key.now, bookmark.now) (entries_of space.now self.now) }
     {
         match parts(self.tree.at_or_after(space, key)) {
             Some((found, _)) => match found.cmp(key) {
                 Ordering::Less => join(node_key, found, gap_bookmark(true), &[]),
-                Ordering::Equal => join(node_key, key, bookmark, behind),
+                Ordering::Equal => join(node_key, key, bookmark, &[]),
                 Ordering::Greater => join(node_key, key, &[], &[]),
             },
             None => join(node_key, key, &[], &[]),

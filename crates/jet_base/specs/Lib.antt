@@ -3,3 +3,4 @@ pub mod JetName
 pub mod ColumnType
 pub mod Given
 pub mod TypeKinds
+pub mod SmallBytes

@@ -5,6 +5,7 @@ mod ids;
 mod items;
 mod memory;
 mod replies;
+mod small_bytes;
 mod text;
 mod words;
 
@@ -12,5 +13,6 @@ pub use ids::{ColumnId, CursorId, IndexId, Session, TableId};
 pub use items::Items;
 pub use memory::OutOfMemory;
 pub use replies::{Jet, name};
+pub use small_bytes::SmallBytes;
 pub use text::{LONGEST_NAME, Name, Octets};
 pub use words::{ColType, ColumnFlags, Given, Prepare, Way};

@@ -6,6 +6,7 @@ ghost use Rattle.std.specs.Cmp.{partial_equiv_from_equiv};
 ghost use Rattle.std.specs.Cmp.Lexicographic.{slice_cmp, nat_list_eq_equiv, nat_list_cmp_total, texts_ties, texts_po};
 
 use crate::memory::OutOfMemory;
+use crate::small_bytes::SmallBytes;
 use std::alloc::{AllocError, Global};
 use std::cmp::Ordering;
 use std::marker::Model;
@@ -17,7 +18,7 @@ pub const LONGEST_NAME: usize = 64;
 /// equal exactly where their bytes are: case counts.
 #[derive(Debug, Drop)]
 pub struct Name {
-    bytes: Vec<u8>,
+    bytes: SmallBytes,
 }
 
 impl Model for Name {
@@ -25,7 +26,7 @@ impl Model for Name {
 
     ghost Value = { List ℕ };
 
-    ghost view = { λ a. a.bytes.items };
+    ghost view = { λ a. a.bytes };
 }
 
 impl Name {
@@ -41,7 +42,7 @@ impl Name {
         ensures { IfOk result (λ made. made ≡ bytes.now) }
     {
         Ok(Name {
-            bytes: Vec::from_slice(alloc, bytes)?,
+            bytes: SmallBytes::from_slice(alloc, bytes)?,
         })
     }
 
@@ -75,8 +76,9 @@ impl PartialEq for Name {
 
     ghost laws = { partial_equiv_from_equiv nat_list_eq_equiv };
 
+    #[inline(always)]
     fn eq(&self, other: &Name) -> bool {
-        self.as_bytes() == other.as_bytes()
+        self.bytes.is(&other.bytes)
     }
 }
 
@@ -111,7 +113,7 @@ impl Ord for Name {
 /// A string of bytes.
 #[derive(Debug, Drop)]
 pub struct Octets {
-    bytes: Vec<u8>,
+    bytes: SmallBytes,
 }
 
 impl Model for Octets {
@@ -119,24 +121,26 @@ impl Model for Octets {
 
     ghost Value = { List ℕ };
 
-    ghost view = { λ a. a.bytes.items };
+    ghost view = { λ a. a.bytes };
 }
 
 impl Octets {
     /// The string without a byte. It takes no memory.
-    pub fn empty(alloc: Global) -> Octets
+    pub fn empty(_alloc: Global) -> Octets
         ensures { result ≡ [] }
     {
         Octets {
-            bytes: Vec::new(alloc),
+            bytes: SmallBytes::empty(),
         }
     }
 
     /// The string of these bytes, which it takes over.
-    pub fn new(bytes: Vec<u8>) -> Octets
-        ensures { result ≡ bytes.items }
+    pub fn new(bytes: Vec<u8>) -> Result<Octets, OutOfMemory>
+        ensures { IfOk result (λ made. made ≡ bytes.items) }
     {
-        Octets { bytes }
+        Ok(Octets {
+            bytes: SmallBytes::new(bytes)?,
+        })
     }
 
     /// The string of these bytes, copied.
@@ -144,7 +148,7 @@ impl Octets {
         ensures { IfOk result (λ made. made ≡ bytes.now) }
     {
         Ok(Octets {
-            bytes: Vec::from_slice(alloc, bytes)?,
+            bytes: SmallBytes::from_slice(alloc, bytes)?,
         })
     }
 
@@ -179,7 +183,7 @@ impl PartialEq for Octets {
     ghost laws = { partial_equiv_from_equiv nat_list_eq_equiv };
 
     fn eq(&self, other: &Octets) -> bool {
-        self.as_bytes() == other.as_bytes()
+        self.bytes.is(&other.bytes)
     }
 }
 

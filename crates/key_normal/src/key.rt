@@ -51,6 +51,18 @@ impl Key {
         }
     }
 
+    /// Makes it the key of these bytes, where it lies.
+    pub fn set(&mut self, bytes: &[u8])
+        requires { length bytes.now ≤ 255 }
+        ensures { self.new ≡ bytes.now }
+    {
+        self.bytes.clear();
+        match self.bytes.try_extend_from_slice(bytes) {
+            Ok(()) => {}
+            Err(_) => unreachable!(),
+        }
+    }
+
     /// The bytes.
     pub fn as_bytes(&self) -> &[u8]
         ensures value { result.now ≡ self.now }

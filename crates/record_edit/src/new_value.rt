@@ -118,7 +118,7 @@ fn stored_bytes(alloc: Global, kind: ColType, bytes: &[u8]) -> Result<Octets, Ou
     match kind {
         ColType::Bit => {
             let bits = bytes.iter().map(|byte| as_bit(*byte)).collect(alloc)?;
-            Ok(Octets::new(bits))
+            Octets::new(bits)
         }
         _ => Octets::from_slice(alloc, bytes),
     }
@@ -132,5 +132,5 @@ fn stored_fill(alloc: Global, kind: ColType, count: u32, byte: u8) -> Result<Oct
         ColType::Bit => as_bit(byte),
         _ => byte,
     };
-    Ok(Octets::new(Vec::from_elem(alloc, stored, count as usize)?))
+    Octets::new(Vec::from_elem(alloc, stored, count as usize)?)
 }

@@ -285,7 +285,7 @@ pub fn goto_bookmark(
         kept,
         Request::GotoBookmark {
             cursor,
-            bookmark: Octets::new(bytes),
+            bookmark: Octets::new(bytes)?,
         },
     )
 }

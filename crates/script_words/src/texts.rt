@@ -150,7 +150,7 @@ fn hex(alloc: Global, digits: &[u8]) -> Result<Given, Refusal>
     ensures { Reads (λ value. value) result (hex_value digits.now) }
 {
     let bytes = hex_bytes(alloc, digits)?;
-    Ok(Given::Bytes(Octets::new(bytes)))
+    Ok(Given::Bytes(Octets::new(bytes)?))
 }
 
 /// A number from -2^63 to 2^63 - 1, as a value.

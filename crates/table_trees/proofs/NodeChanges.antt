@@ -1,6 +1,6 @@
 -- The nodes of a table: what is found among them, and that changes keep them in order and short.
 use Rattle.std.proofs.Common.{◌≡◌, ℕ, ◌≤◌, length, Bool, true, false, ◌&&◌, if◌then◌else◌, reverse, List, [], ◌∷◌, map, filter, find, Option, Some, None, option_map, refl, sym, ap, subst, ◌∙◌, true≢false, T}
-use Rattle.std.specs.Prelude.{All, IfSome, IsSome, IsSomeAnd, bytes_eq}
+use Rattle.std.specs.Prelude.{All, IfSome, IsSome, IsSomeAnd, bytes_eq, is_some}
 use Rattle.std.specs.List.{last_or, list_all}
 use Rattle.std.proofs.lemmas.List.Elements.{All-cons, All-head, All-tail}
 use Rattle.std.proofs.lemmas.Map.Text.{is_eq-slice_cmp}
@@ -12,7 +12,7 @@ use Rattle.std.specs.Cmp.Lexicographic.{nat_list_cmp_total}
 use Rattle.std.specs.FinMap.Entries.{by_order, below_all, is_sorted, is_sorted-put}
 use Rattle.page_image.specs.Page.{Node}
 use Rattle.page_space.specs.Frames.{Frames}
-use Rattle.btree_inplace.specs.Changes.{inserted, without_key}
+use Rattle.btree_inplace.specs.Changes.{inserted, inserted_if_absent, without_key}
 use Rattle.btree_inplace.specs.Order.{has_key, key_and_data}
 use Rattle.btree_inplace.specs.Trees.{Exchanges, IsTree, nodes_of, pages_of}
 use Rattle.btree_inplace.specs.declared.Tree.{Tree}
@@ -99,6 +99,20 @@ inserted_short P (n ∷ nodes) node is h =
     by_test (is_lt (order n.key node.key))
     (λ l. rw l (All-cons P n (inserted nodes node) (All-head P n nodes h) (inserted_short P nodes node is (All-tail P n nodes h))))
     (λ l. rw l (All-cons P node (n ∷ nodes) is h))
+
+-- ---- one node more where its key is not there
+
+pub if_absent_in_order : (nodes : List Node) (node : Node) → are_sorted (bookmark_entries nodes) ≡ true → are_sorted (bookmark_entries (inserted_if_absent nodes node)) ≡ true
+if_absent_in_order nodes node h = by_found (find (has_key node.key) nodes) refl
+  where
+    by_found : (o : Option Node) → find (has_key node.key) nodes ≡ o → are_sorted (bookmark_entries (inserted_if_absent nodes node)) ≡ true
+    by_found None e = subst (λ (o : Option Node). are_sorted (bookmark_entries (if is_some o then nodes else inserted nodes node)) ≡ true) (sym e) (inserted_in_order nodes node e h)
+    by_found (Some n) e = subst (λ (o : Option Node). are_sorted (bookmark_entries (if is_some o then nodes else inserted nodes node)) ≡ true) (sym e) h
+
+pub if_absent_short : (P : Node → Type 0) (nodes : List Node) (node : Node) → P node → All P nodes → All P (inserted_if_absent nodes node)
+if_absent_short P nodes node is h =
+    let Q : Bool → Type 0 = λ b. All P (if b then nodes else inserted nodes node) in
+    by_test (is_some (find (has_key node.key) nodes)) (λ t. subst Q (sym t) h) (λ t. subst Q (sym t) (inserted_short P nodes node is h))
 
 -- ---- one node less
 

@@ -2,7 +2,7 @@
 
 ghost use Rattle.std.specs.Prelude.{◌≡◌, ◌≤◌, ◌<◌, List, ℕ, [], length, IfOk, IsSome, IsSomeAnd, OnErr, OnOk};
 ghost use Rattle.std.specs.Option.{option_copied, option_map};
-ghost use Rattle.btree_inplace.specs.Changes.{inserted, with_data_at, with_extent_at, without_key};
+ghost use Rattle.btree_inplace.specs.Changes.{inserted, inserted_if_absent, with_data_at, with_extent_at, without_key};
 ghost use Rattle.btree_inplace.specs.Order.{extent_in, get_in};
 ghost use Rattle.btree_inplace.specs.Trees.{IsTree, pages_of};
 ghost use Rattle.btree_inplace.specs.declared.Tree.{Tree};
@@ -77,6 +77,29 @@ impl NodeTree {
     {
         tree_pages_are_own();
         self.tree.insert(space, bookmark, row, extent)
+    }
+
+    /// Puts a node under a bookmark that has none. Where it has one, all stays, and it answers how many bytes are kept for its
+    /// row.
+    pub fn insert_if_absent(
+        &mut self,
+        space: &mut Space,
+        bookmark: &[u8],
+        row: &[u8],
+        extent: usize,
+    ) -> Result<Option<usize>, OutOfMemory>
+        requires tree { IsNodeTree space.old self.old }
+        requires some { 0 < length bookmark.now }
+        requires short { length bookmark.now ≤ 255 }
+        requires fits { length row.now ≤ extent }
+        requires small { extent ≤ 1700 }
+        ensures there { IfOk result (λ there. there ≡ extent_in (nodes_in space.old self.old) bookmark.now) }
+        ensures ok { OnOk result (NodesBecome space.old self.old space.new self.new (inserted_if_absent (nodes_in space.old self.old) (record { key = bookmark.now; extent = extent; «data» = row.now }))) }
+        ensures err { OnErr result (NodesBecome space.old self.old space.new self.new (nodes_in space.old self.old)) }
+        ensures absent { OnErr result (extent_in (nodes_in space.old self.old) bookmark.now ≡ None) }
+    {
+        tree_pages_are_own();
+        self.tree.insert_if_absent(space, bookmark, row, extent)
     }
 
     /// Keeps another number of bytes for a row, at least as many as it has.

@@ -1,12 +1,12 @@
 //! The trees of one table: that of its nodes, that of its long values, and those of its indexes.
 
-ghost use Rattle.std.specs.Prelude.{◌≡◌, ℕ, ◌==◌, ◌≤◌, false, true, [], ◌∷◌, ◌++◌, length, IfOk, OnErr, OnOk};
+ghost use Rattle.std.specs.Prelude.{◌≡◌, ℕ, ◌==◌, ◌≤◌, false, true, [], ◌∷◌, ◌++◌, length, not, IfOk, OnErr, OnOk};
 ghost use Rattle.std.specs.List.{list_any, position_from};
 ghost use Rattle.std.specs.Option.{option_map};
 ghost use Rattle.index_derive.specs.Entries.{insert_entry};
 ghost use Rattle.cursor_nav.specs.Places.{entry_after, entry_before};
 ghost use Rattle.derived_index.specs.KeptEntries.{has_entry, has_key, without_entry};
-ghost use Rattle.index_tree.specs.Entries.{IsApartFromAll};
+ghost use Rattle.index_tree.specs.Entries.{IsApartFromAll, insert_entry_if_absent};
 ghost use Rattle.page_space.specs.Frames.{Frames};
 ghost use Rattle.table_trees.specs.Pages.{AreOwn, OthersStay, Rearranges};
 ghost use Rattle.table_trees.specs.StoredTables.{changed_where, is_index, new_table, part_of, put_entries, put_indexes, without_where};
@@ -129,6 +129,34 @@ impl Table {
                 named.tree.insert(space, key, bookmark)
             }
             None => Ok(()),
+        }
+    }
+
+    /// Puts an entry in its place where it is not there, and says whether it was put.
+    pub fn insert_entry_if_absent(
+        &mut self,
+        space: &mut Space,
+        index: IndexId,
+        key: &[u8],
+        bookmark: &[u8],
+    ) -> Result<bool, OutOfMemory>
+        requires table { IsTable space.old self.old }
+        requires there { list_any (is_index index.0) (stored_table space.old self.old).indexes ≡ true }
+        requires apart { IsApartFromAll key.now (part_of (is_index index.0) (λ x. x.1) (stored_table space.old self.old).indexes) }
+        requires key { length key.now ≤ 255 }
+        requires bookmark { length bookmark.now ≤ 255 }
+        ensures put { IfOk result (λ is_new. is_new ≡ not (has_entry key.now bookmark.now (part_of (is_index index.0) (λ x. x.1) (stored_table space.old self.old).indexes))) }
+        ensures ok { OnOk result (TableBecomes space.old self.old space.new self.new (put_indexes (changed_where (is_index index.0) (put_entries (insert_entry_if_absent (key.now, bookmark.now) (part_of (is_index index.0) (λ x. x.1) (stored_table space.old self.old).indexes))) (stored_table space.old self.old).indexes) (stored_table space.old self.old)) (tree_roots self.old)) }
+        ensures err { OnErr result (TableBecomes space.old self.old space.new self.new (stored_table space.old self.old) (tree_roots self.old)) }
+        ensures absent { OnErr result (has_entry key.now bookmark.now (part_of (is_index index.0) (λ x. x.1) (stored_table space.old self.old).indexes) ≡ false) }
+    {
+        trees_stay();
+        match index_place(self.indexes.as_slice(), index) {
+            Some(i) => {
+                let named = &mut self.indexes[i];
+                named.tree.insert_if_absent(space, key, bookmark)
+            }
+            None => Ok(false),
         }
     }
 

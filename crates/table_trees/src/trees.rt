@@ -1,14 +1,14 @@
 //! All tables, in trees of one space.
 
-ghost use Rattle.std.specs.Prelude.{◌≡◌, ◌<◌, ◌≤◌, ◌^◌, ◌==◌, ℕ, None, true, false, [], ◌∷◌, ◌++◌, length, take, nat_lt, if◌then◌else◌, bytes_eq, is_some, All, IfSome, IsSome, IsSomeAnd, OnErr, OnOk};
+ghost use Rattle.std.specs.Prelude.{◌≡◌, ◌<◌, ◌≤◌, ◌^◌, ◌==◌, ℕ, None, true, false, [], ◌∷◌, ◌++◌, length, take, nat_lt, if◌then◌else◌, bytes_eq, is_some, not, All, IfOk, IfSome, IsSome, IsSomeAnd, OnErr, OnOk};
 ghost use Rattle.std.specs.List.{position_from};
 ghost use Rattle.std.specs.Option.{option_copied, option_map};
-ghost use Rattle.btree_inplace.specs.Changes.{inserted, with_data_at, with_extent_at, without_key};
+ghost use Rattle.btree_inplace.specs.Changes.{inserted, inserted_if_absent, with_data_at, with_extent_at, without_key};
 ghost use Rattle.btree_inplace.specs.Order.{extent_in, get_in};
 ghost use Rattle.index_derive.specs.Entries.{insert_entry};
 ghost use Rattle.cursor_nav.specs.Places.{are_sorted, entry_after, entry_before};
 ghost use Rattle.derived_index.specs.KeptEntries.{has_entry, has_key, without_entry};
-ghost use Rattle.index_tree.specs.Entries.{AreApart, IsApartFromAll, IsShort};
+ghost use Rattle.index_tree.specs.Entries.{AreApart, IsApartFromAll, IsShort, insert_entry_if_absent};
 ghost use Rattle.long_value.specs.Stores.{id_bytes, read_upto};
 ghost use Rattle.long_value.specs.Values.{AreLong, put_value, with_reference, without_reference};
 ghost use Rattle.table_trees.specs.StoredNodes.{IsShortNode, bookmark_entries, node_after, node_before};
@@ -163,6 +163,38 @@ impl TableTrees {
         }
     }
 
+    /// Puts a node with a row under a bookmark that has none, as `insert` does. Where it has one, all stays and no memory is
+    /// taken: then it answers how many bytes are kept for the row that is there. It goes down the tree once.
+    pub fn insert_if_absent(
+        &mut self,
+        table: TableId,
+        bookmark: &[u8],
+        row: &[u8],
+        extent: usize,
+    ) -> Result<Option<usize>, OutOfMemory>
+        requires there { has_table self.old.tables table.0 ≡ true }
+        requires some { 0 < length bookmark.now }
+        requires short { length bookmark.now ≤ 255 }
+        requires fits { length row.now ≤ extent }
+        requires small { extent ≤ 1700 }
+        ensures there { IfOk result (λ there. there ≡ extent_in (table_nodes self.old.tables table.0) bookmark.now) }
+        ensures ok { OnOk result (self.new.tables ≡ with_nodes table.0 (inserted_if_absent (table_nodes self.old.tables table.0) (record { key = bookmark.now; extent = extent; «data» = row.now })) self.old.tables) }
+        ensures err { OnErr result (self.new.tables ≡ self.old.tables) }
+        ensures absent { OnErr result (extent_in (table_nodes self.old.tables table.0) bookmark.now ≡ None) }
+        ensures catalog { self.new.catalog ≡ self.old.catalog }
+    {
+        tables_stay();
+        match table_place(self.tables.as_slice(), table) {
+            Some(i) => {
+                let named = &mut self.tables[i];
+                named
+                    .nodes
+                    .insert_if_absent(&mut self.space, bookmark, row, extent)
+            }
+            None => Ok(None),
+        }
+    }
+
     /// Keeps another number of bytes for the row under a bookmark, at least as many as it has.
     pub fn widen(
         &mut self,
@@ -311,6 +343,35 @@ impl TableTrees {
                 named.insert_entry(&mut self.space, index, key, bookmark)
             }
             None => Ok(()),
+        }
+    }
+
+    /// Puts an entry into an index where it is not there, and says whether it was put. No key of an entry may begin another
+    /// one's key. It goes down the index's tree once.
+    pub fn insert_entry_if_absent(
+        &mut self,
+        table: TableId,
+        index: IndexId,
+        key: &[u8],
+        bookmark: &[u8],
+    ) -> Result<bool, OutOfMemory>
+        requires there { has_index self.old.tables table.0 index.0 ≡ true }
+        requires apart { IsApartFromAll key.now (index_entries self.old.tables table.0 index.0) }
+        requires key { length key.now ≤ 255 }
+        requires bookmark { length bookmark.now ≤ 255 }
+        ensures put { IfOk result (λ is_new. is_new ≡ not (has_entry key.now bookmark.now (index_entries self.old.tables table.0 index.0))) }
+        ensures ok { OnOk result (self.new.tables ≡ with_entries table.0 index.0 (insert_entry_if_absent (key.now, bookmark.now) (index_entries self.old.tables table.0 index.0)) self.old.tables) }
+        ensures err { OnErr result (self.new.tables ≡ self.old.tables) }
+        ensures absent { OnErr result (has_entry key.now bookmark.now (index_entries self.old.tables table.0 index.0) ≡ false) }
+        ensures catalog { self.new.catalog ≡ self.old.catalog }
+    {
+        tables_stay();
+        match table_place(self.tables.as_slice(), table) {
+            Some(i) => {
+                let named = &mut self.tables[i];
+                named.insert_entry_if_absent(&mut self.space, index, key, bookmark)
+            }
+            None => Ok(false),
         }
     }
 

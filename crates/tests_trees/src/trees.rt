@@ -150,6 +150,18 @@ fn is_next(space: &Space, tree: &Tree, from: &[u8], key: &[u8], data: &[u8]) -> 
         && is_node(tree.at_or_before(space, key), key, data)
 }
 
+/// Whether the tree tells this data of the key, and the nodes beside it, together as each by itself.
+fn is_beside(space: &Space, tree: &Tree, key: &[u8], data: &[u8]) -> bool
+    requires { IsTree space.now tree.now }
+{
+    let (found, next) = tree.get_and_after(space, key);
+    let (again, previous) = tree.get_and_before(space, key);
+    found == Some(data)
+        && again == Some(data)
+        && next == tree.after(space, key)
+        && previous == tree.before(space, key)
+}
+
 /// Walks the tree and the list side by side, both ways.
 fn check_same(
     rt: &impl Abort,
@@ -166,6 +178,7 @@ fn check_same(
         if let Some(kept) = kept {
             let data = data_of(alloc, *kept);
             assert!(rt; is_next(space, tree, &past, &key, &data), "{number}");
+            assert!(rt; is_beside(space, tree, &key, &data), "{number}");
             past = key;
             let _ = past.push(0);
         } else {

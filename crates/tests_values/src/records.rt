@@ -45,7 +45,8 @@ fn bookmarks_are_made_and_copied(rt: HostRuntime) {
     assert!(&rt; bookmark.as_bytes() == [127, 1].as_slice());
     assert!(&rt; bookmark.copy().expect(&rt, "memory") == bookmark);
     let next = [127, 2].to_vec(rt.alloc()).expect(&rt, "memory");
-    assert!(&rt; bookmark < Bookmark::new(next));
+    let next = Bookmark::new(next).expect(&rt, "memory");
+    assert!(&rt; bookmark < next);
 }
 
 const NUMBER: ColumnId = ColumnId(1);

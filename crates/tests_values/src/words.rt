@@ -40,7 +40,8 @@ fn byte_strings_are_made_and_copied(rt: HostRuntime) {
 #[test]
 fn byte_strings_are_those_of_a_vector(rt: HostRuntime) {
     let bytes = [0, 255].to_vec(rt.alloc()).expect(&rt, "memory");
-    assert!(&rt; Octets::new(bytes) == octets(&rt, rt.alloc(), &[0, 255]));
+    let taken = Octets::new(bytes).expect(&rt, "memory");
+    assert!(&rt; taken == octets(&rt, rt.alloc(), &[0, 255]));
 }
 
 fn two_names(rt: &impl Abort, alloc: Global) -> Vec<Name> {

@@ -1,13 +1,7 @@
 use Rattle.std.proofs.Common.{ap, sym, ◌∙◌, is_ok, if◌then◌else◌, List, ℕ, [], ◌∷◌, ◌++◌}
 use Rattle.column_set.specs.RecordValues.{with_values}
-use Rattle.column_set.proofs.Edits.{pushed, is_record-pushed, values_in_gap}
+use Rattle.column_set.proofs.Edits.{values_in_gap}
 use Rattle.column_set.proofs.field_list.FieldList.push_value.Goals as goal
-
-pub returns-in-Ok : goal.returns-in-Ok
-returns-in-Ok c = pushed _ _ c.self.view_is _ _ (is_ok c.push.result) c.args.value _ _ c.index_mut.ensures.value c.in-Ok.ensures.found c.push.ensures
-
-pub invariant_of-self : goal.invariant_of-self
-invariant_of-self c = is_record-pushed _ _ c.self.view_is c.args.column.0 c.in-Ok.place c.self.invariant (is_ok c.push.result) _ _ (pushed _ _ c.self.view_is _ _ (is_ok c.push.result) c.args.value _ _ c.index_mut.ensures.value c.in-Ok.ensures.found c.push.ensures)
 
 -- a column without a value has only the new one
 pub returns-in-Err : goal.returns-in-Err

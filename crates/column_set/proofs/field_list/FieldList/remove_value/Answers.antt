@@ -1,8 +1,6 @@
 use Rattle.std.proofs.Common.{ap, sym, subst, ◌∙◌, ℕ, List, [], ◌<◌, ◌≤◌, ◌≡◌, length, arith}
-use Rattle.std.specs.List.{remove}
-use Rattle.std.proofs.lemmas.List.Edits.{length-remove}
 use Rattle.column_set.specs.RecordValues.{values_of, with_values}
-use Rattle.column_set.proofs.Edits.{field_at, written, removed, is_record-changed, values_in_gap, none_left}
+use Rattle.column_set.proofs.Edits.{field_at, values_in_gap, none_left}
 use Rattle.column_set.proofs.field_list.FieldList.remove_value.Goals as goal
 
 -- how many values the column has, from how many were read
@@ -12,25 +10,13 @@ many more read is = subst (λ (l : List (List ℕ)). 1 < length l) (read ∙ ap 
 one : {seen values : List (List ℕ)} {field : ℕ × List (List ℕ)} {column : ℕ} → length seen ≤ 1 → seen ≡ field.1 → field ≡ (column, values) → length values ≤ 1
 one few read is = subst (λ (l : List (List ℕ)). length l ≤ 1) (read ∙ ap (λ (f : ℕ × List (List ℕ)). f.1) is) few
 
-some_left : (values : List (List ℕ)) (at : ℕ) → at < length values → 1 < length values → 0 < length (remove values at)
-some_left values at lt more = omega (arith, length-remove values at lt)
-
-pub remove-requires : goal.remove-requires
-remove-requires c = rw (field_at _ _ c.self.view_is _ _ _ c.index_mut.ensures.value c.in-Ok.ensures.found) c.requires
-
-pub returns-then-values-gt1 : goal.returns-then-values-gt1
-returns-then-values-gt1 c = written _ _ c.self.view_is _ _ _ _ (λ values. remove values c.args.at) c.index_mut.ensures.value c.in-Ok.ensures.found c.remove.ensures (some_left _ _ c.requires (many c.if-values-gt1.true c.values.ensures (field_at _ _ c.self.view_is _ _ _ c.index.ensures c.in-Ok.ensures.found)))
-
-pub invariant_of-self : goal.invariant_of-self
-invariant_of-self c = is_record-changed _ _ c.self.view_is c.args.column.0 c.in-Ok.place c.self.invariant _ (remove (values_of c.args.self.now c.args.column.0) c.args.at) (written _ _ c.self.view_is _ _ _ _ (λ values. remove values c.args.at) c.index_mut.ensures.value c.in-Ok.ensures.found c.remove.ensures (some_left _ _ c.requires (many c.if-values-gt1.true c.values.ensures (field_at _ _ c.self.view_is _ _ _ c.index.ensures c.in-Ok.ensures.found))))
+pub remove_at-requires-clause-several : goal.remove_at-requires-clause-several
+remove_at-requires-clause-several c = many c.if-values-gt1.true c.values.ensures (field_at _ _ c.self.view_is _ _ _ c.index.ensures c.in-Ok.ensures.found)
 
 pub returns-else-values-gt1 : goal.returns-else-values-gt1
 returns-else-values-gt1 c =
     let few = one c.if-values-gt1.false c.values.ensures (field_at _ _ c.self.view_is _ _ _ c.index.ensures c.in-Ok.ensures.found) in
-    c.remove-else-values-gt1.ensures.items ∙ removed _ _ c.self.view_is _ _ c.in-Ok.ensures.found ∙ ap (with_values c.args.self.now c.args.column.0) (sym (none_left _ _ c.requires few))
-
-pub invariant_of-self-else-values-gt1 : goal.invariant_of-self-else-values-gt1
-invariant_of-self-else-values-gt1 c = is_record-changed _ _ c.self.view_is c.args.column.0 c.in-Ok.place c.self.invariant _ [] (c.remove-else-values-gt1.ensures.items ∙ removed _ _ c.self.view_is _ _ c.in-Ok.ensures.found)
+    c.take_out.ensures ∙ ap (with_values c.args.self.now c.args.column.0) (sym (none_left _ _ c.requires few))
 
 pub returns-in_default : goal.returns-in_default
 returns-in_default c =

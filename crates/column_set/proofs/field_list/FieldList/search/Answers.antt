@@ -8,4 +8,4 @@ pub returns : goal.returns
 returns c =
     let facts = c.binary_search_by_key.ensures in
     let by_column = facts.position (λ field. field.0) (answers_always _ _ _ (λ f a r g called. search rules)) in
-    rw (← c.self.view_is, ← c.deref.ensures.value) (searched _ (rw c.deref.ensures.value (rises _ c.self.invariant)) c.args.column.0 _ facts.bound by_column)
+    rw (← c.self.view_is, ← c.deref.ensures.value) (searched _ (rw c.deref.ensures.value (rises _ c.self.invariant.formed)) c.args.column.0 _ facts.bound by_column)

@@ -27,5 +27,4 @@ returns c =
     c.parts.ensures (last_or None (filter (is_before key) es)) (last_all IsShort (is_before key) None es tt c.requires.index.short)
     (c.before-2.ensures ∙ node_upto (nodes_of c.args.space.now c.args.self.now.tree) es (is_under key) c.requires.index.nodes)
     ∙ found_below key (c.args.key.now, c.args.bookmark.now) es
-    (subst (λ (k : List ℕ). CutsAt k (c.args.key.now, c.args.bookmark.now) es) (sym c.as_slice.ensures.value)
-    (subst (λ (b : List ℕ). CutsAt c.cut.new.node_key.items (c.args.key.now, b) es) (append-nil c.args.bookmark.now) c.cut.ensures))
+    (subst (λ (k : List ℕ). CutsAt k (c.args.key.now, c.args.bookmark.now) es) (sym c.as_slice.ensures.value) c.cut.ensures)

@@ -1,11 +1,11 @@
 -- Where the entry's key lies that the first node at the key or after it has.
 use Rattle.std.proofs.Common.{◌≡◌, ◌++◌, [], true, List, ℕ, Some, find, sym, ap, subst, ◌∙◌}
-use Rattle.std.proofs.lemmas.List.{append-nil, append_assoc}
+use Rattle.std.proofs.lemmas.List.{append-nil}
 use Rattle.btree_inplace.specs.Order.{is_from}
 use Rattle.btree_inplace.specs.Trees.{nodes_of}
-use Rattle.index_tree.specs.Entries.{CutsAt, IsShort, gap_bookmark}
+use Rattle.index_tree.specs.Entries.{CutsAt, IsShort, gap_bookmark, is_at_or_after}
 use Rattle.index_tree.specs.IndexTrees.{entries_of}
-use Rattle.index_tree.proofs.Cutting.{cuts_above, cuts_at, cuts_front, cuts_none, is_at_or_after}
+use Rattle.index_tree.proofs.Cutting.{cuts_above, cuts_at, cuts_front, cuts_none}
 use Rattle.index_tree.proofs.Lists.{find_all, found_all}
 use Rattle.index_tree.proofs.NodeEntries.{node_from}
 use Rattle.index_tree.proofs.index.IndexTree.cut.Goals as goal
@@ -37,25 +37,25 @@ returns-in-Less c =
     let es = entries_of c.args.space.now c.args.self.now in
     let key : c.join.new.bytes.items ≡ c.in-Some.found.now ++ gap_bookmark true =
     c.join.ensures ∙ append-nil (c.in-Some.found.now ++ c.gap_bookmark.result.now) ∙ ap (λ (b : List ℕ). c.in-Some.found.now ++ b) c.gap_bookmark.ensures.bytes in
-    subst (λ (k : List ℕ). CutsAt k (c.args.key.now, c.args.bookmark.now ++ c.args.behind.now) es) (sym key)
-    (cuts_front c.args.key.now (c.args.bookmark.now ++ c.args.behind.now) es (c.in-Some.found.now, c.in-Some.field-0-1.now) c.requires.index.apart c.requires.index.short (found (goal.at.returns-in-Less c).In-Some) (sym c.cmp.ensures ∙ c.in-Less.is))
+    subst (λ (k : List ℕ). CutsAt k (c.args.key.now, c.args.bookmark.now) es) (sym key)
+    (cuts_front c.args.key.now (c.args.bookmark.now) es (c.in-Some.found.now, c.in-Some.field-0-1.now) c.requires.index.apart c.requires.index.short (found (goal.at.returns-in-Less c).In-Some) (sym c.cmp.ensures ∙ c.in-Less.is))
 
 pub returns-in-Equal : goal.returns-in-Equal
 returns-in-Equal c =
     let es = entries_of c.args.space.now c.args.self.now in
-    subst (λ (k : List ℕ). CutsAt k (c.args.key.now, c.args.bookmark.now ++ c.args.behind.now) es) (sym (c.join-in-Equal.ensures ∙ append_assoc c.args.key.now c.args.bookmark.now c.args.behind.now))
-    (cuts_at c.args.key.now (c.args.bookmark.now ++ c.args.behind.now) es (c.in-Some.found.now, c.in-Some.field-0-1.now) c.requires.index.apart (found (goal.at.returns-in-Equal c).In-Some) (sym c.cmp.ensures ∙ c.in-Equal.is))
+    subst (λ (k : List ℕ). CutsAt k (c.args.key.now, c.args.bookmark.now) es) (sym (c.join-in-Equal.ensures ∙ append-nil (c.args.key.now ++ c.args.bookmark.now)))
+    (cuts_at c.args.key.now (c.args.bookmark.now) es (c.in-Some.found.now, c.in-Some.field-0-1.now) c.requires.index.apart (found (goal.at.returns-in-Equal c).In-Some) (sym c.cmp.ensures ∙ c.in-Equal.is))
 
 pub returns-in-Greater : goal.returns-in-Greater
 returns-in-Greater c =
     let es = entries_of c.args.space.now c.args.self.now in
-    subst (λ (k : List ℕ). CutsAt k (c.args.key.now, c.args.bookmark.now ++ c.args.behind.now) es) (sym (c.join-in-Greater.ensures ∙ append-nil (c.args.key.now ++ [])))
-    (cuts_above c.args.key.now (c.args.bookmark.now ++ c.args.behind.now) es (c.in-Some.found.now, c.in-Some.field-0-1.now) c.requires.index.in_order (found (goal.at.returns-in-Greater c).In-Some) (sym c.cmp.ensures ∙ c.in-Greater.is))
+    subst (λ (k : List ℕ). CutsAt k (c.args.key.now, c.args.bookmark.now) es) (sym (c.join-in-Greater.ensures ∙ append-nil (c.args.key.now ++ [])))
+    (cuts_above c.args.key.now (c.args.bookmark.now) es (c.in-Some.found.now, c.in-Some.field-0-1.now) c.requires.index.in_order (found (goal.at.returns-in-Greater c).In-Some) (sym c.cmp.ensures ∙ c.in-Greater.is))
 
 pub returns-in-None : goal.returns-in-None
 returns-in-None c =
     let es = entries_of c.args.space.now c.args.self.now in
-    subst (λ (k : List ℕ). CutsAt k (c.args.key.now, c.args.bookmark.now ++ c.args.behind.now) es) (sym (c.join-in-None.ensures ∙ append-nil (c.args.key.now ++ [])))
-    (cuts_none c.args.key.now (c.args.bookmark.now ++ c.args.behind.now) es
+    subst (λ (k : List ℕ). CutsAt k (c.args.key.now, c.args.bookmark.now) es) (sym (c.join-in-None.ensures ∙ append-nil (c.args.key.now ++ [])))
+    (cuts_none c.args.key.now (c.args.bookmark.now) es
     (c.in-None.ensures (find (is_at_or_after c.args.key.now) es) (find_all IsShort (is_at_or_after c.args.key.now) es c.requires.index.short)
     (c.at_or_after.ensures ∙ node_from (nodes_of c.args.space.now c.args.self.now.tree) es (is_from c.args.key.now) c.requires.index.nodes)))

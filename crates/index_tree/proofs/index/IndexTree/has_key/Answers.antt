@@ -2,9 +2,9 @@
 use Rattle.std.proofs.Common.{find, sym, ◌∙◌}
 use Rattle.btree_inplace.specs.Order.{is_from}
 use Rattle.btree_inplace.specs.Trees.{nodes_of}
-use Rattle.index_tree.specs.Entries.{IsShort}
+use Rattle.index_tree.specs.Entries.{IsShort, is_at_or_after}
 use Rattle.index_tree.specs.IndexTrees.{entries_of}
-use Rattle.index_tree.proofs.Cutting.{is_at_or_after, no_key, same_key}
+use Rattle.index_tree.proofs.Cutting.{no_key, same_key}
 use Rattle.index_tree.proofs.Lists.{find_all}
 use Rattle.index_tree.proofs.NodeEntries.{node_from}
 use Rattle.index_tree.proofs.index.IndexTree.has_key.Goals as goal
