@@ -152,7 +152,7 @@ pub fn put_record(
     copied: Option<u8>,
     fill: u8,
 ) {
-    let value = Octets::new(bytes_of(rt, alloc, fill));
+    let value = Octets::new(bytes_of(rt, alloc, fill)).expect(rt, "memory");
     let bookmark = bookmark_of(rt, alloc, key);
     let copied = copied_of(rt, alloc, copied);
     assert!(rt; value.as_bytes().len() <= 1_048_576);
