@@ -1,7 +1,7 @@
 -- A live session and its open tables, after an entry of its own or of another session.
-use Rattle.std.proofs.Common.{◌≡◌, ℕ, ◌+◌, ◌-◌, Bool, true, false, cond, List, [], ◌∷◌, Option, Some, None, refl, sym, ap, subst, ◌∙◌, arith}
+use Rattle.std.proofs.Common.{◌≡◌, ℕ, ◌+◌, ◌-◌, Bool, true, false, cond, List, [], ◌∷◌, Option, Some, None, refl, sym, ap, subst, ◌∙◌}
 use Rattle.std.specs.Prelude.{◌==◌, is_some, map, nat_lt, option_map, if◌then◌else◌}
-use Rattle.std.proofs.lemmas.Bool.Decides.{nat_tests}
+use Rattle.common_lemmas.proofs.Numbers.{unequal_turned}
 use Rattle.index_derive.specs.declared.log.EntryKind.{EntryKind}
 use Rattle.index_derive.specs.declared.log.EntryKind.TheVariants as entry
 use Rattle.database_state.specs.State.{DatabaseState, LiveSession, levels, live_session, undone}
@@ -18,15 +18,12 @@ IsSameSession one other = (is_some other ≡ is_some one) × (open_tables_of oth
 from_path : (one other : Option LiveSession) → other ≡ one → IsSameSession one other
 from_path one other e = (ap is_some e, ap open_tables_of e)
 
-turned : (a b : ℕ) → (a == b) ≡ false → (b == a) ≡ false
-turned a b e = grind (arith, nat_tests)
-
 -- ---- a session that comes
 
 insert_other : (new : LiveSession) (x : ℕ) (sessions : List LiveSession) → (x == new.label) ≡ false → labelled x (insert_session new sessions) ≡ labelled x sessions
-insert_other new x [] e = ap (λ b. cond b (Some new) None) (turned x new.label e)
+insert_other new x [] e = ap (λ b. cond b (Some new) None) (unequal_turned x new.label e)
 insert_other new x (s ∷ sessions) e = elim (nat_lt new.label s.label) as (λ b. labelled x (cond b (new ∷ s ∷ sessions) (s ∷ insert_session new sessions)) ≡ labelled x (s ∷ sessions)) [
-  | true ↦ ap (λ b. cond b (Some new) (labelled x (s ∷ sessions))) (turned x new.label e)
+  | true ↦ ap (λ b. cond b (Some new) (labelled x (s ∷ sessions))) (unequal_turned x new.label e)
   | false ↦ ap (λ o. cond (s.label == x) (Some s) o) (insert_other new x sessions e)
 ]
 

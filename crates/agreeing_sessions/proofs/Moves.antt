@@ -1,6 +1,7 @@
 -- Calls that move a cursor, or look at one.
 use Rattle.std.proofs.Common.{◌≡◌, ℕ, Bool, true, false, not, ◌&&◌, ◌||◌, cond, List, [], ◌∷◌, Option, Some, None, refl, sym, ap, subst, ◌∙◌, bytes_eq}
 use Rattle.std.specs.Prelude.{◌==◌, find, is_none, is_some, nat_lt, length, option_map, slice_get, unwrap_or, IsTrue}
+use Rattle.std.proofs.lemmas.Bool.{or_right}
 use Rattle.jet_base.specs.declared.ids.CursorId.{CursorId}
 use Rattle.jet_base.specs.declared.replies.Jet.{Jet}
 use Rattle.jet_base.specs.declared.replies.Jet.TheVariants as jet
@@ -177,17 +178,13 @@ found_numbered (r ∷ rules) test rule e = elim (test r) as (λ b. cond b (Some 
     later true h = refl
     later false h = h
 
-right : (a b : Bool) → b ≡ true → (a || b) ≡ true
-right true b e = refl
-right false b e = e
-
 -- the primary order is one of them, or 0
 pub primary_order_there : (schema : Schema) → IsTrue ((primary_order schema == 0) || is_some (rule_with_id schema (primary_order schema)))
 primary_order_there schema = by_rule (primary_rule schema) refl
   where
     by_rule : (o : Option IndexRule) → primary_rule schema ≡ o → IsTrue ((unwrap_or (option_map (λ r. r.id.0) o) 0 == 0) || is_some (rule_with_id schema (unwrap_or (option_map (λ r. r.id.0) o) 0)))
     by_rule None e = refl
-    by_rule (Some rule) e = right (rule.id.0 == 0) (is_some (rule_with_id schema rule.id.0)) (found_numbered schema.indexes (λ r. r.flags.primary) rule e)
+    by_rule (Some rule) e = or_right (rule.id.0 == 0) (is_some (rule_with_id schema rule.id.0)) (found_numbered schema.indexes (λ r. r.flags.primary) rule e)
 
 chosen_in_step : (asked : Asked) → IsInStep asked.state asked.session asked.local → (label : ℕ) (c : OpenCursor) → cursor_labelled asked.local label ≡ Some c → (index : ℕ) → IsTrue ((index == 0) || is_some (rule_with_id c.schema index)) → StaysInStep asked (index_chosen asked c index)
 chosen_in_step asked step label c e index there =
@@ -197,7 +194,7 @@ chosen_in_step asked step label c e index there =
 
 named_in_step : (asked : Asked) → IsInStep asked.state asked.session asked.local → (label : ℕ) (c : OpenCursor) → cursor_labelled asked.local label ≡ Some c → (test : IndexRule → Bool) (o : Option IndexRule) → find test c.schema.indexes ≡ o → StaysInStep asked (index_chosen_by asked c o)
 named_in_step asked step label c e test None f = step
-named_in_step asked step label c e test (Some rule) f = chosen_in_step asked step label c e rule.id.0 (right (rule.id.0 == 0) (is_some (rule_with_id c.schema rule.id.0)) (found_numbered c.schema.indexes test rule f))
+named_in_step asked step label c e test (Some rule) f = chosen_in_step asked step label c e rule.id.0 (or_right (rule.id.0 == 0) (is_some (rule_with_id c.schema rule.id.0)) (found_numbered c.schema.indexes test rule f))
 
 chosen : (asked : Asked) → IsInStep asked.state asked.session asked.local → (label : ℕ) (c : OpenCursor) → cursor_labelled asked.local label ≡ Some c → (index : Option (List ℕ)) → StaysInStep asked (set_current_index asked c index)
 chosen asked step label c e None = chosen_in_step asked step label c e (primary_order c.schema) (primary_order_there c.schema)

@@ -12,7 +12,7 @@ use Rattle.std.specs.Cmp.Lexicographic.{slice_cmp}
 use Rattle.byteorder.specs.Endian.{little_number}
 use Rattle.page_image.specs.Page.{Node, PageContents, IsBelow, IsInsertPlace, IsPage, no_node, node_at, node_size, page_size}
 use Rattle.page_space.specs.Frames.{Frames, IsTaken, Takes, empty_page, page_at}
-use Rattle.common_lemmas.proofs.Orders.{less-asymmetric}
+use Rattle.common_lemmas.proofs.Orders.{is_less, less-asymmetric}
 use Rattle.btree_inplace.specs.Alterations.{IsParted, cleared, copies, separator}
 use Rattle.btree_inplace.specs.Shape.{IsInner, IsSubtree, IsTreeNode, child_of, entries, page_in, pages}
 use Rattle.btree_inplace.proofs.Below.{IsBelow-from_upto, flat_map-around}
@@ -218,11 +218,6 @@ pub tail_size : (depth : ℕ) (nodes : List Node) → page_size (tail_of depth n
 tail_size zero nodes = omega arith
 tail_size (suc depth) [] = omega arith
 tail_size (suc depth) (x ∷ xs) = omega (arith, sum_by-cons node_size x xs, sum_by-cons node_size (record x { key = [] }) xs)
-
-is_less : (r : Ordering) → is_lt r ≡ true → r ≡ Less
-is_less Less e = refl
-is_less Equal e = cc
-is_less Greater e = cc
 
 not_less : (r : Ordering) → is_lt r ≡ false → ¬ (r ≡ Less)
 not_less Less e = cc

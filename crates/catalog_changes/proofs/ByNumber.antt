@@ -4,6 +4,7 @@ use Rattle.std.specs.Prelude.{◌==◌, filter, find, map, not, nat_lt}
 use Rattle.std.specs.List.{list_all, list_any}
 use Rattle.std.proofs.lemmas.Bool.{and_parts, and_from, cases_Bool, cases_eq, cases_lt, eq-eqb, ltb-true, lt-ltb, le-ltb, ne_eqb}
 use Rattle.std.proofs.lemmas.List.Folds.{list_any-append}
+use Rattle.common_lemmas.proofs.Booleans.{or_swap}
 use Rattle.column_set.specs.declared.columns.Column.{Column}
 use Rattle.index_derive.specs.declared.rules.IndexRule.{IndexRule}
 use Rattle.database_state.specs.SchemaChanges.{columns_with}
@@ -95,17 +96,11 @@ numbers_around (x ∷ a) m b low rise =
 
 -- ---- no index twice
 
-or_turned : (p q r : Bool) → (p || (q || r)) ≡ (q || (p || r))
-or_turned true true r = refl
-or_turned true false r = refl
-or_turned false true r = refl
-or_turned false false r = refl
-
 any_put : (p : IndexRule → Bool) (x : IndexRule) (rules : List IndexRule) → list_any p (with_number x rules) ≡ (p x || list_any p rules)
 any_put p x [] = refl
 any_put p x (y ∷ ys) = elim (cases_Bool (ltb (number_of x) (number_of y))) [
   | inl so ↦ ap (λ (b : Bool). list_any p (put_test x y ys b)) so
-  | inr not_so ↦ ap (λ (b : Bool). list_any p (put_test x y ys b)) not_so ∙ ap (λ (b : Bool). p y || b) (any_put p x ys) ∙ or_turned (p y) (p x) (list_any p ys)
+  | inr not_so ↦ ap (λ (b : Bool). list_any p (put_test x y ys b)) not_so ∙ ap (λ (b : Bool). p y || b) (any_put p x ys) ∙ or_swap (p y) (p x) (list_any p ys)
 ]
 
 pub any_by_number : (p : IndexRule → Bool) (rules : List IndexRule) → list_any p (by_number rules) ≡ list_any p rules

@@ -1,8 +1,7 @@
 -- What an edit of the fields at a column's place makes of the values of a record.
-use Rattle.std.proofs.Common.{◌≡◌, ℕ, suc, zero, ◌+◌, ◌<◌, ◌≤◌, ◌≢◌, ◌⊎◌, List, [], ◌∷◌, ◌++◌, length, get_or, set, Bool, true, false, cond, not, ◌&&◌, ◌==◌, Some, None, refl, sym, ap, subst, ◌∙◌, inl, inr, length-append, if◌then◌else◌, add-zero, add_assoc, arith}
-use lib.Dec.{T}
+use Rattle.std.proofs.Common.{◌≡◌, ℕ, suc, zero, ◌+◌, ◌<◌, ◌≤◌, ◌≢◌, ◌⊎◌, List, [], ◌∷◌, ◌++◌, length, get_or, set, Bool, true, false, cond, not, ◌==◌, Some, None, refl, sym, ap, subst, ◌∙◌, inl, inr, length-append, if◌then◌else◌, add-zero, add_assoc, arith}
 use Rattle.std.specs.Bool.{passes}
-use Rattle.std.proofs.lemmas.Bool.{cases_lt}
+use Rattle.std.proofs.lemmas.Bool.{and_from, cases_lt}
 use Rattle.std.proofs.lemmas.List.{get_or_default, set-get_or}
 use Rattle.std.specs.Prelude.{IsTrue, ltb, sum_by}
 use Rattle.std.specs.List.{list_all, insert, remove}
@@ -13,6 +12,7 @@ use Rattle.std.proofs.lemmas.Cmp.{nat_cmp_total}
 use Rattle.std.proofs.lemmas.List.Sums.{sum_by-set, sum_by-remove, sum_by-insert}
 use Rattle.std.proofs.lemmas.Bool.Decides.{nat_tests}
 use Rattle.std.specs.FinMap.Entries.{is_sorted, is_sorted-put, is_sorted-where_key, by_order}
+use Rattle.common_lemmas.proofs.Booleans.{is_true}
 use Rattle.column_set.specs.Record.{is_record}
 use Rattle.column_set.specs.RecordValues.{RecordFields, values_of, with_values, lookup_by_number, put_by_number, remove_by_number, record_size, size_of_values}
 use Rattle.column_set.specs.RecordPlaces.{column_at, IsPlaceOf, IsGapFor}
@@ -141,21 +141,14 @@ no_values_in_gap fields column place is = without_in_gap fields column place is
 abbrev has_values : ℕ × List (List ℕ) → Bool
 has_values field = ltb 0 (length field.1)
 
-and_true : (a b : Bool) → a ≡ true → b ≡ true → (a && b) ≡ true
-and_true a b e h = rw (e, h) refl
-
-true_from : (b : Bool) → T b → b ≡ true
-true_from true h = refl
-true_from false h = absurd h
-
 all_put : (fields : RecordFields) (column : ℕ) (values : List (List ℕ)) → ltb 0 (length values) ≡ true → list_all has_values fields ≡ true → list_all has_values (put_by_number column values fields) ≡ true
-all_put [] column values some all = and_true _ true some refl
+all_put [] column values some all = and_from _ true some refl
 all_put (field ∷ fields) column values some all =
     let here = both (has_values field) (list_all has_values fields) all in
     elim (nat_cmp column field.0) as (λ r. list_all has_values (by_order r ((column, values) ∷ field ∷ fields) ((field.0, values) ∷ fields) (field ∷ put_by_number column values fields)) ≡ true) [
-      | Less ↦ and_true (ltb 0 (length values)) (list_all has_values (field ∷ fields)) some all
-      | Equal ↦ and_true (ltb 0 (length values)) (list_all has_values fields) some here.1
-      | Greater ↦ and_true (has_values field) (list_all has_values (put_by_number column values fields)) here.0 (all_put fields column values some here.1)
+      | Less ↦ and_from (ltb 0 (length values)) (list_all has_values (field ∷ fields)) some all
+      | Equal ↦ and_from (ltb 0 (length values)) (list_all has_values fields) some here.1
+      | Greater ↦ and_from (has_values field) (list_all has_values (put_by_number column values fields)) here.0 (all_put fields column values some here.1)
     ]
 
 all_without : (fields : RecordFields) (column : ℕ) → list_all has_values fields ≡ true → list_all has_values (remove_by_number column fields) ≡ true
@@ -164,21 +157,21 @@ all_without (field ∷ fields) column all =
     let here = both (has_values field) (list_all has_values fields) all in
     let rest = all_without fields column here.1 in
     elim (not (field.0 == column)) as (λ b. list_all has_values (cond b (field ∷ remove_by_number column fields) (remove_by_number column fields)) ≡ true) [
-      | true ↦ and_true (has_values field) (list_all has_values (remove_by_number column fields)) here.0 rest
+      | true ↦ and_from (has_values field) (list_all has_values (remove_by_number column fields)) here.0 rest
       | false ↦ rest
     ]
 
 pub is_record-with_values : (fields : RecordFields) (column : ℕ) (values : List (List ℕ)) → IsTrue (is_record fields) → IsTrue (is_record (with_values fields column values))
 is_record-with_values fields column [] h =
     let parts = both (is_sorted nat_cmp fields) (list_all has_values fields) h in
-    and_true (is_sorted nat_cmp (remove_by_number column fields)) (list_all has_values (remove_by_number column fields))
-    (true_from _ (is_sorted-where_key nat_cmp (λ number. not (number == column)) fields (passes _ parts.0)))
+    and_from (is_sorted nat_cmp (remove_by_number column fields)) (list_all has_values (remove_by_number column fields))
+    (is_true _ (is_sorted-where_key nat_cmp (λ number. not (number == column)) fields (passes _ parts.0)))
     (all_without fields column parts.1)
 is_record-with_values fields column (value ∷ values) h =
     let parts = both (is_sorted nat_cmp fields) (list_all has_values fields) h in
     let put = put_by_number column (value ∷ values) fields in
-    and_true (is_sorted nat_cmp put) (list_all has_values put)
-    (true_from _ (is_sorted-put nat_cmp nat_cmp_total column (value ∷ values) fields (passes _ parts.0)))
+    and_from (is_sorted nat_cmp put) (list_all has_values put)
+    (is_true _ (is_sorted-put nat_cmp nat_cmp_total column (value ∷ values) fields (passes _ parts.0)))
     (all_put fields column (value ∷ values) (grind (arith, nat_tests)) parts.1)
 
 -- ---- a place or a gap for each column

@@ -1,4 +1,9 @@
+pub mod Booleans
 pub mod Edits
+pub mod Finding
 pub mod Found
+pub mod Lists
+pub mod Numbers
+pub mod Options
 pub mod Orders
 pub mod Results

@@ -1,6 +1,7 @@
 -- Lists in order, each element once: what lies beyond and before an element, and how many do.
 use Rattle.std.proofs.Common.{◌≡◌, ℕ, suc, Bool, true, false, not, ◌&&◌, ◌||◌, cond, ◌⊎◌, inl, inr, List, [], ◌∷◌, length, filter, find, Option, Some, None, refl, sym, ap, subst, ◌∙◌, true≢false}
 use Rattle.std.specs.List.{last_or, list_any}
+use Rattle.common_lemmas.proofs.Booleans.{or_false}
 
 pub record IsStrict {X : Type 0} (lt : X → X → Bool) : Type 0 where
   pub trans : (x y z : X) → lt x y ≡ true → lt y z ≡ true → lt x z ≡ true
@@ -163,10 +164,6 @@ none_above lt f q xs h =
 
 filter_above : {X : Type 0} (lt : X → X → Bool) (f : X) (xs : List X) → Always (lt f) true xs → filter (λ e. not (lt f e)) xs ≡ []
 filter_above lt f xs h = filter_none (λ e. not (lt f e)) xs (always (lt f) (λ e. not (lt f e)) true false (λ y t. ap not t) xs h)
-
-or_false : (b : Bool) → (b || false) ≡ b
-or_false true = refl
-or_false false = refl
 
 any_from : {X : Type 0} (lt : X → X → Bool) (s : IsStrict lt) (f : X) (q : X → Bool) → ((x y : X) → lt x y ≡ true → q x ≡ true → q y ≡ true) → (x : X) (es : List X) → Always (lt x) true es → InOrder lt es
     → (q x || list_any (λ e. q e && not (lt f e)) es) ≡ holds q (last_or (Some x) (filter (λ e. not (lt f e)) es))

@@ -1,7 +1,8 @@
 -- A plain list of entries as pairs.
-use Rattle.std.proofs.lemmas.List.{reverse-append}
-use Rattle.std.proofs.Common.{◌≡◌, ℕ, bytes_eq, reverse, ◌++◌, Bool, true, false, ◌&&◌, List, [], ◌∷◌, map, filter, find, Option, Some, None, refl, sym, ap, ◌∙◌, true≢false}
+use Rattle.std.proofs.Common.{◌≡◌, ℕ, bytes_eq, Bool, true, ◌&&◌, List, [], ◌∷◌, map, filter, find, Option, Some, None, refl, sym, ap, ◌∙◌, true≢false}
 use Rattle.std.specs.List.{last_or, list_all}
+use Rattle.common_lemmas.proofs.Finding.{find_reverse}
+use Rattle.common_lemmas.proofs.Booleans.{and_false}
 use Rattle.index_derive.specs.declared.entries.IndexEntry.{IndexEntry}
 use Rattle.index_derive.specs.declared.entries.Place.{Place}
 use Rattle.cursor_nav.specs.Places.{Pair, pair_lt, pair_of, found_pair, are_sorted, is_beyond, is_short_of, entry_after, entry_before, least_entry_of}
@@ -12,37 +13,6 @@ use Rattle.cursor_nav.proofs.PairOrder.{strict_pairs}
 find_pairs : (p : Pair → Bool) (es : List IndexEntry) → find p (map pair_of es) ≡ found_pair (find (λ e. p (pair_of e)) es)
 find_pairs p [] = refl
 find_pairs p (e ∷ es) = by_test (p (pair_of e)) (λ t. rw t refl) (λ t. rw t (find_pairs p es))
-
-or_else : {X : Type 0} → Option X → Option X → Option X
-or_else None o = o
-or_else (Some x) o = Some x
-
-find_append : {X : Type 0} (p : X → Bool) (xs ys : List X) → find p (xs ++ ys) ≡ or_else (find p xs) (find p ys)
-unfolding or_else
-find_append p [] ys = refl
-find_append p (x ∷ xs) ys = by_test (p x) (λ t. rw t refl) (λ t. rw t (find_append p xs ys))
-
-last_some : {X : Type 0} (x : X) (o : Option X) (ys : List X) → last_or (Some x) ys ≡ or_else (last_or (Some x) ys) o
-unfolding or_else
-last_some x o [] = refl
-last_some x o (y ∷ ys) = last_some y o ys
-
-last_default : {X : Type 0} (x : X) (ys : List X) → or_else (last_or None ys) (Some x) ≡ last_or (Some x) ys
-unfolding or_else
-last_default x [] = refl
-last_default x (y ∷ ys) = sym (last_some y (Some x) ys)
-
-or_none : {X : Type 0} (o : Option X) → or_else o None ≡ o
-unfolding or_else
-or_none None = refl
-or_none (Some x) = refl
-
--- the first from the end is the last
-find_reverse : {X : Type 0} (p : X → Bool) (xs : List X) → find p (reverse xs) ≡ last_or None (filter p xs)
-find_reverse p [] = refl
-find_reverse p (x ∷ xs) =
-    ap (find p) (reverse-append (x ∷ []) xs) ∙ find_append p (reverse xs) (x ∷ []) ∙ ap (λ o. or_else o (find p (x ∷ []))) (find_reverse p xs)
-    ∙ by_test (p x) (λ t. rw t (last_default x (filter p xs))) (λ t. rw t (or_none (last_or None (filter p xs))))
 
 last_pairs_from : (p : Pair → Bool) (o : Option IndexEntry) (es : List IndexEntry) → last_or (found_pair o) (filter p (map pair_of es)) ≡ found_pair (last_or o (filter (λ e. p (pair_of e)) es))
 last_pairs_from p o [] = refl
@@ -64,10 +34,6 @@ all_above x y (z ∷ es) h k =
     by_test (pair_lt y z)
     (λ t. let u : pair_lt x z ≡ true = strict_pairs.trans x y z h t in rw u (all_above x y es h (rw t at k)))
     (λ t. absurd (true≢false (sym (rw t at k))))
-
-and_false : (b : Bool) → (b && false) ≡ false
-and_false true = refl
-and_false false = refl
 
 sorted_pairs : (x : Pair) (es : List Pair) → are_sorted (x ∷ es) ≡ (is_below_first x es && are_sorted es)
 sorted_pairs x [] = refl

@@ -6,6 +6,8 @@ use Rattle.std.specs.Ordering.{nat_cmp, is_lt, is_le, is_eq, ordering_then, orde
 use Rattle.std.specs.Cmp.{IsTotalOrder, then_total, on_total, tied_itself}
 use Rattle.std.specs.Cmp.Lexicographic.{slice_cmp, nat_list_cmp_total, texts_ties}
 use Rattle.std.specs.List.{list_any, list_all, last_or}
+use Rattle.std.proofs.lemmas.Bool.{not-false, not-true}
+use Rattle.common_lemmas.proofs.Orders.{is_less, less_then}
 use Rattle.column_set.specs.RecordValues.{bytes_lt, bytes_le}
 use Rattle.index_derive.specs.declared.entries.Place.{Place}
 use Rattle.index_derive.specs.declared.entries.Place.TheVariants.{Before, After, On, Gap}
@@ -14,11 +16,6 @@ use Rattle.cursor_nav.specs.Steps.{only_equal, reaches_from, nearest_entry}
 use Rattle.cursor_nav.proofs.InOrder.{IsStrict, Always, InOrder, IsIn, by_test, after_found, before_list, holds, rest_len, only_passing, first_not_below, all_not_above, any_not_below, any_not_above, count_up, count_step, count_stop, find_narrower}
 
 -- ---- a total order is strict
-
-is_less : (r : Ordering) → is_lt r ≡ true → r ≡ Less
-is_less Less h = refl
-is_less Equal h = absurd (true≢false (sym h))
-is_less Greater h = absurd (true≢false (sym h))
 
 from_not_by : {K : Type 0} {R : K → K → Ordering} (o : IsTotalOrder R) → (x y z : K) (r : Ordering) → R x y ≡ r → is_lt r ≡ false → is_lt (R x z) ≡ true → is_lt (R y z) ≡ true
 from_not_by o x y z Less e h k = absurd (true≢false h)
@@ -41,15 +38,10 @@ strict_bytes = strict_from_total nat_list_cmp_total
 pair_cmp : Pair → Pair → Ordering
 pair_cmp = then_cmp (on (λ p. p.0) (slice_cmp nat_cmp)) (on (λ p. p.1) (slice_cmp nat_cmp))
 
-then_less : (r q : Ordering) → (is_lt r || (is_eq r && is_lt q)) ≡ is_lt (ordering_then r q)
-then_less Less q = refl
-then_less Equal q = refl
-then_less Greater q = refl
-
 pair_lt_is : (a b : Pair) → is_lt (pair_cmp a b) ≡ pair_lt a b
 unfolding pair_cmp
 pair_lt_is a b =
-    sym (then_less (slice_cmp nat_cmp a.0 b.0) (slice_cmp nat_cmp a.1 b.1))
+    sym (less_then (slice_cmp nat_cmp a.0 b.0) (slice_cmp nat_cmp a.1 b.1))
     ∙ sym (ap (λ e. bytes_lt a.0 b.0 || (e && bytes_lt a.1 b.1)) (texts_ties a.0 b.0))
 
 pair_total : IsTotalOrder pair_cmp
@@ -96,14 +88,6 @@ le_not_by Greater = refl
 le_not : (a b : List ℕ) → bytes_le a b ≡ not (bytes_lt b a)
 le_not a b = le_not_by (slice_cmp nat_cmp a b) ∙ ap (λ r. not (is_lt r)) (sym (nat_list_cmp_total.antisymm b a))
 
-not_true : (b : Bool) → not b ≡ true → b ≡ false
-not_true true h = sym h
-not_true false h = refl
-
-not_false : (b : Bool) → not b ≡ false → b ≡ true
-not_false true h = refl
-not_false false h = sym h
-
 -- below, and then not above
 lt_le : (x y z : List ℕ) → bytes_lt x y ≡ true → bytes_lt z y ≡ false → bytes_lt x z ≡ true
 lt_le x y z h k = by_test (bytes_lt x z) (λ t. t) (λ t. absurd (true≢false (sym (strict_bytes.from_not x z y t h) ∙ k)))
@@ -118,7 +102,7 @@ upper_test inclusive limit key = if inclusive then bytes_le key limit else bytes
 upper_falls : (inclusive : Bool) (limit x y : List ℕ) → bytes_lt y x ≡ false → upper_test inclusive limit x ≡ false → upper_test inclusive limit y ≡ false
 unfolding upper_test
 upper_falls true limit x y h k =
-    le_not y limit ∙ ap not (lt_le limit x y (not_false (bytes_lt limit x) (sym (le_not x limit) ∙ k)) h)
+    le_not y limit ∙ ap not (lt_le limit x y (not-false (bytes_lt limit x) (sym (le_not x limit) ∙ k)) h)
 upper_falls false limit x y h k = le_not_lt x y limit h k
 
 lower_test : Bool → List ℕ → List ℕ → Bool
@@ -126,7 +110,7 @@ lower_test inclusive limit key = if inclusive then bytes_le limit key else bytes
 
 lower_rises : (inclusive : Bool) (limit x y : List ℕ) → bytes_lt y x ≡ false → lower_test inclusive limit x ≡ true → lower_test inclusive limit y ≡ true
 unfolding lower_test
-lower_rises true limit x y h k = le_not limit y ∙ ap not (le_not_lt x y limit h (not_true (bytes_lt x limit) (sym (le_not limit x) ∙ k)))
+lower_rises true limit x y h k = le_not limit y ∙ ap not (le_not_lt x y limit h (not-true (bytes_lt x limit) (sym (le_not limit x) ∙ k)))
 lower_rises false limit x y h k = lt_le limit x y k h
 
 within_falls : (range : KeyRange) → range.upper ≡ true → (x y : Pair) → pair_lt x y ≡ true → is_within range x.0 ≡ false → is_within range y.0 ≡ false
@@ -254,7 +238,7 @@ pub count_from_first : (range : Option KeyRange) (from : Pair) (es : List Pair) 
     → length (entries_from from range es) ≡ count_at range (find (λ entry. not (pair_lt entry from)) es) es
 count_from_first range from es s =
     count_up pair_lt strict_pairs (λ entry. not (pair_lt entry from)) (λ entry. is_within_upper range entry.0)
-    (λ x y h t. ap not (strict_pairs.asym from y (strict_pairs.from_not x from y (not_true (pair_lt x from) t) h)))
+    (λ x y h t. ap not (strict_pairs.asym from y (strict_pairs.from_not x from y (not-true (pair_lt x from) t) h)))
     es (in_order es s)
 
 pub count_one_more : (range : Option KeyRange) (e : Pair) (es : List Pair) → IsIn e es → are_sorted es ≡ true → is_within_upper range e.0 ≡ true

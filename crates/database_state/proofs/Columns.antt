@@ -1,8 +1,10 @@
 -- What a new column leaves of the columns of a table.
-use Rattle.std.proofs.Common.{◌≡◌, ℕ, Bool, true, false, ◌&&◌, cond, List, [], ◌∷◌, Some, None, refl, arith}
+use Rattle.std.proofs.Common.{◌≡◌, ℕ, Bool, true, false, cond, List, [], ◌∷◌, Some, None, refl, arith}
 use Rattle.std.specs.Prelude.{◌==◌, nat_lt, is_some}
 use Rattle.std.specs.List.{list_all}
 use Rattle.std.proofs.lemmas.Bool.Decides.{nat_tests}
+use Rattle.std.proofs.lemmas.Bool.{and_from}
+use Rattle.common_lemmas.proofs.Booleans.{and_left, and_right}
 use Rattle.column_set.specs.declared.columns.Column.{Column}
 use Rattle.column_set.specs.RecordValues.{column_of_id}
 use Rattle.database_state.specs.SchemaChanges.{columns_with}
@@ -11,24 +13,13 @@ use Rattle.database_state.specs.SchemaChanges.{columns_with}
 abbrev pub are_behind : Column → List Column → Bool
 are_behind column columns = list_all (λ c. nat_lt column.id.0 c.id.0) columns
 
-and_left : (a b : Bool) → (a && b) ≡ true → a ≡ true
-and_left true b h = refl
-and_left false b h = cc
-
-and_right : (a b : Bool) → (a && b) ≡ true → b ≡ true
-and_right true b h = h
-and_right false b h = cc
-
-and_both : (a b : Bool) → a ≡ true → b ≡ true → (a && b) ≡ true
-and_both a b p q = rw (p, q) refl
-
 -- what holds of the columns and of the new one holds of all
 pub list_all-columns_with : (p : Column → Bool) (column : Column) (columns : List Column) → list_all p columns ≡ true → p column ≡ true → list_all p (columns_with column columns) ≡ true
-list_all-columns_with p column [] all own = and_both (p column) true own refl
+list_all-columns_with p column [] all own = and_from (p column) true own refl
 list_all-columns_with p column (c ∷ columns) all own =
     elim (are_behind column (c ∷ columns)) as (λ b. list_all p (cond b (column ∷ c ∷ columns) (c ∷ columns_with column columns)) ≡ true) [
-      | true ↦ and_both (p column) (list_all p (c ∷ columns)) own all
-      | false ↦ and_both (p c) (list_all p (columns_with column columns)) (and_left (p c) (list_all p columns) all)
+      | true ↦ and_from (p column) (list_all p (c ∷ columns)) own all
+      | false ↦ and_from (p c) (list_all p (columns_with column columns)) (and_left (p c) (list_all p columns) all)
           (list_all-columns_with p column columns (and_right (p c) (list_all p columns) all) own)
     ]
 

@@ -8,6 +8,7 @@ use Rattle.std.specs.Ordering.{nat_cmp, is_lt, is_eq, ordering_then}
 use Rattle.std.specs.Cmp.{IsTotalOrder, then_total, on_total}
 use Rattle.std.specs.Cmp.Lexicographic.{slice_cmp, nat_list_cmp_total, texts_ties}
 use Rattle.std.proofs.lemmas.Map.Lookups.{exact_bytes}
+use Rattle.common_lemmas.proofs.Orders.{less_then}
 use Rattle.column_set.specs.RecordValues.{bytes_lt}
 use Rattle.cursor_nav.specs.Places.{Pair, pair_lt, are_sorted}
 use Rattle.derived_index.proofs.Tests.{and_left, and_right, and_both}
@@ -39,11 +40,6 @@ exact_pairs x y e =
     λ i. (keys i, bookmarks i)
 
 -- ---- the test of the order
-
-less_then : (r q : Ordering) → (is_lt r || (is_eq r && is_lt q)) ≡ is_lt (ordering_then r q)
-less_then Less q = refl
-less_then Equal q = refl
-less_then Greater q = refl
 
 pub pair_lt-is : (x y : Pair) → pair_lt x y ≡ is_lt (pair_cmp x y)
 pair_lt-is x y =

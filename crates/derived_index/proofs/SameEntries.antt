@@ -8,16 +8,9 @@ use Rattle.derived_index.proofs.AnyOf.{rising_filter}
 use Rattle.derived_index.proofs.PairOrder.{pair_cmp, rising-sorted, sorted-rising}
 use Rattle.derived_index.proofs.Rising.{same_rising}
 use Rattle.std.proofs.lemmas.Slice.Eq.{bytes_eq-Decides}
+use Rattle.common_lemmas.proofs.Numbers.{same_bytes}
+use Rattle.common_lemmas.proofs.Booleans.{impossible}
 use Rattle.derived_index.proofs.Tests.{and_both, and_left, and_right}
-
-impossible : {A : Type 0} → false ≡ true → A
-impossible e = absurd (never e)
-  where
-    never : false ≡ true → ⊥
-    never e = cc
-
-same_bytes : (a b : List ℕ) → bytes_eq a b ≡ true → a ≡ b
-same_bytes a b = (bytes_eq-Decides a b).0
 
 equal_bytes : (a b : List ℕ) → a ≡ b → bytes_eq a b ≡ true
 equal_bytes a b = (bytes_eq-Decides a b).1

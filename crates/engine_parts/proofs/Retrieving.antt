@@ -5,6 +5,7 @@ use Rattle.std.specs.List.{list_all}
 use Rattle.std.proofs.lemmas.Bool.Decides.{nat_tests}
 use Rattle.std.proofs.lemmas.Option.{slice_get-get_or, slice_get_past}
 use Rattle.std.proofs.lemmas.List.{length-take}
+use Rattle.std.proofs.lemmas.Bool.{leb-true}
 use Rattle.jet_base.specs.declared.words.ColType.{ColType}
 use Rattle.jet_base.specs.declared.words.ColType.TheVariants as kind
 use Rattle.jet_base.specs.ColumnType.{is_number_type}
@@ -20,9 +21,6 @@ use Rattle.session_local.specs.SessionSide.{are_distinct}
 use Rattle.session_local.specs.WellFormed.{number_of_column}
 use Rattle.engine_parts.specs.Retrieving.{AreReadable}
 use Rattle.engine_parts.proofs.Found.{all_at, by_number, values_of-counted, values_of-fit}
-
-le_from_true : (m n : ℕ) → nat_le m n ≡ true → m ≤ n
-le_from_true m n h = grind (arith, nat_tests)
 
 -- ---- the values of a column are readable
 
@@ -81,10 +79,10 @@ number_fits kind values at bytes number readable read = all_at (value_fits kind)
 -- no value has more bytes than the reply buffer
 most_bytes : (kind : ColType) (value : List ℕ) → value_fits kind value ≡ true → length value ≤ 1048576
 most_bytes kind.Guid value fits = omega (arith, by_width 16 value fits (omega arith))
-most_bytes kind.Binary value fits = omega (arith, le_from_true (length value) 255 fits)
-most_bytes kind.Text value fits = omega (arith, le_from_true (length value) 255 fits)
-most_bytes kind.LongBinary value fits = le_from_true (length value) 1048576 fits
-most_bytes kind.LongText value fits = le_from_true (length value) 1048576 fits
+most_bytes kind.Binary value fits = omega (arith, leb-true (length value) 255 fits)
+most_bytes kind.Text value fits = omega (arith, leb-true (length value) 255 fits)
+most_bytes kind.LongBinary value fits = leb-true (length value) 1048576 fits
+most_bytes kind.LongText value fits = leb-true (length value) 1048576 fits
 most_bytes kind.Bit value fits = omega (arith, number_few kind.Bit value refl fits)
 most_bytes kind.UnsignedByte value fits = omega (arith, number_few kind.UnsignedByte value refl fits)
 most_bytes kind.Short value fits = omega (arith, number_few kind.Short value refl fits)

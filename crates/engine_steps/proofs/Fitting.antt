@@ -2,6 +2,7 @@
 use Rattle.std.proofs.Common.{◌≡◌, ℕ, ◌<◌, ◌≤◌, true, false, not, length, sym, subst, ◌∙◌, arith}
 use Rattle.std.specs.Prelude.{nat_le, nat_lt}
 use Rattle.std.proofs.lemmas.Bool.Decides.{nat_tests}
+use Rattle.std.proofs.lemmas.Bool.{ltb-true}
 use Rattle.index_derive.specs.declared.log.EntryKind.{EntryKind}
 use Rattle.index_derive.specs.declared.log.EntryKind.TheVariants as entry
 use Rattle.database_state.specs.State.{DatabaseState, levels}
@@ -16,9 +17,6 @@ use Rattle.engine_steps.specs.Steps.{MayCome, entry_by}
 pub lawful_by_kind : (state : DatabaseState) (session : ℕ) (kind : EntryKind) → is_lawful state (entry_by session kind) ≡ true → is_lawful_kind state session kind ≡ true
 unfolding is_lawful
 lawful_by_kind state session kind h = and_right (has_number state.number kind) (is_lawful_kind state session kind) h
-
-below : (n m : ℕ) → nat_lt n m ≡ true → n < m
-below n m h = grind (arith, nat_tests)
 
 pub at_most : (n m : ℕ) → nat_le n m ≡ true → n ≤ m
 at_most n m h = grind (arith, nat_tests)
@@ -40,7 +38,7 @@ label_new told engine session may =
 pub sessions_few : TellsCount → (engine : EngineState) (session : ℕ) → MayCome engine (entry_by session entry.Enter) → length engine.sessions < 64
 sessions_few told engine session may =
     subst (λ (n : ℕ). n < 64) (sym (told engine may.state may.holds))
-    (below (length may.state.sessions) 64 (and_right (not (is_live_in may.state session)) (nat_lt (length may.state.sessions) 64) (lawful_by_kind may.state session entry.Enter may.lawful)))
+    (ltb-true (length may.state.sessions) 64 (and_right (not (is_live_in may.state session)) (nat_lt (length may.state.sessions) 64) (lawful_by_kind may.state session entry.Enter may.lawful)))
 
 pub levels_few : TellsLevels → (engine : EngineState) (session : ℕ) → MayCome engine (entry_by session entry.Save) → levels_in session engine.sessions ≤ 6
 levels_few told engine session may =

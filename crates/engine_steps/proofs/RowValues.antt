@@ -3,6 +3,7 @@ use Rattle.std.proofs.Common.{◌≡◌, ℕ, ◌≤◌, Bool, true, false, ◌&
 use Rattle.std.specs.Prelude.{◌==◌, ◌^◌, bytes_eq, nat_le, nat_lt}
 use Rattle.std.specs.List.{list_all}
 use Rattle.std.proofs.lemmas.Bool.Decides.{nat_tests}
+use Rattle.std.proofs.lemmas.Bool.{leb-true}
 use Rattle.jet_base.specs.declared.words.ColType.{ColType}
 use Rattle.jet_base.specs.declared.words.ColType.TheVariants as kind
 use Rattle.column_set.specs.declared.columns.Column.{Column}
@@ -19,9 +20,6 @@ use Rattle.lawful_answers.specs.ColumnNumbers.{are_in_range, is_given_number}
 low_number : (id most : ℕ) → nat_le id most ≡ true → most ≤ 511 → nat_lt id (2 ^ 16) ≡ true
 low_number id most h few = grind (arith, nat_tests)
 
-le_from : (a b : ℕ) → nat_le a b ≡ true → a ≤ b
-le_from a b h = grind (arith, nat_tests)
-
 given_by : (id tagged : ℕ) (fixed variable low middle : Bool) → nat_le id 127 ≡ low → nat_le id 255 ≡ middle → tagged ≤ 511 → cond low fixed (cond middle variable (nat_le id tagged)) ≡ true → nat_lt id (2 ^ 16) ≡ true
 given_by id tagged fixed variable true middle el em few h = low_number id 127 el (omega arith)
 given_by id tagged fixed variable false true el em few h = low_number id 255 em (omega arith)
@@ -30,7 +28,7 @@ given_by id tagged fixed variable false false el em few h = low_number id tagged
 given_low : (greatest : GreatestColumns) (column : Column) → are_in_range greatest ≡ true → is_given_number greatest column ≡ true → nat_lt column.id.0 (2 ^ 16) ≡ true
 given_low greatest column range given =
     given_by column.id.0 greatest.tagged (nat_le column.id.0 greatest.fixed) (nat_le column.id.0 greatest.variable) (nat_le column.id.0 127) (nat_le column.id.0 255) refl refl
-    (le_from greatest.tagged 511 (and_right (nat_le greatest.fixed 127 && nat_le 127 greatest.variable && nat_le greatest.variable 255 && nat_le 255 greatest.tagged) (nat_le greatest.tagged 511) range)) given
+    (leb-true greatest.tagged 511 (and_right (nat_le greatest.fixed 127 && nat_le 127 greatest.variable && nat_le greatest.variable 255 && nat_le 255 greatest.tagged) (nat_le greatest.tagged 511) range)) given
 
 -- ---- a field under its column
 

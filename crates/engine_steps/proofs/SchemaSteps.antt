@@ -3,6 +3,7 @@ use Rattle.std.proofs.Common.{◌≡◌, ℕ, ◌+◌, ◌<◌, Bool, true, fals
 use Rattle.std.specs.Prelude.{◌==◌, find, is_none, is_some, nat_le, nat_lt, unwrap_or, IfSome, IsSomeAnd}
 use Rattle.std.specs.List.{AllByRecursion, list_any}
 use Rattle.std.proofs.lemmas.Bool.Decides.{nat_tests}
+use Rattle.std.proofs.lemmas.Bool.{not-false}
 use Rattle.jet_base.specs.declared.ids.ColumnId.{ColumnId}
 use Rattle.jet_base.specs.declared.ids.TableId.{TableId}
 use Rattle.jet_base.specs.declared.replies.Jet.TheVariants as jet
@@ -21,6 +22,7 @@ use Rattle.version_keys.proofs.FreeKeys.{in_any_order}
 use Rattle.version_keys.proofs.IndexNumbers.{all_primary_first, none_of}
 use Rattle.version_keys.proofs.SchemaKeys.{IsNewIndex, at_found, new_index, unrefused}
 use Rattle.common_lemmas.proofs.Found.{found_passes, of_found}
+use Rattle.common_lemmas.proofs.Options.{some_there}
 use Rattle.built_calls.specs.BuiltTables.{is_unnumbered_column, makes_built}
 use Rattle.built_calls.proofs.BuiltColumns.{kept_is_sum}
 use Rattle.engine_parts.specs.Parts.{tables_of}
@@ -66,17 +68,13 @@ some_or : {X : Type 0} (o : Option X) (P : X → Type 0) → is_some o ≡ true 
 some_or None P there f = impossible there
 some_or (Some x) P there f = f x refl
 
-there_by : {X : Type 0} (o : Option X) → is_none o ≡ false → is_some o ≡ true
-there_by None e = sym e
-there_by (Some x) e = refl
-
 table_there : (state : DatabaseState) (session : ℕ) (made : SchemaStep) → is_none (schema_refusal state session made) ≡ true → makes_table made ≡ false → is_some (step_table state.tables made) ≡ true
 unfolding schema_refusal
 table_there state session made free other =
     let refused = unrefused
     ((not (levels state session == 0), jet.InTransaction) ∷ (not (makes_table made) && is_none (step_table state.tables made), jet.ObjectNotFound) ∷ (is_in_use state session (step_table state.tables made), jet.TableInUse)
     ∷ step_refusals state (unwrap_or (step_table state.tables made) (new_table 0 [])) made) free in
-    there_by (step_table state.tables made) (and_second (not (makes_table made)) (is_none (step_table state.tables made)) (ap not other) refused.1.0)
+    some_there (step_table state.tables made) (and_second (not (makes_table made)) (is_none (step_table state.tables made)) (ap not other) refused.1.0)
 
 -- ---- each step
 
@@ -108,11 +106,6 @@ other_index t index there other = by (find (λ r. r.id.0 == index) (primary_firs
         let plain : r.flags.primary ≡ false = and_second (r.id.0 == index) r.flags.primary own (of_found (λ r. ((r.id.0 == index) && r.flags.primary) ≡ false) (λ r. r.id.0 == index) (primary_first t.indexes) r e (all_primary_first (λ r. ((r.id.0 == index) && r.flags.primary) ≡ false) t.indexes (none_of (λ r. (r.id.0 == index) && r.flags.primary) t.indexes other))) in
         ap (λ (b : Bool). is_some (cond b None (Some r))) plain
 
--- what was denied is not there, and what was denied not to be there is
-there_if : (b : Bool) → not b ≡ false → b ≡ true
-there_if true h = refl
-there_if false h = sym h
-
 -- ---- a column comes
 
 column_for : (state : DatabaseState) → IsAsked state → (session : ℕ) (table : TableId) (column : Column) → IsLawfulStep state session (step.AddColumn table column) → column_fits column ≡ true → (t : Table) → table_with_id state.tables table.0 ≡ Some t → IsColumnFor column t
@@ -120,7 +113,7 @@ column_for state asked session table column is fits t found =
     let refused = at_found state session (step.AddColumn table column) t is.free found in
     let are = columns_of asked.base asked.dropped asked.kept state asked.reached table.0 t found in
     record {
-      new = column_is_new t column are.range are.given number (there_if _ refused.1.1.1.1.0);
+      new = column_is_new t column are.range are.given number (not-false _ refused.1.1.1.1.0);
       positive = subst (λ (n : ℕ). 0 < n) (sym number) (next_is_some t.greatest column.kind column.tagged);
       fits = fits;
     }
@@ -180,7 +173,7 @@ can_make state asked session (step.DeleteColumn table column) is built fits newe
   some_or (table_with_id state.tables table.0) (λ t. column_is_used column t.indexes ≡ false) (table_there state session (step.DeleteColumn table column) is.free refl)
       (λ t found. column_unused column t.indexes (at_found state session (step.DeleteColumn table column) t is.free found).1.0),
   some_or (table_with_id state.tables table.0) (λ t. has_column t column.0 ≡ true) (table_there state session (step.DeleteColumn table column) is.free refl)
-      (λ t found. there_if (has_column t column.0) (at_found state session (step.DeleteColumn table column) t is.free found).0),
+      (λ t found. not-false (has_column t column.0) (at_found state session (step.DeleteColumn table column) t is.free found).0),
 )
 can_make state asked session (step.CreateIndex table rule) is built fits newest held =
     some_or (table_with_id state.tables table.0) (IsIndexFor rule) (table_there state session (step.CreateIndex table rule) is.free refl)

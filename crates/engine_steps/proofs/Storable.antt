@@ -4,7 +4,7 @@ use Rattle.std.specs.Prelude.{◌==◌, ◌^◌, nat_le, nat_lt, bytes_eq, is_so
 use Rattle.std.specs.Ordering.{nat_cmp}
 use Rattle.std.specs.FinMap.Entries.{is_sorted}
 use Rattle.std.specs.List.{AllByRecursion, list_all}
-use Rattle.std.proofs.lemmas.Bool.Decides.{nat_tests}
+use Rattle.std.proofs.lemmas.Bool.{leb-true}
 use Rattle.jet_base.specs.ColumnType.{big_endian}
 use Rattle.column_set.specs.declared.changes.Change.{Change}
 use Rattle.column_set.specs.declared.changes.Change.TheVariants.{Put, Drop, Hold, Add}
@@ -154,9 +154,6 @@ put_holds engine state h session id table bookmark copied values found is lawful
     (numbers_seen h.base h.dropped h.kept state h.reached.history h.reached.numbers session table.id) in
     (put_numbers state session (Put (record { 0 = id }) bookmark copied values) rise h.reached.numbers.columns table (rows_of (table_with_id (view state session) table.id)) found held lawful).1
 
-at_most : (n m : ℕ) → nat_le n m ≡ true → n ≤ m
-at_most n m h = grind (arith, nat_tests)
-
 -- a lawful put is one of a record that can be kept
 put_storable : (engine : EngineState) (state : DatabaseState) → HoldsState engine state → (session id : ℕ) (table : Table) (bookmark : List ℕ) (copied : Option (List ℕ)) (values : RecordFields)
     → table_with_id state.tables id ≡ Some table → IsTrue (is_record values)
@@ -175,7 +172,7 @@ put_storable engine state h session id table bookmark copied values found is law
     let with_index : (fits && whole && small && indexed) ≡ true = and_left (fits && whole && small && indexed) free (and_left (fits && whole && small && indexed && free) own with_own) in
     let with_small : (fits && whole && small) ≡ true = and_left (fits && whole && small) indexed with_index in
     let fit : fits ≡ true = and_left fits whole (and_left (fits && whole) small with_small) in
-    let few : record_size values ≤ 1700 = at_most (record_size values) 1700 (and_right (fits && whole) small with_small) in
+    let few : record_size values ≤ 1700 = leb-true (record_size values) 1700 (and_right (fits && whole) small with_small) in
     let each = each_kept table.greatest table.columns values (columns_of engine state h id table found) (and_left (list_all (stands_in table.columns) values) (list_all (λ column. not (is_kept_column column) || has_value values column.id.0) table.columns) fit) in
     record {
       columns = fit;

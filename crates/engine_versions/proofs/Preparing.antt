@@ -1,8 +1,8 @@
 -- Updates that a session prepares by itself, or copies, keep it in step.
-use Rattle.std.proofs.Common.{◌≡◌, ℕ, ◌≤◌, Bool, true, false, not, ◌&&◌, ◌||◌, cond, List, [], ◌∷◌, ◌++◌, map, Option, Some, None, refl, sym, ap, subst, ◌∙◌, arith}
+use Rattle.std.proofs.Common.{◌≡◌, ℕ, ◌≤◌, Bool, true, false, not, ◌&&◌, ◌||◌, cond, List, [], ◌∷◌, ◌++◌, map, Option, Some, None, refl, sym, ap, subst, ◌∙◌}
 use Rattle.std.specs.Prelude.{◌==◌, bytes_eq, find, is_none, nat_le, unwrap_or, IfSome}
 use Rattle.std.specs.List.{AllByRecursion, list_all}
-use Rattle.std.proofs.lemmas.Bool.Decides.{nat_tests}
+use Rattle.std.proofs.lemmas.Bool.{leb-true}
 use Rattle.jet_base.specs.declared.ids.CursorId.{CursorId}
 use Rattle.jet_base.specs.declared.replies.Jet.{Jet}
 use Rattle.jet_base.specs.declared.words.Given.{Given}
@@ -70,14 +70,11 @@ columns_distinct engine state session local h c at =
     ∙ and_right (are_in_range at.table.greatest && list_all (is_given_number at.table.greatest) at.table.columns) (are_distinct (map number_of_column at.table.columns))
     (subst (λ (o : Option Table). IfSome o (λ t. has_own_numbers t ≡ true)) at.found (all_found has_own_numbers state.tables h.reached.columns c.cursor.table))
 
-le_of : (a b : ℕ) → nat_le a b ≡ true → a ≤ b
-le_of a b h = grind (arith, nat_tests)
-
 -- a well-formed record may be stored where it has every sum, as it may be stored
 storable_formed : (state : DatabaseState) (session : ℕ) (c : OpenCursor) (p : PreparedUpdate) → AreBuilt c.schema.columns → is_well_formed_record c.schema.columns p.values ≡ true → MayReplace state session c p.for
     → list_all (λ d. not d.escrow || has_value p.values d.id.0) c.schema.columns ≡ true → keeps_escrow c.schema.columns (replaced_in state session c p.for) p.values ≡ true → IsStorable state session c (Some p)
 storable_formed state session c p built formed may there keeps = (
-  le_of (record_size p.values) 1700 (and_right (list_all (stands_in c.schema.columns) p.values) (nat_le (record_size p.values) 1700) formed),
+  leb-true (record_size p.values) 1700 (and_right (list_all (stands_in c.schema.columns) p.values) (nat_le (record_size p.values) 1700) formed),
   and_both (list_all (stands_in c.schema.columns) p.values) (list_all (λ column. not (is_kept_column column) || has_value p.values column.id.0) c.schema.columns)
       (and_left (list_all (stands_in c.schema.columns) p.values) (nat_le (record_size p.values) 1700) formed)
       (all_kept p.values c.schema.columns built there),

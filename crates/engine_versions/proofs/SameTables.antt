@@ -1,7 +1,8 @@
 -- Lists of tables with the same definitions and the same tables under each id.
 use Rattle.std.proofs.Common.{◌≡◌, ℕ, Bool, true, false, cond, List, [], ◌∷◌, map, Option, Some, None, refl, sym, ap, subst, ◌∙◌}
-use Rattle.std.specs.Prelude.{◌==◌, option_map, unwrap_or, bytes_eq}
+use Rattle.std.specs.Prelude.{◌==◌, option_map, bytes_eq}
 use Rattle.std.specs.List.{AllByRecursion}
+use Rattle.common_lemmas.proofs.Options.{same_some}
 use Rattle.database_state.specs.Table.{Table, schema_of, table_named, table_with_id}
 use Rattle.version_history.specs.History.{EachTwo, without_rows}
 use Rattle.version_keys.specs.TableOrder.{IdsRise}
@@ -29,9 +30,6 @@ pub ids_rise_alike : (one other : List Table) → map without_rows one ≡ map w
 ids_rise_alike one other e h = whole_rise one (subst (EachTwo IdsRise) (sym e) (bare_rise other h))
 
 -- ---- the same tables
-
-some_same : {X : Type 0} (x y : X) → Some x ≡ Some y → x ≡ y
-some_same x y e = ap (λ o. unwrap_or o x) e
 
 first_same : (x y : Table) (xs ys : List Table) → x ∷ xs ≡ y ∷ ys → x ≡ y
 first_same x y xs ys e = ap (λ l. first_or l) e
@@ -61,7 +59,7 @@ same_in one other [] (y ∷ ys) same e f g = never (without_rows y) (map without
 same_in one other (x ∷ xs) [] same e f g = never (without_rows x) (map without_rows xs) e
 same_in one other (x ∷ xs) (y ∷ ys) same e f g =
     let bare : without_rows x ≡ without_rows y = first_same (without_rows x) (without_rows y) (map without_rows xs) (map without_rows ys) e in
-    let here : x ≡ y = some_same x y (sym f.0 ∙ same x.id ∙ ap (λ (t : Table). table_with_id other t.id) bare ∙ g.0) in
+    let here : x ≡ y = same_some x y (sym f.0 ∙ same x.id ∙ ap (λ (t : Table). table_with_id other t.id) bare ∙ g.0) in
     let rest : xs ≡ ys = same_in one other xs ys same (rest_same (without_rows x) (without_rows y) (map without_rows xs) (map without_rows ys) e) f.1 g.1 in
     λ i. here i ∷ rest i
 

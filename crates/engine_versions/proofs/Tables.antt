@@ -1,8 +1,9 @@
 -- The tables stay built.
-use Rattle.std.proofs.Common.{◌≡◌, ℕ, ◌+◌, Bool, true, false, not, ◌&&◌, ◌||◌, List, [], ◌∷◌, ◌++◌, Option, Some, refl, sym, ap, subst, ◌∙◌, arith}
+use Rattle.std.proofs.Common.{◌≡◌, ℕ, ◌+◌, Bool, true, false, not, ◌&&◌, ◌||◌, [], Option, Some, refl, sym, ap, subst, ◌∙◌, arith}
 use Rattle.std.specs.Prelude.{◌==◌, is_none, nat_le, unwrap_or, IfSome}
 use Rattle.std.specs.List.{list_all}
 use Rattle.std.proofs.lemmas.Bool.Decides.{nat_tests}
+use Rattle.common_lemmas.proofs.Lists.{all_last}
 use Rattle.jet_base.specs.declared.words.ColType.{ColType}
 use Rattle.jet_base.specs.declared.words.ColType.TheVariants as kind
 use Rattle.index_derive.specs.declared.log.Entry.{Entry}
@@ -23,10 +24,6 @@ use Rattle.version_keys.specs.TableOrder.{IdsRise}
 use Rattle.version_keys.proofs.SchemaKeys.{at_found, at_table, with_last, without_table}
 use Rattle.lawful_answers.proofs.TableTests.{all_filtered, all_found, all_listed, definitions_stay, is_schema_entry, tested_alike}
 use Rattle.built_calls.specs.BuiltTables.{are_built, is_unnumbered_column, is_built_column, is_built_rule, is_built_sum, is_built_table, makes_built}
-
-all_with_last : {X : Type 0} (p : X → Bool) (xs : List X) (y : X) → list_all p xs ≡ true → p y ≡ true → list_all p (xs ++ y ∷ []) ≡ true
-all_with_last p [] y h own = and_both (p y) true own refl
-all_with_last p (x ∷ xs) y h own = and_both (p x) (list_all p (xs ++ y ∷ [])) (and_left (p x) (list_all p xs) h) (all_with_last p xs y (and_right (p x) (list_all p xs) h) own)
 
 -- ---- schema steps
 
@@ -75,7 +72,7 @@ step_built state label (step.DeleteColumn table column) free next e h id =
     (λ t found b. and_both (list_all is_built_column (without_column column.0 t).columns) (list_all is_built_rule t.indexes) (all_filtered is_built_column (λ c. not (c.id.0 == column.0)) t.columns (built-parts t b).0) (built-parts t b).1) h id
 step_built state label (step.CreateIndex table rule) free next e h id =
     at_table Built table.0 (with_index rule) (λ t. refl) state.tables
-    (λ t found b. and_both (list_all is_built_column t.columns) (list_all is_built_rule (with_index rule t).indexes) (built-parts t b).0 (all_with_last is_built_rule t.indexes rule (built-parts t b).1 e)) h id
+    (λ t found b. and_both (list_all is_built_column t.columns) (list_all is_built_rule (with_index rule t).indexes) (built-parts t b).0 (all_last is_built_rule t.indexes rule (built-parts t b).1 e)) h id
 step_built state label (step.DeleteIndex table index) free next e h id =
     at_table Built table.0 (without_index index.0) (λ t. refl) state.tables
     (λ t found b. and_both (list_all is_built_column t.columns) (list_all is_built_rule (without_index index.0 t).indexes) (built-parts t b).0 (all_filtered is_built_rule (λ made. not (made.id.0 == index.0)) t.indexes (built-parts t b).1)) h id

@@ -5,6 +5,7 @@ use Rattle.std.specs.List.{AllByRecursion, IsDistinct, list_all, list_any}
 use Rattle.std.proofs.lemmas.Bool.Decides.{nat_tests}
 use Rattle.std.proofs.lemmas.List.{length-map}
 use Rattle.std.proofs.lemmas.Map.Steps.{length-le_from_distinct_below}
+use Rattle.std.proofs.lemmas.Bool.{le-leb}
 use Rattle.column_set.specs.declared.columns.Column.{Column}
 use Rattle.column_set.specs.RecordValues.{has_value, is_kept_column, record_size}
 use Rattle.index_derive.specs.declared.rules.IndexRule.{IndexRule}
@@ -26,9 +27,6 @@ use Rattle.engine_versions.specs.EngineState.{EngineState}
 use Rattle.engine_versions.specs.HoldsState.{HoldsState}
 
 -- ---- schemas
-
-le_test : (a b : ℕ) → a ≤ b → nat_le a b ≡ true
-le_test a b h = grind (arith, nat_tests)
 
 -- a sum is a Long
 long_sum : (c : Column) → is_built_sum c ≡ true → is_long_if_sum c ≡ true
@@ -104,7 +102,7 @@ few_numbers numbers distinct fixed = let most = length-le_from_distinct_below (0
     ] refl e
 
 few_sums : (columns : List Column) → list_all is_built_column columns ≡ true → are_distinct (map number_of_column columns) ≡ true → nat_le (length (filter is_sum columns)) 127 ≡ true
-few_sums columns built distinct = le_test (length (filter is_sum columns)) 127 (subst (λ (n : ℕ). n ≤ 127) (length-map (filter is_sum columns) number_of_column) (few_numbers (map number_of_column (filter is_sum columns)) (sums_distinct columns distinct) (sums_fixed columns built)))
+few_sums columns built distinct = le-leb (length (filter is_sum columns)) 127 (subst (λ (n : ℕ). n ≤ 127) (length-map (filter is_sum columns) number_of_column) (few_numbers (map number_of_column (filter is_sum columns)) (sums_distinct columns distinct) (sums_fixed columns built)))
 
 all_joined : (p : IndexRule → Bool) (xs ys : List IndexRule) → list_all p xs ≡ true → list_all p ys ≡ true → list_all p (xs ++ ys) ≡ true
 all_joined p [] ys h g = g
@@ -137,7 +135,7 @@ update_formed state session c None s = refl
 update_formed state session c (Some prepared) s =
     and_both (list_all (stands_in c.schema.columns) prepared.values) (nat_le (record_size prepared.values) 1700)
     (and_left (list_all (stands_in c.schema.columns) prepared.values) (list_all (λ column. not (is_kept_column column) || has_value prepared.values column.id.0) c.schema.columns) s.1)
-    (le_test (record_size prepared.values) 1700 s.0)
+    (le-leb (record_size prepared.values) 1700 s.0)
 
 schema_of_found : (c : OpenCursor) (o : Option Table) → HasSchemaOf c o → IfSome o (λ t. is_well_formed_schema (schema_of t) ≡ true) → is_well_formed_schema c.schema ≡ true
 schema_of_found c None has formed = absurd has

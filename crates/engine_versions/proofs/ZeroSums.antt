@@ -1,11 +1,11 @@
 -- Sums in prepared records: they begin at 0 in a new record and in a copy, and no other column that is set changes them.
-use Rattle.std.proofs.Common.{◌≡◌, ℕ, ◌+◌, ◌≤◌, Bool, true, false, not, ◌&&◌, ◌||◌, cond, List, [], ◌∷◌, map, fold, length, Option, Some, None, refl, sym, ap, subst, ◌∙◌, arith, bytes_eq}
+use Rattle.std.proofs.Common.{◌≡◌, ℕ, ◌+◌, ◌≤◌, Bool, true, false, not, ◌&&◌, ◌||◌, cond, List, [], ◌∷◌, map, fold, length, Option, Some, None, refl, sym, ap, subst, ◌∙◌, bytes_eq}
 use Rattle.std.specs.Prelude.{◌==◌, filter, find, nat_lt, slice_get, sum_by, unwrap_or}
 use Rattle.std.specs.List.{list_all, list_any}
 use Rattle.std.specs.Cmp.{nat_cmp_total, unsigned_tied}
 use Rattle.std.specs.FinMap.Entries.{find-put, find-where_key}
 use Rattle.std.specs.Ordering.{is_eq, nat_cmp}
-use Rattle.std.proofs.lemmas.Bool.Decides.{nat_tests}
+use Rattle.common_lemmas.proofs.Numbers.{unequal_turned}
 use Rattle.jet_base.specs.declared.words.ColType.{ColType}
 use Rattle.jet_base.specs.declared.words.ColType.TheVariants as kind
 use Rattle.column_set.specs.declared.columns.Column.{Column}
@@ -118,9 +118,6 @@ zeros_there columns fields = zeros_have (λ (v : List (List ℕ)). nat_lt 0 (len
 
 -- ---- a copy
 
-turned : (a b : ℕ) → (a == b) ≡ false → (b == a) ≡ false
-turned a b h = grind (arith, nat_tests)
-
 pub none_same : (n : ℕ) (xs : List Column) → list_any (λ other. other == n) (map number_of_column xs) ≡ false → list_all (λ c. not (c.id.0 == n)) xs ≡ true
 none_same n [] h = refl
 none_same n (x ∷ xs) h = and_both _ _ (ap not (or_first (x.id.0 == n) _ h)) (none_same n xs (or_second (x.id.0 == n) _ h))
@@ -144,7 +141,7 @@ own_sums (x ∷ xs) distinct =
         excluded false = refl
 
     more : (c : Column) → not (c.id.0 == x.id.0) ≡ true → (not c.escrow || is_escrow (column_of_id xs c.id.0)) ≡ true → (not c.escrow || is_escrow (column_of_id (x ∷ xs) c.id.0)) ≡ true
-    more c apart h = ap (λ b. not c.escrow || is_escrow (cond b (Some x) (column_of_id xs c.id.0))) (turned c.id.0 x.id.0 (not_true _ apart)) ∙ h
+    more c apart h = ap (λ b. not c.escrow || is_escrow (cond b (Some x) (column_of_id xs c.id.0))) (unequal_turned c.id.0 x.id.0 (not_true _ apart)) ∙ h
 
 among : (q : Column → Bool) (columns : List Column) → list_all (λ c. not c.escrow || q c) columns ≡ true → list_all q (filter is_sum columns) ≡ true
 among q [] h = refl
@@ -246,7 +243,7 @@ apart_from_sums test [] column distinct e plain = refl
 apart_from_sums test (x ∷ xs) column distinct e plain = elim (test x) as (λ b. cond b (Some x) (find test xs) ≡ Some column → list_all (λ c. not c.escrow || not (c.id.0 == column.id.0)) (x ∷ xs) ≡ true) [
   | true ↦ λ g. first (same x column g)
   | false ↦ λ g.
-      and_both _ _ (either (not x.escrow) (not (x.id.0 == column.id.0)) (ap not (turned column.id.0 x.id.0 (not_true _ (passes (λ c. not (c.id.0 == x.id.0)) test xs column others g)))))
+      and_both _ _ (either (not x.escrow) (not (x.id.0 == column.id.0)) (ap not (unequal_turned column.id.0 x.id.0 (not_true _ (passes (λ c. not (c.id.0 == x.id.0)) test xs column others g)))))
       (apart_from_sums test xs column (and_right _ _ distinct) g plain)
 ] e
   where

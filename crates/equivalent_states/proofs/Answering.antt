@@ -24,6 +24,7 @@ use Rattle.cursor_nav.specs.Places.{Pair, least_entry_of}
 use Rattle.cursor_nav.specs.Navigation.{MadeKey, new_cursor, moved, index_set, sought, ranged, count_from}
 use Rattle.cursor_nav.specs.MakingKeys.{begun_key, segment_kind, with_segment}
 use Rattle.common_lemmas.proofs.Found.{of_found}
+use Rattle.common_lemmas.proofs.Lists.{all_weaker}
 use Rattle.database_state.specs.Refusals.{Refusals, first_refusal}
 use Rattle.database_state.specs.Table.{Rows, Table, index_entries, primary_order, primary_rule, record_in, row_at, rows_of, schema_of, table_named, table_with_id, rule_with_id}
 use Rattle.database_state.specs.SchemaSteps.{table_step, deleted_table_step, column_step, deleted_column_step, index_step, deleted_index_step}
@@ -279,17 +280,13 @@ flat_alike : {X Y : Type 0} (f g : X → List Y) (xs : List X) → AllByRecursio
 flat_alike f g [] h = refl
 flat_alike f g (x ∷ xs) h = λ i. h.0 i ++ flat_alike f g xs h.1 i
 
-all_of_those : {X : Type 0} (P Q : X → Type 0) → ((x : X) → P x → Q x) → (xs : List X) → AllByRecursion P xs → AllByRecursion Q xs
-all_of_those P Q f [] h = tt
-all_of_those P Q f (x ∷ xs) h = (f x h.0, all_of_those P Q f xs h.1)
-
 put_alike : (state : DatabaseState) (past : List PastChange) → SamePast state past → read_no_sums state.tables ≡ true → (session id : ℕ) (table : Table) → table_with_id state.tables id ≡ Some table → (rows : Rows) (own : Option (List ℕ)) (values : RecordFields)
     → put_refusals state session id (schema_of table) rows own values ≡ put_refusals (with_past state past) session id (schema_of table) rows own values
 unfolding put_refusals
 put_alike state past e none session id table found rows own values =
     ap (λ refusals. null_refusals (schema_of table) values ++ refusals)
     (flat_alike (of_rule state) (of_rule (with_past state past)) (filter is_unique (schema_of table).indexes)
-    (all_of_those (λ rule. reads_no_sum table rule ≡ true) (λ rule. of_rule state rule ≡ of_rule (with_past state past) rule)
+    (all_weaker (λ rule. reads_no_sum table rule ≡ true) (λ rule. of_rule state rule ≡ of_rule (with_past state past) rule)
     (λ rule plain. λ i. (list_any (λ key. key_conflict_alike state past e session id table found rule plain key i) (new_keys rule (schema_of table) (replaced_record rows own) values), jet.WriteConflict)
     ∷ (list_any (is_taken (schema_of table) rows rule own) (key_list rule (schema_of table) values), jet.KeyDuplicate) ∷ [])
     (filter is_unique (schema_of table).indexes) (unique_reads state.tables id table none found)))
@@ -441,5 +438,5 @@ agrees_alike state past e session local h = record {
   begun = h.begun;
   tables = h.tables;
   schemas = h.schemas;
-  prepared = all_of_those (λ c. IsStorable state session c c.prepared) (λ c. IsStorable (with_past state past) session c c.prepared) (λ c. storable_alike state past e session c c.prepared) local.cursors h.prepared;
+  prepared = all_weaker (λ c. IsStorable state session c c.prepared) (λ c. IsStorable (with_past state past) session c c.prepared) (λ c. storable_alike state past e session c c.prepared) local.cursors h.prepared;
 }

@@ -1,8 +1,8 @@
 -- The keys of an index that reads no sum, in the records of sums whose sums are forgotten.
-use Rattle.std.proofs.Common.{◌≡◌, ℕ, Bool, true, false, ◌&&◌, ◌||◌, cond, List, [], ◌∷◌, Option, Some, None, refl, sym, ap, ◌∙◌, arith}
+use Rattle.std.proofs.Common.{◌≡◌, ℕ, Bool, true, false, ◌&&◌, ◌||◌, cond, List, [], ◌∷◌, Option, Some, None, refl, sym, ap, ◌∙◌}
 use Rattle.std.specs.Prelude.{◌==◌, filter, fold, option_map, unwrap_or}
 use Rattle.std.specs.List.{AllByRecursion, list_any}
-use Rattle.std.proofs.lemmas.Bool.Decides.{nat_tests}
+use Rattle.common_lemmas.proofs.Numbers.{unequal_turned}
 use Rattle.column_set.specs.declared.columns.Column.{Column}
 use Rattle.column_set.specs.RecordValues.{RecordFields, values_of, with_values}
 use Rattle.index_derive.specs.declared.rules.IndexRule.{IndexRule}
@@ -22,9 +22,6 @@ use Rattle.equivalent_states.proofs.Reading.{SamePast, concurrent_alike, with_pa
 
 -- ---- the values of columns that are no sums
 
-turned : (a b : ℕ) → (a == b) ≡ false → (b == a) ≡ false
-turned a b e = grind (arith, nat_tests)
-
 values_stay : (columns : List Column) (values : RecordFields) (id : ℕ) → is_sum_number columns id ≡ false → values_of (without_sums columns values) id ≡ values_of values id
 values_stay [] values id none = refl
 values_stay (c ∷ columns) values id none = by (λ v. values_stay columns v id (or_second (c.escrow && (c.id.0 == id)) (is_sum_number columns id) none)) c.escrow refl
@@ -32,7 +29,7 @@ values_stay (c ∷ columns) values id none = by (λ v. values_stay columns v id 
     by : ((v : RecordFields) → values_of (without_sums columns v) id ≡ values_of v id) → (b : Bool) → c.escrow ≡ b → values_of (fold (λ left column. with_values left column.id.0 []) values (cond b (c ∷ filter (λ c. c.escrow) columns) (filter (λ c. c.escrow) columns))) id ≡ values_of values id
     by rest true e =
         rest (with_values values c.id.0 [])
-        ∙ ap (λ found. unwrap_or found []) (other_values values c.id.0 id (turned c.id.0 id (and_second c.escrow (c.id.0 == id) e (or_first (c.escrow && (c.id.0 == id)) (is_sum_number columns id) none))))
+        ∙ ap (λ found. unwrap_or found []) (other_values values c.id.0 id (unequal_turned c.id.0 id (and_second c.escrow (c.id.0 == id) e (or_first (c.escrow && (c.id.0 == id)) (is_sum_number columns id) none))))
     by rest false e = rest values
 
 same_columns : (schema : Schema) (columns : List Column) (values : RecordFields) (ids : List ℕ) → list_any (is_sum_number columns) ids ≡ false → AllByRecursion (SameAt schema schema (without_sums columns values) values) ids

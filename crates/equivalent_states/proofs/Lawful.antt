@@ -2,6 +2,7 @@
 use Rattle.std.proofs.Common.{◌≡◌, ℕ, ◌+◌, Bool, true, false, not, ◌&&◌, ◌||◌, cond, List, [], ◌∷◌, Option, Some, None, refl, sym, ap, subst, ◌∙◌}
 use Rattle.std.specs.Prelude.{◌==◌, nat_lt, nat_le, filter, is_none, unwrap_or}
 use Rattle.std.specs.List.{AllByRecursion, list_all}
+use Rattle.common_lemmas.proofs.Lists.{all_weaker}
 use Rattle.jet_base.specs.declared.replies.Jet.TheVariants as jet
 use Rattle.column_set.specs.declared.changes.Change.{Change}
 use Rattle.column_set.specs.declared.changes.Change.TheVariants.{Put, Drop, Hold, Add}
@@ -75,15 +76,11 @@ all_alike : {X : Type 0} (p q : X → Bool) (xs : List X) → AllByRecursion (λ
 all_alike p q [] h = refl
 all_alike p q (x ∷ xs) h = λ i. h.0 i && all_alike p q xs h.1 i
 
-all_from : {X : Type 0} (P Q : X → Type 0) → ((x : X) → P x → Q x) → (xs : List X) → AllByRecursion P xs → AllByRecursion Q xs
-all_from P Q f [] h = tt
-all_from P Q f (x ∷ xs) h = (f x h.0, all_from P Q f xs h.1)
-
 free_alike : (state : DatabaseState) (past : List PastChange) → SamePast state past → (session : ℕ) (table : Table) → table_with_id state.tables table.id ≡ Some table → read_no_sums state.tables ≡ true
     → (rows : Rows) (bookmark : List ℕ) (values : RecordFields) → has_free_keys state session table.id (schema_of table) rows bookmark values ≡ has_free_keys (with_past state past) session table.id (schema_of table) rows bookmark values
 free_alike state past e session table found none rows bookmark values =
     all_alike (free state) (free (with_past state past)) (filter is_unique (schema_of table).indexes)
-    (all_from (λ rule. reads_no_sum table rule ≡ true) (λ rule. free state rule ≡ free (with_past state past) rule)
+    (all_weaker (λ rule. reads_no_sum table rule ≡ true) (λ rule. free state rule ≡ free (with_past state past) rule)
     (λ rule plain. λ i. list_all (λ key. not (key_conflict_alike state past e session table.id table found rule plain key i || is_taken (schema_of table) rows rule (Some bookmark) key)) (new_keys rule (schema_of table) (row_at rows bookmark) values))
     (filter is_unique (schema_of table).indexes) (unique_reads state.tables table.id table none found))
   where

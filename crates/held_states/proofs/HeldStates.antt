@@ -1,8 +1,9 @@
 -- What an engine tells of the states that it holds.
 use Rattle.std.proofs.Common.{◌≡◌, ℕ, true, false, not, List, [], ◌∷◌, Option, Some, None, refl, sym, ap, subst, ◌∙◌}
-use Rattle.std.specs.Prelude.{filter, fold, map, nat_lt, option_map, unwrap_or, IfSome, is_some, T}
+use Rattle.std.specs.Prelude.{filter, fold, map, nat_lt, option_map, unwrap_or, IfSome, is_some}
 use Rattle.std.specs.List.{AllByRecursion}
 use Rattle.std.proofs.lemmas.List.Folds.{fold-map}
+use Rattle.common_lemmas.proofs.Options.{some_apart}
 use Rattle.database_state.specs.Table.{Table}
 use Rattle.database_state.specs.State.{DatabaseState, LiveSession, PastChange, Status, Transaction, uncommitted, committed, undone, change_of, is_undone, transaction_of}
 use Rattle.database_state.specs.Changes.{changed_table}
@@ -85,9 +86,6 @@ same_reader t u begins = λ i item. by item.status i
     by uncommitted = refl
     by (committed number) = ap (λ begin. not (nat_lt begin number)) begins
     by undone = refl
-
-some_apart : {X : Type 0} (x : X) → Some x ≡ None → ⊥
-some_apart x e = subst T (ap is_some e) tt
 
 transaction_same : (one other : List Table) (base last : Records) (xs ys : List PastChange) → IsOnePast one base last xs ys → map without_rows one ≡ map without_rows other → EachTwo IdsRise other → (a b : Option Transaction)
     → option_map without_snapshot a ≡ option_map without_snapshot b → IfSome a (IsKnownIn one base xs) → IfSome b (IsKnownIn other last ys) → a ≡ b

@@ -1,7 +1,8 @@
 -- Lawful entries keep indexes over columns that are there and are no sums.
-use Rattle.std.proofs.Common.{◌≡◌, ℕ, Bool, true, false, not, ◌&&◌, ◌||◌, cond, List, [], ◌∷◌, ◌++◌, Option, Some, None, refl, sym, ap, subst, ◌∙◌}
+use Rattle.std.proofs.Common.{◌≡◌, ℕ, Bool, true, false, not, ◌&&◌, ◌||◌, cond, List, [], ◌∷◌, Option, Some, None, refl, sym, ap, subst, ◌∙◌}
 use Rattle.std.specs.Prelude.{◌==◌, filter, is_none, is_some, map, IfSome}
 use Rattle.std.specs.List.{AllByRecursion, list_all, list_any}
+use Rattle.common_lemmas.proofs.Lists.{all_last}
 use Rattle.column_set.specs.declared.columns.Column.{Column}
 use Rattle.column_set.specs.RecordValues.{column_of_id}
 use Rattle.index_derive.specs.declared.rules.IndexRule.{IndexRule}
@@ -97,10 +98,6 @@ new_ids table (id ∷ ids) h e =
     there : (b : Bool) → not b ≡ false → b ≡ true
     there true g = refl
     there false g = sym g
-
-all_last : {X : Type 0} (p : X → Bool) (xs : List X) (x : X) → list_all p xs ≡ true → p x ≡ true → list_all p (xs ++ x ∷ []) ≡ true
-all_last p [] x h e = and_both (p x) true e refl
-all_last p (y ∷ ys) x h e = and_both (p y) (list_all p (ys ++ x ∷ [])) (and_left (p y) (list_all p ys) h) (all_last p ys x (and_right (p y) (list_all p ys) h) e)
 
 -- ---- schema steps
 

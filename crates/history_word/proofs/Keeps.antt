@@ -2,6 +2,7 @@
 use Rattle.std.proofs.Common.{◌≡◌, ◌≢◌, ◌⊎◌, ℕ, zero, suc, ◌+◌, ◌*◌, ◌%◌, ◌^◌, ◌≤◌, ◌<◌, Bool, true, false, cond, List, [], ◌∷◌, ◌++◌, length, set, refl, ap, sym, ◌∙◌, subst, ⊎_elim, arith, eqb, eq-eqb, eqb-true, ne_eqb, true≢false, ltb, ltb-true, ltb-false, length-set, length-append, append-nil, inl, inr, mod-eq_of_lt, le_trans}
 use Rattle.std.specs.Prelude.{if◌then◌else◌, slice_index, slice_set, filter, not, ◌||◌}
 use Rattle.std.proofs.Math.Nat.{max-le, max-eq_left}
+use Rattle.std.proofs.lemmas.Bool.{or_right}
 use mathlib.Core.Option.{some, some-injective, some-ne-none}
 use mathlib.Core.List.{IsPrefix}
 use lib.ListN.{get_elem?}
@@ -158,10 +159,6 @@ joins n v other w s kept at apart there =
     )
 
 -- ---- the right of a session
-
-or_right : (b c : Bool) → c ≡ true → (b || c) ≡ true
-or_right true c e = refl
-or_right false c e = e
 
 -- `has_right` of what a filter leaves
 filter_head : (f : ℕ → Bool) (x y : ℕ) (ys : List ℕ) (b : Bool) → f y ≡ b → (c : Bool) → eqb y x ≡ c → ((has_right x (filter f ys) ≡ true) → (has_right x ys ≡ true) × (f x ≡ true))

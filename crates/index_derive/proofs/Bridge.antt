@@ -1,10 +1,10 @@
 -- The entries of a record by the walk over its values.
-use Rattle.std.proofs.Common.{◌≡◌, ℕ, ◌+◌, ◌-◌, ◌≤◌, suc, Bool, true, false, ◌||◌, ◌&&◌, not, cond, List, [], ◌∷◌, ◌++◌, length, take, map, filter, refl, sym, ap, ◌∙◌, subst, arith, true≢false, count_by}
+use Rattle.std.proofs.Common.{◌≡◌, ℕ, ◌+◌, ◌-◌, ◌≤◌, suc, Bool, true, false, ◌||◌, ◌&&◌, not, cond, List, [], ◌∷◌, ◌++◌, length, take, map, filter, refl, sym, ap, ◌∙◌, subst, arith, count_by}
 use Rattle.std.specs.Prelude.{Option, Some, None, Result, Ok, Err, IsOk, is_some, fold, nat_le}
 use Rattle.std.specs.List.{list_any}
 use Rattle.std.specs.Result.{IsErrAnd}
 use Rattle.std.proofs.lemmas.List.Recursion.{is_count_by}
-use Rattle.std.proofs.lemmas.Bool.Decides.{nat_tests}
+use Rattle.std.proofs.lemmas.Bool.{and_parts, leb-true}
 use Rattle.column_set.specs.RecordValues.{RecordFields, values_of}
 use Rattle.key_normal.specs.KeyBytes.{key_bytes, cut_key, is_cut}
 use Rattle.index_derive.specs.declared.faults.DeriveFault.{DeriveFault}
@@ -25,22 +25,18 @@ use Rattle.index_derive.proofs.Texts.{text_rows}
 
 -- ---- what a legal rule says
 
-both : (a b : Bool) → (a && b) ≡ true → (a ≡ true) × (b ≡ true)
-both true b h = (refl, h)
-both false b h = absurd (true≢false (sym h))
-
 -- the second and the ninth of ten
 two_of : (a b c d e f g h i j : Bool) → (a && b && c && d && e && f && g && h && i && j) ≡ true → (b ≡ true) × (i ≡ true)
 two_of a b c d e f g h i j t =
-    let t9 = both (a && b && c && d && e && f && g && h && i) j t in
-    let t8 = both (a && b && c && d && e && f && g && h) i t9.0 in
-    let t7 = both (a && b && c && d && e && f && g) h t8.0 in
-    let t6 = both (a && b && c && d && e && f) g t7.0 in
-    let t5 = both (a && b && c && d && e) f t6.0 in
-    let t4 = both (a && b && c && d) e t5.0 in
-    let t3 = both (a && b && c) d t4.0 in
-    let t2 = both (a && b) c t3.0 in
-    ((both a b t2.0).1, t8.1)
+    let t9 = and_parts (a && b && c && d && e && f && g && h && i) j t in
+    let t8 = and_parts (a && b && c && d && e && f && g && h) i t9.0 in
+    let t7 = and_parts (a && b && c && d && e && f && g) h t8.0 in
+    let t6 = and_parts (a && b && c && d && e && f) g t7.0 in
+    let t5 = and_parts (a && b && c && d && e) f t6.0 in
+    let t4 = and_parts (a && b && c && d) e t5.0 in
+    let t3 = and_parts (a && b && c) d t4.0 in
+    let t2 = and_parts (a && b) c t3.0 in
+    ((and_parts a b t2.0).1, t8.1)
 
 legal_parts : (rule : IndexRule) (schema : Schema) → is_legal rule schema ≡ true
     → (nat_le (length rule.segments) 12 ≡ true) × ((not rule.flags.crossproduct || nat_le (count_by (is_multi_column schema) (key_columns rule)) 2) ≡ true)
@@ -53,11 +49,8 @@ legal_parts rule schema h = two_of
     (not rule.flags.crossproduct || nat_le (count_by (is_multi_column schema) (key_columns rule)) 2)
     (not rule.flags.tuples || is_legal_tuples rule schema) h
 
-at_most : (n m : ℕ) → nat_le n m ≡ true → n ≤ m
-at_most n m h = grind (arith, nat_tests)
-
 pub few_columns : (rule : IndexRule) (schema : Schema) → is_legal rule schema ≡ true → length rule.segments ≤ 12
-few_columns rule schema h = at_most (length rule.segments) 12 (legal_parts rule schema h).0
+few_columns rule schema h = leb-true (length rule.segments) 12 (legal_parts rule schema h).0
 
 multis_are : (schema : Schema) (segments : List Segment) → multis (map (planned_column schema) segments) ≡ count_by (λ (segment : Segment). is_multi_column schema segment.column.0) segments
 multis_are schema segments = is_count_by (λ ss. multis (map (planned_column schema) ss)) (λ (segment : Segment). is_multi_column schema segment.column.0) refl (λ x xs. let n = multis (map (planned_column schema) xs) in let e : suc n ≡ 1 + n = omega arith in ap (λ m. cond (is_multi_column schema x.column.0) m n) e) segments
@@ -88,7 +81,7 @@ combinations_are rule schema fields legal =
     → product (lists_of cross fields false parts) ≡ rows_from (λ r k. combination_of parts fields r k) (λ _. cond cross (multi_count (behind_first_multi parts) fields) 1) 0 (multi_count parts fields)) [
       | true ↦ λ few.
           let e = multis_are schema rule.segments ∙ multis_map schema rule.segments in
-          let two : multis parts ≤ 2 = subst (λ n. n ≤ 2) (sym e) (at_most _ 2 few) in
+          let two : multis parts ≤ 2 = subst (λ n. n ≤ 2) (sym e) (leb-true _ 2 few) in
           crossed_rows fields false parts two
       | false ↦ λ _. plain_rows fields parts
     ] (legal_parts rule schema legal).1

@@ -1,5 +1,5 @@
 -- Entries that come and go, and their nodes.
-use Rattle.std.proofs.Common.{◌≡◌, Bool, true, false, not, ◌&&◌, List, [], ◌∷◌, ◌++◌, map, filter, find, Option, Some, None, option_map, Result, Ok, Err, refl, sym, ap, subst, ◌∙◌, true≢false}
+use Rattle.std.proofs.Common.{◌≡◌, Bool, true, false, not, List, [], ◌∷◌, ◌++◌, map, filter, find, Option, Some, None, option_map, Result, Ok, Err, refl, sym, ap, subst, ◌∙◌, true≢false}
 use Rattle.std.specs.Prelude.{All, AllPairs, IsSome, OnErr, OnOk, if◌then◌else◌, is_some}
 use Rattle.std.specs.List.{list_all, list_any}
 use Rattle.std.specs.Cmp.{IsTotalOrder, then_total, on_total}
@@ -9,6 +9,9 @@ use Rattle.std.specs.declared.cmp.Ordering.{Ordering}
 use Rattle.std.specs.declared.cmp.Ordering.TheVariants.{Less, Equal, Greater}
 use Rattle.std.specs.Ordering.{nat_cmp, is_eq, is_lt, is_le, ordering_then, ordering_reverse, on, then_cmp}
 use Rattle.std.specs.Cmp.Lexicographic.{slice_cmp, nat_list_cmp_total}
+use Rattle.std.proofs.lemmas.Bool.{and_from}
+use Rattle.common_lemmas.proofs.Booleans.{and_left, and_right}
+use Rattle.common_lemmas.proofs.Orders.{is_less}
 use Rattle.page_image.specs.Page.{Node}
 use Rattle.btree_inplace.specs.Changes.{inserted, inserted_if_absent, without_key}
 use Rattle.btree_inplace.specs.Order.{has_key}
@@ -37,11 +40,6 @@ pair_cmp = then_cmp (on (λ p. p.0) (slice_cmp nat_cmp)) (on (λ p. p.1) (slice_
 pair_total : IsTotalOrder pair_cmp
 unfolding pair_cmp
 pair_total = then_total (on_total (λ p. p.0) nat_list_cmp_total) (on_total (λ p. p.1) nat_list_cmp_total)
-
-is_less : (r : Ordering) → is_lt r ≡ true → r ≡ Less
-is_less Less h = refl
-is_less Equal h = absurd (true≢false (sym h))
-is_less Greater h = absurd (true≢false (sym h))
 
 pairs_rise : (a b c : Pair) → pair_lt a b ≡ true → pair_lt b c ≡ true → pair_lt a c ≡ true
 unfolding pair_cmp
@@ -130,17 +128,6 @@ insert_apart e (x ∷ es) h k =
     AllPairs-cons Apart x (insert_entry e es) first (insert_apart e es (All-tail (λ (y : Pair). IsApart e.0 y.0) x es h) (pairs_tail Apart x es k)) in
     rw t whole)
 
-and_left : (a b : Bool) → (a && b) ≡ true → a ≡ true
-and_left true b h = refl
-and_left false b h = h
-
-and_right : (a b : Bool) → (a && b) ≡ true → b ≡ true
-and_right true b h = h
-and_right false b h = absurd (true≢false (sym h))
-
-both_true : (a b : Bool) → a ≡ true → b ≡ true → (a && b) ≡ true
-both_true a b h k = rw h k
-
 lower_all : (e x : Pair) (es : List Pair) → pair_lt e x ≡ true → list_all (pair_lt x) es ≡ true → list_all (pair_lt e) es ≡ true
 lower_all e x es h k =
     to_all (pair_lt e) es (All-weaker (λ y. pair_lt x y ≡ true) (λ y. pair_lt e y ≡ true) (λ y l. pairs_rise e x y h l) es (all_from (pair_lt x) es k))
@@ -157,11 +144,11 @@ insert_sorted e (x ∷ es) n h =
     (λ t.
     let low : pair_lt e x ≡ true = lower_not_same e x t other in
     let whole : are_sorted (e ∷ x ∷ es) ≡ true =
-    both_true (list_all (pair_lt e) (x ∷ es)) (are_sorted (x ∷ es)) (both_true (pair_lt e x) (list_all (pair_lt e) es) low (lower_all e x es low above)) h in
+    and_from (list_all (pair_lt e) (x ∷ es)) (are_sorted (x ∷ es)) (and_from (pair_lt e x) (list_all (pair_lt e) es) low (lower_all e x es low above)) h in
     rw t whole)
     (λ t.
     let whole : are_sorted (x ∷ insert_entry e es) ≡ true =
-    both_true (list_all (pair_lt x) (insert_entry e es)) (are_sorted (insert_entry e es))
+    and_from (list_all (pair_lt x) (insert_entry e es)) (are_sorted (insert_entry e es))
     (to_all (pair_lt x) (insert_entry e es) (insert_all (λ y. pair_lt x y ≡ true) e es (lower_turned e x t) (all_from (pair_lt x) es above)))
     (insert_sorted e es rest sorted) in
     rw t whole)
@@ -281,7 +268,7 @@ filter_sorted p (x ∷ es) h =
     by_test (p x)
     (λ t.
     let whole : are_sorted (x ∷ filter p es) ≡ true =
-    both_true (list_all (pair_lt x) (filter p es)) (are_sorted (filter p es))
+    and_from (list_all (pair_lt x) (filter p es)) (are_sorted (filter p es))
     (to_all (pair_lt x) (filter p es) (All-filter p (λ y. pair_lt x y ≡ true) es (all_from (pair_lt x) es above))) rest in
     rw t whole)
     (λ t. rw t rest)

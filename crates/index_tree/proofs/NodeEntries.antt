@@ -2,7 +2,7 @@
 use Rattle.std.proofs.Common.{◌≡◌, ℕ, ◌≤◌, Bool, true, false, ◌&&◌, nat_eq, List, [], ◌∷◌, ◌++◌, length, take, drop, reverse, map, filter, find, Option, Some, None, option_map, refl, sym, ap, subst, ◌∙◌, true≢false, bytes_eq, arith}
 use Rattle.std.specs.Prelude.{All}
 use Rattle.std.specs.List.{last_or}
-use Rattle.std.proofs.lemmas.Bool.{eqb-false, eqb-true}
+use Rattle.std.proofs.lemmas.Bool.{and_parts, eqb-false, eqb-true}
 use Rattle.std.proofs.lemmas.Slice.Eq.{bytes_eq-Decides}
 use Rattle.std.proofs.lemmas.List.{append-nil}
 use Rattle.std.proofs.lemmas.List.Elements.{All-head, All-tail, All-weaker}
@@ -108,14 +108,9 @@ same_cut a b s t le e =
 has_node : List ℕ → Pair → Bool
 has_node key x = is_eq (order (x.0 ++ x.1) key)
 
-and_both : (a b : Bool) → (a && b) ≡ true → (a ≡ true) × (b ≡ true)
-and_both true true h = (refl, refl)
-and_both true false h = absurd (true≢false (sym h))
-and_both false b h = absurd (true≢false (sym h))
-
 pub same_pair : (k c : List ℕ) (x : Pair) → is_same (k, c) x ≡ true → (x.0 ≡ k) × (x.1 ≡ c)
 same_pair k c x h =
-    let both = and_both (bytes_eq x.0 k) (bytes_eq x.1 c) h in
+    let both = and_parts (bytes_eq x.0 k) (bytes_eq x.1 c) h in
     (same_bytes x.0 k both.0, same_bytes x.1 c both.1)
 
 node_of_pair : (k c : List ℕ) (x : Pair) → is_same (k, c) x ≡ true → has_node (k ++ c) x ≡ true

@@ -8,22 +8,18 @@ use Rattle.std.specs.declared.cmp.Ordering.{Ordering}
 use Rattle.std.specs.declared.cmp.Ordering.TheVariants.{Less, Equal, Greater}
 use Rattle.std.specs.Ordering.{nat_cmp, is_eq, is_lt, is_le, ordering_then, ordering_reverse}
 use Rattle.std.specs.Cmp.Lexicographic.{texts_ties}
+use Rattle.common_lemmas.proofs.Orders.{less_then}
 use Rattle.column_set.specs.RecordValues.{bytes_le, bytes_lt}
 use Rattle.index_derive.specs.declared.entries.Place.TheVariants.{On, Gap}
 use Rattle.cursor_nav.specs.Places.{Pair, is_beyond, is_short_of, pair_lt}
 use Rattle.index_tree.specs.Entries.{IsApart, IsShort, gap_bookmark}
 use Rattle.index_tree.proofs.Bytes.{order, order_of_pairs, turned}
 
-then_lower : (r q : Ordering) → (is_lt r || (is_eq r && is_lt q)) ≡ is_lt (ordering_then r q)
-then_lower Less q = refl
-then_lower Equal q = refl
-then_lower Greater q = refl
-
 -- one entry is below another by its key, and then by its bookmark
 pub pair_lower : (a b : Pair) → pair_lt a b ≡ is_lt (ordering_then (order a.0 b.0) (order a.1 b.1))
 pair_lower a b =
     ap (λ e. bytes_lt a.0 b.0 || (e && bytes_lt a.1 b.1)) (texts_ties a.0 b.0)
-    ∙ then_lower (order a.0 b.0) (order a.1 b.1)
+    ∙ less_then (order a.0 b.0) (order a.1 b.1)
 
 then_same : (r q : Ordering) → (is_eq r && is_eq q) ≡ is_eq (ordering_then r q)
 then_same Less q = refl

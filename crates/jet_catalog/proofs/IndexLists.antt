@@ -5,6 +5,7 @@ use Rattle.std.specs.List.{list_any}
 use Rattle.std.specs.Option.{option_or}
 use Rattle.std.proofs.lemmas.List.{at_drop_more}
 use Rattle.std.proofs.lemmas.List.Folds.{list_any-append, find-append}
+use Rattle.common_lemmas.proofs.Booleans.{or_swap}
 use Rattle.index_derive.specs.declared.rules.IndexRule.{IndexRule}
 use Rattle.index_derive.specs.Entries.{key_columns, condition_columns}
 use Rattle.database_state.specs.Table.{primary_first}
@@ -21,15 +22,6 @@ list_any-rule_columns p rule =
     let conditions = list_any-map p (λ c. c.column.0) rule.conditions in
     list_any-append p (key_columns rule) (condition_columns rule) ∙ rw (segments, conditions)
 
-or_false : (b : Bool) → (b || false) ≡ b
-or_false true = refl
-or_false false = refl
-
-or_inside : (a b c : Bool) → (a || (b || c)) ≡ (b || (a || c))
-or_inside true true c = refl
-or_inside true false c = refl
-or_inside false b c = refl
-
 -- whether an index passes does not depend on their order
 pub list_any-primary_first : (p : IndexRule → Bool) (rules : List IndexRule) → list_any p (primary_first rules) ≡ list_any p rules
 list_any-primary_first p [] = refl
@@ -40,7 +32,7 @@ list_any-primary_first p (rule ∷ rules) = at rule.flags.primary (list_any-prim
     at true same = ap (λ rest. p rule || rest) same
     at false same =
         list_any-append p (filter (λ r. r.flags.primary) rules) (rule ∷ filter (λ r. not r.flags.primary) rules)
-        ∙ or_inside _ (p rule) _
+        ∙ or_swap _ (p rule) _
         ∙ ap (λ rest. p rule || rest) (sym (list_any-append p (filter (λ r. r.flags.primary) rules) (filter (λ r. not r.flags.primary) rules)) ∙ same)
 
 module _ {X : Type 0} (p : X → Bool) where

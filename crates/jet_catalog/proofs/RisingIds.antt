@@ -1,9 +1,10 @@
 -- Tables whose ids rise: they stay so under every step, and the place of an id is the only one with it.
 use Rattle.std.proofs.Common.{◌≡◌, ℕ, zero, suc, ◌<◌, ◌≤◌, Bool, true, false, cond, List, [], ◌∷◌, ◌++◌, length, get_or, Some, None, refl, sym, ap, ◌∙◌, arith}
 use Rattle.std.proofs.Math.ListN.{set}
-use Rattle.std.specs.Prelude.{◌==◌, ◌+◌, not, nat_lt, nat_le, filter}
+use Rattle.std.specs.Prelude.{◌==◌, ◌+◌, not, nat_lt, filter}
 use Rattle.std.specs.List.{position, position_or_len}
 use Rattle.std.proofs.lemmas.Bool.Decides.{nat_tests}
+use Rattle.std.proofs.lemmas.Bool.{le-leb, leb-true}
 use Rattle.database_state.specs.Table.{Table, with_table}
 use Rattle.jet_catalog.specs.Catalog.{ids_rise}
 use Rattle.jet_catalog.proofs.Passed.{and_left, and_right, and_both}
@@ -14,26 +15,20 @@ lt_true a b h = grind (arith, nat_tests)
 pub lt_from_true : (a b : ℕ) → nat_lt a b ≡ true → a < b
 lt_from_true a b h = grind (arith, nat_tests)
 
-le_true : (a b : ℕ) → a ≤ b → nat_le a b ≡ true
-le_true a b h = grind (arith, nat_tests)
-
-le_from_true : (a b : ℕ) → nat_le a b ≡ true → a ≤ b
-le_from_true a b h = grind (arith, nat_tests)
-
 pub above : (a b : ℕ) → a < b → (b == a) ≡ false
 above a b h = grind (arith, nat_tests)
 
 pub ids_rise-append : (low high id : ℕ) (tables : List Table) (table : Table) → high < id → table.id ≡ id → ids_rise low high tables ≡ true → ids_rise low id (tables ++ table ∷ []) ≡ true
 ids_rise-append low high id [] table lt e rise =
-    let le : low ≤ high = le_from_true low high rise in
-    and_both _ _ (lt_true low table.id (omega arith)) (le_true table.id id (omega arith))
+    let le : low ≤ high = leb-true low high rise in
+    and_both _ _ (lt_true low table.id (omega arith)) (le-leb table.id id (omega arith))
 ids_rise-append low high id (t ∷ tables) table lt e rise =
     and_both _ _ (and_left _ _ rise) (ids_rise-append t.id high id tables table lt e (and_right _ _ rise))
 
 ids_rise-lower : (low from high : ℕ) (tables : List Table) → low ≤ from → ids_rise from high tables ≡ true → ids_rise low high tables ≡ true
 ids_rise-lower low from high [] le rise =
-    let below : from ≤ high = le_from_true from high rise in
-    le_true low high (omega arith)
+    let below : from ≤ high = leb-true from high rise in
+    le-leb low high (omega arith)
 ids_rise-lower low from high (t ∷ tables) le rise =
     let below : from < t.id = lt_from_true from t.id (and_left _ _ rise) in
     and_both _ _ (lt_true low t.id (omega arith)) (and_right _ _ rise)

@@ -29,6 +29,7 @@ use Rattle.session_local.specs.RecordCalls.{bookmark_at, conflict_refusals, curr
 use Rattle.lawful_answers.specs.LawfulSteps.{AreLawful, IsReached, HasLawfulStep, begin_of}
 use Rattle.lawful_answers.proofs.Alone.{alone_lawful, conflict_after, one_level, view_after}
 use Rattle.common_lemmas.proofs.Found.{of_found}
+use Rattle.common_lemmas.proofs.Options.{some_there}
 use Rattle.lawful_answers.proofs.Refusals.{at_found, past, when_begun}
 use Rattle.lawful_answers.proofs.SessionSteps.{below}
 
@@ -98,10 +99,6 @@ seen_lawful asked c at change as_seen same of_table reads seen =
     ∙ ap (λ k. is_some (row_at (rows_of (table_with_id (view asked.state asked.session) k)) (bookmark_at c))) (id_of asked.state.tables c.cursor.table at.table at.found)
     ∙ seen
 
-there : {X : Type 0} (o : Option X) → is_none o ≡ false → is_some o ≡ true
-there None e = sym e
-there (Some x) e = refl
-
 seen_change : HasOneEntry → KeysRise → (base : Records) (dropped kept : List PastChange) (asked : Asked) (label : ℕ) (c : OpenCursor) (change : Change) → IsReached base dropped kept asked.state → Agrees asked.state asked.session asked.local → asked.local.begun ≡ true
     → cursor_labelled asked.local label ≡ Some c → changed_table change ≡ c.cursor.table
     → ((state : DatabaseState) (table : Table) (rows : Rows) → is_lawful_in state asked.session table rows change ≡ is_some (row_at rows (bookmark_at c)))
@@ -111,8 +108,8 @@ seen_change one rise base dropped kept asked label c change reached agrees begun
     let live : is_live asked.state asked.session ≡ true = sym agrees.begun ∙ begun in
     let at = at_its_table asked label c agrees e in
     changes_lawful one rise base dropped kept asked change reached live few free
-    (λ inside. seen_lawful asked c at change asked.state refl of_table reads (there (row_at (rows_seen asked c) (bookmark_at c)) seen))
-    (λ out. seen_lawful asked c at change (state_after asked.state (begin_of asked.session)) (view_after base dropped kept asked.state asked.session reached.history live out) of_table reads (there (row_at (rows_seen asked c) (bookmark_at c)) seen))
+    (λ inside. seen_lawful asked c at change asked.state refl of_table reads (some_there (row_at (rows_seen asked c) (bookmark_at c)) seen))
+    (λ out. seen_lawful asked c at change (state_after asked.state (begin_of asked.session)) (view_after base dropped kept asked.state asked.session reached.history live out) of_table reads (some_there (row_at (rows_seen asked c) (bookmark_at c)) seen))
 
 pub deletes : HasOneEntry → KeysRise → (base : Records) (dropped kept : List PastChange) (asked : Asked) (cursor : CursorId) → IsReached base dropped kept asked.state → Agrees asked.state asked.session asked.local
     → HasLawfulStep asked.state (answer asked (call.Delete cursor))

@@ -3,6 +3,8 @@ use Rattle.std.proofs.Common.{◌≡◌, ℕ, ◌+◌, Bool, true, false, not, �
 use Rattle.std.specs.Prelude.{◌==◌, nat_le, max}
 use Rattle.std.specs.List.{list_all, list_any}
 use Rattle.std.proofs.lemmas.Bool.Decides.{nat_tests}
+use Rattle.std.proofs.lemmas.Bool.{not-true, or_from}
+use Rattle.common_lemmas.proofs.Numbers.{unequal_turned}
 use Rattle.column_set.specs.declared.columns.Column.{Column}
 use Rattle.database_state.specs.Table.{GreatestColumns, Table}
 use Rattle.database_state.specs.SchemaChanges.{is_long_type, is_variable_type, with_column_id, columns_with, with_column, next_column_id, has_column_id}
@@ -152,19 +154,13 @@ own greatest columns = are_in_range greatest && list_all (is_given_number greate
 abbrev IsNextOf : GreatestColumns → ℕ → GreatestColumns → Type 0
 IsNextOf g n g' = IsNext g.fixed g.variable g.tagged n g'.fixed g'.variable g'.tagged
 
-turned : (m n : ℕ) → (m == n) ≡ false → (n == m) ≡ false
-turned m n e = grind (arith, nat_tests)
-
-or_none : (a b : Bool) → a ≡ false → b ≡ false → (a || b) ≡ false
-or_none a b h g = rw (h, g) refl
-
 none_with : (number : ℕ) (column : Column) (columns : List Column) → list_any (λ l. l == number) (map number_of_column columns) ≡ false → (column.id.0 == number) ≡ false
     → list_any (λ l. l == number) (map number_of_column (columns_with column columns)) ≡ false
-none_with number column [] none apart = or_none (column.id.0 == number) false apart refl
+none_with number column [] none apart = or_from (column.id.0 == number) false apart refl
 none_with number column (c ∷ columns) none apart =
     elim (are_behind column (c ∷ columns)) as (λ b. list_any (λ l. l == number) (map number_of_column (cond b (column ∷ c ∷ columns) (c ∷ columns_with column columns))) ≡ false) [
-      | true ↦ or_none (column.id.0 == number) (list_any (λ l. l == number) (map number_of_column (c ∷ columns))) apart none
-      | false ↦ or_none (c.id.0 == number) (list_any (λ l. l == number) (map number_of_column (columns_with column columns))) (first (c.id.0 == number) none)
+      | true ↦ or_from (column.id.0 == number) (list_any (λ l. l == number) (map number_of_column (c ∷ columns))) apart none
+      | false ↦ or_from (c.id.0 == number) (list_any (λ l. l == number) (map number_of_column (columns_with column columns))) (first (c.id.0 == number) none)
           (none_with number column columns (later (c.id.0 == number) none) apart)
     ]
   where
@@ -176,15 +172,11 @@ none_with number column (c ∷ columns) none apart =
     later true h = cc
     later false h = h
 
-denied : (b : Bool) → not b ≡ true → b ≡ false
-denied false e = refl
-denied true e = cc
-
 -- none has a number that all are apart from
 none_apart : (number : ℕ) (numbers : List ℕ) → list_all (λ n. not (n == number)) numbers ≡ true → list_any (λ n. n == number) numbers ≡ false
 none_apart number [] apart = refl
 none_apart number (n ∷ numbers) apart =
-    or_none (n == number) (list_any (λ n. n == number) numbers) (denied (n == number) (and_left (not (n == number)) (list_all (λ n. not (n == number)) numbers) apart))
+    or_from (n == number) (list_any (λ n. n == number) numbers) (not-true (n == number) (and_left (not (n == number)) (list_all (λ n. not (n == number)) numbers) apart))
     (none_apart number numbers (and_right (not (n == number)) (list_all (λ n. not (n == number)) numbers) apart))
 
 distinct_with : (column : Column) (columns : List Column) → are_distinct (map number_of_column columns) ≡ true → list_all (λ n. not (n == column.id.0)) (map number_of_column columns) ≡ true
@@ -192,12 +184,12 @@ distinct_with : (column : Column) (columns : List Column) → are_distinct (map 
 distinct_with column [] distinct apart = refl
 distinct_with column (c ∷ columns) distinct apart =
     let any = list_any (λ other. other == c.id.0) (map number_of_column columns) in
-    let off : (column.id.0 == c.id.0) ≡ false = turned c.id.0 column.id.0 (denied (c.id.0 == column.id.0) (and_left (not (c.id.0 == column.id.0)) (list_all (λ n. not (n == column.id.0)) (map number_of_column columns)) apart)) in
+    let off : (column.id.0 == c.id.0) ≡ false = unequal_turned c.id.0 column.id.0 (not-true (c.id.0 == column.id.0) (and_left (not (c.id.0 == column.id.0)) (list_all (λ n. not (n == column.id.0)) (map number_of_column columns)) apart)) in
     elim (are_behind column (c ∷ columns)) as (λ b. are_distinct (map number_of_column (cond b (column ∷ c ∷ columns) (c ∷ columns_with column columns))) ≡ true) [
       | true ↦ and_both (not (list_any (λ other. other == column.id.0) (map number_of_column (c ∷ columns)))) (are_distinct (map number_of_column (c ∷ columns)))
           (ap not (none_apart column.id.0 (map number_of_column (c ∷ columns)) apart)) distinct
       | false ↦ and_both (not (list_any (λ other. other == c.id.0) (map number_of_column (columns_with column columns)))) (are_distinct (map number_of_column (columns_with column columns)))
-          (ap not (none_with c.id.0 column columns (denied any (and_left (not any) (are_distinct (map number_of_column columns)) distinct)) off))
+          (ap not (none_with c.id.0 column columns (not-true any (and_left (not any) (are_distinct (map number_of_column columns)) distinct)) off))
           (distinct_with column columns (and_right (not any) (are_distinct (map number_of_column columns)) distinct) (and_right (not (c.id.0 == column.id.0)) (list_all (λ n. not (n == column.id.0)) (map number_of_column columns)) apart))
     ]
 

@@ -29,6 +29,7 @@ use Rattle.version_records.specs.EachRecord.{HasBoth}
 use Rattle.version_records.proofs.EachRecord.{AtChange}
 use Rattle.version_records.proofs.EntryNumbers.{entry_number-later}
 use Rattle.common_lemmas.proofs.Found.{found_passes, of_found}
+use Rattle.common_lemmas.proofs.Options.{none_there}
 use Rattle.version_records.proofs.PrimaryKeys.{AreUnrefused, each_null, primary_listed}
 use Rattle.version_records.proofs.Standing.{bookmarks_seen}
 use Rattle.session_local.specs.Local.{OpenCursor, PreparedFor, inserting, replacing}
@@ -52,10 +53,6 @@ not_any p key (x ∷ keys) h k = elim (bytes_eq key x) as (λ b. bytes_eq key x 
   | true ↦ λ e g. ap p (same_bytes key x e) ∙ or_first (p x) _ k
   | false ↦ λ e g. not_any p key keys g (or_second (p x) _ k)
 ] refl h
-
-none_there : {X : Type 0} (o : Option X) → is_some o ≡ false → o ≡ None
-none_there None e = refl
-none_there (Some x) e = impossible (sym e)
 
 abbrev pub AreFound : Schema → Type 0
 AreFound schema = AllByRecursion (λ rule. (rule_with_id schema rule.id.0 ≡ Some rule) × (rule.flags.primary ≡ true → is_legal rule schema ≡ true)) schema.indexes

@@ -1,7 +1,9 @@
 -- The step of a sum of an escrow column.
 use Rattle.std.proofs.Common.{◌≡◌, ℕ, Bool, true, false, not, ◌&&◌, ◌||◌, cond, List, [], ◌∷◌, ◌++◌, Option, Some, None, refl, sym, ap, subst, ◌∙◌, bytes_eq}
-use Rattle.std.specs.Prelude.{ℤ, ◌==◌, is_none, is_some, map, IfSome}
+use Rattle.std.specs.Prelude.{ℤ, ◌==◌, is_some, map, IfSome}
 use Rattle.std.specs.List.{list_all, list_any}
+use Rattle.std.proofs.lemmas.Bool.{not-false}
+use Rattle.common_lemmas.proofs.Options.{some_there}
 use Rattle.jet_base.specs.declared.ids.CursorId.{CursorId}
 use Rattle.jet_base.specs.declared.replies.Jet.TheVariants as jet
 use Rattle.column_set.specs.declared.changes.Change.{Change}
@@ -78,14 +80,6 @@ numbers_apart tables id table own found =
 
 -- ---- the step
 
-there : {X : Type 0} (o : Option X) → is_none o ≡ false → is_some o ≡ true
-there None e = sym e
-there (Some x) e = refl
-
-is_on : (b : Bool) → not b ≡ false → b ≡ true
-is_on true e = refl
-is_on false e = impossible (sym e)
-
 sum_lawful : (asked : Asked) (c : OpenCursor) (at : IsAtTable asked c) (name : List ℕ) (column : Column) (amount : ℤ) → are_distinct (map number_of_column at.table.columns) ≡ true → column_named c.schema.columns name ≡ Some column → column.escrow ≡ true
     → is_some (row_at (rows_seen asked c) (bookmark_at c)) ≡ true → IsLawfulAtTable asked.state asked.state asked.session (Add (record { 0 = c.cursor.table }) (bookmark_at c) column.id amount)
 sum_lawful asked c at name column amount apart named escrow seen =
@@ -106,8 +100,8 @@ sums one rise base dropped kept asked cursor name amount reached agrees = when_b
           let at = at_its_table asked cursor.0 c agrees e in
           past asked ((not column.escrow, jet.InvalidColumnType) ∷ own_refusals asked c ++ conflict_refusals asked sum ++ number_refusals asked ++ span_refusals asked sum) _ (λ s.
           changes_lawful one rise base dropped kept asked sum reached (sym agrees.begun ∙ begun) s.1.1.1.0 s.1.1.0
-          (λ inside. sum_lawful asked c at name column amount (numbers_apart asked.state.tables c.cursor.table at.table reached.columns at.found) f (is_on column.escrow s.0)
-          (there (row_at (rows_seen asked c) (bookmark_at c)) r.1.1.0))
+          (λ inside. sum_lawful asked c at name column amount (numbers_apart asked.state.tables c.cursor.table at.table reached.columns at.found) f (not-false column.escrow s.0)
+          (some_there (row_at (rows_seen asked c) (bookmark_at c)) r.1.1.0))
           (λ outside. impossible (sym r.0 ∙ outside)))
     ] refl)))
     (λ e. tt)

@@ -1,8 +1,8 @@
 -- The step of an update is lawful.
-use Rattle.std.proofs.Common.{◌≡◌, ℕ, ◌+◌, ◌≤◌, Bool, true, false, not, ◌&&◌, ◌||◌, List, ◌∷◌, ◌++◌, Option, Some, None, refl, sym, ap, subst, ◌∙◌, arith, bytes_eq}
+use Rattle.std.proofs.Common.{◌≡◌, ℕ, ◌+◌, Bool, true, false, not, ◌&&◌, ◌||◌, List, ◌∷◌, ◌++◌, Option, Some, None, refl, sym, ap, subst, ◌∙◌, arith, bytes_eq}
 use Rattle.std.specs.Prelude.{◌==◌, filter, if◌then◌else◌, is_some, nat_le, IfSome}
 use Rattle.std.specs.List.{AllByRecursion}
-use Rattle.std.proofs.lemmas.Bool.Decides.{nat_tests}
+use Rattle.std.proofs.lemmas.Bool.{le-leb}
 use Rattle.jet_base.specs.declared.ids.CursorId.{CursorId}
 use Rattle.jet_base.specs.declared.replies.Jet.TheVariants as jet
 use Rattle.jet_base.specs.ColumnType.{big_endian}
@@ -98,9 +98,6 @@ copied_is rows (inserting None) = refl
 copied_is rows (inserting (Some b)) = elim (is_some (row_at rows b)) as (λ x. is_some (row_at rows b) ≡ x → is_copied_in rows (if x then Some b else None) ≡ true) [ true ↦ λ e. e | false ↦ λ e. refl ] refl
 copied_is rows (replacing b) = refl
 
-short : (a b : ℕ) → a ≤ b → nat_le a b ≡ true
-short a b le = grind (arith, nat_tests)
-
 -- ---- an update
 
 sound_schema : (base : Records) (dropped kept : List PastChange) (asked : Asked) (c : OpenCursor) → IsReached base dropped kept asked.state → IsAtTable asked c → AreFound c.schema
@@ -180,7 +177,7 @@ update_entries one rise base dropped kept asked label c for values reached agree
         (has_free_keys as_seen asked.session c.cursor.table c.schema (rows_seen asked c) (bookmark_for asked c.schema for values) values)
         (is_bookmark_of (as_seen.number + 1) c.schema (rows_seen asked c) (primary_rule c.schema) (bookmark_for asked c.schema for values) values)
         (keeps_escrow c.schema.columns (row_at (rows_seen asked c) (bookmark_for asked c.schema for values)) values) (is_copied_in (rows_seen asked c) (copied_in (rows_seen asked c) for))
-        storable.1 (ap not missing) (short (record_size values) 1700 storable.0) (no_first (null_refusals c.schema values) whole)
+        storable.1 (ap not missing) (le-leb (record_size values) 1700 storable.0) (no_first (null_refusals c.schema values) whole)
         (free_rules asked.state as_seen asked.session c.cursor.table c.schema (rows_seen asked c) (bookmark_for asked c.schema for values) (replaced_by for) (own_of asked c.schema for values) values same (filter is_unique c.schema.indexes) free)
         (bookmark_is asked c.schema (rows_seen asked c) for values (as_seen.number + 1) n kept_key (seen_is asked c for storable.3))
         (escrow_is one asked c for values (sound_schema base dropped kept asked c reached at) whole free new storable.2)

@@ -3,7 +3,7 @@ use Rattle.std.proofs.Common.{◌≡◌, ℕ, zero, suc, ◌^◌, ◌<◌, ◌�
 use Rattle.std.specs.Prelude.{not}
 use Rattle.std.specs.Int.{w16, w32, to_le_bytes}
 use Rattle.std.specs.List.{flat_map, list_all}
-use Rattle.std.proofs.lemmas.Bool.{cases_lt, and_parts, and_from, eqb-true, eq-eqb, ltb-true, lt-ltb}
+use Rattle.std.proofs.lemmas.Bool.{cases_lt, and_parts, and_from, eqb-true, eq-eqb, ltb-true, lt-ltb, not-true}
 use Rattle.jet_base.specs.Ids.{index_id}
 use Rattle.jet_base.specs.declared.words.ColType.{ColType}
 use Rattle.jet_base.specs.declared.words.ColType.TheVariants.{Bit, UnsignedByte, Short, UnsignedShort, Long, UnsignedLong, LongLong, Currency, Guid, Binary, Text, LongBinary, LongText}
@@ -152,10 +152,6 @@ column_again column v a =
     let same : bits ≡ column.tagged ∷ column.multi ∷ column.not_null ∷ column.escrow ∷ [] = same_bits bits (column.tagged ∷ column.multi ∷ column.not_null ∷ column.escrow ∷ []) refl (column_number (column_flags column) (column_flags_small column)) in
     λ i. record { id = column.id; name = column.name; kind = column.kind; tagged = head_of (same i); multi = head_of (tail_of (same i)); not_null = head_of (tail_of (tail_of (same i))); escrow = head_of (tail_of (tail_of (tail_of (same i)))); version = sym v i; auto = sym a i }
 
-not_is : (b : Bool) → not b ≡ true → b ≡ false
-not_is false h = refl
-not_is true h = absurd cc
-
 pub record ColumnParts (column : Column) : Type 0 where
   pub id : ltb column.id.0 (2 ^ 16) ≡ true
   pub name : name_fits column.name ≡ true
@@ -167,7 +163,7 @@ column_parts column h =
     let a = and_parts (ltb column.id.0 (2 ^ 16)) (name_fits column.name && (not column.version && not column.auto)) h in
     let b = and_parts (name_fits column.name) (not column.version && not column.auto) a.1 in
     let c = and_parts (not column.version) (not column.auto) b.1 in
-    record { id = a.0; name = b.0; version = not_is _ c.0; auto = not_is _ c.1 }
+    record { id = a.0; name = b.0; version = not-true _ c.0; auto = not-true _ c.1 }
 
 abbrev flags4 : List ℕ → Option (ℕ × List ℕ)
 flags4 bytes = tested (λ flags. ltb flags 16) byte_at bytes

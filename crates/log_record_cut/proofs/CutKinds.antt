@@ -3,6 +3,7 @@ use Rattle.std.proofs.Common.{◌≡◌, ℕ, zero, suc, ◌+◌, ◌-◌, ◌*�
 use Rattle.std.specs.Prelude.{◌||◌}
 use Rattle.std.specs.Int.{Width, w16, w32, to_le_bytes}
 use Rattle.std.proofs.lemmas.Bool.{cases_Bool, cases_lt, and_parts, and_from, eqb-true, eq-eqb, leb-true, le-leb, ltb-true, ltb-false, lt-ltb, le-ltb}
+use Rattle.common_lemmas.proofs.Booleans.{impossible}
 use Rattle.log_record_cut.specs.EntryCuts.{after, end_cut, filled, byte_cut, number_cut, bookmark_cut, put_none, put_cut, add_none, add_cut, drop_none, drop_cut, copied_cut, name_none, name_cut, within, column_cut, segments_cut, small_cut, index_flags_cut, index_cut, step_cut, schema_none, schema_cut, kind_cut, rest_none, rest_cut}
 use Rattle.log_record_cut.proofs.CutLaws.{Completed, Ends, Then}
 use Rattle.log_record_cut.proofs.CutSteps.{Decides, IsFew, FilledParts, Where, decides_where, decides_end, decides_number16, decides_number32, filled_from, filled_parts}
@@ -57,9 +58,6 @@ asked_of {P = P} n k test others h this next =
     ]
 
 -- ---- how many bytes
-
-no_false : {P : Type 0} → false ≡ true → P
-no_false h = absurd cc
 
 end_is : (left : ℕ) → end_cut [] left ≡ true → left ≡ 0
 end_is left h = eqb-true _ _ h
@@ -168,7 +166,7 @@ step_bounds kind left h =
     asked_of kind 3 (number_cut w32 (number_cut w16 column_cut) [] left) _ h3 (λ t. new_column_bounds left t) (λ h4.
     asked_of kind 4 (number_cut w32 (number_cut w16 end_cut) [] left) _ h4 (λ t. id_bounds left t) (λ h5.
     asked_of kind 5 (number_cut w32 (number_cut w16 index_cut) [] left) _ h5 (λ t. new_index_bounds left t) (λ h6.
-    asked_of kind 6 (number_cut w32 (number_cut w16 end_cut) [] left) false h6 (λ t. id_bounds left t) (λ t. no_false t))))))
+    asked_of kind 6 (number_cut w32 (number_cut w16 end_cut) [] left) false h6 (λ t. id_bounds left t) (λ t. impossible t))))))
 
 abbrev pub SchemaSpelled : List ℕ → Type 0
 SchemaSpelled bytes = Then (λ n. n ∷ []) (λ n. ltb n 256) StepSpelled bytes

@@ -1,8 +1,7 @@
 -- A block by its first bytes and by its payload.
 use Rattle.std.proofs.Common.{◌≡◌, ℕ, ◌+◌, ◌-◌, ◌≤◌, ◌<◌, Bool, true, false, ◌&&◌, ◌==◌, nat_le, Some, None, List, length, get_or, take, drop, sym, ◌∙◌, ap, arith, length-take, length-drop}
 use Rattle.std.specs.Int.{w32, w64, from_le_bytes}
-use Rattle.std.proofs.lemmas.Bool.{eqb-true, eq-eqb, leb-true}
-use Rattle.std.proofs.lemmas.Bool.Decides.{nat_tests}
+use Rattle.std.proofs.lemmas.Bool.{eqb-true, eq-eqb, leb-true, le-leb}
 use Rattle.std.proofs.lemmas.List.{take-take, drop-drop}
 use Rattle.jet_volume.specs.declared.files.LogStart.{LogStart}
 use Rattle.log_ring.specs.Blocks.{address, slot_rest, length_field, is_of, begins_block, open_payload}
@@ -27,9 +26,6 @@ module _ (place : LogStart) (a b : List ℕ) (same : take 21 a ≡ take 21 b) wh
       ap (λ (n : ℕ). n == 1 && is_of place a && nat_le 1 (length_field a) && nat_le (length_field a) 65500 && nat_le (place.offset + 22 + length_field a) 1048576) (first_same 21 a b same (omega arith))
       ∙ ap (λ (t : Bool). get_or b 0 0 == 1 && t && nat_le 1 (length_field a) && nat_le (length_field a) 65500 && nat_le (place.offset + 22 + length_field a) 1048576) is_of_same
       ∙ ap (λ (n : ℕ). get_or b 0 0 == 1 && is_of place b && nat_le 1 n && nat_le n 65500 && nat_le (place.offset + 22 + n) 1048576) length_field_same
-
-le-leb : (a b : ℕ) → a ≤ b → nat_le a b ≡ true
-le-leb a b le = grind (arith, nat_tests)
 
 pub begins_within : (place : LogStart) (block : List ℕ) → begins_block place block ≡ true → (1 ≤ length_field block) × (length_field block ≤ 65500) × (place.offset + 22 + length_field block ≤ 1048576)
 begins_within place block is =

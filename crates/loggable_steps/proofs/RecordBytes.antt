@@ -2,7 +2,7 @@
 use Rattle.std.proofs.Common.{◌≡◌, ℕ, suc, ◌+◌, ◌*◌, ◌^◌, ◌≤◌, Bool, true, false, ◌&&◌, ◌||◌, cond, List, [], ◌∷◌, ◌++◌, length, Option, Some, None, refl, sym, ap, subst, ◌∙◌, arith}
 use Rattle.std.specs.Prelude.{◌==◌, map, nat_le, nat_lt, sum_by, find, bytes_eq}
 use Rattle.std.specs.List.{flat_map, list_all}
-use Rattle.std.proofs.lemmas.Bool.{and_parts, and_from}
+use Rattle.std.proofs.lemmas.Bool.{and_parts, and_from, leb-true}
 use Rattle.std.proofs.lemmas.Bool.Decides.{nat_tests}
 use Rattle.std.proofs.lemmas.List.{length-append}
 use Rattle.std.proofs.lemmas.List.Concat.{flat_map-append, flat_map-cons}
@@ -73,9 +73,6 @@ pub record AreNumbered (greatest : GreatestColumns) (columns : List Column) : Ty
 low_number : (id most : ℕ) → nat_le id most ≡ true → most ≤ 511 → nat_lt id (2 ^ 16) ≡ true
 low_number id most h few = grind (arith, nat_tests)
 
-le_from : (a b : ℕ) → nat_le a b ≡ true → a ≤ b
-le_from a b h = grind (arith, nat_tests)
-
 given_by : (id tagged : ℕ) (fixed variable low middle : Bool) → nat_le id 127 ≡ low → nat_le id 255 ≡ middle → tagged ≤ 511 → cond low fixed (cond middle variable (nat_le id tagged)) ≡ true → nat_lt id (2 ^ 16) ≡ true
 given_by id tagged fixed variable true middle el em few h = low_number id 127 el (omega arith)
 given_by id tagged fixed variable false true el em few h = low_number id 255 em (omega arith)
@@ -84,7 +81,7 @@ given_by id tagged fixed variable false false el em few h = low_number id tagged
 given_low : (greatest : GreatestColumns) (column : Column) → are_in_range greatest ≡ true → is_given_number greatest column ≡ true → nat_lt column.id.0 (2 ^ 16) ≡ true
 given_low greatest column range given =
     given_by column.id.0 greatest.tagged (nat_le column.id.0 greatest.fixed) (nat_le column.id.0 greatest.variable) (nat_le column.id.0 127) (nat_le column.id.0 255) refl refl
-    (le_from greatest.tagged 511 (and_parts (nat_le greatest.fixed 127 && nat_le 127 greatest.variable && nat_le greatest.variable 255 && nat_le 255 greatest.tagged) (nat_le greatest.tagged 511) range).1) given
+    (leb-true greatest.tagged 511 (and_parts (nat_le greatest.fixed 127 && nat_le 127 greatest.variable && nat_le greatest.variable 255 && nat_le 255 greatest.tagged) (nat_le greatest.tagged 511) range).1) given
 
 pub found_all : {X : Type 0} (test p : X → Bool) (xs : List X) (x : X) → list_all p xs ≡ true → find test xs ≡ Some x → p x ≡ true
 found_all test p [] x h e = absurd (none x e)
@@ -131,7 +128,7 @@ each_within greatest columns (field ∷ fields) are fits =
 
 weighs : (n : ℕ) → nat_le n 1048576 ≡ true → 6 + n ≤ 49933 * (5 + size_of_length n)
 weighs n h = elim (nat_lt 255 n) as (λ b. nat_lt 255 n ≡ b → 6 + n ≤ 49933 * (5 + cond b 16 n)) [
-  | true ↦ λ e. long n (le_from n 1048576 h)
+  | true ↦ λ e. long n (leb-true n 1048576 h)
   | false ↦ λ e. short n
 ] refl
   where

@@ -6,6 +6,7 @@ use Rattle.std.specs.List.{flat_map, list_all, list_any}
 use Rattle.std.proofs.lemmas.Bool.{and_from, and_parts}
 use Rattle.std.proofs.lemmas.Bool.Decides.{nat_tests}
 use Rattle.std.proofs.lemmas.List.{length-append}
+use Rattle.common_lemmas.proofs.Options.{some_there}
 use Rattle.jet_base.specs.declared.ids.TableId.{TableId}
 use Rattle.jet_base.specs.declared.replies.Jet.TheVariants as jet
 use Rattle.column_set.specs.declared.columns.Column.{Column}
@@ -70,17 +71,13 @@ index_most index few few_conditions name =
 
 -- ---- the table of a step
 
-there_by : {X : Type 0} (o : Option X) → is_none o ≡ false → is_some o ≡ true
-there_by None e = sym e
-there_by (Some x) e = refl
-
 table_there : (state : DatabaseState) (session : ℕ) (made : SchemaStep) → is_none (schema_refusal state session made) ≡ true → makes_table made ≡ false → is_some (step_table state.tables made) ≡ true
 unfolding schema_refusal
 table_there state session made free other =
     let refused = unrefused
     ((not (levels state session == 0), jet.InTransaction) ∷ (not (makes_table made) && is_none (step_table state.tables made), jet.ObjectNotFound) ∷ (is_in_use state session (step_table state.tables made), jet.TableInUse)
     ∷ step_refusals state (unwrap_or (step_table state.tables made) (new_table 0 [])) made) free in
-    there_by (step_table state.tables made) (and_second (not (makes_table made)) (is_none (step_table state.tables made)) (ap not other) refused.1.0)
+    some_there (step_table state.tables made) (and_second (not (makes_table made)) (is_none (step_table state.tables made)) (ap not other) refused.1.0)
 
 -- ---- an index
 

@@ -1,9 +1,11 @@
 -- What a step leaves of the ends of each session.
-use Rattle.std.proofs.Common.{◌≡◌, ℕ, suc, ◌+◌, ◌-◌, ◌*◌, ◌<◌, ◌≤◌, Bool, true, false, not, cond, List, [], ◌∷◌, length, Option, Some, None, refl, sym, ap, subst, ◌∙◌, eq-eqb, arith}
+use Rattle.std.proofs.Common.{◌≡◌, ℕ, suc, ◌+◌, ◌-◌, ◌*◌, ◌<◌, ◌≤◌, Bool, true, false, not, cond, List, [], ◌∷◌, length, Option, Some, None, refl, sym, ap, subst, ◌∙◌, arith}
 use Rattle.std.specs.Prelude.{◌==◌, nat_lt, find, is_some, option_and_then, option_map}
 use Rattle.std.specs.List.{AllByRecursion, list_any}
 use Rattle.std.proofs.lemmas.Bool.Decides.{nat_tests}
 use Rattle.std.proofs.lemmas.List.Sums.{sum_by-cons}
+use Rattle.std.proofs.lemmas.Bool.{eqb-true}
+use Rattle.common_lemmas.proofs.Numbers.{self_equal}
 use Rattle.record_changes.proofs.Tests.{and_left, and_right, impossible}
 use Rattle.index_derive.specs.declared.log.EntryKind.{EntryKind}
 use Rattle.index_derive.specs.declared.log.EntryKind.TheVariants as entry
@@ -21,12 +23,6 @@ use Rattle.logged_engine.specs.Closing.{HaveLabels}
 use Rattle.logged_engine.specs.Ends.{Follows, bytes_in, end_bytes, end_bytes_of, open_after, open_count, open_in, session_bytes}
 
 -- ---- numbers
-
-same_test : (n : ℕ) → (n == n) ≡ true
-same_test n = eq-eqb n n refl
-
-equal : (a b : ℕ) → (a == b) ≡ true → a ≡ b
-equal a b e = grind (arith, nat_tests)
 
 apart : (a b c : ℕ) → (a == b) ≡ true → (c == b) ≡ false → (a == c) ≡ false
 apart a b c e g = grind (arith, nat_tests)
@@ -67,7 +63,7 @@ sum_changed label change (s ∷ sessions) rise =
     elim (s.label == label) as (λ b. (s.label == label) ≡ b
     → end_bytes (cond b (change s) s ∷ after) + bytes_in (cond b (Some s) (session_in label sessions)) ≡ end_bytes (s ∷ sessions) + bytes_in (option_map change (cond b (Some s) (session_in label sessions)))) [
       | true ↦ λ e. here (end_bytes_of (change s)) (end_bytes after) (end_bytes_of s) (end_bytes sessions) (end_bytes (change s ∷ after)) (end_bytes (s ∷ sessions)) (sum_by-cons end_bytes_of (change s) after) (sum_by-cons end_bytes_of s sessions)
-          (ap end_bytes (untouched label change sessions (subst (λ (n : ℕ). AllByRecursion (LabelBelow n) sessions) (equal s.label label e) rise.0)))
+          (ap end_bytes (untouched label change sessions (subst (λ (n : ℕ). AllByRecursion (LabelBelow n) sessions) (eqb-true s.label label e) rise.0)))
       | false ↦ λ e. later (end_bytes_of s) (end_bytes after) (session_bytes label sessions) (end_bytes sessions) (bytes_in (option_map change (session_in label sessions))) (end_bytes (s ∷ after)) (end_bytes (s ∷ sessions)) (sum_by-cons end_bytes_of s after) (sum_by-cons end_bytes_of s sessions)
           (sum_changed label change sessions rise.1)
     ] refl
@@ -95,18 +91,18 @@ changed_follows label kind change sessions keeps rise counted = record {
 -- ---- a session that begins
 
 entered_other : (label other : ℕ) → (other == label) ≡ false → (sessions : List LiveState) → session_in other (entered label sessions) ≡ session_in other sessions
-entered_other label other unlike [] = ap (λ (b : Bool). cond b (Some (new_session label)) None) (apart label label other (same_test label) unlike)
+entered_other label other unlike [] = ap (λ (b : Bool). cond b (Some (new_session label)) None) (apart label label other (self_equal label) unlike)
 entered_other label other unlike (s ∷ sessions) =
     elim (nat_lt label s.label) as (λ b. session_in other (cond b (new_session label ∷ s ∷ sessions) (s ∷ entered label sessions)) ≡ cond (s.label == other) (Some s) (session_in other sessions)) [
-      | true ↦ ap (λ (b : Bool). cond b (Some (new_session label)) (session_in other (s ∷ sessions))) (apart label label other (same_test label) unlike)
+      | true ↦ ap (λ (b : Bool). cond b (Some (new_session label)) (session_in other (s ∷ sessions))) (apart label label other (self_equal label) unlike)
       | false ↦ ap (λ (o : Option LiveState). cond (s.label == other) (Some s) o) (entered_other label other unlike sessions)
     ]
 
 entered_own : (label : ℕ) (sessions : List LiveState) → is_some (session_in label sessions) ≡ false → session_in label (entered label sessions) ≡ Some (new_session label)
-entered_own label [] none = ap (λ (b : Bool). cond b (Some (new_session label)) None) (same_test label)
+entered_own label [] none = ap (λ (b : Bool). cond b (Some (new_session label)) None) (self_equal label)
 entered_own label (s ∷ sessions) none =
     elim (nat_lt label s.label) as (λ b. session_in label (cond b (new_session label ∷ s ∷ sessions) (s ∷ entered label sessions)) ≡ Some (new_session label)) [
-      | true ↦ ap (λ (b : Bool). cond b (Some (new_session label)) (session_in label (s ∷ sessions))) (same_test label)
+      | true ↦ ap (λ (b : Bool). cond b (Some (new_session label)) (session_in label (s ∷ sessions))) (self_equal label)
       | false ↦ elim (s.label == label) as (λ b. is_some (cond b (Some s) (session_in label sessions)) ≡ false → cond b (Some s) (session_in label (entered label sessions)) ≡ Some (new_session label)) [
         | true ↦ λ live. impossible (sym live)
         | false ↦ λ gone. entered_own label sessions gone
@@ -169,7 +165,7 @@ sum_left label (s ∷ sessions) rise =
     elim (s.label == label) as (λ b. (s.label == label) ≡ b
     → end_bytes (cond (not b) (s ∷ after) after) + bytes_in (cond b (Some s) (session_in label sessions)) ≡ end_bytes (s ∷ sessions) + 0) [
       | true ↦ λ e. here (end_bytes_of s) (end_bytes after) (end_bytes sessions) (end_bytes (s ∷ sessions)) (sum_by-cons end_bytes_of s sessions)
-          (ap end_bytes (none_leaves label sessions (subst (λ (n : ℕ). AllByRecursion (LabelBelow n) sessions) (equal s.label label e) rise.0)))
+          (ap end_bytes (none_leaves label sessions (subst (λ (n : ℕ). AllByRecursion (LabelBelow n) sessions) (eqb-true s.label label e) rise.0)))
       | false ↦ λ e. later (end_bytes_of s) (end_bytes after) (session_bytes label sessions) (end_bytes sessions) (end_bytes (s ∷ after)) (end_bytes (s ∷ sessions)) (sum_by-cons end_bytes_of s after) (sum_by-cons end_bytes_of s sessions) (sum_left label sessions rise.1)
     ] refl
   where

@@ -4,6 +4,7 @@ use Rattle.std.specs.Prelude.{All, bytes_eq, is_some, nat_lt, unwrap_or}
 use Rattle.std.specs.Ordering.{is_eq}
 use Rattle.std.proofs.lemmas.Bool.{eqb-true, lt-ltb}
 use Rattle.std.proofs.lemmas.List.Elements.{All-head, All-tail}
+use Rattle.common_lemmas.proofs.Options.{none_there}
 use Rattle.column_set.specs.RecordValues.{lookup_by_key}
 use Rattle.column_set.specs.Rows.{RowFields}
 use Rattle.long_value.specs.Values.{AreLong, IsLong, LongValue, Values, order, put_value, value_of, with_reference, without_reference}
@@ -30,10 +31,6 @@ unequal a b f e = true≢false (sym (itself a) ∙ ap (bytes_eq a) e ∙ f)
 some_is : {X : Type 0} (o : Option X) → is_some o ≡ true → (x : X) × (o ≡ Some x)
 some_is None e = absurd (true≢false (sym e))
 some_is (Some x) e = (x, refl)
-
-none_is : {X : Type 0} (o : Option X) → is_some o ≡ false → o ≡ None
-none_is None e = refl
-none_is (Some x) e = absurd (true≢false e)
 
 -- ---- one reference more
 
@@ -62,7 +59,7 @@ own_taken laws values given =
     omega (arith, now, was))
     (λ f.
     let now : count_of given.0 (with_taken values given) ≡ 1 = ap (count_of given.0) (placed values given f) ∙ ap counted (laws.put values given.0 (new_value given.1)) in
-    let was : count_of given.0 values ≡ 0 = ap counted (none_is (value_of given.0 values) f) in
+    let was : count_of given.0 values ≡ 0 = ap counted (none_there (value_of given.0 values) f) in
     omega (arith, now, was))
 
 pub taken_all : ValueLaws → (id : List ℕ) (given : List (List ℕ × List ℕ)) (values : Values) → count_of id (with_all_taken given values) ≡ count_of id values + times_among id (map (λ one. one.0) given)
@@ -96,7 +93,7 @@ own_released laws values id some =
     let less : counted (if found.0.count == 1 then None else Some (record found.0 { count = found.0.count - 1 })) ≡ found.0.count - 1 = ap (λ (b : Bool). counted (if b then None else Some (record found.0 { count = found.0.count - 1 }))) more in
     omega (arith, was, now, less, some)))
     (λ f.
-    let was : count_of id values ≡ 0 = ap counted (none_is (value_of id values) f) in
+    let was : count_of id values ≡ 0 = ap counted (none_there (value_of id values) f) in
     absurd (omega (arith, was, some)))
 
 other_released : ValueLaws → (values : Values) (x id : List ℕ) → id ≢ x → count_of id (without_reference x values) ≡ count_of id values
@@ -167,6 +164,6 @@ referred values rows held id long has =
     let was : count_of id values ≡ found.0.count = ap counted found.1 in
     t ∙ sym (lt-ltb 0 (reference_count id rows held) (omega (arith, was, has id, some_counted id found.0 values long.whole found.1))))
     (λ f.
-    let was : count_of id values ≡ 0 = ap counted (none_is (value_of id values) f) in
+    let was : count_of id values ≡ 0 = ap counted (none_there (value_of id values) f) in
     let none : reference_count id rows held ≡ 0 = omega (arith, was, has id) in
     f ∙ ap (nat_lt 0) (sym none))

@@ -1,5 +1,5 @@
 -- Sums over rows by bookmark, and how often an identifier is named.
-use Rattle.std.proofs.Common.{◌≡◌, ℕ, suc, ◌+◌, ◌<◌, ◌≤◌, Bool, true, false, T, ◌&&◌, if◌then◌else◌, Option, Some, None, List, [], ◌∷◌, refl, sym, ap, subst, ◌∙◌, arith, true≢false}
+use Rattle.std.proofs.Common.{◌≡◌, ℕ, suc, ◌+◌, ◌<◌, ◌≤◌, Bool, true, false, T, if◌then◌else◌, Option, Some, None, List, [], ◌∷◌, refl, sym, ap, subst, ◌∙◌, arith, true≢false}
 use Rattle.std.specs.Prelude.{sum_by, bytes_eq}
 use Rattle.std.specs.List.{list_any}
 use Rattle.std.specs.Ordering.{is_eq, is_lt, nat_cmp}
@@ -10,6 +10,7 @@ use Rattle.std.specs.declared.cmp.Ordering.TheVariants.{Less, Equal, Greater}
 use Rattle.std.proofs.lemmas.Cmp.{tied_itself}
 use Rattle.std.proofs.lemmas.List.Sums.{sum_by-cons}
 use Rattle.std.proofs.lemmas.Slice.Eq.{bytes_eq-Decides}
+use Rattle.common_lemmas.proofs.Booleans.{T_first, T_second}
 use Rattle.column_set.specs.declared.rows.RowValue.{RowValue}
 use Rattle.column_set.specs.declared.rows.RowValue.TheVariants.{Here, Apart}
 use Rattle.column_set.specs.RecordValues.{lookup_by_key, put_by_key, remove_by_key}
@@ -23,14 +24,6 @@ by_test false f g = g refl
 
 pub holds : (b : Bool) → b ≡ true → T b
 holds b e = subst T (sym e) tt
-
-T_first : (a b : Bool) → T (a && b) → T a
-T_first true b t = tt
-T_first false b t = t
-
-T_second : (a b : Bool) → T (a && b) → T b
-T_second true b t = t
-T_second false b t = absurd t
 
 -- ---- equal byte strings
 

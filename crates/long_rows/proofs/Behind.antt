@@ -1,6 +1,7 @@
 -- No value that a put takes is of an entry behind its own.
-use Rattle.std.proofs.Common.{◌≡◌, ◌⊎◌, inl, inr, ℕ, ◌+◌, ◌<◌, ◌^◌, Bool, true, false, ◌||◌, None, List, [], ◌∷◌, length, refl, sym, ap, subst, ◌∙◌, arith}
+use Rattle.std.proofs.Common.{◌≡◌, ◌⊎◌, inl, inr, ℕ, ◌+◌, ◌<◌, ◌^◌, false, None, List, [], ◌∷◌, length, refl, sym, ap, subst, ◌∙◌, arith}
 use Rattle.std.specs.Prelude.{bytes_eq}
+use Rattle.std.proofs.lemmas.Bool.{or_from}
 use Rattle.column_set.specs.declared.rows.RowValue.{RowValue}
 use Rattle.column_set.specs.declared.rows.RowValue.TheVariants.{Here, Apart}
 use Rattle.column_set.specs.RecordValues.{RecordFields}
@@ -24,15 +25,11 @@ pub record IsBehind (found : Found) (number place : ℕ) : Type 0 where
   pub place_fits : place < 2 ^ 32
   pub absent : value_of (identifier number place) found.values ≡ None
 
-neither : (a b : Bool) → a ≡ false → b ≡ false → (a || b) ≡ false
-neither true b e f = e
-neither false b e f = f
-
 not_with : (k id bytes : List ℕ) (given : List (List ℕ × List ℕ)) → bytes_eq k id ≡ false → among k given ≡ false → among k (with_given id bytes given) ≡ false
 not_with k id bytes given apart rest =
     by_test (among id given)
     (λ t. ap (among k) (there id bytes given t) ∙ rest)
-    (λ f. ap (among k) (added id bytes given f) ∙ neither (bytes_eq k id) (among k given) apart rest)
+    (λ f. ap (among k) (added id bytes given f) ∙ or_from (bytes_eq k id) (among k given) apart rest)
 
 one_differs : IdLaw → (found : Found) → (number place at behind entry own : ℕ) (bytes : List ℕ) → IsBehind found number place → (IsShared found.values found.rows entry own bytes × (behind ≡ at)) ⊎ IsNew found at behind entry own → at < 2 ^ 32
     → bytes_eq (identifier number place) (identifier entry own) ≡ false

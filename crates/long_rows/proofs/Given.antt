@@ -2,7 +2,7 @@
 use Rattle.std.proofs.Common.{◌≡◌, ◌≢◌, ◌⊎◌, inl, inr, ℕ, suc, ◌+◌, ◌<◌, ◌≤◌, ◌^◌, Bool, true, false, ◌||◌, Option, Some, None, List, [], ◌∷◌, length, map, refl, sym, ap, subst, ◌∙◌, arith}
 use Rattle.std.specs.Prelude.{bytes_eq, nat_le}
 use Rattle.std.specs.List.{AllByRecursion, list_all, list_any}
-use Rattle.std.proofs.lemmas.Bool.{leb-true, ltb-true}
+use Rattle.std.proofs.lemmas.Bool.{leb-true, ltb-true, or_from}
 use Rattle.column_set.specs.declared.rows.RowValue.{RowValue}
 use Rattle.column_set.specs.declared.rows.RowValue.TheVariants.{Here, Apart}
 use Rattle.long_value.specs.Values.{LongValue, Values, value_of}
@@ -46,15 +46,11 @@ added id bytes given f = rw f refl
 
 -- ---- a new value is not among those that come later
 
-neither : (a b : Bool) → a ≡ false → b ≡ false → (a || b) ≡ false
-neither true b e f = e
-neither false b e f = f
-
 not_with : (k id bytes : List ℕ) (given : List (List ℕ × List ℕ)) → bytes_eq k id ≡ false → among k given ≡ false → among k (with_given id bytes given) ≡ false
 not_with k id bytes given apart rest =
     by_test (among id given)
     (λ t. ap (among k) (there id bytes given t) ∙ rest)
-    (λ f. ap (among k) (added id bytes given f) ∙ neither (bytes_eq k id) (among k given) apart rest)
+    (λ f. ap (among k) (added id bytes given f) ∙ or_from (bytes_eq k id) (among k given) apart rest)
 
 head_differs : IdLaw → (found : Found) → IsFresh found → (at behind entry own place : ℕ) (bytes : List ℕ) → (IsShared found.values found.rows entry own bytes × (behind ≡ at)) ⊎ IsNew found at behind entry own → place < at → at < 2 ^ 32
     → bytes_eq (identifier found.number place) (identifier entry own) ≡ false

@@ -1,7 +1,7 @@
 -- A row that can be read whole stands for the same record while the values that it names keep their bytes.
 use Rattle.std.proofs.Common.{◌≡◌, ℕ, ◌<◌, ◌==◌, Bool, true, false, ◌&&◌, Option, Some, None, List, [], ◌∷◌, ◌++◌, length, map, option_map, refl, sym, ap, ◌∙◌, true≢false}
-use Rattle.std.specs.Prelude.{unwrap_or}
 use Rattle.std.specs.List.{list_all}
+use Rattle.common_lemmas.proofs.Options.{same_some}
 use Rattle.column_set.specs.declared.rows.RowValue.{RowValue}
 use Rattle.column_set.specs.declared.rows.RowValue.TheVariants.{Here, Apart}
 use Rattle.column_set.specs.RecordValues.{RecordFields}
@@ -29,9 +29,6 @@ and_right false b e = absurd (true≢false (sym e))
 pub and_both : (a b : Bool) → a ≡ true → b ≡ true → (a && b) ≡ true
 and_both true b e f = f
 and_both false b e f = e
-
-same_some : {X : Type 0} (x y : X) → Some x ≡ Some y → x ≡ y
-same_some x y e = ap (λ o. unwrap_or o x) e
 
 pub found_one : (size : ℕ) (o : Option LongValue) → has_length size o ≡ true → (value : LongValue) × (o ≡ Some value) × ((size == length value.bytes) ≡ true)
 found_one size None e = absurd (true≢false (sym e))

@@ -2,6 +2,7 @@
 use Rattle.std.proofs.Common.{◌≡◌, ◌≢◌, ℕ, ◌-◌, ◌<◌, ◌==◌, Bool, true, false, if◌then◌else◌, Option, Some, None, List, [], ◌∷◌, refl, sym, ap, subst, ◌∙◌, arith, true≢false}
 use Rattle.std.specs.Prelude.{bytes_eq, is_some}
 use Rattle.std.proofs.lemmas.Bool.{eqb-true}
+use Rattle.common_lemmas.proofs.Options.{none_there}
 use Rattle.column_set.specs.RecordValues.{RecordFields}
 use Rattle.column_set.specs.Rows.{RowFields}
 use Rattle.long_value.specs.Values.{LongValue, Values, put_value, value_of, with_reference, without_reference}
@@ -48,15 +49,11 @@ keeps_less laws values id value k there many found is =
 pub keeps_other : ValueLaws → (values : Values) (id k : List ℕ) → k ≢ id → Keeps values (without_reference id values) k
 keeps_other laws values id k n found is = ap bytes_in (laws.less_beside values id k n ∙ is)
 
-none_is : {X : Type 0} (o : Option X) → is_some o ≡ false → o ≡ None
-none_is None e = refl
-none_is (Some x) e = absurd (true≢false e)
-
 pub keeps_taken : ValueLaws → (values : Values) (one : List ℕ × List ℕ) (k : List ℕ) → Keeps values (with_taken values one) k
 keeps_taken laws values one k =
     by_test (is_some (value_of one.0 values))
     (λ t. subst (λ (v : Values). Keeps values v k) (sym (shared t)) (keeps_more laws values one.0 k))
-    (λ f. subst (λ (v : Values). Keeps values v k) (sym (placed f)) (keeps_put laws values one.0 (record { count = 1; bytes = one.1 }) k (none_is (value_of one.0 values) f)))
+    (λ f. subst (λ (v : Values). Keeps values v k) (sym (placed f)) (keeps_put laws values one.0 (record { count = 1; bytes = one.1 }) k (none_there (value_of one.0 values) f)))
   where
     shared : is_some (value_of one.0 values) ≡ true → with_taken values one ≡ with_reference one.0 values
     shared t = rw t refl

@@ -2,6 +2,7 @@
 use Rattle.std.proofs.Common.{◌≡◌, ℕ, ◌==◌, ◌≤◌, Bool, true, false, not, ◌||◌, Some, List, [], ◌∷◌, ◌++◌, map, refl, sym, ap, subst, ◌∙◌, arith, true≢false}
 use Rattle.std.specs.Prelude.{IsTrue, bytes_eq}
 use Rattle.std.specs.List.{list_all, list_any}
+use Rattle.std.proofs.lemmas.Bool.{or_right}
 use Rattle.column_set.specs.declared.rows.RowValue.{RowValue}
 use Rattle.column_set.specs.declared.rows.RowValue.TheVariants.{Here, Apart}
 use Rattle.column_set.specs.RecordValues.{RecordFields, remove_by_number}
@@ -23,10 +24,6 @@ or_keeps : (a b c : Bool) → (b ≡ true → c ≡ true) → (a || b) ≡ true 
 or_keeps true b c h e = refl
 or_keeps false b c h e = h e
 
-or_second : (a b : Bool) → b ≡ true → (a || b) ≡ true
-or_second true b e = refl
-or_second false b e = e
-
 pub any_with : (k id : List ℕ) (ids : List (List ℕ)) → list_any (bytes_eq k) (with_identifier id ids) ≡ (bytes_eq k id || list_any (bytes_eq k) ids)
 any_with k id ids =
     by_test (list_any (bytes_eq id) ids)
@@ -45,7 +42,7 @@ is_named k xs = list_any (bytes_eq k) (named_by xs)
 
 one_more : (k : List ℕ) (x : ℕ × RowValue) (xs : List (ℕ × RowValue)) → is_named k xs ≡ true → is_named k (x ∷ xs) ≡ true
 one_more k (column, Here bytes) xs e = e
-one_more k (column, Apart entry place size) xs e = any_with k (identifier entry place) (named_by xs) ∙ or_second (bytes_eq k (identifier entry place)) (is_named k xs) e
+one_more k (column, Apart entry place size) xs e = any_with k (identifier entry place) (named_by xs) ∙ or_right (bytes_eq k (identifier entry place)) (is_named k xs) e
 
 one_same : (k : List ℕ) (x : ℕ × RowValue) (xs ys : List (ℕ × RowValue)) → (is_named k xs ≡ true → is_named k ys ≡ true) → is_named k (x ∷ xs) ≡ true → is_named k (x ∷ ys) ≡ true
 one_same k (column, Here bytes) xs ys h e = h e

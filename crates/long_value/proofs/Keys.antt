@@ -8,6 +8,7 @@ use Rattle.std.specs.declared.cmp.Ordering.{Ordering}
 use Rattle.std.specs.declared.cmp.Ordering.TheVariants.{Less, Equal, Greater}
 use Rattle.std.specs.Ordering.{is_eq, is_lt, ordering_reverse}
 use Rattle.std.specs.Cmp.Lexicographic.{nat_list_cmp_total, texts_ties}
+use Rattle.common_lemmas.proofs.Orders.{is_equal, is_less}
 use Rattle.byteorder.specs.Endian.{big_bytes, big_number}
 use Rattle.byteorder.specs.Numbers.{big_number-reads_back}
 use Rattle.long_value.specs.Values.{chunk_key, order}
@@ -59,22 +60,12 @@ unflip_by Greater e f = refl
 pub lower : (a b : List ℕ) → is_lt (order a b) ≡ false → is_eq (order a b) ≡ false → is_lt (order b a) ≡ true
 lower a b ge apart = ap is_lt (turned b a) ∙ unflip_by (order a b) ge apart
 
-less_by : (r : Ordering) → is_lt r ≡ true → r ≡ Less
-less_by Less e = refl
-less_by Equal e = absurd (true≢false (sym e))
-less_by Greater e = absurd (true≢false (sym e))
-
-equal_by : (r : Ordering) → is_eq r ≡ true → r ≡ Equal
-equal_by Less e = absurd (true≢false (sym e))
-equal_by Equal e = refl
-equal_by Greater e = absurd (true≢false (sym e))
-
 -- b, not above m, is below what m is below
 pub between : (b m a : List ℕ) → is_lt (order m b) ≡ false → is_lt (order m a) ≡ true → is_lt (order b a) ≡ true
 between b m a ge lt =
     by_test (is_eq (order m b))
-    (λ t. ap is_lt (sym (nat_list_cmp_total.congr m b a (equal_by (order m b) t))) ∙ lt)
-    (λ t. ap is_lt (nat_list_cmp_total.trans b m a (less_by (order b m) (lower m b ge t)) (less_by (order m a) lt)))
+    (λ t. ap is_lt (sym (nat_list_cmp_total.congr m b a (is_equal (order m b) t))) ∙ lt)
+    (λ t. ap is_lt (nat_list_cmp_total.trans b m a (is_less (order b m) (lower m b ge t)) (is_less (order m a) lt)))
 
 -- ---- the keys of chunks
 

@@ -6,6 +6,7 @@ use Rattle.std.specs.declared.cmp.Ordering.TheVariants.{Less, Equal, Greater}
 use Rattle.std.specs.Ordering.{is_eq, is_lt, eq_by_cmp}
 use Rattle.std.specs.Cmp.Lexicographic.{nat_list_cmp_total}
 use Rattle.std.specs.FinMap.Entries.{below_all, by_order, is_sorted, is_sorted-put, is_sorted-where_key}
+use Rattle.std.proofs.lemmas.Bool.{not_from_false, not_from_true}
 use Rattle.long_value.specs.Values.{AreLong, IsLong, LacksValue, LongValue, Values, nodes_of_values, order, put_value, value_of, with_value, without_value}
 use Rattle.long_value.proofs.Keys.{by_test, differing, same_key}
 use Rattle.long_value.proofs.ChunkNodes.{found_of_another, values_swapped}
@@ -39,19 +40,11 @@ filter_first p x xs t = rw t refl
 filter_none : {X : Type 0} (p : X → Bool) (x : X) (xs : List X) → p x ≡ false → filter p (x ∷ xs) ≡ filter p xs
 filter_none p x xs t = rw t refl
 
-not_yes : (b : Bool) → b ≡ true → not b ≡ false
-not_yes true e = refl
-not_yes false e = absurd (true≢false (sym e))
-
-not_no : (b : Bool) → b ≡ false → not b ≡ true
-not_no true e = absurd (true≢false e)
-not_no false e = refl
-
 pub kept : (id : List ℕ) (row : List ℕ × LongValue) (values : Values) → is_eq (order id row.0) ≡ false → without_value id (row ∷ values) ≡ row ∷ without_value id values
-kept id row values other = filter_first (λ (e : List ℕ × LongValue). not (eq_by_cmp order id e.0)) row values (not_no (is_eq (order id row.0)) other)
+kept id row values other = filter_first (λ (e : List ℕ × LongValue). not (eq_by_cmp order id e.0)) row values (not_from_false (is_eq (order id row.0)) other)
 
 pub gone : (id : List ℕ) (row : List ℕ × LongValue) (values : Values) → is_eq (order id row.0) ≡ true → without_value id (row ∷ values) ≡ without_value id values
-gone id row values is = filter_none (λ (e : List ℕ × LongValue). not (eq_by_cmp order id e.0)) row values (not_yes (is_eq (order id row.0)) is)
+gone id row values is = filter_none (λ (e : List ℕ × LongValue). not (eq_by_cmp order id e.0)) row values (not_from_true (is_eq (order id row.0)) is)
 
 pub value_there : (id : List ℕ) (row : List ℕ × LongValue) (values : Values) → is_eq (order id row.0) ≡ true → value_of id (row ∷ values) ≡ Some row.1
 value_there id row values is = rw is refl

@@ -1,7 +1,8 @@
 -- Sorted nodes: what one more node, one less, and other data change.
-use Rattle.std.proofs.Common.{◌≡◌, ℕ, Bool, true, false, not, List, [], ◌∷◌, filter, find, Some, None, refl, sym, ap, subst, ◌∙◌, true≢false}
+use Rattle.std.proofs.Common.{◌≡◌, ℕ, Bool, true, false, not, List, [], ◌∷◌, filter, find, Some, None, refl, sym, ap, subst, ◌∙◌}
 use Rattle.std.specs.Prelude.{if◌then◌else◌}
 use Rattle.std.specs.Ordering.{is_eq, is_lt}
+use Rattle.std.proofs.lemmas.Bool.{not_from_false, not_from_true}
 use Rattle.page_image.specs.Page.{Node}
 use Rattle.btree_inplace.specs.Changes.{inserted, with_data_at, without_key}
 use Rattle.btree_inplace.specs.Order.{has_key}
@@ -88,19 +89,11 @@ swapped (m ∷ nodes) a b apart =
 
 -- ---- one node less
 
-not_no : (b : Bool) → b ≡ false → not b ≡ true
-not_no true e = absurd (true≢false e)
-not_no false e = refl
-
-not_yes : (b : Bool) → b ≡ true → not b ≡ false
-not_yes true e = refl
-not_yes false e = absurd (true≢false (sym e))
-
 keep : (key : List ℕ) (m : Node) (nodes : List Node) → has_key key m ≡ false → without_key (m ∷ nodes) key ≡ m ∷ without_key nodes key
-keep key m nodes other = filter_yes (λ n. not (has_key key n)) m nodes (not_no (has_key key m) other)
+keep key m nodes other = filter_yes (λ n. not (has_key key n)) m nodes (not_from_false (has_key key m) other)
 
 lose : (key : List ℕ) (m : Node) (nodes : List Node) → has_key key m ≡ true → without_key (m ∷ nodes) key ≡ without_key nodes key
-lose key m nodes is = filter_no (λ n. not (has_key key n)) m nodes (not_yes (has_key key m) is)
+lose key m nodes is = filter_no (λ n. not (has_key key n)) m nodes (not_from_true (has_key key m) is)
 
 pub none_less : (key : List ℕ) (nodes : List Node) → find (has_key key) nodes ≡ None → without_key nodes key ≡ nodes
 none_less key [] e = refl

@@ -8,6 +8,7 @@ use Rattle.std.specs.Ordering.{eq_by_cmp, is_eq, is_lt}
 use Rattle.std.specs.Cmp.Lexicographic.{nat_list_cmp_total}
 use Rattle.std.specs.declared.cmp.Ordering.TheVariants.{Equal}
 use Rattle.std.specs.FinMap.Entries.{below_all, find-put, is_sorted, is_sorted-put, same_entries}
+use Rattle.std.proofs.lemmas.Bool.{and_from}
 use Rattle.byteorder.specs.Endian.{big_bytes, big_number, little_number}
 use Rattle.byteorder.specs.Numbers.{little_number-reads_back}
 use Rattle.page_image.specs.Page.{Node}
@@ -25,9 +26,6 @@ abbrev is_head_of : List ℕ → Node → Bool
 is_head_of id n = eq_by_cmp order id (id_of n) && is_head n
 
 -- ---- look-ups among the values of heads
-
-and_yes : (a b : Bool) → a ≡ true → b ≡ true → (a && b) ≡ true
-and_yes a b e f = rw (e, f) refl
 
 and_first : (a b : Bool) → a ≡ false → (a && b) ≡ false
 and_first a b e = rw e refl
@@ -55,7 +53,7 @@ found_value id nodes (n ∷ rest) =
     (λ h. ap (value_of id) (head_taken nodes rest n h)
     ∙ by_test (eq_by_cmp order id (id_of n))
     (λ t. put_same id (id_of n) (value_at nodes n) (values_of_heads nodes rest) t
-    ∙ ap (option_map (value_at nodes)) (sym (find_yes (is_head_of id) n rest (and_yes (eq_by_cmp order id (id_of n)) (is_head n) t h))))
+    ∙ ap (option_map (value_at nodes)) (sym (find_yes (is_head_of id) n rest (and_from (eq_by_cmp order id (id_of n)) (is_head n) t h))))
     (λ t. put_other id (id_of n) (value_at nodes n) (values_of_heads nodes rest) t ∙ found_value id nodes rest
     ∙ ap (option_map (value_at nodes)) (sym (find_no (is_head_of id) n rest (and_first (eq_by_cmp order id (id_of n)) (is_head n) t)))))
     (λ h. ap (value_of id) (other_left nodes rest n h) ∙ found_value id nodes rest
@@ -128,7 +126,7 @@ found_head q (row ∷ values) sorted whole =
     let below : T (below_all order q values) = subst (λ k. T (below_all order k values)) (sym same) (T_first (below_all order id values) (is_sorted order values) sorted) in
     let none : value_of q values ≡ None = ap (value_of q) (sym (nothing_gone q values below)) ∙ value_gone q values in
     found_new (is_head_of q) (with_chunks id value.bytes n nodes) (head_node id value)
-    (and_yes (eq_by_cmp order q (id_of (head_node id value))) (is_head (head_node id value)) (head_test q id value long.id ∙ t) (head_is id value long.id))
+    (and_from (eq_by_cmp order q (id_of (head_node id value))) (is_head (head_node id value)) (head_test q id value long.id ∙ t) (head_is id value long.id))
     (past ∙ rest ∙ ap (option_map (head_node q)) none)
     ∙ ap (λ k. Some (head_node k value)) (sym same)
     ∙ ap (option_map (head_node q)) (sym (value_there q row values t)))

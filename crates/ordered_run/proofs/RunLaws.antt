@@ -11,6 +11,8 @@ use Rattle.std.specs.List.{list_all}
 use Rattle.std.proofs.lemmas.List.{append-nil, map-append, take-map, drop-map, length-append}
 use Rattle.std.proofs.lemmas.List.Folds.{list_all-append}
 use Rattle.std.proofs.lemmas.Grind.{flat_map-append}
+use Rattle.std.proofs.lemmas.Bool.{and_from}
+use Rattle.common_lemmas.proofs.Booleans.{and_left, and_right}
 use Rattle.database_state.specs.State.{empty_state}
 use Rattle.session_local.specs.Run.{RunState, Line, LineOutcome, served, no_memory, flush_failed, unserved, run_from, rows_from, rows_of_line, run_after, run_after_all, may_come, may_be_followed, outcomes_may_come}
 use Rattle.script_transcript.specs.TranscriptLine.{transcript_of, row_line}
@@ -63,14 +65,6 @@ followed line no_memory pairs plain = refl
 followed line (flush_failed reply) pairs plain = cc
 followed line unserved pairs plain = cc
 
-and_left : (a b : Bool) → (a && b) ≡ true → a ≡ true
-and_left true b h = refl
-and_left false b h = cc
-
-and_right : (a b : Bool) → (a && b) ≡ true → b ≡ true
-and_right true b h = h
-and_right false b h = cc
-
 pub outcomes_may_come-append : (limit : ℕ) (run : RunState) (pairs : List Served) (pair : Served) → list_all is_plain_pair pairs ≡ true
     → outcomes_may_come limit run (pairs ++ pair ∷ []) ≡ outcomes_may_come limit run pairs && may_come limit (run_after_all limit run pairs) pair.0 pair.1
 outcomes_may_come-append limit run [] pair plain =
@@ -94,10 +88,6 @@ run_transcript-append limit pairs pair =
     ap transcript_of (rows_from-append limit (run_from empty_state) pairs pair)
     ∙ flat_map-append row_line (rows_from limit (run_from empty_state) pairs) (rows_of_line limit (run_after_all limit (run_from empty_state) pairs) pair.0 pair.1)
 
-both : (a b : Bool) → a ≡ true → b ≡ true → (a && b) ≡ true
-both true b e f = f
-both false b e f = e
-
 -- the outcomes of one line more
 pub AreOutcomesOf-append : (limit : ℕ) (lines : List Line) (pairs : List Served) (line : Line) (outcome : LineOutcome) → AreOutcomesOf limit lines pairs → is_plain outcome ≡ true
     → may_come limit (run_after_all limit (run_from empty_state) pairs) line outcome ≡ true
@@ -105,8 +95,8 @@ pub AreOutcomesOf-append : (limit : ℕ) (lines : List Line) (pairs : List Serve
 AreOutcomesOf-append limit lines pairs line outcome so_far plain may =
     let pair : Served = (line, outcome) in (
       map-append first_of_pair pairs (pair ∷ []) ∙ ap (λ xs. xs ++ line ∷ []) so_far.0,
-      list_all-append is_plain_pair pairs (pair ∷ []) ∙ both (list_all is_plain_pair pairs) (is_plain outcome && true) so_far.1 (and_true (is_plain outcome) ∙ plain),
-      outcomes_may_come-append limit (run_from empty_state) pairs pair so_far.1 ∙ both (outcomes_may_come limit (run_from empty_state) pairs) (may_come limit (run_after_all limit (run_from empty_state) pairs) line outcome) so_far.2 may,
+      list_all-append is_plain_pair pairs (pair ∷ []) ∙ and_from (list_all is_plain_pair pairs) (is_plain outcome && true) so_far.1 (and_true (is_plain outcome) ∙ plain),
+      outcomes_may_come-append limit (run_from empty_state) pairs pair so_far.1 ∙ and_from (outcomes_may_come limit (run_from empty_state) pairs) (may_come limit (run_after_all limit (run_from empty_state) pairs) line outcome) so_far.2 may,
     )
 
 -- What holds before each line: the lines so far had outcomes that they may have, the sink took their transcript, and the

@@ -1,6 +1,7 @@
 -- What the calls of a session come to: those that the session answers by itself, and those that are decided on the shared state.
 use Rattle.std.proofs.Common.{◌≡◌, ◌≢◌, ℕ, ◌+◌, Bool, true, false, true≢false, List, [], ◌∷◌, length, Option, Some, None, refl, sym, ap, subst, ◌∙◌, IsTrue}
 use Rattle.std.specs.Prelude.{if◌then◌else◌, nat_le}
+use Rattle.std.proofs.lemmas.Bool.{false_from_ne_true}
 use Rattle.jet_base.specs.declared.ids.Session.{Session}
 use Rattle.jet_base.specs.declared.replies.Jet.{Jet}
 use Rattle.jet_base.specs.declared.replies.Jet.TheVariants as jet
@@ -202,11 +203,7 @@ takes_some (call.SetColumn cursor column sequence value) takes = refl
 takes_some (call.PrepareUpdate cursor how) takes = refl
 takes_some _ takes = absurd (true≢false (sym takes))
 
-not_both : (b : Bool) → (b ≡ true → ⊥) → b ≡ false
-not_both true never = absurd (never refl)
-not_both false never = refl
-
 -- nor is a call whose step found none
 pub takes_some_by_step : LacksNone → (asked : Asked) (request : Request) (step : Option Step) → step ≡ (answer asked request).step → LacksMemory step → takes_no_memory request ≡ false
 takes_some_by_step none asked request step is lacks =
-    not_both (takes_no_memory request) (λ free. true≢false (sym lacks.2 ∙ none asked request lacks.0 free (sym is ∙ lacks.1)))
+    false_from_ne_true (takes_no_memory request) (λ free. true≢false (sym lacks.2 ∙ none asked request lacks.0 free (sym is ∙ lacks.1)))

@@ -1,7 +1,8 @@
 -- What a line comes to for the sessions of a script: served, or without memory.
-use Rattle.std.proofs.Common.{◌≡◌, ◌≢◌, ℕ, ◌+◌, Bool, true, false, not, List, [], ◌∷◌, length, Option, Some, None, inl, inr, refl, sym, ap, subst, ◌∙◌, arith}
+use Rattle.std.proofs.Common.{◌≡◌, ◌≢◌, ℕ, ◌+◌, Bool, true, false, List, [], ◌∷◌, length, Option, Some, None, inl, inr, refl, sym, ap, subst, ◌∙◌, arith}
 use Rattle.std.specs.Prelude.{if◌then◌else◌}
 use Rattle.std.proofs.lemmas.Bool.Decides.{eqb_tells}
+use Rattle.std.proofs.lemmas.Bool.{not_from_false}
 use Rattle.jet_base.specs.declared.ids.Session.{Session}
 use Rattle.jet_base.specs.declared.replies.Jet.{Jet}
 use Rattle.jet_base.specs.declared.replies.Jet.TheVariants as jet
@@ -104,9 +105,6 @@ goes_on follow limit engine after_engine before after run session request n repl
 
 -- ---- lines without memory
 
-not_told : (b : Bool) → b ≡ false → not b ≡ true
-not_told b is = ap not is
-
 pub goes_on-none : (limit : ℕ) (engine : EngineState) (sessions : List RunSession) (run : RunState) (session : Session) (request : Request) (n : ℕ) (reply : Reply)
     → n ≡ (session_at sessions session.0).last → reply ≡ no_memory_reply → IsInRun limit engine sessions run → takes_no_memory request ≡ false
     → GoesOn limit engine sessions run session request n reply (outcome_told reply)
@@ -114,7 +112,7 @@ goes_on-none limit engine sessions run session request n reply n_is reply_is is 
     subst (λ (m : ℕ). GoesOn limit engine sessions run session request m reply (outcome_told reply)) (sym n_is)
     (subst (λ (r : Reply). GoesOn limit engine sessions run session request (session_at sessions session.0).last r (outcome_told r)) (sym reply_is) (record {
       row = ap (λ (s : SessionRun). record { n = s.last; session = session.0; request = request; answered = answered_by no_memory_reply (reply_bytes sessions session) } ∷ []) (is.parts session.0);
-      may_be = not_told (takes_no_memory request) takes;
+      may_be = not_from_false (takes_no_memory request) takes;
       in_run = is;
     }))
 

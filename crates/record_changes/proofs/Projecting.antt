@@ -7,35 +7,26 @@ use Rattle.std.specs.Ordering.{nat_cmp}
 use Rattle.std.specs.Cmp.Lexicographic.{slice_cmp, texts_ties, nat_list_cmp_total}
 use Rattle.std.specs.FinMap.Entries.{find-put, find-where_key}
 use Rattle.std.proofs.lemmas.Map.Lookups.{exact_bytes}
+use Rattle.common_lemmas.proofs.Numbers.{bytes_turned}
 use Rattle.column_set.specs.declared.changes.Change.{Change}
 use Rattle.column_set.specs.declared.changes.Change.TheVariants.{Put, Drop, Hold, Add}
 use Rattle.column_set.specs.RecordValues.{RecordFields}
 use Rattle.database_state.specs.Table.{Table, Rows, row_at, with_row, without_row, rows_of, table_with_id}
 use Rattle.database_state.specs.Changes.{changed_table, changed_bookmark, rows_with_sum, rows_after, tables_after, tables_after_all, with_sum}
 use Rattle.record_changes.specs.Records.{IsThere, records_of, record_after, is_change_of, records_after}
-use Rattle.record_changes.proofs.Tests.{same_number, same_bytes, equal_bytes}
+use Rattle.record_changes.proofs.Tests.{same_number, same_bytes}
 
 -- ---- rows
-
-turned : (a b : List ℕ) → bytes_eq a b ≡ bytes_eq b a
-turned a b =
-    elim (bytes_eq a b) as (λ x. bytes_eq a b ≡ x → x ≡ bytes_eq b a) [
-      | true ↦ λ e. sym (equal_bytes b a (sym (same_bytes a b e)))
-      | false ↦ λ e. elim (bytes_eq b a) as (λ y. bytes_eq b a ≡ y → false ≡ y) [
-        | true ↦ λ f. sym e ∙ equal_bytes a b (sym (same_bytes b a f))
-        | false ↦ λ f. refl
-      ] refl
-    ] refl
 
 row_at-put : (rows : Rows) (bookmark other : List ℕ) (values : RecordFields) → row_at (with_row rows bookmark values) other ≡ cond (bytes_eq bookmark other) (Some values) (row_at rows other)
 row_at-put rows bookmark other values =
     find-put (slice_cmp nat_cmp) nat_list_cmp_total other bookmark values rows
-    ∙ ap (λ b. cond b (Some values) (row_at rows other)) (sym (texts_ties other bookmark) ∙ turned other bookmark)
+    ∙ ap (λ b. cond b (Some values) (row_at rows other)) (sym (texts_ties other bookmark) ∙ bytes_turned other bookmark)
 
 row_at-drop : (rows : Rows) (bookmark other : List ℕ) → row_at (without_row rows bookmark) other ≡ cond (bytes_eq bookmark other) None (row_at rows other)
 row_at-drop rows bookmark other =
     find-where_key (slice_cmp nat_cmp) (λ key. not (bytes_eq key bookmark)) other (λ x e. ap (λ (k : List ℕ). not (bytes_eq k bookmark)) (sym (exact_bytes other x e))) rows
-    ∙ flipped (bytes_eq other bookmark) (row_at rows other) ∙ ap (λ b. cond b None (row_at rows other)) (turned other bookmark)
+    ∙ flipped (bytes_eq other bookmark) (row_at rows other) ∙ ap (λ b. cond b None (row_at rows other)) (bytes_turned other bookmark)
   where
     flipped : (b : Bool) (x : Option RecordFields) → cond (not b) x None ≡ cond b None x
     flipped true x = refl

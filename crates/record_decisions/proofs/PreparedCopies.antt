@@ -12,9 +12,10 @@ use Rattle.column_set.specs.Record.{is_record}
 use Rattle.column_set.specs.RecordValues.{RecordFields, column_of_id, record_fits, values_fit}
 use Rattle.index_derive.specs.declared.log.Step.{Step}
 use Rattle.common_lemmas.proofs.Found.{all_found}
+use Rattle.common_lemmas.proofs.Lists.{all_stronger}
 use Rattle.database_state.specs.Refusals.{Refusals, first_refusal}
 use Rattle.database_state.specs.State.{DatabaseState}
-use Rattle.record_changes.proofs.Tests.{and_both, and_left, and_right, impossible}
+use Rattle.record_changes.proofs.Tests.{and_left, impossible}
 use Rattle.session_local.specs.declared.decision.Decision.{Decision}
 use Rattle.session_local.specs.declared.prepared.Prepared.{Prepared}
 use Rattle.session_local.specs.declared.reply.Value.TheVariants as value
@@ -62,10 +63,6 @@ field_named columns number values stands = by (column_of_id columns number) stan
     by None h = impossible h
     by (Some column) h = refl
 
-all_mono : {X : Type 0} (p q : X → Bool) → ((x : X) → p x ≡ true → q x ≡ true) → (xs : List X) → list_all p xs ≡ true → list_all q xs ≡ true
-all_mono p q f [] h = refl
-all_mono p q f (x ∷ xs) h = and_both (q x) (list_all q xs) (f x (and_left (p x) (list_all p xs) h)) (all_mono p q f xs (and_right (p x) (list_all p xs) h))
-
 pub distinct_at : (local : LocalState) (label : ℕ) (c : OpenCursor) → IsWellFormed local → cursor_labelled local label ≡ Some c → are_distinct (map number_of_column c.schema.columns) ≡ true
 distinct_at local label c formed found =
     and_left _ _ (and_left _ _ (and_left _ _
@@ -76,7 +73,7 @@ copied columns values formed fits distinct =
     let stand : list_all (stands_in columns) values ≡ true = and_left _ _ fits in
     record {
       formed = formed;
-      named = all_mono (stands_in columns) (λ field. is_some (column_of_id columns field.0)) (λ field. field_named columns field.0 field.1) values stand;
+      named = all_stronger (stands_in columns) (λ field. is_some (column_of_id columns field.0)) (λ field. field_named columns field.0 field.1) values stand;
       distinct = distinct;
     }
 

@@ -1,6 +1,6 @@
 -- The record that a session sees, copied from the row that it is shown.
 use Rattle.std.proofs.Common.{◌≡◌, ℕ, zero, suc, ◌+◌, ◌%◌, ◌^◌, ◌<◌, ◌≤◌, Bool, true, false, cond, not, ◌&&◌, ◌||◌, List, [], ◌∷◌, ◌++◌, length, map, take, get_or, fold, Option, Some, None, unwrap_or, refl, sym, ap, subst, ◌∙◌, arith}
-use Rattle.std.specs.Prelude.{ℤ, ◌==◌, Result, Ok, Err, OnOk, is_ok, if◌then◌else◌, ltb, filter, T}
+use Rattle.std.specs.Prelude.{ℤ, ◌==◌, Result, Ok, Err, OnOk, is_ok, if◌then◌else◌, ltb, filter}
 use Rattle.std.specs.Int.{w32, cast_unsigned, from_le_bytes, to_le_bytes}
 use Rattle.std.specs.List.{list_all, list_any}
 use Rattle.std.specs.Ordering.{nat_cmp}
@@ -12,6 +12,8 @@ use Rattle.std.proofs.lemmas.Int.{of_z-to_z}
 use Rattle.std.proofs.Math.Nat.{mod-eq_of_lt}
 use Rattle.std.proofs.lemmas.List.{take_all, take_more}
 use Rattle.std.proofs.lemmas.List.Folds.{list_any_more}
+use Rattle.common_lemmas.proofs.Booleans.{is_true}
+use Rattle.common_lemmas.proofs.Numbers.{equal_turned}
 use Rattle.column_set.specs.declared.columns.Column.{Column}
 use Rattle.column_set.specs.Record.{is_record}
 use Rattle.column_set.specs.RecordValues.{RecordFields, column_of_id, lookup_by_number, put_by_number, values_of, with_values}
@@ -39,14 +41,10 @@ all_put p column values h (field ∷ fields) all =
       | Greater ↦ and_both _ _ (and_left (p field) (list_all p fields) all) (all_put p column values h fields (and_right (p field) (list_all p fields) all))
     ]
 
-told : (b : Bool) → T b → b ≡ true
-told true h = refl
-told false h = absurd h
-
 sum_formed : (fields : RecordFields) (column : ℕ) (amount : ℤ) → is_record fields ≡ true → is_record (with_sum fields column amount) ≡ true
 sum_formed fields column amount h =
     and_both _ _
-    (told _ (is_sorted-put nat_cmp nat_cmp_total column (escrow_sum (escrow_bytes fields column) amount ∷ []) fields (passes _ (and_left (is_sorted nat_cmp fields) _ h))))
+    (is_true _ (is_sorted-put nat_cmp nat_cmp_total column (escrow_sum (escrow_bytes fields column) amount ∷ []) fields (passes _ (and_left (is_sorted nat_cmp fields) _ h))))
     (all_put (λ field. ltb 0 (length field.1)) column (escrow_sum (escrow_bytes fields column) amount ∷ []) (λ number. refl) fields (and_right (is_sorted nat_cmp fields) _ h))
 
 -- sums leave a record
@@ -96,14 +94,6 @@ sum_put made seen column number h =
     bytes : List ℕ
     bytes = to_le_bytes w32 (cast_unsigned w32 (escrow_value seen column))
 
-turned : (m n : ℕ) → (m == n) ≡ (n == m)
-turned m n = by (m == n) (n == m) (λ e. ap (λ k. n == k) (same_number m n e) ∙ self_equal n) (λ e. ap (λ k. m == k) (same_number n m e) ∙ self_equal m)
-  where
-    by : (a b : Bool) → (a ≡ true → b ≡ true) → (b ≡ true → a ≡ true) → a ≡ b
-    by true b f g = sym (f refl)
-    by false true f g = g refl
-    by false false f g = refl
-
 more : (columns : List Column) (i : ℕ) (column : Column) (number : ℕ) → i < length columns → column ≡ get_or columns i column
     → is_sum_of (take (i + 1) columns) number ≡ (is_sum_of (take i columns) number || (column.escrow && (number_of_column column == number)))
 more columns i column number low is =
@@ -116,7 +106,7 @@ sum-more columns i column made new row seen h sum low is had put number =
     ∙ sum_put made seen (number_of_column column) number h
     ∙ ap (λ (values : List (List ℕ)). cond (number == number_of_column column) (values_of seen number) values) (had number)
     ∙ by (is_sum_of (take i columns) number) (number == number_of_column column)
-    ∙ ap (λ b. cond b (values_of seen number) (values_of row number)) (ap (λ b. is_sum_of (take i columns) number || b) (turned number (number_of_column column) ∙ sym (ap (λ b. b && (number_of_column column == number)) sum)) ∙ sym (more columns i column number low is))
+    ∙ ap (λ b. cond b (values_of seen number) (values_of row number)) (ap (λ b. is_sum_of (take i columns) number || b) (equal_turned number (number_of_column column) ∙ sym (ap (λ b. b && (number_of_column column == number)) sum)) ∙ sym (more columns i column number low is))
   where
     by : (a b : Bool) → cond b (values_of seen number) (cond a (values_of seen number) (values_of row number)) ≡ cond (a || b) (values_of seen number) (values_of row number)
     by true true = refl

@@ -1,9 +1,10 @@
 -- What the engine holds tells of an update: the schema of the cursor, the keys of unique indexes, and the bookmark.
-use Rattle.std.proofs.Common.{◌≡◌, ℕ, ◌≤◌, ◌==◌, Bool, true, false, not, List, [], ◌∷◌, length, map, min, Option, Some, None, filter, refl, sym, ap, subst, ◌∙◌, arith}
+use Rattle.std.proofs.Common.{◌≡◌, ℕ, ◌≤◌, ◌==◌, true, false, List, [], ◌∷◌, length, map, min, Option, Some, None, filter, refl, sym, ap, subst, ◌∙◌, arith}
 use Rattle.std.specs.Prelude.{nat_le, reverse, IfSome, IsSome, IsSomeAnd}
 use Rattle.std.specs.List.{AllByRecursion, list_any}
 use Rattle.std.proofs.lemmas.Bool.Decides.{nat_tests}
 use Rattle.std.proofs.lemmas.List.{length-take}
+use Rattle.std.proofs.lemmas.Bool.{not-false}
 use Rattle.jet_base.specs.declared.replies.Jet.TheVariants as jet
 use Rattle.jet_base.specs.ColumnType.{from_little_endian}
 use Rattle.column_set.specs.RecordValues.{RecordFields}
@@ -65,10 +66,10 @@ schemas-told engine state session local label c h step found = schema_in engine.
 -- the law that they rest on
 abbrev pub AsksAlike : Type 0
 AsksAlike =
-    (base : Records) (dropped kept : List PastChange) (store : VersionedTables) (state : DatabaseState) → Holds base dropped kept store state
+    (base : Records) (dropped not-false : List PastChange) (store : VersionedTables) (state : DatabaseState) → Holds base dropped not-false store state
     → (reader : Reader) → reader.begin ≡ begin_of (transaction_of state reader.session.0)
     → (table : ℕ) (seen : Table) → table_with_id (view state reader.session.0) table ≡ Some seen
-    → AllByRecursion (λ rule. SeesNoSum rule table kept × HasKeyBefores rule (schema_of seen) table base kept) (schema_of seen).indexes
+    → AllByRecursion (λ rule. SeesNoSum rule table not-false × HasKeyBefores rule (schema_of seen) table base not-false) (schema_of seen).indexes
     → AllByRecursion (λ rule. (own : Option (List ℕ)) (values : RecordFields)
     → unique_refusals reader store table (schema_of seen) rule own values
     ≡ (list_any (has_key_conflict state reader.session.0 table (schema_of seen) rule) (new_keys rule (schema_of seen) (replaced_record seen.rows own) values), jet.WriteConflict)
@@ -82,17 +83,17 @@ asked_of_state state session table schema rows own values rule =
 
 -- the indexes of a schema see no sum, nor anything of one in the records before them
 abbrev AreApart : Records → List PastChange → ℕ → Schema → Type 0
-AreApart base kept table schema = AllByRecursion (λ rule. SeesNoSum rule table kept × HasKeyBefores rule schema table base kept) schema.indexes
+AreApart base not-false table schema = AllByRecursion (λ rule. SeesNoSum rule table not-false × HasKeyBefores rule schema table base not-false) schema.indexes
 
 -- so it is for the cursor's schema
-apart_at : (tables : List Table) (base : Records) (kept : List PastChange) (c : OpenCursor) (committed : Option Table) → table_with_id tables c.cursor.table ≡ committed → HasSchemaOf c committed
-    → IfSome committed (λ t. AllByRecursion (IsApartFromSums base kept t) t.indexes) → AreApart base kept c.cursor.table c.schema
-apart_at tables base kept c None is has apart = absurd has
-apart_at tables base kept c (Some t) is has apart =
-    subst (AreApart base kept c.cursor.table) (sym has.0)
-    (subst (λ (n : ℕ). AreApart base kept n (schema_of t)) (id_of tables c.cursor.table t is)
-    (all_primary_first (λ rule. SeesNoSum rule t.id kept × HasKeyBefores rule (schema_of t) t.id base kept) t.indexes
-    (all_weaker (IsApartFromSums base kept t) (λ rule. SeesNoSum rule t.id kept × HasKeyBefores rule (schema_of t) t.id base kept) (λ rule each. (each.1, each.2)) t.indexes apart)))
+apart_at : (tables : List Table) (base : Records) (not-false : List PastChange) (c : OpenCursor) (committed : Option Table) → table_with_id tables c.cursor.table ≡ committed → HasSchemaOf c committed
+    → IfSome committed (λ t. AllByRecursion (IsApartFromSums base not-false t) t.indexes) → AreApart base not-false c.cursor.table c.schema
+apart_at tables base not-false c None is has apart = absurd has
+apart_at tables base not-false c (Some t) is has apart =
+    subst (AreApart base not-false c.cursor.table) (sym has.0)
+    (subst (λ (n : ℕ). AreApart base not-false n (schema_of t)) (id_of tables c.cursor.table t is)
+    (all_primary_first (λ rule. SeesNoSum rule t.id not-false × HasKeyBefores rule (schema_of t) t.id base not-false) t.indexes
+    (all_weaker (IsApartFromSums base not-false t) (λ rule. SeesNoSum rule t.id not-false × HasKeyBefores rule (schema_of t) t.id base not-false) (λ rule each. (each.1, each.2)) t.indexes apart)))
 
 keys_at : AsksAlike → (engine : EngineState) (state : DatabaseState) (session table : ℕ) (schema : Schema) (own : Option (List ℕ)) (values : RecordFields) (seen : Option Table) (h : HoldsState engine state)
     → table_with_id (view state session) table ≡ seen → IsSomeAnd seen (λ t. schema ≡ schema_of t) → AreApart h.base h.kept table schema
@@ -121,7 +122,7 @@ keys-told alike engine state session local label c h step found own values =
 
 abbrev pub SeesBookmarks : Type 0
 SeesBookmarks =
-    (base : Records) (dropped kept : List PastChange) (state : DatabaseState) → IsHistory base dropped kept state → IndexesSeeNoSum kept state → HasBookmarks base kept state → (session id : ℕ)
+    (base : Records) (dropped not-false : List PastChange) (state : DatabaseState) → IsHistory base dropped not-false state → IndexesSeeNoSum not-false state → HasBookmarks base not-false state → (session id : ℕ)
     → IfSome (table_with_id state.tables id) (λ table. (bookmark : List ℕ) → IfSome (records_of (view state session) id bookmark) (StandsUnder state.number (schema_of table) bookmark))
 
 pub legal-primary : (schema : Schema) (rule : IndexRule) → HasLegalRules schema → primary_rule schema ≡ Some rule → rule.key_most ≤ 255
@@ -156,16 +157,12 @@ replaced_hidden state session c bookmark None has stands may none = absurd has
 replaced_hidden state session c bookmark (Some t) has stands may none =
     hidden_short state.number (schema_of t) bookmark (records_of (view state session) c.cursor.table bookmark) may.0 (stands bookmark) (ap primary_rule (sym has.0) ∙ none)
 
-kept : (b : Bool) → not b ≡ false → b ≡ true
-kept true e = refl
-kept false e = sym e
-
 -- the bookmark of a replaced record: its primary key, where there is a primary index
 replaced_short : (schema : Schema) (bookmark : List ℕ) (values : RecordFields) (rule : Option IndexRule) → HasLegalRules schema → primary_rule schema ≡ rule → is_other_key schema bookmark values rule ≡ false → (primary_rule schema ≡ None → length bookmark ≤ 255)
     → length bookmark ≤ 255
 replaced_short schema bookmark values None rules is same hidden = hidden is
 replaced_short schema bookmark values (Some rule) rules is same hidden =
-    subst (λ (b : List ℕ). length b ≤ 255) (same_bytes (primary_key rule schema values) bookmark (kept _ same)) (primary_short rule schema values (legal-primary schema rule rules is))
+    subst (λ (b : List ℕ). length b ≤ 255) (same_bytes (primary_key rule schema values) bookmark (not-false _ same)) (primary_short rule schema values (legal-primary schema rule rules is))
 
 short_by : SeesBookmarks → (engine : EngineState) (state : DatabaseState) (session : ℕ) (local : LocalState) (label : ℕ) (c : OpenCursor) (for : PreparedFor) (values : RecordFields) → HoldsState engine state → IsInStep state session local
     → cursor_labelled local label ≡ Some c → HasLegalRules c.schema → MayReplace state session c for → is_primary_changed c.schema for values ≡ false → length (bookmark_by engine session c.schema for values) ≤ 255

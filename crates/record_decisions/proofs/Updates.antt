@@ -1,7 +1,8 @@
 -- What decides Update.
 use Rattle.std.proofs.Common.{◌≡◌, ℕ, ◌+◌, Bool, true, false, List, ◌∷◌, ◌++◌, length, Option, Some, None, Result, Ok, Err, refl, sym, ap, ◌∙◌}
-use Rattle.std.specs.Prelude.{is_none, is_some, option_map, if◌then◌else◌, IfSome, IsSome, IsTrue}
+use Rattle.std.specs.Prelude.{is_none, is_some, if◌then◌else◌, IfSome, IsSome, IsTrue}
 use Rattle.std.proofs.lemmas.List.{append_assoc}
+use Rattle.common_lemmas.proofs.Options.{is_some-map}
 use Rattle.jet_base.specs.declared.ids.CursorId.{CursorId}
 use Rattle.jet_base.specs.declared.replies.Jet.{Jet}
 use Rattle.jet_base.specs.declared.replies.Jet.TheVariants as jet
@@ -64,17 +65,12 @@ bookmark-told : (engine : EngineState) (state : DatabaseState) (side : SessionSi
 bookmark-told engine state side schema (inserting copied) values h = inserted-told engine state side schema values (primary_rule schema) h
 bookmark-told engine state side schema (replacing bookmark) values h = refl
 
--- a record is seen where its row is shown
-some-seen : {X Y : Type 0} (f : X → Y) (o : Option X) → is_some (option_map f o) ≡ is_some o
-some-seen f None = refl
-some-seen f (Some x) = refl
-
 copied-told : SeesRecords → (engine : EngineState) (state : DatabaseState) (side : SessionSide) (label : ℕ) (c : OpenCursor) (for : PreparedFor) → HoldsState engine state → IsInStep state side.session side.state → cursor_labelled side.state label ≡ Some c
     → copied_in (rows_seen (asked_by engine state side) c) for ≡ copied_by engine side.session c.cursor.table for
 copied-told sees engine state side label c (inserting None) h step found = refl
 copied-told sees engine state side label c (inserting (Some bookmark)) h step found =
     ap (λ b. if b then Some bookmark else None)
-    (ap (λ (r : Option RecordFields). is_some r) (sym (sees engine state side.session side.state label c h step found bookmark)) ∙ some-seen _ (shown_for engine side.session c.cursor.table bookmark))
+    (ap (λ (r : Option RecordFields). is_some r) (sym (sees engine state side.session side.state label c h step found bookmark)) ∙ is_some-map _ (shown_for engine side.session c.cursor.table bookmark))
 copied-told sees engine state side label c (replacing bookmark) h step found = refl
 
 -- ---- the answer

@@ -11,6 +11,9 @@ use Rattle.std.specs.FinMap.Entries.{below_all, by_order, is_sorted, is_sorted-p
 use Rattle.std.proofs.lemmas.Bool.{and_parts, and_from, eq-eqb, eqb-true}
 use Rattle.std.proofs.lemmas.List.{length-append}
 use Rattle.std.proofs.lemmas.List.Concat.{flat_map-append}
+use Rattle.common_lemmas.proofs.Options.{same_some}
+use Rattle.common_lemmas.proofs.Orders.{is_equal}
+use Rattle.common_lemmas.proofs.Booleans.{T_first, T_second, is_true}
 use Rattle.column_set.specs.declared.rows.RowValue.{RowValue}
 use Rattle.column_set.specs.declared.rows.RowValue.TheVariants.{Here}
 use Rattle.column_set.specs.RecordValues.{RecordFields, lookup_by_number, put_by_number, values_of}
@@ -20,27 +23,11 @@ use Rattle.row_edit.proofs.Passing.{stand_in_row}
 
 -- ---- the place of a column that is found
 
-holds_left : (a b : Bool) → T (a && b) → T a
-holds_left true b h = tt
-holds_left false b h = h
-
-holds_right : (a b : Bool) → T (a && b) → T b
-holds_right true b h = h
-holds_right false b h = absurd h
-
-just : {X : Type 0} (x y : X) → Some x ≡ Some y → x ≡ y
-just x y e = cc
-
 nothing : {X : Type 0} (x : X) → None ≡ Some x → ⊥
 nothing x e = cc
 
 never : false ≡ true → ⊥
 never e = cc
-
-tied : (o : Ordering) → is_eq o ≡ true → o ≡ Equal
-tied Less e = absurd (never e)
-tied Equal e = refl
-tied Greater e = absurd (never e)
 
 less : (o : Ordering) → T (is_lt o) → o ≡ Less
 less Less h = refl
@@ -48,7 +35,7 @@ less Equal h = absurd h
 less Greater h = absurd h
 
 itself : (c : ℕ) → nat_cmp c c ≡ Equal
-itself c = tied (nat_cmp c c) (unsigned_tied c c ∙ eq-eqb c c refl)
+itself c = is_equal (nat_cmp c c) (unsigned_tied c c ∙ eq-eqb c c refl)
 
 same : (c k : ℕ) → nat_cmp c k ≡ Equal → c ≡ k
 same c k e = eqb-true c k (sym (unsigned_tied c k) ∙ ap is_eq e)
@@ -62,8 +49,8 @@ other c k e is = no (sym (itself c) ∙ ap (nat_cmp c) (sym is) ∙ e)
 none_below : {X : Type 0} (c k : ℕ) (fields : List (ℕ × X)) → nat_cmp c k ≡ Less → T (below_all nat_cmp k fields) → lookup_by_number c fields ≡ None
 none_below c k [] e h = refl
 none_below {X} c k (field ∷ fields) e h =
-    ap (λ o. cond (is_eq o) (Some field.1) (lookup_by_number c fields)) (nat_cmp_total.trans c k field.0 e (less (nat_cmp k field.0) (holds_left (is_lt (nat_cmp k field.0)) (below_all nat_cmp k fields) h)))
-    ∙ none_below c k fields e (holds_right (is_lt (nat_cmp k field.0)) (below_all nat_cmp k fields) h)
+    ap (λ o. cond (is_eq o) (Some field.1) (lookup_by_number c fields)) (nat_cmp_total.trans c k field.0 e (less (nat_cmp k field.0) (T_first (is_lt (nat_cmp k field.0)) (below_all nat_cmp k fields) h)))
+    ∙ none_below c k fields e (T_second (is_lt (nat_cmp k field.0)) (below_all nat_cmp k fields) h)
 
 -- one case for each place of a column that is found
 at_found : {X : Type 0} (Q : List (ℕ × X) → List (ℕ × X) → Type 0) (c : ℕ) (v w : X)
@@ -72,9 +59,9 @@ at_found : {X : Type 0} (Q : List (ℕ × X) → List (ℕ × X) → Type 0) (c 
 at_found Q c v w here further [] rise e = absurd (nothing w e)
 at_found {X} Q c v w here further (field ∷ fields) rise e =
     elim (nat_cmp c field.0) as (λ o. nat_cmp c field.0 ≡ o → cond (is_eq o) (Some field.1) (lookup_by_number c fields) ≡ Some w → Q (by_order o ((c, v) ∷ field ∷ fields) ((field.0, v) ∷ fields) (field ∷ put_by_number c v fields)) (field ∷ fields)) [
-      | Less ↦ λ f g. absurd (nothing w (sym (none_below c field.0 fields f (holds_left (below_all nat_cmp field.0 fields) (is_sorted nat_cmp fields) rise)) ∙ g))
-      | Equal ↦ λ f g. subst (λ (k : ℕ). Q ((k, v) ∷ fields) ((k, field.1) ∷ fields)) (same c field.0 f) (subst (λ (x : X). Q ((c, v) ∷ fields) ((c, x) ∷ fields)) (sym (just field.1 w g)) (here fields))
-      | Greater ↦ λ f g. further field (put_by_number c v fields) fields (other c field.0 f) (at_found Q c v w here further fields (holds_right (below_all nat_cmp field.0 fields) (is_sorted nat_cmp fields) rise) g)
+      | Less ↦ λ f g. absurd (nothing w (sym (none_below c field.0 fields f (T_first (below_all nat_cmp field.0 fields) (is_sorted nat_cmp fields) rise)) ∙ g))
+      | Equal ↦ λ f g. subst (λ (k : ℕ). Q ((k, v) ∷ fields) ((k, field.1) ∷ fields)) (same c field.0 f) (subst (λ (x : X). Q ((c, v) ∷ fields) ((c, x) ∷ fields)) (sym (same_some field.1 w g)) (here fields))
+      | Greater ↦ λ f g. further field (put_by_number c v fields) fields (other c field.0 f) (at_found Q c v w here further fields (T_second (below_all nat_cmp field.0 fields) (is_sorted nat_cmp fields) rise) g)
     ] refl e
 
 -- ---- the values before and behind it
@@ -116,10 +103,6 @@ one_found fields c w e = by (lookup_by_number c fields) e
 holds : (b : Bool) → b ≡ true → T b
 holds true e = tt
 holds false e = absurd (never e)
-
-is_true : (b : Bool) → T b → b ≡ true
-is_true true h = refl
-is_true false h = absurd h
 
 rises : (fields : RowFields) → is_row fields ≡ true → T (is_sorted nat_cmp fields)
 rises fields formed =

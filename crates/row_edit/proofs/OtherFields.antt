@@ -6,6 +6,8 @@ use Rattle.std.specs.Ordering.{nat_cmp}
 use Rattle.std.specs.FinMap.Entries.{is_sorted, is_sorted-where_key}
 use Rattle.std.proofs.lemmas.Bool.{and_parts, and_from, ltb-true, lt-ltb}
 use Rattle.std.proofs.lemmas.List.{length-append}
+use Rattle.common_lemmas.proofs.Lists.{all_filtered}
+use Rattle.common_lemmas.proofs.Booleans.{is_true}
 use Rattle.column_set.specs.declared.rows.RowValue.{RowValue}
 use Rattle.column_set.specs.declared.rows.RowValue.TheVariants.{Here}
 use Rattle.column_set.specs.RecordValues.{RecordFields, remove_by_number}
@@ -38,14 +40,6 @@ values_without column (field ∷ fields) = by (field.0 == column) refl (values_w
 
 -- ---- it is a row
 
-all_left : {X : Type 0} (test kept : X → Bool) (xs : List X) → list_all test xs ≡ true → list_all test (filter kept xs) ≡ true
-all_left test kept [] h = refl
-all_left {X} test kept (x ∷ xs) h = let parts = and_parts (test x) (list_all test xs) h in by (kept x) parts.0 (all_left test kept xs parts.1)
-  where
-    by : (b : Bool) → test x ≡ true → list_all test (filter kept xs) ≡ true → list_all test (cond b (x ∷ filter kept xs) (filter kept xs)) ≡ true
-    by true first rest = and_from (test x) (list_all test (filter kept xs)) first rest
-    by false first rest = rest
-
 pub fewer : {X : Type 0} (kept : X → Bool) (xs : List X) → length (filter kept xs) ≤ length xs
 fewer kept [] = omega arith
 fewer {X} kept (x ∷ xs) = by (kept x) (fewer kept xs)
@@ -54,10 +48,6 @@ fewer {X} kept (x ∷ xs) = by (kept x) (fewer kept xs)
     by true h = omega arith
     by false h = omega arith
 
-holds : (b : Bool) → T b → b ≡ true
-holds true h = refl
-holds false h = absurd h
-
 pub formed : (fields : RowFields) (column : ℕ) → is_row fields ≡ true → is_row (remove_by_number column fields) ≡ true
 formed fields column h =
     let parts = and_parts (is_well_formed fields) (ltb (length (values_in_order fields)) (2 ^ 16)) h in
@@ -65,7 +55,7 @@ formed fields column h =
     let few : length (values_in_order (remove_by_number column fields)) < 2 ^ 16 = few_left parts.1 in
     and_from (is_well_formed (remove_by_number column fields)) (ltb (length (values_in_order (remove_by_number column fields))) (2 ^ 16))
     (and_from (is_sorted nat_cmp (remove_by_number column fields)) (list_all field_fits_row (remove_by_number column fields))
-    (holds (is_sorted nat_cmp (remove_by_number column fields)) (is_sorted-where_key nat_cmp (λ number. not (number == column)) fields (subst T (sym well.0) tt))) (all_left field_fits_row (λ field. not (field.0 == column)) fields well.1))
+    (is_true (is_sorted nat_cmp (remove_by_number column fields)) (is_sorted-where_key nat_cmp (λ number. not (number == column)) fields (subst T (sym well.0) tt))) (all_filtered field_fits_row (λ field. not (field.0 == column)) fields well.1))
     (lt-ltb _ _ few)
   where
     few_left : ltb (length (values_in_order fields)) (2 ^ 16) ≡ true → length (values_in_order (remove_by_number column fields)) < 2 ^ 16

@@ -7,6 +7,7 @@ use Rattle.std.proofs.lemmas.List.{length-drop}
 use Rattle.std.proofs.lemmas.List.Splits.{slice_split_first}
 use Rattle.std.proofs.lemmas.Bool.Decides.{nat_tests}
 use Rattle.std.proofs.lemmas.List.Sums.{prefix_len_is}
+use Rattle.std.proofs.lemmas.Bool.{not_from_true}
 use Rattle.memchr.specs.Find.{IsFirstByte, is_byte}
 use Rattle.script_words.specs.Words.{is_empty_list}
 
@@ -55,9 +56,6 @@ not_passed : (b : Bool) → (b ≡ true → ⊥) → not b ≡ true
 not_passed true h = absurd (h refl)
 not_passed false h = refl
 
-passed : (b : Bool) → b ≡ true → not b ≡ false
-passed b h = ap not h
-
 position_none : (p : ℕ → Bool) (xs : List ℕ) → length xs ≤ position_or_len p xs → None ≡ position p xs
 position_none p xs h =
     let beyond : nat_lt (position_or_len p xs) (length xs) ≡ false = grind (arith, nat_tests) in
@@ -77,7 +75,7 @@ first_byte byte text None nowhere =
 first_byte byte text (Some k) (first, here) =
     let inside : k < length text = first.high in
     let at : position_or_len (λ b. b == byte) text ≡ k =
-    prefix_len_is (λ b. not (b == byte)) text k 0 (omega arith) (λ j h. not_passed _ (first.before j (omega arith) h)) (λ h. passed _ here) in
+    prefix_len_is (λ b. not (b == byte)) text k 0 (omega arith) (λ j h. not_passed _ (first.before j (omega arith) h)) (λ h. not_from_true _ here) in
     position_some (λ b. b == byte) text k at inside
 
 pub ruleset first_bytes = first_byte

@@ -3,6 +3,8 @@ use Rattle.std.proofs.Common.{◌≡◌, ℕ, suc, ◌<◌, Bool, true, false, c
 use Rattle.std.specs.Prelude.{◌==◌, nat_le, nat_lt, not, bytes_eq, is_none, is_some}
 use Rattle.std.specs.Option.{option_or}
 use Rattle.std.proofs.lemmas.Bool.Decides.{nat_tests}
+use Rattle.std.proofs.lemmas.Bool.{and_parts, ltb-true}
+use Rattle.common_lemmas.proofs.Numbers.{self_equal}
 use Rattle.jet_base.specs.declared.replies.Jet.{Jet}
 use Rattle.jet_base.specs.declared.replies.Jet.TheVariants as jet
 use Rattle.jet_base.specs.declared.words.ColType.{ColType}
@@ -141,23 +143,15 @@ sessions-told laws engine state session called h =
 
 -- ---- records of the table
 
-both : (a b : Bool) → (a && b) ≡ true → (a ≡ true) × (b ≡ true)
-both true true e = (refl, refl)
-both true false e = cc
-both false b e = cc
-
 same_some : (x y : Table) → Some x ≡ Some y → x ≡ y
 same_some x y e = ap (λ (o : Option Table). unwrap_or o x) e
-
-is_below : (n m : ℕ) → nat_lt n m ≡ true → n < m
-is_below n m e = grind (arith, nat_tests)
 
 -- a table that is found by its name lies above
 found_above : (low high : ℕ) (tables : List Table) (name : List ℕ) (t : Table) → ids_rise low high tables ≡ true → table_named tables name ≡ Some t → low < t.id
 found_above low high [] name t rise e = cc
 found_above low high (x ∷ tables) name t rise e =
-    let parts : (nat_lt low x.id ≡ true) × (ids_rise x.id high tables ≡ true) = both _ _ rise in
-    let first : low < x.id = is_below low x.id parts.0 in
+    let parts : (nat_lt low x.id ≡ true) × (ids_rise x.id high tables ≡ true) = and_parts _ _ rise in
+    let first : low < x.id = ltb-true low x.id parts.0 in
     elim (bytes_eq x.name name) as (λ b. cond b (Some x) (table_named tables name) ≡ Some t → low < t.id) [
       | true ↦ λ h. subst (λ (y : Table). low < y.id) (same_some x t h) first
       | false ↦ λ h. let later = found_above x.id high tables name t parts.1 h in omega (arith, first, later)
@@ -166,16 +160,13 @@ found_above low high (x ∷ tables) name t rise e =
 not_itself : (n m : ℕ) → n < m → (n == m) ≡ false
 not_itself n m h = grind (arith, nat_tests)
 
-itself : (n : ℕ) → (n == n) ≡ true
-itself n = grind (arith, nat_tests)
-
 -- its number finds it too
 by_number : (low high : ℕ) (tables : List Table) (name : List ℕ) (t : Table) → ids_rise low high tables ≡ true → table_named tables name ≡ Some t → table_with_id tables t.id ≡ Some t
 by_number low high [] name t rise e = cc
 by_number low high (x ∷ tables) name t rise e =
-    let parts : (nat_lt low x.id ≡ true) × (ids_rise x.id high tables ≡ true) = both _ _ rise in
+    let parts : (nat_lt low x.id ≡ true) × (ids_rise x.id high tables ≡ true) = and_parts _ _ rise in
     elim (bytes_eq x.name name) as (λ b. cond b (Some x) (table_named tables name) ≡ Some t → table_with_id (x ∷ tables) t.id ≡ Some t) [
-      | true ↦ λ h. subst (λ (y : Table). table_with_id (x ∷ tables) y.id ≡ Some y) (same_some x t h) (ap (λ b. cond b (Some x) (table_with_id tables x.id)) (itself x.id))
+      | true ↦ λ h. subst (λ (y : Table). table_with_id (x ∷ tables) y.id ≡ Some y) (same_some x t h) (ap (λ b. cond b (Some x) (table_with_id tables x.id)) (self_equal x.id))
       | false ↦ λ h. ap (λ b. cond b (Some x) (table_with_id tables t.id)) (not_itself x.id t.id (found_above x.id high tables name t parts.1 h)) ∙ by_number x.id high tables name t parts.1 h
     ] e
 
@@ -183,7 +174,7 @@ by_number low high (x ∷ tables) name t rise e =
 numbered : (low high : ℕ) (tables : List Table) → ids_rise low high (map without_rows tables) ≡ true → ids_rise low high tables ≡ true
 numbered low high [] h = h
 numbered low high (x ∷ tables) h =
-    let parts : (nat_lt low x.id ≡ true) × (ids_rise x.id high (map without_rows tables) ≡ true) = both _ _ h in
+    let parts : (nat_lt low x.id ≡ true) × (ids_rise x.id high (map without_rows tables) ≡ true) = and_parts _ _ h in
     ap (λ b. b && ids_rise x.id high tables) parts.0 ∙ numbered x.id high tables parts.1
 
 any_row : (rows : Rows) → nat_lt 0 (length rows) ≡ is_some (entry_after Before (own_order rows))

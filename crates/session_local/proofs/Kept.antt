@@ -3,6 +3,7 @@ use Rattle.std.proofs.Common.{◌≡◌, ℕ, ◌≤◌, ◌==◌, Bool, true, f
 use Rattle.std.specs.List.{list_all, AllByRecursion}
 use Rattle.std.specs.Prelude.{bytes_eq}
 use Rattle.std.proofs.lemmas.Bool.Decides.{nat_tests}
+use Rattle.std.proofs.lemmas.Bool.{not-false}
 use Rattle.jet_base.specs.declared.replies.Jet.{Jet}
 use Rattle.jet_base.specs.declared.replies.Jet.TheVariants as jet
 use Rattle.jet_base.specs.declared.words.Given.{Given}
@@ -68,10 +69,6 @@ tested : (b : Bool) (reply : Jet) (rest : Option Jet) → cond b (Some reply) re
 tested false reply rest h = (refl, h)
 tested true reply rest h = cc
 
-not_denied : (b : Bool) → not b ≡ false → b ≡ true
-not_denied true h = refl
-not_denied false h = cc
-
 pub record IsSettable (column : Column) (sequence : ℕ) (value : Given) (fields : RecordFields) : Type 0 where
   pub fits : given_fits column.kind value ≡ true
   pub small : nat_lt (largest_value column.kind) (given_length value) ≡ false
@@ -85,7 +82,7 @@ settable column sequence value fields h =
     let four = tested (nat_lt (largest_value column.kind) (given_length value)) jet.ColumnTooBig _ three.1 in
     let five = tested (given_is_null value && column.not_null && (length (values_after column.multi sequence None (values_of fields column.id.0)) == 0)) jet.NullInvalid _ four.1 in
     let six = tested (nat_lt 1700 (record_size (fields_after column sequence value fields))) jet.RecordTooBig _ five.1 in
-    record { fits = not_denied _ three.0; small = four.0; size = six.0 }
+    record { fits = not-false _ three.0; small = four.0; size = six.0 }
 
 stored_fits : (column : Column) (value : Given) → given_fits column.kind value ≡ true → nat_lt (largest_value column.kind) (given_length value) ≡ false → fits_if (value_fits column.kind) (stored_value column value) ≡ true
 stored_fits column value fits small =

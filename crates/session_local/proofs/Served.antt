@@ -2,6 +2,7 @@
 use Rattle.std.proofs.Common.{◌≡◌, ℕ, ◌==◌, Bool, true, false, ◌||◌, List, [], Option, Some, None, Result, Ok, Err, refl, sym, ap, subst, ◌∙◌, is_some, is_none, find}
 use Rattle.std.specs.Prelude.{IfOk, IfErr, MatchOption}
 use Rattle.std.specs.List.{list_all, position}
+use Rattle.common_lemmas.proofs.Booleans.{or_false}
 use Rattle.jet_base.specs.declared.ids.CursorId.{CursorId}
 use Rattle.jet_base.specs.declared.memory.OutOfMemory.{OutOfMemory}
 use Rattle.jet_base.specs.declared.replies.Jet.{Jet}
@@ -30,10 +31,6 @@ use Rattle.session_local.proofs.Answered.{answered-kept}
 or_true : (b : Bool) → (b || true) ≡ true
 or_true true = refl
 or_true false = refl
-
-or_false : (b : Bool) → (b || false) ≡ b
-or_false true = refl
-or_false false = refl
 
 -- ---- refusals
 

@@ -6,6 +6,7 @@ use Rattle.std.specs.Ordering.{is_eq, nat_cmp}
 use Rattle.std.specs.Cmp.Lexicographic.{nat_list_cmp_total, slice_cmp, texts_ties}
 use Rattle.std.specs.declared.cmp.Ordering.TheVariants.{Equal}
 use Rattle.std.specs.FinMap.Entries.{below_all, find-put, find-where_key, is_sorted, is_sorted-put, is_sorted-where_key, same_entries}
+use Rattle.common_lemmas.proofs.Booleans.{is_true}
 use Rattle.column_set.specs.RecordValues.{bytes_lt, lookup_by_key}
 use Rattle.column_set.specs.RowReading.{row_in}
 use Rattle.column_set.specs.Rows.{RowFields}
@@ -69,12 +70,8 @@ own_rows_rise (n ∷ nodes) sorted = by (row_in_node n.data) (own_rows_rise node
     by None rest = rest
     by (Some row) rest = both _ _ (low_rows n.key nodes (and_left _ _ sorted)) rest
 
-held_true : (b : Bool) → T b → b ≡ true
-held_true true t = refl
-held_true false t = absurd t
-
 pub own_rows_are : (nodes : List Node) → are_sorted (bookmark_entries nodes) ≡ true → AreRows (newest_rows nodes)
-own_rows_are nodes sorted = held_true (is_sorted (slice_cmp nat_cmp) (newest_rows nodes)) (own_rows_rise nodes sorted)
+own_rows_are nodes sorted = is_true (is_sorted (slice_cmp nat_cmp) (newest_rows nodes)) (own_rows_rise nodes sorted)
 
 -- ---- other nodes
 

@@ -4,6 +4,7 @@ use Rattle.std.specs.Prelude.{unwrap_or}
 use Rattle.std.specs.List.{list_any}
 use Rattle.std.proofs.lemmas.Bool.{eqb-true}
 use Rattle.std.proofs.lemmas.List.Folds.{list_any-append}
+use Rattle.common_lemmas.proofs.Booleans.{and_false, or_false}
 use Rattle.table_trees.specs.StoredTables.{StoredIndex, StoredTable, changed_where, has_index, has_table, is_index, is_table, part_of, put_indexes, table_indexes, with_indexes, without_where}
 use Rattle.table_trees.proofs.Pages.{by_test}
 use Rattle.table_trees.proofs.Lookups.{changed_nowhere, found_nowhere, none_passes}
@@ -63,10 +64,6 @@ other-without p q part (x ∷ xs) apart =
     (λ u. rw (u, t) (other-without p q part xs apart))
     (λ u. rw (u, t) (other-without p q part xs apart)))
 
-and_false : (b : Bool) → (b && false) ≡ false
-and_false true = refl
-and_false false = refl
-
 and_true : (b : Bool) → (b && true) ≡ b
 and_true true = refl
 and_true false = refl
@@ -102,10 +99,6 @@ part-pushed q part x (y ∷ xs) none =
     by_test (q y)
     (λ t. rw t refl)
     (λ t. rw t (part-pushed q part x xs none))
-
-or_false : (b : Bool) → (b || false) ≡ b
-or_false true = refl
-or_false false = refl
 
 pub any-pushed : {X : Type 0} (q : X → Bool) (x : X) (xs : List X) → list_any q (xs ++ x ∷ []) ≡ (list_any q xs || q x)
 any-pushed q x xs = list_any-append q xs (x ∷ []) ∙ ap (λ (b : Bool). list_any q xs || b) (or_false (q x))

@@ -10,6 +10,9 @@ use Rattle.std.specs.declared.cmp.Ordering.TheVariants.{Less, Equal, Greater}
 use Rattle.std.specs.Ordering.{is_eq, is_lt, ordering_reverse}
 use Rattle.std.specs.Cmp.Lexicographic.{nat_list_cmp_total}
 use Rattle.std.specs.FinMap.Entries.{by_order, below_all, is_sorted, is_sorted-put}
+use Rattle.std.proofs.lemmas.Bool.{and_from}
+use Rattle.common_lemmas.proofs.Booleans.{and_left, and_right}
+use Rattle.common_lemmas.proofs.Orders.{is_equal}
 use Rattle.page_image.specs.Page.{Node}
 use Rattle.page_space.specs.Frames.{Frames}
 use Rattle.btree_inplace.specs.Changes.{inserted, inserted_if_absent, without_key}
@@ -28,11 +31,6 @@ use Rattle.table_trees.proofs.Finding.{find_map, find_reverse, last_map}
 use Rattle.table_trees.proofs.Pages.{by_test, rearranged}
 
 -- ---- equal bookmarks
-
-is_equal : (r : Ordering) → is_eq r ≡ true → r ≡ Equal
-is_equal Less e = absurd (true≢false (sym e))
-is_equal Equal e = refl
-is_equal Greater e = absurd (true≢false (sym e))
 
 pub same_key : (key : List ℕ) (n : Node) → has_key key n ≡ true → n.key ≡ key
 same_key key n t = (bytes_eq-Decides n.key key).0 (sym (is_eq-slice_cmp n.key key) ∙ t)
@@ -116,34 +114,23 @@ if_absent_short P nodes node is h =
 
 -- ---- one node less
 
-and_first : (a b : Bool) → (a && b) ≡ true → a ≡ true
-and_first true b e = refl
-and_first false b e = e
-
-and_second : (a b : Bool) → (a && b) ≡ true → b ≡ true
-and_second true b e = e
-and_second false b e = absurd (true≢false (sym e))
-
-both : (a b : Bool) → a ≡ true → b ≡ true → (a && b) ≡ true
-both a b e f = ap (λ x. x && b) e ∙ f
-
 below_without : (a key : List ℕ) (nodes : List Node) → list_all (pair_lt (a, a)) (bookmark_entries nodes) ≡ true → list_all (pair_lt (a, a)) (bookmark_entries (without_key nodes key)) ≡ true
 below_without a key [] h = refl
 below_without a key (n ∷ nodes) h =
-    let first : pair_lt (a, a) (n.key, n.key) ≡ true = and_first (pair_lt (a, a) (n.key, n.key)) (list_all (pair_lt (a, a)) (bookmark_entries nodes)) h in
-    let rest : list_all (pair_lt (a, a)) (bookmark_entries (without_key nodes key)) ≡ true = below_without a key nodes (and_second (pair_lt (a, a) (n.key, n.key)) (list_all (pair_lt (a, a)) (bookmark_entries nodes)) h) in
+    let first : pair_lt (a, a) (n.key, n.key) ≡ true = and_left (pair_lt (a, a) (n.key, n.key)) (list_all (pair_lt (a, a)) (bookmark_entries nodes)) h in
+    let rest : list_all (pair_lt (a, a)) (bookmark_entries (without_key nodes key)) ≡ true = below_without a key nodes (and_right (pair_lt (a, a) (n.key, n.key)) (list_all (pair_lt (a, a)) (bookmark_entries nodes)) h) in
     by_test (has_key key n)
     (λ t. rw t rest)
-    (λ t. rw t (both (pair_lt (a, a) (n.key, n.key)) (list_all (pair_lt (a, a)) (bookmark_entries (without_key nodes key))) first rest))
+    (λ t. rw t (and_from (pair_lt (a, a) (n.key, n.key)) (list_all (pair_lt (a, a)) (bookmark_entries (without_key nodes key))) first rest))
 
 pub without_in_order : (nodes : List Node) (key : List ℕ) → are_sorted (bookmark_entries nodes) ≡ true → are_sorted (bookmark_entries (without_key nodes key)) ≡ true
 without_in_order [] key h = refl
 without_in_order (n ∷ nodes) key h =
-    let below : list_all (pair_lt (n.key, n.key)) (bookmark_entries nodes) ≡ true = and_first (list_all (pair_lt (n.key, n.key)) (bookmark_entries nodes)) (are_sorted (bookmark_entries nodes)) h in
-    let rest : are_sorted (bookmark_entries (without_key nodes key)) ≡ true = without_in_order nodes key (and_second (list_all (pair_lt (n.key, n.key)) (bookmark_entries nodes)) (are_sorted (bookmark_entries nodes)) h) in
+    let below : list_all (pair_lt (n.key, n.key)) (bookmark_entries nodes) ≡ true = and_left (list_all (pair_lt (n.key, n.key)) (bookmark_entries nodes)) (are_sorted (bookmark_entries nodes)) h in
+    let rest : are_sorted (bookmark_entries (without_key nodes key)) ≡ true = without_in_order nodes key (and_right (list_all (pair_lt (n.key, n.key)) (bookmark_entries nodes)) (are_sorted (bookmark_entries nodes)) h) in
     by_test (has_key key n)
     (λ t. rw t rest)
-    (λ t. rw t (both (list_all (pair_lt (n.key, n.key)) (bookmark_entries (without_key nodes key))) (are_sorted (bookmark_entries (without_key nodes key))) (below_without n.key key nodes below) rest))
+    (λ t. rw t (and_from (list_all (pair_lt (n.key, n.key)) (bookmark_entries (without_key nodes key))) (are_sorted (bookmark_entries (without_key nodes key))) (below_without n.key key nodes below) rest))
 
 -- ---- one node changed
 
@@ -171,14 +158,14 @@ above_differs a b key same less =
 unchanged_above : (change : Node → Node) (key : List ℕ) (n : Node) (nodes : List Node) → has_key key n ≡ true → list_all (pair_lt (n.key, n.key)) (bookmark_entries nodes) ≡ true → changed_at change key nodes ≡ nodes
 unchanged_above change key n [] t below = refl
 unchanged_above change key n (m ∷ nodes) t below =
-    let less : is_lt (order n.key m.key) ≡ true = sym (own_pairs_rise n.key m.key) ∙ and_first (pair_lt (n.key, n.key) (m.key, m.key)) (list_all (pair_lt (n.key, n.key)) (bookmark_entries nodes)) below in
+    let less : is_lt (order n.key m.key) ≡ true = sym (own_pairs_rise n.key m.key) ∙ and_left (pair_lt (n.key, n.key) (m.key, m.key)) (list_all (pair_lt (n.key, n.key)) (bookmark_entries nodes)) below in
     let other : has_key key m ≡ false = above_differs n.key m.key key (is_equal (order n.key key) t) less in
-    (λ i. ap (λ (b : Bool). if b then change m else m) other i ∷ unchanged_above change key n nodes t (and_second (pair_lt (n.key, n.key) (m.key, m.key)) (list_all (pair_lt (n.key, n.key)) (bookmark_entries nodes)) below) i)
+    (λ i. ap (λ (b : Bool). if b then change m else m) other i ∷ unchanged_above change key n nodes t (and_right (pair_lt (n.key, n.key) (m.key, m.key)) (list_all (pair_lt (n.key, n.key)) (bookmark_entries nodes)) below) i)
 
 pub changed_short : (P : Node → Type 0) (change : Node → Node) (key : List ℕ) (nodes : List Node) → ((n : Node) → find (has_key key) nodes ≡ Some n → P n → P (change n)) → are_sorted (bookmark_entries nodes) ≡ true → All P nodes → All P (changed_at change key nodes)
 changed_short P change key [] is sorted h = h
 changed_short P change key (n ∷ nodes) is sorted h =
-    let below : list_all (pair_lt (n.key, n.key)) (bookmark_entries nodes) ≡ true = and_first (list_all (pair_lt (n.key, n.key)) (bookmark_entries nodes)) (are_sorted (bookmark_entries nodes)) sorted in
+    let below : list_all (pair_lt (n.key, n.key)) (bookmark_entries nodes) ≡ true = and_left (list_all (pair_lt (n.key, n.key)) (bookmark_entries nodes)) (are_sorted (bookmark_entries nodes)) sorted in
     by_test (has_key key n)
     (λ t.
     let whole : changed_at change key (n ∷ nodes) ≡ change n ∷ nodes = (λ i. ap (λ (b : Bool). if b then change n else n) t i ∷ unchanged_above change key n nodes t below i) in
@@ -188,7 +175,7 @@ changed_short P change key (n ∷ nodes) is sorted h =
     let whole : changed_at change key (n ∷ nodes) ≡ n ∷ changed_at change key nodes = ap (λ (b : Bool). (if b then change n else n) ∷ changed_at change key nodes) t in
     let skips : find (has_key key) (n ∷ nodes) ≡ find (has_key key) nodes = rw t refl in
     subst (All P) (sym whole) (All-cons P n (changed_at change key nodes) (All-head P n nodes h)
-    (changed_short P change key nodes (λ m e. is m (skips ∙ e)) (and_second (list_all (pair_lt (n.key, n.key)) (bookmark_entries nodes)) (are_sorted (bookmark_entries nodes)) sorted) (All-tail P n nodes h))))
+    (changed_short P change key nodes (λ m e. is m (skips ∙ e)) (and_right (list_all (pair_lt (n.key, n.key)) (bookmark_entries nodes)) (are_sorted (bookmark_entries nodes)) sorted) (All-tail P n nodes h))))
 
 -- ---- what a node that is found has
 

@@ -5,6 +5,8 @@ use Rattle.std.specs.List.{list_all}
 use Rattle.std.specs.Ordering.{eq_by_cmp, nat_cmp, is_lt}
 use Rattle.std.specs.Cmp.Lexicographic.{slice_cmp, nat_list_cmp_total, texts_ties}
 use Rattle.std.specs.FinMap.Entries.{below_all, is_sorted-put, is_sorted-where_key}
+use Rattle.std.proofs.lemmas.Bool.{or_left, or_right}
+use Rattle.common_lemmas.proofs.Booleans.{T_first, T_second, is_true}
 use Rattle.btree_inplace.specs.Order.{get_in, has_key}
 use Rattle.column_set.specs.RecordValues.{RecordFields}
 use Rattle.cursor_nav.specs.Places.{Pair, are_sorted, pair_lt}
@@ -12,7 +14,7 @@ use Rattle.database_state.specs.Table.{Rows, row_at}
 use Rattle.derived_index.specs.KeptEntries.{has_entry}
 use Rattle.index_derive.specs.Entries.{own_order}
 use Rattle.page_image.specs.Page.{Node}
-use Rattle.record_changes.proofs.Tests.{and_both, and_left, and_right, impossible, same_bytes}
+use Rattle.record_changes.proofs.Tests.{and_both, and_left, and_right, same_bytes}
 use Rattle.table_trees.specs.StoredNodes.{bookmark_entries}
 use Rattle.version_store.specs.declared.calls.Reader.{Reader}
 use Rattle.version_store.specs.HeldChanges.{is_rewrite}
@@ -26,39 +28,16 @@ use Rattle.table_versions.proofs.SeenRecords.{unseen_stands}
 use Rattle.stored_variants.proofs.RisingRows.{rows_rise}
 use Rattle.long_value.specs.Values.{Values}
 
--- ---- tests
-
-or_left : (a b : Bool) → a ≡ true → (a || b) ≡ true
-or_left true b e = refl
-or_left false b e = impossible e
-
-or_right : (a b : Bool) → b ≡ true → (a || b) ≡ true
-or_right true b e = refl
-or_right false b e = e
-
 -- ---- records in the order of their bookmarks
-
--- rows that rise are in the order of their bookmarks
-first : (a b : Bool) → T (a && b) → T a
-first true b h = tt
-first false b h = h
-
-second : (a b : Bool) → T (a && b) → T b
-second true b h = h
-second false b h = absurd h
-
-is_true : (b : Bool) → T b → b ≡ true
-is_true true h = refl
-is_true false h = absurd h
 
 below_all_is : (key : List ℕ) (rows : Rows) → T (below_all (slice_cmp nat_cmp) key rows) → list_all (pair_lt (key, key)) (own_order rows) ≡ true
 below_all_is key [] h = refl
 below_all_is key (row ∷ rows) h =
-    and_both _ _ (or_left _ _ (is_true (is_lt (slice_cmp nat_cmp key row.0)) (first _ _ h))) (below_all_is key rows (second (is_lt (slice_cmp nat_cmp key row.0)) _ h))
+    and_both _ _ (or_left _ _ (is_true (is_lt (slice_cmp nat_cmp key row.0)) (T_first _ _ h))) (below_all_is key rows (T_second (is_lt (slice_cmp nat_cmp key row.0)) _ h))
 
 pub order_is : (rows : Rows) → RowsRise rows → are_sorted (own_order rows) ≡ true
 order_is [] h = refl
-order_is (row ∷ rows) h = and_both _ _ (below_all_is row.0 rows (first _ _ h)) (order_is rows (second (below_all (slice_cmp nat_cmp) row.0 rows) _ h))
+order_is (row ∷ rows) h = and_both _ _ (below_all_is row.0 rows (T_first _ _ h)) (order_is rows (T_second (below_all (slice_cmp nat_cmp) row.0 rows) _ h))
 
 -- what is taken back leaves the order
 with_rises : (rows : Rows) (bookmark : List ℕ) (values : Option RecordFields) → RowsRise rows → RowsRise (rows_with rows bookmark values)
@@ -110,9 +89,9 @@ there-rows key bookmark (row ∷ rows) = by (bytes_eq row.0 bookmark) refl (ther
     test : (b : Bool) → bytes_eq row.0 bookmark ≡ b → eq_by_cmp (slice_cmp nat_cmp) bookmark row.0 ≡ b
     test b e = sym (texts_ties bookmark row.0) ∙ turned bookmark row.0 ∙ e
 
-    first : (a c : Bool) → ((a && true) || (a && c)) ≡ (a && true)
-    first true c = refl
-    first false c = refl
+    T_first : (a c : Bool) → ((a && true) || (a && c)) ≡ (a && true)
+    T_first true c = refl
+    T_first false c = refl
 
     none : (a c : Bool) → ((a && false) || c) ≡ c
     none true c = refl
@@ -122,7 +101,7 @@ there-rows key bookmark (row ∷ rows) = by (bytes_eq row.0 bookmark) refl (ther
         → ((bytes_eq row.0 key && bytes_eq row.0 bookmark) || has_entry key bookmark (own_order rows)) ≡ (bytes_eq key bookmark && is_some (cond (eq_by_cmp (slice_cmp nat_cmp) bookmark row.0) (Some row.1) (row_at rows bookmark)))
     by true e rest =
         (λ i. ((own_pair key bookmark row.0 e i && e i) || rest i))
-        ∙ first (bytes_eq key bookmark) (is_some (row_at rows bookmark))
+        ∙ T_first (bytes_eq key bookmark) (is_some (row_at rows bookmark))
         ∙ ap (λ b. bytes_eq key bookmark && is_some (cond b (Some row.1) (row_at rows bookmark))) (sym (test true e))
     by false e rest =
         (λ i. ((bytes_eq row.0 key && e i) || rest i))
@@ -149,9 +128,9 @@ there-nodes f key bookmark (n ∷ nodes) = by (bytes_eq n.key bookmark) (f n.key
     found true e = sym (ap (λ b. is_some (option_map (λ (n : Node). n.data) (cond b (Some n) (find (has_key bookmark) nodes)))) e)
     found false e = sym (ap (λ b. is_some (option_map (λ (n : Node). n.data) (cond b (Some n) (find (has_key bookmark) nodes)))) e)
 
-    first : (a c : Bool) → ((a && true) || (a && (true && c))) ≡ (a && (true && true))
-    first true c = refl
-    first false c = refl
+    T_first : (a c : Bool) → ((a && true) || (a && (true && c))) ≡ (a && (true && true))
+    T_first true c = refl
+    T_first false c = refl
 
     hidden : (a c : Bool) → (a && (false && c)) ≡ (a && (false && true))
     hidden true c = refl
@@ -168,7 +147,7 @@ there-nodes f key bookmark (n ∷ nodes) = by (bytes_eq n.key bookmark) (f n.key
         ap (λ c. has_entry key bookmark (cond c ((n.key, n.key) ∷ rest) rest)) s
         ∙ (λ i. ((own_pair key bookmark n.key e i && e i) || ih i))
         ∙ ap (λ d. (bytes_eq key bookmark && true) || (bytes_eq key bookmark && (d && is_some (get_in nodes bookmark)))) here
-        ∙ first (bytes_eq key bookmark) (is_some (get_in nodes bookmark))
+        ∙ T_first (bytes_eq key bookmark) (is_some (get_in nodes bookmark))
         ∙ (λ i. bytes_eq key bookmark && (sym here i && found true (test true e) i))
     by true false e s ih =
         let here : f bookmark ≡ false = sym (ap f (same_bytes n.key bookmark e)) ∙ s in

@@ -1,6 +1,7 @@
 -- Going over the held changes of one record, from the newest back.
 use Rattle.std.proofs.Common.{◌≡◌, ℕ, zero, suc, ◌<◌, Bool, true, false, not, ◌&&◌, ◌||◌, cond, List, [], ◌∷◌, length, Option, Some, None, find, map, drop, take, option_map, refl, sym, ap, subst, ◌∙◌, arith}
 use Rattle.std.specs.Prelude.{◌==◌, slice_get, unwrap_or, IfSome}
+use Rattle.common_lemmas.proofs.Options.{none_some}
 use Rattle.database_state.specs.Conflicts.{yields_key}
 use Rattle.database_state.specs.State.{is_undone}
 use Rattle.index_derive.specs.declared.rules.IndexRule.{IndexRule}
@@ -27,9 +28,6 @@ at_place (h ∷ held) (suc place) within f = at_place held place (omega arith) f
 
 same_some : (x y : HeldChange) → Some x ≡ Some y → x ≡ y
 same_some x y e = ap (λ (o : Option HeldChange). unwrap_or o x) e
-
-none_some : {A : Type 0} {X : Type 0} (x : X) → None ≡ Some x → A
-none_some x e = cc
 
 pub from_here : (held : List HeldChange) (place : ℕ) (h : HeldChange) → slice_get held place ≡ Some h → drop place held ≡ h ∷ drop (suc place) held
 from_here [] place h e = none_some h e

@@ -1,7 +1,8 @@
 -- The entries that a reader sees are in order, and few.
-use Rattle.std.proofs.Common.{◌≡◌, ℕ, ◌≤◌, ◌<◌, ◌^◌, Bool, true, false, cond, List, [], ◌∷◌, length, Option, Some, None, filter, option_map, refl, sym, ap, subst, ◌∙◌, arith}
+use Rattle.std.proofs.Common.{◌≡◌, ℕ, ◌≤◌, ◌<◌, ◌^◌, Bool, true, List, [], length, Option, Some, None, filter, option_map, refl, sym, ap, subst, ◌∙◌, arith}
 use Rattle.std.specs.Prelude.{IsSomeAnd}
 use Rattle.std.proofs.lemmas.List.{length-map}
+use Rattle.common_lemmas.proofs.Lists.{length-filter}
 use Rattle.cursor_nav.specs.Places.{Pair, are_sorted}
 use Rattle.database_state.specs.Table.{Table, rule_with_id, schema_of, table_with_id}
 use Rattle.index_derive.specs.declared.rules.IndexRule.{IndexRule}
@@ -38,14 +39,6 @@ seen_sorted laws latest catalog trees held kept nodes entries now shows reader t
     seen_by_stored laws latest catalog trees held kept nodes entries now shows (λ es. are_sorted es ≡ true) refl reader table index
     (λ test rule. laws.own.some test (stored_entries trees table rule) (stored_sorted trees table nodes entries rule))
 
-fewer : {X : Type 0} (test : X → Bool) (xs : List X) → length (filter test xs) ≤ length xs
-fewer test [] = omega arith
-fewer {X} test (x ∷ xs) = by (test x) (fewer test xs)
-  where
-    by : (b : Bool) → length (filter test xs) ≤ length xs → length (cond b (x ∷ filter test xs) (filter test xs)) ≤ length (x ∷ xs)
-    by true rest = omega (arith, rest)
-    by false rest = omega (arith, rest)
-
 stored_few : (trees : List StoredTable) (table : ℕ) → ((table : ℕ) → length (table_nodes trees table) < 2 ^ 34) → ((table index : ℕ) → length (entries_in_tree trees table index) < 2 ^ 34) → (rule : Option IndexRule) → length (stored_entries trees table rule) < 2 ^ 34
 stored_few trees table nodes entries None = subst (λ n. n < 2 ^ 34) (sym (length-map (table_nodes trees table) (λ (n : Node). (n.key, n.key)))) (nodes table)
 stored_few trees table nodes entries (Some rule) = entries table rule.id.0
@@ -58,4 +51,4 @@ pub seen_few : WalkLaws → (latest : ℕ) (catalog : CatalogState) (trees : Lis
     → (now : StoredVersions) → stored_versions latest catalog trees held ≡ now → (reader : Reader) (table index : ℕ) → length (seen_entries reader now.store table index) < 2 ^ 34
 seen_few laws latest catalog trees held kept nodes entries few_nodes few_entries now shows reader table index =
     seen_by_stored laws latest catalog trees held kept nodes entries now shows (λ es. length es < 2 ^ 34) (omega arith) reader table index
-    (λ test rule. at_most (length (filter test (stored_entries trees table rule))) (length (stored_entries trees table rule)) (2 ^ 34) (fewer test (stored_entries trees table rule)) (stored_few trees table few_nodes few_entries rule))
+    (λ test rule. at_most (length (filter test (stored_entries trees table rule))) (length (stored_entries trees table rule)) (2 ^ 34) (length-filter test (stored_entries trees table rule)) (stored_few trees table few_nodes few_entries rule))

@@ -2,6 +2,7 @@
 use Rattle.std.proofs.Common.{◌≡◌, ℕ, zero, suc, Bool, true, false, not, ◌&&◌, ◌||◌, cond, List, [], ◌∷◌, length, Option, Some, None, Ok, Err, map, option_map, refl, sym, ap, subst, ◌∙◌}
 use Rattle.std.specs.Prelude.{◌==◌, bytes_eq, slice_get, unwrap_or, IfSome, IsSomeAnd, MatchOption}
 use Rattle.std.specs.List.{AllByRecursion, list_any}
+use Rattle.common_lemmas.proofs.Options.{none_some}
 use Rattle.column_set.specs.RecordValues.{RecordFields, has_value}
 use Rattle.cursor_nav.specs.Places.{are_sorted}
 use Rattle.database_state.specs.Conflicts.{yields_key}
@@ -31,9 +32,6 @@ use Rattle.table_versions.proofs.StoredRules.{IsLegalRule, rule_at, stored_rule}
 use Rattle.stored_variants.proofs.Tables.{found_number, newest_at, table_at}
 use Rattle.table_versions.proofs.WithKey.{has_key_and}
 use Rattle.long_value.specs.Values.{Values}
-
-none_some : {A : Type 0} {X : Type 0} (x : X) → None ≡ Some x → A
-none_some x e = cc
 
 -- ---- rows before changes
 

@@ -1,13 +1,10 @@
 -- What holds of the entries holds of them with one more.
-use Rattle.std.proofs.Common.{◌≡◌, Bool, true, false, Result, Ok, Err, List, [], ◌∷◌, refl}
+use Rattle.std.proofs.Common.{Result, Ok, Err, List, [], ◌∷◌}
 use Rattle.std.specs.Prelude.{All, OnOk, OnErr}
 use Rattle.std.proofs.lemmas.List.Elements.{All-cons, All-head, All-tail}
+use Rattle.common_lemmas.proofs.Booleans.{by_test}
 use Rattle.cursor_nav.specs.Places.{Pair}
 use Rattle.index_derive.specs.Entries.{entry_le, insert_entry}
-
-by_test : {P : Type 0} (b : Bool) → (b ≡ true → P) → (b ≡ false → P) → P
-by_test true f g = f refl
-by_test false f g = g refl
 
 pub insert_all : (P : Pair → Type 0) (e : Pair) (es : List Pair) → P e → All P es → All P (insert_entry e es)
 insert_all P e [] h k = All-cons P e [] h k

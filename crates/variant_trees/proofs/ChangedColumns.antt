@@ -21,6 +21,7 @@ use Rattle.version_keys.proofs.SameColumns.{entries_same, legal_same, primary_ke
 use Rattle.version_keys.proofs.SchemaKeys.{each_column, found_has}
 use Rattle.stored_variants.specs.VersionsKept.{IsBookmarkOf, IsStoredRule}
 use Rattle.common_lemmas.proofs.Found.{of_found}
+use Rattle.common_lemmas.proofs.Lists.{all_stronger}
 
 abbrev pub with_columns : List Column → GreatestColumns → Rows → Table → Table
 with_columns columns greatest rows t = record t { columns = columns; greatest = greatest; rows = rows }
@@ -96,10 +97,6 @@ added_columns column t rules = all_weaker (IsStoredRule t) (SameColumns (columns
         all_weaker (λ id. (column_of_id (columns_with column t.columns) id ≡ column_of_id t.columns id) × (has_column t id ≡ true → has_column (with_column column t) id ≡ true))
         (λ id. column_of_id (columns_with column t.columns) id ≡ column_of_id t.columns id) (λ id c. c.0) (rule_columns rule)
         (each_column t (with_column column t) (rule_columns rule) is.columns (λ id has. column_of_id-columns_with column id t.columns (found_has t.columns id ∙ has)))
-
-all_stronger : {X : Type 0} (p q : X → Bool) → ((x : X) → p x ≡ true → q x ≡ true) → (xs : List X) → list_all p xs ≡ true → list_all q xs ≡ true
-all_stronger p q f [] h = refl
-all_stronger p q f (x ∷ xs) h = and_both (q x) (list_all q xs) (f x (and_left (p x) _ h)) (all_stronger p q f xs (and_right (p x) _ h))
 
 abbrev takes : List Column → ℕ × List (List ℕ) → Bool
 takes columns field = elim (column_of_id columns field.0) [ Some column ↦ values_fit column field.1 | None ↦ false ]

@@ -2,6 +2,7 @@
 use Rattle.std.proofs.Common.{◌≡◌, ℕ, Bool, true, false, not, ◌&&◌, ◌||◌, inl, inr, List, [], Option, Some, None, find, option_map, refl, sym, ap, subst, ◌∙◌}
 use Rattle.std.specs.Prelude.{bytes_eq, IfSome, option_and_then}
 use Rattle.std.specs.List.{list_any}
+use Rattle.common_lemmas.proofs.Booleans.{or_false}
 use Rattle.page_image.specs.Page.{Node}
 use Rattle.btree_inplace.specs.Order.{has_key, key_and_data}
 use Rattle.cursor_nav.specs.Places.{Pair, are_sorted}
@@ -85,10 +86,6 @@ both_false true true = refl
 both_false true false = refl
 both_false false true = refl
 both_false false false = refl
-
-or_false : (a : Bool) → (a || false) ≡ a
-or_false true = refl
-or_false false = refl
 
 with_own : (a b : Bool) → ((a && b) || b) ≡ b
 with_own true true = refl

@@ -2,7 +2,6 @@
 use Rattle.std.proofs.Common.{◌≡◌, ℕ, ◌<◌, ◌≤◌, zero, suc, ◌+◌, Bool, true, false, not, ◌&&◌, ◌||◌, ◌⊎◌, inl, inr, cond, List, [], ◌∷◌, length, take, drop, Option, Some, None, Result, Ok, Err, find, filter, map, option_map, refl, sym, ap, subst, ◌∙◌, arith}
 use Rattle.std.specs.Prelude.{◌==◌, IfSome, IsOk, MatchOption, is_none, is_some, nat_lt, flat_map, slice_get, sum_by, IsSome}
 use Rattle.std.specs.List.{AllByRecursion, list_any}
-use Rattle.std.proofs.lemmas.Bool.Decides.{nat_tests}
 use Rattle.column_set.specs.Refusals.{Refusals, first_refusal}
 use Rattle.column_set.specs.RecordValues.{RecordFields}
 use Rattle.database_state.specs.Conflicts.{yields_key}
@@ -35,6 +34,8 @@ use Rattle.long_references.specs.RowReferences.{identifiers, references}
 use Rattle.long_rows.specs.RowsInUse.{before}
 use Rattle.long_value.specs.Values.{Values, value_of}
 use Rattle.std.proofs.lemmas.List.Sums.{sum_by-cons}
+use Rattle.std.proofs.lemmas.Bool.{ltb-true}
+use Rattle.common_lemmas.proofs.Options.{none_some, same_some}
 use Rattle.stored_variants.specs.CountedValues.{AreCounted, newest_rows, row_before, rows_before}
 use Rattle.stored_variants.proofs.CountedRows.{first_of_other, first_of_table}
 use Rattle.variant_trees.proofs.CountedUndone.{no_references}
@@ -220,9 +221,6 @@ oldest_left longs tables trees h rest row is kept = record {
 
 -- ---- tables have ids of their own
 
-low_first : (a b : ℕ) → nat_lt a b ≡ true → a < b
-low_first a b h = grind (arith, nat_tests)
-
 not_same : (a b n : ℕ) → n ≤ a → a < b → (b == n) ≡ false
 not_same a b n h g = refuted (b == n) (λ e. no (same_number b n e))
   where
@@ -232,7 +230,7 @@ not_same a b n h g = refuted (b == n) (λ e. no (same_number b n e))
 none_above : (low high n : ℕ) (tables : List Table) → n ≤ low → ids_rise low high tables ≡ true → list_any (λ (x : Table). x.id == n) tables ≡ false
 none_above low high n [] under rise = refl
 none_above low high n (t ∷ tables) under rise =
-    let above : low < t.id = low_first low t.id (and_left (nat_lt low t.id) (ids_rise t.id high tables) rise) in
+    let above : low < t.id = ltb-true low t.id (and_left (nat_lt low t.id) (ids_rise t.id high tables) rise) in
     (λ i. not_same low t.id n under above i || none_above t.id high n tables (omega arith) (and_right (nat_lt low t.id) (ids_rise t.id high tables) rise) i)
 
 distinct : (low high : ℕ) (tables : List Table) → ids_rise low high tables ≡ true → DistinctIds tables
@@ -246,14 +244,8 @@ distinct_ids catalog numbered = distinct 0 catalog.greatest_table catalog.tables
 
 -- ---- the oldest change
 
-none_is : {A : Type 0} {X : Type 0} (x : X) → None ≡ Some x → A
-none_is x e = cc
-
-same_some : {X : Type 0} (x y : X) → Some x ≡ Some y → x ≡ y
-same_some x y e = cc
-
 pub first_within : (held : List HeldChange) (table : ℕ) → first_table held ≡ Some table → 0 < length held
-first_within [] table first = none_is table first
+first_within [] table first = none_some table first
 first_within (h ∷ held) table first = omega arith
 
 -- What is known of the oldest change, once it is read: it stands, and holds this row.
@@ -268,7 +260,7 @@ pub record IsOldest (held : List HeldChange) (table : ℕ) (bookmark row : List 
 
 pub oldest_is : (held : List HeldChange) (table : ℕ) (bookmark row : List ℕ) → first_table held ≡ Some table → slice_get (map is_standing held) 0 ≡ Some true
     → slice_get (map (λ (h : HeldChange). h.before) held) 0 ≡ Some (Some row) → slice_get (map (λ (h : HeldChange). h.bookmark) held) 0 ≡ Some bookmark → IsOldest held table bookmark row
-oldest_is [] table bookmark row first stands was at = none_is table first
+oldest_is [] table bookmark row first stands was at = none_some table first
 oldest_is (h ∷ rest) table bookmark row first stands was at = record {
   change = h;
   rest = rest;
@@ -385,11 +377,11 @@ nothing_forgotten tables trees (h ∷ held) nothing some kept counts = record {
 
 -- the first change, as it was read
 pub first_fallen : (held : List HeldChange) (h : HeldChange) → slice_get (map is_standing held) 0 ≡ Some false → slice_get held 0 ≡ Some h → LeavesNothing h
-first_fallen [] h told at = none_is h at
+first_fallen [] h told at = none_some h at
 first_fallen (x ∷ held) h told at = inl (sym (ap is_standing (same_some x h at)) ∙ same_some (is_standing x) false told)
 
 pub first_empty : (held : List HeldChange) (h : HeldChange) → slice_get (map (λ (x : HeldChange). x.before) held) 0 ≡ Some None → slice_get held 0 ≡ Some h → LeavesNothing h
-first_empty [] h told at = none_is h at
+first_empty [] h told at = none_some h at
 first_empty (x ∷ held) h told at = inr (sym (ap (λ (y : HeldChange). y.before) (same_some x h at)) ∙ same_some x.before None told)
 
 -- ---- counts without the oldest change
@@ -448,9 +440,9 @@ always_first [] some e = absurd (no some)
   where
     no : 0 < 0 → ⊥
     no h = omega arith
-always_first (h ∷ held) some e = none_is h.table e
+always_first (h ∷ held) some e = none_some h.table e
 
 pub always_named : (longs : TableValues) → {A : Type 0} (tables : List Table) (trees : List StoredTable) (held : List HeldChange) (table : ℕ) → AreKeptWith longs tables trees held → Some table ≡ first_table held → None ≡ table_with_id tables table → A
-always_named longs {A} tables trees [] table kept first none = none_is table (sym first)
+always_named longs {A} tables trees [] table kept first none = none_some table (sym first)
 always_named longs {A} tables trees (h ∷ held) table kept first none =
     impossible (ap is_some none ∙ ap (λ n. is_some (table_with_id tables n)) (same_some table h.table first) ∙ kept.changes.0.named)

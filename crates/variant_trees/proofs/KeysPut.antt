@@ -5,6 +5,7 @@ use Rattle.std.specs.List.{AllByRecursion, list_any}
 use Rattle.std.proofs.lemmas.List.{take_all}
 use Rattle.std.proofs.lemmas.List.Elements.{All-cons}
 use Rattle.std.proofs.lemmas.List.Folds.{list_any_more}
+use Rattle.std.proofs.lemmas.Bool.{or_left}
 use Rattle.column_set.specs.RecordValues.{RecordFields, record_fits}
 use Rattle.cursor_nav.specs.Places.{Pair}
 use Rattle.database_state.specs.Conflicts.{yields_key}
@@ -48,10 +49,6 @@ and_false : (a b : Bool) → a ≡ (a || (b && false))
 and_false true b = refl
 and_false false true = refl
 and_false false false = refl
-
-or_true : (a b : Bool) → a ≡ true → (a || b) ≡ true
-or_true true b e = refl
-or_true false b e = impossible e
 
 -- one that is there already
 pub has_it : (trees : List StoredTable) (table index : ℕ) (key bookmark : List ℕ) → has_entry key bookmark (index_entries trees table index) ≡ true → HasKeys table bookmark (one_key index key) trees trees
@@ -138,7 +135,7 @@ same_keys table bookmark one other old new same has = record {
 pub may_have : (table : ℕ) (bookmark : List ℕ) (one more : Keys) (old new : List StoredTable) → ((i : ℕ) (k : List ℕ) → one i k ≡ true → more i k ≡ true) → HasKeys table bookmark one old new → MayHaveKeys table bookmark more old new
 may_have table bookmark one more old new within has = record {
   others = has.others;
-  stay = λ i k own is. has.entries i k own ∙ or_true _ _ is;
+  stay = λ i k own is. has.entries i k own ∙ or_left _ _ is;
   only = λ i k own is. by (has_entry k own (index_entries old table i)) (bytes_eq own bookmark) (one i k) (more i k) (within i k) (sym (has.entries i k own) ∙ is);
 }
   where
@@ -152,7 +149,7 @@ pub may_then : (table : ℕ) (bookmark : List ℕ) (one two more : Keys) (old mi
     → HasKeys table bookmark one old mid → MayHaveKeys table bookmark two mid new → MayHaveKeys table bookmark more old new
 may_then table bookmark one two more old mid new first_within then_within first then = record {
   others = entries_then table old mid new first.others then.others;
-  stay = λ i k own is. then.stay i k own (first.entries i k own ∙ or_true _ _ is);
+  stay = λ i k own is. then.stay i k own (first.entries i k own ∙ or_left _ _ is);
   only = λ i k own is. by (has_entry k own (index_entries old table i)) (bytes_eq own bookmark) (one i k) (two i k) (more i k) (first_within i k) (then_within i k)
       (ap (λ b. b || (bytes_eq own bookmark && two i k)) (sym (first.entries i k own)) ∙ then.only i k own is);
 }

@@ -2,6 +2,7 @@
 use Rattle.std.proofs.Common.{◌≡◌, ℕ, ◌≤◌, Bool, true, false, not, ◌&&◌, ◌||◌, cond, List, [], ◌∷◌, length, Option, Some, None, find, map, option_map, refl, sym, ap, subst, ◌∙◌}
 use Rattle.std.specs.Prelude.{◌==◌, IfSome, IsSomeAnd, bytes_eq, is_some, option_and_then, unwrap_or}
 use Rattle.std.specs.List.{AllByRecursion, list_any}
+use Rattle.std.proofs.lemmas.Bool.{or_left, or_right}
 use Rattle.btree_inplace.specs.Order.{extent_in, get_in, has_key}
 use Rattle.column_set.specs.RecordValues.{RecordFields}
 use Rattle.database_state.specs.State.{Status, uncommitted, committed, undone, is_open, is_undone}
@@ -249,13 +250,6 @@ leaves_one longs tables trees id bookmark h kept is_uncommitted some this =
         (λ i. (here i && e i && not (open_stands h.status is_uncommitted i)) && is_some (cond (e i && not (open_stands h.status is_uncommitted i)) (option_map (record_of (longs h.table)) h.before) None))
         ∙ mapped h.before some
     by false e = impossible (no_row h.before (kept.other e) some)
-
-or_right : (a b : Bool) → b ≡ true → (a || b) ≡ true
-or_right true b e = refl
-or_right false b e = e
-
-or_left : (a b : Bool) → a ≡ true → (a || b) ≡ true
-or_left a b e = ap (λ c. c || b) e
 
 change_kept_then : (longs : TableValues) (newest : Option RecordFields) (all : List HeldRecord) (schema : Schema) (id : ℕ) (bookmark : List ℕ) (gone : RecordFields) (old between new : List StoredTable) → Goes newest all schema id bookmark gone old between new
     → (tables : List Table) (h : HeldChange) → ((is_standing_rewrite id bookmark (held_record_in longs h) && is_some (held_record_in longs h).before) ≡ true → has_variant newest all id bookmark ≡ true) → IsKeptChange longs tables old h → IsKeptChange longs tables new h

@@ -14,6 +14,7 @@ use Rattle.long_rows.specs.WholeRows.{StandsFor, is_whole, record_in}
 use Rattle.page_image.specs.Page.{Node}
 use Rattle.record_changes.proofs.Tests.{and_both, and_left, and_right, equal_bytes, impossible, refuted}
 use Rattle.std.specs.Cmp.Lexicographic.{texts_ties}
+use Rattle.std.proofs.lemmas.Bool.{not-true}
 use Rattle.table_trees.specs.StoredNodes.{bookmark_entries}
 use Rattle.version_keys.proofs.SchemaKeys.{other_column, other_values}
 use Rattle.variant_trees.specs.LostColumns.{HoldsRecord, node_without, row_without}
@@ -133,19 +134,15 @@ all_left {X} p q kept same (x ∷ xs) h = by (kept x) refl (and_left (q x) (list
     by true e own rest = and_both (p x) (list_all p (filter kept xs)) (same x e ∙ own) rest
     by false e own rest = rest
 
-other : (b : Bool) → not b ≡ true → b ≡ false
-other true e = sym e
-other false e = refl
-
--- a record without the values of a column fits the other columns
+-- a record without the values of a column fits the not-true columns
 pub fits_without : (column : ℕ) (t : Table) (values : RecordFields) → record_fits t.columns values ≡ true → record_fits (without_column column t).columns (remove_by_number column values) ≡ true
 fits_without column t values h =
     and_both (list_all (takes (without_column column t).columns) (remove_by_number column values)) (list_all (has_kept (remove_by_number column values)) (without_column column t).columns)
     (all_left (takes (without_column column t).columns) (takes t.columns) (λ field. not (field.0 == column))
-    (λ field left. ap (λ (o : Option Column). elim o [ Some c ↦ values_fit c field.1 | None ↦ false ]) (other_column column t field.0 (other (field.0 == column) left)))
+    (λ field left. ap (λ (o : Option Column). elim o [ Some c ↦ values_fit c field.1 | None ↦ false ]) (other_column column t field.0 (not-true (field.0 == column) left)))
     values (and_left (list_all (takes t.columns) values) (list_all (has_kept values) t.columns) h))
     (all_left (has_kept (remove_by_number column values)) (has_kept values) (λ c. not (c.id.0 == column))
-    (λ c left. ap (λ (v : List (List ℕ)). not (is_kept_column c) || has_some v) (values_elsewhere column values c.id.0 (other (c.id.0 == column) left)))
+    (λ c left. ap (λ (v : List (List ℕ)). not (is_kept_column c) || has_some v) (values_elsewhere column values c.id.0 (not-true (c.id.0 == column) left)))
     t.columns (and_right (list_all (takes t.columns) values) (list_all (has_kept values) t.columns) h))
   where
     takes : List Column → ℕ × List (List ℕ) → Bool

@@ -2,6 +2,7 @@
 use Rattle.std.proofs.Common.{◌≡◌, ◌≢◌, ℕ, Bool, true, false, not, ◌||◌, cond, List, [], ◌∷◌, ◌++◌, Option, Some, None, filter, find, map, option_map, refl, sym, ap, subst, ◌∙◌}
 use Rattle.std.specs.Prelude.{◌==◌, IfSome, IsSomeAnd, is_some, unwrap_or}
 use Rattle.std.specs.List.{AllByRecursion, list_any}
+use Rattle.common_lemmas.proofs.Lists.{filter_swap}
 use Rattle.database_state.specs.SchemaChanges.{without_index}
 use Rattle.database_state.specs.Table.{Table, primary_first, primary_rule, row_at, rule_with_id, schema_of, table_with_id, with_table}
 use Rattle.derived_index.specs.KeptEntries.{has_entry}
@@ -37,17 +38,6 @@ filtered P R q f (x ∷ xs) h = by (q x) refl (filtered P R q f xs h.1)
     by : (b : Bool) → q x ≡ b → AllByRecursion R (filter q xs) → AllByRecursion R (cond b (x ∷ filter q xs) (filter q xs))
     by true e rest = (f x e h.0, rest)
     by false e rest = rest
-
-filter_swap : {X : Type 0} (p q : X → Bool) (xs : List X) → filter p (filter q xs) ≡ filter q (filter p xs)
-filter_swap p q [] = refl
-filter_swap p q (x ∷ xs) = by (p x) refl (q x) refl (filter_swap p q xs)
-  where
-    by : (a : Bool) → p x ≡ a → (b : Bool) → q x ≡ b → filter p (filter q xs) ≡ filter q (filter p xs)
-        → filter p (cond b (x ∷ filter q xs) (filter q xs)) ≡ filter q (cond a (x ∷ filter p xs) (filter p xs))
-    by true e true f rest = ap (λ c. cond c (x ∷ filter p (filter q xs)) (filter p (filter q xs))) e ∙ ap (λ ys. x ∷ ys) rest ∙ sym (ap (λ c. cond c (x ∷ filter q (filter p xs)) (filter q (filter p xs))) f)
-    by true e false f rest = rest ∙ sym (ap (λ c. cond c (x ∷ filter q (filter p xs)) (filter q (filter p xs))) f)
-    by false e true f rest = ap (λ c. cond c (x ∷ filter p (filter q xs)) (filter p (filter q xs))) e ∙ rest
-    by false e false f rest = rest
 
 pub none_found : {X : Type 0} (p : X → Bool) (xs : List X) → AllByRecursion (λ x. p x ≡ false) xs → find p xs ≡ None
 none_found p [] h = refl

@@ -2,6 +2,7 @@
 use Rattle.std.proofs.Common.{◌≡◌, ℕ, zero, suc, ◌+◌, ◌≤◌, Bool, true, false, not, ◌&&◌, ◌||◌, cond, List, [], ◌∷◌, length, Option, Some, None, map, option_map, refl, sym, ap, subst, ◌∙◌}
 use Rattle.std.specs.Prelude.{IfSome, IsSomeAnd, is_some, slice_get, sum_by}
 use Rattle.std.specs.List.{AllByRecursion}
+use Rattle.common_lemmas.proofs.Options.{none_some}
 use Rattle.btree_inplace.specs.Order.{extent_in}
 use Rattle.database_state.specs.Changes.{tables_after}
 use Rattle.database_state.specs.State.{Status, uncommitted, committed, undone, is_open, is_undone}
@@ -29,12 +30,9 @@ use Rattle.variant_trees.proofs.CountedUndone.{none_counts}
 use Rattle.variant_trees.proofs.UndoneThere.{mapped_at, undone_there}
 use Rattle.stored_variants.proofs.HeldPlaces.{same_some}
 
-none_is : {A : Type 0} {X : Type 0} (x : X) → None ≡ Some x → A
-none_is x e = cc
-
 -- what holds of each change holds of the one at a place
 pub all_place : (P : HeldChange → Type 0) (held : List HeldChange) (place : ℕ) (h : HeldChange) → AllByRecursion P held → slice_get held place ≡ Some h → P h
-all_place P [] place h all at = none_is h at
+all_place P [] place h all at = none_some h at
 all_place P (x ∷ held) zero h all at = subst P (same_some x h at) all.0
 all_place P (x ∷ held) (suc place) h all at = all_place P held place h all.1 at
 

@@ -2,6 +2,7 @@
 use Rattle.std.proofs.Common.{◌≡◌, ℕ, ◌≤◌, zero, suc, Bool, true, false, not, ◌&&◌, ◌||◌, cond, List, [], ◌∷◌, length, Option, Some, None, find, map, option_map, refl, sym, ap, subst, ◌∙◌}
 use Rattle.std.specs.Prelude.{◌==◌, IfSome, IsSomeAnd, bytes_eq, is_some, option_and_then, slice_get}
 use Rattle.std.specs.List.{AllByRecursion}
+use Rattle.common_lemmas.proofs.Booleans.{or_swap}
 use Rattle.btree_inplace.specs.Changes.{with_data_at}
 use Rattle.btree_inplace.specs.Order.{extent_in, get_in, has_key}
 use Rattle.column_set.specs.RecordValues.{RecordFields}
@@ -123,12 +124,6 @@ open_stands uncommitted e = refl
 open_stands (committed n) e = impossible e
 open_stands undone e = impossible e
 
-swapped : (a b c : Bool) → (a || (b || c)) ≡ (b || (a || c))
-swapped true true c = refl
-swapped true false c = refl
-swapped false true c = refl
-swapped false false c = refl
-
 same_change : (x y : HeldChange) → Some x ≡ Some y → x ≡ y
 same_change x y e = cc
 
@@ -160,7 +155,7 @@ undone_before longs test table own h rewrites is_uncommitted (x ∷ held) zero a
         ∙ sym (ap (λ b. (is_this h.table h.bookmark table own && test (option_map (record_of (longs h.table)) h.before)) || (b || some_before test table own (map (held_record_in longs) held))) (none (is_this h.table h.bookmark table own) (is_rewrite h.kind) (test (held_record_in longs (with_status undone h)).before)))
 undone_before longs test table own h rewrites is_uncommitted (x ∷ held) (suc place) at =
     ap (λ b. (is_standing_rewrite table own (held_record_in longs x) && test (held_record_in longs x).before) || b) (undone_before longs test table own h rewrites is_uncommitted held place at)
-    ∙ swapped (is_standing_rewrite table own (held_record_in longs x) && test (held_record_in longs x).before) (is_this h.table h.bookmark table own && test (option_map (record_of (longs h.table)) h.before)) (some_before test table own (map (held_record_in longs) (undone_at (Some place) held)))
+    ∙ or_swap (is_standing_rewrite table own (held_record_in longs x) && test (held_record_in longs x).before) (is_this h.table h.bookmark table own && test (option_map (record_of (longs h.table)) h.before)) (some_before test table own (map (held_record_in longs) (undone_at (Some place) held)))
 
 -- the variants of the others, the record that went, and the one before it
 went : (k b l : Bool) → (b || l) ≡ ((k || (b || l)) && not (true && (k && not (b || l))))

@@ -2,6 +2,7 @@
 use Rattle.std.proofs.Common.{◌≡◌, ℕ, zero, suc, ◌<◌, ◌≤◌, Bool, true, false, ◌&&◌, ◌||◌, cond, List, [], ◌∷◌, length, Option, Some, None, map, drop, take, option_map, refl, sym, ap, subst, ◌∙◌, arith}
 use Rattle.std.specs.Prelude.{◌==◌, IfSome, IsSomeAnd, bytes_eq, is_some, not, slice_get}
 use Rattle.std.specs.List.{list_any}
+use Rattle.common_lemmas.proofs.Booleans.{or_swap}
 use Rattle.column_set.specs.RecordValues.{RecordFields}
 use Rattle.database_state.specs.State.{is_undone}
 use Rattle.record_changes.proofs.Tests.{and_both, and_left, and_right, same_bytes, same_number}
@@ -40,12 +41,6 @@ all_between q (suc from) [] = refl
 all_between q zero (h ∷ held) = ap (λ b. q h || b) (all_between q zero held)
 all_between q (suc from) (h ∷ held) = all_between q from held
 
-swapped : (a b c : Bool) → (a || (b || c)) ≡ (b || (a || c))
-swapped true true c = refl
-swapped true false c = refl
-swapped false true c = refl
-swapped false false c = refl
-
 between_from : (p q : HeldChange → Bool) → ((h : HeldChange) → p h ≡ false → q h ≡ false) → (from end : ℕ) (held : List HeldChange) → passes_between q from end held ≡ passes_from q from (last_place p (take end held)) held
 between_from p q only from end [] = none end
   where
@@ -56,7 +51,7 @@ between_from p q only from zero (h ∷ held) = refl
 between_from p q only zero (suc end) (h ∷ held) = by (last_place p (take end held)) (p h) refl (between_from p q only zero end held)
   where
     by : (o : Option ℕ) (b : Bool) → p h ≡ b → passes_between q zero end held ≡ passes_from q zero o held → (q h || passes_between q zero end held) ≡ passes_from q zero (later_place b o) (h ∷ held)
-    by (Some place) b e rest = ap (λ c. q h || c) rest ∙ swapped (q h) (passes_at q (slice_get held place)) (passes_between q zero place held)
+    by (Some place) b e rest = ap (λ c. q h || c) rest ∙ or_swap (q h) (passes_at q (slice_get held place)) (passes_between q zero place held)
     by None true e rest = ap (λ c. q h || c) rest
     by None false e rest = λ i. only h e i || rest i
 between_from p q only (suc from) (suc end) (h ∷ held) = by (last_place p (take end held)) (p h) (between_from p q only from end held)

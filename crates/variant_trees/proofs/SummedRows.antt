@@ -53,6 +53,7 @@ use Rattle.variant_trees.proofs.RowsSummed.{names_put, record_put, stands_here, 
 use Rattle.variant_trees.proofs.PutBack.{rows_filled}
 use Rattle.variant_trees.proofs.Refilled.{Fills, filled, record_filled, room_filled, row_filled, same_index, there_filled}
 use Rattle.common_lemmas.proofs.Found.{of_found}
+use Rattle.common_lemmas.proofs.Options.{same_some}
 use Rattle.stored_variants.proofs.Tables.{found_number}
 use Rattle.variant_trees.proofs.UndoneThere.{fills, node_of_row}
 use Rattle.long_references.specs.RowReferences.{identifiers}
@@ -248,9 +249,6 @@ table_summed longs laws trees id bookmark row column amount now sums own escrow 
             ap (has_entry key at) (same_index laws trees id (with_data_at (table_nodes trees id) bookmark now) t.id index) ∙ h key at
             ∙ sym (ap (λ b. b || some_before (yields_key rule (schema_of t) key) t.id at held)
             (same_test longs laws trees id bookmark row column amount now sums (yields_key rule (schema_of t) key) t.id at (λ e. alike key (and_left (id == t.id) (bytes_eq bookmark at) e))))
-
-same_some : {X : Type 0} (x y : X) → Some x ≡ Some y → x ≡ y
-same_some x y e = cc
 
 pub sum_kept : (longs : TableValues) (laws : TreeLaws) (trees : List StoredTable) (id : ℕ) (bookmark row : List ℕ) (column : ℕ) (amount : ℤ) (now : List ℕ) → Sums longs laws trees id bookmark row column amount now → (tables : List Table) (own : Table) → table_with_id tables id ≡ Some own
     → is_escrow_column (schema_of own) column ≡ true → IsRowUnder (longs id) own bookmark now → (held : List HeldChange) → AreKeptWith longs tables trees held → AreKeptWith longs tables (filled trees id bookmark now) held

@@ -2,6 +2,7 @@
 use Rattle.std.proofs.Common.{◌≡◌, ℕ, zero, suc, ◌<◌, ◌≤◌, Bool, true, false, cond, List, [], ◌∷◌, length, Option, Some, None, find, map, option_map, refl, sym, ap, ◌∙◌, arith}
 use Rattle.std.specs.Prelude.{All, IfSome, IsSomeAnd, is_some, option_and_then, slice_get, unwrap_or}
 use Rattle.std.proofs.lemmas.List.Elements.{All-head, All-tail}
+use Rattle.common_lemmas.proofs.Options.{none_some, same_some}
 use Rattle.btree_inplace.specs.Order.{extent_in, get_in, has_key}
 use Rattle.column_set.specs.Rows.{IsRowBytes}
 use Rattle.column_set.specs.RowReading.{row_in}
@@ -20,24 +21,18 @@ use Rattle.long_value.specs.Values.{Values}
 
 -- ---- places
 
-none_is : {A : Type 0} {X : Type 0} (x : X) → None ≡ Some x → A
-none_is x e = cc
-
-same_some : {X : Type 0} (x y : X) → Some x ≡ Some y → x ≡ y
-same_some x y e = cc
-
 pub place_in : (held : List HeldChange) (place : ℕ) (h : HeldChange) → slice_get held place ≡ Some h → place < length held
-place_in [] place h at = none_is h at
+place_in [] place h at = none_some h at
 place_in (x ∷ held) zero h at = omega arith
 place_in (x ∷ held) (suc place) h at = let rest : place < length held = place_in held place h at in omega arith
 
 pub mapped_at : {X : Type 0} (f : HeldChange → X) (held : List HeldChange) (place : ℕ) (h : HeldChange) (x : X) → slice_get held place ≡ Some h → slice_get (map f held) place ≡ Some x → f h ≡ x
-mapped_at f [] place h x at is = none_is h at
+mapped_at f [] place h x at is = none_some h at
 mapped_at f (y ∷ held) zero h x at is = ap f (sym (same_some y h at)) ∙ same_some (f y) x is
 mapped_at f (y ∷ held) (suc place) h x at is = mapped_at f held place h x at is
 
 pub undone_there : (held : List HeldChange) (place : ℕ) (h : HeldChange) → slice_get held place ≡ Some h → slice_get (undone_at (Some place) held) place ≡ Some (with_status undone h)
-undone_there [] place h at = none_is h at
+undone_there [] place h at = none_some h at
 undone_there (x ∷ held) zero h at = ap (λ (y : HeldChange). Some (with_status undone y)) (same_some x h at)
 undone_there (x ∷ held) (suc place) h at = undone_there held place h at
 

@@ -3,6 +3,7 @@ use Rattle.std.proofs.Common.{◌≡◌, ℕ, suc, ◌≤◌, Bool, true, false,
 use Rattle.std.specs.Prelude.{◌==◌, nat_lt, is_some, Some, if◌then◌else◌}
 use Rattle.std.specs.List.{list_all}
 use Rattle.std.proofs.lemmas.Bool.Decides.{nat_tests}
+use Rattle.std.proofs.lemmas.Bool.{and_from}
 use Rattle.version_cleanup.specs.LiveSessions.{LiveState, with_session, insert_session, left, are_rising, is_live, session_in}
 
 -- whether each label is above this one
@@ -40,16 +41,12 @@ pub and-right : (a b : Bool) → (a && b) ≡ true → b ≡ true
 and-right true b e = e
 and-right false b e = cc
 
-and-both : (a b : Bool) → a ≡ true → b ≡ true → (a && b) ≡ true
-and-both true b e f = f
-and-both false b e f = e
-
 above-left : (least label : ℕ) (sessions : List LiveState) → are_above least sessions ≡ true → are_above least (left label sessions) ≡ true
 above-left least label [] e = refl
 above-left least label (s ∷ sessions) e = at (not (s.label == label)) (above-left least label sessions (and-right (nat_lt least s.label) (are_above least sessions) e))
   where
     at : (b : Bool) → are_above least (left label sessions) ≡ true → are_above least (if b then s ∷ left label sessions else left label sessions) ≡ true
-    at true rest = and-both (nat_lt least s.label) (are_above least (left label sessions)) (and-left (nat_lt least s.label) (are_above least sessions) e) rest
+    at true rest = and_from (nat_lt least s.label) (are_above least (left label sessions)) (and-left (nat_lt least s.label) (are_above least sessions) e) rest
     at false rest = rest
 
 pub rising-left : (label : ℕ) (sessions : List LiveState) → are_rising sessions ≡ true → are_rising (left label sessions) ≡ true
@@ -57,23 +54,23 @@ rising-left label [] e = refl
 rising-left label (s ∷ sessions) e = at (not (s.label == label)) (rising-left label sessions (and-right (are_above s.label sessions) (are_rising sessions) e))
   where
     at : (b : Bool) → are_rising (left label sessions) ≡ true → are_rising (if b then s ∷ left label sessions else left label sessions) ≡ true
-    at true rest = and-both (are_above s.label (left label sessions)) (are_rising (left label sessions)) (above-left s.label label sessions (and-left (are_above s.label sessions) (are_rising sessions) e)) rest
+    at true rest = and_from (are_above s.label (left label sessions)) (are_rising (left label sessions)) (above-left s.label label sessions (and-left (are_above s.label sessions) (are_rising sessions) e)) rest
     at false rest = rest
 
 above-inserted : (least : ℕ) (new : LiveState) (sessions : List LiveState) → nat_lt least new.label ≡ true → are_above least sessions ≡ true → are_above least (insert_session new sessions) ≡ true
-above-inserted least new [] here e = and-both (nat_lt least new.label) true here refl
+above-inserted least new [] here e = and_from (nat_lt least new.label) true here refl
 above-inserted least new (s ∷ sessions) here e = at (nat_lt new.label s.label) (above-inserted least new sessions here (and-right (nat_lt least s.label) (are_above least sessions) e))
   where
     at : (b : Bool) → are_above least (insert_session new sessions) ≡ true → are_above least (if b then new ∷ s ∷ sessions else s ∷ insert_session new sessions) ≡ true
-    at true rest = and-both (nat_lt least new.label) (are_above least (s ∷ sessions)) here e
-    at false rest = and-both (nat_lt least s.label) (are_above least (insert_session new sessions)) (and-left (nat_lt least s.label) (are_above least sessions) e) rest
+    at true rest = and_from (nat_lt least new.label) (are_above least (s ∷ sessions)) here e
+    at false rest = and_from (nat_lt least s.label) (are_above least (insert_session new sessions)) (and-left (nat_lt least s.label) (are_above least sessions) e) rest
 
 lt-trans : (a b c : ℕ) → nat_lt a b ≡ true → nat_lt b c ≡ true → nat_lt a c ≡ true
 lt-trans a b c h k = grind (arith, nat_tests)
 
 above-trans : (least label : ℕ) (sessions : List LiveState) → nat_lt least label ≡ true → are_above label sessions ≡ true → are_above least sessions ≡ true
 above-trans least label [] lt e = refl
-above-trans least label (s ∷ sessions) lt e = and-both (nat_lt least s.label) (are_above least sessions) (lt-trans least label s.label lt (and-left (nat_lt label s.label) (are_above label sessions) e))
+above-trans least label (s ∷ sessions) lt e = and_from (nat_lt least s.label) (are_above least sessions) (lt-trans least label s.label lt (and-left (nat_lt label s.label) (are_above label sessions) e))
     (above-trans least label sessions lt (and-right (nat_lt label s.label) (are_above label sessions) e))
 
 above-other : (a b : ℕ) → nat_lt a b ≡ false → (b == a) ≡ false → nat_lt b a ≡ true
@@ -95,8 +92,8 @@ rising-inserted new (s ∷ sessions) none e =
     above = and-left (are_above s.label sessions) (are_rising sessions) e
 
     at : (b : Bool) → nat_lt new.label s.label ≡ b → are_rising (insert_session new sessions) ≡ true → are_rising (if b then new ∷ s ∷ sessions else s ∷ insert_session new sessions) ≡ true
-    at true lt rest = and-both (are_above new.label (s ∷ sessions)) (are_rising (s ∷ sessions)) (and-both (nat_lt new.label s.label) (are_above new.label sessions) lt (above-trans new.label s.label sessions lt above)) e
-    at false ge rest = and-both (are_above s.label (insert_session new sessions)) (are_rising (insert_session new sessions))
+    at true lt rest = and_from (are_above new.label (s ∷ sessions)) (are_rising (s ∷ sessions)) (and_from (nat_lt new.label s.label) (are_above new.label sessions) lt (above-trans new.label s.label sessions lt above)) e
+    at false ge rest = and_from (are_above s.label (insert_session new sessions)) (are_rising (insert_session new sessions))
         (above-inserted s.label new sessions (above-other new.label s.label ge (not-first new.label s sessions none).0) above) rest
 
 apart : (a b : ℕ) → nat_lt a b ≡ true → (b == a) ≡ false

@@ -1,9 +1,10 @@
 -- In a transaction a session sees the same as others go on.
-use Rattle.std.proofs.Common.{◌≡◌, ℕ, ◌+◌, ◌-◌, Bool, true, false, not, ◌&&◌, cond, List, [], ◌∷◌, ◌++◌, Option, Some, None, refl, sym, ap, ◌∙◌, arith}
-use Rattle.std.proofs.lemmas.Bool.Decides.{nat_tests}
+use Rattle.std.proofs.Common.{◌≡◌, ℕ, ◌+◌, ◌-◌, Bool, true, false, not, ◌&&◌, cond, List, [], ◌∷◌, ◌++◌, Option, Some, None, refl, sym, ap, ◌∙◌}
 use Rattle.std.specs.Prelude.{◌==◌, nat_lt, is_some, map, filter, if◌then◌else◌}
 use Rattle.std.proofs.lemmas.List.{map-append}
 use Rattle.std.proofs.lemmas.List.Elements.{filter-append}
+use Rattle.common_lemmas.proofs.Numbers.{unequal_turned}
+use Rattle.common_lemmas.proofs.Booleans.{and_false}
 use Rattle.index_derive.specs.declared.log.Entry.{Entry}
 use Rattle.index_derive.specs.declared.log.EntryKind.{EntryKind}
 use Rattle.index_derive.specs.declared.log.EntryKind.TheVariants as entry
@@ -39,10 +40,6 @@ none_own session label item other own =
     refuse true f = f refl
     refuse false f = refl
 
-last : (b : Bool) → (b && false) ≡ false
-last true = refl
-last false = refl
-
 others_changes : (session label : ℕ) (test : PastChange → Bool) (change : PastChange → PastChange) → (session == label) ≡ false → ((item : PastChange) → (change item).session ≡ item.session) → (past : List PastChange)
     → open_changes_of session (map (λ item. if is_open_change_of label item && test item then change item else item) past) ≡ open_changes_of session past
 others_changes session label test change other same [] = refl
@@ -51,9 +48,9 @@ others_changes session label test change other same (item ∷ past) =
     → map change_of (cond (is_open_change_of session (cond b (change item) item)) (cond b (change item) item ∷ rest) rest) ≡ map change_of (cond (is_open_change_of session item) (item ∷ filter (is_open_change_of session) past) (filter (is_open_change_of session) past))) [
       | true ↦ λ e.
           let mine : (item.session == session) ≡ false = none_own session label item other (and_left _ _ e) in
-          ap (λ b. map change_of (cond b (change item ∷ rest) rest)) (ap (λ k. is_open (change item).status && (k == session)) (same item) ∙ ap (λ b. is_open (change item).status && b) mine ∙ last (is_open (change item).status))
+          ap (λ b. map change_of (cond b (change item ∷ rest) rest)) (ap (λ k. is_open (change item).status && (k == session)) (same item) ∙ ap (λ b. is_open (change item).status && b) mine ∙ and_false (is_open (change item).status))
           ∙ others_changes session label test change other same past
-          ∙ sym (ap (λ b. map change_of (cond b (item ∷ filter (is_open_change_of session) past) (filter (is_open_change_of session) past))) (ap (λ b. is_open item.status && b) mine ∙ last (is_open item.status)))
+          ∙ sym (ap (λ b. map change_of (cond b (item ∷ filter (is_open_change_of session) past) (filter (is_open_change_of session) past))) (ap (λ b. is_open item.status && b) mine ∙ and_false (is_open item.status)))
       | false ↦ λ e. elim (is_open_change_of session item) as (λ b. map change_of (cond b (item ∷ rest) rest) ≡ map change_of (cond b (item ∷ filter (is_open_change_of session) past) (filter (is_open_change_of session) past))) [
         | true ↦ ap (λ xs. item.change ∷ xs) (others_changes session label test change other same past)
         | false ↦ others_changes session label test change other same past
@@ -67,15 +64,12 @@ one_more : (session : ℕ) (past : List PastChange) (new : PastChange) → (new.
 one_more session past new other =
     ap (map change_of) (filter-append (is_open_change_of session) past (new ∷ []))
     ∙ map-append change_of (filter (is_open_change_of session) past) (filter (is_open_change_of session) (new ∷ []))
-    ∙ ap (λ b. open_changes_of session past ++ map change_of (cond b (new ∷ []) [])) (ap (λ b. is_open new.status && b) other ∙ last (is_open new.status))
+    ∙ ap (λ b. open_changes_of session past ++ map change_of (cond b (new ∷ []) [])) (ap (λ b. is_open new.status && b) other ∙ and_false (is_open new.status))
     ∙ ends (open_changes_of session past)
   where
     ends : {X : Type 0} (xs : List X) → xs ++ [] ≡ xs
     ends [] = refl
     ends (x ∷ xs) = ap (λ ys. x ∷ ys) (ends xs)
-
-turned : (a b : ℕ) → (a == b) ≡ false → (b == a) ≡ false
-turned a b e = grind (arith, nat_tests)
 
 -- ---- each entry of another session
 
@@ -110,7 +104,7 @@ stays_by_kind state label entry.Save session other h =
     stays_with (with_next_number state) (applied label entry.Save (with_next_number state)) session
     (ap (λ (f : ℕ → Option Transaction). f session) (transaction-levels label (λ n. n + 1) (with_next_number state)) ∙ off session label other (at_levels (λ n. n + 1) (transaction_of state label)) (transaction_of (with_next_number state))) refl
 stays_by_kind state label (entry.Change change) session other h =
-    stays_with (with_next_number state) (applied label (entry.Change change) (with_next_number state)) session refl (one_more session state.past _ (turned session label other))
+    stays_with (with_next_number state) (applied label (entry.Change change) (with_next_number state)) session refl (one_more session state.past _ (unequal_turned session label other))
 stays_by_kind state label entry.Release session other h =
     stays_with (with_next_number state) (applied label entry.Release (with_next_number state)) session
     (ap (λ (f : ℕ → Option Transaction). f session) (transaction-levels label (λ n. n - 1) (with_changes_at label (is_at_level (levels state label)) (λ item. record item { level = item.level - 1 }) (with_next_number state)))

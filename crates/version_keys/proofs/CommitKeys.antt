@@ -1,5 +1,5 @@
 -- After a commit no unique index has a key twice.
-use Rattle.std.proofs.Common.{◌≡◌, ℕ, ◌+◌, Bool, true, false, not, ◌&&◌, ◌||◌, cond, List, [], ◌∷◌, ◌++◌, Option, Some, None, refl, sym, ap, subst, ◌∙◌, bytes_eq}
+use Rattle.std.proofs.Common.{◌≡◌, ℕ, ◌+◌, true, false, not, ◌&&◌, ◌||◌, cond, List, [], ◌∷◌, ◌++◌, Option, Some, None, refl, sym, ap, subst, ◌∙◌, bytes_eq}
 use Rattle.std.specs.Prelude.{flat_map, map, IfSome}
 use Rattle.std.specs.List.{AllByRecursion, list_all, list_any}
 use Rattle.std.specs.List.Sorted.{IsStrictlySortedBy}
@@ -7,6 +7,8 @@ use Rattle.std.specs.declared.cmp.Ordering.TheVariants.{Less}
 use Rattle.std.specs.Ordering.{is_eq}
 use Rattle.std.specs.Cmp.Lexicographic.{texts_ties}
 use Rattle.std.proofs.lemmas.List.Folds.{list_any-append}
+use Rattle.std.proofs.lemmas.Bool.{or_left, or_right}
+use Rattle.common_lemmas.proofs.Lists.{all_listed}
 use Rattle.column_set.specs.RecordValues.{RecordFields}
 use Rattle.index_derive.specs.declared.rules.IndexRule.{IndexRule}
 use Rattle.index_derive.specs.declared.rules.Schema.{Schema}
@@ -25,7 +27,7 @@ use Rattle.derived_index.proofs.Rising.{AreRisingKeys}
 use Rattle.derived_index.proofs.Rows.{RowsRise}
 use Rattle.derived_index.proofs.Standing.{same_test}
 use Rattle.record_changes.specs.Records.{Records, records_of}
-use Rattle.record_changes.proofs.Tests.{and_both, equal_bytes, impossible, or_first, or_second, refuted, self_equal}
+use Rattle.record_changes.proofs.Tests.{equal_bytes, impossible, or_first, or_second, refuted, self_equal}
 use Rattle.version_history.specs.History.{IsHistory}
 use Rattle.version_history.specs.KeptSteps.{committed_own, kept_after, with_next_number}
 use Rattle.version_history.proofs.EndEntries.{history_committed, same_definitions}
@@ -44,14 +46,6 @@ use Rattle.version_keys.proofs.UniqueKept.{same_defined, some_at}
 use Rattle.version_keys.proofs.UniqueLaws.{rows_found}
 
 -- ---- rows in order, of which no two share a key
-
-or_left : (a b : Bool) → a ≡ true → (a || b) ≡ true
-or_left true b e = refl
-or_left false b e = impossible e
-
-or_right : (a b : Bool) → b ≡ true → (a || b) ≡ true
-or_right true b e = refl
-or_right false b e = e
 
 less_apart : (x y : List ℕ) → key_cmp x y ≡ Less → bytes_eq x y ≡ false
 less_apart x y e = texts_ties x y ∙ ap is_eq e
@@ -135,10 +129,6 @@ unique_committed base kept state label unique = record {
 
     after_kept : List PastChange
     after_kept = map (committed_own label (state.number + 1)) kept
-
-all_listed : {X : Type 0} (p : X → Bool) (xs : List X) → AllByRecursion (λ x. p x ≡ true) xs → list_all p xs ≡ true
-all_listed p [] h = refl
-all_listed p (x ∷ xs) h = and_both (p x) (list_all p xs) h.0 (all_listed p xs h.1)
 
 -- the committed tables of a state in which a session is in no transaction
 pub unique_outside : KeysRise → (base : Records) (dropped kept : List PastChange) (state : DatabaseState) (label : ℕ) → IsHistory base dropped kept state → IndexesSeeNoSum kept state → transaction_of state label ≡ None → HasUniqueKeys base kept state

@@ -1,10 +1,12 @@
 -- What a lawful put of a unique key finds: no concurrent change has the key, and no other newest record.
-use Rattle.std.proofs.Common.{◌≡◌, inl, ℕ, Bool, true, false, not, ◌&&◌, ◌||◌, cond, List, [], ◌∷◌, ◌++◌, Some, refl, sym, ap, ◌∙◌, bytes_eq}
+use Rattle.std.proofs.Common.{◌≡◌, inl, ℕ, Bool, true, false, not, ◌&&◌, ◌||◌, cond, List, [], ◌∷◌, Some, refl, sym, ap, ◌∙◌, bytes_eq}
 use Rattle.std.specs.Prelude.{◌==◌, filter, map}
 use Rattle.std.specs.List.{AllByRecursion, list_any, list_all}
 use Rattle.std.specs.Ordering.{nat_cmp, eq_by_cmp}
 use Rattle.std.specs.Cmp.Lexicographic.{slice_cmp, nat_list_eq_equiv}
 use Rattle.std.proofs.lemmas.List.Folds.{list_any-append}
+use Rattle.std.proofs.lemmas.Bool.{or_right}
+use Rattle.common_lemmas.proofs.Lists.{all_parted}
 use Rattle.column_set.specs.RecordValues.{RecordFields}
 use Rattle.index_derive.specs.declared.rules.IndexRule.{IndexRule}
 use Rattle.index_derive.specs.declared.rules.Schema.{Schema}
@@ -44,10 +46,6 @@ rules_pass test p (x ∷ xs) h = elim (p x) as (λ b. p x ≡ b → list_all tes
   | false ↦ λ e g. ((λ f. impossible f), rules_pass test p xs g)
 ] refl h
 
-parts : {X : Type 0} (P : X → Type 0) (xs ys : List X) → AllByRecursion P (xs ++ ys) → AllByRecursion P xs × AllByRecursion P ys
-parts P [] ys h = (tt, h)
-parts P (x ∷ xs) ys h = let rest = parts P xs ys h.1 in ((h.0, rest.0), rest.1)
-
 unfiltered : {X : Type 0} (P : X → Type 0) (p : X → Bool) (xs : List X) → AllByRecursion P (filter p xs) → AllByRecursion (λ x. p x ≡ true → P x) xs
 unfiltered P p [] h = tt
 unfiltered P p (x ∷ xs) h = elim (p x) as (λ b. AllByRecursion P (cond b (x ∷ filter p xs) (filter p xs)) → (b ≡ true → P x) × AllByRecursion (λ x. p x ≡ true → P x) xs) [
@@ -58,7 +56,7 @@ unfiltered P p (x ∷ xs) h = elim (p x) as (λ b. AllByRecursion P (cond b (x �
 -- the primary index first, or in the order of making
 pub in_any_order : (P : IndexRule → Type 0) (rules : List IndexRule) → AllByRecursion P (primary_first rules) → AllByRecursion P rules
 in_any_order P rules h =
-    let both = parts P (filter (λ r. r.flags.primary) rules) (filter (λ r. not r.flags.primary) rules) h in
+    let both = all_parted P (filter (λ r. r.flags.primary) rules) (filter (λ r. not r.flags.primary) rules) h in
     all_both (λ r. r.flags.primary ≡ true → P r) (λ r. not r.flags.primary ≡ true → P r) P
     (λ r f g. elim (r.flags.primary) as (λ b. (b ≡ true → P r) → (not b ≡ true → P r) → P r) [ true ↦ λ f g. f refl | false ↦ λ f g. g refl ] f g)
     rules (unfiltered P (λ r. r.flags.primary) rules both.0) (unfiltered P (λ r. not r.flags.primary) rules both.1)
@@ -125,10 +123,6 @@ untaken rule schema key own other rows here plain apart free =
 all_forall : {X K : Type 0} (P : X → K → Type 0) (B : K → Type 0) (xs : List X) → ((k : K) → B k → AllByRecursion (λ x. P x k) xs) → AllByRecursion (λ x. (k : K) → B k → P x k) xs
 all_forall P B [] f = tt
 all_forall P B (x ∷ xs) f = ((λ k b. (f k b).0), all_forall P B xs (λ k b. (f k b).1))
-
-or_right : (a b : Bool) → b ≡ true → (a || b) ≡ true
-or_right true b e = refl
-or_right false b e = e
 
 -- What is known of the put of a record: the put rule passes each key that is new to the view's record.
 pub record IsLawfulKey (state : DatabaseState) (label : ℕ) (table : ℕ) (schema : Schema) (rule : IndexRule) (rows : Rows) (bookmark : List ℕ) (values : RecordFields) (new : PastChange) : Type 0 where

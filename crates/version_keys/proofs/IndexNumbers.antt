@@ -4,6 +4,7 @@ use Rattle.std.specs.Prelude.{◌==◌, filter, find, if◌then◌else◌}
 use Rattle.std.specs.List.{AllByRecursion, list_any}
 use Rattle.std.proofs.lemmas.Bool.Decides.{nat_tests}
 use Rattle.std.proofs.lemmas.List.Elements.{filter-append}
+use Rattle.common_lemmas.proofs.Lists.{filter_swap}
 use Rattle.index_derive.specs.declared.rules.IndexRule.{IndexRule}
 use Rattle.database_state.specs.Table.{primary_first}
 use Rattle.database_state.specs.SchemaChanges.{least_free_id, next_index_id}
@@ -23,24 +24,6 @@ found_in_filter p q (x ∷ xs) h =
       | true ↦ λ f. ap (λ rest. cond (p x) (Some x) rest) (found_in_filter p q xs h.1)
       | false ↦ λ f. found_in_filter p q xs h.1 ∙ sym (ap (λ b. cond b (Some x) (find p xs)) (contradicted (p x) (λ e. sym (f e))))
     ] h.0
-
-filter_swap : {X : Type 0} (p q : X → Bool) (xs : List X) → filter p (filter q xs) ≡ filter q (filter p xs)
-filter_swap p q [] = refl
-filter_swap p q (x ∷ xs) =
-    elim (q x) as (λ b. q x ≡ b → filter p (cond b (x ∷ filter q xs) (filter q xs)) ≡ filter q (cond (p x) (x ∷ filter p xs) (filter p xs))) [
-      | true ↦ λ e. elim (p x) as (λ b. cond b (x ∷ filter p (filter q xs)) (filter p (filter q xs)) ≡ filter q (cond b (x ∷ filter p xs) (filter p xs))) [
-        | true ↦ ap (λ ys. x ∷ ys) (filter_swap p q xs) ∙ sym (ap (λ b. cond b (x ∷ filter q (filter p xs)) (filter q (filter p xs))) e)
-        | false ↦ filter_swap p q xs
-      ]
-      | false ↦ λ e. elim (p x) as (λ b. filter p (filter q xs) ≡ filter q (cond b (x ∷ filter p xs) (filter p xs))) [
-        | true ↦ filter_swap p q xs ∙ sym (ap (λ b. cond b (x ∷ filter q (filter p xs)) (filter q (filter p xs))) e)
-        | false ↦ filter_swap p q xs
-      ]
-    ] refl
-
-all_pass : {X : Type 0} (q : X → Bool) (xs : List X) → AllByRecursion (λ x. q x ≡ true) xs → filter q xs ≡ xs
-all_pass q [] h = refl
-all_pass q (x ∷ xs) h = ap (λ b. cond b (x ∷ filter q xs) (filter q xs)) h.0 ∙ ap (λ ys. x ∷ ys) (all_pass q xs h.1)
 
 pub all_primary_first : (P : IndexRule → Type 0) (rules : List IndexRule) → AllByRecursion P rules → AllByRecursion P (primary_first rules)
 all_primary_first P rules h =

@@ -2,6 +2,7 @@
 use Rattle.std.proofs.Common.{◌≡◌, ℕ, ◌+◌, Bool, true, false, not, ◌&&◌, ◌||◌, cond, List, [], ◌∷◌, ◌++◌, take, length, Option, Some, None, Result, Ok, Err, refl, sym, ap, ◌∙◌}
 use Rattle.std.specs.Prelude.{◌==◌, count_by, filter, flat_map, fold, is_none, map, nat_le, nat_lt, bytes_eq}
 use Rattle.std.specs.List.{AllByRecursion, list_all, list_any}
+use Rattle.common_lemmas.proofs.Lists.{all_parted}
 use Rattle.column_set.specs.declared.columns.Column.{Column}
 use Rattle.column_set.specs.RecordValues.{RecordFields, column_of_id, has_value, values_of}
 use Rattle.jet_base.specs.declared.words.ColType.TheVariants.{Binary}
@@ -67,10 +68,6 @@ conditions_same one other left right (condition ∷ conditions) h =
     let rest = conditions_same one other left right conditions h.1 in
     λ i. cond condition.must_be_null (not (nat_lt 0 (length (h.0.1 i)))) (nat_lt 0 (length (h.0.1 i))) && rest i
 
-parted : {X : Type 0} (P : X → Type 0) (xs ys : List X) → AllByRecursion P (xs ++ ys) → AllByRecursion P xs × AllByRecursion P ys
-parted P [] ys h = (tt, h)
-parted P (x ∷ xs) ys h = let rest = parted P xs ys h.1 in ((h.0, rest.0), rest.1)
-
 -- the entries, by what is read of the columns
 abbrev entries_with : IndexRule → List KeyColumn → List KeyValues → Bool → Result (List (List ℕ)) KeyRefusal
 entries_with rule columns all_values meets = elim meets [
@@ -94,7 +91,7 @@ entries_are rule schema fields = refl
 -- the entries of a record, or why it is refused
 pub entries_same : (rule : IndexRule) (one other : Schema) (left right : RecordFields) → AllByRecursion (SameAt one other left right) (rule_columns rule) → entries rule one left ≡ entries rule other right
 entries_same rule one other left right h =
-    let both = parted (SameAt one other left right) (key_columns rule) (condition_columns rule) h in
+    let both = all_parted (SameAt one other left right) (key_columns rule) (condition_columns rule) h in
     entries_are rule one left
     ∙ (λ i. entries_with rule (columns_same one other left right rule.segments both.0 i) (key_values_same rule one other left right both.0 i) (conditions_same one other left right rule.conditions both.1 i))
     ∙ sym (entries_are rule other right)
@@ -111,7 +108,7 @@ firsts_same one other left right (column ∷ columns) h = λ i. first_or_null (h
 pub primary_key_same : (rule : IndexRule) (one other : Schema) (left right : RecordFields) → AllByRecursion (SameAt one other left right) (rule_columns rule) → primary_key rule one left ≡ primary_key rule other right
 unfolding primary_key
 primary_key_same rule one other left right h =
-    let both = parted (SameAt one other left right) (key_columns rule) (condition_columns rule) h in
+    let both = all_parted (SameAt one other left right) (key_columns rule) (condition_columns rule) h in
     λ i. cut_key rule.key_most (key_bytes (columns_same one other left right rule.segments both.0 i) rule.flags.sortnullshigh (firsts_same one other left right (key_columns rule) both.0 i))
 
 -- ---- which rules are legal
@@ -149,7 +146,7 @@ legal_is rule schema = refl
 
 pub legal_same : (rule : IndexRule) (one other : Schema) → AllByRecursion (λ id. column_of_id one.columns id ≡ column_of_id other.columns id) (rule_columns rule) → is_legal rule one ≡ is_legal rule other
 legal_same rule one other h =
-    let both = parted (λ id. column_of_id one.columns id ≡ column_of_id other.columns id) (key_columns rule) (condition_columns rule) h in
+    let both = all_parted (λ id. column_of_id one.columns id ≡ column_of_id other.columns id) (key_columns rule) (condition_columns rule) h in
     let multi = all_weaker (λ id. column_of_id one.columns id ≡ column_of_id other.columns id) (λ id. is_multi_column one id ≡ is_multi_column other id) (multi_same one other) (key_columns rule) both.0 in
     legal_is rule one
     ∙ (λ i. is_legal_with rule

@@ -2,6 +2,7 @@
 use Rattle.std.proofs.Common.{◌≡◌, ℕ, Bool, true, false, ◌&&◌, ◌||◌, cond, List, [], ◌∷◌, Option, Some, refl, sym, ap, ◌∙◌, bytes_eq}
 use Rattle.std.specs.Prelude.{filter, find}
 use Rattle.std.specs.List.{list_any}
+use Rattle.std.proofs.lemmas.Bool.{or_left, or_right}
 use Rattle.column_set.specs.RecordValues.{RecordFields}
 use Rattle.column_set.specs.RecordValues.{lookup_by_key}
 use Rattle.cursor_nav.specs.Places.{Pair, are_sorted}
@@ -14,7 +15,7 @@ use Rattle.database_state.specs.State.{DatabaseState, PastChange, Transaction, t
 use Rattle.database_state.specs.View.{newest, view}
 use Rattle.database_state.specs.Conflicts.{yields_key}
 use Rattle.record_changes.specs.Records.{Records, is_change_of, records_of}
-use Rattle.record_changes.proofs.Tests.{and_both, and_left, and_right, impossible, same_bytes}
+use Rattle.record_changes.proofs.Tests.{and_both, and_left, and_right, same_bytes}
 use Rattle.version_history.specs.History.{IsHistory}
 use Rattle.version_history.specs.Readers.{before_or, found_record, hides, is_rewrite, is_standing}
 use Rattle.version_keys.specs.KeySums.{SeesNoSum}
@@ -22,14 +23,6 @@ use Rattle.version_keys.specs.Variants.{HoldsVariants, is_standing_rewrite, is_v
 use Rattle.version_keys.proofs.FoundKeys.{found_keys}
 
 -- ---- what is found is a variant
-
-or_left : (a b : Bool) → a ≡ true → (a || b) ≡ true
-or_left true b e = refl
-or_left false b e = impossible e
-
-or_right : (a b : Bool) → b ≡ true → (a || b) ≡ true
-or_right true b e = refl
-or_right false b e = e
 
 found_is_variant : (session : ℕ) (t : Option Transaction) (table : ℕ) (rule : IndexRule) (schema : Schema) (key bookmark : List ℕ) (newest : Option RecordFields) (kept : List PastChange)
     → yields_key rule schema key (found_record session t table bookmark newest kept) ≡ true

@@ -5,6 +5,7 @@ use Rattle.std.specs.List.{list_any}
 use Rattle.std.specs.Cmp.{unsigned_tied}
 use Rattle.std.specs.Ordering.{is_eq, nat_cmp}
 use Rattle.std.specs.FinMap.Entries.{by_order}
+use Rattle.common_lemmas.proofs.Lists.{filter_swap}
 use Rattle.column_set.specs.declared.changes.Change.{Change}
 use Rattle.column_set.specs.declared.changes.Change.TheVariants.{Put, Drop, Hold, Add}
 use Rattle.column_set.specs.declared.columns.Column.{Column}
@@ -16,20 +17,6 @@ use Rattle.record_changes.proofs.Tests.{impossible, same_number, self_equal}
 use Rattle.version_records.specs.SumBefores.{AreSameButForSums}
 
 -- ---- a column that is put and removed
-
--- two selections, one after the other
-swapped : {X : Type 0} (p q : X → Bool) (xs : List X) → filter p (filter q xs) ≡ filter q (filter p xs)
-swapped p q [] = refl
-swapped p q (x ∷ xs) = by (p x) (q x) refl refl (swapped p q xs)
-  where
-    by : (a b : Bool) → p x ≡ a → q x ≡ b → filter p (filter q xs) ≡ filter q (filter p xs) → filter p (cond b (x ∷ filter q xs) (filter q xs)) ≡ filter q (cond a (x ∷ filter p xs) (filter p xs))
-    by true true e f rest =
-        ap (λ c. cond c (x ∷ filter p (filter q xs)) (filter p (filter q xs))) e
-        ∙ ap (λ ys. x ∷ ys) rest
-        ∙ sym (ap (λ c. cond c (x ∷ filter q (filter p xs)) (filter q (filter p xs))) f)
-    by true false e f rest = rest ∙ sym (ap (λ c. cond c (x ∷ filter q (filter p xs)) (filter q (filter p xs))) f)
-    by false true e f rest = ap (λ c. cond c (x ∷ filter p (filter q xs)) (filter p (filter q xs))) e ∙ rest
-    by false false e f rest = rest
 
 removed_put : (k : ℕ) (v : List (List ℕ)) (fields : RecordFields) → remove_by_number k (put_by_number k v fields) ≡ remove_by_number k fields
 removed_put k v [] = ap (λ b. cond (not b) ((k, v) ∷ []) []) (self_equal k)
@@ -55,7 +42,7 @@ cleared_alike c [] h one other same = impossible h
 cleared_alike c (s ∷ sums) h one other same = elim (s.id.0 == c) as (λ b. (s.id.0 == c) ≡ b → (b || list_any (λ s. s.id.0 == c) sums) ≡ true → cleared (s ∷ sums) one ≡ cleared (s ∷ sums) other) [
   | true ↦ λ e g. ap (cleared sums) (subst (λ (k : ℕ). remove_by_number k one ≡ remove_by_number k other) (sym (same_number s.id.0 c e)) same)
   | false ↦ λ e g. cleared_alike c sums g (remove_by_number s.id.0 one) (remove_by_number s.id.0 other)
-      (swapped (λ x. not (x.0 == c)) (λ x. not (x.0 == s.id.0)) one ∙ ap (remove_by_number s.id.0) same ∙ sym (swapped (λ x. not (x.0 == c)) (λ x. not (x.0 == s.id.0)) other))
+      (filter_swap (λ x. not (x.0 == c)) (λ x. not (x.0 == s.id.0)) one ∙ ap (remove_by_number s.id.0) same ∙ sym (filter_swap (λ x. not (x.0 == c)) (λ x. not (x.0 == s.id.0)) other))
 ] refl h
 
 -- an escrow column is among those that are

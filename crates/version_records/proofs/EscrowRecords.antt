@@ -25,8 +25,9 @@ use Rattle.database_state.specs.Step.{applied, every_change, is_at_level, state_
 use Rattle.database_state.specs.Lawful.{has_number, is_lawful, is_lawful_at, is_lawful_kind, is_lawful_put, keeps_escrow}
 use Rattle.database_state.proofs.Columns.{list_all-columns_with}
 use Rattle.common_lemmas.proofs.Found.{all_found, found_passes}
+use Rattle.common_lemmas.proofs.Lists.{all_filtered}
 use Rattle.record_changes.specs.Records.{Records, after_item, records_of}
-use Rattle.record_changes.proofs.Tests.{and_both, and_left, and_right, and_second, impossible, same_bytes, same_number}
+use Rattle.record_changes.proofs.Tests.{and_left, and_right, and_second, impossible, same_bytes, same_number}
 use Rattle.version_history.specs.History.{IsHistory, IsPlaced, without_rows}
 use Rattle.version_history.specs.KeptSteps.{base_after, committed_own, dropped_after, is_own_open, kept_after, lowered_own, new_change, undone_where, with_next_number}
 use Rattle.version_history.specs.Readers.{is_standing}
@@ -204,13 +205,6 @@ numbers_without column table h bookmark =
     by None s = tt
     by (Some values) s = (is_sorted-where_key nat_cmp (λ k. not (k == column)) values s.0, left values s.1)
 
-all_left : {X : Type 0} (p left : X → Bool) (xs : List X) → list_all p xs ≡ true → list_all p (filter left xs) ≡ true
-all_left p left [] h = refl
-all_left p left (x ∷ xs) h = elim (left x) as (λ b. list_all p (cond b (x ∷ filter left xs) (filter left xs)) ≡ true) [
-  | true ↦ and_both (p x) (list_all p (filter left xs)) (and_left (p x) (list_all p xs) h) (all_left p left xs (and_right (p x) (list_all p xs) h))
-  | false ↦ all_left p left xs (and_right (p x) (list_all p xs) h)
-]
-
 -- ---- schema steps
 
 step_numbers : (state : DatabaseState) (label : ℕ) (made : SchemaStep) → is_none (schema_refusal state label made) ≡ true → ((id : ℕ) → IfSome (table_with_id state.tables id) Numbers)
@@ -239,7 +233,7 @@ step_single state label (step.AddColumn table column) free h id =
     single true false true true f = impossible (sym f)
     single true false false true f = impossible (sym f)
 step_single state label (step.DeleteColumn table column) free h id =
-    at_table HasSingleSums table.0 (without_column column.0) (λ t. refl) state.tables (λ t found s. all_left (λ c. not c.escrow || not c.multi) (λ c. not (c.id.0 == column.0)) t.columns s) h id
+    at_table HasSingleSums table.0 (without_column column.0) (λ t. refl) state.tables (λ t found s. all_filtered (λ c. not c.escrow || not c.multi) (λ c. not (c.id.0 == column.0)) t.columns s) h id
 step_single state label (step.CreateIndex table rule) free h id = at_table HasSingleSums table.0 (with_index rule) (λ t. refl) state.tables (λ t found s. s) h id
 step_single state label (step.DeleteIndex table index) free h id = at_table HasSingleSums table.0 (without_index index.0) (λ t. refl) state.tables (λ t found s. s) h id
 

@@ -1,7 +1,8 @@
 -- Every kept change touches a record.
-use Rattle.std.proofs.Common.{◌≡◌, ℕ, ◌+◌, Bool, true, false, ◌||◌, List, [], ◌∷◌, Option, Some, None, refl, sym, ap, ◌∙◌}
+use Rattle.std.proofs.Common.{◌≡◌, ℕ, ◌+◌, true, false, ◌||◌, List, [], ◌∷◌, Option, Some, None, refl, sym, ap, ◌∙◌}
 use Rattle.std.specs.Prelude.{is_some, map, nat_lt}
 use Rattle.std.specs.List.{AllByRecursion}
+use Rattle.std.proofs.lemmas.Bool.{or_left, or_right}
 use Rattle.column_set.specs.declared.changes.Change.{Change}
 use Rattle.column_set.specs.declared.changes.Change.TheVariants.{Put, Drop, Hold, Add}
 use Rattle.column_set.specs.RecordValues.{RecordFields}
@@ -32,14 +33,6 @@ touched_mapped : (f : PastChange → PastChange) → KeepsRecords f → (kept : 
 touched_mapped f keeps kept h = all_map TouchesRecord f kept (all_weaker TouchesRecord (λ item. TouchesRecord (f item))
     (λ item touches. ap (λ (o : Option RecordFields). is_some o || is_some (f item).after) (keeps item).1 ∙ ap (λ (o : Option RecordFields). is_some item.before || is_some o) (keeps item).2 ∙ touches) kept h)
 
-left : (a b : Bool) → a ≡ true → (a || b) ≡ true
-left true b e = refl
-left false b e = impossible e
-
-right : (a b : Bool) → b ≡ true → (a || b) ≡ true
-right true b e = refl
-right false b e = e
-
 -- where the session sees a record under a change that meets no write conflict there is a newest one
 was_seen : (base : Records) (dropped kept : List PastChange) (state : DatabaseState) (label : ℕ) (t : Transaction) (change : Change) → IsHistory base dropped kept state → transaction_of state label ≡ Some t → has_write_conflict state label change ≡ false
     → is_some (records_of (view state label) (changed_table change) (changed_bookmark change)) ≡ true → is_some (records_of (newest (with_next_number state)) (changed_table change) (changed_bookmark change)) ≡ true
@@ -52,21 +45,21 @@ touches_new : (base : Records) (dropped kept : List PastChange) (state : Databas
     → is_lawful_at state label (table_with_id state.tables (changed_table change)) change ≡ true
     → (new_change label change (with_next_number state)).after ≡ record_after (without_copied change) (new_change label change (with_next_number state)).before
     → TouchesRecord (new_change label change (with_next_number state))
-touches_new base dropped kept state label t (Put id bookmark copied values) h e free lawful after = right (is_some (new_change label (Put id bookmark copied values) (with_next_number state)).before) _ (ap is_some after)
+touches_new base dropped kept state label t (Put id bookmark copied values) h e free lawful after = or_right (is_some (new_change label (Put id bookmark copied values) (with_next_number state)).before) _ (ap is_some after)
 touches_new base dropped kept state label t (Drop id bookmark) h e free lawful after =
-    left _ (is_some (new_change label (Drop id bookmark) (with_next_number state)).after) (was_seen base dropped kept state label t (Drop id bookmark) h e free (seen (table_with_id state.tables id.0) refl lawful))
+    or_left _ (is_some (new_change label (Drop id bookmark) (with_next_number state)).after) (was_seen base dropped kept state label t (Drop id bookmark) h e free (seen (table_with_id state.tables id.0) refl lawful))
   where
     seen : (o : Option Table) → table_with_id state.tables id.0 ≡ o → is_lawful_at state label o (Drop id bookmark) ≡ true → is_some (records_of (view state label) id.0 bookmark) ≡ true
     seen None f g = impossible g
     seen (Some table) f g = ap (λ k. is_some (records_of (view state label) k bookmark)) (sym (id_of state.tables id.0 table f)) ∙ g
 touches_new base dropped kept state label t (Hold id bookmark) h e free lawful after =
-    left _ (is_some (new_change label (Hold id bookmark) (with_next_number state)).after) (was_seen base dropped kept state label t (Hold id bookmark) h e free (seen (table_with_id state.tables id.0) refl lawful))
+    or_left _ (is_some (new_change label (Hold id bookmark) (with_next_number state)).after) (was_seen base dropped kept state label t (Hold id bookmark) h e free (seen (table_with_id state.tables id.0) refl lawful))
   where
     seen : (o : Option Table) → table_with_id state.tables id.0 ≡ o → is_lawful_at state label o (Hold id bookmark) ≡ true → is_some (records_of (view state label) id.0 bookmark) ≡ true
     seen None f g = impossible g
     seen (Some table) f g = ap (λ k. is_some (records_of (view state label) k bookmark)) (sym (id_of state.tables id.0 table f)) ∙ g
 touches_new base dropped kept state label t (Add id bookmark column amount) h e free lawful after =
-    left _ (is_some (new_change label (Add id bookmark column amount) (with_next_number state)).after) (was_seen base dropped kept state label t (Add id bookmark column amount) h e free (seen (table_with_id state.tables id.0) refl lawful))
+    or_left _ (is_some (new_change label (Add id bookmark column amount) (with_next_number state)).after) (was_seen base dropped kept state label t (Add id bookmark column amount) h e free (seen (table_with_id state.tables id.0) refl lawful))
   where
     seen : (o : Option Table) → table_with_id state.tables id.0 ≡ o → is_lawful_at state label o (Add id bookmark column amount) ≡ true → is_some (records_of (view state label) id.0 bookmark) ≡ true
     seen None f g = impossible g

@@ -5,6 +5,7 @@ use Rattle.std.proofs.lemmas.Bool.{cases_lt, eqb-false, eqb-true}
 use Rattle.std.proofs.lemmas.List.{get_or-set_same, get_or-set_other, length-map, length-set, length_push}
 use Rattle.std.proofs.lemmas.Option.{slice_get_within, slice_get-get_or}
 use Rattle.std.proofs.Math.ListN.{get_or-eq_default}
+use Rattle.common_lemmas.proofs.Booleans.{and_false}
 use Rattle.database_state.specs.State.{is_open}
 use Rattle.version_store.specs.declared.item.Item.{Item}
 use Rattle.version_store.specs.declared.item.Status.TheVariants as status
@@ -111,15 +112,11 @@ levels-map f items tame level highest below i k x y is le at opened =
 
 -- ---- committed, released and undone items
 
-and-false : (a : Bool) → (a && false) ≡ false
-and-false true = refl
-and-false false = refl
-
 pub commit-tamed : (session number : ℕ) (x : Item) → Tamed x (committed_item session number x)
 commit-tamed session number x = at (is_open_item session x)
   where
     at : (b : Bool) → Tamed x (if b then record x { status = status.Committed number } else x)
-    at true = record { session = refl; before = refl; closed = λ (s : ℕ) (e : is_open_item s x ≡ false). and-false (x.session.0 == s) }
+    at true = record { session = refl; before = refl; closed = λ (s : ℕ) (e : is_open_item s x ≡ false). and_false (x.session.0 == s) }
     at false = record { session = refl; before = refl; closed = λ (s : ℕ) (e : is_open_item s x ≡ false). e }
 
 pub commit-level : (session number : ℕ) (x : Item) → (committed_item session number x).level ≡ x.level
@@ -141,7 +138,7 @@ pub commit-closed : (session number : ℕ) (x : Item) → is_open_item session (
 commit-closed session number x = at (is_open_item session x) refl
   where
     at : (b : Bool) → is_open_item session x ≡ b → is_open_item session (if b then record x { status = status.Committed number } else x) ≡ false
-    at true e = and-false (x.session.0 == session)
+    at true e = and_false (x.session.0 == session)
     at false e = e
 
 pub commit-skips : (session number : ℕ) (x : Item) → is_open_item session x ≡ false → committed_item session number x ≡ x
@@ -228,10 +225,10 @@ undo : Item → Item
 undo x = record x { status = status.Undone }
 
 pub undo-tamed : (x : Item) → Tamed x (record x { status = status.Undone })
-undo-tamed x = record { session = refl; before = refl; closed = λ (s : ℕ) (e : is_open_item s x ≡ false). and-false (x.session.0 == s) }
+undo-tamed x = record { session = refl; before = refl; closed = λ (s : ℕ) (e : is_open_item s x ≡ false). and_false (x.session.0 == s) }
 
 pub undo-closed : (session : ℕ) (x : Item) → is_open_item session (record x { status = status.Undone }) ≡ false
-undo-closed session x = and-false (x.session.0 == session)
+undo-closed session x = and_false (x.session.0 == session)
 
 -- what a list has at a place after one of its items was undone
 record Undone (items : List Item) (at : ℕ) (old : Item) (k : ℕ) (new : Item) : Type 0 where

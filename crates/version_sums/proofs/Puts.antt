@@ -1,5 +1,5 @@
 -- The values of a column put in the place of others.
-use Rattle.std.proofs.Common.{◌≡◌, ℕ, ◌+◌, Bool, true, false, ◌&&◌, cond, List, [], ◌∷◌, Some, None, refl, sym, ap, subst, ◌∙◌}
+use Rattle.std.proofs.Common.{◌≡◌, ℕ, ◌+◌, Bool, true, false, cond, List, [], ◌∷◌, Some, None, refl, sym, ap, subst, ◌∙◌}
 use Rattle.std.specs.Prelude.{T, sum_by}
 use Rattle.std.specs.List.{list_all}
 use Rattle.std.specs.Cmp.{nat_cmp_total, unsigned_tied}
@@ -8,36 +8,17 @@ use Rattle.std.specs.declared.cmp.Ordering.TheVariants.{Less, Equal, Greater}
 use Rattle.std.specs.Ordering.{is_eq, is_lt, nat_cmp}
 use Rattle.std.specs.FinMap.Entries.{below_all, by_order, is_sorted}
 use Rattle.std.proofs.lemmas.List.Sums.{sum_by-cons}
+use Rattle.common_lemmas.proofs.Options.{same_some}
+use Rattle.common_lemmas.proofs.Orders.{is_equal}
+use Rattle.common_lemmas.proofs.Booleans.{T_first, T_second}
 use Rattle.column_set.specs.RecordValues.{RecordFields, lookup_by_number, put_by_number}
 use Rattle.record_changes.proofs.Tests.{and_both, and_left, and_right, same_number, self_equal}
 use Rattle.version_sums.specs.EscrowNumbers.{ColumnsRise}
 
 -- ---- tests
 
-holds_left : (a b : Bool) → T (a && b) → T a
-holds_left true b h = tt
-holds_left false b h = h
-
-holds_right : (a b : Bool) → T (a && b) → T b
-holds_right true b h = h
-holds_right false b h = absurd h
-
-just : {X : Type 0} (x y : X) → Some x ≡ Some y → x ≡ y
-just x y e = cc
-
 nothing : {X : Type 0} (x : X) → None ≡ Some x → ⊥
 nothing x e = cc
-
-tied : (o : Ordering) → is_eq o ≡ true → o ≡ Equal
-tied Less e = absurd (never e)
-  where
-    never : false ≡ true → ⊥
-    never e = cc
-tied Equal e = refl
-tied Greater e = absurd (never e)
-  where
-    never : false ≡ true → ⊥
-    never e = cc
 
 less : (o : Ordering) → T (is_lt o) → o ≡ Less
 less Less h = refl
@@ -45,7 +26,7 @@ less Equal h = absurd h
 less Greater h = absurd h
 
 itself : (c : ℕ) → nat_cmp c c ≡ Equal
-itself c = tied (nat_cmp c c) (unsigned_tied c c ∙ self_equal c)
+itself c = is_equal (nat_cmp c c) (unsigned_tied c c ∙ self_equal c)
 
 same : (c k : ℕ) → nat_cmp c k ≡ Equal → c ≡ k
 same c k e = same_number c k (sym (unsigned_tied c k) ∙ ap is_eq e)
@@ -56,8 +37,8 @@ same c k e = same_number c k (sym (unsigned_tied c k) ∙ ap is_eq e)
 none_below : (c k : ℕ) (fields : RecordFields) → nat_cmp c k ≡ Less → T (below_all nat_cmp k fields) → lookup_by_number c fields ≡ None
 none_below c k [] e h = refl
 none_below c k (field ∷ fields) e h =
-    ap (λ o. cond (is_eq o) (Some field.1) (lookup_by_number c fields)) (nat_cmp_total.trans c k field.0 e (less (nat_cmp k field.0) (holds_left (is_lt (nat_cmp k field.0)) (below_all nat_cmp k fields) h)))
-    ∙ none_below c k fields e (holds_right (is_lt (nat_cmp k field.0)) (below_all nat_cmp k fields) h)
+    ap (λ o. cond (is_eq o) (Some field.1) (lookup_by_number c fields)) (nat_cmp_total.trans c k field.0 e (less (nat_cmp k field.0) (T_first (is_lt (nat_cmp k field.0)) (below_all nat_cmp k fields) h)))
+    ∙ none_below c k fields e (T_second (is_lt (nat_cmp k field.0)) (below_all nat_cmp k fields) h)
 
 -- what each field has, the one that is found has
 pub found_has : (p : ℕ × List (List ℕ) → Bool) (c : ℕ) (values : List (List ℕ)) (fields : RecordFields) → list_all p fields ≡ true → lookup_by_number c fields ≡ Some values → p (c, values) ≡ true
@@ -65,8 +46,8 @@ found_has p c values [] h e = absurd (nothing values e)
 found_has p c values (field ∷ fields) h e =
     elim (is_eq (nat_cmp c field.0)) as (λ b. is_eq (nat_cmp c field.0) ≡ b → cond b (Some field.1) (lookup_by_number c fields) ≡ Some values → p (c, values) ≡ true) [
       | true ↦ λ f g.
-          ap (λ (v : List (List ℕ)). p (c, v)) (sym (just field.1 values g))
-          ∙ ap (λ (k : ℕ). p (k, field.1)) (same c field.0 (tied (nat_cmp c field.0) f))
+          ap (λ (v : List (List ℕ)). p (c, v)) (sym (same_some field.1 values g))
+          ∙ ap (λ (k : ℕ). p (k, field.1)) (same c field.0 (is_equal (nat_cmp c field.0) f))
           ∙ and_left (p field) (list_all p fields) h
       | false ↦ λ f g. found_has p c values fields (and_right (p field) (list_all p fields) h) g
     ] refl e
@@ -92,9 +73,9 @@ at_found : (Q : RecordFields → RecordFields → Type 0) (c : ℕ) (v w : List 
 at_found Q c v w here further [] rise e = absurd (nothing w e)
 at_found Q c v w here further (field ∷ fields) rise e =
     elim (nat_cmp c field.0) as (λ o. nat_cmp c field.0 ≡ o → cond (is_eq o) (Some field.1) (lookup_by_number c fields) ≡ Some w → Q (by_order o ((c, v) ∷ field ∷ fields) ((field.0, v) ∷ fields) (field ∷ put_by_number c v fields)) (field ∷ fields)) [
-      | Less ↦ λ f g. absurd (nothing w (sym (none_below c field.0 fields f (holds_left (below_all nat_cmp field.0 fields) (is_sorted nat_cmp fields) rise)) ∙ g))
-      | Equal ↦ λ f g. subst (λ (k : ℕ). Q ((k, v) ∷ fields) ((k, field.1) ∷ fields)) (same c field.0 f) (subst (λ (x : List (List ℕ)). Q ((c, v) ∷ fields) ((c, x) ∷ fields)) (sym (just field.1 w g)) (here fields))
-      | Greater ↦ λ f g. further field (put_by_number c v fields) fields (at_found Q c v w here further fields (holds_right (below_all nat_cmp field.0 fields) (is_sorted nat_cmp fields) rise) g)
+      | Less ↦ λ f g. absurd (nothing w (sym (none_below c field.0 fields f (T_first (below_all nat_cmp field.0 fields) (is_sorted nat_cmp fields) rise)) ∙ g))
+      | Equal ↦ λ f g. subst (λ (k : ℕ). Q ((k, v) ∷ fields) ((k, field.1) ∷ fields)) (same c field.0 f) (subst (λ (x : List (List ℕ)). Q ((c, v) ∷ fields) ((c, x) ∷ fields)) (sym (same_some field.1 w g)) (here fields))
+      | Greater ↦ λ f g. further field (put_by_number c v fields) fields (at_found Q c v w here further fields (T_second (below_all nat_cmp field.0 fields) (is_sorted nat_cmp fields) rise) g)
     ] refl e
 
 -- what is found, put again

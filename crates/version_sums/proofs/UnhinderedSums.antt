@@ -1,7 +1,7 @@
 -- A change that meets no write conflict finds the newest record, also where it is a sum.
-use Rattle.std.proofs.Common.{◌≡◌, ℕ, Bool, true, false, not, ◌&&◌, cond, List, [], ◌∷◌, Some, None, refl, sym, ap, ◌∙◌}
-use Rattle.std.specs.Prelude.{find}
+use Rattle.std.proofs.Common.{◌≡◌, ℕ, Bool, true, false, not, ◌&&◌, List, Some, refl, sym, ap, ◌∙◌}
 use Rattle.std.specs.List.{AllByRecursion}
+use Rattle.common_lemmas.proofs.Finding.{find_none}
 use Rattle.column_set.specs.declared.changes.Change.{Change}
 use Rattle.column_set.specs.declared.changes.Change.TheVariants.{Put, Drop, Hold, Add}
 use Rattle.database_state.specs.Changes.{changed_bookmark, changed_table, is_sum}
@@ -16,10 +16,6 @@ use Rattle.version_history.specs.Readers.{before_or, found_record, hides, is_rew
 use Rattle.version_history.proofs.EndEntries.{free_of}
 use Rattle.version_history.proofs.Lists.{all_both}
 use Rattle.version_history.proofs.Unhindered.{seen_unless}
-
-none_found : {X : Type 0} (p : X → Bool) (xs : List X) → AllByRecursion (λ x. p x ≡ false) xs → find p xs ≡ None
-none_found p [] h = refl
-none_found p (x ∷ xs) h = ap (λ b. cond b (Some x) (find p xs)) h.0 ∙ none_found p xs h.1
 
 no_sum : (c : Change) → is_rewrite c ≡ true → is_sum c ≡ false
 no_sum (Put t b copied values) h = refl
@@ -64,4 +60,4 @@ pub unhindered_found : (base : Records) (dropped kept : List PastChange) (state 
     ≡ records_of (newest state) (changed_table change) (changed_bookmark change)
 unhindered_found base dropped kept state h session t change e free =
     ap (before_or (records_of (newest state) (changed_table change) (changed_bookmark change)))
-    (none_found (hides session (transaction_of state session) (changed_table change) (changed_bookmark change)) kept (unhindered_shown base dropped kept state h session t change e free))
+    (find_none (hides session (transaction_of state session) (changed_table change) (changed_bookmark change)) kept (unhindered_shown base dropped kept state h session t change e free))

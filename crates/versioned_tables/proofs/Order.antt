@@ -6,6 +6,7 @@ use Rattle.std.specs.Ordering.{nat_cmp, is_eq, is_le, is_lt, ordering_reverse, o
 use Rattle.std.specs.Cmp.{IsTotalOrder, on_total, then_total}
 use Rattle.std.specs.Cmp.Lexicographic.{slice_cmp, nat_list_cmp_total, texts_ties}
 use Rattle.std.proofs.lemmas.Map.Lookups.{exact_bytes}
+use Rattle.common_lemmas.proofs.Orders.{less_then}
 use Rattle.index_derive.specs.declared.entries.Place.{Place}
 use Rattle.index_derive.specs.declared.entries.Place.TheVariants.{Before, After, On, Gap}
 use Rattle.column_set.specs.RecordValues.{bytes_le, bytes_lt}
@@ -19,11 +20,6 @@ pair_cmp x y = ordering_then (slice_cmp nat_cmp x.0 y.0) (slice_cmp nat_cmp x.1 
 
 pairs_total : IsTotalOrder pair_cmp
 pairs_total = then_total (on_total (λ p. p.0) nat_list_cmp_total) (on_total (λ p. p.1) nat_list_cmp_total)
-
-less_then : (r q : Ordering) → (is_lt r || (is_eq r && is_lt q)) ≡ is_lt (ordering_then r q)
-less_then Less q = refl
-less_then Equal q = refl
-less_then Greater q = refl
 
 pair_lt-is : (x y : Pair) → pair_lt x y ≡ is_lt (pair_cmp x y)
 pair_lt-is x y =

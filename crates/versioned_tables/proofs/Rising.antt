@@ -1,11 +1,12 @@
 -- Tables whose rows rise by their bookmarks are told by their definitions and their records.
-use Rattle.std.proofs.Common.{◌≡◌, ℕ, Bool, true, false, cond, List, [], ◌∷◌, Option, Some, None, refl, sym, ap, subst, ◌∙◌}
-use Rattle.std.specs.Prelude.{◌==◌, T, map, option_map, is_some, not, bytes_eq}
+use Rattle.std.proofs.Common.{◌≡◌, ℕ, Bool, true, false, cond, List, [], ◌∷◌, Option, Some, None, refl, sym, ap, ◌∙◌}
+use Rattle.std.specs.Prelude.{◌==◌, map, option_map, not, bytes_eq}
 use Rattle.std.specs.Option.{unwrap_or}
 use Rattle.std.specs.Ordering.{nat_cmp}
 use Rattle.std.specs.Cmp.Lexicographic.{slice_cmp, nat_list_cmp_total}
 use Rattle.std.specs.FinMap.Entries.{is_sorted-put, is_sorted-where_key, same_entries}
 use Rattle.std.proofs.lemmas.Map.Lookups.{exact_bytes}
+use Rattle.common_lemmas.proofs.Options.{some_apart}
 use Rattle.column_set.specs.declared.changes.Change.{Change}
 use Rattle.column_set.specs.declared.changes.Change.TheVariants.{Put, Drop, Hold, Add}
 use Rattle.column_set.specs.RecordValues.{RecordFields}
@@ -75,9 +76,6 @@ found_without (t ∷ tables) id = by (t.id == id) (found_without tables id)
         → cond b (Some (without_rows t)) (table_with_id (map without_rows tables) id) ≡ option_map without_rows (cond b (Some t) (table_with_id tables id))
     by true rest = refl
     by false rest = rest
-
-some_apart : {X : Type 0} (x : X) → Some x ≡ None → ⊥
-some_apart x e = subst T (ap is_some e) tt
 
 one_table : (o p : Option Table) → option_map without_rows o ≡ option_map without_rows p → rows_of o ≡ rows_of p → o ≡ p
 one_table None None e r = refl

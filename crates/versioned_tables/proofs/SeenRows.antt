@@ -5,33 +5,25 @@ use Rattle.std.specs.Ordering.{nat_cmp}
 use Rattle.std.specs.Cmp.Lexicographic.{slice_cmp, texts_ties, nat_list_cmp_total}
 use Rattle.std.specs.FinMap.Entries.{find-put, find-where_key}
 use Rattle.std.proofs.lemmas.Map.Lookups.{exact_bytes}
+use Rattle.common_lemmas.proofs.Numbers.{bytes_turned}
 use Rattle.column_set.specs.RecordValues.{RecordFields}
 use Rattle.database_state.specs.Table.{Rows, row_at}
-use Rattle.record_changes.proofs.Tests.{same_bytes, equal_bytes}
 use Rattle.version_store.specs.declared.calls.Reader.{Reader}
 use Rattle.version_store.specs.HeldChanges.{is_rewrite}
 use Rattle.versioned_tables.specs.HeldRecords.{HeldRecord, is_unseen, hides, before_or, seen_record}
 use Rattle.versioned_tables.specs.VersionedTables.{rows_with, seen_rows}
 
-turned : (a b : List ℕ) → bytes_eq a b ≡ bytes_eq b a
-turned a b = by (bytes_eq a b) (bytes_eq b a) refl refl
-  where
-    by : (x y : Bool) → bytes_eq a b ≡ x → bytes_eq b a ≡ y → bytes_eq a b ≡ bytes_eq b a
-    by true y e f = e ∙ sym (equal_bytes b a (sym (same_bytes a b e)))
-    by false true e f = equal_bytes a b (sym (same_bytes b a f)) ∙ sym f
-    by false false e f = e ∙ sym f
-
 pub row_at-with : (rows : Rows) (bookmark other : List ℕ) (values : Option RecordFields) → row_at (rows_with rows bookmark values) other ≡ cond (bytes_eq bookmark other) values (row_at rows other)
 row_at-with rows bookmark other None =
     find-where_key (slice_cmp nat_cmp) (λ key. not (bytes_eq key bookmark)) other (λ x e. ap (λ (k : List ℕ). not (bytes_eq k bookmark)) (sym (exact_bytes other x e))) rows
-    ∙ flipped (bytes_eq other bookmark) (row_at rows other) ∙ ap (λ b. cond b None (row_at rows other)) (turned other bookmark)
+    ∙ flipped (bytes_eq other bookmark) (row_at rows other) ∙ ap (λ b. cond b None (row_at rows other)) (bytes_turned other bookmark)
   where
     flipped : (b : Bool) (x : Option RecordFields) → cond (not b) x None ≡ cond b None x
     flipped true x = refl
     flipped false x = refl
 row_at-with rows bookmark other (Some values) =
     find-put (slice_cmp nat_cmp) nat_list_cmp_total other bookmark values rows
-    ∙ ap (λ b. cond b (Some values) (row_at rows other)) (sym (texts_ties other bookmark) ∙ turned other bookmark)
+    ∙ ap (λ b. cond b (Some values) (row_at rows other)) (sym (texts_ties other bookmark) ∙ bytes_turned other bookmark)
 
 pub seen_at : (table : ℕ) (reader : Reader) (held : List HeldRecord) (rows : Rows) (bookmark : List ℕ) → row_at (seen_rows table reader held rows) bookmark ≡ seen_record table bookmark reader (row_at rows bookmark) held
 seen_at table reader [] rows bookmark = refl

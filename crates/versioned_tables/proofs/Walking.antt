@@ -5,6 +5,8 @@ use Rattle.std.specs.List.{list_all, list_any}
 use Rattle.std.specs.Ordering.{nat_cmp, is_lt}
 use Rattle.std.specs.Cmp.Lexicographic.{slice_cmp}
 use Rattle.std.specs.FinMap.Entries.{below_all}
+use Rattle.std.proofs.lemmas.Bool.{or_left, or_right}
+use Rattle.common_lemmas.proofs.Booleans.{T_first, T_second, is_true}
 use Rattle.column_set.specs.RecordValues.{RecordFields, lookup_by_key}
 use Rattle.cursor_nav.specs.Places.{Pair, are_sorted, pair_lt}
 use Rattle.derived_index.specs.KeptEntries.{has_entry}
@@ -26,33 +28,13 @@ use Rattle.versioned_tables.proofs.SeenRows.{seen_at}
 
 -- ---- rows that rise are in the order of their bookmarks
 
-is_true : (b : Bool) → T b → b ≡ true
-is_true true h = refl
-is_true false h = absurd h
-
-first : (a b : Bool) → T (a && b) → T a
-first true b h = tt
-first false b h = h
-
-second : (a b : Bool) → T (a && b) → T b
-second true b h = h
-second false b h = absurd h
-
-or_left : (a b : Bool) → a ≡ true → (a || b) ≡ true
-or_left true b e = refl
-or_left false b e = impossible e
-
-or_right : (a b : Bool) → b ≡ true → (a || b) ≡ true
-or_right true b e = refl
-or_right false b e = e
-
 below_is : (key : List ℕ) (rows : Rows) → T (below_all (slice_cmp nat_cmp) key rows) → list_all (pair_lt (key, key)) (own_order rows) ≡ true
 below_is key [] h = refl
-below_is key (row ∷ rows) h = and_both _ _ (or_left _ _ (is_true (is_lt (slice_cmp nat_cmp key row.0)) (first _ _ h))) (below_is key rows (second (is_lt (slice_cmp nat_cmp key row.0)) _ h))
+below_is key (row ∷ rows) h = and_both _ _ (or_left _ _ (is_true (is_lt (slice_cmp nat_cmp key row.0)) (T_first _ _ h))) (below_is key rows (T_second (is_lt (slice_cmp nat_cmp key row.0)) _ h))
 
 pub order_is : (rows : Rows) → RowsRise rows → are_sorted (own_order rows) ≡ true
 order_is [] h = refl
-order_is (row ∷ rows) h = and_both _ _ (below_is row.0 rows (first _ _ h)) (order_is rows (second (below_all (slice_cmp nat_cmp) row.0 rows) _ h))
+order_is (row ∷ rows) h = and_both _ _ (below_is row.0 rows (T_first _ _ h)) (order_is rows (T_second (below_all (slice_cmp nat_cmp) row.0 rows) _ h))
 
 -- ---- what is seen is a variant
 

@@ -1,5 +1,5 @@
 use Rattle.std.proofs.Common.{◌≡◌, ℕ, List, [], ◌-◌, length, take, drop, sym, ap, subst, ◌∙◌}
-use Rattle.std.specs.Prelude.{Result, Ok, Err, OnOk}
+use Rattle.common_lemmas.proofs.Results.{OnOk-then}
 use Rattle.column_set.specs.RecordValues.{RecordFields}
 use Rattle.column_set.specs.RowReading.{row_in}
 use Rattle.column_set.specs.Rows.{values_in_order}
@@ -10,10 +10,6 @@ use Rattle.kept_rows.specs.ValuesChanged.{HasLongValues}
 use Rattle.kept_rows.proofs.TakingAll.{MayAll}
 use Rattle.kept_rows.proofs.WholeRow.{count_left, given_left, may_left, row_stands}
 use Rattle.kept_rows.proofs.rows.take_row.Goals as goal
-
-on_ok : {X Y A B : Type 0} (r : Result X Y) → (A → B) → OnOk r A → OnOk r B
-on_ok (Ok x) f a = f a
-on_ok (Err y) f a = tt
 
 pub take_values-requires-clause-may : goal.take_values-requires-clause-may
 take_values-requires-clause-may c =
@@ -26,7 +22,7 @@ returns-clause-ok c =
     let fields = c.args.values.now in
     let values = table_long_values c.args.trees.now.tables c.args.table.0 in
     let same : given_of (values_in_order row) (values_left [] c.fields.result.now) ≡ given_of (values_in_order row) (values_left [] fields) = ap (λ (f : RecordFields). given_of (values_in_order row) (values_left [] f)) c.fields.ensures.fields in
-    on_ok c.take_values.result
+    OnOk-then c.take_values.result
     (λ all. subst (λ (l : List (List ℕ × List ℕ)). HasLongValues c.args.table.0 (with_all_taken l values) c.args.trees.now.tables c.take_values.new.trees.tables) (same ∙ given_left row fields)
     (all (values_in_order row) (row_stands c.rows_are_read_back.ensures c.args.row.now c.requires.row) (count_left row fields c.requires.form ∙ sym (ap (λ (f : RecordFields). length (values_left [] f)) c.fields.ensures.fields))))
     c.take_values.ensures.ok

@@ -1,5 +1,6 @@
-use Rattle.std.proofs.Common.{◌≡◌, Some, None, List, ℕ, ◌∷◌, sym, ap, subst, ◌∙◌, arith, length}
+use Rattle.std.proofs.Common.{◌≡◌, List, ℕ, ◌∷◌, sym, ap, subst, ◌∙◌, arith, length}
 use Rattle.std.specs.Option.{option_map}
+use Rattle.common_lemmas.proofs.Options.{some_apart}
 use Rattle.column_set.specs.declared.rows.RowValue.{RowValue}
 use Rattle.long_value.specs.Stores.{id_bytes}
 use Rattle.long_references.specs.ReferenceCounts.{with_all_taken}
@@ -12,9 +13,6 @@ use Rattle.kept_rows.proofs.Changed.{still_there}
 use Rattle.kept_rows.proofs.TakingAll.{MayAll, all_back, all_taken, back_can, first_can, none_taken, others_can}
 use Rattle.kept_rows.proofs.taking.+take_values.Goals as goal
 
-never : {X : Type 0} (x : X) → Some x ≡ None → ⊥
-never x e = cc
-
 pub take_first-requires-clause-may : goal.take_first-requires-clause-may
 take_first-requires-clause-may t c =
     let bytes = c.as_bytes.result.now in
@@ -22,7 +20,7 @@ take_first-requires-clause-may t c =
     let split : c.args.values.now ≡ bytes ∷ others = c.in-Some.ensures.cases.0 ∙ ap (λ (b : List ℕ). b ∷ others) (sym c.as_bytes.ensures) in
     let may = subst (λ (l : List (List ℕ)). MayAll c.args.row.now (values_left l c.args.fields.now) (table_long_values c.args.trees.now.tables c.args.table.0)) split c.requires.may in
     first_can c.args.row.now (option_map id_bytes c.in-Some-first_named.named) c.in-Some-first_named.rest.now bytes (values_left others c.args.fields.now) (table_long_values c.args.trees.now.tables c.args.table.0)
-    (λ e. never _ (c.in-Some-first_named.ensures.end e)) c.in-Some-first_named.ensures.value may
+    (λ e. some_apart _ (c.in-Some-first_named.ensures.end e)) c.in-Some-first_named.ensures.value may
 
 pub take_values-requires : goal.take_values-requires
 take_values-requires t c =
@@ -34,7 +32,7 @@ take_values-requires t c =
     let split : c.args.values.now ≡ bytes ∷ others = c.in-Some.ensures.cases.0 ∙ ap (λ (b : List ℕ). b ∷ others) (sym c.as_bytes.ensures) in
     let may = subst (λ (l : List (List ℕ)). MayAll c.args.row.now (values_left l c.args.fields.now) (table_long_values c.args.trees.now.tables c.args.table.0)) split c.requires.may in
     let can = others_can laws c.args.row.now (option_map id_bytes c.in-Some-first_named.named) c.in-Some-first_named.rest.now bytes (values_left others c.args.fields.now) c.args.table.0 c.args.trees.now.tables c.take_first.new.trees.tables
-    (λ e. never _ (c.in-Some-first_named.ensures.end e)) c.in-Some-first_named.ensures.value may c.in-Ok.ensures.ok in
+    (λ e. some_apart _ (c.in-Some-first_named.ensures.end e)) c.in-Some-first_named.ensures.value may c.in-Ok.ensures.ok in
     let had = c.in-Ok.ensures.ok can.0 can.1 in
     (omega (arith, c.decreases, c.in-Some.ensures.cases.1), (still_there c.args.table.0 _ c.args.trees.now.tables c.take_first.new.trees.tables had c.requires.table, can))
 
@@ -45,7 +43,7 @@ release_first-requires-clause-table t c =
     let split : c.args.values.now ≡ bytes ∷ others = c.in-Some.ensures.cases.0 ∙ ap (λ (b : List ℕ). b ∷ others) (sym c.as_bytes.ensures) in
     let may = subst (λ (l : List (List ℕ)). MayAll c.args.row.now (values_left l c.args.fields.now) (table_long_values c.args.trees.now.tables c.args.table.0)) split c.requires.may in
     let can = first_can c.args.row.now (option_map id_bytes c.in-Some-first_named.named) c.in-Some-first_named.rest.now bytes (values_left others c.args.fields.now) (table_long_values c.args.trees.now.tables c.args.table.0)
-    (λ e. never _ (c.in-Some-first_named.ensures.end e)) c.in-Some-first_named.ensures.value may in
+    (λ e. some_apart _ (c.in-Some-first_named.ensures.end e)) c.in-Some-first_named.ensures.value may in
     let had = c.in-Ok.ensures.ok can.0 can.1 in
     let here = still_there c.args.table.0 _ c.args.trees.now.tables c.take_first.new.trees.tables had c.requires.table in
     still_there c.args.table.0 _ c.take_first.new.trees.tables c.take_values.new.trees.tables c.in-Err-take_values.ensures.err here
@@ -60,7 +58,7 @@ release_first-requires-clause-there t c =
     let split : c.args.values.now ≡ bytes ∷ others = c.in-Some.ensures.cases.0 ∙ ap (λ (b : List ℕ). b ∷ others) (sym c.as_bytes.ensures) in
     let may = subst (λ (l : List (List ℕ)). MayAll c.args.row.now (values_left l c.args.fields.now) (table_long_values c.args.trees.now.tables c.args.table.0)) split c.requires.may in
     let can = first_can c.args.row.now (option_map id_bytes c.in-Some-first_named.named) c.in-Some-first_named.rest.now bytes (values_left others c.args.fields.now) (table_long_values c.args.trees.now.tables c.args.table.0)
-    (λ e. never _ (c.in-Some-first_named.ensures.end e)) c.in-Some-first_named.ensures.value may in
+    (λ e. some_apart _ (c.in-Some-first_named.ensures.end e)) c.in-Some-first_named.ensures.value may in
     back_can laws c.in-Some-first_named.rest.now (option_map id_bytes c.in-Some-first_named.named) bytes c.args.table.0 c.args.trees.now.tables c.take_first.new.trees.tables c.take_values.new.trees.tables (can.0, can.1) c.in-Ok.ensures.ok c.in-Err-take_values.ensures.err
 
 pub returns-in-Ok-take_values-clause-ok : goal.returns-in-Ok-take_values-clause-ok
@@ -69,7 +67,7 @@ returns-in-Ok-take_values-clause-ok t c =
     let others = c.in-Some.others.now in
     let split : c.args.values.now ≡ bytes ∷ others = c.in-Some.ensures.cases.0 ∙ ap (λ (b : List ℕ). b ∷ others) (sym c.as_bytes.ensures) in
     let all = all_taken c.args.row.now (option_map id_bytes c.in-Some-first_named.named) c.in-Some-first_named.rest.now bytes (values_left others c.args.fields.now) c.args.table.0 c.args.trees.now.tables c.take_first.new.trees.tables c.take_values.new.trees.tables
-    (λ e. never _ (c.in-Some-first_named.ensures.end e)) c.in-Some-first_named.ensures.value c.in-Ok.ensures.ok c.in-Ok-take_values.ensures.ok in
+    (λ e. some_apart _ (c.in-Some-first_named.ensures.end e)) c.in-Some-first_named.ensures.value c.in-Ok.ensures.ok c.in-Ok-take_values.ensures.ok in
     subst (λ (l : List (List ℕ)). (xs : List (ℕ × RowValue)) → StandIn c.args.row.now xs → length xs ≡ length (values_left l c.args.fields.now)
     → HasLongValues c.args.table.0 (with_all_taken (given_of xs (values_left l c.args.fields.now)) (table_long_values c.args.trees.now.tables c.args.table.0)) c.args.trees.now.tables c.take_values.new.trees.tables) (sym split) all
 
@@ -83,7 +81,7 @@ returns-in-Err-take_values-clause-err t c =
     let split : c.args.values.now ≡ bytes ∷ others = c.in-Some.ensures.cases.0 ∙ ap (λ (b : List ℕ). b ∷ others) (sym c.as_bytes.ensures) in
     let may = subst (λ (l : List (List ℕ)). MayAll c.args.row.now (values_left l c.args.fields.now) (table_long_values c.args.trees.now.tables c.args.table.0)) split c.requires.may in
     let can = first_can c.args.row.now (option_map id_bytes c.in-Some-first_named.named) c.in-Some-first_named.rest.now bytes (values_left others c.args.fields.now) (table_long_values c.args.trees.now.tables c.args.table.0)
-    (λ e. never _ (c.in-Some-first_named.ensures.end e)) c.in-Some-first_named.ensures.value may in
+    (λ e. some_apart _ (c.in-Some-first_named.ensures.end e)) c.in-Some-first_named.ensures.value may in
     all_back laws c.in-Some-first_named.rest.now (option_map id_bytes c.in-Some-first_named.named) bytes c.args.table.0 c.args.trees.now.tables c.take_first.new.trees.tables c.take_values.new.trees.tables c.release_first.new.trees.tables
     (c.long_values_are_whole.ensures c.args.table.0) (can.0, can.1) c.in-Ok.ensures.ok c.in-Err-take_values.ensures.err c.release_first.ensures.tables
 
