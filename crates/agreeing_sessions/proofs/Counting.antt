@@ -3,8 +3,9 @@ use Rattle.std.proofs.Common.{◌≡◌, ℕ, ◌+◌, Bool, true, false, ◌||�
 use Rattle.std.specs.Prelude.{◌==◌, count_by, nat_lt}
 use Rattle.std.specs.List.{list_any}
 use Rattle.std.proofs.lemmas.List.Recursion.{is_count_by}
+use Rattle.std.proofs.lemmas.Bool.{eqb-true}
+use Rattle.common_lemmas.proofs.Booleans.{impossible}
 use Rattle.database_state.specs.Step.{with_one, without_one}
-use Rattle.record_changes.proofs.Tests.{impossible, same_number}
 
 abbrev pub counted : (ℕ → Bool) → List ℕ → ℕ
 counted p [] = 0
@@ -31,7 +32,7 @@ pub counted-without_one : (p : ℕ → Bool) (id : ℕ) (xs : List ℕ) → list
 counted-without_one p id [] h = impossible h
 counted-without_one p id (x ∷ xs) h =
     elim (x == id) as (λ b. (x == id) ≡ b → (b || list_any (λ n. n == id) xs) ≡ true → counted p (id ∷ cond b xs (x ∷ without_one id xs)) ≡ cond (p x) (1 + counted p xs) (counted p xs)) [
-      | true ↦ λ e f. ap (λ (k : ℕ). cond (p k) (1 + counted p xs) (counted p xs)) (sym (same_number x id e))
+      | true ↦ λ e f. ap (λ (k : ℕ). cond (p k) (1 + counted p xs) (counted p xs)) (sym (eqb-true x id e))
       | false ↦ λ e f. turned (p id) (p x) (counted p (without_one id xs)) ∙ ap (λ n. cond (p x) (1 + n) n) (counted-without_one p id xs f)
     ] refl h
 

@@ -1,12 +1,12 @@
 -- A live session and its open tables, after an entry of its own or of another session.
 use Rattle.std.proofs.Common.{◌≡◌, ℕ, ◌+◌, ◌-◌, Bool, true, false, cond, List, [], ◌∷◌, Option, Some, None, refl, sym, ap, subst, ◌∙◌}
 use Rattle.std.specs.Prelude.{◌==◌, is_some, map, nat_lt, option_map, if◌then◌else◌}
-use Rattle.common_lemmas.proofs.Numbers.{unequal_turned}
+use Rattle.common_lemmas.proofs.Numbers.{self_equal, unequal_turned}
+use Rattle.common_lemmas.proofs.Booleans.{impossible}
 use Rattle.index_derive.specs.declared.log.EntryKind.{EntryKind}
 use Rattle.index_derive.specs.declared.log.EntryKind.TheVariants as entry
 use Rattle.database_state.specs.State.{DatabaseState, LiveSession, levels, live_session, undone}
 use Rattle.database_state.specs.Step.{all_undone, applied, at_levels, insert_session, is_at_level, with_changes_at, with_levels, with_one, with_transaction, without_one}
-use Rattle.record_changes.proofs.Tests.{impossible, self_equal}
 use Rattle.version_history.specs.KeptSteps.{with_next_number}
 use Rattle.version_history.proofs.Transactions.{found-left, found-with, labelled}
 use Rattle.session_local.specs.Agreement.{open_tables_of}

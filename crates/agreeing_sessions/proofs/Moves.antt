@@ -2,6 +2,7 @@
 use Rattle.std.proofs.Common.{◌≡◌, ℕ, Bool, true, false, not, ◌&&◌, ◌||◌, cond, List, [], ◌∷◌, Option, Some, None, refl, sym, ap, subst, ◌∙◌, bytes_eq}
 use Rattle.std.specs.Prelude.{◌==◌, find, is_none, is_some, nat_lt, length, option_map, slice_get, unwrap_or, IsTrue}
 use Rattle.std.proofs.lemmas.Bool.{or_right}
+use Rattle.common_lemmas.proofs.Numbers.{self_equal}
 use Rattle.jet_base.specs.declared.ids.CursorId.{CursorId}
 use Rattle.jet_base.specs.declared.replies.Jet.{Jet}
 use Rattle.jet_base.specs.declared.replies.Jet.TheVariants as jet
@@ -21,7 +22,6 @@ use Rattle.cursor_nav.specs.Places.{KeyRange, Pair, entry_after, entry_before, i
 use Rattle.cursor_nav.specs.MakingKeys.{begun_key, segment_kind}
 use Rattle.cursor_nav.specs.Navigation.{CursorState, MadeKey, Navigated, found_or, index_set, limited, moved, moved_next, moved_previous, ranged, ranged_from, ranged_with, sought, sought_by, sought_with, without_range}
 use Rattle.database_state.specs.Table.{primary_order, primary_rule, row_at, rule_with_id}
-use Rattle.record_changes.proofs.Tests.{self_equal}
 use Rattle.session_local.specs.declared.request.Request.TheVariants as call
 use Rattle.session_local.specs.Calls.{answer}
 use Rattle.session_local.specs.CursorCalls.{current_entries, gone_to, goto_bookmark, index_chosen, index_chosen_by, key_made_in, make_key, move_cursor, remove_index_range, seek_key, segment_made, set_current_index, set_index_range}

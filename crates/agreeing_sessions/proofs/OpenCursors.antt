@@ -3,14 +3,16 @@ use Rattle.std.proofs.Common.{◌≡◌, ℕ, ◌+◌, Bool, true, false, not, �
 use Rattle.std.specs.Prelude.{◌==◌, count_by, filter, find, is_some, map, if◌then◌else◌, IsTrue, IsSome}
 use Rattle.std.specs.List.{AllByRecursion, list_any}
 use Rattle.std.proofs.lemmas.Bool.Decides.{nat_tests}
+use Rattle.std.proofs.lemmas.Bool.{and_from, eqb-true, not-true}
 use Rattle.database_state.specs.Table.{Table, row_at, rows_of, rule_with_id, table_with_id}
 use Rattle.database_state.specs.State.{DatabaseState}
 use Rattle.database_state.specs.View.{view}
 use Rattle.database_state.specs.Lawful.{keeps_escrow}
 use Rattle.cursor_nav.specs.Navigation.{CursorState}
-use Rattle.record_changes.proofs.Tests.{and_both, and_left, and_right, impossible, not_true, or_first, or_second, same_number}
-use Rattle.version_history.proofs.Lists.{all_map, all_weaker}
+use Rattle.record_changes.proofs.Tests.{or_first, or_second}
 use Rattle.common_lemmas.proofs.Found.{found_passes, of_found}
+use Rattle.common_lemmas.proofs.Booleans.{and_left, and_right, impossible}
+use Rattle.common_lemmas.proofs.Lists.{all_map, all_weaker}
 use Rattle.session_local.specs.Agreement.{Agrees, HasSchemaOf, IsStorable, MayReplace, cursor_table, has_lock, replaced_in}
 use Rattle.session_local.specs.Local.{LocalState, OpenCursor, PreparedFor, PreparedUpdate, cursor_labelled, inserting, replacing, with_cursor}
 use Rattle.session_local.specs.SessionSide.{are_distinct, label_of}
@@ -38,8 +40,8 @@ only l (x ∷ cursors) c distinct e =
       | true ↦ λ f g. (
         (λ h. some_same x c g),
         all_weaker (λ y. (y.label == x.label) ≡ false) (λ y. (y.label == l) ≡ true → y ≡ c)
-            (λ y miss hit. impossible (sym (ap (λ k. y.label == k) (sym (same_number x.label l f)) ∙ miss) ∙ hit)) cursors
-            (none_labelled x.label cursors (not_true _ (and_left _ _ distinct))),
+            (λ y miss hit. impossible (sym (ap (λ k. y.label == k) (sym (eqb-true x.label l f)) ∙ miss) ∙ hit)) cursors
+            (none_labelled x.label cursors (not-true _ (and_left _ _ distinct))),
       )
       | false ↦ λ f g. ((λ h. impossible (sym f ∙ h)), only l cursors c (and_right _ _ distinct) g)
     ] refl e
@@ -75,14 +77,14 @@ with_cursor_in_step state session local l c new step e same_label same_table sch
 }
   where
     of_new : new.label ≡ l
-    of_new = same_label ∙ same_number c.label l (found_passes (λ c. c.label == l) local.cursors c e)
+    of_new = same_label ∙ eqb-true c.label l (found_passes (λ c. c.label == l) local.cursors c e)
 
     the_only : AllByRecursion (λ x. (x.label == l) ≡ true → x ≡ c) local.cursors
     the_only = only l local.cursors c step.labels e
 
     all_true_label : (xs : List OpenCursor) → AllByRecursion (λ x. (x.label == new.label) ≡ true → x.label ≡ new.label) xs
     all_true_label [] = tt
-    all_true_label (x ∷ xs) = ((λ hit. same_number x.label new.label hit), all_true_label xs)
+    all_true_label (x ∷ xs) = ((λ hit. eqb-true x.label new.label hit), all_true_label xs)
 
 -- ---- a cursor that moves
 
@@ -141,7 +143,7 @@ distinct_last [] new d e = refl
 distinct_last (c ∷ cursors) new d e =
     elim (c.label == new.label) as (λ b. (c.label == new.label) ≡ b → is_some (cond b (Some c) (find (λ c. c.label == new.label) cursors)) ≡ false → (not (list_any (λ other. other == c.label) (map label_of (cursors ++ new ∷ []))) && are_distinct (map label_of (cursors ++ new ∷ []))) ≡ true) [
       | true ↦ λ f g. impossible (sym g)
-      | false ↦ λ f g. and_both _ _ (ap not (still_none cursors (not_true _ (and_left _ _ d)) (other_way c.label new.label f))) (distinct_last cursors new (and_right _ _ d) g)
+      | false ↦ λ f g. and_from _ _ (ap not (still_none cursors (not-true _ (and_left _ _ d)) (other_way c.label new.label f))) (distinct_last cursors new (and_right _ _ d) g)
     ] refl e
   where
     other_way : (a b : ℕ) → (a == b) ≡ false → (b == a) ≡ false
@@ -173,7 +175,7 @@ none_filtered l q (c ∷ cursors) h = elim (q c) as (λ b. list_any (λ other. o
 pub distinct_filtered : (q : OpenCursor → Bool) (cursors : List OpenCursor) → are_distinct (map label_of cursors) ≡ true → are_distinct (map label_of (filter q cursors)) ≡ true
 distinct_filtered q [] d = refl
 distinct_filtered q (c ∷ cursors) d = elim (q c) as (λ b. are_distinct (map label_of (cond b (c ∷ filter q cursors) (filter q cursors))) ≡ true) [
-  | true ↦ and_both _ _ (ap not (none_filtered c.label q cursors (not_true _ (and_left _ _ d)))) (distinct_filtered q cursors (and_right _ _ d))
+  | true ↦ and_from _ _ (ap not (none_filtered c.label q cursors (not-true _ (and_left _ _ d)))) (distinct_filtered q cursors (and_right _ _ d))
   | false ↦ distinct_filtered q cursors (and_right _ _ d)
 ]
 
@@ -190,8 +192,8 @@ counted-without p l (x ∷ cursors) c d e =
     → counted p (c.cursor.table ∷ map cursor_table (cond (not b) (x ∷ filter (λ c. not (c.label == l)) cursors) (filter (λ c. not (c.label == l)) cursors))) ≡ counted p (x.cursor.table ∷ map cursor_table cursors)) [
       | true ↦ λ f g.
           ap (λ (k : OpenCursor). counted p (k.cursor.table ∷ map cursor_table (filter (λ c. not (c.label == l)) cursors))) (sym (some_same x c g))
-          ∙ ap (λ (ys : List OpenCursor). counted p (x.cursor.table ∷ map cursor_table ys)) (all_stay l cursors (all_weaker (λ y. (y.label == x.label) ≡ false) (λ y. (y.label == l) ≡ false) (λ y miss. ap (λ k. y.label == k) (sym (same_number x.label l f)) ∙ miss) cursors
-          (none_labelled x.label cursors (not_true _ (and_left _ _ d)))))
+          ∙ ap (λ (ys : List OpenCursor). counted p (x.cursor.table ∷ map cursor_table ys)) (all_stay l cursors (all_weaker (λ y. (y.label == x.label) ≡ false) (λ y. (y.label == l) ≡ false) (λ y miss. ap (λ k. y.label == k) (sym (eqb-true x.label l f)) ∙ miss) cursors
+          (none_labelled x.label cursors (not-true _ (and_left _ _ d)))))
       | false ↦ λ f g. turned (p c.cursor.table) (p x.cursor.table) (counted p (map cursor_table (filter (λ c. not (c.label == l)) cursors)))
           ∙ ap (λ n. cond (p x.cursor.table) (1 + n) n) (counted-without p l cursors c (and_right _ _ d) g)
     ] refl e

@@ -7,6 +7,10 @@ use Rattle.std.proofs.lemmas.List.{map-append}
 use Rattle.std.proofs.lemmas.List.Elements.{filter-append}
 use Rattle.std.proofs.lemmas.List.Folds.{list_any-append}
 use Rattle.std.proofs.lemmas.List.Sums.{fold-append}
+use Rattle.std.proofs.lemmas.Bool.{and_from, eqb-true}
+use Rattle.common_lemmas.proofs.Booleans.{and_left, and_right, impossible}
+use Rattle.common_lemmas.proofs.Lists.{all_weaker}
+use Rattle.common_lemmas.proofs.Numbers.{same_bytes, self_equal}
 use Rattle.jet_base.specs.declared.ids.ColumnId.{ColumnId}
 use Rattle.jet_base.specs.declared.ids.TableId.{TableId}
 use Rattle.column_set.specs.declared.changes.Change.{Change}
@@ -24,10 +28,10 @@ use Rattle.database_state.specs.Step.{applied, state_after, state_after_all}
 use Rattle.database_state.specs.Lawful.{has_number, is_lawful, is_lawful_at, is_lawful_change, keeps_escrow}
 use Rattle.record_changes.specs.Records.{Records, is_change_of, record_after, records_after, records_of}
 use Rattle.record_changes.proofs.Projecting.{projected}
-use Rattle.record_changes.proofs.Tests.{and_both, and_left, and_right, equal_bytes, impossible, same_bytes, same_number, self_equal}
+use Rattle.record_changes.proofs.Tests.{equal_bytes}
 use Rattle.version_history.specs.History.{IsHistory}
 use Rattle.version_history.specs.KeptSteps.{new_change, with_next_number}
-use Rattle.version_history.proofs.Lists.{all_both, all_weaker}
+use Rattle.version_history.proofs.Lists.{all_both}
 use Rattle.version_keys.proofs.IndexNumbers.{none_of}
 use Rattle.version_keys.proofs.SchemaKeys.{other_table}
 use Rattle.version_keys.proofs.UniqueKept.{id_of}
@@ -69,7 +73,7 @@ locks_more state session change table bookmark h =
 pub row_after : (tables : List Table) (change : Change) (table : ℕ) (bookmark : List ℕ) → is_some (table_with_id tables table) ≡ true → records_of (tables_after tables change) table bookmark ≡ records_after (records_of tables) change table bookmark
 row_after tables change table bookmark there =
     elim (changed_table change == table) as (λ b. (changed_table change == table) ≡ b → records_of (tables_after tables change) table bookmark ≡ records_after (records_of tables) change table bookmark) [
-      | true ↦ λ f. ap (λ (r : Records). r table bookmark) (projected tables change (ap (λ i. is_some (table_with_id tables i)) (same_number (changed_table change) table f) ∙ there))
+      | true ↦ λ f. ap (λ (r : Records). r table bookmark) (projected tables change (ap (λ i. is_some (table_with_id tables i)) (eqb-true (changed_table change) table f) ∙ there))
       | false ↦ λ f.
           ap (λ (o : Option Table). row_at (rows_of o) bookmark) (other_table (changed_table change) (λ t. record t { rows = rows_after t.rows change }) (λ t. refl) tables table (turned (changed_table change) table f))
           ∙ sym (ap (λ b. cond (b && bytes_eq (changed_bookmark change) bookmark) (record_after change (records_of tables table bookmark)) (records_of tables table bookmark)) f)
@@ -152,8 +156,8 @@ beside_allowed state session table bookmark change is at c (Some p) e = by p.for
   where
     by : (for : PreparedFor) (values : RecordFields) → ((c.cursor.table == table) && is_replace_of bookmark (Some (record { for = for; values = values }))) ≡ false → LeavesReplaced state session change c p for
     by (inserting copied) values f = tt
-    by (replacing b) values f = λ row g mine h. impossible (sym f ∙ and_both (c.cursor.table == table) (bytes_eq b bookmark)
-        (ap (λ k. c.cursor.table == k) (sym is ∙ same_number (changed_table change) c.cursor.table (and_left _ _ mine)) ∙ self_equal c.cursor.table)
+    by (replacing b) values f = λ row g mine h. impossible (sym f ∙ and_from (c.cursor.table == table) (bytes_eq b bookmark)
+        (ap (λ k. c.cursor.table == k) (sym is ∙ eqb-true (changed_table change) c.cursor.table (and_left _ _ mine)) ∙ self_equal c.cursor.table)
         (equal_bytes b bookmark (sym (sym at ∙ same_bytes (changed_bookmark change) b (and_right (changed_table change == c.cursor.table) _ mine)))))
 
 all_beside : (state : DatabaseState) (session table : ℕ) (bookmark : List ℕ) (change : Change) → changed_table change ≡ table → changed_bookmark change ≡ bookmark → (cursors : List OpenCursor)
@@ -174,7 +178,7 @@ sums_allowed state session id bookmark column amount cursors none = all_beside s
 same_sums : (columns : List Column) (row one other : RecordFields) → keeps_escrow columns (Some row) one ≡ true → keeps_escrow columns (Some row) other ≡ true → keeps_escrow columns (Some one) other ≡ true
 same_sums [] row one other h k = refl
 same_sums (c ∷ columns) row one other h k =
-    and_both _ _ (by c.escrow (and_left _ _ h) (and_left _ _ k)) (same_sums columns row one other (and_right (not c.escrow || bytes_eq (escrow_bytes one c.id.0) (escrow_bytes row c.id.0)) _ h) (and_right (not c.escrow || bytes_eq (escrow_bytes other c.id.0) (escrow_bytes row c.id.0)) _ k))
+    and_from _ _ (by c.escrow (and_left _ _ h) (and_left _ _ k)) (same_sums columns row one other (and_right (not c.escrow || bytes_eq (escrow_bytes one c.id.0) (escrow_bytes row c.id.0)) _ h) (and_right (not c.escrow || bytes_eq (escrow_bytes other c.id.0) (escrow_bytes row c.id.0)) _ k))
   where
     by : (b : Bool) → (not b || bytes_eq (escrow_bytes one c.id.0) (escrow_bytes row c.id.0)) ≡ true → (not b || bytes_eq (escrow_bytes other c.id.0) (escrow_bytes row c.id.0)) ≡ true → (not b || bytes_eq (escrow_bytes other c.id.0) (escrow_bytes one c.id.0)) ≡ true
     by false e f = refl
@@ -198,7 +202,7 @@ put_allowed state session id bookmark copied values lawful c (Some p) has = by p
     by : (for : PreparedFor) → LeavesReplaced state session (Put id bookmark None values) c p for
     by (inserting was) = tt
     by (replacing b) = λ row e mine h.
-        let same_table : id.0 ≡ c.cursor.table = same_number id.0 c.cursor.table (and_left _ _ mine) in (
+        let same_table : id.0 ≡ c.cursor.table = eqb-true id.0 c.cursor.table (and_left _ _ mine) in (
           refl,
           same_sums c.schema.columns row values p.values
               (sums b row e same_table (same_bytes bookmark b (and_right (id.0 == c.cursor.table) _ mine)) (table_with_id state.tables c.cursor.table) refl has

@@ -2,6 +2,7 @@
 use Rattle.std.proofs.Common.{◌≡◌, ℕ, ◌+◌, ◌-◌, Bool, true, false, not, ◌&&◌, cond, List, [], ◌∷◌, ◌++◌, Option, Some, None, refl, sym, ap, subst, ◌∙◌}
 use Rattle.std.specs.Prelude.{◌==◌, bytes_eq, count_by, filter, is_none, is_some, length, map, nat_le, nat_lt, option_map, if◌then◌else◌}
 use Rattle.std.specs.List.{AllByRecursion, list_any}
+use Rattle.std.proofs.lemmas.Bool.{eqb-true}
 use Rattle.jet_base.specs.declared.ids.CursorId.{CursorId}
 use Rattle.jet_base.specs.declared.replies.Jet.TheVariants as jet
 use Rattle.index_derive.specs.declared.log.EntryKind.{EntryKind}
@@ -15,15 +16,16 @@ use Rattle.database_state.specs.View.{view, view_in}
 use Rattle.database_state.specs.Step.{all_undone, applied, at_levels, is_at_level, state_after, with_changes_at, with_levels, with_one, without_one}
 use Rattle.cursor_nav.specs.Navigation.{new_cursor}
 use Rattle.record_changes.specs.Records.{Records}
-use Rattle.record_changes.proofs.Tests.{impossible, same_number, self_equal}
 use Rattle.version_history.specs.History.{IsHistory}
 use Rattle.version_history.specs.KeptSteps.{with_next_number}
 use Rattle.version_history.proofs.LawfulEntries.{all_outside, outside}
-use Rattle.version_history.proofs.Lists.{all_append, all_map, all_true, all_weaker}
 use Rattle.version_history.proofs.Transactions.{found-left, same-with, transaction-levels}
 use Rattle.version_keys.specs.TableOrder.{HasTablesInOrder}
 use Rattle.version_keys.proofs.OrderedTables.{found_each}
 use Rattle.common_lemmas.proofs.Found.{found_passes, of_found}
+use Rattle.common_lemmas.proofs.Lists.{all_append, all_each, all_map, all_weaker}
+use Rattle.common_lemmas.proofs.Numbers.{self_equal}
+use Rattle.common_lemmas.proofs.Booleans.{impossible}
 use Rattle.session_local.specs.declared.request.Request.TheVariants as call
 use Rattle.session_local.specs.Agreement.{HasSchemaOf, IsStorable, cursor_table, open_tables_of}
 use Rattle.session_local.specs.Answer.{Nothing}
@@ -126,7 +128,7 @@ unprepared_same f same [] = refl
 unprepared_same f same (c ∷ cursors) = λ i. same c i ∷ unprepared_same f same cursors i
 
 all_unprepared : (state : DatabaseState) (session : ℕ) (cursors : List OpenCursor) → AreStorable state session (map unprepared cursors)
-all_unprepared state session cursors = all_map (λ c. IsStorable state session c c.prepared) unprepared cursors (all_true (λ c. IsStorable state session (unprepared c) None) (λ c. tt) cursors)
+all_unprepared state session cursors = all_map (λ c. IsStorable state session c c.prepared) unprepared cursors (all_each (λ c. IsStorable state session (unprepared c) None) (λ c. tt) cursors)
 
 schema_unprepared : (c : OpenCursor) (o : Option Table) → HasSchemaOf c o → HasSchemaOf (unprepared c) o
 schema_unprepared c None h = h
@@ -147,7 +149,7 @@ entry_drops asked kind plain no_schema step =
         prepared = all_unprepared (applied asked.session kind (with_next_number asked.state)) asked.session asked.local.cursors;
       };
       labels = ap are_distinct (unprepared_same label_of (λ c. refl) asked.local.cursors) ∙ step.labels;
-      updates = all_map (λ c. HasRisingColumns c.prepared) unprepared asked.local.cursors (all_true (λ c. HasRisingColumns (unprepared c).prepared) (λ c. tt) asked.local.cursors);
+      updates = all_map (λ c. HasRisingColumns c.prepared) unprepared asked.local.cursors (all_each (λ c. HasRisingColumns (unprepared c).prepared) (λ c. tt) asked.local.cursors);
     }
 
 -- ---- transactions
@@ -374,4 +376,4 @@ closes asked cursor step = when_begun asked (call.CloseTable cursor)
   where
     -- the cursor has the label that it was found by
     labelled_in_step : (c : OpenCursor) → cursor_labelled asked.local cursor.0 ≡ Some c → StaysInStep asked (close_table asked c)
-    labelled_in_step c e = table_closes asked c.label c step (ap (cursor_labelled asked.local) (same_number c.label cursor.0 (found_passes (λ c. c.label == cursor.0) asked.local.cursors c e)) ∙ e)
+    labelled_in_step c e = table_closes asked c.label c step (ap (cursor_labelled asked.local) (eqb-true c.label cursor.0 (found_passes (λ c. c.label == cursor.0) asked.local.cursors c e)) ∙ e)

@@ -2,14 +2,14 @@
 use Rattle.std.proofs.Common.{◌≡◌, ℕ, true, false, ◌&&◌, ◌||◌, cond, List, [], ◌∷◌, Option, Some, None, refl, sym, ap, subst, ◌∙◌}
 use Rattle.std.specs.Prelude.{filter, map, IsSome, IsTrue}
 use Rattle.std.specs.List.{AllByRecursion, list_any}
+use Rattle.common_lemmas.proofs.Booleans.{and_left, impossible}
+use Rattle.common_lemmas.proofs.Lists.{all_weaker, filter_none}
 use Rattle.database_state.specs.Table.{Table, row_at, rows_of, table_with_id}
 use Rattle.database_state.specs.State.{DatabaseState, PastChange, change_of, is_open_change_of, open_changes_of, transaction_of}
 use Rattle.database_state.specs.View.{view}
 use Rattle.database_state.specs.Lawful.{keeps_escrow}
 use Rattle.record_changes.specs.Records.{Records}
-use Rattle.record_changes.proofs.Tests.{and_left, impossible}
 use Rattle.version_history.specs.History.{IsHistory, IsPlaced}
-use Rattle.version_history.proofs.Lists.{all_weaker, none_passes}
 use Rattle.version_history.proofs.SeenRecords.{of_kept}
 use Rattle.version_history.proofs.Viewing.{none_open}
 use Rattle.session_local.specs.Agreement.{IsStorable, MayReplace, has_lock, is_lock_on, replaced_in}
@@ -37,7 +37,7 @@ same_locks one other session same table bookmark h =
 pub none_open_outside : (base : Records) (dropped kept : List PastChange) (state : DatabaseState) (session : ℕ) → IsHistory base dropped kept state → transaction_of state session ≡ None → open_changes_of session state.past ≡ []
 none_open_outside base dropped kept state session h none =
     ap (map change_of) (of_kept base dropped kept state h (is_open_change_of session) (λ item e. and_left _ _ e)
-    ∙ none_passes (is_open_change_of session) kept (all_weaker (IsPlaced state.number state.tables (transaction_of state)) (λ item. is_open_change_of session item ≡ false) (none_open state.number state.tables (transaction_of state) session none) kept h.keeps.placed))
+    ∙ filter_none (is_open_change_of session) kept (all_weaker (IsPlaced state.number state.tables (transaction_of state)) (λ item. is_open_change_of session item ≡ false) (none_open state.number state.tables (transaction_of state) session none) kept h.keeps.placed))
 
 pub unlocked_outside : (base : Records) (dropped kept : List PastChange) (state : DatabaseState) (session : ℕ) → IsHistory base dropped kept state → transaction_of state session ≡ None → (table : ℕ) (bookmark : List ℕ) → has_lock state session table bookmark ≡ false
 unlocked_outside base dropped kept state session h none table bookmark = locked_by_open session table bookmark state.past ∙ ap (list_any (is_lock_on table bookmark)) (none_open_outside base dropped kept state session h none)

@@ -3,6 +3,9 @@ use Rattle.std.proofs.Common.{◌≡◌, ℕ, ◌≤◌, Bool, true, false, not,
 use Rattle.std.specs.Prelude.{◌==◌, is_none, is_some, unwrap_or, if◌then◌else◌, IfSome, IsTrue}
 use Rattle.std.specs.List.{list_any}
 use Rattle.std.proofs.lemmas.List.Folds.{list_any-append}
+use Rattle.std.proofs.lemmas.Bool.{and_from}
+use Rattle.common_lemmas.proofs.Numbers.{self_equal}
+use Rattle.common_lemmas.proofs.Booleans.{impossible}
 use Rattle.jet_base.specs.declared.ids.CursorId.{CursorId}
 use Rattle.jet_base.specs.declared.words.Prepare.TheVariants as prepare
 use Rattle.column_set.specs.declared.changes.Change.{Change}
@@ -20,7 +23,7 @@ use Rattle.database_state.specs.View.{view}
 use Rattle.database_state.specs.Step.{applied, state_after, state_after_all}
 use Rattle.database_state.specs.Lawful.{keeps_escrow}
 use Rattle.record_changes.specs.Records.{Records, is_change_of, records_of}
-use Rattle.record_changes.proofs.Tests.{and_both, equal_bytes, impossible, self_equal}
+use Rattle.record_changes.proofs.Tests.{equal_bytes}
 use Rattle.version_history.specs.History.{IsHistory}
 use Rattle.version_history.specs.KeptSteps.{new_change, with_next_number}
 use Rattle.version_sums.specs.EscrowNumbers.{ColumnsRise}
@@ -67,7 +70,7 @@ own_lock : (state : DatabaseState) (session table : ℕ) (bookmark : List ℕ) �
 own_lock state session table bookmark =
     list_any-append (λ item. is_open_change_of session item && is_lock_on table bookmark item.change) state.past (new_change session (Hold (record { 0 = table }) bookmark) (with_next_number state) ∷ [])
     ∙ right (list_any (λ item. is_open_change_of session item && is_lock_on table bookmark item.change) state.past) _
-    (ap (λ b. b || false) (and_both (session == session) ((table == table) && bytes_eq bookmark bookmark) (self_equal session) (and_both (table == table) (bytes_eq bookmark bookmark) (self_equal table) (equal_bytes bookmark bookmark refl))))
+    (ap (λ b. b || false) (and_from (session == session) ((table == table) && bytes_eq bookmark bookmark) (self_equal session) (and_from (table == table) (bytes_eq bookmark bookmark) (self_equal table) (equal_bytes bookmark bookmark refl))))
   where
     right : (a b : Bool) → b ≡ true → (a || b) ≡ true
     right true b e = refl
@@ -76,7 +79,7 @@ own_lock state session table bookmark =
 -- a record has the sums that it has
 own_sums : (columns : List Column) (values : RecordFields) → keeps_escrow columns (Some values) values ≡ true
 own_sums [] values = refl
-own_sums (c ∷ columns) values = and_both _ _ (by c.escrow) (own_sums columns values)
+own_sums (c ∷ columns) values = and_from _ _ (by c.escrow) (own_sums columns values)
   where
     by : (b : Bool) → (not b || bytes_eq (escrow_bytes values c.id.0) (escrow_bytes values c.id.0)) ≡ true
     by false = refl

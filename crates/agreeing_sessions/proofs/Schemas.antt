@@ -2,6 +2,7 @@
 use Rattle.std.proofs.Common.{◌≡◌, ℕ, Bool, true, false, not, ◌&&◌, ◌||◌, cond, List, [], ◌∷◌, ◌++◌, Option, Some, None, refl, sym, ap, subst, ◌∙◌}
 use Rattle.std.specs.Prelude.{◌==◌, filter, is_none, is_some, map, unwrap_or}
 use Rattle.std.specs.List.{AllByRecursion, list_any}
+use Rattle.std.proofs.lemmas.Bool.{eqb-true, false_from_ne_true}
 use Rattle.jet_base.specs.declared.replies.Jet.TheVariants as jet
 use Rattle.index_derive.specs.declared.log.EntryKind.{EntryKind}
 use Rattle.index_derive.specs.declared.log.EntryKind.TheVariants as entry
@@ -11,14 +12,17 @@ use Rattle.database_state.specs.Table.{Table, table_with_id}
 use Rattle.database_state.specs.SchemaChanges.{is_in_use, makes_table, new_table, schema_refusal, step_refusals, step_table, tables_after_step, with_column, with_index, without_column, without_index}
 use Rattle.database_state.specs.State.{DatabaseState, LiveSession, levels, live_session}
 use Rattle.database_state.specs.Step.{applied}
-use Rattle.record_changes.proofs.Tests.{impossible, or_second, refuted, same_number, self_equal}
+use Rattle.record_changes.proofs.Tests.{or_second}
 use Rattle.version_history.specs.History.{without_rows}
 use Rattle.version_history.specs.KeptSteps.{with_next_number}
-use Rattle.version_history.proofs.Lists.{all_both, all_true, all_weaker}
+use Rattle.version_history.proofs.Lists.{all_both}
 use Rattle.version_keys.proofs.IndexNumbers.{found_in_filter, none_of}
 use Rattle.version_keys.proofs.SchemaKeys.{other_table, unrefused}
 use Rattle.version_keys.proofs.UniqueKept.{id_of, same_tables}
 use Rattle.common_lemmas.proofs.Found.{of_found}
+use Rattle.common_lemmas.proofs.Lists.{all_each, all_weaker}
+use Rattle.common_lemmas.proofs.Numbers.{self_equal}
+use Rattle.common_lemmas.proofs.Booleans.{impossible}
 use Rattle.session_local.specs.Agreement.{Agrees, HasSchemaOf, cursor_table, open_tables_of}
 use Rattle.session_local.specs.Local.{LocalState, OpenCursor}
 use Rattle.lawful_answers.proofs.SessionSteps.{same_members}
@@ -105,8 +109,8 @@ not_in_use state label made h =
 -- the table of a cursor is none that is changed
 apart_from : (state : DatabaseState) (label session d : ℕ) (made : SchemaStep) → is_none (schema_refusal state label made) ≡ true → step_table state.tables made ≡ table_with_id state.tables d → (c : OpenCursor)
     → list_any (λ n. n == c.cursor.table) (open_tables_of (live_session state session)) ≡ true → HasSchemaOf c (table_with_id state.tables c.cursor.table) → (c.cursor.table == d) ≡ false
-apart_from state label session d made free of_step c is_open has = refuted (c.cursor.table == d) (λ e.
-    let same : c.cursor.table ≡ d = same_number c.cursor.table d e in
+apart_from state label session d made free of_step c is_open has = false_from_ne_true (c.cursor.table == d) (λ e.
+    let same : c.cursor.table ≡ d = eqb-true c.cursor.table d e in
     by same (table_with_id state.tables d) refl (subst (λ (k : ℕ). HasSchemaOf c (table_with_id state.tables k)) same has))
   where
     by : c.cursor.table ≡ d → (o : Option Table) → table_with_id state.tables d ≡ o → HasSchemaOf c o → ⊥
@@ -131,7 +135,7 @@ schema_of_cursor state label session (step.DeleteTable table) free c is_open has
     let apart : (c.cursor.table == table.0) ≡ false = apart_from state label session table.0 (step.DeleteTable table) free refl c is_open has in
     same_table c (table_with_id state.tables c.cursor.table) (table_with_id (filter (λ t. not (t.id == table.0)) state.tables) c.cursor.table)
     (found_in_filter (λ t. t.id == c.cursor.table) (λ t. not (t.id == table.0)) state.tables
-    (all_true (λ t. (t.id == c.cursor.table) ≡ true → not (t.id == table.0) ≡ true) (λ t f. ap (λ k. not (k == table.0)) (same_number t.id c.cursor.table f) ∙ ap not apart) state.tables)) has
+    (all_each (λ t. (t.id == c.cursor.table) ≡ true → not (t.id == table.0) ≡ true) (λ t f. ap (λ k. not (k == table.0)) (eqb-true t.id c.cursor.table f) ∙ ap not apart) state.tables)) has
 schema_of_cursor state label session (step.AddColumn table column) free c is_open has =
     same_table c (table_with_id state.tables c.cursor.table) _ (other_table table.0 (with_column column) (λ t. refl) state.tables c.cursor.table (apart_from state label session table.0 (step.AddColumn table column) free refl c is_open has)) has
 schema_of_cursor state label session (step.DeleteColumn table column) free c is_open has =

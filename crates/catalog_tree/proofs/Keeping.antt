@@ -1,6 +1,6 @@
 -- A catalog's tree after the changes of a schema step.
-use Rattle.std.proofs.Common.{◌≡◌, ℕ, ◌^◌, true, ◌&&◌, ltb, Some, None, Result, Ok, Err, List, [], ◌∷◌, ◌++◌, length, sym, ap, subst, ◌∙◌}
-use Rattle.std.specs.Prelude.{IsSome, OnOk}
+use Rattle.std.proofs.Common.{◌≡◌, ℕ, ◌^◌, true, ◌&&◌, ltb, Some, None, List, [], ◌∷◌, ◌++◌, length, sym, ap, subst, ◌∙◌}
+use Rattle.std.specs.Prelude.{IsSome}
 use Rattle.std.specs.List.{flat_map, list_all}
 use Rattle.std.proofs.lemmas.Bool.{and_parts}
 use Rattle.jet_base.specs.Ids.{table_id}
@@ -131,10 +131,6 @@ column_through roots catalog t column greatest records long_values fits x = reco
 
 pub index_through : (roots : Roots) (catalog : CatalogState) (table : TableId) (root : ℕ) (rule : IndexRule) → has_nodes roots catalog ≡ true → TakesIndex roots catalog table root rule → HasNodesThrough roots catalog (step.CreateIndex table rule)
 index_through roots catalog table root rule fits x = record { before = fits; after = index_fits_in roots catalog table rule x.t x.there fits x.fits x.new x.number }
-
-pub on_ok : {A B : Type 0} {P Q : Type 0} (r : Result A B) → (P → Q) → OnOk r P → OnOk r Q
-on_ok (Ok v) to p = to p
-on_ok (Err e) to p = tt
 
 -- ---- a step that is taken back
 

@@ -1,6 +1,7 @@
 -- What was told of a checkpoint stands on the volume.
-use Rattle.std.proofs.Common.{◌≡◌, ℕ, List, Bool, true, false, ◌&&◌, Option, Some, eqb, leb, length, take, drop, codes, refl, sym, ◌∙◌, ap, subst}
+use Rattle.std.proofs.Common.{◌≡◌, ℕ, List, Bool, true, ◌&&◌, Option, Some, eqb, leb, length, take, drop, codes, refl, sym, ◌∙◌, ap, subst}
 use Rattle.std.specs.Str.{bytes_eq}
+use Rattle.common_lemmas.proofs.Booleans.{and_left, and_right}
 use Rattle.jet_volume.specs.declared.files.File.{File}
 use Rattle.jet_volume.specs.declared.files.File.TheVariants.{Database, CheckpointA, CheckpointB, Log}
 use Rattle.jet_volume.specs.Image.{Image as Files, file_bytes, is_file}
@@ -16,17 +17,6 @@ use Rattle.checkpoint.specs.Opening.Verdict.{Stands}
 use Rattle.checkpoint.specs.Shape.{contents_with}
 use Rattle.checkpoint.specs.Found.{contents_read, Explains, FindsImage, HoldsOnly}
 use Rattle.checkpoint.specs.Parts.{ExplainsSlots, IsLookedAt}
-
-pub first_true : (a b : Bool) → (a && b) ≡ true → a ≡ true
-first_true true b both = refl
-first_true false b both = both
-
-pub second_true : (a b : Bool) → (a && b) ≡ true → b ≡ true
-second_true true b both = both
-second_true false b both = absurd (no both)
-  where
-    no : false ≡ true → ⊥
-    no same = cc
 
 -- two files that are the same one
 pub same_file : (a b : File) → is_file a b ≡ true → a ≡ b
@@ -57,10 +47,10 @@ head_file file bytes head =
     let from_format : Bool = eqb (number_at 4 6 bytes) 1 && from_number in
     let mark : Bool = bytes_eq (take 5 (drop 1 bytes)) (codes "JETCK") in
     same_file file (file_of (number_at 8 10 bytes))
-    (first_true belongs bounds
-    (second_true (leb 1 (number_at 8 10 bytes)) (belongs && bounds)
-    (second_true (eqb (number_at 4 6 bytes) 1) from_number
-    (second_true mark from_format (second_true (leb 54 (length bytes)) (mark && from_format) head)))))
+    (and_left belongs bounds
+    (and_right (leb 1 (number_at 8 10 bytes)) (belongs && bounds)
+    (and_right (eqb (number_at 4 6 bytes) 1) from_number
+    (and_right mark from_format (and_right (leb 54 (length bytes)) (mark && from_format) head)))))
 
 module _ (told : FileContents) (files : Files) (by : IsLookedAt told files) where
   abbrev pub contents : Contents
@@ -72,7 +62,7 @@ module _ (told : FileContents) (files : Files) (by : IsLookedAt told files) wher
   told_file : by.file ≡ file_of contents.number
   told_file =
       let bytes = file_bytes by.file files in
-      head_file by.file bytes (first_true (has_head by.file bytes) (has_slots bytes && has_live bytes) by.says.is_file)
+      head_file by.file bytes (and_left (has_head by.file bytes) (has_slots bytes && has_live bytes) by.says.is_file)
       ∙ ap file_of (sym (ap (λ (k : Contents). k.number) by.says.says))
 
   pub told_checkpoint : (pages : List (Option PageContents)) → HoldsPages files.database told.slots.items pages → HasCheckpoint files contents pages

@@ -1,7 +1,7 @@
 -- A field that is read is the field that was written, and what was written is read again.
 use Rattle.std.proofs.Common.{◌≡◌, ℕ, zero, suc, ◌+◌, ◌^◌, ◌<◌, ◌≤◌, Bool, true, false, cond, ltb, leb, eqb, ◌&&◌, ◌||◌, List, [], ◌∷◌, ◌++◌, length, get_or, take, drop, Option, Some, None, refl, sym, ap, subst, ◌∙◌, append_assoc, arith, inl, inr}
 use Rattle.std.specs.Int.{Width, w16, w32, w64, byte_len, from_le_bytes, to_le_bytes}
-use Rattle.std.proofs.lemmas.Bool.{cases_lt, ltb-true, ltb-false, le-ltb, lt-ltb, le-leb, leb-true, and_parts, and_from, eqb-true}
+use Rattle.std.proofs.lemmas.Bool.{cases_lt, ltb-true, ltb-false, le-ltb, lt-ltb, le-leb, leb-true, and_parts, and_from, eqb-true, or_parts}
 use Rattle.std.proofs.lemmas.List.{take_at, drop_at, take-append-drop, length-append, length-drop, length-take, get_or-drop, get_or-take, get_or_past}
 use Rattle.std.proofs.lemmas.Nat.{le_bytes_2, le_bytes_4, le_bytes_8, from_le_bytes-to_le_bytes_2, from_le_bytes-to_le_bytes_4, from_le_bytes-to_le_bytes_8}
 use Rattle.column_set.specs.declared.rows.RowValue.{RowValue}
@@ -35,13 +35,6 @@ guard_some false x y e = (refl, cc)
 pub passed_some : {A : Type 0} (b : Bool) (o : Option A) (y : A) → cond b o None ≡ Some y → (b ≡ true) × (o ≡ Some y)
 passed_some true o y e = (refl, e)
 passed_some false o y e = absurd cc
-
-pub neither : (a b : Bool) → (a || b) ≡ false → (a ≡ false) × (b ≡ false)
-neither true b e = absurd cc
-neither false b e = (refl, e)
-
-pub neither_from : (a b : Bool) → a ≡ false → b ≡ false → (a || b) ≡ false
-neither_from a b p q = rw (p, q) refl
 
 abbrev done : {A : Type 0} → A → Option A
 done x = Some x
@@ -129,7 +122,7 @@ here_takes : (n : ℕ) (bytes : List ℕ) (x : RowValue × List ℕ) → IsBytes
 unfolding here_at
 here_takes n bytes x fits e =
     let g = guard_some (ltb 255 n || ltb (length bytes) n) (Here (take n bytes), drop n bytes) x e in
-    let t = neither (ltb 255 n) (ltb (length bytes) n) g.0 in
+    let t = or_parts (ltb 255 n) (ltb (length bytes) n) g.0 in
     let short : n ≤ 255 = ltb-false _ _ t.0 in
     let long : n ≤ length bytes = ltb-false _ _ t.1 in
     let len : length (take n bytes) ≡ n = omega (arith, length-take n bytes) in
@@ -149,7 +142,7 @@ apart_takes bytes x fits e =
     let b = bind_some (number_at w32 a.0.1) (λ place. number_at w32 place.1 >>= last a.0.0 place.0) x a.2 in
     let c = bind_some (number_at w32 b.0.1) (last a.0.0 b.0.0) x b.2 in
     let g = guard_some (ltb c.0.0 256 || ltb 1048576 c.0.0) (Apart a.0.0 b.0.0 c.0.0, c.0.1) x c.2 in
-    let t = neither (ltb c.0.0 256) (ltb 1048576 c.0.0) g.0 in
+    let t = or_parts (ltb c.0.0 256) (ltb 1048576 c.0.0) g.0 in
     let t0 = number_takes w64 (2 ^ 64) wide64 bytes a.0.0 a.0.1 fits a.1 in
     let t1 = number_takes w32 (2 ^ 32) wide32 a.0.1 b.0.0 b.0.1 t0.0.rest_fits b.1 in
     let t2 = number_takes w32 (2 ^ 32) wide32 b.0.1 c.0.0 c.0.1 t1.0.rest_fits c.1 in

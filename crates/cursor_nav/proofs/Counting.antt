@@ -1,18 +1,12 @@
 -- What a count comes to.
-use Rattle.std.proofs.Common.{◌≡◌, ℕ, ◌<◌, ◌≤◌, ◌^◌, min, Bool, List, [], ◌∷◌, length, filter, Option, Some, None, Ok, refl, arith}
+use Rattle.std.proofs.Common.{◌≡◌, ℕ, ◌<◌, ◌≤◌, ◌^◌, min, Bool, List, Option, Some, None, Ok, refl, arith}
 use Rattle.std.specs.Prelude.{unwrap_or}
+use Rattle.common_lemmas.proofs.Booleans.{by_test}
 use Rattle.jet_base.specs.declared.replies.Jet.TheVariants as jet
 use Rattle.index_derive.specs.declared.entries.Place.{Place}
 use Rattle.index_derive.specs.declared.entries.Place.TheVariants.{Before, After, On, Gap}
 use Rattle.cursor_nav.specs.declared.cursor.Moved.{Moved}
 use Rattle.cursor_nav.specs.Navigation.{at_most, current_answer, answer_of}
-use Rattle.cursor_nav.proofs.InOrder.{by_test}
-
-pub length_filter : {X : Type 0} (p : X → Bool) (xs : List X) → length (filter p xs) ≤ length xs
-length_filter p [] = omega arith
-length_filter p (x ∷ xs) =
-    let rest : length (filter p xs) ≤ length xs = length_filter p xs in
-    by_test (p x) (λ t. rw t (omega arith)) (λ t. rw t (omega arith))
 
 pub at_most_is : (most : Option ℕ) (counted all : ℕ) → counted ≤ all → at_most most all < 2 ^ 64 → min (unwrap_or most 18446744073709551615) counted ≡ at_most most counted
 at_most_is None counted all h few = omega arith

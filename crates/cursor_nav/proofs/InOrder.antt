@@ -1,7 +1,7 @@
 -- Lists in order, each element once: what lies beyond and before an element, and how many do.
 use Rattle.std.proofs.Common.{◌≡◌, ℕ, suc, Bool, true, false, not, ◌&&◌, ◌||◌, cond, ◌⊎◌, inl, inr, List, [], ◌∷◌, length, filter, find, Option, Some, None, refl, sym, ap, subst, ◌∙◌, true≢false}
 use Rattle.std.specs.List.{last_or, list_any}
-use Rattle.common_lemmas.proofs.Booleans.{or_false}
+use Rattle.common_lemmas.proofs.Booleans.{by_test, or_false}
 
 pub record IsStrict {X : Type 0} (lt : X → X → Bool) : Type 0 where
   pub trans : (x y z : X) → lt x y ≡ true → lt y z ≡ true → lt x z ≡ true
@@ -17,10 +17,6 @@ Always p b (x ∷ xs) = (p x ≡ b) × Always p b xs
 abbrev pub InOrder : {X : Type 0} → (X → X → Bool) → List X → Type 0
 InOrder lt [] = Unit {0}
 InOrder lt (x ∷ xs) = Always (lt x) true xs × InOrder lt xs
-
-pub by_test : {P : Type 0} (b : Bool) → (b ≡ true → P) → (b ≡ false → P) → P
-by_test true f g = f refl
-by_test false f g = g refl
 
 pub always : {X : Type 0} (p q : X → Bool) (b c : Bool) → ((y : X) → p y ≡ b → q y ≡ c) → (xs : List X) → Always p b xs → Always q c xs
 always p q b c f [] h = tt

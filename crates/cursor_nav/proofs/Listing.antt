@@ -2,12 +2,11 @@
 use Rattle.std.proofs.Common.{◌≡◌, ℕ, bytes_eq, Bool, true, ◌&&◌, List, [], ◌∷◌, map, filter, find, Option, Some, None, refl, sym, ap, ◌∙◌, true≢false}
 use Rattle.std.specs.List.{last_or, list_all}
 use Rattle.common_lemmas.proofs.Finding.{find_reverse}
-use Rattle.common_lemmas.proofs.Booleans.{and_false}
+use Rattle.common_lemmas.proofs.Booleans.{and_false, by_test}
 use Rattle.index_derive.specs.declared.entries.IndexEntry.{IndexEntry}
 use Rattle.index_derive.specs.declared.entries.Place.{Place}
 use Rattle.cursor_nav.specs.Places.{Pair, pair_lt, pair_of, found_pair, are_sorted, is_beyond, is_short_of, entry_after, entry_before, least_entry_of}
 use Rattle.cursor_nav.specs.Steps.{is_below_first, first_beyond, last_before, first_of}
-use Rattle.cursor_nav.proofs.InOrder.{by_test}
 use Rattle.cursor_nav.proofs.PairOrder.{strict_pairs}
 
 find_pairs : (p : Pair → Bool) (es : List IndexEntry) → find p (map pair_of es) ≡ found_pair (find (λ e. p (pair_of e)) es)

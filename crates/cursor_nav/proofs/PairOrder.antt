@@ -8,12 +8,13 @@ use Rattle.std.specs.Cmp.Lexicographic.{slice_cmp, nat_list_cmp_total, texts_tie
 use Rattle.std.specs.List.{list_any, list_all, last_or}
 use Rattle.std.proofs.lemmas.Bool.{not-false, not-true}
 use Rattle.common_lemmas.proofs.Orders.{is_less, less_then}
+use Rattle.common_lemmas.proofs.Booleans.{by_test}
 use Rattle.column_set.specs.RecordValues.{bytes_lt, bytes_le}
 use Rattle.index_derive.specs.declared.entries.Place.{Place}
 use Rattle.index_derive.specs.declared.entries.Place.TheVariants.{Before, After, On, Gap}
 use Rattle.cursor_nav.specs.Places.{Pair, KeyRange, pair_lt, are_sorted, is_on, place_pair, entry_after, entry_before, is_within, is_within_upper, entries_from}
 use Rattle.cursor_nav.specs.Steps.{only_equal, reaches_from, nearest_entry}
-use Rattle.cursor_nav.proofs.InOrder.{IsStrict, Always, InOrder, IsIn, by_test, after_found, before_list, holds, rest_len, only_passing, first_not_below, all_not_above, any_not_below, any_not_above, count_up, count_step, count_stop, find_narrower}
+use Rattle.cursor_nav.proofs.InOrder.{IsStrict, Always, InOrder, IsIn, after_found, before_list, holds, rest_len, only_passing, first_not_below, all_not_above, any_not_below, any_not_above, count_up, count_step, count_stop, find_narrower}
 
 -- ---- a total order is strict
 

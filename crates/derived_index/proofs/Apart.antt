@@ -2,12 +2,12 @@
 use Rattle.std.proofs.Common.{◌≡◌, ℕ, Bool, true, List, [], ◌∷◌, ◌++◌, length, take, refl, sym, ap, ◌∙◌, arith, length-take, bytes_eq, nat_le}
 use Rattle.std.specs.List.{list_any, list_all, AllByRecursion}
 use Rattle.std.proofs.lemmas.Bool.Decides.{nat_tests}
+use Rattle.std.proofs.lemmas.Bool.{and_from}
+use Rattle.common_lemmas.proofs.Lists.{all_each, all_weaker}
 use Rattle.column_set.specs.RecordValues.{RecordFields, record_fits}
 use Rattle.index_derive.specs.declared.rules.IndexRule.{IndexRule}
 use Rattle.index_derive.specs.declared.rules.Schema.{Schema}
 use Rattle.index_derive.specs.Entries.{KeyValues, key_list, is_legal, whole_key, all_key_values, columns_of_key}
-use Rattle.derived_index.proofs.Tests.{and_both}
-use Rattle.derived_index.proofs.Members.{all_each, all_weaker}
 use Rattle.derived_index.proofs.WholeKeys.{AreOfTypes, apart_keys}
 use Rattle.derived_index.proofs.RecordKeys.{all_keys, one_of_all}
 use Rattle.derived_index.proofs.ColumnValues.{types-all}
@@ -41,7 +41,7 @@ within most bytes = grind (arith, nat_tests, length-take most bytes)
 
 all_true : (p : List ℕ → Bool) (keys : List (List ℕ)) → AllByRecursion (λ key. p key ≡ true) keys → list_all p keys ≡ true
 all_true p [] h = refl
-all_true p (key ∷ keys) h = and_both (p key) _ h.0 (all_true p keys h.1)
+all_true p (key ∷ keys) h = and_from (p key) _ h.0 (all_true p keys h.1)
 
 pub short : (rule : IndexRule) (schema : Schema) (fields : RecordFields) → list_all (λ key. nat_le (length key) rule.key_most) (key_list rule schema fields) ≡ true
 short rule schema fields =

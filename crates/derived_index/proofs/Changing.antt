@@ -5,6 +5,7 @@ use Rattle.std.specs.declared.cmp.Ordering.TheVariants.{Less, Equal, Greater}
 use Rattle.std.specs.Ordering.{is_eq}
 use Rattle.std.specs.FinMap.Entries.{by_order}
 use Rattle.std.proofs.lemmas.Map.Lookups.{exact_bytes}
+use Rattle.common_lemmas.proofs.Lists.{all_filter, all_weaker}
 use Rattle.column_set.specs.RecordValues.{RecordFields, lookup_by_key, put_by_key, remove_by_key}
 use Rattle.index_derive.specs.declared.rules.IndexRule.{IndexRule}
 use Rattle.index_derive.specs.declared.rules.Schema.{Schema}
@@ -12,7 +13,6 @@ use Rattle.index_derive.specs.Entries.{derive, key_list, own_order}
 use Rattle.cursor_nav.specs.Places.{are_sorted}
 use Rattle.derived_index.specs.KeptEntries.{with_entries, without_entries}
 use Rattle.derived_index.proofs.PairOrder.{key_cmp}
-use Rattle.derived_index.proofs.Members.{all_filter, all_weaker}
 use Rattle.derived_index.proofs.Rows.{turned_keys, below_after, missed-not_equal, IsBelow, RowsRise, rise-sorted, not_equal_below}
 use Rattle.derived_index.proofs.Adding.{KeysRise, derived_put_rising}
 use Rattle.derived_index.proofs.Removing.{derived_without}

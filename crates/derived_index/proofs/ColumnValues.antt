@@ -5,6 +5,8 @@ use Rattle.std.specs.Cmp.{unsigned_Decides, unsigned_ties}
 use Rattle.std.specs.Ordering.{nat_cmp, eq_by_cmp}
 use Rattle.std.specs.Cmp.Lexicographic.{bytes_decides}
 use Rattle.std.specs.FinMap.Entries.{find as find_entry}
+use Rattle.common_lemmas.proofs.Booleans.{and_left, and_right}
+use Rattle.common_lemmas.proofs.Lists.{all_each, all_map, all_weaker}
 use Rattle.jet_base.specs.declared.words.ColType.{ColType}
 use Rattle.jet_base.specs.declared.words.ColType.TheVariants.{Bit, UnsignedByte, Short, UnsignedShort, Long, UnsignedLong, LongLong, Currency, Guid, Binary, Text, LongBinary, LongText}
 use Rattle.jet_base.specs.ColumnType.{fixed_width}
@@ -15,8 +17,7 @@ use Rattle.index_derive.specs.declared.rules.IndexRule.{IndexRule}
 use Rattle.index_derive.specs.declared.rules.Schema.{Schema}
 use Rattle.index_derive.specs.declared.rules.Segment.{Segment}
 use Rattle.index_derive.specs.Entries.{values_or_null, parts_of_columns, product, parts_of_text, parts_of_texts, all_key_values, key_columns, columns_of_key, type_of_column, is_text_type, is_tuples_key, is_legal_tuples, is_multi_column, is_legal}
-use Rattle.derived_index.proofs.Tests.{and_left, and_right}
-use Rattle.derived_index.proofs.Members.{all_map, all_flat, all_each, all_weaker}
+use Rattle.derived_index.proofs.Members.{all_flat}
 use Rattle.derived_index.proofs.Segments.{FitsWidth, IsOfType}
 use Rattle.derived_index.proofs.WholeKeys.{AreOfTypes}
 

@@ -6,6 +6,10 @@ use Rattle.std.specs.declared.cmp.Ordering.TheVariants.{Less, Equal, Greater}
 use Rattle.std.specs.Ordering.{is_eq, ordering_then}
 use Rattle.std.specs.Cmp.Lexicographic.{nat_list_cmp_total, texts_ties, nat_list_eq_equiv, bytes_decides}
 use Rattle.std.specs.FinMap.Entries.{by_order}
+use Rattle.std.proofs.lemmas.Bool.{not-true}
+use Rattle.common_lemmas.proofs.Options.{same_some}
+use Rattle.common_lemmas.proofs.Lists.{all_filter, all_weaker}
+use Rattle.common_lemmas.proofs.Booleans.{and_false}
 use Rattle.column_set.specs.RecordValues.{RecordFields, lookup_by_key, put_by_key}
 use Rattle.index_derive.specs.declared.rules.IndexRule.{IndexRule}
 use Rattle.index_derive.specs.declared.rules.Schema.{Schema}
@@ -13,14 +17,12 @@ use Rattle.index_derive.specs.Entries.{derive, key_list, own_order}
 use Rattle.cursor_nav.specs.Places.{Pair, are_sorted}
 use Rattle.database_state.specs.Puts.{new_keys}
 use Rattle.derived_index.specs.KeptEntries.{with_entries, without_entries, without_each}
-use Rattle.derived_index.proofs.Tests.{and_false, not_false}
 use Rattle.derived_index.proofs.PairOrder.{key_cmp, pair_cmp, IsRising}
-use Rattle.derived_index.proofs.Members.{all_filter, all_weaker, all_sorted, any_with}
+use Rattle.derived_index.proofs.Members.{all_sorted, any_with}
 use Rattle.derived_index.proofs.Rising.{IsApart, IsFresh, rising_with, same_rising}
 use Rattle.derived_index.proofs.Rows.{missed-not_equal, entries_of, all_entries, RowsRise, rise-sorted, rise-put, apart_records}
 use Rattle.derived_index.proofs.Adding.{KeysRise, rising_derived}
 use Rattle.derived_index.proofs.Changing.{derived_replaced}
-use Rattle.derived_index.proofs.OneRecord.{same_found}
 use Rattle.derived_index.proofs.OneByOne.{is_one_of, not_one, each-filter, all_members, IsSame, all_same}
 use Rattle.derived_index.proofs.AnyOf.{any_filter, any_alike, any_parted, any_shared, rising_filter}
 
@@ -37,7 +39,7 @@ put-same bookmark x (place ∷ rows) h found =
           let below : AllByRecursion (λ other. is_eq (key_cmp bookmark other.0) ≡ false) rows =
           all_weaker (λ other. key_cmp place.0 other.0 ≡ Less) (λ other. is_eq (key_cmp bookmark other.0) ≡ false) (λ other k. ap is_eq (nat_list_cmp_total.trans bookmark place.0 other.0 p k)) rows h.0 in
           absurd (true≢false (ap is_none (sym (missed-not_equal bookmark rows below)) ∙ ap is_none is))
-      | Equal ↦ λ p is. λ i. (place.0, sym (same_found place.1 x is) i) ∷ rows
+      | Equal ↦ λ p is. λ i. (place.0, sym (same_some place.1 x is) i) ∷ rows
       | Greater ↦ λ p is. ap (λ r. place ∷ r) (put-same bookmark x rows h.1 is)
     ] refl found
 
@@ -78,7 +80,7 @@ fresh_beside keys bookmark es known (key ∷ others) h =
 beside_new : (keys others : List (List ℕ)) → AllByRecursion (λ key. list_any (bytes_eq key) keys ≡ false) (keys_beside keys others)
 beside_new keys [] = tt
 beside_new keys (key ∷ others) = elim (not (list_any (bytes_eq key) keys)) as (λ b. not (list_any (bytes_eq key) keys) ≡ b → AllByRecursion (λ k. list_any (bytes_eq k) keys ≡ false) (cond b (key ∷ keys_beside keys others) (keys_beside keys others))) [
-  | true ↦ λ e. (not_false (list_any (bytes_eq key) keys) e, beside_new keys others)
+  | true ↦ λ e. (not-true (list_any (bytes_eq key) keys) e, beside_new keys others)
   | false ↦ λ e. beside_new keys others
 ] refl
 
@@ -193,7 +195,7 @@ derived_by_difference rise rule schema rows bookmark old values sorted found =
     let before : whole ≡ with_entries olds bookmark others =
     ap (derive rule schema) (sym (put-same bookmark old rows rows_rise found)) ∙ derived_replaced rise rule schema rows bookmark old sorted in
     let other : AllByRecursion (λ (entry : Pair). bytes_eq entry.1 bookmark ≡ false) others =
-    all_weaker (λ (entry : Pair). not (bytes_eq entry.1 bookmark) ≡ true) (λ entry. bytes_eq entry.1 bookmark ≡ false) (λ entry h. not_false (bytes_eq entry.1 bookmark) h) others (passes (λ (entry : Pair). not (bytes_eq entry.1 bookmark)) whole) in
+    all_weaker (λ (entry : Pair). not (bytes_eq entry.1 bookmark) ≡ true) (λ entry. bytes_eq entry.1 bookmark ≡ false) (λ entry h. not-true (bytes_eq entry.1 bookmark) h) others (passes (λ (entry : Pair). not (bytes_eq entry.1 bookmark)) whole) in
     let kept_rises : IsRising (without_each lost bookmark whole) = subst IsRising (sym kept_is) (rising_filter pair_cmp stays whole (rising_derived rise rule schema rows rows_rise)) in
     let kept_known : AllByRecursion (IsKnown olds bookmark) (without_each lost bookmark whole) =
     subst (AllByRecursion (IsKnown olds bookmark)) (sym kept_is) (all_filter (IsKnown olds bookmark) stays whole (known_derived rule schema rows bookmark old rows_rise found)) in

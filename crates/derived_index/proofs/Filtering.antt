@@ -4,22 +4,14 @@ use Rattle.std.specs.List.{AllByRecursion}
 use Rattle.std.specs.declared.cmp.Ordering.{Ordering}
 use Rattle.std.specs.declared.cmp.Ordering.TheVariants.{Less, Equal, Greater}
 use Rattle.std.specs.Ordering.{is_le, is_gt}
+use Rattle.common_lemmas.proofs.Lists.{all_filter}
 use Rattle.index_derive.specs.Entries.{insert_entry, sorted_entries, entry_le}
 use Rattle.cursor_nav.specs.Places.{Pair}
 use Rattle.derived_index.specs.KeptEntries.{with_entries}
 use Rattle.derived_index.proofs.PairOrder.{pair_cmp}
-use Rattle.derived_index.proofs.Members.{all_filter}
 use Rattle.derived_index.proofs.InOrder.{IsNotAbove, AreInOrder, in_order_sorted, insert_first, not_above_all}
 
 -- ---- any list
-
-pub filter_all : {X : Type 0} (p : X → Bool) (xs : List X) → AllByRecursion (λ x. p x ≡ true) xs → filter p xs ≡ xs
-filter_all p [] h = refl
-filter_all p (x ∷ xs) h = ap (λ b. cond b (x ∷ filter p xs) (filter p xs)) h.0 ∙ ap (λ r. x ∷ r) (filter_all p xs h.1)
-
-pub filter_none : {X : Type 0} (p : X → Bool) (xs : List X) → AllByRecursion (λ x. p x ≡ false) xs → filter p xs ≡ []
-filter_none p [] h = refl
-filter_none p (x ∷ xs) h = ap (λ b. cond b (x ∷ filter p xs) (filter p xs)) h.0 ∙ filter_none p xs h.1
 
 pub filter_alike : {X : Type 0} (p q : X → Bool) (xs : List X) → AllByRecursion (λ x. p x ≡ q x) xs → filter p xs ≡ filter q xs
 filter_alike p q [] h = refl

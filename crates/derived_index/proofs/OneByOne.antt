@@ -3,19 +3,21 @@ use Rattle.std.proofs.Common.{◌≡◌, ℕ, Bool, true, false, not, ◌&&◌, 
 use Rattle.std.specs.List.{list_any, AllByRecursion}
 use Rattle.std.specs.Ordering.{nat_cmp, is_eq, eq_by_cmp}
 use Rattle.std.specs.Cmp.Lexicographic.{slice_cmp, nat_list_eq_equiv, bytes_decides}
+use Rattle.std.proofs.lemmas.Bool.{or_right}
+use Rattle.common_lemmas.proofs.Options.{same_some}
+use Rattle.common_lemmas.proofs.Lists.{all_append, all_each, all_map, all_weaker, filter_all}
+use Rattle.common_lemmas.proofs.Booleans.{and_false}
 use Rattle.column_set.specs.RecordValues.{RecordFields, lookup_by_key, remove_by_key}
 use Rattle.index_derive.specs.declared.rules.IndexRule.{IndexRule}
 use Rattle.index_derive.specs.declared.rules.Schema.{Schema}
 use Rattle.index_derive.specs.Entries.{derive, key_list, own_order}
 use Rattle.cursor_nav.specs.Places.{Pair, are_sorted}
 use Rattle.derived_index.specs.KeptEntries.{with_entries, without_each}
-use Rattle.derived_index.proofs.Tests.{and_false, or_right}
 use Rattle.derived_index.proofs.PairOrder.{key_cmp}
-use Rattle.derived_index.proofs.Members.{all_append, all_map, all_sorted, all_weaker, all_each}
-use Rattle.derived_index.proofs.Filtering.{filter_all, filter_alike, filter_twice, filter_with}
+use Rattle.derived_index.proofs.Members.{all_sorted}
+use Rattle.derived_index.proofs.Filtering.{filter_alike, filter_twice, filter_with}
 use Rattle.derived_index.proofs.Rows.{entries_of, all_entries, RowsRise, rise-sorted, not_equal_below, not_equal_missed}
 use Rattle.derived_index.proofs.Standing.{same_test}
-use Rattle.derived_index.proofs.OneRecord.{same_found}
 use Rattle.derived_index.proofs.Removing.{derived_without}
 
 -- an entry of the record with one of the keys
@@ -78,7 +80,7 @@ all_same f bookmark x (place ∷ rows) h found =
     let P = IsSame (f x) bookmark in
     elim (eq_by_cmp (slice_cmp nat_cmp) bookmark place.0) as (λ b. eq_by_cmp (slice_cmp nat_cmp) bookmark place.0 ≡ b → cond b (Some place.1) (lookup_by_key bookmark rows) ≡ Some x → AllByRecursion P (entries_of place.0 (f place.1) ++ all_entries f rows)) [
       | true ↦ λ e is.
-          let same : place.1 ≡ x = same_found place.1 x is in
+          let same : place.1 ≡ x = same_some place.1 x is in
           let members : AllByRecursion (λ key. list_any (bytes_eq key) (f x) ≡ true) (f place.1) = subst (λ y. AllByRecursion (λ key. list_any (bytes_eq key) (f y) ≡ true) (f place.1)) same (all_members (f place.1)) in
           all_append P (entries_of place.0 (f place.1)) (all_entries f rows)
           (all_map P (λ key. (key, place.0)) (f place.1) (all_weaker (λ key. list_any (bytes_eq key) (f x) ≡ true) (λ key. P (key, place.0)) (λ key h. same_own (f x) bookmark (key, place.0) h) (f place.1) members))

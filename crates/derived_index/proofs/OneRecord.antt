@@ -1,11 +1,13 @@
 -- The entries of one record among those of all.
-use Rattle.std.proofs.Common.{◌≡◌, ℕ, true, false, cond, List, [], ◌∷◌, ◌++◌, find, Some, None, refl, sym, ap, ◌∙◌, true≢false, bytes_eq, unwrap_or, option_map, append-nil, is_none}
+use Rattle.std.proofs.Common.{◌≡◌, ℕ, true, false, cond, List, [], ◌∷◌, ◌++◌, find, Some, None, refl, sym, ap, ◌∙◌, true≢false, bytes_eq, option_map, append-nil, is_none}
 use Rattle.std.specs.List.{AllByRecursion}
 use Rattle.std.specs.List.Sorted.{IsStrictlySortedBy}
 use Rattle.std.specs.declared.cmp.Ordering.{Ordering}
 use Rattle.std.specs.declared.cmp.Ordering.TheVariants.{Less, Equal, Greater}
 use Rattle.std.specs.Ordering.{nat_cmp, is_eq, is_gt, ordering_then, eq_by_cmp}
 use Rattle.std.specs.Cmp.Lexicographic.{slice_cmp, bytes_decides}
+use Rattle.common_lemmas.proofs.Options.{same_some}
+use Rattle.common_lemmas.proofs.Lists.{filter_all, filter_none}
 use Rattle.column_set.specs.RecordValues.{RecordFields, lookup_by_key}
 use Rattle.index_derive.specs.declared.rules.IndexRule.{IndexRule}
 use Rattle.index_derive.specs.declared.rules.Schema.{Schema}
@@ -15,7 +17,7 @@ use Rattle.cursor_nav.specs.Places.{Pair, are_sorted, least_entry_of}
 use Rattle.derived_index.specs.KeptEntries.{entries_with}
 use Rattle.derived_index.proofs.PairOrder.{key_cmp}
 use Rattle.derived_index.proofs.Rising.{AreRisingKeys}
-use Rattle.derived_index.proofs.Filtering.{filter-append, filter_all, filter_none, sorted-filter, find-filter}
+use Rattle.derived_index.proofs.Filtering.{filter-append, sorted-filter, find-filter}
 use Rattle.derived_index.proofs.InOrder.{IsNotAbove, insert_first}
 use Rattle.derived_index.proofs.Rows.{entries_of, all_entries, RowsRise, rise-sorted, not_equal_below, not_equal_missed}
 use Rattle.derived_index.proofs.Standing.{same_test}
@@ -45,9 +47,6 @@ with_none keys bookmark (place ∷ rows) h =
     ∙ ap (λ r. r ++ entries_with bookmark (all_entries keys rows)) (with_another bookmark place.0 (keys place.1) (same_test bookmark place.0 ∙ h.0))
     ∙ with_none keys bookmark rows h.1
 
-pub same_found : {X : Type 0} (x y : X) → Some x ≡ Some y → x ≡ y
-same_found x y e = ap (λ o. unwrap_or o x) e
-
 with_one : {X : Type 0} (keys : X → List (List ℕ)) (bookmark : List ℕ) (x : X) (rows : List (List ℕ × X)) → RowsRise rows → lookup_by_key bookmark rows ≡ Some x
     → entries_with bookmark (all_entries keys rows) ≡ entries_of bookmark (keys x)
 with_one keys bookmark x [] h found = absurd (true≢false (ap is_none found))
@@ -61,7 +60,7 @@ with_one keys bookmark x (place ∷ rows) h found =
           let tied : bytes_eq place.0 bookmark ≡ true = same_test bookmark place.0 ∙ e in
           let same : place.0 ≡ bookmark = (bytes_decides place.0 bookmark).0 tied in
           let none : entries_with bookmark rest ≡ [] = ap (λ (b : List ℕ). entries_with b rest) (sym same) ∙ with_none keys place.0 rows (not_equal_below place.0 rows h.0) in
-          (λ i. with_own bookmark place.0 (keys place.1) tied i ++ none i) ∙ append-nil here ∙ (λ i. entries_of (same i) (keys (same_found place.1 x is i)))
+          (λ i. with_own bookmark place.0 (keys place.1) tied i ++ none i) ∙ append-nil here ∙ (λ i. entries_of (same i) (keys (same_some place.1 x is i)))
       | false ↦ λ e is.
           ap (λ r. r ++ entries_with bookmark rest) (with_another bookmark place.0 (keys place.1) (same_test bookmark place.0 ∙ e)) ∙ with_one keys bookmark x rows h.1 is
     ] refl found

@@ -3,6 +3,7 @@ use Rattle.std.proofs.Common.{◌≡◌, ℕ, Bool, true, false, not, ◌&&◌, 
 use Rattle.std.specs.List.{list_any}
 use Rattle.std.specs.Ordering.{nat_cmp, eq_by_cmp}
 use Rattle.std.specs.Cmp.Lexicographic.{slice_cmp, nat_list_eq_equiv, texts_ties}
+use Rattle.common_lemmas.proofs.Booleans.{and_false}
 use Rattle.index_derive.specs.declared.rules.IndexRule.{IndexRule}
 use Rattle.index_derive.specs.declared.rules.Schema.{Schema}
 use Rattle.index_derive.specs.Entries.{derive, own_order}
@@ -10,7 +11,7 @@ use Rattle.cursor_nav.specs.Places.{Pair}
 use Rattle.database_state.specs.Table.{Rows, rule_with_id, row_at, entries_of_rule, index_entries}
 use Rattle.database_state.specs.Puts.{is_taken, is_replaced}
 use Rattle.derived_index.specs.KeptEntries.{has_key, without_entries}
-use Rattle.derived_index.proofs.Tests.{and_true, and_false}
+use Rattle.derived_index.proofs.Tests.{and_true}
 
 abbrev is_taken_in : List Pair → Option (List ℕ) → List ℕ → Bool
 is_taken_in entries own key = list_any (λ entry. bytes_eq entry.0 key && not (is_replaced own entry.1)) entries

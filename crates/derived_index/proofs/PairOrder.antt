@@ -8,10 +8,11 @@ use Rattle.std.specs.Ordering.{nat_cmp, is_lt, is_eq, ordering_then}
 use Rattle.std.specs.Cmp.{IsTotalOrder, then_total, on_total}
 use Rattle.std.specs.Cmp.Lexicographic.{slice_cmp, nat_list_cmp_total, texts_ties}
 use Rattle.std.proofs.lemmas.Map.Lookups.{exact_bytes}
-use Rattle.common_lemmas.proofs.Orders.{less_then}
+use Rattle.std.proofs.lemmas.Bool.{and_from}
+use Rattle.common_lemmas.proofs.Orders.{is_less, less_then}
+use Rattle.common_lemmas.proofs.Booleans.{and_left, and_right}
 use Rattle.column_set.specs.RecordValues.{bytes_lt}
 use Rattle.cursor_nav.specs.Places.{Pair, pair_lt, are_sorted}
-use Rattle.derived_index.proofs.Tests.{and_left, and_right, and_both}
 
 abbrev pub key_cmp : List ℕ → List ℕ → Ordering
 key_cmp x y = slice_cmp nat_cmp x y
@@ -46,11 +47,6 @@ pair_lt-is x y =
     ap (λ e. bytes_lt x.0 y.0 || (e && bytes_lt x.1 y.1)) (texts_ties x.0 y.0)
     ∙ less_then (key_cmp x.0 y.0) (key_cmp x.1 y.1)
 
-pub is_less : (r : Ordering) → is_lt r ≡ true → r ≡ Less
-is_less Less h = refl
-is_less Equal h = absurd (true≢false (sym h))
-is_less Greater h = absurd (true≢false (sym h))
-
 all_less : (x : Pair) (ys : List Pair) → list_all (pair_lt x) ys ≡ true → AllByRecursion (λ y. pair_cmp x y ≡ Less) ys
 all_less x [] h = tt
 all_less x (y ∷ ys) h =
@@ -58,7 +54,7 @@ all_less x (y ∷ ys) h =
 
 less_all : (x : Pair) (ys : List Pair) → AllByRecursion (λ y. pair_cmp x y ≡ Less) ys → list_all (pair_lt x) ys ≡ true
 less_all x [] h = refl
-less_all x (y ∷ ys) h = and_both (pair_lt x y) _ (pair_lt-is x y ∙ ap is_lt h.0) (less_all x ys h.1)
+less_all x (y ∷ ys) h = and_from (pair_lt x y) _ (pair_lt-is x y ∙ ap is_lt h.0) (less_all x ys h.1)
 
 pub rising-sorted : (es : List Pair) → are_sorted es ≡ true → IsRising es
 unfolding IsStrictlySortedBy
@@ -68,4 +64,4 @@ rising-sorted (e ∷ es) h = (all_less e es (and_left (list_all (pair_lt e) es) 
 pub sorted-rising : (es : List Pair) → IsRising es → are_sorted es ≡ true
 unfolding IsStrictlySortedBy
 sorted-rising [] h = refl
-sorted-rising (e ∷ es) h = and_both (list_all (pair_lt e) es) _ (less_all e es h.0) (sorted-rising es h.1)
+sorted-rising (e ∷ es) h = and_from (list_all (pair_lt e) es) _ (less_all e es h.0) (sorted-rising es h.1)

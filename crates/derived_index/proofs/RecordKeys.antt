@@ -5,12 +5,12 @@ use Rattle.std.specs.declared.cmp.Ordering.TheVariants.{Less, Equal, Greater}
 use Rattle.std.specs.Ordering.{nat_cmp}
 use Rattle.std.specs.Cmp.Lexicographic.{slice_cmp, bytes_decides}
 use Rattle.std.specs.FinMap.Entries.{by_order}
+use Rattle.common_lemmas.proofs.Lists.{all_filter, all_map}
 use Rattle.column_set.specs.RecordValues.{RecordFields}
 use Rattle.key_normal.specs.KeyBytes.{cut_key}
 use Rattle.index_derive.specs.declared.rules.IndexRule.{IndexRule}
 use Rattle.index_derive.specs.declared.rules.Schema.{Schema}
 use Rattle.index_derive.specs.Entries.{KeyValues, KeyRefusal, NullKeyDisallowed, KeyTruncated, entries, meets_conditions, all_key_values, is_ignored, whole_key, keys_of, keys_or_none, key_list, insert_key, sorted_keys}
-use Rattle.derived_index.proofs.Members.{all_map, all_filter}
 
 abbrev KeysPass : (List ℕ → Type 0) → Result (List (List ℕ)) KeyRefusal → Type 0
 KeysPass P (Ok keys) = AllByRecursion P keys

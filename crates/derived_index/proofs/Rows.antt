@@ -8,12 +8,12 @@ use Rattle.std.specs.Ordering.{is_lt, is_eq, ordering_then, ordering_reverse}
 use Rattle.std.specs.Cmp.Lexicographic.{nat_list_cmp_total}
 use Rattle.std.specs.FinMap.Entries.{by_order}
 use Rattle.std.proofs.lemmas.List.Folds.{list_any-append}
+use Rattle.common_lemmas.proofs.Booleans.{and_left, and_right, or_swap}
+use Rattle.common_lemmas.proofs.Lists.{all_append}
 use Rattle.column_set.specs.RecordValues.{lookup_by_key, put_by_key}
 use Rattle.index_derive.specs.Entries.{own_order}
 use Rattle.cursor_nav.specs.Places.{Pair, pair_lt, are_sorted}
-use Rattle.derived_index.proofs.Tests.{and_left, and_right, or_swap}
 use Rattle.derived_index.proofs.PairOrder.{key_cmp, pair_lt-is}
-use Rattle.derived_index.proofs.Members.{all_append}
 use Rattle.derived_index.proofs.Rising.{IsApart, IsFresh, AreDistinct, AreRisingKeys}
 
 -- the entries of keys that a record has under its bookmark

@@ -8,9 +8,9 @@ use Rattle.derived_index.proofs.AnyOf.{rising_filter}
 use Rattle.derived_index.proofs.PairOrder.{pair_cmp, rising-sorted, sorted-rising}
 use Rattle.derived_index.proofs.Rising.{same_rising}
 use Rattle.std.proofs.lemmas.Slice.Eq.{bytes_eq-Decides}
+use Rattle.std.proofs.lemmas.Bool.{and_from}
 use Rattle.common_lemmas.proofs.Numbers.{same_bytes}
-use Rattle.common_lemmas.proofs.Booleans.{impossible}
-use Rattle.derived_index.proofs.Tests.{and_both, and_left, and_right}
+use Rattle.common_lemmas.proofs.Booleans.{and_left, and_right, impossible}
 
 equal_bytes : (a b : List ℕ) → a ≡ b → bytes_eq a b ≡ true
 equal_bytes a b = (bytes_eq-Decides a b).1
@@ -40,7 +40,7 @@ within : (p : Pair → Bool) (xs ys : List Pair) → ((key bookmark : List ℕ) 
 within p [] ys f h = impossible h
 within p (x ∷ xs) ys f h =
     elim (p x) as (λ b. p x ≡ b → (b || list_any p xs) ≡ true → list_any p ys ≡ true) [
-      | true ↦ λ e g. has_any x.0 x.1 ys p (f x.0 x.1 (or_left _ _ (and_both _ _ (equal_bytes x.0 x.0 refl) (equal_bytes x.1 x.1 refl)))) e
+      | true ↦ λ e g. has_any x.0 x.1 ys p (f x.0 x.1 (or_left _ _ (and_from _ _ (equal_bytes x.0 x.0 refl) (equal_bytes x.1 x.1 refl)))) e
       | false ↦ λ e g. within p xs ys (λ key bookmark has. f key bookmark (or_right (bytes_eq x.0 key && bytes_eq x.1 bookmark) _ has)) g
     ] refl h
   where

@@ -4,6 +4,7 @@ use Rattle.std.specs.List.{list_any, AllByRecursion}
 use Rattle.std.specs.Ordering.{nat_cmp, is_eq, eq_by_cmp}
 use Rattle.std.specs.Cmp.Lexicographic.{slice_cmp, nat_list_eq_equiv, texts_ties, bytes_decides}
 use Rattle.std.proofs.lemmas.List.Folds.{list_any-append}
+use Rattle.common_lemmas.proofs.Booleans.{and_false, or_false}
 use Rattle.column_set.specs.RecordValues.{RecordFields, lookup_by_key}
 use Rattle.index_derive.specs.declared.rules.IndexRule.{IndexRule}
 use Rattle.index_derive.specs.declared.rules.Schema.{Schema}
@@ -11,7 +12,7 @@ use Rattle.index_derive.specs.Entries.{derive, key_list, own_order}
 use Rattle.cursor_nav.specs.Places.{are_sorted}
 use Rattle.database_state.specs.Conflicts.{yields_key}
 use Rattle.derived_index.specs.KeptEntries.{has_entry}
-use Rattle.derived_index.proofs.Tests.{and_true, and_false, or_false}
+use Rattle.derived_index.proofs.Tests.{and_true}
 use Rattle.derived_index.proofs.PairOrder.{key_cmp}
 use Rattle.derived_index.proofs.Rows.{entries_of, all_entries, RowsRise, rise-sorted, not_equal_below}
 use Rattle.derived_index.proofs.Adding.{any_derived}

@@ -1,6 +1,7 @@
 -- What shows the key and the bookmark of the entry at a cursor.
 use Rattle.std.proofs.Common.{◌≡◌, ℕ, Bool, true, false, List, [], ◌∷◌, Option, Some, None, Result, Ok, Err, refl, sym, ap, ◌∙◌, is_some, is_none, if◌then◌else◌}
 use Rattle.std.specs.Prelude.{IfSome}
+use Rattle.common_lemmas.proofs.Options.{is_some-map}
 use Rattle.jet_base.specs.declared.ids.CursorId.{CursorId}
 use Rattle.jet_base.specs.declared.replies.Jet.{Jet}
 use Rattle.jet_base.specs.declared.replies.Jet.TheVariants as jet
@@ -28,7 +29,6 @@ use Rattle.engine_versions.specs.HoldsState.{HoldsState, asked_of}
 use Rattle.engine_parts.specs.Deciding.{Decides}
 use Rattle.engine_parts.specs.Reading.{CurrentEntry, entry_at, record_for, records_for, shown_for}
 use Rattle.engine_parts.proofs.Refusing.{answer-is}
-use Rattle.engine_parts.proofs.Views.{is_some-map}
 
 -- ---- a call that is decided on the shared state
 

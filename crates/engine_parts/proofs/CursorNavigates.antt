@@ -2,6 +2,7 @@
 use Rattle.std.proofs.Common.{◌≡◌, ℕ, ◌==◌, ◌||◌, Bool, true, false, cond, not, List, [], ◌∷◌, find, map, length, nat_lt, Option, Some, None, refl, sym, ap, ◌∙◌, is_some, is_none, if◌then◌else◌}
 use Rattle.std.specs.Prelude.{bytes_eq}
 use Rattle.std.specs.List.{list_any}
+use Rattle.std.proofs.lemmas.Bool.{and_parts, eqb-true, not-true}
 use Rattle.jet_base.specs.declared.replies.Jet.{Jet}
 use Rattle.jet_base.specs.declared.replies.Jet.TheVariants as jet
 use Rattle.column_set.specs.RecordValues.{RecordFields}
@@ -18,7 +19,7 @@ use Rattle.session_local.specs.Outcome.{Asked, Outcome, refused, navigated, unle
 use Rattle.session_local.specs.Calls.{answer}
 use Rattle.session_local.specs.CursorCalls.{index_chosen_by, set_current_index, move_cursor, seek_key, set_index_range, gone_to as gone_to_seen, goto_bookmark}
 use Rattle.session_local.specs.Navigating.{EntriesOf, RecordsOf, set_to_rule, navigated_by}
-use Rattle.engine_parts.proofs.Found.{both, denied, labelled, same_number}
+use Rattle.engine_parts.proofs.Found.{labelled}
 use Rattle.engine_parts.specs.Deciding.{is_navigation}
 use Rattle.engine_parts.proofs.CursorCallsShown.{answer-begun}
 
@@ -35,11 +36,11 @@ absent label c (x ∷ xs) none =
 put_again : (label : ℕ) (c : OpenCursor) (cursors : List OpenCursor) → are_distinct (map label_of cursors) ≡ true → find (λ c. c.label == label) cursors ≡ Some c → map (λ x. if x.label == label then c else x) cursors ≡ cursors
 put_again label c [] distinct found = refl
 put_again label c (x ∷ xs) distinct found =
-    let parts = both (not (list_any (λ other. other == x.label) (map label_of xs))) (are_distinct (map label_of xs)) distinct in
+    let parts = and_parts (not (list_any (λ other. other == x.label) (map label_of xs))) (are_distinct (map label_of xs)) distinct in
     elim (x.label == label) as (λ b. (x.label == label) ≡ b → cond b (Some x) (find (λ c. c.label == label) xs) ≡ Some c → (if b then c else x) ∷ map (λ x. if x.label == label then c else x) xs ≡ x ∷ xs) [
       | true ↦ λ e h.
           let same : x ≡ c = cc in
-          let none = ap (λ l. list_any (λ other. other == l) (map label_of xs)) (sym (same_number x.label label e)) ∙ denied (list_any (λ other. other == x.label) (map label_of xs)) parts.0 in
+          let none = ap (λ l. list_any (λ other. other == l) (map label_of xs)) (sym (eqb-true x.label label e)) ∙ not-true (list_any (λ other. other == x.label) (map label_of xs)) parts.0 in
           ap (λ rest. c ∷ rest) (absent label c xs none) ∙ ap (λ y. y ∷ xs) (sym same)
       | false ↦ λ e h. ap (λ rest. x ∷ rest) (put_again label c xs parts.1 h)
     ] refl found
@@ -57,7 +58,7 @@ pub record Sees (entries : EntriesOf) (has_record : RecordsOf) (asked : Asked) (
   pub each_record : (bookmark : List ℕ) → has_record c.cursor.table bookmark ≡ is_some (row_at (rows_seen asked c) bookmark)
 
 at_found : (asked : Asked) (label other : ℕ) (c : OpenCursor) (next : OpenCursor → Outcome) → (other == label) ≡ true → cursor_labelled asked.local label ≡ Some c → at_cursor asked other next ≡ next c
-at_found asked label other c next same found = ap (λ l. at_cursor asked l next) (same_number other label same) ∙ ap (λ o. on_cursor asked o next) found
+at_found asked label other c next same found = ap (λ l. at_cursor asked l next) (eqb-true other label same) ∙ ap (λ o. on_cursor asked o next) found
 
 -- ---- refusals that leave the cursor
 

@@ -1,5 +1,5 @@
 -- What is found in lists: cursors by label, columns by number, and the values of a column.
-use Rattle.std.proofs.Common.{◌≡◌, ℕ, zero, suc, ◌+◌, ◌≤◌, ◌==◌, Bool, true, false, cond, not, ◌&&◌, ◌||◌, List, [], ◌∷◌, length, map, find, Option, Some, None, refl, sym, ap, ◌∙◌, unwrap_or, slice_get, arith}
+use Rattle.std.proofs.Common.{◌≡◌, ℕ, ◌+◌, ◌≤◌, ◌==◌, Bool, true, false, cond, not, ◌&&◌, ◌||◌, List, [], ◌∷◌, length, map, find, Option, Some, None, refl, sym, ap, ◌∙◌, unwrap_or, arith}
 use Rattle.std.specs.List.{list_all, list_any}
 use Rattle.std.specs.Ordering.{nat_cmp, is_eq}
 use Rattle.std.specs.declared.cmp.Ordering.{Ordering}
@@ -7,45 +7,22 @@ use Rattle.std.specs.declared.cmp.Ordering.TheVariants.{Less, Equal, Greater}
 use Rattle.std.specs.FinMap.{nat_cmp-IsAntisymmetric}
 use Rattle.std.specs.FinMap.Entries.{find as find_entry}
 use Rattle.std.proofs.lemmas.List.Sums.{sum_by-cons}
-use Rattle.std.proofs.lemmas.Bool.Decides.{nat_tests}
+use Rattle.std.proofs.lemmas.Bool.{and_parts, eqb-true, not-true}
+use Rattle.common_lemmas.proofs.Numbers.{self_equal}
 use Rattle.column_set.specs.declared.columns.Column.{Column}
 use Rattle.column_set.specs.RecordValues.{RecordFields, values_of, column_of_id, values_fit, size_of_value, size_of_values, record_size}
 use Rattle.session_local.specs.Local.{OpenCursor}
 use Rattle.session_local.specs.SessionSide.{are_distinct}
 use Rattle.session_local.specs.WellFormed.{number_of_column, stands_in}
 
-pub both : (a b : Bool) → (a && b) ≡ true → (a ≡ true) × (b ≡ true)
-both true true e = (refl, refl)
-both true false e = cc
-both false b e = cc
-
-pub denied : (b : Bool) → not b ≡ true → b ≡ false
-denied false e = refl
-denied true e = cc
-
-pub same_number : (m n : ℕ) → (m == n) ≡ true → m ≡ n
-same_number m n e = grind (arith, nat_tests)
-
-pub number_is_itself : (n : ℕ) → (n == n) ≡ true
-number_is_itself n = grind (arith, nat_tests)
-
 -- a cursor that is found by a label has it
 pub labelled : (label : ℕ) (cursors : List OpenCursor) (c : OpenCursor) → find (λ c. c.label == label) cursors ≡ Some c → c.label ≡ label
 labelled label [] c found = cc
 labelled label (x ∷ xs) c found =
     elim (x.label == label) as (λ b. (x.label == label) ≡ b → cond b (Some x) (find (λ c. c.label == label) xs) ≡ Some c → c.label ≡ label) [
-      | true ↦ λ e h. let same : x ≡ c = cc in let n = same_number x.label label e in cc
+      | true ↦ λ e h. let same : x ≡ c = cc in let n = eqb-true x.label label e in cc
       | false ↦ λ e h. labelled label xs c h
     ] refl found
-
--- ---- lists that pass a test
-
-pub all_at : {X : Type 0} (p : X → Bool) (xs : List X) (i : ℕ) (x : X) → list_all p xs ≡ true → slice_get xs i ≡ Some x → p x ≡ true
-all_at p [] i x all found = cc
-all_at p (y ∷ ys) zero x all found =
-    let parts : (p y ≡ true) × (list_all p ys ≡ true) = both _ _ all in let same : y ≡ x = cc in rw (← same) parts.0
-all_at p (y ∷ ys) (suc i) x all found =
-    let parts : (p y ≡ true) × (list_all p ys ≡ true) = both _ _ all in all_at p ys i x parts.1 found
 
 -- ---- columns by number
 
@@ -64,15 +41,15 @@ any_found test (x ∷ xs) column number found same =
 pub by_number : (test : Column → Bool) (columns : List Column) (column : Column) → are_distinct (map number_of_column columns) ≡ true → find test columns ≡ Some column → column_of_id columns column.id.0 ≡ Some column
 by_number test [] column distinct found = cc
 by_number test (x ∷ xs) column distinct found =
-    let parts : (not (list_any (λ other. other == x.id.0) (map number_of_column xs)) ≡ true) × (are_distinct (map number_of_column xs) ≡ true) = both _ _ distinct in
+    let parts : (not (list_any (λ other. other == x.id.0) (map number_of_column xs)) ≡ true) × (are_distinct (map number_of_column xs) ≡ true) = and_parts _ _ distinct in
     elim (test x) as (λ b. cond b (Some x) (find test xs) ≡ Some column → cond (x.id.0 == column.id.0) (Some x) (column_of_id xs column.id.0) ≡ Some column) [
-      | true ↦ λ h. let is : x ≡ column = cc in rw (is, number_is_itself column.id.0) refl
+      | true ↦ λ h. let is : x ≡ column = cc in rw (is, self_equal column.id.0) refl
       | false ↦ λ h. elim (x.id.0 == column.id.0) as (λ b. (x.id.0 == column.id.0) ≡ b → cond b (Some x) (column_of_id xs column.id.0) ≡ Some column) [
         | true ↦ λ e.
-            let same : x.id.0 ≡ column.id.0 = same_number x.id.0 column.id.0 e in
-            let again : (column.id.0 == x.id.0) ≡ true = rw same (number_is_itself column.id.0) in
+            let same : x.id.0 ≡ column.id.0 = eqb-true x.id.0 column.id.0 e in
+            let again : (column.id.0 == x.id.0) ≡ true = rw same (self_equal column.id.0) in
             let twice : list_any (λ other. other == x.id.0) (map number_of_column xs) ≡ true = any_found test xs column x.id.0 h again in
-            let once : list_any (λ other. other == x.id.0) (map number_of_column xs) ≡ false = denied _ parts.0 in
+            let once : list_any (λ other. other == x.id.0) (map number_of_column xs) ≡ false = not-true _ parts.0 in
             cc
         | false ↦ λ e. by_number test xs column parts.1 h
       ] refl
@@ -99,7 +76,7 @@ taken columns field found is = ap (λ (o : Option Column). elim o [ Some column 
 pub values_of-fit : (columns : List Column) (fields : RecordFields) (id : ℕ) (column : Column) → list_all (stands_in columns) fields ≡ true → column_of_id columns id ≡ Some column → values_fit column (values_of fields id) ≡ true
 values_of-fit columns [] id column all found = no_values_fit column
 values_of-fit columns (field ∷ fields) id column all found =
-    let parts : (stands_in columns field ≡ true) × (list_all (stands_in columns) fields ≡ true) = both _ _ all in
+    let parts : (stands_in columns field ≡ true) × (list_all (stands_in columns) fields ≡ true) = and_parts _ _ all in
     elim (is_eq (nat_cmp id field.0)) as (λ b. is_eq (nat_cmp id field.0) ≡ b → values_fit column (unwrap_or (cond b (Some field.1) (find_entry nat_cmp id fields)) []) ≡ true) [
       | true ↦ λ e. let same : id ≡ field.0 = tied id field.0 e in
           let its : column_of_id columns field.0 ≡ Some column = rw (← same) found in

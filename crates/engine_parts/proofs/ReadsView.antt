@@ -4,12 +4,12 @@ use Rattle.std.specs.Prelude.{ℤ, ◌==◌, bytes_eq, IfSome, IsTrue, is_some}
 use Rattle.std.specs.List.{AllByRecursion}
 use Rattle.column_set.specs.RecordValues.{RecordFields, record_fits, record_size}
 use Rattle.common_lemmas.proofs.Found.{of_found}
+use Rattle.common_lemmas.proofs.Booleans.{impossible}
 use Rattle.database_state.specs.State.{DatabaseState, PastChange, transaction_of}
 use Rattle.database_state.specs.Table.{Table, index_entries, record_in, row_at, rows_of, schema_of, table_named, table_with_id}
 use Rattle.database_state.specs.View.{view}
 use Rattle.index_derive.specs.declared.rules.Schema.{Schema}
 use Rattle.record_changes.specs.Records.{Records, records_of}
-use Rattle.record_changes.proofs.Tests.{impossible}
 use Rattle.version_history.specs.History.{IsHistory, without_rows}
 use Rattle.version_sums.specs.EscrowSums.{with_sums}
 use Rattle.version_keys.specs.KeySums.{SeesNoSum}

@@ -16,7 +16,6 @@ use Rattle.cursor_nav.specs.Places.{is_on, place_bookmark}
 use Rattle.database_state.specs.Refusals.{first_refusal}
 use Rattle.database_state.specs.Table.{row_at}
 use Rattle.database_state.specs.State.{DatabaseState}
-use Rattle.record_changes.proofs.Tests.{and_left, and_right, impossible}
 use Rattle.session_local.specs.declared.decision.Decision.{Decision}
 use Rattle.session_local.specs.declared.request.Request.TheVariants as call
 use Rattle.session_local.specs.Answer.{answered_by}
@@ -40,6 +39,7 @@ use Rattle.engine_parts.specs.Retrieving.{AreReadable, IsColumnOf, IsRecordAt, p
 use Rattle.engine_parts.proofs.Views.{is_none-map}
 use Rattle.engine_parts.proofs.CursorCallsShown.{ReadsRecords}
 use Rattle.common_lemmas.proofs.Found.{all_found}
+use Rattle.common_lemmas.proofs.Booleans.{and_left, and_right, impossible}
 use Rattle.engine_parts.proofs.Found.{by_number}
 use Rattle.engine_parts.proofs.Refusing.{refused_with, answer-is, answer-refused}
 use Rattle.engine_parts.proofs.Retrieving.{readable}

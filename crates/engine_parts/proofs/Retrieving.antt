@@ -6,6 +6,9 @@ use Rattle.std.proofs.lemmas.Bool.Decides.{nat_tests}
 use Rattle.std.proofs.lemmas.Option.{slice_get-get_or, slice_get_past}
 use Rattle.std.proofs.lemmas.List.{length-take}
 use Rattle.std.proofs.lemmas.Bool.{leb-true}
+use Rattle.common_lemmas.proofs.Booleans.{and_left, and_right, impossible}
+use Rattle.common_lemmas.proofs.Lists.{all_at}
+use Rattle.common_lemmas.proofs.Numbers.{same_bytes}
 use Rattle.jet_base.specs.declared.words.ColType.{ColType}
 use Rattle.jet_base.specs.declared.words.ColType.TheVariants as kind
 use Rattle.jet_base.specs.ColumnType.{is_number_type}
@@ -13,14 +16,13 @@ use Rattle.column_set.specs.declared.columns.Column.{Column}
 use Rattle.column_set.specs.RecordValues.{RecordFields, column_named, record_fits, record_size, value_fits, values_of}
 use Rattle.column_set.specs.Reading.{IsFront}
 use Rattle.long_value.specs.Stores.{read_upto}
-use Rattle.record_changes.proofs.Tests.{and_left, and_right, impossible, same_bytes}
 use Rattle.session_local.specs.Outcome.{Asked}
 use Rattle.session_local.specs.RecordCalls.{value_shown}
 use Rattle.session_local.specs.Showing.{IsRead, value_answered}
 use Rattle.session_local.specs.SessionSide.{are_distinct}
 use Rattle.session_local.specs.WellFormed.{number_of_column}
 use Rattle.engine_parts.specs.Retrieving.{AreReadable}
-use Rattle.engine_parts.proofs.Found.{all_at, by_number, values_of-counted, values_of-fit}
+use Rattle.engine_parts.proofs.Found.{by_number, values_of-counted, values_of-fit}
 
 -- ---- the values of a column are readable
 

@@ -1,11 +1,11 @@
 -- The record of a row with sums that are not seen, and the one without them.
 use Rattle.std.proofs.Common.{◌≡◌, ℕ, true, false, cond, List, [], ◌∷◌, refl, sym, ap, ◌∙◌}
 use Rattle.std.specs.Prelude.{ℤ, ◌==◌, filter, map}
+use Rattle.std.proofs.lemmas.Bool.{eqb-true}
 use Rattle.column_set.specs.RecordValues.{RecordFields}
 use Rattle.database_state.specs.Changes.{with_sum}
 use Rattle.index_derive.specs.declared.rules.Schema.{Schema}
 use Rattle.index_derive.specs.Entries.{is_escrow_column}
-use Rattle.record_changes.proofs.Tests.{same_number}
 use Rattle.version_sums.specs.EscrowSums.{amounts_to, with_sums}
 use Rattle.version_sums.proofs.StoredSums.{other_columns, value_without}
 use Rattle.version_sums.proofs.VeryRecords.{sum_holds, sum_rises}
@@ -18,7 +18,7 @@ plain_sums : (schema : Schema) (sums : List (ℕ × ℤ)) → AreAdded schema su
 plain_sums schema [] adds column e = refl
 plain_sums schema (sum ∷ sums) adds column e =
     elim (sum.0 == column) as (λ b. (sum.0 == column) ≡ b → map (λ (one : ℕ × ℤ). one.1) (cond b (sum ∷ filter (λ one. one.0 == column) sums) (filter (λ one. one.0 == column) sums)) ≡ []) [
-      | true ↦ λ f. absurd (never (sym adds.0.0 ∙ ap (is_escrow_column schema) (same_number sum.0 column f) ∙ e))
+      | true ↦ λ f. absurd (never (sym adds.0.0 ∙ ap (is_escrow_column schema) (eqb-true sum.0 column f) ∙ e))
       | false ↦ λ f. plain_sums schema sums adds.1 column e
     ] refl
   where

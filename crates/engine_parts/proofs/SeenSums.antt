@@ -2,6 +2,7 @@
 use Rattle.std.proofs.Common.{◌≡◌, ℕ, zero, suc, Bool, true, false, cond, List, [], ◌∷◌, length, Option, Some, None, slice_get, unwrap_or, refl, sym, ap, ◌∙◌, arith}
 use Rattle.std.specs.Prelude.{ℤ, pos, ◌==◌, ◌-◌}
 use Rattle.std.proofs.lemmas.Bool.Decides.{nat_tests}
+use Rattle.common_lemmas.proofs.Booleans.{impossible}
 use Rattle.jet_base.specs.declared.words.ColType.{ColType}
 use Rattle.jet_base.specs.declared.words.ColType.TheVariants.{Long}
 use Rattle.jet_base.specs.declared.replies.Jet.TheVariants as jet
@@ -10,7 +11,6 @@ use Rattle.column_set.specs.declared.columns.Column.{Column}
 use Rattle.column_set.specs.RecordValues.{RecordFields, values_of}
 use Rattle.database_state.specs.Changes.{escrow_bytes}
 use Rattle.index_derive.specs.declared.rules.Schema.{Schema}
-use Rattle.record_changes.proofs.Tests.{impossible}
 use Rattle.session_local.specs.Answer.{Answered, Number}
 use Rattle.session_local.specs.Outcome.{Asked, Outcome, said}
 use Rattle.session_local.specs.RecordCalls.{column_shown, value_shown}

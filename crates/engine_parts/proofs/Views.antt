@@ -1,6 +1,6 @@
 -- What a view tells of the tables.
 use Rattle.std.proofs.Common.{◌≡◌, ℕ, [], Option, Some, None, option_map, unwrap_or, refl, sym, ap, ◌∙◌}
-use Rattle.std.specs.Prelude.{IsSomeAnd, is_none, is_some}
+use Rattle.std.specs.Prelude.{IsSomeAnd, is_none}
 use Rattle.database_state.specs.Table.{Table, schema_of, table_with_id}
 use Rattle.index_derive.specs.declared.rules.Schema.{Schema}
 use Rattle.version_history.specs.History.{without_rows}
@@ -22,10 +22,6 @@ nothing_there reader store table index e = ap (entries_in index) (seen_at_id rea
     gone : (o : Option Table) → None ≡ option_map without_rows o → option_map (seen_table reader store.held) o ≡ None
     gone None e = refl
     gone (Some t) e = none_is_some (without_rows t) e
-
-pub is_some-map : {X Y : Type 0} (f : X → Y) (o : Option X) → is_some (option_map f o) ≡ is_some o
-is_some-map f None = refl
-is_some-map f (Some x) = refl
 
 pub is_none-map : {X Y : Type 0} (f : X → Y) (o : Option X) → is_none (option_map f o) ≡ is_none o
 is_none-map f None = refl

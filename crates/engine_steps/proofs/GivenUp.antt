@@ -2,7 +2,7 @@
 use Rattle.std.proofs.Common.{◌≡◌, ℕ, zero, suc, ◌+◌, ◌-◌, ◌<◌, ◌≤◌, Bool, true, false, cond, List, [], ◌∷◌, length, Option, Some, None, refl, sym, ap, ◌∙◌, arith}
 use Rattle.std.specs.Prelude.{drop, is_some, nat_lt}
 use Rattle.std.proofs.lemmas.Bool.Decides.{nat_tests}
-use Rattle.record_changes.proofs.Tests.{impossible}
+use Rattle.common_lemmas.proofs.Booleans.{impossible}
 use Rattle.version_store.specs.HeldChanges.{is_kept_status}
 use Rattle.versioned_tables.specs.HeldRecords.{HeldRecord, from_oldest_kept}
 use Rattle.stored_variants.specs.StoredVersions.{next_to_forget}

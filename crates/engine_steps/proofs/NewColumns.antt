@@ -3,12 +3,12 @@ use Rattle.std.proofs.Common.{◌≡◌, ℕ, ◌+◌, ◌<◌, Bool, true, fals
 use Rattle.std.specs.Prelude.{◌==◌, nat_le}
 use Rattle.std.specs.List.{list_all, list_any}
 use Rattle.std.proofs.lemmas.Bool.Decides.{nat_tests}
+use Rattle.common_lemmas.proofs.Booleans.{and_left, and_right}
 use Rattle.jet_base.specs.declared.words.ColType.{ColType}
 use Rattle.column_set.specs.declared.columns.Column.{Column}
 use Rattle.database_state.specs.SchemaChanges.{has_column, has_column_id, is_long_type, is_variable_type, next_column_id}
 use Rattle.database_state.specs.Table.{GreatestColumns, Table}
 use Rattle.lawful_answers.specs.ColumnNumbers.{are_in_range, is_given_number}
-use Rattle.record_changes.proofs.Tests.{and_left, and_right}
 
 -- ---- numbers
 

@@ -2,6 +2,8 @@
 use Rattle.std.proofs.Common.{◌≡◌, ℕ, zero, suc, ◌<◌, ◌≤◌, Bool, true, not, ◌&&◌, ◌||◌, List, [], ◌∷◌, ◌++◌, map, length, Option, Some, None, sym, ap, subst, ◌∙◌, arith}
 use Rattle.std.specs.Prelude.{◌==◌, nat_le, take, count_by}
 use Rattle.std.specs.List.{list_any}
+use Rattle.std.proofs.lemmas.Bool.{eqb-true}
+use Rattle.common_lemmas.proofs.Booleans.{and_left, and_right, impossible}
 use Rattle.jet_base.specs.declared.words.ColType.{ColType}
 use Rattle.column_set.specs.RecordValues.{RecordFields, values_of}
 use Rattle.key_normal.specs.KeyBytes.{in_direction, key_bytes, segment_bytes, value_bytes}
@@ -9,7 +11,6 @@ use Rattle.index_derive.specs.declared.rules.IndexRule.{IndexRule}
 use Rattle.index_derive.specs.declared.rules.Schema.{Schema}
 use Rattle.index_derive.specs.declared.rules.Segment.{Segment}
 use Rattle.index_derive.specs.Entries.{condition_columns, first_or_null, has_double_number, has_ignore_flag, is_escrow_column, is_legal, is_legal_primary, is_legal_tuples, is_multi_column, key_columns, primary_key, type_of_column}
-use Rattle.record_changes.proofs.Tests.{and_left, and_right, impossible, same_number}
 
 -- ---- what is legal
 
@@ -34,7 +35,7 @@ legal_key rule schema legal primary =
     record {
       some = both.0;
       most =
-          same_number rule.key_most 255
+          eqb-true rule.key_most 255
           (and_right (not (list_any (is_multi_column schema) (key_columns rule)) && length rule.conditions == 0 && not (has_ignore_flag rule.flags) && not rule.flags.tuples && not rule.flags.crossproduct) (rule.key_most == 255) is);
     }
 

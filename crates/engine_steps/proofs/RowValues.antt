@@ -3,16 +3,17 @@ use Rattle.std.proofs.Common.{◌≡◌, ℕ, ◌≤◌, Bool, true, false, ◌&
 use Rattle.std.specs.Prelude.{◌==◌, ◌^◌, bytes_eq, nat_le, nat_lt}
 use Rattle.std.specs.List.{list_all}
 use Rattle.std.proofs.lemmas.Bool.Decides.{nat_tests}
-use Rattle.std.proofs.lemmas.Bool.{leb-true}
+use Rattle.std.proofs.lemmas.Bool.{and_from, eqb-true, leb-true}
 use Rattle.jet_base.specs.declared.words.ColType.{ColType}
 use Rattle.jet_base.specs.declared.words.ColType.TheVariants as kind
 use Rattle.column_set.specs.declared.columns.Column.{Column}
 use Rattle.column_set.specs.RecordValues.{RecordFields, column_of_id, value_fits, values_fit}
 use Rattle.database_state.specs.Table.{GreatestColumns}
-use Rattle.record_changes.proofs.Tests.{and_left, and_right, and_both, impossible, same_bytes, same_number}
 use Rattle.long_rows.specs.KeptRows.{are_values}
 use Rattle.session_local.specs.WellFormed.{stands_in}
 use Rattle.common_lemmas.proofs.Found.{all_found, found_passes}
+use Rattle.common_lemmas.proofs.Booleans.{and_left, and_right, impossible}
+use Rattle.common_lemmas.proofs.Numbers.{same_bytes}
 use Rattle.lawful_answers.specs.ColumnNumbers.{are_in_range, is_given_number}
 
 -- ---- numbers that were given
@@ -72,7 +73,7 @@ value_length kind.LongText value fits = fits
 value_lengths : (type : ColType) (values : List (List ℕ)) → list_all (value_fits type) values ≡ true → are_values values ≡ true
 value_lengths type [] fits = refl
 value_lengths type (value ∷ values) fits =
-    and_both (nat_le (length value) 1048576) (are_values values) (value_length type value (and_left (value_fits type value) (list_all (value_fits type) values) fits))
+    and_from (nat_le (length value) 1048576) (are_values values) (value_length type value (and_left (value_fits type value) (list_all (value_fits type) values) fits))
     (value_lengths type values (and_right (value_fits type value) (list_all (value_fits type) values) fits))
 
 field_kept : (greatest : GreatestColumns) (columns : List Column) (field : ℕ × List (List ℕ)) (found : Option Column) → AreNumbered greatest columns → column_of_id columns field.0 ≡ found → fits_found field.1 found ≡ true
@@ -81,7 +82,7 @@ field_kept greatest columns field None are is fits = impossible fits
 field_kept greatest columns field (Some column) are is fits =
     let at : Column → Bool = λ c. c.id.0 == field.0 in
     let given = all_found (is_given_number greatest) at columns column are.given is in
-    let same = same_number column.id.0 field.0 (found_passes at columns column is) in (
+    let same = eqb-true column.id.0 field.0 (found_passes at columns column is) in (
       value_lengths column.kind field.1 (and_right (column.multi || nat_le (length field.1) 1) (list_all (value_fits column.kind) field.1) fits),
       ap (λ (n : ℕ). nat_lt n (2 ^ 16)) (sym same) ∙ given_low greatest column are.range given,
     )
@@ -93,6 +94,6 @@ each_kept greatest columns [] are fits = (refl, refl)
 each_kept greatest columns (field ∷ fields) are fits =
     let one = field_kept greatest columns field (column_of_id columns field.0) are refl (and_left (stands_in columns field) (list_all (stands_in columns) fields) fits) in
     let rest = each_kept greatest columns fields are (and_right (stands_in columns field) (list_all (stands_in columns) fields) fits) in (
-      and_both (are_values field.1) (list_all (λ field. are_values field.1) fields) one.0 rest.0,
-      and_both (nat_lt field.0 (2 ^ 16)) (list_all (λ field. nat_lt field.0 (2 ^ 16)) fields) one.1 rest.1,
+      and_from (are_values field.1) (list_all (λ field. are_values field.1) fields) one.0 rest.0,
+      and_from (nat_lt field.0 (2 ^ 16)) (list_all (λ field. nat_lt field.0 (2 ^ 16)) fields) one.1 rest.1,
     )

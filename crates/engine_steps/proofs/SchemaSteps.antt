@@ -3,7 +3,7 @@ use Rattle.std.proofs.Common.{◌≡◌, ℕ, ◌+◌, ◌<◌, Bool, true, fals
 use Rattle.std.specs.Prelude.{◌==◌, find, is_none, is_some, nat_le, nat_lt, unwrap_or, IfSome, IsSomeAnd}
 use Rattle.std.specs.List.{AllByRecursion, list_any}
 use Rattle.std.proofs.lemmas.Bool.Decides.{nat_tests}
-use Rattle.std.proofs.lemmas.Bool.{not-false}
+use Rattle.std.proofs.lemmas.Bool.{eqb-true, leb-true, not-false}
 use Rattle.jet_base.specs.declared.ids.ColumnId.{ColumnId}
 use Rattle.jet_base.specs.declared.ids.TableId.{TableId}
 use Rattle.jet_base.specs.declared.replies.Jet.TheVariants as jet
@@ -17,12 +17,13 @@ use Rattle.database_state.specs.Table.{Table, primary_first, table_with_id}
 use Rattle.database_state.specs.State.{DatabaseState, levels}
 use Rattle.database_state.specs.SchemaChanges.{greatest_order, has_column, is_in_use, least_free_id, makes_table, new_table, next_column_id, next_index_id, rule_columns, schema_refusal, step_refusals, step_table}
 use Rattle.database_state.specs.Lawful.{is_name}
-use Rattle.record_changes.proofs.Tests.{and_left, and_right, and_second, impossible, same_number}
+use Rattle.record_changes.proofs.Tests.{and_second}
 use Rattle.version_keys.proofs.FreeKeys.{in_any_order}
 use Rattle.version_keys.proofs.IndexNumbers.{all_primary_first, none_of}
 use Rattle.version_keys.proofs.SchemaKeys.{IsNewIndex, at_found, new_index, unrefused}
 use Rattle.common_lemmas.proofs.Found.{found_passes, of_found}
 use Rattle.common_lemmas.proofs.Options.{some_there}
+use Rattle.common_lemmas.proofs.Booleans.{and_left, and_right, impossible}
 use Rattle.built_calls.specs.BuiltTables.{is_unnumbered_column, makes_built}
 use Rattle.built_calls.proofs.BuiltColumns.{kept_is_sum}
 use Rattle.engine_parts.specs.Parts.{tables_of}
@@ -39,7 +40,6 @@ use Rattle.loggable_steps.proofs.SchemaBytes.{schema_spelled}
 use Rattle.version_keys.proofs.BookmarkKeys.{HasOneEntry}
 use Rattle.engine_steps.proofs.NewColumns.{column_is_new, next_is_some}
 use Rattle.engine_steps.specs.Steps.{MayCome, entry_by}
-use Rattle.engine_steps.proofs.Fitting.{at_most}
 use Rattle.engine_steps.proofs.Settled.{IsLawfulStep, lawful_step, none_open}
 
 -- ---- lists
@@ -122,7 +122,7 @@ column_for state asked session table column is fits t found =
     numbers t = (column.id.0 == next_column_id t.greatest column.kind column.tagged) && is_name column.name
 
     number : column.id.0 ≡ next_column_id t.greatest column.kind column.tagged
-    number = same_number column.id.0 (next_column_id t.greatest column.kind column.tagged) (and_left _ _ (subst (λ (o : Option Table). numbers (unwrap_or o (new_table 0 [])) ≡ true) found is.numbers))
+    number = eqb-true column.id.0 (next_column_id t.greatest column.kind column.tagged) (and_left _ _ (subst (λ (o : Option Table). numbers (unwrap_or o (new_table 0 [])) ≡ true) found is.numbers))
 
 -- ---- an index comes
 
@@ -150,7 +150,7 @@ index_for state id rule t refused number short fits =
       };
       legal = new.legal;
       columns = new.columns;
-      short = at_most rule.key_most 255 short;
+      short = leb-true rule.key_most 255 short;
       not_null = refused.1.1.1.1.1.1.1.0;
       not_cut = refused.1.1.1.1.1.1.1.1.0;
     }
@@ -183,7 +183,7 @@ can_make state asked session (step.CreateIndex table rule) is built fits newest 
     has_numbers t = (rule.id.0 == next_index_id t.indexes) && (rule.order == (greatest_order t.indexes + 1)) && is_name rule.name
 
     number : (t : Table) → table_with_id state.tables table.0 ≡ Some t → rule.id.0 ≡ next_index_id t.indexes
-    number t found = same_number rule.id.0 (next_index_id t.indexes) (and_left _ _ (and_left _ _ (subst (λ (o : Option Table). has_numbers (unwrap_or o (new_table 0 [])) ≡ true) found is.numbers)))
+    number t found = eqb-true rule.id.0 (next_index_id t.indexes) (and_left _ _ (and_left _ _ (subst (λ (o : Option Table). has_numbers (unwrap_or o (new_table 0 [])) ≡ true) found is.numbers)))
 can_make state asked session (step.DeleteIndex table index) is built fits newest held =
     some_or (table_with_id state.tables table.0) (λ t. is_some (secondary_rule t index.0) ≡ true) (table_there state session (step.DeleteIndex table index) is.free refl)
     (λ t found. let refused = at_found state session (step.DeleteIndex table index) t is.free found in other_index t index.0 refused.0 refused.1.0)

@@ -2,6 +2,9 @@
 use Rattle.std.proofs.Common.{◌≡◌, ℕ, ◌+◌, ◌<◌, Bool, true, false, not, ◌&&◌, cond, List, [], ◌∷◌, map, Option, Some, None, refl, sym, ap, ◌∙◌, arith}
 use Rattle.std.specs.Prelude.{◌==◌, find, is_none, option_and_then, option_map}
 use Rattle.std.specs.List.{AllByRecursion}
+use Rattle.std.proofs.lemmas.Bool.{eqb-true}
+use Rattle.common_lemmas.proofs.Booleans.{and_left, and_right, impossible}
+use Rattle.common_lemmas.proofs.Numbers.{self_equal}
 use Rattle.index_derive.specs.declared.log.EntryKind.{EntryKind}
 use Rattle.index_derive.specs.declared.log.EntryKind.TheVariants as entry
 use Rattle.index_derive.specs.declared.log.Step.{Step}
@@ -12,7 +15,6 @@ use Rattle.database_state.specs.State.{DatabaseState, LiveSession, PastChange, S
 use Rattle.database_state.specs.SchemaChanges.{schema_refusal}
 use Rattle.database_state.specs.Step.{state_after}
 use Rattle.database_state.specs.Lawful.{has_next_numbers, is_lawful, is_live as is_live_in}
-use Rattle.record_changes.proofs.Tests.{and_left, and_right, impossible, same_number, self_equal}
 use Rattle.version_history.specs.History.{EachTwo, IsOpenIn, IsPlaced, IsPlacedBy, LabelsRise}
 use Rattle.version_history.specs.KeptSteps.{with_next_number}
 use Rattle.version_history.proofs.LawfulEntries.{all_outside}
@@ -62,7 +64,7 @@ none_labelled x (s ∷ sessions) above =
 none_behind : (s : LiveSession) (sessions : List LiveSession) → AllByRecursion (LabelsRise s) sessions → (x : ℕ) → transaction_at x (s ∷ sessions) ≡ None → transaction_at x sessions ≡ None
 none_behind s sessions above x none =
     elim (s.label == x) as (λ b. (s.label == x) ≡ b → option_and_then (λ (s : LiveSession). s.transaction) (cond b (Some s) (find (λ s. s.label == x) sessions)) ≡ None → transaction_at x sessions ≡ None) [
-      | true ↦ λ e f. ap (λ (k : ℕ). transaction_at k sessions) (sym (same_number s.label x e)) ∙ none_labelled s.label sessions above
+      | true ↦ λ e f. ap (λ (k : ℕ). transaction_at k sessions) (sym (eqb-true s.label x e)) ∙ none_labelled s.label sessions above
       | false ↦ λ e f. f
     ] refl none
 
@@ -123,7 +125,7 @@ never_alone : (state : DatabaseState) (session : ℕ) (made : SchemaStep) → is
 never_alone state session made first next =
     let after = state_after state (entry_by session entry.Begin) in
     let live : is_live_in state session ≡ true = and_left (is_live_in state session) (levels state session == 0) (lawful_by_kind state session entry.Begin first) in
-    differ (levels after session) (begun_levels state session live) (same_number (levels after session) 0 (step_outside after session made (lawful_step after session made next).free))
+    differ (levels after session) (begun_levels state session live) (eqb-true (levels after session) 0 (step_outside after session made (lawful_step after session made next).free))
   where
     differ : (n : ℕ) → n ≡ 1 → n ≡ 0 → ⊥
     differ n e f = omega arith

@@ -4,7 +4,7 @@ use Rattle.std.specs.Prelude.{◌==◌, ◌^◌, nat_le, nat_lt, bytes_eq, is_so
 use Rattle.std.specs.Ordering.{nat_cmp}
 use Rattle.std.specs.FinMap.Entries.{is_sorted}
 use Rattle.std.specs.List.{AllByRecursion, list_all}
-use Rattle.std.proofs.lemmas.Bool.{leb-true}
+use Rattle.std.proofs.lemmas.Bool.{eqb-true, leb-true, not-true}
 use Rattle.jet_base.specs.ColumnType.{big_endian}
 use Rattle.column_set.specs.declared.changes.Change.{Change}
 use Rattle.column_set.specs.declared.changes.Change.TheVariants.{Put, Drop, Hold, Add}
@@ -21,10 +21,8 @@ use Rattle.database_state.specs.Conflicts.{has_write_conflict}
 use Rattle.database_state.specs.View.{newest, view}
 use Rattle.database_state.specs.Lawful.{has_free_keys, is_bookmark_of, is_copied_in, is_indexable, is_lawful_at, is_lawful_change, is_lawful_put, keeps_escrow}
 use Rattle.record_changes.specs.Records.{records_of}
-use Rattle.record_changes.proofs.Tests.{and_left, and_right, impossible, not_true, same_bytes, same_number}
 use Rattle.long_rows.specs.KeptRows.{are_values}
 use Rattle.session_local.specs.WellFormed.{stands_in}
-use Rattle.version_history.proofs.Lists.{all_weaker}
 use Rattle.version_history.proofs.Unhindered.{finds_newest}
 use Rattle.version_keys.specs.UniqueKeys.{HasUniqueIndexes, IsSoundIndex, IsUniqueIndex}
 use Rattle.version_keys.proofs.IndexNumbers.{all_primary_first}
@@ -34,6 +32,9 @@ use Rattle.version_records.specs.RecordNumbers.{HoldsNumbers as HoldsNumbersUnde
 use Rattle.version_records.proofs.EntryNumbers.{entry_number-own}
 use Rattle.version_records.proofs.EscrowRecords.{numbers_seen, put_numbers}
 use Rattle.common_lemmas.proofs.Found.{found_passes, of_found}
+use Rattle.common_lemmas.proofs.Booleans.{and_left, and_right, impossible}
+use Rattle.common_lemmas.proofs.Lists.{all_weaker}
+use Rattle.common_lemmas.proofs.Numbers.{same_bytes}
 use Rattle.version_records.proofs.Standing.{bookmarks_seen}
 use Rattle.lawful_answers.specs.ColumnNumbers.{are_in_range, has_own_numbers, is_given_number}
 use Rattle.lawful_answers.proofs.TableTests.{all_found}
@@ -93,7 +94,7 @@ bookmark_own number schema rows bookmark values None legal seen h =
     by true e f = seen refl e
     by false e f =
         ap (λ (l : List ℕ). length l) (same_bytes bookmark (big_endian 8 number) f)
-        ∙ same_number (length (big_endian 8 number)) 8 (and_left (length (big_endian 8 number) == 8) _ (entry_number-own number))
+        ∙ eqb-true (length (big_endian 8 number)) 8 (and_left (length (big_endian 8 number) == 8) _ (entry_number-own number))
 bookmark_own number schema rows bookmark values (Some rule) legal seen h =
     let is : bookmark ≡ primary_key rule schema values = same_bytes bookmark (primary_key rule schema values) h in
     record {
@@ -115,7 +116,7 @@ seen_eight engine state h session id table found bookmark none there = by (recor
     by : (o : Option RecordFields) → is_some o ≡ true → IfSome o (λ values. is_bookmark state.number (schema_of table) (primary_rule (schema_of table)) bookmark values ≡ true) → length bookmark ≡ 8
     by None e s = impossible e
     by (Some values) e s =
-        same_number (length bookmark) 8 (and_left (length bookmark == 8) _ (ap (λ (o : Option IndexRule). is_bookmark state.number (schema_of table) o bookmark values) (sym none) ∙ s))
+        eqb-true (length bookmark) 8 (and_left (length bookmark == 8) _ (ap (λ (o : Option IndexRule). is_bookmark state.number (schema_of table) o bookmark values) (sym none) ∙ s))
 
 -- ---- a put
 
@@ -160,7 +161,7 @@ put_storable : (engine : EngineState) (state : DatabaseState) → HoldsState eng
     → is_lawful_put state session table (rows_of (table_with_id (view state session) table.id)) bookmark copied values ≡ true → IsStorableIn (schema_of table) bookmark values
 put_storable engine state h session id table bookmark copied values found is lawful =
     let rows : Rows = rows_of (table_with_id (view state session) table.id) in
-    let same : table.id ≡ id = same_number table.id id (found_passes (λ (t : Table). t.id == id) state.tables table found) in
+    let same : table.id ≡ id = eqb-true table.id id (found_passes (λ (t : Table). t.id == id) state.tables table found) in
     let free = has_free_keys state session table.id (schema_of table) rows bookmark values in
     let own = is_bookmark_of (state.number + 1) (schema_of table) rows (primary_rule (schema_of table)) bookmark values in
     let escrow = keeps_escrow table.columns (row_at rows bookmark) values in
@@ -270,11 +271,11 @@ change_can laws engine state h session (Put table bookmark copied values) lawful
     put_can laws engine state h session table.0 may.table bookmark copied values may.found is may.is
 change_can laws engine state h session (Drop table bookmark) lawful is =
     let may = allowed state session table.0 (Drop table bookmark) (and_right _ _ lawful) in
-    let same : may.table.id ≡ table.0 = same_number may.table.id table.0 (found_passes (λ (t : Table). t.id == table.0) state.tables may.table may.found) in
+    let same : may.table.id ≡ table.0 = eqb-true may.table.id table.0 (found_passes (λ (t : Table). t.id == table.0) state.tables may.table may.found) in
     let inside = nat_lt 0 (levels state session) in
     let free = not (has_write_conflict state session (Drop table bookmark)) in
     let both : (inside && free) ≡ true = and_left (inside && free) _ lawful in
-    drop_can laws engine state h session table.0 bookmark (Drop table bookmark) refl (and_left inside free both) (not_true _ (and_right inside free both))
+    drop_can laws engine state h session table.0 bookmark (Drop table bookmark) refl (and_left inside free both) (not-true _ (and_right inside free both))
     (ap (λ (n : ℕ). is_some (record_in (view state session) n bookmark)) (sym same) ∙ may.is)
 change_can laws engine state h session (Hold table bookmark) lawful is =
     let may = allowed state session table.0 (Hold table bookmark) (and_right _ _ lawful) in

@@ -3,6 +3,8 @@ use Rattle.std.proofs.Common.{◌≡◌, ℕ, ◌+◌, ◌-◌, ◌<◌, Bool, t
 use Rattle.std.specs.Prelude.{◌==◌, find, option_and_then, option_map}
 use Rattle.std.specs.List.{AllByRecursion}
 use Rattle.std.proofs.lemmas.Bool.Decides.{nat_tests}
+use Rattle.std.proofs.lemmas.Bool.{eqb-true}
+use Rattle.common_lemmas.proofs.Booleans.{and_right}
 use Rattle.index_derive.specs.declared.log.Entry.{Entry}
 use Rattle.index_derive.specs.declared.log.EntryKind.{EntryKind}
 use Rattle.index_derive.specs.declared.log.EntryKind.TheVariants as entry
@@ -11,7 +13,6 @@ use Rattle.index_derive.specs.declared.log.Step.TheVariants.{Alone}
 use Rattle.database_state.specs.State.{DatabaseState, LiveSession, levels}
 use Rattle.database_state.specs.Step.{state_after}
 use Rattle.database_state.specs.Lawful.{is_lawful, is_live as is_live_in}
-use Rattle.record_changes.proofs.Tests.{and_right, same_number}
 use Rattle.session_local.specs.Local.{LocalState}
 use Rattle.version_history.specs.History.{EachTwo, LabelsRise}
 use Rattle.version_history.proofs.LawfulEntries.{outside}
@@ -60,7 +61,7 @@ taken_back label number (s ∷ sessions) rise none =
     → with_session label ended (with_session label (began number) (live_state s ∷ map live_state sessions)) ≡ live_state s ∷ map live_state sessions) [
       | true ↦ λ e f.
           let head = own_back label number (live_state s) e (ap (option_map without_snapshot) f) in
-          let rest = twice_untouched label number sessions (subst (λ (k : ℕ). AllByRecursion (λ (x : LiveSession). k < x.label) sessions) (same_number s.label label e) rise.0) in
+          let rest = twice_untouched label number sessions (subst (λ (k : ℕ). AllByRecursion (λ (x : LiveSession). k < x.label) sessions) (eqb-true s.label label e) rise.0) in
           λ i. head i ∷ rest i
       | false ↦ λ e f.
           let head = other_back label number (live_state s) e in

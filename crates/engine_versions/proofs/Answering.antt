@@ -1,6 +1,7 @@
 -- Answers: their steps are lawful, and the sessions stay in step.
 use Rattle.std.proofs.Common.{◌≡◌, ℕ, true, false, Option, Some, None, refl, sym}
 use Rattle.std.specs.List.{AllByRecursion}
+use Rattle.common_lemmas.proofs.Booleans.{and_left, impossible}
 use Rattle.jet_base.specs.declared.words.Prepare.TheVariants as prepare
 use Rattle.index_derive.specs.declared.log.Step.{Step}
 use Rattle.index_derive.specs.Steps.{entries_of_step}
@@ -8,7 +9,6 @@ use Rattle.database_state.specs.Lawful.{is_name}
 use Rattle.database_state.specs.State.{DatabaseState}
 use Rattle.database_state.specs.Step.{state_after_all}
 use Rattle.derived_index.proofs.Adding.{KeysRise}
-use Rattle.record_changes.proofs.Tests.{and_left, impossible}
 use Rattle.version_keys.proofs.BookmarkKeys.{HasOneEntry}
 use Rattle.version_records.proofs.StoredSums.{stored_seen_with_sums}
 use Rattle.session_local.specs.declared.request.Request.{Request}

@@ -2,11 +2,12 @@
 use Rattle.std.proofs.Common.{◌≡◌, ℕ, ◌+◌, ◌^◌, ◌≤◌, Bool, true, false, not, ◌&&◌, ◌||◌, List, [], map, Option, Some, None, refl, sym, ap, subst, arith}
 use Rattle.std.specs.Prelude.{IfSome}
 use Rattle.std.specs.List.{AllByRecursion, list_all}
+use Rattle.common_lemmas.proofs.Booleans.{and_left, and_right}
+use Rattle.common_lemmas.proofs.Lists.{all_stronger}
 use Rattle.database_state.specs.Table.{Table, row_at, schema_of, table_with_id}
 use Rattle.database_state.specs.SchemaChanges.{is_type_long}
 use Rattle.database_state.specs.State.{DatabaseState, empty_state}
 use Rattle.record_changes.specs.Records.{records_of}
-use Rattle.record_changes.proofs.Tests.{and_left, and_right}
 use Rattle.version_history.specs.History.{EachTwo, LabelsRise}
 use Rattle.version_keys.specs.KeySums.{IsPlainIndex}
 use Rattle.version_keys.specs.TableOrder.{HasTablesInOrder}
@@ -19,7 +20,6 @@ use Rattle.version_cleanup.specs.LiveSessions.{live_state}
 use Rattle.versioned_tables.proofs.Alone.{alone_holds}
 use Rattle.versioned_tables.proofs.TablesInOrder.{in_order_rise}
 use Rattle.lawful_answers.specs.ColumnNumbers.{have_own_numbers}
-use Rattle.lawful_answers.proofs.ColumnNumbers.{all_mono}
 use Rattle.lawful_answers.proofs.ReachedStates.{begins}
 use Rattle.lawful_answers.proofs.TableTests.{all_found}
 use Rattle.built_calls.specs.BuiltTables.{are_built, is_built_column, is_built_rule, is_built_table}
@@ -38,7 +38,7 @@ built_single state built id = by (table_with_id state.tables id) (all_found is_b
     by : (o : Option Table) → IfSome o (λ table. is_built_table table ≡ true) → IfSome o HasSingleSums
     by None h = tt
     by (Some table) h =
-        all_mono is_built_column (λ c. not c.escrow || not c.multi) (λ c b. single c.escrow (is_type_long c.kind) (not c.multi) _ (its_sum c b)) table.columns
+        all_stronger is_built_column (λ c. not c.escrow || not c.multi) (λ c b. single c.escrow (is_type_long c.kind) (not c.multi) _ (its_sum c b)) table.columns
         (and_left (list_all is_built_column table.columns) (list_all is_built_rule table.indexes) h)
 
 pub tables_hold : (limit newest : ℕ) (state : DatabaseState) → newest ≤ state.number → state.sessions ≡ [] → state.past ≡ [] → HasTablesInOrder state → ((id : ℕ) → IfSome (table_with_id state.tables id) IsUniqueTable)

@@ -2,9 +2,9 @@
 use Rattle.std.proofs.Common.{◌≡◌, ℕ, Bool, true, false, ◌&&◌, cond, List, [], ◌∷◌, map, Option, Some, None, refl, ap, ◌∙◌}
 use Rattle.std.specs.Prelude.{◌==◌, is_none}
 use Rattle.std.specs.List.{AllByRecursion}
+use Rattle.common_lemmas.proofs.Booleans.{impossible}
 use Rattle.database_state.specs.Table.{Rows, Table}
 use Rattle.database_state.specs.State.{DatabaseState, PastChange, Status, Transaction, uncommitted, committed, undone, transaction_of}
-use Rattle.record_changes.proofs.Tests.{impossible}
 use Rattle.version_history.specs.History.{IsOpenIn, IsPlaced, IsPlacedBy}
 use Rattle.version_cleanup.specs.Cleaning.{reader_in}
 use Rattle.version_store.specs.declared.calls.Reader.{Reader}

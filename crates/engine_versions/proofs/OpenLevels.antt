@@ -2,9 +2,10 @@
 use Rattle.std.proofs.Common.{◌≡◌, ℕ, ◌≤◌, true, List, [], ◌∷◌, Option, Some, None, sym, ap, subst, ◌∙◌, arith}
 use Rattle.std.specs.Prelude.{◌==◌}
 use Rattle.std.specs.List.{AllByRecursion}
+use Rattle.std.proofs.lemmas.Bool.{eqb-true}
+use Rattle.common_lemmas.proofs.Booleans.{and_left, and_right, impossible}
 use Rattle.database_state.specs.Table.{Table}
 use Rattle.database_state.specs.State.{DatabaseState, PastChange, Status, Transaction, uncommitted, committed, undone, is_open, is_open_change_of, levels, levels_of, transaction_of}
-use Rattle.record_changes.proofs.Tests.{and_left, and_right, impossible, same_number}
 use Rattle.version_cleanup.specs.LiveSessions.{LiveState, levels_in}
 use Rattle.version_history.specs.History.{EachTwo, IsOpenIn, IsPlaced, IsPlacedBy, LevelsRise}
 use Rattle.versioned_tables.specs.HeldRecords.{HeldRecord, is_open_of}
@@ -23,7 +24,7 @@ own_open : (item : PastChange) (h : HeldRecord) → Matches item h → (session 
 own_open item h m session e = sym (same_open item h m session) ∙ e
 
 own_session : (session : ℕ) (item : PastChange) → is_open_change_of session item ≡ true → item.session ≡ session
-own_session session item e = same_number item.session session (and_right (is_open item.status) (item.session == session) e)
+own_session session item e = eqb-true item.session session (and_right (is_open item.status) (item.session == session) e)
 
 one_rises : (session : ℕ) (item next : PastChange) (x y : HeldRecord) → Matches item x → Matches next y → LevelsRise item next → RisesTo session x y
 one_rises session item next x y m n rise e f =

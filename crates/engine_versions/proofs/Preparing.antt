@@ -2,7 +2,7 @@
 use Rattle.std.proofs.Common.{◌≡◌, ℕ, ◌≤◌, Bool, true, false, not, ◌&&◌, ◌||◌, cond, List, [], ◌∷◌, ◌++◌, map, Option, Some, None, refl, sym, ap, subst, ◌∙◌}
 use Rattle.std.specs.Prelude.{◌==◌, bytes_eq, find, is_none, nat_le, unwrap_or, IfSome}
 use Rattle.std.specs.List.{AllByRecursion, list_all}
-use Rattle.std.proofs.lemmas.Bool.{leb-true}
+use Rattle.std.proofs.lemmas.Bool.{and_from, leb-true}
 use Rattle.jet_base.specs.declared.ids.CursorId.{CursorId}
 use Rattle.jet_base.specs.declared.replies.Jet.{Jet}
 use Rattle.jet_base.specs.declared.words.Given.{Given}
@@ -17,7 +17,6 @@ use Rattle.database_state.specs.Refusals.{Refusals, first_refusal}
 use Rattle.database_state.specs.State.{DatabaseState}
 use Rattle.database_state.specs.View.{view}
 use Rattle.record_changes.specs.Records.{records_of}
-use Rattle.record_changes.proofs.Tests.{and_left, and_right, and_both, impossible, self_equal}
 use Rattle.version_sums.specs.EscrowNumbers.{ColumnsRise}
 use Rattle.version_records.specs.StoredRecords.{IsStored}
 use Rattle.version_records.specs.RecordNumbers.{HoldsNumbers}
@@ -25,6 +24,9 @@ use Rattle.version_records.proofs.EscrowRecords.{numbers_seen}
 use Rattle.version_records.proofs.StoredSums.{IsStoredWithNumbers, stored_seen_with_sums}
 use Rattle.version_keys.proofs.SchemaKeys.{unrefused}
 use Rattle.common_lemmas.proofs.Found.{of_found}
+use Rattle.common_lemmas.proofs.Booleans.{and_left, and_right, impossible}
+use Rattle.common_lemmas.proofs.Lists.{all_stronger}
+use Rattle.common_lemmas.proofs.Numbers.{self_equal}
 use Rattle.session_local.specs.declared.request.Request.{Request}
 use Rattle.session_local.specs.declared.request.Request.TheVariants as call
 use Rattle.session_local.specs.Agreement.{IsStorable, MayReplace, replaced_in}
@@ -37,7 +39,6 @@ use Rattle.session_local.specs.SessionSide.{are_distinct}
 use Rattle.session_local.specs.WellFormed.{IsWellFormed, is_well_formed_cursor, is_well_formed_record, is_well_formed_schema, number_of_column, stands_in}
 use Rattle.lawful_answers.specs.ColumnNumbers.{are_in_range, has_own_numbers, is_given_number}
 use Rattle.lawful_answers.proofs.ChangeSteps.{IsAtTable, at_its_table}
-use Rattle.lawful_answers.proofs.ColumnNumbers.{all_mono}
 use Rattle.lawful_answers.specs.EntryTypes.{HasRisingColumns}
 use Rattle.lawful_answers.proofs.Replies.{begun_each}
 use Rattle.lawful_answers.proofs.TableTests.{all_found}
@@ -75,7 +76,7 @@ storable_formed : (state : DatabaseState) (session : ℕ) (c : OpenCursor) (p : 
     → list_all (λ d. not d.escrow || has_value p.values d.id.0) c.schema.columns ≡ true → keeps_escrow c.schema.columns (replaced_in state session c p.for) p.values ≡ true → IsStorable state session c (Some p)
 storable_formed state session c p built formed may there keeps = (
   leb-true (record_size p.values) 1700 (and_right (list_all (stands_in c.schema.columns) p.values) (nat_le (record_size p.values) 1700) formed),
-  and_both (list_all (stands_in c.schema.columns) p.values) (list_all (λ column. not (is_kept_column column) || has_value p.values column.id.0) c.schema.columns)
+  and_from (list_all (stands_in c.schema.columns) p.values) (list_all (λ column. not (is_kept_column column) || has_value p.values column.id.0) c.schema.columns)
       (and_left (list_all (stands_in c.schema.columns) p.values) (nat_le (record_size p.values) 1700) formed)
       (all_kept p.values c.schema.columns built there),
   keeps,
@@ -204,7 +205,7 @@ copy_storable engine state session local h c at (Some values) e there = (fit.0, 
     with_zeros : IsStoredWithNumbers state.number (schema_of at.table) (bookmark_at c) (with_sums_at_zero (schema_of at.table).columns values)
     with_zeros =
         zeros_stored state.number (schema_of at.table) (bookmark_at c) values
-        (all_mono is_built_column is_built_sum its_sum at.table.columns (subst (λ (schema : Schema). list_all is_built_column schema.columns ≡ true) at.schema (columns_built engine state session local h c at)))
+        (all_stronger is_built_column is_built_sum its_sum at.table.columns (subst (λ (schema : Schema). list_all is_built_column schema.columns ≡ true) at.schema (columns_built engine state session local h c at)))
         (subst (λ (schema : Schema). are_distinct (map number_of_column schema.columns) ≡ true) at.schema (columns_distinct engine state session local h c at)) (
           seen IsStored (stored_seen_with_sums h.base h.dropped h.kept state h.reached.history h.reached.numbers h.stored session c.cursor.table),
           seen HoldsNumbers (numbers_seen h.base h.dropped h.kept state h.reached.history h.reached.numbers session c.cursor.table),

@@ -2,6 +2,8 @@
 use Rattle.std.proofs.Common.{◌≡◌, ℕ, Bool, true, false, cond, List, [], ◌∷◌, ◌++◌, length, Option, Some, None, refl, sym, not}
 use Rattle.std.specs.Prelude.{◌==◌, is_some, nat_le, nat_lt, ℤ}
 use Rattle.std.specs.List.{AllByRecursion}
+use Rattle.common_lemmas.proofs.Booleans.{and_right, impossible}
+use Rattle.common_lemmas.proofs.Lists.{all_weaker}
 use Rattle.jet_base.specs.declared.replies.Jet.TheVariants as jet
 use Rattle.jet_base.specs.declared.words.Prepare.TheVariants as prepare
 use Rattle.column_set.specs.declared.changes.Change.{Change}
@@ -19,8 +21,6 @@ use Rattle.database_state.specs.SchemaSteps.{column_step, deleted_column_step, d
 use Rattle.database_state.specs.State.{levels}
 use Rattle.database_state.specs.Table.{Table, table_named}
 use Rattle.database_state.specs.Puts.{put_refusals}
-use Rattle.record_changes.proofs.Tests.{and_right, impossible}
-use Rattle.version_history.proofs.Lists.{all_weaker}
 use Rattle.session_local.specs.declared.request.Request.{Request}
 use Rattle.session_local.specs.declared.request.Request.TheVariants as call
 use Rattle.session_local.specs.Calls.{answer, prepare_update}

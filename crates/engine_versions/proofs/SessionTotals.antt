@@ -4,11 +4,12 @@ use Rattle.std.specs.Prelude.{◌==◌, nat_le, nat_lt, is_some, option_and_then
 use Rattle.std.specs.List.{AllByRecursion, list_any, sum_by}
 use Rattle.std.proofs.lemmas.Bool.Decides.{nat_tests}
 use Rattle.std.proofs.lemmas.List.Sums.{sum_by-cons}
+use Rattle.common_lemmas.proofs.Lists.{all_each}
+use Rattle.common_lemmas.proofs.Booleans.{impossible}
 use Rattle.database_state.specs.State.{DatabaseState, LiveSession, levels}
 use Rattle.database_state.specs.Step.{with_one, without_one}
-use Rattle.record_changes.proofs.Tests.{impossible}
 use Rattle.version_history.specs.History.{EachTwo, LabelsRise}
-use Rattle.version_history.proofs.Lists.{each_map, all_true}
+use Rattle.version_history.proofs.Lists.{each_map}
 use Rattle.version_cleanup.specs.LiveSessions.{LiveState, insert_session, left, levels_in, levels_of, live_state, session_in, with_session}
 use Rattle.engine_versions.specs.EngineState.{EngineState}
 use Rattle.engine_versions.specs.HoldsState.{HoldsState}
@@ -193,4 +194,4 @@ levels_there engine state session h e = subst (λ (n : ℕ). 1 ≤ n) (sym (leve
 
 pub rise_told : (engine : EngineState) (state : DatabaseState) → HoldsState engine state → EachTwo RisesTo engine.sessions
 rise_told engine state h =
-    subst (EachTwo RisesTo) h.sessions (each_map (λ (s : LiveSession). Unit {0}) LabelsRise RisesTo live_state (λ x y p q lt. lt) state.sessions (all_true (λ (s : LiveSession). Unit {0}) (λ s. tt) state.sessions) h.labels)
+    subst (EachTwo RisesTo) h.sessions (each_map (λ (s : LiveSession). Unit {0}) LabelsRise RisesTo live_state (λ x y p q lt. lt) state.sessions (all_each (λ (s : LiveSession). Unit {0}) (λ s. tt) state.sessions) h.labels)

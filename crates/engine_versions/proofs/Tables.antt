@@ -3,7 +3,9 @@ use Rattle.std.proofs.Common.{◌≡◌, ℕ, ◌+◌, Bool, true, false, not, �
 use Rattle.std.specs.Prelude.{◌==◌, is_none, nat_le, unwrap_or, IfSome}
 use Rattle.std.specs.List.{list_all}
 use Rattle.std.proofs.lemmas.Bool.Decides.{nat_tests}
-use Rattle.common_lemmas.proofs.Lists.{all_last}
+use Rattle.std.proofs.lemmas.Bool.{and_from, eqb-true}
+use Rattle.common_lemmas.proofs.Lists.{all_filtered, all_last}
+use Rattle.common_lemmas.proofs.Booleans.{and_left, and_right, impossible}
 use Rattle.jet_base.specs.declared.words.ColType.{ColType}
 use Rattle.jet_base.specs.declared.words.ColType.TheVariants as kind
 use Rattle.index_derive.specs.declared.log.Entry.{Entry}
@@ -17,12 +19,11 @@ use Rattle.database_state.specs.SchemaChanges.{has_column_id, is_type_long, new_
 use Rattle.database_state.specs.State.{DatabaseState}
 use Rattle.database_state.specs.Step.{applied, state_after}
 use Rattle.database_state.proofs.Columns.{list_all-columns_with}
-use Rattle.record_changes.proofs.Tests.{and_left, and_right, and_both, impossible, same_number}
 use Rattle.version_history.specs.History.{EachTwo}
 use Rattle.version_history.specs.KeptSteps.{with_next_number}
 use Rattle.version_keys.specs.TableOrder.{IdsRise}
 use Rattle.version_keys.proofs.SchemaKeys.{at_found, at_table, with_last, without_table}
-use Rattle.lawful_answers.proofs.TableTests.{all_filtered, all_found, all_listed, definitions_stay, is_schema_entry, tested_alike}
+use Rattle.lawful_answers.proofs.TableTests.{all_found, all_listed, definitions_stay, is_schema_entry, tested_alike}
 use Rattle.built_calls.specs.BuiltTables.{are_built, is_unnumbered_column, is_built_column, is_built_rule, is_built_sum, is_built_table, makes_built}
 
 -- ---- schema steps
@@ -40,7 +41,7 @@ above n = grind (arith, nat_tests)
 new_sum : (escrow tagged multi : Bool) (type : ColType) (greatest : GreatestColumns) (id : ℕ) → id ≡ next_column_id greatest type tagged → (escrow && (not (is_type_long type) || tagged || multi)) ≡ false
     → has_column_id type tagged (next_column_id greatest type tagged) ≡ true → (not escrow || (is_type_long type && (not multi && (nat_le 1 id && nat_le id 127)))) ≡ true
 new_sum false tagged multi type greatest id next right has = refl
-new_sum true false false kind.Long greatest id next right has = subst (λ (n : ℕ). (nat_le 1 n && nat_le n 127) ≡ true) (sym next) (and_both (nat_le 1 (greatest.fixed + 1)) (nat_le (greatest.fixed + 1) 127) (above greatest.fixed) has)
+new_sum true false false kind.Long greatest id next right has = subst (λ (n : ℕ). (nat_le 1 n && nat_le n 127) ≡ true) (sym next) (and_from (nat_le 1 (greatest.fixed + 1)) (nat_le (greatest.fixed + 1) 127) (above greatest.fixed) has)
 new_sum true true multi kind.Long greatest id next right has = impossible (sym right)
 new_sum true false true kind.Long greatest id next right has = impossible (sym right)
 new_sum true tagged multi _ greatest id next right has = impossible (sym right)
@@ -51,7 +52,7 @@ step_built state label (step.CreateTable table name) free next e h id = with_las
 step_built state label (step.DeleteTable table) free next e h id = without_table Built table.0 state.tables id (h id)
 step_built state label (step.AddColumn table column) free next e h id =
     at_table Built table.0 (with_column column) (λ t. refl) state.tables
-    (λ t found b. and_both (list_all is_built_column (with_column column t).columns) (list_all is_built_rule t.indexes) (list_all-columns_with is_built_column column t.columns (built-parts t b).0 (and_both (is_unnumbered_column column) (is_built_sum column) e (its_sum t found))) (built-parts t b).1) h id
+    (λ t found b. and_from (list_all is_built_column (with_column column t).columns) (list_all is_built_rule t.indexes) (list_all-columns_with is_built_column column t.columns (built-parts t b).0 (and_from (is_unnumbered_column column) (is_built_sum column) e (its_sum t found))) (built-parts t b).1) h id
   where
     denied : (b : Bool) → not b ≡ false → b ≡ true
     denied true f = refl
@@ -59,7 +60,7 @@ step_built state label (step.AddColumn table column) free next e h id =
 
     number : (t : Table) → table_with_id state.tables table.0 ≡ Some t → column.id.0 ≡ next_column_id t.greatest column.kind column.tagged
     number t found =
-        same_number column.id.0 (next_column_id t.greatest column.kind column.tagged)
+        eqb-true column.id.0 (next_column_id t.greatest column.kind column.tagged)
         (ap (λ (o : Option Table). column.id.0 == next_column_id (unwrap_or o (new_table 0 [])).greatest column.kind column.tagged) (sym found)
         ∙ and_left (column.id.0 == next_column_id (unwrap_or (table_with_id state.tables table.0) (new_table 0 [])).greatest column.kind column.tagged) (is_name column.name) next)
 
@@ -69,13 +70,13 @@ step_built state label (step.AddColumn table column) free next e h id =
         new_sum column.escrow column.tagged column.multi column.kind t.greatest column.id.0 (number t found) refused.1.1.0 (denied (has_column_id column.kind column.tagged (next_column_id t.greatest column.kind column.tagged)) refused.1.1.1.1.0)
 step_built state label (step.DeleteColumn table column) free next e h id =
     at_table Built table.0 (without_column column.0) (λ t. refl) state.tables
-    (λ t found b. and_both (list_all is_built_column (without_column column.0 t).columns) (list_all is_built_rule t.indexes) (all_filtered is_built_column (λ c. not (c.id.0 == column.0)) t.columns (built-parts t b).0) (built-parts t b).1) h id
+    (λ t found b. and_from (list_all is_built_column (without_column column.0 t).columns) (list_all is_built_rule t.indexes) (all_filtered is_built_column (λ c. not (c.id.0 == column.0)) t.columns (built-parts t b).0) (built-parts t b).1) h id
 step_built state label (step.CreateIndex table rule) free next e h id =
     at_table Built table.0 (with_index rule) (λ t. refl) state.tables
-    (λ t found b. and_both (list_all is_built_column t.columns) (list_all is_built_rule (with_index rule t).indexes) (built-parts t b).0 (all_last is_built_rule t.indexes rule (built-parts t b).1 e)) h id
+    (λ t found b. and_from (list_all is_built_column t.columns) (list_all is_built_rule (with_index rule t).indexes) (built-parts t b).0 (all_last is_built_rule t.indexes rule (built-parts t b).1 e)) h id
 step_built state label (step.DeleteIndex table index) free next e h id =
     at_table Built table.0 (without_index index.0) (λ t. refl) state.tables
-    (λ t found b. and_both (list_all is_built_column t.columns) (list_all is_built_rule (without_index index.0 t).indexes) (built-parts t b).0 (all_filtered is_built_rule (λ made. not (made.id.0 == index.0)) t.indexes (built-parts t b).1)) h id
+    (λ t found b. and_from (list_all is_built_column t.columns) (list_all is_built_rule (without_index index.0 t).indexes) (built-parts t b).0 (all_filtered is_built_rule (λ made. not (made.id.0 == index.0)) t.indexes (built-parts t b).1)) h id
 
 -- ---- any entry
 

@@ -2,13 +2,14 @@
 use Rattle.std.proofs.Common.{◌≡◌, ℕ, Bool, true, false, not, ◌&&◌, ◌||◌, cond, List, [], ◌∷◌, Option, Some, None, refl, sym, ap, subst, ◌∙◌}
 use Rattle.std.specs.Prelude.{option_map, ℤ, ◌==◌, filter, find, fold, is_none, is_some, option_and_then, IfSome}
 use Rattle.std.specs.List.{AllByRecursion, list_any}
+use Rattle.std.proofs.lemmas.Bool.{eqb-true}
+use Rattle.common_lemmas.proofs.Booleans.{impossible}
 use Rattle.column_set.specs.RecordValues.{RecordFields}
 use Rattle.database_state.specs.Table.{Table, record_in, schema_of, table_with_id}
 use Rattle.database_state.specs.State.{DatabaseState, LiveSession, PastChange, Status, Transaction, uncommitted, committed, undone, levels, transaction_of}
 use Rattle.database_state.specs.View.{view}
 use Rattle.database_state.specs.Conflicts.{has_key_conflict as has_key_conflict_in}
 use Rattle.record_changes.specs.Records.{Records, after_item, records_after_items, records_of}
-use Rattle.record_changes.proofs.Tests.{impossible, same_number}
 use Rattle.version_history.specs.History.{IsOpenIn, IsPlaced, IsPlacedBy}
 use Rattle.version_history.specs.Readers.{is_standing, was_committed, was_committed_status}
 use Rattle.version_history.proofs.LawfulEntries.{outside}
@@ -79,13 +80,13 @@ none_elsewhere label (s ∷ sessions) h x e =
 
     by : (b : Bool) → (s.label == x) ≡ b → option_and_then (λ (s : LiveSession). s.transaction) (find (λ s. s.label == x) sessions) ≡ None → (not (s.label == label) && is_some s.transaction) ≡ false
         → option_and_then (λ (s : LiveSession). s.transaction) (cond b (Some s) (find (λ s. s.label == x) sessions)) ≡ None
-    by true f rest k = none_of s.transaction (apart (s.label == label) refl (ap (λ (n : ℕ). n == label) (same_number s.label x f) ∙ e) k)
+    by true f rest k = none_of s.transaction (apart (s.label == label) refl (ap (λ (n : ℕ). n == label) (eqb-true s.label x f) ∙ e) k)
     by false f rest k = rest
 
 pub all_closed : (engine : EngineState) (state : DatabaseState) → HoldsState engine state → (session : ℕ) → (levels state session == 0) ≡ true → has_other_transaction session engine.sessions ≡ false → (x : ℕ) → transaction_of state x ≡ None
 all_closed engine state h session e f x =
     elim (x == session) as (λ b. (x == session) ≡ b → transaction_of state x ≡ None) [
-      | true ↦ λ g. ap (transaction_of state) (same_number x session g) ∙ outside h.base h.dropped h.kept state h.reached.history session e
+      | true ↦ λ g. ap (transaction_of state) (eqb-true x session g) ∙ outside h.base h.dropped h.kept state h.reached.history session e
       | false ↦ λ g. none_elsewhere session state.sessions (sym (other_alike session state.sessions) ∙ ap (has_other_transaction session) h.sessions ∙ f) x g
     ] refl
 

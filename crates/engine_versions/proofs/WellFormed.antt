@@ -5,21 +5,22 @@ use Rattle.std.specs.List.{AllByRecursion, IsDistinct, list_all, list_any}
 use Rattle.std.proofs.lemmas.Bool.Decides.{nat_tests}
 use Rattle.std.proofs.lemmas.List.{length-map}
 use Rattle.std.proofs.lemmas.Map.Steps.{length-le_from_distinct_below}
-use Rattle.std.proofs.lemmas.Bool.{le-leb}
+use Rattle.std.proofs.lemmas.Bool.{and_from, le-leb, not-true}
+use Rattle.common_lemmas.proofs.Lists.{all_filtered, all_stronger}
+use Rattle.common_lemmas.proofs.Booleans.{and_left, and_right, impossible}
 use Rattle.column_set.specs.declared.columns.Column.{Column}
 use Rattle.column_set.specs.RecordValues.{has_value, is_kept_column, record_size}
 use Rattle.index_derive.specs.declared.rules.IndexRule.{IndexRule}
 use Rattle.database_state.specs.Table.{Table, primary_first, schema_of, table_with_id}
 use Rattle.database_state.specs.SchemaChanges.{is_type_long}
 use Rattle.database_state.specs.State.{DatabaseState}
-use Rattle.record_changes.proofs.Tests.{and_left, and_right, and_both, impossible, not_true, or_first, or_second}
+use Rattle.record_changes.proofs.Tests.{or_first, or_second}
 use Rattle.session_local.specs.Agreement.{HasSchemaOf, IsStorable}
 use Rattle.session_local.specs.Local.{LocalState, OpenCursor, PreparedUpdate}
 use Rattle.session_local.specs.SessionSide.{are_distinct}
 use Rattle.session_local.specs.WellFormed.{has_short_keys, is_long_if_sum, is_sum, is_well_formed_cursor, is_well_formed_schema, is_well_formed_update, number_of_column, stands_in}
 use Rattle.lawful_answers.specs.ColumnNumbers.{are_in_range, has_own_numbers, is_given_number}
-use Rattle.lawful_answers.proofs.ColumnNumbers.{all_mono}
-use Rattle.lawful_answers.proofs.TableTests.{all_filtered, all_found}
+use Rattle.lawful_answers.proofs.TableTests.{all_found}
 use Rattle.agreeing_sessions.specs.InStep.{IsInStep}
 use Rattle.built_calls.specs.BuiltTables.{is_built_column, is_built_rule, is_built_sum, is_built_table}
 use Rattle.built_calls.proofs.BuiltColumns.{its_sum}
@@ -59,14 +60,14 @@ sums_distinct : (columns : List Column) → are_distinct (map number_of_column c
 unfolding IsDistinct
 sums_distinct [] h = tt
 sums_distinct (c ∷ columns) h = elim c.escrow as (λ b. IsDistinct (λ m n. m == n) (map number_of_column (cond b (c ∷ filter is_sum columns) (filter is_sum columns)))) [
-  | true ↦ (none_summed c.id.0 columns (not_true _ (and_left _ _ h)), sums_distinct columns (and_right _ _ h))
+  | true ↦ (none_summed c.id.0 columns (not-true _ (and_left _ _ h)), sums_distinct columns (and_right _ _ h))
   | false ↦ sums_distinct columns (and_right _ _ h)
 ]
 
 sums_fixed : (columns : List Column) → list_all is_built_column columns ≡ true → list_all (λ n. nat_le 1 n && nat_le n 127) (map number_of_column (filter is_sum columns)) ≡ true
 sums_fixed [] h = refl
 sums_fixed (c ∷ columns) h = elim c.escrow as (λ b. c.escrow ≡ b → list_all (λ n. nat_le 1 n && nat_le n 127) (map number_of_column (cond b (c ∷ filter is_sum columns) (filter is_sum columns))) ≡ true) [
-  | true ↦ λ e. and_both (nat_le 1 c.id.0 && nat_le c.id.0 127) (list_all (λ n. nat_le 1 n && nat_le n 127) (map number_of_column (filter is_sum columns))) (fixed_sum c (its_sum c (and_left _ _ h)) e) (sums_fixed columns (and_right _ _ h))
+  | true ↦ λ e. and_from (nat_le 1 c.id.0 && nat_le c.id.0 127) (list_all (λ n. nat_le 1 n && nat_le n 127) (map number_of_column (filter is_sum columns))) (fixed_sum c (its_sum c (and_left _ _ h)) e) (sums_fixed columns (and_right _ _ h))
   | false ↦ λ e. sums_fixed columns (and_right _ _ h)
 ] refl
 
@@ -106,7 +107,7 @@ few_sums columns built distinct = le-leb (length (filter is_sum columns)) 127 (s
 
 all_joined : (p : IndexRule → Bool) (xs ys : List IndexRule) → list_all p xs ≡ true → list_all p ys ≡ true → list_all p (xs ++ ys) ≡ true
 all_joined p [] ys h g = g
-all_joined p (x ∷ xs) ys h g = and_both (p x) (list_all p (xs ++ ys)) (and_left (p x) (list_all p xs) h) (all_joined p xs ys (and_right (p x) (list_all p xs) h) g)
+all_joined p (x ∷ xs) ys h g = and_from (p x) (list_all p (xs ++ ys)) (and_left (p x) (list_all p xs) h) (all_joined p xs ys (and_right (p x) (list_all p xs) h) g)
 
 pub schema_formed : (t : Table) → is_built_table t ≡ true → has_own_numbers t ≡ true → is_well_formed_schema (schema_of t) ≡ true
 schema_formed t built own =
@@ -115,9 +116,9 @@ schema_formed t built own =
     let distinct = and_right (are_in_range t.greatest && list_all (is_given_number t.greatest) t.columns) (are_distinct (map number_of_column t.columns)) own in
     let sums = list_all is_long_if_sum t.columns in
     let few = nat_le (length (filter is_sum t.columns)) 127 in
-    and_both (are_distinct (map number_of_column t.columns) && sums && few) (list_all has_short_keys (primary_first t.indexes))
-    (and_both (are_distinct (map number_of_column t.columns) && sums) few
-    (and_both (are_distinct (map number_of_column t.columns)) sums distinct (all_mono is_built_column is_long_if_sum (λ c h. long_sum c (its_sum c h)) t.columns columns))
+    and_from (are_distinct (map number_of_column t.columns) && sums && few) (list_all has_short_keys (primary_first t.indexes))
+    (and_from (are_distinct (map number_of_column t.columns) && sums) few
+    (and_from (are_distinct (map number_of_column t.columns)) sums distinct (all_stronger is_built_column is_long_if_sum (λ c h. long_sum c (its_sum c h)) t.columns columns))
     (few_sums t.columns columns distinct))
     (all_joined has_short_keys (filter (λ r. r.flags.primary) t.indexes) (filter (λ r. not r.flags.primary) t.indexes) (all_filtered is_built_rule (λ r. r.flags.primary) t.indexes rules) (all_filtered is_built_rule (λ r. not r.flags.primary) t.indexes rules))
 
@@ -133,7 +134,7 @@ table_formed engine state h table = by (table_with_id state.tables table) (all_f
 update_formed : (state : DatabaseState) (session : ℕ) (c : OpenCursor) (prepared : Option PreparedUpdate) → IsStorable state session c prepared → is_well_formed_update c.schema.columns prepared ≡ true
 update_formed state session c None s = refl
 update_formed state session c (Some prepared) s =
-    and_both (list_all (stands_in c.schema.columns) prepared.values) (nat_le (record_size prepared.values) 1700)
+    and_from (list_all (stands_in c.schema.columns) prepared.values) (nat_le (record_size prepared.values) 1700)
     (and_left (list_all (stands_in c.schema.columns) prepared.values) (list_all (λ column. not (is_kept_column column) || has_value prepared.values column.id.0) c.schema.columns) s.1)
     (le-leb (record_size prepared.values) 1700 s.0)
 
@@ -145,8 +146,8 @@ cursors_formed : (state : DatabaseState) (session : ℕ) → ((table : ℕ) → 
     → (cursors : List OpenCursor) → AllByRecursion (λ c. HasSchemaOf c (table_with_id state.tables c.cursor.table)) cursors → AllByRecursion (λ c. IsStorable state session c c.prepared) cursors → list_all is_well_formed_cursor cursors ≡ true
 cursors_formed state session formed [] has storable = refl
 cursors_formed state session formed (c ∷ cursors) has storable =
-    and_both (is_well_formed_cursor c) (list_all is_well_formed_cursor cursors)
-    (and_both (is_well_formed_schema c.schema) (is_well_formed_update c.schema.columns c.prepared) (schema_of_found c (table_with_id state.tables c.cursor.table) has.0 (formed c.cursor.table)) (update_formed state session c c.prepared storable.0))
+    and_from (is_well_formed_cursor c) (list_all is_well_formed_cursor cursors)
+    (and_from (is_well_formed_schema c.schema) (is_well_formed_update c.schema.columns c.prepared) (schema_of_found c (table_with_id state.tables c.cursor.table) has.0 (formed c.cursor.table)) (update_formed state session c c.prepared storable.0))
     (cursors_formed state session formed cursors has.1 storable.1)
 
 pub session_formed : (engine : EngineState) (state : DatabaseState) → HoldsState engine state → (session : ℕ) (local : LocalState) → IsInStep state session local → list_all is_well_formed_cursor local.cursors ≡ true

@@ -5,7 +5,10 @@ use Rattle.std.specs.List.{list_all, list_any}
 use Rattle.std.specs.Cmp.{nat_cmp_total, unsigned_tied}
 use Rattle.std.specs.FinMap.Entries.{find-put, find-where_key}
 use Rattle.std.specs.Ordering.{is_eq, nat_cmp}
-use Rattle.common_lemmas.proofs.Numbers.{unequal_turned}
+use Rattle.std.proofs.lemmas.Bool.{and_from, eqb-true, not-true}
+use Rattle.common_lemmas.proofs.Numbers.{self_equal, unequal_turned}
+use Rattle.common_lemmas.proofs.Booleans.{and_left, and_right, impossible}
+use Rattle.common_lemmas.proofs.Lists.{all_stronger}
 use Rattle.jet_base.specs.declared.words.ColType.{ColType}
 use Rattle.jet_base.specs.declared.words.ColType.TheVariants as kind
 use Rattle.column_set.specs.declared.columns.Column.{Column}
@@ -15,7 +18,7 @@ use Rattle.index_derive.specs.Entries.{is_escrow_column}
 use Rattle.database_state.specs.Changes.{escrow_bytes}
 use Rattle.database_state.specs.Lawful.{keeps_escrow}
 use Rattle.database_state.specs.SchemaChanges.{is_type_long}
-use Rattle.record_changes.proofs.Tests.{and_left, and_right, and_both, impossible, not_true, or_first, or_second, same_number, self_equal}
+use Rattle.record_changes.proofs.Tests.{or_first, or_second}
 use Rattle.version_sums.specs.EscrowNumbers.{is_number, is_one_number}
 use Rattle.version_sums.proofs.Puts.{all_put, sum_put}
 use Rattle.version_sums.proofs.VeryRecords.{one_value}
@@ -23,7 +26,6 @@ use Rattle.version_records.proofs.StoredSums.{IsStoredWithNumbers}
 use Rattle.session_local.specs.RecordCalls.{with_sums_at_zero}
 use Rattle.session_local.specs.SessionSide.{are_distinct}
 use Rattle.session_local.specs.WellFormed.{is_sum, number_of_column}
-use Rattle.lawful_answers.proofs.ColumnNumbers.{all_mono}
 use Rattle.agreeing_sessions.proofs.RisingColumns.{values_rise}
 use Rattle.built_calls.specs.BuiltTables.{is_built_column, is_built_sum}
 use Rattle.built_calls.proofs.BuiltColumns.{its_kind, not_numbered}
@@ -32,7 +34,7 @@ use Rattle.built_calls.proofs.BuiltColumns.{its_kind, not_numbered}
 
 pub both_mono : (p q r : Column → Bool) → ((c : Column) → p c ≡ true → q c ≡ true → r c ≡ true) → (xs : List Column) → list_all p xs ≡ true → list_all q xs ≡ true → list_all r xs ≡ true
 both_mono p q r more [] h g = refl
-both_mono p q r more (x ∷ xs) h g = and_both (r x) (list_all r xs) (more x (and_left (p x) (list_all p xs) h) (and_left (q x) (list_all q xs) g)) (both_mono p q r more xs (and_right (p x) (list_all p xs) h) (and_right (q x) (list_all q xs) g))
+both_mono p q r more (x ∷ xs) h g = and_from (r x) (list_all r xs) (more x (and_left (p x) (list_all p xs) h) (and_left (q x) (list_all q xs) g)) (both_mono p q r more xs (and_right (p x) (list_all p xs) h) (and_right (q x) (list_all q xs) g))
 
 -- the columns that the engine keeps up are the sums, where all are built
 pub all_kept : (values : RecordFields) (columns : List Column) → list_all is_built_column columns ≡ true → list_all (λ c. not c.escrow || has_value values c.id.0) columns ≡ true → list_all (λ c. not (is_kept_column c) || has_value values c.id.0) columns ≡ true
@@ -45,7 +47,7 @@ all_kept values = both_mono is_built_column (λ c. not c.escrow || has_value val
     by e false true h f g = impossible (sym f)
 
 pub sums_kept : (values : RecordFields) (columns : List Column) → list_all (λ c. not (is_kept_column c) || has_value values c.id.0) columns ≡ true → list_all (λ c. not c.escrow || has_value values c.id.0) columns ≡ true
-sums_kept values = all_mono (λ c. not (is_kept_column c) || has_value values c.id.0) (λ c. not c.escrow || has_value values c.id.0) (λ c h. by c.escrow c.version c.auto (has_value values c.id.0) h)
+sums_kept values = all_stronger (λ c. not (is_kept_column c) || has_value values c.id.0) (λ c. not c.escrow || has_value values c.id.0) (λ c h. by c.escrow c.version c.auto (has_value values c.id.0) h)
   where
     by : (e v a h : Bool) → (not (e || v || a) || h) ≡ true → (not e || h) ≡ true
     by false v a h g = refl
@@ -80,7 +82,7 @@ zeros_seen (c ∷ sums) fields d =
 -- each sum is among the sums
 among_sums : (columns : List Column) → list_all (λ c. not c.escrow || list_any (λ o. c.id.0 == o.id.0) (filter is_sum columns)) columns ≡ true
 among_sums [] = refl
-among_sums (x ∷ xs) = and_both _ _ itself (all_mono (λ c. not c.escrow || list_any (λ o. c.id.0 == o.id.0) (filter is_sum xs)) (λ c. not c.escrow || list_any (λ o. c.id.0 == o.id.0) (filter is_sum (x ∷ xs))) more xs (among_sums xs))
+among_sums (x ∷ xs) = and_from _ _ itself (all_stronger (λ c. not c.escrow || list_any (λ o. c.id.0 == o.id.0) (filter is_sum xs)) (λ c. not c.escrow || list_any (λ o. c.id.0 == o.id.0) (filter is_sum (x ∷ xs))) more xs (among_sums xs))
   where
     itself : (not x.escrow || list_any (λ o. x.id.0 == o.id.0) (filter is_sum (x ∷ xs))) ≡ true
     itself = elim x.escrow as (λ b. (not b || list_any (λ o. x.id.0 == o.id.0) (cond b (x ∷ filter is_sum xs) (filter is_sum xs))) ≡ true) [
@@ -102,7 +104,7 @@ among_sums (x ∷ xs) = and_both _ _ itself (all_mono (λ c. not c.escrow || lis
 -- so each has what zeros have
 zeros_have : (has : List (List ℕ) → Bool) → has zeros ≡ true → (columns : List Column) (fields : RecordFields) → list_all (λ c. not c.escrow || has (values_of (with_sums_at_zero columns fields) c.id.0)) columns ≡ true
 zeros_have has zero columns fields =
-    all_mono (λ c. not c.escrow || list_any (λ o. c.id.0 == o.id.0) (filter is_sum columns)) (λ c. not c.escrow || has (values_of (with_sums_at_zero columns fields) c.id.0)) at columns (among_sums columns)
+    all_stronger (λ c. not c.escrow || list_any (λ o. c.id.0 == o.id.0) (filter is_sum columns)) (λ c. not c.escrow || has (values_of (with_sums_at_zero columns fields) c.id.0)) at columns (among_sums columns)
   where
     at : (c : Column) → (not c.escrow || list_any (λ o. c.id.0 == o.id.0) (filter is_sum columns)) ≡ true → (not c.escrow || has (values_of (with_sums_at_zero columns fields) c.id.0)) ≡ true
     at c h = elim c.escrow as (λ b. (not b || list_any (λ o. c.id.0 == o.id.0) (filter is_sum columns)) ≡ true → (not b || has (values_of (with_sums_at_zero columns fields) c.id.0)) ≡ true) [
@@ -120,7 +122,7 @@ zeros_there columns fields = zeros_have (λ (v : List (List ℕ)). nat_lt 0 (len
 
 pub none_same : (n : ℕ) (xs : List Column) → list_any (λ other. other == n) (map number_of_column xs) ≡ false → list_all (λ c. not (c.id.0 == n)) xs ≡ true
 none_same n [] h = refl
-none_same n (x ∷ xs) h = and_both _ _ (ap not (or_first (x.id.0 == n) _ h)) (none_same n xs (or_second (x.id.0 == n) _ h))
+none_same n (x ∷ xs) h = and_from _ _ (ap not (or_first (x.id.0 == n) _ h)) (none_same n xs (or_second (x.id.0 == n) _ h))
 
 -- the number of each sum is that of an escrow column
 abbrev is_escrow : Option Column → Bool
@@ -129,9 +131,9 @@ is_escrow found = elim found [ Some column ↦ column.escrow | None ↦ false ]
 own_sums : (columns : List Column) → are_distinct (map number_of_column columns) ≡ true → list_all (λ c. not c.escrow || is_escrow (column_of_id columns c.id.0)) columns ≡ true
 own_sums [] distinct = refl
 own_sums (x ∷ xs) distinct =
-    and_both _ _ itself
+    and_from _ _ itself
     (both_mono (λ c. not (c.id.0 == x.id.0)) (λ c. not c.escrow || is_escrow (column_of_id xs c.id.0)) (λ c. not c.escrow || is_escrow (column_of_id (x ∷ xs) c.id.0)) more xs
-    (none_same x.id.0 xs (not_true _ (and_left _ _ distinct))) (own_sums xs (and_right _ _ distinct)))
+    (none_same x.id.0 xs (not-true _ (and_left _ _ distinct))) (own_sums xs (and_right _ _ distinct)))
   where
     itself : (not x.escrow || is_escrow (column_of_id (x ∷ xs) x.id.0)) ≡ true
     itself = ap (λ b. not x.escrow || is_escrow (cond b (Some x) (column_of_id xs x.id.0))) (self_equal x.id.0) ∙ excluded x.escrow
@@ -141,14 +143,14 @@ own_sums (x ∷ xs) distinct =
         excluded false = refl
 
     more : (c : Column) → not (c.id.0 == x.id.0) ≡ true → (not c.escrow || is_escrow (column_of_id xs c.id.0)) ≡ true → (not c.escrow || is_escrow (column_of_id (x ∷ xs) c.id.0)) ≡ true
-    more c apart h = ap (λ b. not c.escrow || is_escrow (cond b (Some x) (column_of_id xs c.id.0))) (unequal_turned c.id.0 x.id.0 (not_true _ apart)) ∙ h
+    more c apart h = ap (λ b. not c.escrow || is_escrow (cond b (Some x) (column_of_id xs c.id.0))) (unequal_turned c.id.0 x.id.0 (not-true _ apart)) ∙ h
 
 among : (q : Column → Bool) (columns : List Column) → list_all (λ c. not c.escrow || q c) columns ≡ true → list_all q (filter is_sum columns) ≡ true
 among q [] h = refl
 among q (x ∷ xs) h = by x.escrow (and_left _ _ h) (among q xs (and_right _ _ h))
   where
     by : (b : Bool) → (not b || q x) ≡ true → list_all q (filter is_sum xs) ≡ true → list_all q (cond b (x ∷ filter is_sum xs) (filter is_sum xs)) ≡ true
-    by true h rest = and_both (q x) (list_all q (filter is_sum xs)) h rest
+    by true h rest = and_from (q x) (list_all q (filter is_sum xs)) h rest
     by false h rest = rest
 
 -- an escrow column takes the zeros
@@ -170,7 +172,7 @@ takes_zeros (x ∷ xs) id built escrow = by (x.id.0 == id) (takes_zeros xs id (a
 
     by : (b : Bool) → (is_escrow (column_of_id xs id) ≡ true → elim (column_of_id xs id) [ Some c ↦ values_fit c zeros | None ↦ false ] ≡ true) → is_escrow (cond b (Some x) (column_of_id xs id)) ≡ true
         → elim (cond b (Some x) (column_of_id xs id)) [ Some c ↦ values_fit c zeros | None ↦ false ] ≡ true
-    by true rest e = and_both (x.multi || true) (value_fits x.kind (0 ∷ 0 ∷ 0 ∷ 0 ∷ []) && true) (one x.multi) (and_both _ _ (long_fits x.kind (long x.escrow (is_type_long x.kind) _ (and_left (is_built_sum x) (list_all is_built_sum xs) built) e)) refl)
+    by true rest e = and_from (x.multi || true) (value_fits x.kind (0 ∷ 0 ∷ 0 ∷ 0 ∷ []) && true) (one x.multi) (and_from _ _ (long_fits x.kind (long x.escrow (is_type_long x.kind) _ (and_left (is_built_sum x) (list_all is_built_sum xs) built) e)) refl)
     by false rest e = rest e
 
 -- A record with a sum set to 0 stays one that fits its row and its columns.
@@ -179,9 +181,9 @@ zero_stored : (number : ℕ) (schema : Schema) (bookmark : List ℕ) (column : �
 zero_stored number schema bookmark column built escrow values h = (
   (
     subst (λ (n : ℕ). n ≤ 1700) (sym (ap (λ (n : ℕ). 2 + n) (sum_put (λ field. size_of_values field.1) column zeros (old ∷ []) (ap (λ (n : ℕ). sum_by (λ (m : ℕ). 5 + size_of_length m) (n ∷ [])) (sym four_old)) values h.1.0 one.0))) h.0.0,
-    and_both (list_all fits (with_values values column zeros)) (list_all (λ c. not (is_kept_column c) || has_value (with_values values column zeros) c.id.0) schema.columns)
+    and_from (list_all fits (with_values values column zeros)) (list_all (λ c. not (is_kept_column c) || has_value (with_values values column zeros) c.id.0) schema.columns)
         (all_put fits column zeros (old ∷ []) (takes_zeros schema.columns column built escrow) values h.1.0 one.0 (and_left _ _ h.0.1))
-        (all_mono (λ c. not (is_kept_column c) || has_value values c.id.0) (λ c. not (is_kept_column c) || has_value (with_values values column zeros) c.id.0) (λ c had. stays (is_kept_column c) c.id.0 had) schema.columns (and_right _ _ h.0.1)),
+        (all_stronger (λ c. not (is_kept_column c) || has_value values c.id.0) (λ c. not (is_kept_column c) || has_value (with_values values column zeros) c.id.0) (λ c had. stays (is_kept_column c) c.id.0 had) schema.columns (and_right _ _ h.0.1)),
   ),
   (
     values_rise values column zeros h.1.0,
@@ -199,7 +201,7 @@ zero_stored number schema bookmark column built escrow values h = (
     one = one_value values column (h.1.1 column escrow)
 
     four_old : length old ≡ 4
-    four_old = same_number (length old) 4 (and_left (length old == 4) (list_all (λ b. nat_lt b 256) old) one.1)
+    four_old = eqb-true (length old) 4 (and_left (length old == 4) (list_all (λ b. nat_lt b 256) old) one.1)
 
     stays : (kept : Bool) (id : ℕ) → (not kept || has_value values id) ≡ true → (not kept || has_value (with_values values column zeros) id) ≡ true
     stays false id had = refl
@@ -220,7 +222,7 @@ zeros_stored number schema bookmark values built distinct h = each (filter is_su
 -- the values of the other columns
 others_seen : (fields : RecordFields) (c d : ℕ) (values : List (List ℕ)) → (d == c) ≡ false → values_of (with_values fields c values) d ≡ values_of fields d
 others_seen fields c d [] apart =
-    ap (λ found. unwrap_or found []) (find-where_key nat_cmp (λ x. not (x == c)) d (λ x e. ap (λ (n : ℕ). not (n == c)) (sym (same_number d x (sym (unsigned_tied d x) ∙ ap is_eq e)))) fields)
+    ap (λ found. unwrap_or found []) (find-where_key nat_cmp (λ x. not (x == c)) d (λ x e. ap (λ (n : ℕ). not (n == c)) (sym (eqb-true d x (sym (unsigned_tied d x) ∙ ap is_eq e)))) fields)
     ∙ ap (λ b. unwrap_or (cond (not b) (lookup_by_number d fields) None) []) apart
 others_seen fields c d (value ∷ values) apart = put_seen fields c d value values ∙ ap (λ b. cond b (value ∷ values) (values_of fields d)) apart
 
@@ -243,7 +245,7 @@ apart_from_sums test [] column distinct e plain = refl
 apart_from_sums test (x ∷ xs) column distinct e plain = elim (test x) as (λ b. cond b (Some x) (find test xs) ≡ Some column → list_all (λ c. not c.escrow || not (c.id.0 == column.id.0)) (x ∷ xs) ≡ true) [
   | true ↦ λ g. first (same x column g)
   | false ↦ λ g.
-      and_both _ _ (either (not x.escrow) (not (x.id.0 == column.id.0)) (ap not (unequal_turned column.id.0 x.id.0 (not_true _ (passes (λ c. not (c.id.0 == x.id.0)) test xs column others g)))))
+      and_from _ _ (either (not x.escrow) (not (x.id.0 == column.id.0)) (ap not (unequal_turned column.id.0 x.id.0 (not-true _ (passes (λ c. not (c.id.0 == x.id.0)) test xs column others g)))))
       (apart_from_sums test xs column (and_right _ _ distinct) g plain)
 ] e
   where
@@ -255,12 +257,12 @@ apart_from_sums test (x ∷ xs) column distinct e plain = elim (test x) as (λ b
     either false b h = h
 
     others : list_all (λ c. not (c.id.0 == x.id.0)) xs ≡ true
-    others = none_same x.id.0 xs (not_true _ (and_left _ _ distinct))
+    others = none_same x.id.0 xs (not-true _ (and_left _ _ distinct))
 
     first : x ≡ column → list_all (λ c. not c.escrow || not (c.id.0 == column.id.0)) (x ∷ xs) ≡ true
     first is =
-        and_both _ _ (ap (λ b. not b || not (x.id.0 == column.id.0)) (ap (λ (c : Column). c.escrow) is ∙ plain))
-        (all_mono (λ c. not (c.id.0 == x.id.0)) (λ c. not c.escrow || not (c.id.0 == column.id.0)) (λ c h. either (not c.escrow) (not (c.id.0 == column.id.0)) (ap (λ (k : Column). not (c.id.0 == k.id.0)) (sym is) ∙ h)) xs others)
+        and_from _ _ (ap (λ b. not b || not (x.id.0 == column.id.0)) (ap (λ (c : Column). c.escrow) is ∙ plain))
+        (all_stronger (λ c. not (c.id.0 == x.id.0)) (λ c. not c.escrow || not (c.id.0 == column.id.0)) (λ c h. either (not c.escrow) (not (c.id.0 == column.id.0)) (ap (λ (k : Column). not (c.id.0 == k.id.0)) (sym is) ∙ h)) xs others)
 
 -- so it leaves the sums, and leaves them there
 pub set_keeps_sums : (columns : List Column) (seen : Option RecordFields) (fields : RecordFields) (id : ℕ) (values : List (List ℕ)) → list_all (λ c. not c.escrow || not (c.id.0 == id)) columns ≡ true → keeps_escrow columns seen fields ≡ true → keeps_escrow columns seen (with_values fields id values) ≡ true
@@ -268,7 +270,7 @@ set_keeps_sums columns seen fields id values = both_mono (λ c. not c.escrow || 
   where
     at : (c : Column) → (not c.escrow || not (c.id.0 == id)) ≡ true → (not c.escrow || bytes_eq (escrow_bytes fields c.id.0) (escrow_bytes (unwrap_or seen []) c.id.0)) ≡ true → (not c.escrow || bytes_eq (escrow_bytes (with_values fields id values) c.id.0) (escrow_bytes (unwrap_or seen []) c.id.0)) ≡ true
     at c = elim c.escrow as (λ b. (not b || not (c.id.0 == id)) ≡ true → (not b || bytes_eq (escrow_bytes fields c.id.0) (escrow_bytes (unwrap_or seen []) c.id.0)) ≡ true → (not b || bytes_eq (escrow_bytes (with_values fields id values) c.id.0) (escrow_bytes (unwrap_or seen []) c.id.0)) ≡ true) [
-      | true ↦ λ apart h. ap (λ (v : List (List ℕ)). bytes_eq (unwrap_or (slice_get v 0) (0 ∷ 0 ∷ 0 ∷ 0 ∷ [])) (escrow_bytes (unwrap_or seen []) c.id.0)) (others_seen fields id c.id.0 values (not_true _ apart)) ∙ h
+      | true ↦ λ apart h. ap (λ (v : List (List ℕ)). bytes_eq (unwrap_or (slice_get v 0) (0 ∷ 0 ∷ 0 ∷ 0 ∷ [])) (escrow_bytes (unwrap_or seen []) c.id.0)) (others_seen fields id c.id.0 values (not-true _ apart)) ∙ h
       | false ↦ λ apart h. refl
     ]
 
@@ -277,6 +279,6 @@ set_leaves_sums columns fields id values = both_mono (λ c. not c.escrow || not 
   where
     at : (c : Column) → (not c.escrow || not (c.id.0 == id)) ≡ true → (not c.escrow || has_value fields c.id.0) ≡ true → (not c.escrow || has_value (with_values fields id values) c.id.0) ≡ true
     at c = elim c.escrow as (λ b. (not b || not (c.id.0 == id)) ≡ true → (not b || has_value fields c.id.0) ≡ true → (not b || has_value (with_values fields id values) c.id.0) ≡ true) [
-      | true ↦ λ apart h. ap (λ (v : List (List ℕ)). nat_lt 0 (length v)) (others_seen fields id c.id.0 values (not_true _ apart)) ∙ h
+      | true ↦ λ apart h. ap (λ (v : List (List ℕ)). nat_lt 0 (length v)) (others_seen fields id c.id.0 values (not-true _ apart)) ∙ h
       | false ↦ λ apart h. refl
     ]

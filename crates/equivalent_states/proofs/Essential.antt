@@ -2,13 +2,14 @@
 use Rattle.std.proofs.Common.{◌≡◌, Bool, true, false, ◌||◌, cond, List, [], ◌∷◌, None, refl, sym, ap, ◌∙◌}
 use Rattle.std.specs.Prelude.{map, filter, option_map, if◌then◌else◌}
 use Rattle.std.specs.List.{AllByRecursion, list_any}
+use Rattle.common_lemmas.proofs.Booleans.{impossible}
 use Rattle.column_set.specs.declared.columns.Column.{Column}
 use Rattle.database_state.specs.Table.{Table, table_with_id}
 use Rattle.database_state.specs.Changes.{changed_table, is_sum}
 use Rattle.database_state.specs.State.{LiveSession, PastChange, Status, uncommitted, committed, undone, is_open, is_undone}
 use Rattle.database_state.specs.VersionStore.{is_needed, is_needed_status, from_oldest_needed}
 use Rattle.database_state.specs.Equivalence.{EssentialChange, columns_of, essential_item, essential_change, without_record, without_sums}
-use Rattle.record_changes.proofs.Tests.{contradicted, impossible}
+use Rattle.record_changes.proofs.Tests.{contradicted}
 
 -- ---- one change
 

@@ -2,6 +2,7 @@
 use Rattle.std.proofs.Common.{◌≡◌, ℕ, Bool, true, false, ◌&&◌, ◌||◌, cond, List, [], ◌∷◌, Option, Some, None, refl, sym, ap, ◌∙◌}
 use Rattle.std.specs.Prelude.{◌==◌, filter, fold, option_map, unwrap_or}
 use Rattle.std.specs.List.{AllByRecursion, list_any}
+use Rattle.std.proofs.lemmas.Bool.{eqb-true, not-true}
 use Rattle.common_lemmas.proofs.Numbers.{unequal_turned}
 use Rattle.column_set.specs.declared.columns.Column.{Column}
 use Rattle.column_set.specs.RecordValues.{RecordFields, values_of, with_values}
@@ -13,7 +14,7 @@ use Rattle.database_state.specs.SchemaChanges.{rule_columns}
 use Rattle.database_state.specs.State.{DatabaseState, PastChange}
 use Rattle.database_state.specs.Conflicts.{concurrent_changes, has_key_conflict, yields_key}
 use Rattle.database_state.specs.Equivalence.{columns_of, without_sums}
-use Rattle.record_changes.proofs.Tests.{and_second, or_first, or_second, not_true, same_number}
+use Rattle.record_changes.proofs.Tests.{and_second, or_first, or_second}
 use Rattle.version_keys.proofs.SchemaKeys.{other_values}
 use Rattle.version_keys.proofs.SameColumns.{SameAt, yields_same}
 use Rattle.equivalent_states.specs.PlainIndexes.{is_sum_number, reads_no_sum}
@@ -44,7 +45,7 @@ yields_alike : (table : Table) (rule : IndexRule) → reads_no_sum table rule �
 yields_alike table rule none key None = refl
 yields_alike table rule none key (Some values) =
     yields_same rule (schema_of table) (schema_of table) key (without_sums table.columns values) values
-    (same_columns (schema_of table) table.columns values (rule_columns rule) (not_true (list_any (is_sum_number table.columns) (rule_columns rule)) none))
+    (same_columns (schema_of table) table.columns values (rule_columns rule) (not-true (list_any (is_sum_number table.columns) (rule_columns rule)) none))
 
 -- ---- key conflicts
 
@@ -61,7 +62,7 @@ key_conflict_alike state past e session id table found rule none key =
 
     by : (x : PastChange) (b : Bool) → (changed_table x.change == id) ≡ b → holds (summed (columns_of (table_with_id state.tables (changed_table x.change))) x) ≡ holds x
     by x true at =
-        let columns : columns_of (table_with_id state.tables (changed_table x.change)) ≡ table.columns = ap (λ n. columns_of (table_with_id state.tables n)) (same_number (changed_table x.change) id at) ∙ ap columns_of found in
+        let columns : columns_of (table_with_id state.tables (changed_table x.change)) ≡ table.columns = ap (λ n. columns_of (table_with_id state.tables n)) (eqb-true (changed_table x.change) id at) ∙ ap columns_of found in
         ap (λ cs. holds (summed cs x)) columns
         ∙ (λ i. (changed_table x.change == id) && (yields_alike table rule none key x.before i || yields_alike table rule none key x.after i))
     by x false at =

@@ -2,7 +2,9 @@
 use Rattle.std.proofs.Common.{◌≡◌, ℕ, ◌+◌, Bool, true, false, not, ◌&&◌, ◌||◌, cond, List, [], ◌∷◌, Option, Some, None, refl, sym, ap, subst, ◌∙◌}
 use Rattle.std.specs.Prelude.{◌==◌, nat_lt, nat_le, filter, is_none, unwrap_or}
 use Rattle.std.specs.List.{AllByRecursion, list_all}
-use Rattle.common_lemmas.proofs.Lists.{all_weaker}
+use Rattle.std.proofs.lemmas.Bool.{eqb-true}
+use Rattle.common_lemmas.proofs.Lists.{all_append, all_filter, all_weaker}
+use Rattle.common_lemmas.proofs.Booleans.{and_left, and_right}
 use Rattle.jet_base.specs.declared.replies.Jet.TheVariants as jet
 use Rattle.column_set.specs.declared.changes.Change.{Change}
 use Rattle.column_set.specs.declared.changes.Change.TheVariants.{Put, Drop, Hold, Add}
@@ -24,8 +26,6 @@ use Rattle.database_state.specs.Conflicts.{has_key_conflict}
 use Rattle.database_state.specs.Puts.{is_taken, new_keys}
 use Rattle.database_state.specs.Lawful.{has_next_numbers, has_number, is_bookmark_of, is_copied_in, is_indexable, is_live, is_lawful, is_lawful_at, is_lawful_change, is_lawful_in, is_lawful_kind, is_unique_throughout, keeps_escrow, has_free_keys}
 use Rattle.database_state.specs.Step.{state_after}
-use Rattle.record_changes.proofs.Tests.{and_left, and_right, same_number}
-use Rattle.version_history.proofs.Lists.{all_append, all_filter}
 use Rattle.equivalent_states.specs.PlainIndexes.{reads_no_sum, read_no_sums}
 use Rattle.equivalent_states.proofs.Keys.{key_conflict_alike}
 use Rattle.equivalent_states.proofs.Reading.{SamePast, own_open_alike, view_alike, with_past, write_conflict_alike}
@@ -67,7 +67,7 @@ found_id [] id table e = absurd (none e)
 found_id (t ∷ tables) id table e = by (found_id tables id table) (t.id == id) refl e
   where
     by : (table_with_id tables id ≡ Some table → table.id ≡ id) → (b : Bool) → (t.id == id) ≡ b → cond b (Some t) (table_with_id tables id) ≡ Some table → table.id ≡ id
-    by rest true f g = ap (λ (found : Table). found.id) (sym (just g)) ∙ same_number t.id id f
+    by rest true f g = ap (λ (found : Table). found.id) (sym (just g)) ∙ eqb-true t.id id f
     by rest false f g = rest g
 
 -- ---- changes

@@ -1,6 +1,7 @@
 -- A lawful entry, in two states of one essence that have histories.
 use Rattle.std.proofs.Common.{◌≡◌, ℕ, ◌+◌, ◌≤◌, true, false, List, [], ◌++◌, Option, sym, ap, subst, ◌∙◌, arith}
 use Rattle.std.specs.List.{AllByRecursion}
+use Rattle.common_lemmas.proofs.Lists.{all_append, all_weaker}
 use Rattle.index_derive.specs.declared.log.Entry.{Entry}
 use Rattle.index_derive.specs.declared.log.EntryKind.{EntryKind}
 use Rattle.index_derive.specs.declared.log.EntryKind.TheVariants as entry
@@ -15,7 +16,6 @@ use Rattle.version_history.specs.History.{EachTwo, HasHistory, IsPassed, IsPasse
 use Rattle.version_history.specs.KeptSteps.{with_next_number}
 use Rattle.version_history.proofs.Labels.{are_labelled}
 use Rattle.version_history.proofs.LawfulEntries.{keeps_lawful}
-use Rattle.version_history.proofs.Lists.{all_append, all_weaker}
 use Rattle.equivalent_states.proofs.Reading.{SamePast, with_past}
 use Rattle.equivalent_states.proofs.Sessions.{none_needed}
 use Rattle.equivalent_states.proofs.Unneeded.{passed_unneeded}

@@ -3,6 +3,7 @@ use Rattle.std.proofs.Common.{◌≡◌, ℕ, Bool, true, false, not, ◌&&◌, 
 use Rattle.std.specs.Prelude.{◌==◌, map, filter, find, option_and_then, sum, sum_by}
 use Rattle.std.specs.List.{list_any}
 use Rattle.std.proofs.lemmas.List.Sums.{sum-map}
+use Rattle.common_lemmas.proofs.Booleans.{and_left, and_right, impossible}
 use Rattle.column_set.specs.declared.changes.Change.{Change}
 use Rattle.database_state.specs.Table.{table_with_id}
 use Rattle.database_state.specs.Changes.{changed_table, tables_after_all}
@@ -11,7 +12,6 @@ use Rattle.database_state.specs.View.{newest, view, view_in}
 use Rattle.database_state.specs.Conflicts.{collide, concurrent_changes, has_write_conflict, is_after_begin, is_concurrent, is_concurrent_status}
 use Rattle.database_state.specs.VersionStore.{cost_of, from_oldest_needed, is_needed_status, version_span}
 use Rattle.database_state.specs.Equivalence.{AreEquivalent, EssentialChange, columns_of, essence, essential_change}
-use Rattle.record_changes.proofs.Tests.{and_left, and_right, impossible}
 use Rattle.equivalent_states.proofs.Essential.{any_mapped, essential_status, kept_of, kept_of_standing, open_needed, open_stands, read_alike}
 
 -- ---- one state with two pasts

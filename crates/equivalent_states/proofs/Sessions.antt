@@ -2,11 +2,11 @@
 use Rattle.std.proofs.Common.{◌≡◌, ℕ, Bool, true, false, ◌||◌, cond, List, [], ◌∷◌, Option, Some, None, refl, sym, ap, ◌∙◌}
 use Rattle.std.specs.Prelude.{◌==◌, nat_lt, map, filter, if◌then◌else◌}
 use Rattle.std.specs.List.{AllByRecursion, list_any}
+use Rattle.common_lemmas.proofs.Booleans.{impossible}
 use Rattle.database_state.specs.State.{LiveSession, PastChange, Status, Transaction, uncommitted, committed, undone, is_open}
 use Rattle.database_state.specs.Conflicts.{is_after_begin}
 use Rattle.database_state.specs.Step.{at_levels, insert_session}
 use Rattle.database_state.specs.VersionStore.{is_needed, is_needed_status, from_oldest_needed}
-use Rattle.record_changes.proofs.Tests.{impossible}
 use Rattle.equivalent_states.proofs.Essential.{open_needed}
 
 -- whether some session's transaction began before the number
@@ -91,7 +91,3 @@ less_changed sessions others test change own x less h = by (test x) refl h
 pub none_needed : (sessions : List LiveSession) (items : List PastChange) → AllByRecursion (λ item. is_needed sessions item ≡ false) items → from_oldest_needed sessions items ≡ []
 none_needed sessions [] h = refl
 none_needed sessions (x ∷ xs) h = ap (λ b. cond b (x ∷ xs) (from_oldest_needed sessions xs)) h.0 ∙ none_needed sessions xs h.1
-
-pub all_of : {X : Type 0} (P : X → Type 0) → ((x : X) → P x) → (xs : List X) → AllByRecursion P xs
-all_of P f [] = tt
-all_of P f (x ∷ xs) = (f x, all_of P f xs)

@@ -4,6 +4,8 @@ use Rattle.std.specs.Prelude.{◌==◌, nat_lt, filter, map, if◌then◌else◌
 use Rattle.std.specs.List.{AllByRecursion}
 use Rattle.std.proofs.lemmas.Bool.Decides.{nat_tests}
 use Rattle.std.proofs.lemmas.List.{map-append}
+use Rattle.common_lemmas.proofs.Booleans.{and_left}
+use Rattle.common_lemmas.proofs.Lists.{all_each}
 use Rattle.column_set.specs.declared.changes.Change.{Change}
 use Rattle.index_derive.specs.declared.log.EntryKind.{EntryKind}
 use Rattle.index_derive.specs.declared.log.EntryKind.TheVariants as entry
@@ -14,10 +16,9 @@ use Rattle.database_state.specs.View.{newest}
 use Rattle.database_state.specs.VersionStore.{is_needed, from_oldest_needed}
 use Rattle.database_state.specs.Equivalence.{EssentialChange, essence, essential_change}
 use Rattle.database_state.specs.Step.{applied, at_levels, every_change, insert_session, is_at_level, with_changes_at, with_levels, with_transaction, with_one as with_table, without_one as without_table}
-use Rattle.record_changes.proofs.Tests.{and_left}
 use Rattle.equivalent_states.proofs.Essential.{forgotten, stay_alike}
 use Rattle.equivalent_states.proofs.Reading.{SamePast, newest_alike, own_open_alike, with_past}
-use Rattle.equivalent_states.proofs.Sessions.{NeedsLess, all_of, less_begun, less_changed, less_ended, less_inserted, less_status, less_with, less_without, same_begin, with_one}
+use Rattle.equivalent_states.proofs.Sessions.{NeedsLess, less_begun, less_changed, less_ended, less_inserted, less_status, less_with, less_without, same_begin, with_one}
 use Rattle.equivalent_states.proofs.Changing.{changed_alike, columns_after, committed_alike, lowered_alike, same_essence, told_own, undone_alike}
 
 -- a change that was committed, was so at this number at most
@@ -48,8 +49,8 @@ same_past state past others e p q =
 any_past : (state : DatabaseState) (past : List PastChange) (others : List LiveSession) → SamePast state past → ((number : ℕ) → NeedsLess state.sessions others number)
     → map (essential_change state.tables) (from_oldest_needed others state.past) ≡ map (essential_change state.tables) (from_oldest_needed others past)
 any_past state past others e less =
-    same_past state past others e (all_of (λ x. is_needed others x ≡ true → is_needed state.sessions x ≡ true) (λ x. less_status state.sessions others x.status (λ n f. less n)) state.past)
-    (all_of (λ x. is_needed others x ≡ true → is_needed state.sessions x ≡ true) (λ x. less_status state.sessions others x.status (λ n f. less n)) past)
+    same_past state past others e (all_each (λ x. is_needed others x ≡ true → is_needed state.sessions x ≡ true) (λ x. less_status state.sessions others x.status (λ n f. less n)) state.past)
+    (all_each (λ x. is_needed others x ≡ true → is_needed state.sessions x ≡ true) (λ x. less_status state.sessions others x.status (λ n f. less n)) past)
 
 -- ---- the session's own open changes become others
 
@@ -68,7 +69,7 @@ own_past state past label after others test change essential told same step less
     (λ x. if is_open_change_of label x && test x then change x else x)
     (λ es. if is_open_change_of label es.item && test es.item then essential es else es)
     (changed_alike state.tables after (λ x. is_open_change_of label x && test x) change essential told same step)
-    state.past past (all_of (IsLess state.sessions others label test change) each state.past) (all_of (IsLess state.sessions others label test change) each past) e
+    state.past past (all_each (IsLess state.sessions others label test change) each state.past) (all_each (IsLess state.sessions others label test change) each past) e
   where
     each : (x : PastChange) → IsLess state.sessions others label test change x
     each x =

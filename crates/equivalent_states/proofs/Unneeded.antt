@@ -3,6 +3,7 @@ use Rattle.std.proofs.Common.{◌≡◌, ℕ, ◌<◌, Bool, true, false, ◌||�
 use Rattle.std.specs.Prelude.{map, IfSome}
 use Rattle.std.specs.List.{AllByRecursion, list_any}
 use Rattle.std.proofs.lemmas.Bool.Decides.{nat_tests}
+use Rattle.common_lemmas.proofs.Lists.{all_weaker}
 use Rattle.database_state.specs.State.{DatabaseState, LiveSession, PastChange, Status, Transaction, uncommitted, committed, undone, transaction_of}
 use Rattle.database_state.specs.Conflicts.{is_after_begin}
 use Rattle.database_state.specs.VersionStore.{is_needed, is_needed_status, from_oldest_needed}
@@ -10,7 +11,6 @@ use Rattle.database_state.specs.Equivalence.{AreEquivalent, essential_change}
 use Rattle.record_changes.specs.Records.{Records}
 use Rattle.version_history.specs.History.{EachTwo, IsHistory, IsPassed, IsPassedBy, LabelsRise}
 use Rattle.version_history.proofs.Labels.{are_labelled}
-use Rattle.version_history.proofs.Lists.{all_weaker}
 
 pub passed_unneeded : (number : ℕ) (transactions : ℕ → Option Transaction) (sessions : List LiveSession) → AllByRecursion (λ s. transactions s.label ≡ s.transaction) sessions
     → (item : PastChange) → IsPassed number transactions item → is_needed sessions item ≡ false

@@ -2,11 +2,11 @@
 use Rattle.std.proofs.Common.{◌≡◌, Bool, true, List, [], ◌∷◌, Option, Some, None, refl}
 use Rattle.std.specs.Prelude.{IfSome}
 use Rattle.std.specs.List.{AllByRecursion, list_all}
+use Rattle.std.proofs.lemmas.Bool.{and_from}
 use Rattle.index_derive.specs.declared.rules.IndexRule.{IndexRule}
 use Rattle.database_state.specs.Table.{Table, table_with_id}
 use Rattle.database_state.specs.SchemaChanges.{rule_columns}
 use Rattle.database_state.specs.State.{DatabaseState}
-use Rattle.record_changes.proofs.Tests.{and_both}
 use Rattle.version_keys.specs.KeySums.{IsApartFromSums}
 use Rattle.equivalent_states.specs.PlainIndexes.{read_no_sums}
 use Rattle.lawful_answers.proofs.TableTests.{all_listed}
@@ -17,7 +17,7 @@ use Rattle.held_states.proofs.PlainSteps.{plain_read_no_sums}
 
 each_is : {X : Type 0} (test : X → Bool) (xs : List X) → AllByRecursion (λ x. test x ≡ true) xs → list_all test xs ≡ true
 each_is test [] h = refl
-each_is test (x ∷ xs) h = and_both (test x) (list_all test xs) h.0 (each_is test xs h.1)
+each_is test (x ∷ xs) h = and_from (test x) (list_all test xs) h.0 (each_is test xs h.1)
 
 held_plain : (engine : EngineState) (state : DatabaseState) → HoldsState engine state → HasPlainIndexes state
 held_plain engine state h = record {
@@ -29,7 +29,7 @@ held_plain engine state h = record {
     rules : (table : Table) (indexes : List IndexRule) → AllByRecursion (IsApartFromSums h.base h.kept table) indexes → list_all (names_plain_columns table.columns) indexes ≡ true
     rules table [] apart = refl
     rules table (rule ∷ indexes) apart =
-        and_both (names_plain_columns table.columns rule) (list_all (names_plain_columns table.columns) indexes) (each_is (is_plain_column table.columns) (rule_columns rule) apart.0.0) (rules table indexes apart.1)
+        and_from (names_plain_columns table.columns rule) (list_all (names_plain_columns table.columns) indexes) (each_is (is_plain_column table.columns) (rule_columns rule) apart.0.0) (rules table indexes apart.1)
 
     by : (o : Option Table) → IfSome o (λ table. AllByRecursion (IsApartFromSums h.base h.kept table) table.indexes) → IfSome o (λ table. has_plain_indexes table ≡ true)
     by None apart = tt

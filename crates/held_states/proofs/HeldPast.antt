@@ -2,6 +2,9 @@
 use Rattle.std.proofs.Common.{◌≡◌, ℕ, Bool, true, false, not, ◌&&◌, cond, List, [], ◌∷◌, Option, Some, None, refl, sym, ap, subst, ◌∙◌, bytes_eq}
 use Rattle.std.specs.Prelude.{◌==◌, is_some, map, neg_ℤ, option_map, unwrap_or, IfSome}
 use Rattle.std.specs.List.{AllByRecursion}
+use Rattle.std.proofs.lemmas.Bool.{eqb-true}
+use Rattle.common_lemmas.proofs.Booleans.{and_left, and_right, impossible}
+use Rattle.common_lemmas.proofs.Numbers.{same_bytes, self_equal}
 use Rattle.column_set.specs.declared.changes.Change.{Change}
 use Rattle.column_set.specs.declared.changes.Change.TheVariants.{Put, Drop, Hold, Add}
 use Rattle.column_set.specs.declared.columns.Column.{Column}
@@ -13,7 +16,7 @@ use Rattle.database_state.specs.VersionStore.{cost_of}
 use Rattle.database_state.specs.Equivalence.{columns_of, essential_change, without_record, without_sums}
 use Rattle.record_changes.specs.Records.{Records, after_item, is_change_of, record_after, records_after_items}
 use Rattle.record_changes.proofs.Folds.{folded-cons}
-use Rattle.record_changes.proofs.Tests.{and_left, and_right, equal_bytes, impossible, same_bytes, same_number, self_equal}
+use Rattle.record_changes.proofs.Tests.{equal_bytes}
 use Rattle.version_history.specs.History.{HasBefores}
 use Rattle.version_history.specs.Readers.{is_rewrite, is_standing}
 use Rattle.version_history.proofs.Keeping.{some_map}
@@ -160,7 +163,7 @@ before_same x y one stands plain plain_y base other before_x before_y after = λ
 
     here : (table : ℕ) (bookmark : List ℕ) (b : Bool) → is_rewrite x.change ≡ b → is_change_of table bookmark x.change ≡ true → base table bookmark ≡ other table bookmark
     here table bookmark true rewrite e =
-        let t : changed_table x.change ≡ table = same_number (changed_table x.change) table (and_left (changed_table x.change == table) (bytes_eq (changed_bookmark x.change) bookmark) e) in
+        let t : changed_table x.change ≡ table = eqb-true (changed_table x.change) table (and_left (changed_table x.change == table) (bytes_eq (changed_bookmark x.change) bookmark) e) in
         let k : changed_bookmark x.change ≡ bookmark = same_bytes (changed_bookmark x.change) bookmark (and_right (changed_table x.change == table) (bytes_eq (changed_bookmark x.change) bookmark) e) in
         (λ i. base (sym t i) (sym k i))
         ∙ sym before_x ∙ one.before stands rewrite ∙ before_y
@@ -229,7 +232,7 @@ sum_before_same P Q x y same sum takes takes_too base other first first_too afte
 
     by : (table : ℕ) (bookmark : List ℕ) (b : Bool) → is_change_of table bookmark x.change ≡ b → base table bookmark ≡ other table bookmark
     by table bookmark true e =
-        let t : changed_table x.change ≡ table = same_number (changed_table x.change) table (and_left (changed_table x.change == table) (bytes_eq (changed_bookmark x.change) bookmark) e) in
+        let t : changed_table x.change ≡ table = eqb-true (changed_table x.change) table (and_left (changed_table x.change == table) (bytes_eq (changed_bookmark x.change) bookmark) e) in
         let k : changed_bookmark x.change ≡ bookmark = same_bytes (changed_bookmark x.change) bookmark (and_right (changed_table x.change == table) (bytes_eq (changed_bookmark x.change) bookmark) e) in
         (λ i. base (sym t i) (sym k i)) ∙ own ∙ (λ i. other (t i) (k i))
     by table bookmark false e =
@@ -268,7 +271,7 @@ rest_known tables P base x xs known = record {
     left : (table : ℕ) (bookmark : List ℕ) → IfSome (after_item base x table bookmark) (P table bookmark)
     left table bookmark = elim (is_change_of table bookmark x.change) as (λ b. is_change_of table bookmark x.change ≡ b → IfSome (cond b (record_after x.change (base table bookmark)) (base table bookmark)) (P table bookmark)) [
       | true ↦ λ e.
-          subst (λ (t : ℕ). IfSome (record_after x.change (base t bookmark)) (P t bookmark)) (same_number (changed_table x.change) table (and_left (changed_table x.change == table) (bytes_eq (changed_bookmark x.change) bookmark) e))
+          subst (λ (t : ℕ). IfSome (record_after x.change (base t bookmark)) (P t bookmark)) (eqb-true (changed_table x.change) table (and_left (changed_table x.change == table) (bytes_eq (changed_bookmark x.change) bookmark) e))
           (subst (λ (k : List ℕ). IfSome (record_after x.change (base (changed_table x.change) k)) (P (changed_table x.change) k)) (same_bytes (changed_bookmark x.change) bookmark (and_right (changed_table x.change == table) (bytes_eq (changed_bookmark x.change) bookmark) e))
           (known.back.0.0 (base (changed_table x.change) (changed_bookmark x.change)) (known.first (changed_table x.change) (changed_bookmark x.change))))
       | false ↦ λ e. known.first table bookmark

@@ -4,6 +4,8 @@ use Rattle.std.specs.Prelude.{filter, fold, map, nat_lt, option_map, unwrap_or, 
 use Rattle.std.specs.List.{AllByRecursion}
 use Rattle.std.proofs.lemmas.List.Folds.{fold-map}
 use Rattle.common_lemmas.proofs.Options.{some_apart}
+use Rattle.common_lemmas.proofs.Lists.{all_weaker}
+use Rattle.common_lemmas.proofs.Booleans.{impossible}
 use Rattle.database_state.specs.Table.{Table}
 use Rattle.database_state.specs.State.{DatabaseState, LiveSession, PastChange, Status, Transaction, uncommitted, committed, undone, change_of, is_undone, transaction_of}
 use Rattle.database_state.specs.Changes.{changed_table}
@@ -11,11 +13,10 @@ use Rattle.database_state.specs.Table.{table_with_id}
 use Rattle.database_state.specs.VersionStore.{from_oldest_needed}
 use Rattle.database_state.specs.Equivalence.{AreEquivalent, EssentialChange, columns_of, essential_change}
 use Rattle.record_changes.specs.Records.{Records, records_after, records_after_items, records_of}
-use Rattle.record_changes.proofs.Tests.{impossible}
 use Rattle.version_history.specs.History.{EachTwo, IsBegun, IsPlaced, KeepsHistory, LabelsRise, without_rows}
 use Rattle.version_history.specs.Readers.{is_standing, was_committed, was_committed_status}
 use Rattle.version_history.proofs.Labels.{are_labelled}
-use Rattle.version_history.proofs.Lists.{all_both, all_weaker}
+use Rattle.version_history.proofs.Lists.{all_both}
 use Rattle.version_history.proofs.SeenRecords.{newest_records as newest_of_kept}
 use Rattle.version_keys.specs.TableOrder.{IdsRise}
 use Rattle.version_cleanup.specs.LiveSessions.{live_state, without_snapshot}

@@ -2,7 +2,9 @@
 use Rattle.std.proofs.Common.{◌≡◌, ℕ, Bool, true, false, not, ◌&&◌, ◌||◌, cond, List, [], ◌∷◌, Option, Some, None, refl, sym, ap, subst, ◌∙◌}
 use Rattle.std.specs.Prelude.{◌==◌, filter, is_none, is_some, map, IfSome}
 use Rattle.std.specs.List.{AllByRecursion, list_all, list_any}
-use Rattle.common_lemmas.proofs.Lists.{all_last}
+use Rattle.std.proofs.lemmas.Bool.{and_from, eqb-true, not-true}
+use Rattle.common_lemmas.proofs.Lists.{all_each, all_filtered, all_last, all_stronger}
+use Rattle.common_lemmas.proofs.Booleans.{and_false, and_left, and_right, impossible}
 use Rattle.column_set.specs.declared.columns.Column.{Column}
 use Rattle.column_set.specs.RecordValues.{column_of_id}
 use Rattle.index_derive.specs.declared.rules.IndexRule.{IndexRule}
@@ -18,20 +20,18 @@ use Rattle.database_state.specs.State.{DatabaseState}
 use Rattle.database_state.specs.Step.{applied, state_after}
 use Rattle.database_state.specs.Lawful.{has_number, is_lawful, is_lawful_kind, is_live}
 use Rattle.database_state.proofs.Columns.{column_of_id-columns_with}
-use Rattle.record_changes.proofs.Tests.{and_both, and_false, and_left, and_right, impossible, not_true, or_first, or_second, same_number}
+use Rattle.record_changes.proofs.Tests.{or_first, or_second}
 use Rattle.session_local.specs.SessionSide.{are_distinct}
 use Rattle.session_local.specs.WellFormed.{number_of_column}
 use Rattle.version_history.specs.History.{EachTwo}
 use Rattle.version_history.specs.KeptSteps.{with_next_number}
-use Rattle.version_history.proofs.Lists.{all_true}
 use Rattle.version_keys.specs.TableOrder.{IdsRise}
 use Rattle.version_keys.proofs.IndexNumbers.{found_in_filter}
 use Rattle.version_keys.proofs.OrderedTables.{order_kept}
 use Rattle.version_keys.proofs.SchemaKeys.{at_found, at_table, unused_by, with_last, without_table}
 use Rattle.lawful_answers.specs.ColumnNumbers.{are_in_range, has_own_numbers, have_own_numbers, is_given_number}
-use Rattle.lawful_answers.proofs.ColumnNumbers.{all_mono}
 use Rattle.lawful_answers.proofs.OwnNumbers.{numbers_kept}
-use Rattle.lawful_answers.proofs.TableTests.{all_filtered, all_found, all_listed, definitions_stay, is_schema_entry, tested_alike}
+use Rattle.lawful_answers.proofs.TableTests.{all_found, all_listed, definitions_stay, is_schema_entry, tested_alike}
 use Rattle.equivalent_states.specs.PlainIndexes.{is_sum_number, read_no_sums, reads_no_sum}
 use Rattle.held_states.specs.PlainColumns.{HasPlainIndexes, has_plain_indexes, is_plain_column, names_plain_columns}
 
@@ -49,8 +49,8 @@ plain_by one other id e h = ap (λ (found : Option Column). elim found [ Some co
 
 plain_more : (column : Column) (columns : List Column) (rules : List IndexRule) → list_all (names_plain_columns columns) rules ≡ true → list_all (names_plain_columns (columns_with column columns)) rules ≡ true
 plain_more column columns rules =
-    all_mono (names_plain_columns columns) (names_plain_columns (columns_with column columns))
-    (λ rule. all_mono (is_plain_column columns) (is_plain_column (columns_with column columns))
+    all_stronger (names_plain_columns columns) (names_plain_columns (columns_with column columns))
+    (λ rule. all_stronger (is_plain_column columns) (is_plain_column (columns_with column columns))
     (λ id h. plain_by columns (columns_with column columns) id (column_of_id-columns_with column id columns (plain_found columns id h)) h) (rule_columns rule)) rules
 
 abbrev without : ℕ → List Column → List Column
@@ -59,12 +59,12 @@ without column columns = filter (λ c. not (c.id.0 == column)) columns
 still_there : (column id : ℕ) (columns : List Column) → (id == column) ≡ false → column_of_id (without column columns) id ≡ column_of_id columns id
 still_there column id columns apart =
     found_in_filter (λ (c : Column). c.id.0 == id) (λ c. not (c.id.0 == column)) columns
-    (all_true (λ (c : Column). (c.id.0 == id) ≡ true → not (c.id.0 == column) ≡ true) (λ c e. ap not (ap (λ n. n == column) (same_number c.id.0 id e) ∙ apart)) columns)
+    (all_each (λ (c : Column). (c.id.0 == id) ≡ true → not (c.id.0 == column) ≡ true) (λ c e. ap not (ap (λ n. n == column) (eqb-true c.id.0 id e) ∙ apart)) columns)
 
 ids_stay : (column : ℕ) (columns : List Column) (ids : List ℕ) → AllByRecursion (λ id. (id == column) ≡ false) ids → list_all (is_plain_column columns) ids ≡ true → list_all (is_plain_column (without column columns)) ids ≡ true
 ids_stay column columns [] apart h = refl
 ids_stay column columns (id ∷ ids) apart h =
-    and_both (is_plain_column (without column columns) id) (list_all (is_plain_column (without column columns)) ids)
+    and_from (is_plain_column (without column columns) id) (list_all (is_plain_column (without column columns)) ids)
     (plain_by columns (without column columns) id (still_there column id columns apart.0) (and_left (is_plain_column columns id) (list_all (is_plain_column columns) ids) h))
     (ids_stay column columns ids apart.1 (and_right (is_plain_column columns id) (list_all (is_plain_column columns) ids) h))
 
@@ -72,7 +72,7 @@ rules_stay : (column : ℕ) (columns : List Column) (rules : List IndexRule) →
     → list_all (names_plain_columns (without column columns)) rules ≡ true
 rules_stay column columns [] apart h = refl
 rules_stay column columns (rule ∷ rules) apart h =
-    and_both (names_plain_columns (without column columns) rule) (list_all (names_plain_columns (without column columns)) rules)
+    and_from (names_plain_columns (without column columns) rule) (list_all (names_plain_columns (without column columns)) rules)
     (ids_stay column columns (rule_columns rule) apart.0 (and_left (names_plain_columns columns rule) (list_all (names_plain_columns columns) rules) h))
     (rules_stay column columns rules apart.1 (and_right (names_plain_columns columns rule) (list_all (names_plain_columns columns) rules) h))
 
@@ -91,7 +91,7 @@ found_plain (c ∷ columns) id h e = by (found_plain columns id) (c.id.0 == id) 
 new_ids : (table : Table) (ids : List ℕ) → list_any (λ id. not (has_column table id)) ids ≡ false → list_any (is_escrow_column (schema_of table)) ids ≡ false → list_all (is_plain_column table.columns) ids ≡ true
 new_ids table [] h e = refl
 new_ids table (id ∷ ids) h e =
-    and_both (is_plain_column table.columns id) (list_all (is_plain_column table.columns) ids)
+    and_from (is_plain_column table.columns id) (list_all (is_plain_column table.columns) ids)
     (found_plain table.columns id (there (has_column table id) (or_first (not (has_column table id)) (list_any (λ id. not (has_column table id)) ids) h)) (or_first (is_escrow_column (schema_of table) id) (list_any (is_escrow_column (schema_of table)) ids) e))
     (new_ids table ids (or_second (not (has_column table id)) (list_any (λ id. not (has_column table id)) ids) h) (or_second (is_escrow_column (schema_of table) id) (list_any (is_escrow_column (schema_of table)) ids) e))
   where
@@ -177,9 +177,9 @@ no_sum_there (c ∷ columns) id distinct h = by (no_sum_there columns id (and_ri
     by : (is_plain_column columns id ≡ true → is_sum_number columns id ≡ false) → (b : Bool) → (c.id.0 == id) ≡ b → (elim (cond b (Some c) (column_of_id columns id)) [ Some column ↦ not column.escrow | None ↦ false ]) ≡ true
         → ((c.escrow && b) || is_sum_number columns id) ≡ false
     by rest true e g =
-        ap (λ b. (b && true) || is_sum_number columns id) (not_true c.escrow g)
-        ∙ no_other columns id (ap (λ n. list_any (λ other. other == n) (map number_of_column columns)) (sym (same_number c.id.0 id e))
-        ∙ not_true (list_any (λ other. other == c.id.0) (map number_of_column columns)) (and_left (not (list_any (λ other. other == c.id.0) (map number_of_column columns))) (are_distinct (map number_of_column columns)) distinct))
+        ap (λ b. (b && true) || is_sum_number columns id) (not-true c.escrow g)
+        ∙ no_other columns id (ap (λ n. list_any (λ other. other == n) (map number_of_column columns)) (sym (eqb-true c.id.0 id e))
+        ∙ not-true (list_any (λ other. other == c.id.0) (map number_of_column columns)) (and_left (not (list_any (λ other. other == c.id.0) (map number_of_column columns))) (are_distinct (map number_of_column columns)) distinct))
     by rest false e g = ap (λ b. b || is_sum_number columns id) (and_false c.escrow) ∙ rest g
 
 none_summed : (columns : List Column) → are_distinct (map number_of_column columns) ≡ true → (ids : List ℕ) → list_all (is_plain_column columns) ids ≡ true → list_any (is_sum_number columns) ids ≡ false
@@ -191,8 +191,8 @@ none_summed columns distinct (id ∷ ids) h =
 all_plain : (tables : List Table) → have_own_numbers tables ≡ true → list_all has_plain_indexes tables ≡ true → read_no_sums tables ≡ true
 all_plain [] numbers h = refl
 all_plain (t ∷ tables) numbers h =
-    and_both (list_all (reads_no_sum t) t.indexes) (read_no_sums tables)
-    (all_mono (names_plain_columns t.columns) (reads_no_sum t) (λ rule is. ap not (none_summed t.columns distinct (rule_columns rule) is)) t.indexes (and_left (has_plain_indexes t) (list_all has_plain_indexes tables) h))
+    and_from (list_all (reads_no_sum t) t.indexes) (read_no_sums tables)
+    (all_stronger (names_plain_columns t.columns) (reads_no_sum t) (λ rule is. ap not (none_summed t.columns distinct (rule_columns rule) is)) t.indexes (and_left (has_plain_indexes t) (list_all has_plain_indexes tables) h))
     (all_plain tables (and_right (has_own_numbers t) (have_own_numbers tables) numbers) (and_right (has_plain_indexes t) (list_all has_plain_indexes tables) h))
   where
     distinct : are_distinct (map number_of_column t.columns) ≡ true

@@ -1,13 +1,13 @@
 -- No past change names a copied record.
 use Rattle.std.proofs.Common.{ℕ, ◌-◌, Bool, true, false, ◌&&◌, cond, List, None}
 use Rattle.std.specs.Prelude.{map, nat_lt, if◌then◌else◌}
+use Rattle.common_lemmas.proofs.Lists.{all_append, all_map, all_weaker}
 use Rattle.index_derive.specs.declared.log.Entry.{Entry}
 use Rattle.index_derive.specs.declared.log.EntryKind.{EntryKind}
 use Rattle.index_derive.specs.declared.log.EntryKind.TheVariants as entry
 use Rattle.database_state.specs.State.{DatabaseState, PastChange, undone, committed, is_open_change_of, levels}
 use Rattle.database_state.specs.Step.{applied, every_change, is_at_level, state_after, with_changes_at, with_levels, with_transaction}
 use Rattle.version_history.specs.KeptSteps.{with_next_number}
-use Rattle.version_history.proofs.Lists.{all_append, all_map, all_weaker}
 use Rattle.lawful_answers.specs.UncopiedPast.{AreUncopied, IsUncopied}
 use Rattle.lawful_answers.proofs.UncopiedChanges.{uncopied_twice}
 

@@ -1,6 +1,6 @@
 -- Entries that come and go, and their nodes.
-use Rattle.std.proofs.Common.{◌≡◌, Bool, true, false, not, List, [], ◌∷◌, ◌++◌, map, filter, find, Option, Some, None, option_map, Result, Ok, Err, refl, sym, ap, subst, ◌∙◌, true≢false}
-use Rattle.std.specs.Prelude.{All, AllPairs, IsSome, OnErr, OnOk, if◌then◌else◌, is_some}
+use Rattle.std.proofs.Common.{◌≡◌, Bool, true, false, not, List, [], ◌∷◌, ◌++◌, map, filter, find, Option, Some, None, option_map, refl, sym, ap, subst, ◌∙◌, true≢false}
+use Rattle.std.specs.Prelude.{All, AllPairs, IsSome, if◌then◌else◌, is_some}
 use Rattle.std.specs.List.{list_all, list_any}
 use Rattle.std.specs.Cmp.{IsTotalOrder, then_total, on_total}
 use Rattle.std.proofs.lemmas.List.Elements.{All-cons, All-filter, All-head, All-tail, All-weaker}
@@ -10,8 +10,9 @@ use Rattle.std.specs.declared.cmp.Ordering.TheVariants.{Less, Equal, Greater}
 use Rattle.std.specs.Ordering.{nat_cmp, is_eq, is_lt, is_le, ordering_then, ordering_reverse, on, then_cmp}
 use Rattle.std.specs.Cmp.Lexicographic.{slice_cmp, nat_list_cmp_total}
 use Rattle.std.proofs.lemmas.Bool.{and_from}
-use Rattle.common_lemmas.proofs.Booleans.{and_left, and_right}
+use Rattle.common_lemmas.proofs.Booleans.{and_left, and_right, by_test}
 use Rattle.common_lemmas.proofs.Orders.{is_less}
+use Rattle.common_lemmas.proofs.Finding.{find_map}
 use Rattle.page_image.specs.Page.{Node}
 use Rattle.btree_inplace.specs.Changes.{inserted, inserted_if_absent, without_key}
 use Rattle.btree_inplace.specs.Order.{has_key}
@@ -19,9 +20,9 @@ use Rattle.index_derive.specs.Entries.{entry_le, insert_entry}
 use Rattle.cursor_nav.specs.Places.{Pair, are_sorted, pair_lt}
 use Rattle.derived_index.specs.KeptEntries.{has_entry, without_entry}
 use Rattle.index_tree.specs.Entries.{AreApart, IsApart, IsApartFromAll, IsShort, insert_entry_if_absent, node_of_entry}
-use Rattle.index_tree.proofs.Bytes.{apart_turned, by_test, order, turned}
+use Rattle.index_tree.proofs.Bytes.{apart_turned, order, turned}
 use Rattle.index_tree.proofs.PairOrder.{is_same, order_of_entries, pair_lower, pair_same, then_turned}
-use Rattle.index_tree.proofs.Lists.{all_from, filter_alike, find_alike, find_map, found_all, none_from_any, pairs_head, pairs_tail, to_all}
+use Rattle.index_tree.proofs.Lists.{all_from, filter_alike, find_alike, found_all, none_from_any, pairs_head, pairs_tail, to_all}
 use Rattle.index_tree.proofs.NodeEntries.{same_pair}
 use Rattle.index_tree.proofs.Cutting.{found_apart}
 
@@ -275,13 +276,3 @@ filter_sorted p (x ∷ es) h =
 
 pub without_sorted : (e : Pair) (es : List Pair) → are_sorted es ≡ true → are_sorted (without_entry e.0 e.1 es) ≡ true
 without_sorted e es h = filter_sorted (λ x. not (is_same e x)) es h
-
--- ---- whether it went well
-
-pub on_ok : {A E : Type 0} {P Q : Type 0} (r : Result A E) → (P → Q) → OnOk r P → OnOk r Q
-on_ok (Ok x) f h = f h
-on_ok (Err x) f h = h
-
-pub either_way : {A E : Type 0} {P Q R : Type 0} (r : Result A E) → (P → R) → (Q → R) → OnOk r P → OnErr r Q → R
-either_way (Ok x) f g h k = f h
-either_way (Err x) f g h k = g k

@@ -8,11 +8,12 @@ use Rattle.std.specs.declared.cmp.Ordering.{Ordering}
 use Rattle.std.specs.declared.cmp.Ordering.TheVariants.{Less, Equal, Greater}
 use Rattle.std.specs.Ordering.{is_eq, is_lt, is_le, is_ge, ordering_then, ordering_reverse}
 use Rattle.std.specs.Cmp.Lexicographic.{nat_list_cmp_total, texts_ties}
+use Rattle.common_lemmas.proofs.Booleans.{by_test}
 use Rattle.index_derive.specs.declared.entries.Place.TheVariants.{On, Gap}
 use Rattle.cursor_nav.specs.Places.{Pair, are_sorted, entry_after, entry_before, is_beyond, is_short_of, pair_lt}
 use Rattle.derived_index.specs.KeptEntries.{has_key}
 use Rattle.index_tree.specs.Entries.{AreApart, CutsAt, IsApart, IsApartFromAll, IsShort, gap_bookmark, is_at_or_after}
-use Rattle.index_tree.proofs.Bytes.{apart_itself, apart_turned, by_test, is_front, front_lower, order, order_of_pairs, tied, turned}
+use Rattle.index_tree.proofs.Bytes.{apart_itself, apart_turned, is_front, front_lower, order, order_of_pairs, tied, turned}
 use Rattle.index_tree.proofs.PairOrder.{beyond_gap, beyond_pair, key_order, le_by, pair_lower, short_below_top, short_of_gap}
 use Rattle.index_tree.proofs.Lists.{all_both, all_from, any_found, any_none, filter_alike, find_alike, found_passes, none_passes, pairs_found}
 

@@ -8,6 +8,10 @@ use Rattle.std.proofs.lemmas.List.{append-nil}
 use Rattle.std.proofs.lemmas.List.Elements.{All-head, All-tail, All-weaker}
 use Rattle.std.proofs.Math.Seq.{take-append_seam, drop-append_seam}
 use Rattle.std.specs.Ordering.{is_eq}
+use Rattle.common_lemmas.proofs.Finding.{find_map, find_reverse, last_map}
+use Rattle.common_lemmas.proofs.Orders.{is_equal}
+use Rattle.common_lemmas.proofs.Booleans.{by_test}
+use Rattle.common_lemmas.proofs.Numbers.{same_bytes}
 use Rattle.byteorder.specs.Endian.{little_bytes, little_number}
 use Rattle.byteorder.specs.Numbers.{length-bytes_low_first, little_number-reads_back}
 use Rattle.page_image.specs.Page.{Node}
@@ -19,9 +23,9 @@ use Rattle.derived_index.specs.KeptEntries.{has_entry}
 use Rattle.index_tree.specs.Entries.{AreApart, IsApart, IsShort, entry_of_node, node_of_entry}
 use Rattle.index_tree.specs.IndexTrees.{IsIndexTree, entries_of}
 use Rattle.index_tree.specs.declared.index.IndexTree.{IndexTree}
-use Rattle.index_tree.proofs.Bytes.{by_test, itself, order, same_bytes, tied, is_equal}
+use Rattle.index_tree.proofs.Bytes.{itself, order, tied}
 use Rattle.index_tree.proofs.PairOrder.{is_same}
-use Rattle.index_tree.proofs.Lists.{any_found, any_none, find_map, find_reverse, found_all, found_passes, last_map, none_passes}
+use Rattle.index_tree.proofs.Lists.{any_found, any_none, found_all, found_passes, none_passes}
 use Rattle.index_tree.proofs.Cutting.{found_apart}
 
 -- ---- an entry of a node

@@ -3,6 +3,9 @@ use Rattle.std.proofs.Common.{◌≡◌, ℕ, ◌<◌, ◌≤◌, Bool, true, fa
 use Rattle.std.specs.Prelude.{◌==◌, not, nat_lt, find, unwrap_or, is_none}
 use Rattle.std.specs.Option.{option_or}
 use Rattle.std.proofs.lemmas.Bool.Decides.{nat_tests}
+use Rattle.std.proofs.lemmas.Bool.{ltb-true}
+use Rattle.common_lemmas.proofs.Booleans.{and_left, and_right}
+use Rattle.common_lemmas.proofs.Numbers.{self_equal}
 use Rattle.jet_base.specs.declared.replies.Jet.{Jet}
 use Rattle.jet_base.specs.declared.replies.Jet.TheVariants as jet
 use Rattle.index_derive.specs.declared.schema_calls.SchemaCall.{SchemaCall}
@@ -15,8 +18,7 @@ use Rattle.database_state.specs.SchemaChanges.{new_table, step_table, schema_ref
 use Rattle.database_state.specs.SchemaSteps.{step_of_call}
 use Rattle.jet_catalog.specs.Catalog.{ids_rise, IsNumbered, catalog_of}
 use Rattle.jet_catalog.specs.Decisions.{answer, decided, called_table, session_refusals, refusal_after, refused_or, table_or_new}
-use Rattle.jet_catalog.proofs.Passed.{and_left, and_right}
-use Rattle.jet_catalog.proofs.RisingIds.{lt_from_true, above}
+use Rattle.jet_catalog.proofs.RisingIds.{above}
 use Rattle.jet_catalog.proofs.WithoutRows.{ids_rise-without_rows}
 
 -- ---- a table's id finds the table
@@ -24,11 +26,8 @@ use Rattle.jet_catalog.proofs.WithoutRows.{ids_rise-without_rows}
 none_below : (id low high : ℕ) (tables : List Table) → id ≤ low → ids_rise low high tables ≡ true → table_with_id tables id ≡ None
 none_below id low high [] le rise = refl
 none_below id low high (t ∷ tables) le rise =
-    let lt : low < t.id = lt_from_true low t.id (and_left _ _ rise) in
+    let lt : low < t.id = ltb-true low t.id (and_left _ _ rise) in
     rw (above id t.id (omega arith)) (none_below id t.id high tables (omega arith) (and_right _ _ rise))
-
-pub self_equal : (n : ℕ) → (n == n) ≡ true
-self_equal n = grind (arith, nat_tests)
 
 unequal : (a b : ℕ) → a < b → (a == b) ≡ false
 unequal a b lt = grind (arith, nat_tests)
@@ -37,7 +36,7 @@ unequal a b lt = grind (arith, nat_tests)
 found_by_id : (p : Table → Bool) (low high : ℕ) (tables : List Table) (table : Table) → ids_rise low high tables ≡ true → find p tables ≡ Some table → (low < table.id) × (table_with_id tables table.id ≡ Some table)
 found_by_id p low high [] table rise h = cc
 found_by_id p low high (t ∷ tables) table rise h =
-    found_at (p t) h (lt_from_true low t.id (and_left _ _ rise)) (found_by_id p t.id high tables table (and_right _ _ rise))
+    found_at (p t) h (ltb-true low t.id (and_left _ _ rise)) (found_by_id p t.id high tables table (and_right _ _ rise))
   where
     found_at : (b : Bool) → cond b (Some t) (find p tables) ≡ Some table → low < t.id → (find p tables ≡ Some table → (t.id < table.id) × (table_with_id tables table.id ≡ Some table))
         → (low < table.id) × (cond (t.id == table.id) (Some t) (table_with_id tables table.id) ≡ Some table)

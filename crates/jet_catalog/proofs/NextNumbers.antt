@@ -2,6 +2,9 @@
 use Rattle.std.proofs.Common.{◌≡◌, ℕ, ◌+◌, ◌<◌, Bool, true, ◌&&◌, Option, Some, None, Result, Ok, Err, IfOk, IsTrue, refl, sym, ap, subst, ◌∙◌, arith}
 use Rattle.std.specs.Prelude.{◌==◌, nat_lt, unwrap_or}
 use Rattle.std.proofs.lemmas.Bool.Decides.{nat_tests}
+use Rattle.std.proofs.lemmas.Bool.{and_from}
+use Rattle.common_lemmas.proofs.Booleans.{and_left}
+use Rattle.common_lemmas.proofs.Numbers.{self_equal}
 use Rattle.jet_base.specs.declared.replies.Jet.{Jet}
 use Rattle.jet_base.specs.declared.memory.OutOfMemory.{OutOfMemory}
 use Rattle.index_derive.specs.declared.schema_calls.SchemaCall.{SchemaCall}
@@ -16,8 +19,7 @@ use Rattle.database_state.specs.SchemaSteps.{step_of_call, table_or_none}
 use Rattle.database_state.specs.Lawful.{has_next_numbers, is_name}
 use Rattle.jet_catalog.specs.Catalog.{CatalogState, IsNumbered, catalog_of, database_of, has_new_id}
 use Rattle.jet_catalog.specs.Decisions.{decided, refused_or, makes_named, call_refusals}
-use Rattle.jet_catalog.proofs.Passed.{and_left, and_both}
-use Rattle.jet_catalog.proofs.Composed.{step_table-called, self_equal}
+use Rattle.jet_catalog.proofs.Composed.{step_table-called}
 
 -- ---- new table ids
 
@@ -59,15 +61,15 @@ new_from_next state (step.DeleteIndex table index) next = refl
 
 -- the table of a step is the one for which the call's numbers were taken
 pub has_next_numbers-asked : (state : DatabaseState) (asked : SchemaCall) → IsNumbered (catalog_of state) → makes_named asked ≡ true → has_next_numbers state (step_of_call state asked) ≡ true
-has_next_numbers-asked state (call.CreateTable table) numbered named = and_both _ _ (self_equal (state.greatest_table + 1)) named
+has_next_numbers-asked state (call.CreateTable table) numbered named = and_from _ _ (self_equal (state.greatest_table + 1)) named
 has_next_numbers-asked state (call.DeleteTable table) numbered named = refl
 has_next_numbers-asked state (call.AddColumn table column kind flags) numbered named =
     let same = step_table-called state (call.AddColumn table column kind flags) numbered in
     let t = table_or_none state table in
-    rw same (and_both _ _ (self_equal (next_column_id t.greatest kind flags.tagged)) named)
+    rw same (and_from _ _ (self_equal (next_column_id t.greatest kind flags.tagged)) named)
 has_next_numbers-asked state (call.DeleteColumn table column) numbered named = refl
 has_next_numbers-asked state (call.CreateIndex table index flags key_most segments conditions) numbered named =
     let same = step_table-called state (call.CreateIndex table index flags key_most segments conditions) numbered in
     let t = table_or_none state table in
-    rw same (and_both _ _ (and_both _ _ (self_equal (next_index_id t.indexes)) (self_equal (greatest_order t.indexes + 1))) named)
+    rw same (and_from _ _ (and_from _ _ (self_equal (next_index_id t.indexes)) (self_equal (greatest_order t.indexes + 1))) named)
 has_next_numbers-asked state (call.DeleteIndex table index) numbered named = refl

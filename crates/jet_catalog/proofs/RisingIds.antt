@@ -4,16 +4,13 @@ use Rattle.std.proofs.Math.ListN.{set}
 use Rattle.std.specs.Prelude.{◌==◌, ◌+◌, not, nat_lt, filter}
 use Rattle.std.specs.List.{position, position_or_len}
 use Rattle.std.proofs.lemmas.Bool.Decides.{nat_tests}
-use Rattle.std.proofs.lemmas.Bool.{le-leb, leb-true}
+use Rattle.std.proofs.lemmas.Bool.{and_from, le-leb, leb-true, ltb-true}
+use Rattle.common_lemmas.proofs.Booleans.{and_left, and_right}
 use Rattle.database_state.specs.Table.{Table, with_table}
 use Rattle.jet_catalog.specs.Catalog.{ids_rise}
-use Rattle.jet_catalog.proofs.Passed.{and_left, and_right, and_both}
 
 lt_true : (a b : ℕ) → a < b → nat_lt a b ≡ true
 lt_true a b h = grind (arith, nat_tests)
-
-pub lt_from_true : (a b : ℕ) → nat_lt a b ≡ true → a < b
-lt_from_true a b h = grind (arith, nat_tests)
 
 pub above : (a b : ℕ) → a < b → (b == a) ≡ false
 above a b h = grind (arith, nat_tests)
@@ -21,25 +18,25 @@ above a b h = grind (arith, nat_tests)
 pub ids_rise-append : (low high id : ℕ) (tables : List Table) (table : Table) → high < id → table.id ≡ id → ids_rise low high tables ≡ true → ids_rise low id (tables ++ table ∷ []) ≡ true
 ids_rise-append low high id [] table lt e rise =
     let le : low ≤ high = leb-true low high rise in
-    and_both _ _ (lt_true low table.id (omega arith)) (le-leb table.id id (omega arith))
+    and_from _ _ (lt_true low table.id (omega arith)) (le-leb table.id id (omega arith))
 ids_rise-append low high id (t ∷ tables) table lt e rise =
-    and_both _ _ (and_left _ _ rise) (ids_rise-append t.id high id tables table lt e (and_right _ _ rise))
+    and_from _ _ (and_left _ _ rise) (ids_rise-append t.id high id tables table lt e (and_right _ _ rise))
 
 ids_rise-lower : (low from high : ℕ) (tables : List Table) → low ≤ from → ids_rise from high tables ≡ true → ids_rise low high tables ≡ true
 ids_rise-lower low from high [] le rise =
     let below : from ≤ high = leb-true from high rise in
     le-leb low high (omega arith)
 ids_rise-lower low from high (t ∷ tables) le rise =
-    let below : from < t.id = lt_from_true from t.id (and_left _ _ rise) in
-    and_both _ _ (lt_true low t.id (omega arith)) (and_right _ _ rise)
+    let below : from < t.id = ltb-true from t.id (and_left _ _ rise) in
+    and_from _ _ (lt_true low t.id (omega arith)) (and_right _ _ rise)
 
 pub ids_rise-filter : (keep : Table → Bool) (low high : ℕ) (tables : List Table) → ids_rise low high tables ≡ true → ids_rise low high (filter keep tables) ≡ true
 ids_rise-filter keep low high [] rise = rise
 ids_rise-filter keep low high (t ∷ tables) rise =
-    let below : low < t.id = lt_from_true low t.id (and_left _ _ rise) in
+    let below : low < t.id = ltb-true low t.id (and_left _ _ rise) in
     let rest = ids_rise-filter keep t.id high tables (and_right _ _ rise) in
     elim (keep t) as (λ b. ids_rise low high (cond b (t ∷ filter keep tables) (filter keep tables)) ≡ true) [
-      | true ↦ and_both _ _ (and_left _ _ rise) rest
+      | true ↦ and_from _ _ (and_left _ _ rise) rest
       | false ↦ ids_rise-lower low t.id high (filter keep tables) (omega arith) rest
     ]
 
@@ -47,14 +44,14 @@ pub ids_rise-set : (low high : ℕ) (tables : List Table) (index : ℕ) (table d
 ids_rise-set low high [] index table d e rise = rise
 ids_rise-set low high (t ∷ tables) zero table d e rise = rw e rise
 ids_rise-set low high (t ∷ tables) (suc index) table d e rise =
-    and_both _ _ (and_left _ _ rise) (ids_rise-set t.id high tables index table d e (and_right _ _ rise))
+    and_from _ _ (and_left _ _ rise) (ids_rise-set t.id high tables index table d e (and_right _ _ rise))
 
 -- ---- the table of an id changed
 
 with_table-above : (id low high : ℕ) (change : Table → Table) (tables : List Table) → id ≤ low → ids_rise low high tables ≡ true → with_table id change tables ≡ tables
 with_table-above id low high change [] le rise = refl
 with_table-above id low high change (t ∷ tables) le rise =
-    let below : low < t.id = lt_from_true low t.id (and_left _ _ rise) in
+    let below : low < t.id = ltb-true low t.id (and_left _ _ rise) in
     rw (above id t.id (omega arith)) (ap (λ rest. t ∷ rest) (with_table-above id t.id high change tables (omega arith) (and_right _ _ rise)))
 
 one_more : (n : ℕ) → 1 + n ≡ suc n
@@ -91,7 +88,7 @@ none_beyond n most true e h = cc
 none_beyond n most false e h = grind (arith, nat_tests)
 
 some_within : (n most index : ℕ) (b : Bool) → nat_lt n most ≡ b → cond b (Some n) None ≡ Some index → (n ≡ index) × (n < most)
-some_within n most index true e h = (cc, lt_from_true n most e)
+some_within n most index true e h = (cc, ltb-true n most e)
 some_within n most index false e h = cc
 
 -- where no table has the id, a change of that table changes none

@@ -1,7 +1,7 @@
 -- What changes of a table's long values leave, one after the other.
 use Rattle.std.proofs.Common.{◌≡◌, ◌≢◌, ℕ, ◌==◌, Bool, true, ◌||◌, if◌then◌else◌, List, [], ◌∷◌, map, refl, sym, ap, ◌∙◌}
 use Rattle.std.specs.List.{list_any}
-use Rattle.long_references.proofs.Totals.{by_test}
+use Rattle.common_lemmas.proofs.Booleans.{by_test}
 use Rattle.long_value.specs.Values.{Values}
 use Rattle.table_trees.specs.StoredTables.{StoredTable, has_table, is_table, put_long_values, table_indexes, table_long_values, table_nodes, with_long_values}
 use Rattle.kept_rows.specs.ValuesChanged.{HasLongValues}

@@ -2,6 +2,7 @@
 use Rattle.std.proofs.Common.{◌≡◌, ◌≢◌, ℕ, ◌<◌, ◌≤◌, Bool, true, false, if◌then◌else◌, Option, Some, None, option_map, List, [], ◌∷◌, ◌++◌, refl, sym, ap, subst, ◌∙◌, arith, true≢false}
 use Rattle.std.specs.Prelude.{IsSome, bytes_eq}
 use Rattle.std.specs.List.{flat_map, list_any}
+use Rattle.common_lemmas.proofs.Booleans.{by_test}
 use Rattle.column_set.specs.declared.rows.RowValue.{RowValue}
 use Rattle.column_set.specs.declared.rows.RowValue.TheVariants.{Here, Apart}
 use Rattle.column_set.specs.Rows.{value_bytes}
@@ -9,7 +10,7 @@ use Rattle.long_value.specs.Values.{LongValue, Values, value_of, without_referen
 use Rattle.long_references.specs.RowReferences.{identifier, named_by, not_among, times_among, with_identifier}
 use Rattle.long_references.specs.ReferenceCounts.{with_all_released}
 use Rattle.long_references.proofs.Taken.{ValueLaws}
-use Rattle.long_references.proofs.Totals.{among-no, by_test}
+use Rattle.long_references.proofs.Totals.{among-no}
 use Rattle.long_rows.proofs.Named.{more_named, own_named}
 use Rattle.row_edit.specs.OtherValues.{MayStand, StandIn}
 use Rattle.long_value.specs.Stores.{id_bytes}

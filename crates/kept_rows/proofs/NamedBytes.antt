@@ -11,11 +11,13 @@ use Rattle.long_rows.proofs.Given.{IdLaw, bytes_differ}
 use Rattle.long_rows.proofs.Kept.{and_four}
 use Rattle.long_rows.proofs.WithoutColumn.{any_with}
 use Rattle.std.specs.List.{flat_map, list_any}
+use Rattle.common_lemmas.proofs.Booleans.{by_test}
+use Rattle.common_lemmas.proofs.Numbers.{same_bytes}
 use Rattle.column_set.specs.declared.rows.RowValue.{RowValue}
 use Rattle.column_set.specs.declared.rows.RowValue.TheVariants.{Here, Apart}
 use Rattle.column_set.specs.Rows.{value_bytes}
 use Rattle.long_references.specs.RowReferences.{identifier, named_by, with_identifier}
-use Rattle.long_references.proofs.Totals.{by_test, equal_bytes, itself}
+use Rattle.long_references.proofs.Totals.{itself}
 use Rattle.kept_rows.specs.NamedValues.{is_name, name_of}
 
 pub names_more : (k : List ℕ) (x : ℕ × RowValue) (xs : List (ℕ × RowValue)) → list_any (bytes_eq k) (named_by (x ∷ xs)) ≡ (is_name k (name_of x.1) || list_any (bytes_eq k) (named_by xs))

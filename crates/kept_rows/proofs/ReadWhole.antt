@@ -6,6 +6,7 @@ use Rattle.std.specs.Ordering.{eq_by_cmp, nat_cmp}
 use Rattle.std.specs.FinMap.Entries.{is_sorted}
 use Rattle.std.proofs.lemmas.Bool.{cases_lt, eqb-true, leb-true, ltb-false, ltb-true}
 use Rattle.std.proofs.lemmas.List.{length-take, length-take-le, take_all}
+use Rattle.common_lemmas.proofs.Booleans.{and_left, and_right, by_test}
 use Rattle.column_set.specs.declared.rows.RowValue.{RowValue}
 use Rattle.column_set.specs.declared.rows.RowValue.TheVariants.{Here, Apart}
 use Rattle.column_set.specs.Reading.{IsFront}
@@ -14,9 +15,7 @@ use Rattle.column_set.specs.Rows.{RowFields, apart_at, bytes_here, field_fits_ro
 use Rattle.long_value.specs.Stores.{read_upto}
 use Rattle.long_value.specs.Values.{LongValue, Values, value_of}
 use Rattle.long_references.specs.RowReferences.{identifier}
-use Rattle.long_references.proofs.Totals.{by_test}
 use Rattle.long_rows.specs.WholeRows.{bytes_of_value, has_length, is_there, is_whole, record_in, whole_value}
-use Rattle.long_rows.proofs.Keeping.{and_left, and_right}
 
 never : {X : Type 0} (x : X) → None ≡ Some x → ⊥
 never x e = cc

@@ -2,6 +2,7 @@
 use Rattle.std.proofs.Common.{◌≡◌, ◌≢◌, ℕ, suc, Bool, true, false, if◌then◌else◌, Option, Some, None, List, [], ◌∷◌, ◌++◌, length, map, refl, sym, ap, subst, ◌∙◌, arith, true≢false}
 use Rattle.std.specs.Prelude.{IsSome, bytes_eq, is_some}
 use Rattle.std.specs.List.{AllByRecursion, flat_map, list_any}
+use Rattle.common_lemmas.proofs.Booleans.{by_test}
 use Rattle.column_set.specs.declared.rows.RowValue.{RowValue}
 use Rattle.column_set.specs.declared.rows.RowValue.TheVariants.{Here, Apart}
 use Rattle.column_set.specs.Rows.{value_bytes}
@@ -9,7 +10,7 @@ use Rattle.long_value.specs.Values.{AreLong, LongValue, Values, put_value, value
 use Rattle.long_references.specs.RowReferences.{identifier, named_by}
 use Rattle.long_references.specs.ReferenceCounts.{with_all_taken, with_taken}
 use Rattle.long_references.proofs.Taken.{ValueLaws}
-use Rattle.long_references.proofs.Totals.{by_test, itself}
+use Rattle.long_references.proofs.Totals.{itself}
 use Rattle.long_rows.specs.KeptRows.{MayTake, Takes}
 use Rattle.long_rows.proofs.Given.{added, among, any_named, named_with, there}
 use Rattle.long_rows.proofs.InUse.{given_back}

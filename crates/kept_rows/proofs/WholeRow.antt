@@ -6,13 +6,13 @@ use Rattle.std.specs.Ordering.{nat_cmp}
 use Rattle.std.specs.FinMap.Entries.{is_sorted}
 use Rattle.std.proofs.lemmas.Bool.{and_parts, ltb-true}
 use Rattle.std.proofs.lemmas.List.{take_all}
+use Rattle.common_lemmas.proofs.Booleans.{and_left, and_right}
 use Rattle.column_set.specs.declared.rows.RowValue.{RowValue}
 use Rattle.column_set.specs.RecordValues.{RecordFields}
 use Rattle.column_set.specs.Rows.{IsRowBytes, RowFields, field_fits_row, is_row, is_row_of, is_well_formed, record_values_in_order, row_bytes, stands_for, value_bytes, value_fits_row, values_in_order, values_stand_for}
 use Rattle.column_set.specs.RowReading.{row_in}
 use Rattle.long_value.specs.Values.{Values}
 use Rattle.long_rows.specs.KeptRows.{MayTake, given_by, given_values, with_value_given}
-use Rattle.long_rows.proofs.Keeping.{and_left, and_right}
 use Rattle.row_edit.specs.OtherValues.{MayStand, StandIn}
 use Rattle.kept_rows.specs.NamedValues.{given_of, values_left}
 use Rattle.kept_rows.proofs.TakingAll.{MayAll}

@@ -1,6 +1,6 @@
 -- The row that is written value by value.
 use Rattle.std.proofs.Common.{◌≡◌, ℕ, suc, ◌+◌, ◌-◌, ◌≤◌, ◌^◌, min, Bool, true, false, if◌then◌else◌, Option, List, [], ◌∷◌, ◌++◌, length, map, refl, sym, ap, ◌∙◌, arith}
-use Rattle.std.specs.Prelude.{IfOk, OnOk, Result, Ok, Err, nat_lt, sum_by}
+use Rattle.std.specs.Prelude.{IfOk, Result, Ok, Err, nat_lt, sum_by}
 use Rattle.std.specs.Int.{w16, to_le_bytes}
 use Rattle.std.specs.List.{flat_map}
 use Rattle.std.proofs.lemmas.Grind.{flat_map-append}
@@ -15,10 +15,6 @@ use Rattle.long_rows.specs.KeptRows.{Found, kept_fields, kept_row, kept_value, k
 pub if_ok : {X Y : Type 0} {A B : X → Type 0} (r : Result X Y) → ((x : X) → A x → B x) → IfOk r A → IfOk r B
 if_ok (Ok x) f a = f x a
 if_ok (Err y) f a = tt
-
-pub on_ok : {X Y A B : Type 0} (r : Result X Y) → (A → B) → OnOk r A → OnOk r B
-on_ok (Ok x) f a = f a
-on_ok (Err y) f a = tt
 
 -- ---- one value
 

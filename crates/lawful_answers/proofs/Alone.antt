@@ -3,6 +3,10 @@ use Rattle.std.proofs.Common.{◌≡◌, ℕ, ◌+◌, ◌≤◌, Bool, true, fa
 use Rattle.std.specs.Prelude.{◌==◌, filter, map, nat_lt}
 use Rattle.std.specs.List.{AllByRecursion, list_any}
 use Rattle.std.proofs.lemmas.Bool.Decides.{nat_tests}
+use Rattle.std.proofs.lemmas.Bool.{and_from}
+use Rattle.common_lemmas.proofs.Booleans.{and_left}
+use Rattle.common_lemmas.proofs.Lists.{all_weaker, filter_none}
+use Rattle.common_lemmas.proofs.Numbers.{self_equal}
 use Rattle.column_set.specs.declared.changes.Change.{Change}
 use Rattle.index_derive.specs.declared.log.Entry.{Entry}
 use Rattle.index_derive.specs.declared.log.EntryKind.TheVariants as entry
@@ -19,13 +23,11 @@ use Rattle.database_state.specs.Step.{state_after}
 use Rattle.database_state.specs.Lawful.{is_lawful, is_live, log_limit}
 use Rattle.derived_index.proofs.Adding.{KeysRise}
 use Rattle.record_changes.specs.Records.{Records}
-use Rattle.record_changes.proofs.Tests.{and_both, and_left, self_equal}
 use Rattle.version_history.specs.History.{IsHistory, IsPlaced, IsPlacedBy}
 use Rattle.version_history.specs.KeptSteps.{kept_after, with_next_number}
 use Rattle.version_history.proofs.Concurrent.{concurrent_kept}
 use Rattle.version_history.proofs.Entries.{history_begun}
 use Rattle.version_history.proofs.LawfulEntries.{keeps_lawful, outside}
-use Rattle.version_history.proofs.Lists.{all_weaker, none_passes}
 use Rattle.version_history.proofs.SeenRecords.{of_kept}
 use Rattle.version_history.proofs.Transactions.{transaction-begun}
 use Rattle.version_history.proofs.Viewing.{none_open}
@@ -100,7 +102,7 @@ unfolding view state_after
 view_after base dropped kept state session h live out =
     ap (view_in (state_after state (begin_of session)) session) (begun_at state session live)
     ∙ ap (λ items. tables_after_all state.tables (map change_of items)) (of_kept base dropped kept state h (is_open_change_of session) (λ item e. and_left _ _ e)
-    ∙ none_passes (is_open_change_of session) kept (all_weaker (IsPlaced state.number state.tables (transaction_of state)) (λ item. is_open_change_of session item ≡ false)
+    ∙ filter_none (is_open_change_of session) kept (all_weaker (IsPlaced state.number state.tables (transaction_of state)) (λ item. is_open_change_of session item ≡ false)
     (none_open state.number state.tables (transaction_of state) session (outside base dropped kept state h session out)) kept h.keeps.placed))
     ∙ sym (ap (view_in state session) (outside base dropped kept state h session out))
 
@@ -108,7 +110,7 @@ view_after base dropped kept state session h live out =
 
 begin_lawful : (state : DatabaseState) (session : ℕ) → nat_lt state.number log_limit ≡ true → is_live state session ≡ true → (levels state session == 0) ≡ true → is_lawful state (begin_of session) ≡ true
 unfolding is_lawful
-begin_lawful state session few live out = and_both _ _ few (and_both _ _ live out)
+begin_lawful state session few live out = and_from _ _ few (and_from _ _ live out)
 
 same_levels : (state : DatabaseState) (session : ℕ) (change : Change) → levels (state_after state (record { session = record { 0 = session }; kind = entry.Change change })) session ≡ levels state session
 unfolding state_after

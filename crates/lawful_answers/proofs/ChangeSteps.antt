@@ -2,6 +2,7 @@
 use Rattle.std.proofs.Common.{◌≡◌, ℕ, ◌+◌, true, false, not, List, ◌++◌, Option, Some, None, refl, sym, ap, ◌∙◌, arith}
 use Rattle.std.specs.Prelude.{◌==◌, if◌then◌else◌, is_none, is_some, nat_le, nat_lt}
 use Rattle.std.proofs.lemmas.Bool.Decides.{nat_tests}
+use Rattle.std.proofs.lemmas.Bool.{and_from}
 use Rattle.jet_base.specs.declared.ids.CursorId.{CursorId}
 use Rattle.jet_base.specs.declared.words.Prepare.TheVariants as prepare
 use Rattle.column_set.specs.declared.changes.Change.{Change}
@@ -17,7 +18,6 @@ use Rattle.database_state.specs.Step.{state_after}
 use Rattle.database_state.specs.Lawful.{is_lawful, is_lawful_at, is_lawful_in, is_live, log_limit}
 use Rattle.derived_index.proofs.Adding.{KeysRise}
 use Rattle.record_changes.specs.Records.{Records}
-use Rattle.record_changes.proofs.Tests.{and_both}
 use Rattle.version_keys.proofs.BookmarkKeys.{HasOneEntry}
 use Rattle.version_keys.proofs.UniqueKept.{id_of}
 use Rattle.session_local.specs.declared.request.Request.TheVariants as call
@@ -55,7 +55,7 @@ IsLawfulAtTable state as_seen session change = is_lawful_at as_seen session (tab
 changed_in : (state : DatabaseState) (session : ℕ) (change : Change) → nat_le state.number log_limit ≡ true → nat_lt 0 (levels state session) ≡ true → has_write_conflict state session change ≡ false → IsLawfulAtTable state state session change
     → is_lawful state (record { session = record { 0 = session }; kind = entry.Change change }) ≡ true
 unfolding is_lawful
-changed_in state session change few inside free lawful = and_both _ _ few (and_both _ _ (and_both _ _ inside (ap not free)) lawful)
+changed_in state session change few inside free lawful = and_from _ _ few (and_from _ _ (and_from _ _ inside (ap not free)) lawful)
 
 pub after_tables : (state : DatabaseState) (session : ℕ) → ((state_after state (begin_of session)).tables ≡ state.tables) × ((state_after state (begin_of session)).number ≡ state.number + 1)
 unfolding state_after

@@ -3,20 +3,17 @@ use Rattle.std.proofs.Common.{◌≡◌, ℕ, ◌+◌, Bool, true, false, not, �
 use Rattle.std.specs.Prelude.{◌==◌, nat_le, max}
 use Rattle.std.specs.List.{list_all, list_any}
 use Rattle.std.proofs.lemmas.Bool.Decides.{nat_tests}
-use Rattle.std.proofs.lemmas.Bool.{not-true, or_from}
+use Rattle.std.proofs.lemmas.Bool.{and_from, not-true, or_from}
 use Rattle.common_lemmas.proofs.Numbers.{unequal_turned}
+use Rattle.common_lemmas.proofs.Booleans.{and_left, and_right}
+use Rattle.common_lemmas.proofs.Lists.{all_stronger}
 use Rattle.column_set.specs.declared.columns.Column.{Column}
 use Rattle.database_state.specs.Table.{GreatestColumns, Table}
 use Rattle.database_state.specs.SchemaChanges.{is_long_type, is_variable_type, with_column_id, columns_with, with_column, next_column_id, has_column_id}
 use Rattle.database_state.proofs.Columns.{are_behind, list_all-columns_with}
 use Rattle.session_local.specs.SessionSide.{are_distinct}
 use Rattle.session_local.specs.WellFormed.{number_of_column}
-use Rattle.record_changes.proofs.Tests.{and_left, and_right, and_both}
 use Rattle.lawful_answers.specs.ColumnNumbers.{is_given_number, are_in_range, has_own_numbers}
-
-pub all_mono : {X : Type 0} (p q : X → Bool) → ((x : X) → p x ≡ true → q x ≡ true) → (xs : List X) → list_all p xs ≡ true → list_all q xs ≡ true
-all_mono p q more [] h = refl
-all_mono p q more (x ∷ xs) h = and_both _ _ (more x (and_left _ _ h)) (all_mono p q more xs (and_right _ _ h))
 
 -- ---- numbers that were given
 
@@ -186,9 +183,9 @@ distinct_with column (c ∷ columns) distinct apart =
     let any = list_any (λ other. other == c.id.0) (map number_of_column columns) in
     let off : (column.id.0 == c.id.0) ≡ false = unequal_turned c.id.0 column.id.0 (not-true (c.id.0 == column.id.0) (and_left (not (c.id.0 == column.id.0)) (list_all (λ n. not (n == column.id.0)) (map number_of_column columns)) apart)) in
     elim (are_behind column (c ∷ columns)) as (λ b. are_distinct (map number_of_column (cond b (column ∷ c ∷ columns) (c ∷ columns_with column columns))) ≡ true) [
-      | true ↦ and_both (not (list_any (λ other. other == column.id.0) (map number_of_column (c ∷ columns)))) (are_distinct (map number_of_column (c ∷ columns)))
+      | true ↦ and_from (not (list_any (λ other. other == column.id.0) (map number_of_column (c ∷ columns)))) (are_distinct (map number_of_column (c ∷ columns)))
           (ap not (none_apart column.id.0 (map number_of_column (c ∷ columns)) apart)) distinct
-      | false ↦ and_both (not (list_any (λ other. other == c.id.0) (map number_of_column (columns_with column columns)))) (are_distinct (map number_of_column (columns_with column columns)))
+      | false ↦ and_from (not (list_any (λ other. other == c.id.0) (map number_of_column (columns_with column columns)))) (are_distinct (map number_of_column (columns_with column columns)))
           (ap not (none_with c.id.0 column columns (not-true any (and_left (not any) (are_distinct (map number_of_column columns)) distinct)) off))
           (distinct_with column columns (and_right (not any) (are_distinct (map number_of_column columns)) distinct) (and_right (not (c.id.0 == column.id.0)) (list_all (λ n. not (n == column.id.0)) (map number_of_column columns)) apart))
     ]
@@ -196,7 +193,7 @@ distinct_with column (c ∷ columns) distinct apart =
 all_apart : (p : Column → Bool) (number : ℕ) → ((c : Column) → p c ≡ true → (c.id.0 == number) ≡ false) → (columns : List Column) → list_all p columns ≡ true → list_all (λ n. not (n == number)) (map number_of_column columns) ≡ true
 all_apart p number apart [] h = refl
 all_apart p number apart (c ∷ columns) h =
-    and_both (not (c.id.0 == number)) (list_all (λ n. not (n == number)) (map number_of_column columns)) (ap not (apart c (and_left (p c) (list_all p columns) h)))
+    and_from (not (c.id.0 == number)) (list_all (λ n. not (n == number)) (map number_of_column columns)) (ap not (apart c (and_left (p c) (list_all p columns) h)))
     (all_apart p number apart columns (and_right (p c) (list_all p columns) h))
 
 own-more : (g g' : GreatestColumns) (columns : List Column) (column : Column) → IsNextOf g column.id.0 g' → own g columns ≡ true → own g' (columns_with column columns) ≡ true
@@ -204,9 +201,9 @@ own-more g g' columns column next h =
     let first = and_left (are_in_range g && list_all (is_given_number g) columns) (are_distinct (map number_of_column columns)) h in
     let distinct = and_right (are_in_range g && list_all (is_given_number g) columns) (are_distinct (map number_of_column columns)) h in
     let all = and_right (are_in_range g) (list_all (is_given_number g) columns) first in
-    and_both (are_in_range g' && list_all (is_given_number g') (columns_with column columns)) (are_distinct (map number_of_column (columns_with column columns)))
-    (and_both (are_in_range g') (list_all (is_given_number g') (columns_with column columns)) (from_ranges g'.fixed g'.variable g'.tagged next.range)
-    (list_all-columns_with (is_given_number g') column columns (all_mono (is_given_number g) (is_given_number g') (λ c. next.more c.id.0) columns all) next.new))
+    and_from (are_in_range g' && list_all (is_given_number g') (columns_with column columns)) (are_distinct (map number_of_column (columns_with column columns)))
+    (and_from (are_in_range g') (list_all (is_given_number g') (columns_with column columns)) (from_ranges g'.fixed g'.variable g'.tagged next.range)
+    (list_all-columns_with (is_given_number g') column columns (all_stronger (is_given_number g) (is_given_number g') (λ c. next.more c.id.0) columns all) next.new))
     (distinct_with column columns distinct (all_apart (is_given_number g) column.id.0 (λ c. next.fresh c.id.0) columns all))
 
 -- ---- the next number

@@ -4,6 +4,10 @@ use Rattle.std.specs.Prelude.{◌==◌, filter, nat_lt}
 use Rattle.std.specs.List.{AllByRecursion, list_any}
 use Rattle.std.proofs.lemmas.Bool.Decides.{nat_tests}
 use Rattle.std.proofs.lemmas.List.Folds.{list_any-append}
+use Rattle.std.proofs.lemmas.Bool.{and_from, eqb-true}
+use Rattle.common_lemmas.proofs.Booleans.{and_left, and_right, impossible}
+use Rattle.common_lemmas.proofs.Lists.{all_weaker}
+use Rattle.common_lemmas.proofs.Numbers.{self_equal}
 use Rattle.column_set.specs.declared.changes.Change.{Change}
 use Rattle.column_set.specs.declared.changes.Change.TheVariants.{Put, Drop, Hold, Add}
 use Rattle.database_state.specs.Changes.{changed_table, changed_bookmark, is_sum}
@@ -11,12 +15,11 @@ use Rattle.database_state.specs.State.{DatabaseState, PastChange, Status, Transa
 use Rattle.database_state.specs.Conflicts.{collide, is_after_begin, is_concurrent, is_concurrent_status, has_write_conflict}
 use Rattle.record_changes.specs.Records.{Records, is_change_of}
 use Rattle.record_changes.proofs.Commuting.{both_touch}
-use Rattle.record_changes.proofs.Tests.{and_both, and_left, and_right, contradicted, impossible, same_number, self_equal}
+use Rattle.record_changes.proofs.Tests.{contradicted}
 use Rattle.version_history.specs.History.{EachTwo, InOrder, IsHistory, IsPassed, IsPassedBy, is_apart, is_apart_by, is_begun_after}
 use Rattle.version_history.specs.Readers.{is_standing}
 use Rattle.version_history.proofs.Concurrent.{write_conflict_kept}
 use Rattle.version_history.proofs.Keeping.{also_open, open_live}
-use Rattle.version_history.proofs.Lists.{all_weaker}
 use Rattle.session_local.specs.Agreement.{has_lock, is_lock_on}
 
 -- what is a lock of the record
@@ -82,13 +85,13 @@ open_status undone e = impossible e
 
 -- of two changes of the record, one of them a lock
 touching : (table : ℕ) (bookmark : List ℕ) (p q : Change) → is_change_of table bookmark p ≡ true → is_change_of table bookmark q ≡ true → (is_sum p && is_sum q) ≡ false → collide p q ≡ true
-touching table bookmark p q mine also sums = and_both _ _ (both_touch table bookmark p q mine also) (ap not sums)
+touching table bookmark p q mine also sums = and_from _ _ (both_touch table bookmark p q mine also) (ap not sums)
 
 before_lock : (transactions : ℕ → Option Transaction) (session table : ℕ) (bookmark : List ℕ) (p l : PastChange) → is_own_lock session table bookmark l ≡ true → InOrder transactions p l → is_change_of table bookmark p.change ≡ true → is_concurrent session (transactions session) p ≡ false
 unfolding is_own_lock
 before_lock transactions session table bookmark p l lock order mine =
     let own : is_open_change_of session l ≡ true = and_left _ _ lock in
-    let of_l : l.session ≡ session = same_number l.session session (and_right (is_open l.status) _ own) in
+    let of_l : l.session ≡ session = eqb-true l.session session (and_right (is_open l.status) _ own) in
     let is = lock_of table bookmark l.change (and_right (is_open_change_of session l) _ lock) in
     let open_l : l.status ≡ uncommitted = open_status l.status (and_left _ _ own) in
     earlier_apart transactions session p p.status l.number (λ live.
@@ -106,11 +109,11 @@ behind_lock transactions session table bookmark l p lock order mine =
     elim (is_standing p) as (λ b. is_standing p ≡ b → is_concurrent session (transactions session) p ≡ false) [
       | true ↦ λ live.
           let own : is_open_change_of session l ≡ true = and_left _ _ lock in
-          let of_l : l.session ≡ session = same_number l.session session (and_right (is_open l.status) _ own) in
+          let of_l : l.session ≡ session = eqb-true l.session session (and_right (is_open l.status) _ own) in
           let is = lock_of table bookmark l.change (and_right (is_open_change_of session l) _ lock) in
           let apart : is_apart transactions l p ≡ true = order (open_live l.status (and_left _ _ own)) live (touching table bookmark l.change p.change is.0 mine (ap (λ b. b && is_sum p.change) is.1)) in
           let also : is_open_change_of session p ≡ true = also_open transactions session l p l.status p.status (and_left _ _ own) of_l apart in
-          not_concurrent_own session (transactions session) p (same_number p.session session (and_right (is_open p.status) _ also))
+          not_concurrent_own session (transactions session) p (eqb-true p.session session (and_right (is_open p.status) _ also))
       | false ↦ λ gone. undone_apart session (transactions session) p gone
     ] refl
 
@@ -131,7 +134,7 @@ all_clear transactions session table bookmark (l ∷ items) order lock =
     elim (is_own_lock session table bookmark l) as (λ b. is_own_lock session table bookmark l ≡ b → (b || list_any (is_own_lock session table bookmark) items) ≡ true
     → (is_change_of table bookmark l.change ≡ true → is_concurrent session (transactions session) l ≡ false) × AllByRecursion (λ p. is_change_of table bookmark p.change ≡ true → is_concurrent session (transactions session) p ≡ false) items) [
       | true ↦ λ e f. (
-        (λ mine. not_concurrent_own session (transactions session) l (same_number l.session session (and_right (is_open l.status) _ (and_left _ _ e)))),
+        (λ mine. not_concurrent_own session (transactions session) l (eqb-true l.session session (and_right (is_open l.status) _ (and_left _ _ e)))),
         all_weaker (InOrder transactions l) (λ p. is_change_of table bookmark p.change ≡ true → is_concurrent session (transactions session) p ≡ false) (λ p o mine. behind_lock transactions session table bookmark l p e o mine) items order.0,
       )
       | false ↦ λ e f. ((λ mine. one_clear transactions session table bookmark l items f order.0 mine), all_clear transactions session table bookmark items order.1 f)

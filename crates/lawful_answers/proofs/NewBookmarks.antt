@@ -3,6 +3,7 @@ use Rattle.std.proofs.Common.{◌≡◌, ℕ, ◌+◌, ◌<◌, Bool, true, fals
 use Rattle.std.specs.Prelude.{◌==◌, ◌^◌, filter, if◌then◌else◌, is_some, nat_le, IfSome}
 use Rattle.std.specs.List.{AllByRecursion, list_any}
 use Rattle.std.proofs.lemmas.Bool.Decides.{nat_tests}
+use Rattle.std.proofs.lemmas.Bool.{and_from, eqb-true}
 use Rattle.jet_base.specs.ColumnType.{big_endian}
 use Rattle.column_set.specs.declared.changes.Change.TheVariants as change
 use Rattle.column_set.specs.RecordValues.{RecordFields}
@@ -18,10 +19,10 @@ use Rattle.database_state.specs.Conflicts.{collide, has_key_conflict, has_write_
 use Rattle.database_state.specs.Lawful.{log_limit}
 use Rattle.derived_index.proofs.OtherRecords.{taken_primary}
 use Rattle.record_changes.specs.Records.{Records, records_of}
-use Rattle.record_changes.proofs.Tests.{and_both, and_left, and_right, impossible, or_first, or_second, same_bytes, same_number}
+use Rattle.record_changes.proofs.Tests.{or_first, or_second}
 use Rattle.version_history.proofs.Concurrent.{key_conflict_kept, write_conflict_kept}
 use Rattle.version_history.proofs.EndEntries.{no_conflict}
-use Rattle.version_history.proofs.Lists.{all_both, all_weaker}
+use Rattle.version_history.proofs.Lists.{all_both}
 use Rattle.version_keys.proofs.BookmarkKeys.{HasOneEntry}
 use Rattle.version_keys.proofs.EscrowSums.{unseen_now}
 use Rattle.version_records.specs.Bookmarks.{StandsUnder, TouchesRecord, is_bookmark, is_entry_number}
@@ -30,6 +31,9 @@ use Rattle.version_records.proofs.EachRecord.{AtChange}
 use Rattle.version_records.proofs.EntryNumbers.{entry_number-later}
 use Rattle.common_lemmas.proofs.Found.{found_passes, of_found}
 use Rattle.common_lemmas.proofs.Options.{none_there}
+use Rattle.common_lemmas.proofs.Booleans.{and_left, and_right, impossible}
+use Rattle.common_lemmas.proofs.Lists.{all_weaker}
+use Rattle.common_lemmas.proofs.Numbers.{same_bytes}
 use Rattle.version_records.proofs.PrimaryKeys.{AreUnrefused, each_null, primary_listed}
 use Rattle.version_records.proofs.Standing.{bookmarks_seen}
 use Rattle.session_local.specs.Local.{OpenCursor, PreparedFor, inserting, replacing}
@@ -157,7 +161,7 @@ not_concurrent one base dropped kept asked c reached at few values found whole f
     elim (primary_rule c.schema) as (λ o. primary_rule c.schema ≡ o
     → AllByRecursion (λ p. is_change_at c.cursor.table (inserted_bookmark asked c.schema o values) p ≡ true → is_concurrent asked.session (transaction_of asked.state asked.session) p ≡ false) kept) [
       | None ↦ λ e. all_both Known TouchesRecord (λ p. is_change_at c.cursor.table (big_endian 8 (number_of_change asked)) p ≡ true → is_concurrent asked.session (transaction_of asked.state asked.session) p ≡ false)
-          (λ p known touches mine. hidden e p (both_at p known (same_number (changed_table p.change) c.cursor.table (and_left _ _ mine))) touches (same_bytes (changed_bookmark p.change) (big_endian 8 (number_of_change asked)) (and_right (changed_table p.change == c.cursor.table) _ mine)))
+          (λ p known touches mine. hidden e p (both_at p known (eqb-true (changed_table p.change) c.cursor.table (and_left _ _ mine))) touches (same_bytes (changed_bookmark p.change) (big_endian 8 (number_of_change asked)) (and_right (changed_table p.change == c.cursor.table) _ mine)))
           kept reached.bookmarks.records.changes reached.bookmarks.touched
       | Some rule ↦ λ e.
           let is = has_primary one asked c.cursor.table c.schema (rows_seen asked c) values found whole free rule e in
@@ -167,7 +171,7 @@ not_concurrent one base dropped kept asked c reached at few values found whole f
           ∙ not_any (has_key_conflict asked.state asked.session c.cursor.table c.schema rule) (primary_key rule c.schema values) (new_keys rule c.schema None values) (listed_new (primary_key rule c.schema values) (key_list rule c.schema values) is.listed) is.free.0 in
           three Known TouchesRecord (λ p. ((changed_table p.change == c.cursor.table) && (yields_key rule c.schema (primary_key rule c.schema values) p.before || yields_key rule c.schema (primary_key rule c.schema values) p.after)) ≡ true → is_concurrent asked.session (transaction_of asked.state asked.session) p ≡ false)
           (λ p. is_change_at c.cursor.table (primary_key rule c.schema values) p ≡ true → is_concurrent asked.session (transaction_of asked.state asked.session) p ≡ false)
-          (λ p known touches clear mine. clear (and_both _ _ (and_left _ _ mine) (keyed rule e p (primary_key rule c.schema values) (both_at p known (same_number (changed_table p.change) c.cursor.table (and_left _ _ mine))) touches
+          (λ p known touches clear mine. clear (and_from _ _ (and_left _ _ mine) (keyed rule e p (primary_key rule c.schema values) (both_at p known (eqb-true (changed_table p.change) c.cursor.table (and_left _ _ mine))) touches
           (same_bytes (changed_bookmark p.change) (primary_key rule c.schema values) (and_right (changed_table p.change == c.cursor.table) _ mine)))))
           kept reached.bookmarks.records.changes reached.bookmarks.touched
           (no_conflict (λ item. (changed_table item.change == c.cursor.table) && (yields_key rule c.schema (primary_key rule c.schema values) item.before || yields_key rule c.schema (primary_key rule c.schema values) item.after))

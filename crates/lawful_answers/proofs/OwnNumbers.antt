@@ -2,6 +2,9 @@
 use Rattle.std.proofs.Common.{◌≡◌, ℕ, Bool, true, false, not, ◌&&◌, ◌||◌, cond, List, [], ◌∷◌, map, filter, Option, Some, refl, sym, ap, ◌∙◌}
 use Rattle.std.specs.Prelude.{◌==◌, IfSome, is_none, unwrap_or}
 use Rattle.std.specs.List.{list_all, list_any}
+use Rattle.std.proofs.lemmas.Bool.{and_from, eqb-true, not-true}
+use Rattle.common_lemmas.proofs.Lists.{all_filtered}
+use Rattle.common_lemmas.proofs.Booleans.{and_left, and_right, impossible}
 use Rattle.column_set.specs.declared.columns.Column.{Column}
 use Rattle.index_derive.specs.declared.log.Entry.{Entry}
 use Rattle.index_derive.specs.declared.log.EntryKind.{EntryKind}
@@ -13,7 +16,6 @@ use Rattle.database_state.specs.SchemaChanges.{has_column_id, new_table, next_co
 use Rattle.database_state.specs.State.{DatabaseState}
 use Rattle.database_state.specs.Step.{applied, state_after}
 use Rattle.database_state.specs.Lawful.{has_next_numbers, has_number, is_lawful, is_lawful_kind, is_live, is_name}
-use Rattle.record_changes.proofs.Tests.{and_left, and_right, and_both, impossible, not_true, same_number}
 use Rattle.session_local.specs.SessionSide.{are_distinct}
 use Rattle.session_local.specs.WellFormed.{number_of_column}
 use Rattle.version_history.specs.History.{EachTwo}
@@ -22,7 +24,7 @@ use Rattle.version_keys.specs.TableOrder.{HasTablesInOrder, IdsRise}
 use Rattle.version_keys.proofs.SchemaKeys.{at_found, at_table, with_last, without_table}
 use Rattle.lawful_answers.specs.ColumnNumbers.{are_in_range, has_own_numbers, have_own_numbers, is_given_number}
 use Rattle.lawful_answers.proofs.ColumnNumbers.{has_own_numbers-with_column}
-use Rattle.lawful_answers.proofs.TableTests.{all_filtered, all_found, all_listed, definitions_stay, is_schema_entry, tested_alike}
+use Rattle.lawful_answers.proofs.TableTests.{all_found, all_listed, definitions_stay, is_schema_entry, tested_alike}
 
 -- ---- columns that go
 
@@ -47,8 +49,8 @@ distinct_filtered q (c ∷ columns) h =
     let any = list_any (λ n. n == c.id.0) (map number_of_column columns) in
     let rest = distinct_filtered q columns (and_right (not any) (are_distinct (map number_of_column columns)) h) in
     elim (q c) as (λ b. are_distinct (map number_of_column (cond b (c ∷ filter q columns) (filter q columns))) ≡ true) [
-      | true ↦ and_both (not (list_any (λ n. n == c.id.0) (map number_of_column (filter q columns)))) (are_distinct (map number_of_column (filter q columns)))
-          (ap not (none_filtered c.id.0 q columns (not_true any (and_left (not any) (are_distinct (map number_of_column columns)) h)))) rest
+      | true ↦ and_from (not (list_any (λ n. n == c.id.0) (map number_of_column (filter q columns)))) (are_distinct (map number_of_column (filter q columns)))
+          (ap not (none_filtered c.id.0 q columns (not-true any (and_left (not any) (are_distinct (map number_of_column columns)) h)))) rest
       | false ↦ rest
     ]
 
@@ -63,8 +65,8 @@ numbered-without column t h =
     let distinct = are_distinct (map number_of_column t.columns) in
     let left : List Column = filter (λ c. not (c.id.0 == column)) t.columns in
     let first : (are_in_range t.greatest && given) ≡ true = and_left (are_in_range t.greatest && given) distinct h in
-    and_both (are_in_range t.greatest && list_all (is_given_number t.greatest) left) (are_distinct (map number_of_column left))
-    (and_both (are_in_range t.greatest) (list_all (is_given_number t.greatest) left) (and_left (are_in_range t.greatest) given first) (all_filtered (is_given_number t.greatest) (λ c. not (c.id.0 == column)) t.columns (and_right (are_in_range t.greatest) given first)))
+    and_from (are_in_range t.greatest && list_all (is_given_number t.greatest) left) (are_distinct (map number_of_column left))
+    (and_from (are_in_range t.greatest) (list_all (is_given_number t.greatest) left) (and_left (are_in_range t.greatest) given first) (all_filtered (is_given_number t.greatest) (λ c. not (c.id.0 == column)) t.columns (and_right (are_in_range t.greatest) given first)))
     (distinct_filtered (λ c. not (c.id.0 == column)) t.columns (and_right (are_in_range t.greatest && given) distinct h))
 
 step_numbered : (state : DatabaseState) (label : ℕ) (made : SchemaStep) → is_none (schema_refusal state label made) ≡ true → has_next_numbers state made ≡ true → ((id : ℕ) → IfSome (table_with_id state.tables id) Numbered)
@@ -81,7 +83,7 @@ step_numbered state label (step.AddColumn table column) free next h id =
 
     number : (t : Table) → table_with_id state.tables table.0 ≡ Some t → column.id.0 ≡ next_column_id t.greatest column.kind column.tagged
     number t found =
-        same_number column.id.0 (next_column_id t.greatest column.kind column.tagged)
+        eqb-true column.id.0 (next_column_id t.greatest column.kind column.tagged)
         (ap (λ (o : Option Table). column.id.0 == next_column_id (unwrap_or o (new_table 0 [])).greatest column.kind column.tagged) (sym found)
         ∙ and_left (column.id.0 == next_column_id (unwrap_or (table_with_id state.tables table.0) (new_table 0 [])).greatest column.kind column.tagged) (is_name column.name) next)
 

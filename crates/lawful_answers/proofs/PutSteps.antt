@@ -1,7 +1,9 @@
 -- The step of an update.
-use Rattle.std.proofs.Common.{◌≡◌, ℕ, Bool, true, false, not, ◌&&◌, ◌||◌, cond, List, [], ◌∷◌, ◌++◌, Option, Some, None, refl, sym, ap, ◌∙◌, bytes_eq}
+use Rattle.std.proofs.Common.{◌≡◌, ℕ, Bool, true, false, not, ◌&&◌, ◌||◌, cond, List, [], ◌∷◌, Option, Some, None, refl, sym, ap, ◌∙◌, bytes_eq}
 use Rattle.std.specs.Prelude.{filter, flat_map, is_none}
 use Rattle.std.specs.List.{AllByRecursion, list_all, list_any}
+use Rattle.std.proofs.lemmas.Bool.{and_from}
+use Rattle.common_lemmas.proofs.Lists.{all_parted}
 use Rattle.jet_base.specs.declared.replies.Jet.TheVariants as jet
 use Rattle.column_set.specs.RecordValues.{RecordFields}
 use Rattle.index_derive.specs.declared.rules.IndexRule.{IndexRule}
@@ -12,14 +14,10 @@ use Rattle.database_state.specs.Table.{Rows, index_entries, row_at}
 use Rattle.database_state.specs.Puts.{is_taken, key_refusals, new_keys, null_refusals, put_refusals, replaced_record}
 use Rattle.database_state.specs.State.{DatabaseState}
 use Rattle.database_state.specs.Conflicts.{has_key_conflict, yields_key}
-use Rattle.record_changes.proofs.Tests.{and_both, contradicted, or_first, or_second}
+use Rattle.record_changes.proofs.Tests.{contradicted, or_first, or_second}
 use Rattle.version_records.proofs.PrimaryKeys.{AreUnrefused}
 
 -- ---- lists
-
-pub parted : {X : Type 0} (P : X → Type 0) (xs ys : List X) → AllByRecursion P (xs ++ ys) → AllByRecursion P xs × AllByRecursion P ys
-parted P [] ys h = (tt, h)
-parted P (x ∷ xs) ys h = let rest = parted P xs ys h.1 in ((h.0, rest.0), rest.1)
 
 pub no_first : (refusals : Refusals) → AreUnrefused refusals → is_none (first_refusal refusals) ≡ true
 no_first [] h = refl
@@ -39,7 +37,7 @@ keys_pass meets taken other new asked f g (key ∷ keys) h k =
     elim (new key) as (λ b. new key ≡ b → list_all (λ key. not (meets key || taken key)) (cond b (key ∷ filter new keys) (filter new keys)) ≡ true) [
       | true ↦ λ e.
           let split : (meets key || list_any meets (filter asked keys)) ≡ false = sym (ap (λ b. list_any meets (cond b (key ∷ filter asked keys) (filter asked keys))) (f key e)) ∙ h in
-          and_both (not (meets key || taken key)) (list_all (λ key. not (meets key || taken key)) (filter new keys))
+          and_from (not (meets key || taken key)) (list_all (λ key. not (meets key || taken key)) (filter new keys))
           (ap (λ b. not (b || taken key)) (or_first (meets key) _ split) ∙ ap not (g key (or_first (other key) _ k)))
           (keys_pass meets taken other new asked f g keys (or_second (meets key) _ split) (or_second (other key) _ k))
       | false ↦ λ e. keys_pass meets taken other new asked f g keys (tail (asked key) h) (or_second (other key) _ k)
@@ -64,7 +62,7 @@ pub parts_of_put : (state : DatabaseState) (session table : ℕ) (schema : Schem
     → AreUnrefused (null_refusals schema values) × AllByRecursion (IsFreeIn state session table schema rows own values) (filter is_unique schema.indexes)
 unfolding put_refusals
 parts_of_put state session table schema rows own values h =
-    let both = parted (λ refusal. refusal.0 ≡ false) (null_refusals schema values) (key_refusals state session table schema rows own values) h in
+    let both = all_parted (λ refusal. refusal.0 ≡ false) (null_refusals schema values) (key_refusals state session table schema rows own values) h in
     (both.0, each_rule state session table schema rows own values (filter is_unique schema.indexes) both.1)
 
 -- the record in whose place a put comes: another, or that under its own bookmark
@@ -77,7 +75,7 @@ pub free_rules : (state after : DatabaseState) (session table : ℕ) (schema : S
     → list_all (λ rule. list_all (λ key. not (has_key_conflict after session table schema rule key || is_taken schema rows rule (Some bookmark) key)) (new_keys rule schema (row_at rows bookmark) values)) rules ≡ true
 free_rules state after session table schema rows bookmark own is values same [] h = refl
 free_rules state after session table schema rows bookmark own is values same (rule ∷ rules) h =
-    and_both _ _
+    and_from _ _
     ((λ i. list_all (λ key. not (same rule key i || is_taken schema rows rule (Some bookmark) key)) (new_keys rule schema (row_at rows bookmark) values))
     ∙ keys_pass (has_key_conflict state session table schema rule) (is_taken schema rows rule (Some bookmark)) (is_taken schema rows rule own) (λ key. not (yields_key rule schema key (row_at rows bookmark)))
     (λ key. not (yields_key rule schema key (replaced_record rows own))) (new_ones own is) (other_ones own is) (key_list rule schema values) h.0.0 h.0.1)

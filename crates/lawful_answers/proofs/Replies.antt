@@ -1,6 +1,7 @@
 -- What holds of every answer without a step.
 use Rattle.std.proofs.Common.{◌≡◌, ℕ, Bool, true, false, not, ◌&&◌, ◌||◌, cond, List, [], ◌∷◌, ◌++◌, length, Option, Some, None, refl}
 use Rattle.std.specs.Prelude.{◌==◌, ◌-◌, is_none, nat_lt, find, slice_get, bytes_eq}
+use Rattle.common_lemmas.proofs.Booleans.{impossible}
 use Rattle.jet_base.specs.ColumnType.{is_number_type}
 use Rattle.jet_base.specs.Given.{given_fits}
 use Rattle.jet_base.specs.declared.replies.Jet.{Jet}
@@ -17,7 +18,6 @@ use Rattle.index_derive.specs.declared.rules.IndexRule.{IndexRule}
 use Rattle.index_derive.specs.declared.rules.Segment.{Segment}
 use Rattle.database_state.specs.Refusals.{Refusals, first_refusal}
 use Rattle.database_state.specs.Table.{row_at, rule_with_id}
-use Rattle.record_changes.proofs.Tests.{impossible}
 use Rattle.session_local.specs.declared.request.Request.{Request}
 use Rattle.session_local.specs.declared.request.Request.TheVariants as call
 use Rattle.session_local.specs.Answer.{Answered, Nothing}

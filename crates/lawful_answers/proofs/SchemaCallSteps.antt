@@ -3,6 +3,7 @@ use Rattle.std.proofs.Common.{◌≡◌, ℕ, ◌+◌, ◌<◌, ◌≤◌, true,
 use Rattle.std.specs.Prelude.{◌==◌, is_none, unwrap_or}
 use Rattle.std.specs.List.{AllByRecursion}
 use Rattle.std.proofs.lemmas.Bool.Decides.{nat_tests}
+use Rattle.std.proofs.lemmas.Bool.{and_from}
 use Rattle.jet_base.specs.declared.words.ColType.{ColType}
 use Rattle.jet_base.specs.declared.words.ColumnFlags.{ColumnFlags}
 use Rattle.index_derive.specs.declared.rules.IndexFlags.{IndexFlags}
@@ -15,7 +16,6 @@ use Rattle.database_state.specs.State.{DatabaseState}
 use Rattle.database_state.specs.SchemaChanges.{greatest_order, new_table, next_column_id, next_index_id, schema_refusal}
 use Rattle.database_state.specs.SchemaSteps.{column_step, deleted_column_step, deleted_index_step, deleted_table_step, index_step, table_or_none, table_step}
 use Rattle.database_state.specs.Lawful.{has_next_numbers, is_lawful, is_name, log_limit}
-use Rattle.record_changes.proofs.Tests.{and_both, self_equal}
 use Rattle.version_keys.specs.TableOrder.{HasTablesInOrder}
 use Rattle.version_keys.proofs.OrderedTables.{found_each}
 use Rattle.session_local.specs.declared.request.Request.TheVariants as call
@@ -26,6 +26,7 @@ use Rattle.session_local.specs.Outcome.{Asked, done, number_refusals, one, unles
 use Rattle.session_local.specs.SchemaCalls.{schema_changed}
 use Rattle.lawful_answers.specs.LawfulSteps.{HasLawfulStep}
 use Rattle.common_lemmas.proofs.Found.{of_found}
+use Rattle.common_lemmas.proofs.Numbers.{self_equal}
 use Rattle.lawful_answers.proofs.Refusals.{past, when_begun}
 use Rattle.lawful_answers.proofs.SessionSteps.{below}
 
@@ -35,7 +36,7 @@ schema_lawful asked made agrees begun numbers =
     elim (schema_refusal asked.state asked.session made) as (λ o. schema_refusal asked.state asked.session made ≡ o
     → HasLawfulStep asked.state (unless_refused asked o (λ _. unless asked (number_refusals asked) (λ _. done asked.local Nothing (one asked (entry.Schema made)))))) [
       | Some reply ↦ λ e. tt
-      | None ↦ λ e. past asked (number_refusals asked) _ (λ r. (and_both _ _ (below log_limit asked.state.number r.0) (and_both _ _ (and_both _ _ (sym agrees.begun ∙ begun) (ap is_none e)) numbers), tt))
+      | None ↦ λ e. past asked (number_refusals asked) _ (λ r. (and_from _ _ (below log_limit asked.state.number r.0) (and_from _ _ (and_from _ _ (sym agrees.begun ∙ begun) (ap is_none e)) numbers), tt))
     ] refl
 
 -- ---- the table that a call names
@@ -58,7 +59,7 @@ same_table state name order = by (table_named state.tables name) refl
 
 pub table_made : (asked : Asked) (table : List ℕ) → Agrees asked.state asked.session asked.local → is_name table ≡ true → HasLawfulStep asked.state (answer asked (call.CreateTable table))
 table_made asked table agrees named = when_begun asked (call.CreateTable table)
-    (λ begun. schema_lawful asked (table_step asked.state table) agrees begun (and_both _ _ (self_equal (asked.state.greatest_table + 1)) named)) (λ e. tt)
+    (λ begun. schema_lawful asked (table_step asked.state table) agrees begun (and_from _ _ (self_equal (asked.state.greatest_table + 1)) named)) (λ e. tt)
 
 pub table_deleted : (asked : Asked) (table : List ℕ) → Agrees asked.state asked.session asked.local → HasLawfulStep asked.state (answer asked (call.DeleteTable table))
 table_deleted asked table agrees = when_begun asked (call.DeleteTable table) (λ begun. schema_lawful asked (deleted_table_step asked.state table) agrees begun refl) (λ e. tt)
@@ -68,7 +69,7 @@ pub column_made : (asked : Asked) (table column : List ℕ) (kind : ColType) (fl
 column_made asked table column kind flags agrees order named = when_begun asked (call.AddColumn table column kind flags)
     (λ begun. schema_lawful asked (column_step asked.state table column kind flags) agrees begun
     (ap (λ (t : Table). (next_column_id (table_or_none asked.state table).greatest kind flags.tagged == next_column_id t.greatest kind flags.tagged) && is_name column) (same_table asked.state table order)
-    ∙ and_both _ _ (self_equal (next_column_id (table_or_none asked.state table).greatest kind flags.tagged)) named)) (λ e. tt)
+    ∙ and_from _ _ (self_equal (next_column_id (table_or_none asked.state table).greatest kind flags.tagged)) named)) (λ e. tt)
 
 pub column_deleted : (asked : Asked) (table column : List ℕ) → Agrees asked.state asked.session asked.local → HasLawfulStep asked.state (answer asked (call.DeleteColumn table column))
 column_deleted asked table column agrees = when_begun asked (call.DeleteColumn table column) (λ begun. schema_lawful asked (deleted_column_step asked.state table column) agrees begun refl) (λ e. tt)
@@ -78,7 +79,7 @@ pub index_made : (asked : Asked) (table index : List ℕ) (flags : IndexFlags) (
 index_made asked table index flags key_most segments conditions agrees order named = when_begun asked (call.CreateIndex table index flags key_most segments conditions)
     (λ begun. schema_lawful asked (index_step asked.state table index flags key_most segments conditions) agrees begun
     (ap (λ (t : Table). (next_index_id (table_or_none asked.state table).indexes == next_index_id t.indexes) && ((greatest_order (table_or_none asked.state table).indexes + 1) == (greatest_order t.indexes + 1)) && is_name index) (same_table asked.state table order)
-    ∙ and_both _ _ (and_both _ _ (self_equal (next_index_id (table_or_none asked.state table).indexes)) (self_equal (greatest_order (table_or_none asked.state table).indexes + 1))) named)) (λ e. tt)
+    ∙ and_from _ _ (and_from _ _ (self_equal (next_index_id (table_or_none asked.state table).indexes)) (self_equal (greatest_order (table_or_none asked.state table).indexes + 1))) named)) (λ e. tt)
 
 pub index_deleted : (asked : Asked) (table index : List ℕ) → Agrees asked.state asked.session asked.local → HasLawfulStep asked.state (answer asked (call.DeleteIndex table index))
 index_deleted asked table index agrees = when_begun asked (call.DeleteIndex table index) (λ begun. schema_lawful asked (deleted_index_step asked.state table index) agrees begun refl) (λ e. tt)

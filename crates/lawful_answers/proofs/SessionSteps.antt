@@ -3,6 +3,9 @@ use Rattle.std.proofs.Common.{◌≡◌, ℕ, ◌+◌, ◌≤◌, Bool, true, fa
 use Rattle.std.specs.Prelude.{◌==◌, count_by, find, fold, if◌then◌else◌, is_some, length, map, nat_le, nat_lt}
 use Rattle.std.specs.List.{list_any}
 use Rattle.std.proofs.lemmas.Bool.Decides.{nat_tests}
+use Rattle.std.proofs.lemmas.Bool.{and_from}
+use Rattle.common_lemmas.proofs.Numbers.{self_equal}
+use Rattle.common_lemmas.proofs.Booleans.{impossible}
 use Rattle.jet_base.specs.declared.ids.CursorId.{CursorId}
 use Rattle.jet_base.specs.declared.replies.Jet.TheVariants as jet
 use Rattle.index_derive.specs.declared.log.EntryKind.TheVariants as entry
@@ -11,7 +14,7 @@ use Rattle.database_state.specs.State.{LiveSession, PastChange, levels, live_ses
 use Rattle.database_state.specs.Lawful.{has_open, is_lawful, log_limit}
 use Rattle.derived_index.proofs.Adding.{KeysRise}
 use Rattle.record_changes.specs.Records.{Records}
-use Rattle.record_changes.proofs.Tests.{and_both, impossible, or_first, or_second, self_equal}
+use Rattle.record_changes.proofs.Tests.{or_first, or_second}
 use Rattle.version_keys.proofs.EscrowSums.{unseen_now}
 use Rattle.version_keys.proofs.LawfulCommits.{commit_lawful}
 use Rattle.session_local.specs.declared.request.Request.TheVariants as call
@@ -47,7 +50,7 @@ last_level n e f = grind (arith, nat_tests)
 begin_lawful : (asked : Asked) → Agrees asked.state asked.session asked.local → HasLawfulStep asked.state (begin_session asked)
 unfolding is_lawful
 begin_lawful asked agrees = past asked ((asked.local.begun, jet.SessionInUse) ∷ (nat_le 64 (length asked.state.sessions), jet.OutOfSessions) ∷ number_refusals asked) _ (λ r. (
-  and_both _ _ (below log_limit asked.state.number r.1.1.0) (and_both _ _ (ap not (sym agrees.begun ∙ r.0)) (below 64 (length asked.state.sessions) r.1.0)),
+  and_from _ _ (below log_limit asked.state.number r.1.1.0) (and_from _ _ (ap not (sym agrees.begun ∙ r.0)) (below 64 (length asked.state.sessions) r.1.0)),
   tt,
 ))
 
@@ -65,8 +68,8 @@ unfolding is_lawful
 transaction_begins asked agrees = when_begun asked call.BeginTransaction
     (λ begun. past asked ((nat_le 7 (levels asked.state asked.session), jet.TransTooDeep) ∷ number_refusals asked) _ (λ r.
     elim (is_outside asked) as (λ b. is_outside asked ≡ b → (is_lawful asked.state (record { session = record { 0 = asked.session }; kind = if b then entry.Begin else entry.Save }) ≡ true) × Unit {0}) [
-      | true ↦ λ e. (and_both _ _ (below log_limit asked.state.number r.1.0) (and_both _ _ (sym agrees.begun ∙ begun) e), tt)
-      | false ↦ λ e. (and_both _ _ (below log_limit asked.state.number r.1.0) (and_both _ _ (some_level (levels asked.state asked.session) e) (few_levels (levels asked.state asked.session) r.0)), tt)
+      | true ↦ λ e. (and_from _ _ (below log_limit asked.state.number r.1.0) (and_from _ _ (sym agrees.begun ∙ begun) e), tt)
+      | false ↦ λ e. (and_from _ _ (below log_limit asked.state.number r.1.0) (and_from _ _ (some_level (levels asked.state asked.session) e) (few_levels (levels asked.state asked.session) r.0)), tt)
     ] refl))
     (λ e. tt)
 
@@ -125,7 +128,7 @@ table_opens asked cursor name agrees = when_begun asked (call.OpenTable cursor n
   where
     opens : (t : Table) → asked.local.begun ≡ true → nat_le log_limit asked.state.number ≡ false → table_named asked.state.tables name ≡ Some t
         → is_lawful asked.state (record { session = record { 0 = asked.session }; kind = entry.Open (record { 0 = t.id }) }) ≡ true
-    opens t begun few e = and_both _ _ (below log_limit asked.state.number few) (and_both _ _ (sym agrees.begun ∙ begun) (named_there asked.state.tables name t e))
+    opens t begun few e = and_from _ _ (below log_limit asked.state.number few) (and_from _ _ (sym agrees.begun ∙ begun) (named_there asked.state.tables name t e))
 
 -- ---- closing
 

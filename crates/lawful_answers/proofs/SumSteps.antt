@@ -2,8 +2,10 @@
 use Rattle.std.proofs.Common.{◌≡◌, ℕ, Bool, true, false, not, ◌&&◌, ◌||◌, cond, List, [], ◌∷◌, ◌++◌, Option, Some, None, refl, sym, ap, subst, ◌∙◌, bytes_eq}
 use Rattle.std.specs.Prelude.{ℤ, ◌==◌, is_some, map, IfSome}
 use Rattle.std.specs.List.{list_all, list_any}
-use Rattle.std.proofs.lemmas.Bool.{not-false}
+use Rattle.std.proofs.lemmas.Bool.{and_from, eqb-true, false_from_ne_true, not-false}
 use Rattle.common_lemmas.proofs.Options.{some_there}
+use Rattle.common_lemmas.proofs.Booleans.{and_left, and_right, impossible}
+use Rattle.common_lemmas.proofs.Numbers.{self_equal}
 use Rattle.jet_base.specs.declared.ids.CursorId.{CursorId}
 use Rattle.jet_base.specs.declared.replies.Jet.TheVariants as jet
 use Rattle.column_set.specs.declared.changes.Change.{Change}
@@ -16,7 +18,6 @@ use Rattle.database_state.specs.View.{view}
 use Rattle.database_state.specs.Lawful.{is_lawful_at}
 use Rattle.derived_index.proofs.Adding.{KeysRise}
 use Rattle.record_changes.specs.Records.{Records}
-use Rattle.record_changes.proofs.Tests.{and_both, and_left, and_right, impossible, refuted, same_number, self_equal}
 use Rattle.version_keys.proofs.BookmarkKeys.{HasOneEntry}
 use Rattle.version_keys.proofs.UniqueKept.{id_of}
 use Rattle.session_local.specs.declared.request.Request.TheVariants as call
@@ -61,8 +62,8 @@ named_numbered [] name c apart e = absurd (nothing e)
 named_numbered (x ∷ columns) name c apart e = elim (bytes_eq x.name name) as (λ b. cond b (Some x) (column_named columns name) ≡ Some c → cond (x.id.0 == c.id.0) (Some x) (column_of_id columns c.id.0) ≡ Some c) [
   | true ↦ λ f. ap (λ b. cond b (Some x) (column_of_id columns c.id.0)) (ap (λ (y : Column). x.id.0 == y.id.0) (sym (same x c f)) ∙ self_equal x.id.0) ∙ f
   | false ↦ λ f.
-      ap (λ b. cond b (Some x) (column_of_id columns c.id.0)) (refuted (x.id.0 == c.id.0) (λ one.
-      never (ap not (sym (ap (λ (k : ℕ). list_any (λ other. other == k) (map number_of_column columns)) (same_number x.id.0 c.id.0 one) ∙ named_among columns name c f))
+      ap (λ b. cond b (Some x) (column_of_id columns c.id.0)) (false_from_ne_true (x.id.0 == c.id.0) (λ one.
+      never (ap not (sym (ap (λ (k : ℕ). list_any (λ other. other == k) (map number_of_column columns)) (eqb-true x.id.0 c.id.0 one) ∙ named_among columns name c f))
       ∙ and_left (not (list_any (λ other. other == x.id.0) (map number_of_column columns))) (are_distinct (map number_of_column columns)) apart)))
       ∙ named_numbered columns name c (and_right (not (list_any (λ other. other == x.id.0) (map number_of_column columns))) (are_distinct (map number_of_column columns)) apart) f
 ] e
@@ -84,7 +85,7 @@ sum_lawful : (asked : Asked) (c : OpenCursor) (at : IsAtTable asked c) (name : L
     → is_some (row_at (rows_seen asked c) (bookmark_at c)) ≡ true → IsLawfulAtTable asked.state asked.state asked.session (Add (record { 0 = c.cursor.table }) (bookmark_at c) column.id amount)
 sum_lawful asked c at name column amount apart named escrow seen =
     ap (λ o. is_lawful_at asked.state asked.session o (Add (record { 0 = c.cursor.table }) (bookmark_at c) column.id amount)) at.found
-    ∙ and_both _ _ (ap (λ k. is_some (row_at (rows_of (table_with_id (view asked.state asked.session) k)) (bookmark_at c))) (id_of asked.state.tables c.cursor.table at.table at.found) ∙ seen)
+    ∙ and_from _ _ (ap (λ k. is_some (row_at (rows_of (table_with_id (view asked.state asked.session) k)) (bookmark_at c))) (id_of asked.state.tables c.cursor.table at.table at.found) ∙ seen)
     (ap (λ (o : Option Column). elim o [ Some found ↦ found.escrow | None ↦ false ])
     (named_numbered at.table.columns name column apart (subst (λ (columns : List Column). column_named columns name ≡ Some column) (ap (λ s. s.columns) at.schema) named)) ∙ escrow)
 

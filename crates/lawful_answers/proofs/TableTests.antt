@@ -1,13 +1,14 @@
 -- Tests of all tables, of which each is found by its number, and entries that leave what tables are.
-use Rattle.std.proofs.Common.{◌≡◌, ℕ, ◌-◌, Bool, true, false, ◌&&◌, cond, List, [], ◌∷◌, map, filter, Option, Some, None, refl, sym, ap, subst, ◌∙◌}
+use Rattle.std.proofs.Common.{◌≡◌, ℕ, ◌-◌, Bool, true, false, ◌&&◌, cond, List, [], ◌∷◌, map, Option, Some, None, refl, sym, ap, subst, ◌∙◌}
 use Rattle.std.specs.Prelude.{◌==◌, nat_lt, IfSome}
 use Rattle.std.specs.List.{AllByRecursion, list_all}
+use Rattle.std.proofs.lemmas.Bool.{and_from}
+use Rattle.common_lemmas.proofs.Booleans.{and_left, and_right, impossible}
 use Rattle.index_derive.specs.declared.log.EntryKind.{EntryKind}
 use Rattle.index_derive.specs.declared.log.EntryKind.TheVariants as entry
 use Rattle.database_state.specs.Table.{Table, table_with_id}
 use Rattle.database_state.specs.State.{DatabaseState, levels, open_changes_of, undone}
 use Rattle.database_state.specs.Step.{applied, is_at_level, with_changes_at, with_levels, with_transaction}
-use Rattle.record_changes.proofs.Tests.{and_left, and_right, and_both, impossible}
 use Rattle.version_history.specs.History.{EachTwo, without_rows}
 use Rattle.version_history.specs.KeptSteps.{with_next_number}
 use Rattle.version_history.proofs.EndEntries.{same_definitions}
@@ -26,7 +27,7 @@ all_found p (t ∷ tables) h id = elim (t.id == id) as (λ b. IfSome (cond b (So
 all_of_found : (p : Table → Bool) (all tables : List Table) → ((id : ℕ) → IfSome (table_with_id all id) (λ t. p t ≡ true)) → AllByRecursion (λ t. table_with_id all t.id ≡ Some t) tables → list_all p tables ≡ true
 all_of_found p all [] h found = refl
 all_of_found p all (t ∷ tables) h found =
-    and_both (p t) (list_all p tables) (subst (λ (o : Option Table). IfSome o (λ t. p t ≡ true)) found.0 (h t.id)) (all_of_found p all tables h found.1)
+    and_from (p t) (list_all p tables) (subst (λ (o : Option Table). IfSome o (λ t. p t ≡ true)) found.0 (h t.id)) (all_of_found p all tables h found.1)
 
 pub all_listed : (p : Table → Bool) (tables : List Table) → EachTwo IdsRise tables → ((id : ℕ) → IfSome (table_with_id tables id) (λ t. p t ≡ true)) → list_all p tables ≡ true
 all_listed p tables rise h = all_of_found p tables tables h (found_each tables rise)
@@ -37,13 +38,6 @@ bare_tested p bare (t ∷ tables) = λ i. bare t i && bare_tested p bare tables 
 
 pub tested_alike : (p : Table → Bool) → ((t : Table) → p (without_rows t) ≡ p t) → (one other : List Table) → map without_rows one ≡ map without_rows other → list_all p one ≡ list_all p other
 tested_alike p bare one other e = sym (bare_tested p bare one) ∙ ap (list_all p) e ∙ bare_tested p bare other
-
-pub all_filtered : {X : Type 0} (p q : X → Bool) (xs : List X) → list_all p xs ≡ true → list_all p (filter q xs) ≡ true
-all_filtered p q [] h = refl
-all_filtered p q (x ∷ xs) h = elim (q x) as (λ b. list_all p (cond b (x ∷ filter q xs) (filter q xs)) ≡ true) [
-  | true ↦ and_both (p x) (list_all p (filter q xs)) (and_left (p x) (list_all p xs) h) (all_filtered p q xs (and_right (p x) (list_all p xs) h))
-  | false ↦ all_filtered p q xs (and_right (p x) (list_all p xs) h)
-]
 
 -- ---- entries
 

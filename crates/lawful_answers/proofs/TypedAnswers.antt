@@ -16,9 +16,9 @@ use Rattle.database_state.specs.SchemaChanges.{schema_refusal}
 use Rattle.database_state.specs.SchemaSteps.{column_step, deleted_column_step, deleted_index_step, deleted_table_step, index_step, table_step}
 use Rattle.database_state.specs.State.{levels}
 use Rattle.database_state.specs.Table.{Table, table_named}
-use Rattle.record_changes.proofs.Tests.{impossible}
 use Rattle.version_sums.specs.EscrowNumbers.{IsOfItsType}
 use Rattle.common_lemmas.proofs.Found.{of_found}
+use Rattle.common_lemmas.proofs.Booleans.{impossible}
 use Rattle.session_local.specs.declared.request.Request.{Request}
 use Rattle.session_local.specs.declared.request.Request.TheVariants as call
 use Rattle.session_local.specs.Calls.{answer, prepare_update}

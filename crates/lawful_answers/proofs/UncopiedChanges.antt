@@ -1,5 +1,6 @@
 -- No kept change names a copied record.
 use Rattle.std.proofs.Common.{◌≡◌, ℕ, ◌+◌, List, [], ◌∷◌, map, refl, sym, subst}
+use Rattle.common_lemmas.proofs.Lists.{all_append, all_map, all_weaker}
 use Rattle.column_set.specs.declared.changes.Change.{Change}
 use Rattle.column_set.specs.declared.changes.Change.TheVariants.{Put, Drop, Hold, Add}
 use Rattle.index_derive.specs.declared.log.EntryKind.{EntryKind}
@@ -8,7 +9,6 @@ use Rattle.database_state.specs.Changes.{without_copied}
 use Rattle.database_state.specs.State.{DatabaseState, PastChange, levels}
 use Rattle.database_state.specs.Step.{every_change, is_at_level}
 use Rattle.version_history.specs.KeptSteps.{committed_own, is_own_open, kept_after, lowered_own, new_change, undone_where, with_next_number}
-use Rattle.version_history.proofs.Lists.{all_append, all_map, all_weaker}
 use Rattle.version_records.proofs.EachRecord.{KeepsRecords, commit_keeps, lower_keeps, undone_keeps}
 use Rattle.lawful_answers.specs.UncopiedPast.{AreUncopied, IsUncopied}
 

@@ -2,7 +2,7 @@
 use Rattle.std.proofs.Common.{◌≡◌, ℕ, ◌+◌, Bool, true, false, not, ◌&&◌, ◌||◌, List, ◌∷◌, ◌++◌, Option, Some, None, refl, sym, ap, subst, ◌∙◌, arith, bytes_eq}
 use Rattle.std.specs.Prelude.{◌==◌, filter, if◌then◌else◌, is_some, nat_le, IfSome}
 use Rattle.std.specs.List.{AllByRecursion}
-use Rattle.std.proofs.lemmas.Bool.{le-leb}
+use Rattle.std.proofs.lemmas.Bool.{and_from, le-leb}
 use Rattle.jet_base.specs.declared.ids.CursorId.{CursorId}
 use Rattle.jet_base.specs.declared.replies.Jet.TheVariants as jet
 use Rattle.jet_base.specs.ColumnType.{big_endian}
@@ -23,8 +23,7 @@ use Rattle.database_state.specs.Step.{state_after}
 use Rattle.database_state.specs.Lawful.{has_free_keys, is_bookmark_of, is_copied_in, is_indexable, is_lawful_at, is_live, keeps_escrow}
 use Rattle.derived_index.proofs.Adding.{KeysRise}
 use Rattle.record_changes.specs.Records.{Records}
-use Rattle.record_changes.proofs.Tests.{and_both, equal_bytes, same_bytes}
-use Rattle.version_history.proofs.Lists.{all_weaker}
+use Rattle.record_changes.proofs.Tests.{equal_bytes}
 use Rattle.version_keys.specs.UniqueKeys.{HasUniqueIndexes, IsSoundIndex, IsUniqueIndex}
 use Rattle.version_keys.proofs.BookmarkKeys.{HasOneEntry}
 use Rattle.version_keys.proofs.IndexNumbers.{all_primary_first}
@@ -40,9 +39,11 @@ use Rattle.lawful_answers.proofs.Alone.{key_conflict_after, view_after}
 use Rattle.lawful_answers.proofs.ChangeSteps.{IsAtTable, IsLawfulAtTable, after_tables, at_its_table, changes_lawful}
 use Rattle.lawful_answers.proofs.Locks.{locked_free}
 use Rattle.common_lemmas.proofs.Found.{of_found}
+use Rattle.common_lemmas.proofs.Lists.{all_parted, all_weaker}
+use Rattle.common_lemmas.proofs.Numbers.{same_bytes}
 use Rattle.version_records.proofs.PrimaryKeys.{AreUnrefused}
 use Rattle.lawful_answers.proofs.NewBookmarks.{AreFound, IsNewFor, new_for, new_row}
-use Rattle.lawful_answers.proofs.PutSteps.{IsFreeIn, IsOwn, free_rules, no_first, parted, parts_of_put}
+use Rattle.lawful_answers.proofs.PutSteps.{IsFreeIn, IsOwn, free_rules, no_first, parts_of_put}
 use Rattle.lawful_answers.proofs.Refusals.{at_found, past, when_begun}
 
 -- ---- what the log asks of a put
@@ -137,8 +138,8 @@ pub update_entries : HasOneEntry → KeysRise → (base : Records) (dropped kept
     → AreUnrefused (update_refusals asked c for values)
     → AreLawful asked.state (entries_of_step (step_of_change asked (put_of asked c (record { for = for; values = values }) (bookmark_for asked c.schema for values))))
 update_entries one rise base dropped kept asked label c for values reached agrees begun e storable r =
-    let first = parted (λ refusal. refusal.0 ≡ false) (put_refusals asked.state asked.session c.cursor.table c.schema (rows_seen asked c) (replaced_by for) values ++ number_refusals asked) (span_refusals asked put) r.1.1 in
-    let second = parted (λ refusal. refusal.0 ≡ false) (put_refusals asked.state asked.session c.cursor.table c.schema (rows_seen asked c) (replaced_by for) values) (number_refusals asked) first.0 in
+    let first = all_parted (λ refusal. refusal.0 ≡ false) (put_refusals asked.state asked.session c.cursor.table c.schema (rows_seen asked c) (replaced_by for) values ++ number_refusals asked) (span_refusals asked put) r.1.1 in
+    let second = all_parted (λ refusal. refusal.0 ≡ false) (put_refusals asked.state asked.session c.cursor.table c.schema (rows_seen asked c) (replaced_by for) values) (number_refusals asked) first.0 in
     let parts = parts_of_put asked.state asked.session c.cursor.table c.schema (rows_seen asked c) (replaced_by for) values second.0 in
     let new = new_for one base dropped kept asked c for values reached at second.1.0 (sound_schema base dropped kept asked c reached at) parts.0 parts.1 in
     changes_lawful one rise base dropped kept asked put reached live second.1.0 (free_of_conflict base dropped kept asked c for values reached storable.3 new)
@@ -184,7 +185,7 @@ update_entries one rise base dropped kept asked label c for values reached agree
         (copied_is (rows_seen asked c) for)
       where
         eight : (a b d e f g h i : Bool) → a ≡ true → b ≡ true → d ≡ true → e ≡ true → f ≡ true → g ≡ true → h ≡ true → i ≡ true → (a && b && d && e && f && g && h && i) ≡ true
-        eight a b d e f g h i p q r s t u v w = and_both _ _ (and_both _ _ (and_both _ _ (and_both _ _ (and_both _ _ (and_both _ _ (and_both _ _ p q) r) s) t) u) v) w
+        eight a b d e f g h i p q r s t u v w = and_from _ _ (and_from _ _ (and_from _ _ (and_from _ _ (and_from _ _ (and_from _ _ (and_from _ _ p q) r) s) t) u) v) w
 
 update_lawful : HasOneEntry → KeysRise → (base : Records) (dropped kept : List PastChange) (asked : Asked) (label : ℕ) (c : OpenCursor) (for : PreparedFor) (values : RecordFields) → IsReached base dropped kept asked.state
     → Agrees asked.state asked.session asked.local → asked.local.begun ≡ true → cursor_labelled asked.local label ≡ Some c → IsStorable asked.state asked.session c (Some (record { for = for; values = values }))

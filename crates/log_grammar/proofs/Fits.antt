@@ -1,5 +1,5 @@
 -- The parts of what fits.
-use Rattle.std.proofs.Common.{◌≡◌, ℕ, ◌^◌, ◌<◌, ◌≤◌, Bool, true, ltb, leb, eqb, ◌&&◌, List, length, arith}
+use Rattle.std.proofs.Common.{◌≡◌, ℕ, ◌^◌, ◌<◌, ◌≤◌, true, ltb, leb, eqb, ◌&&◌, List, length, arith}
 use Rattle.std.specs.Prelude.{ℤ, pos, negsuc, Option, Some, None, IfSome, not}
 use Rattle.std.specs.List.{list_all}
 use Rattle.std.specs.Int.{w32, cast_signed, cast_unsigned}
@@ -54,13 +54,6 @@ index_parts index h =
     let t = and_parts (ltb (length index.conditions) 256) (list_all condition_fits index.conditions) d.0 in
     let l = and_parts (name_fits index.name) (eqb index.key_most 255) d.1 in
     record { id = ltb-true _ _ a.0; order = ltb-true _ _ b.0; segment_count = ltb-true _ _ s.0; segments = s.1; condition_count = ltb-true _ _ t.0; conditions = t.1; name = l.0; key_most = l.1 }
-
--- the two parts of a test
-pub first_of_two : (a b : Bool) → (a && b) ≡ true → a ≡ true
-first_of_two a b h = (and_parts a b h).0
-
-pub second_of_two : (a b : Bool) → (a && b) ≡ true → b ≡ true
-second_of_two a b h = (and_parts a b h).1
 
 -- ---- amounts
 

@@ -1,7 +1,7 @@
 -- Gates and barred generations, before and after a torn write.
 use Rattle.std.proofs.Common.{◌≡◌, ◌≢◌, ◌⊎◌, inl, inr, ⊎_elim, ℕ, ◌+◌, ◌-◌, ◌≤◌, ◌<◌, min, Bool, true, false, not, ◌&&◌, ◌==◌, if◌then◌else◌, Option, Some, None, List, [], ◌∷◌, length, get_or, take, drop, refl, sym, ◌∙◌, ap, arith, add-zero, length-take, length-drop}
 use Rattle.std.specs.Int.{w64, from_le_bytes}
-use Rattle.std.proofs.lemmas.Bool.{cases_lt, cases_eq, eqb-true, eq-eqb}
+use Rattle.std.proofs.lemmas.Bool.{cases_lt, cases_eq, eqb-true, eq-eqb, and_parts}
 use Rattle.std.proofs.lemmas.Bool.Decides.{nat_tests}
 use Rattle.std.proofs.lemmas.List.{get_or-take, get_or-drop, drop_more, drop-drop, drop_all}
 use Rattle.jet_volume.specs.Crash.{Torn, written}
@@ -9,7 +9,7 @@ use Rattle.jet_volume.specs.declared.files.LogStart.{LogStart}
 use Rattle.log_ring.specs.Blocks.{slot_start, address, slot_rest, is_of, block_at, open_payload}
 use Rattle.log_ring.specs.Gates.{is_number, bars, is_barred, needs_zero, IsClosed}
 use Rattle.log_ring.proofs.Windows.{part_before, rest_behind, take-drop-take, piece-written, length-written}
-use Rattle.log_ring.proofs.Opened.{opened, closed_gate, both}
+use Rattle.log_ring.proofs.Opened.{opened, closed_gate}
 use Rattle.log_ring.proofs.Paths.{open_in_file}
 use Rattle.log_ring.proofs.Slots.{rest_after, rest_before, slots_apart}
 
@@ -37,7 +37,7 @@ number_open log q payload is =
     let o = opened q (slot_rest log q) payload is in
     let same : take 8 (drop 1 (slot_rest log q)) ≡ take 8 (drop (address q + 1) log) =
     take-drop-take 8 1 (1048576 - q.offset) (drop (address q) log) (omega (arith, o.fits)) ∙ ap (take 8) (drop-drop 1 (address q) log) in
-    ap (λ (l : List ℕ). from_le_bytes w64 l == q.generation) (sym same) ∙ (both _ _ o.of).0
+    ap (λ (l : List ℕ). from_le_bytes w64 l == q.generation) (sym same) ∙ (and_parts _ _ o.of).0
 
 -- eight bytes are one number
 one_number : (a b : ℕ) (bytes : List ℕ) → is_number a bytes ≡ true → is_number b bytes ≡ true → a ≡ b

@@ -1,12 +1,12 @@
 -- A block by its first bytes and by its payload.
 use Rattle.std.proofs.Common.{◌≡◌, ℕ, ◌+◌, ◌-◌, ◌≤◌, ◌<◌, Bool, true, false, ◌&&◌, ◌==◌, nat_le, Some, None, List, length, get_or, take, drop, sym, ◌∙◌, ap, arith, length-take, length-drop}
 use Rattle.std.specs.Int.{w32, w64, from_le_bytes}
-use Rattle.std.proofs.lemmas.Bool.{eqb-true, eq-eqb, leb-true, le-leb}
+use Rattle.std.proofs.lemmas.Bool.{eqb-true, eq-eqb, leb-true, le-leb, and_from, and_parts}
 use Rattle.std.proofs.lemmas.List.{take-take, drop-drop}
 use Rattle.jet_volume.specs.declared.files.LogStart.{LogStart}
 use Rattle.log_ring.specs.Blocks.{address, slot_rest, length_field, is_of, begins_block, open_payload}
 use Rattle.log_ring.proofs.Windows.{same_part, take-drop-take}
-use Rattle.log_ring.proofs.Opened.{opened, opens, both, and_both, first_same}
+use Rattle.log_ring.proofs.Opened.{opened, opens, first_same}
 use Rattle.log_ring.proofs.Paths.{open_in_file}
 use Rattle.log_ring.proofs.Barring.{apart, none_unless}
 
@@ -29,9 +29,9 @@ module _ (place : LogStart) (a b : List ℕ) (same : take 21 a ≡ take 21 b) wh
 
 pub begins_within : (place : LogStart) (block : List ℕ) → begins_block place block ≡ true → (1 ≤ length_field block) × (length_field block ≤ 65500) × (place.offset + 22 + length_field block ≤ 1048576)
 begins_within place block is =
-    let fits = both _ _ is in
-    let most = both _ _ fits.0 in
-    let some = both _ _ most.0 in
+    let fits = and_parts _ _ is in
+    let most = and_parts _ _ fits.0 in
+    let some = and_parts _ _ most.0 in
     (leb-true _ _ some.1, leb-true _ _ most.1, leb-true _ _ fits.1)
 
 module _ (log : List ℕ) (place : LogStart) where
@@ -49,7 +49,7 @@ module _ (log : List ℕ) (place : LogStart) where
       let n = length_field (slot_rest log place) in
       let gate : (get_or (slot_rest log place) 0 0 == 1) ≡ true = eq-eqb (get_or (slot_rest log place) 0 0) 1 o.gate in
       let test : begins_block place (slot_rest log place) ≡ true =
-      and_both _ _ (and_both _ _ (and_both _ _ (and_both _ _ gate o.of) (le-leb 1 n (omega (arith, o.len, o.some)))) (le-leb n 65500 (omega (arith, o.len, o.most)))) (le-leb (place.offset + 22 + n) 1048576 (omega (arith, o.len, o.fits))) in
+      and_from _ _ (and_from _ _ (and_from _ _ (and_from _ _ gate o.of) (le-leb 1 n (omega (arith, o.len, o.some)))) (le-leb n 65500 (omega (arith, o.len, o.most)))) (le-leb (place.offset + 22 + n) 1048576 (omega (arith, o.len, o.fits))) in
       (sym (begins_same place (slot_rest log place) header same) ∙ test, sym (length_field_same place (slot_rest log place) header same) ∙ o.len)
 
   -- no block is open where it does not begin so, or where the file is short
@@ -69,10 +69,10 @@ module _ (log : List ℕ) (place : LogStart) where
       let room : 21 + n ≤ 1048576 - place.offset = omega (arith, is, within.2) in
       let same = front (omega (arith, room)) in
       let test : begins_block place (slot_rest log place) ≡ true = begins_same place (slot_rest log place) header same ∙ begins in
-      let fits = both _ _ test in
-      let most = both _ _ fits.0 in
-      let some = both _ _ most.0 in
-      let of = both _ _ some.0 in
+      let fits = and_parts _ _ test in
+      let most = and_parts _ _ fits.0 in
+      let some = and_parts _ _ most.0 in
+      let of = and_parts _ _ some.0 in
       let payload = take n (drop (address place + 21) log) in
       let long : length payload ≡ n = omega (arith, length-take n (drop (address place + 21) log), length-drop (address place + 21) log, whole) in
       let len : length_field (slot_rest log place) ≡ length payload = length_field_same place (slot_rest log place) header same ∙ sym is ∙ sym long in

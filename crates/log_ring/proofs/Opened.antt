@@ -2,7 +2,7 @@
 use Rattle.std.proofs.Common.{◌≡◌, ◌≢◌, ℕ, ◌+◌, ◌≤◌, ◌<◌, Bool, true, false, ◌&&◌, ◌==◌, nat_le, if◌then◌else◌, Some, None, List, length, get_or, take, drop, refl, sym, ◌∙◌, ap, subst, arith, length-take, length-drop}
 use Rattle.std.proofs.lemmas.List.{get_or-take}
 use Rattle.std.specs.Int.{w32, w64, from_le_bytes}
-use Rattle.std.proofs.lemmas.Bool.{eqb-true, eq-eqb, leb-true, le-leb}
+use Rattle.std.proofs.lemmas.Bool.{eqb-true, eq-eqb, leb-true, le-leb, and_from, and_parts}
 use Rattle.std.proofs.lemmas.Bool.Decides.{nat_tests}
 use Rattle.jet_volume.specs.declared.files.LogStart.{LogStart}
 use Rattle.log_ring.specs.Blocks.{length_field, is_of, is_open, block_at}
@@ -19,16 +19,6 @@ pub record Opened (place : LogStart) (block payload : List ℕ) : Type 0 where
   pub whole : 21 + length payload ≤ length block
   pub is : payload ≡ take (length payload) (drop 21 block)
 
-pub both : (a b : Bool) → (a && b) ≡ true → (a ≡ true) × (b ≡ true)
-both true true is = (refl, refl)
-both true false is = cc
-both false b is = cc
-
-pub and_both : (a b : Bool) → a ≡ true → b ≡ true → (a && b) ≡ true
-and_both true true x y = refl
-and_both true false x y = y
-and_both false b x y = x
-
 some_if : {A : Type 0} (b : Bool) (x y : A) → (if b then Some x else None) ≡ Some y → (b ≡ true) × (x ≡ y)
 some_if true x y is = (refl, cc)
 some_if false x y is = cc
@@ -43,11 +33,11 @@ length_part n block le = omega (arith, length-take n (drop 21 block), length-dro
 pub opened : (place : LogStart) (block payload : List ℕ) → block_at place block ≡ Some payload → Opened place block payload
 opened place block payload is =
     let all = some_if (is_open place block) (take (length_field block) (drop 21 block)) payload is in
-    let whole = both _ _ all.0 in
-    let fits = both _ _ whole.0 in
-    let most = both _ _ fits.0 in
-    let some = both _ _ most.0 in
-    let of = both _ _ some.0 in
+    let whole = and_parts _ _ all.0 in
+    let fits = and_parts _ _ whole.0 in
+    let most = and_parts _ _ fits.0 in
+    let some = and_parts _ _ most.0 in
+    let of = and_parts _ _ some.0 in
     let there : 21 + length_field block ≤ length block = leb-true _ _ whole.1 in
     let len : length_field block ≡ length payload = sym (length_part (length_field block) block there) ∙ ap length all.1 in
     record {
@@ -69,7 +59,7 @@ opens place block payload o =
     let le_fits : nat_le (place.offset + 22 + n) 1048576 ≡ true = le-leb (place.offset + 22 + n) 1048576 (omega (arith, o.len, o.fits)) in
     let le_whole : nat_le (21 + n) (length block) ≡ true = le-leb (21 + n) (length block) (omega (arith, o.len, o.whole)) in
     let gate : (get_or block 0 0 == 1) ≡ true = eq-eqb (get_or block 0 0) 1 o.gate in
-    let test : is_open place block ≡ true = and_both _ _ (and_both _ _ (and_both _ _ (and_both _ _ (and_both _ _ gate o.of) le_some) le_most) le_fits) le_whole in
+    let test : is_open place block ≡ true = and_from _ _ (and_from _ _ (and_from _ _ (and_from _ _ (and_from _ _ gate o.of) le_some) le_most) le_fits) le_whole in
     ap (λ (b : Bool). if b then Some (take n (drop 21 block)) else None) test
     ∙ ap (λ (l : List ℕ). Some l) (ap (λ (k : ℕ). take k (drop 21 block)) o.len ∙ sym o.is)
 

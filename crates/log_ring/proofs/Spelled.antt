@@ -1,12 +1,12 @@
 -- A block that is spelled out behind an open gate is open.
 use Rattle.std.proofs.Common.{◌≡◌, ℕ, ◌+◌, ◌-◌, ◌≤◌, ◌<◌, ◌^◌, List, [], ◌∷◌, ◌++◌, Some, length, get_or, take, drop, refl, sym, ◌∙◌, ap, arith, add-one, length-append}
 use Rattle.std.specs.Int.{w32, w64, to_le_bytes, from_le_bytes}
-use Rattle.std.proofs.lemmas.Bool.{eq-eqb}
+use Rattle.std.proofs.lemmas.Bool.{and_from, eq-eqb}
 use Rattle.std.proofs.lemmas.Nat.{from_le_bytes-to_le_bytes_4, from_le_bytes-to_le_bytes_8}
 use Rattle.std.proofs.lemmas.List.{take-take, take_at, take_all, drop_more}
 use Rattle.jet_volume.specs.declared.files.LogStart.{LogStart}
 use Rattle.log_ring.specs.Blocks.{address, slot_rest, length_field, is_of, behind_gate, open_payload}
-use Rattle.log_ring.proofs.Opened.{Opened, opens, stays_open, and_both}
+use Rattle.log_ring.proofs.Opened.{Opened, opens, stays_open}
 
 -- how long a block is behind its gate, with the gate behind it
 pub length-behind_gate : (place : LogStart) (payload : List ℕ) → length (behind_gate place payload) ≡ 21 + length payload
@@ -33,7 +33,7 @@ module _ (place : LogStart) (payload : List ℕ) (generation : place.generation 
   unfolding is_of length_field
   spelled_opened = record {
     gate = refl;
-    of = and_both _ _
+    of = and_from _ _
         (eq-eqb (from_le_bytes w64 (take 8 (drop 1 spelled))) place.generation (ap (from_le_bytes w64) generation_there ∙ from_le_bytes-to_le_bytes_8 place.generation generation))
         (eq-eqb (from_le_bytes w64 (take 8 (drop 9 spelled))) place.position (ap (from_le_bytes w64) position_there ∙ from_le_bytes-to_le_bytes_8 place.position position));
     len = ap (from_le_bytes w32) length_there ∙ from_le_bytes-to_le_bytes_4 (length payload) (omega (arith, most));

@@ -2,7 +2,7 @@
 use Rattle.std.proofs.Common.{◌≡◌, ℕ, zero, suc, ◌<◌, ◌≤◌, Bool, true, false, not, ◌&&◌, ◌||◌, List, [], ◌∷◌, ◌++◌, map, length, Option, Some, None, refl, sym, ap, subst, ◌∙◌, arith}
 use Rattle.std.specs.Prelude.{◌==◌, nat_le, take, count_by, bytes_eq, is_some, IfSome}
 use Rattle.std.specs.List.{AllByRecursion, list_any}
-use Rattle.std.proofs.lemmas.Bool.{and_from}
+use Rattle.std.proofs.lemmas.Bool.{and_from, eqb-true}
 use Rattle.std.proofs.lemmas.Bool.Decides.{nat_tests}
 use Rattle.jet_base.specs.declared.words.ColType.{ColType}
 use Rattle.jet_base.specs.ColumnType.{big_endian}
@@ -17,8 +17,7 @@ use Rattle.database_state.specs.State.{DatabaseState, PastChange, transaction_of
 use Rattle.database_state.specs.View.{view}
 use Rattle.database_state.specs.Lawful.{is_bookmark_of}
 use Rattle.record_changes.specs.Records.{Records, records_of}
-use Rattle.record_changes.proofs.Tests.{and_left, and_right, equal_bytes, impossible, same_bytes, same_number}
-use Rattle.version_history.proofs.Lists.{all_weaker}
+use Rattle.record_changes.proofs.Tests.{equal_bytes}
 use Rattle.version_keys.specs.UniqueKeys.{HasUniqueIndexes, IsSoundIndex, IsUniqueIndex}
 use Rattle.version_keys.proofs.BookmarkKeys.{HasOneEntry, own_key}
 use Rattle.version_keys.proofs.EscrowSums.{unseen_now}
@@ -26,6 +25,9 @@ use Rattle.version_keys.proofs.IndexNumbers.{all_primary_first}
 use Rattle.version_records.specs.Bookmarks.{is_bookmark}
 use Rattle.version_records.proofs.EntryNumbers.{entry_number-own}
 use Rattle.common_lemmas.proofs.Found.{found_passes, of_found}
+use Rattle.common_lemmas.proofs.Booleans.{and_left, and_right, impossible}
+use Rattle.common_lemmas.proofs.Lists.{all_weaker}
+use Rattle.common_lemmas.proofs.Numbers.{same_bytes}
 use Rattle.version_records.proofs.Standing.{bookmarks_seen}
 use Rattle.lawful_answers.specs.LawfulSteps.{IsReached}
 use Rattle.log_grammar.specs.EntryBytes.{bookmark_fits}
@@ -64,7 +66,7 @@ legal_rule rule schema legal = by (nat_le 1 (length rule.segments)) (nat_le (len
 primary_most : (rule : IndexRule) (schema : Schema) → IsLegalRule rule schema → rule.flags.primary ≡ true → rule.key_most ≡ 255
 primary_most rule schema legal primary =
     let is : is_legal_primary rule schema ≡ true = sym (ap (λ b. not b || is_legal_primary rule schema) primary) ∙ legal.primary in
-    same_number rule.key_most 255
+    eqb-true rule.key_most 255
     (and_right (not (list_any (is_multi_column schema) (key_columns rule)) && length rule.conditions == 0 && not (has_ignore_flag rule.flags) && not rule.flags.tuples && not rule.flags.crossproduct) (rule.key_most == 255) is)
 
 -- ---- a front of bytes
@@ -148,7 +150,7 @@ eight_fits : (bookmark : List ℕ) → length bookmark ≡ 8 → bookmark_fits b
 eight_fits bookmark e = ap (λ n. nat_le 1 n && nat_le n 255) e
 
 entry_number_fits : (bookmark : List ℕ) (b : Bool) → ((length bookmark == 8) && b) ≡ true → bookmark_fits bookmark ≡ true
-entry_number_fits bookmark b h = eight_fits bookmark (same_number (length bookmark) 8 (and_left (length bookmark == 8) b h))
+entry_number_fits bookmark b h = eight_fits bookmark (eqb-true (length bookmark) 8 (and_left (length bookmark == 8) b h))
 
 stands_fits : HasOneEntry → (number : ℕ) (schema : Schema) (o : Option IndexRule) → ((rule : IndexRule) → o ≡ Some rule → IsLegalPrimary rule schema) → (bookmark : List ℕ) (values : RecordFields) → is_bookmark number schema o bookmark values ≡ true
     → bookmark_fits bookmark ≡ true

@@ -3,7 +3,7 @@ use Rattle.std.proofs.Common.{◌≡◌, ℕ, suc, ◌+◌, ◌^◌, ◌<◌, �
 use Rattle.std.specs.Prelude.{ℤ, pos, negsuc, ◌==◌, nat_le, nat_lt, is_some, IfSome, FitsSigned}
 use Rattle.std.specs.Int.{w16, w32, to_le_bytes, cast_unsigned}
 use Rattle.std.specs.List.{flat_map, list_all}
-use Rattle.std.proofs.lemmas.Bool.{and_from, and_parts}
+use Rattle.std.proofs.lemmas.Bool.{and_from, and_parts, eqb-true, leb-true}
 use Rattle.std.proofs.lemmas.Bool.Decides.{nat_tests}
 use Rattle.std.proofs.lemmas.List.{length-append}
 use Rattle.jet_base.specs.declared.ids.ColumnId.{ColumnId}
@@ -18,9 +18,9 @@ use Rattle.database_state.specs.State.{DatabaseState, PastChange}
 use Rattle.database_state.specs.View.{view}
 use Rattle.database_state.specs.Lawful.{has_free_keys, is_bookmark_of, is_copied_in, is_indexable, is_lawful_at, is_lawful_change, keeps_escrow}
 use Rattle.record_changes.specs.Records.{Records}
-use Rattle.record_changes.proofs.Tests.{and_left, and_right, impossible, same_number}
 use Rattle.version_keys.proofs.BookmarkKeys.{HasOneEntry}
 use Rattle.common_lemmas.proofs.Found.{found_passes}
+use Rattle.common_lemmas.proofs.Booleans.{and_left, and_right, impossible}
 use Rattle.version_sums.specs.EscrowNumbers.{IsOfItsType}
 use Rattle.lawful_answers.specs.ColumnNumbers.{are_in_range, has_own_numbers, is_given_number}
 use Rattle.lawful_answers.specs.LawfulSteps.{IsReached}
@@ -31,9 +31,6 @@ use Rattle.loggable_steps.proofs.Bookmarks.{legal_primary, put_fits, seen_fits}
 use Rattle.loggable_steps.proofs.RecordBytes.{AreNumbered, AreSmall, each_within, small_record}
 
 -- ---- numbers
-
-pub at_most : (n m : ℕ) → nat_le n m ≡ true → n ≤ m
-at_most n m h = grind (arith, nat_tests)
 
 amount_spelled : (amount : ℤ) → FitsSigned w32 amount → amount_fits amount ≡ true
 amount_spelled (pos n) h = by n h.sfits
@@ -49,7 +46,7 @@ amount_spelled (negsuc n) h = by n h.sfits
 
 bookmark_most : (bookmark : List ℕ) → bookmark_fits bookmark ≡ true → length (bookmark_bytes bookmark) ≤ 257
 bookmark_most bookmark h =
-    let short : length bookmark ≤ 255 = at_most (length bookmark) 255 (and_parts (nat_le 1 (length bookmark)) (nat_le (length bookmark) 255) h).1 in
+    let short : length bookmark ≤ 255 = leb-true (length bookmark) 255 (and_parts (nat_le 1 (length bookmark)) (nat_le (length bookmark) 255) h).1 in
     omega (arith, short, length-append (to_le_bytes w16 (length bookmark)) bookmark)
 
 copied_most : (copied : Option (List ℕ)) → copied_fits copied ≡ true → length (copied_bytes copied) ≤ 258
@@ -119,7 +116,7 @@ allowed state session id change h = by (table_with_id state.tables id) refl h
   where
     by : (o : Option Table) → table_with_id state.tables id ≡ o → is_lawful_at state session o change ≡ true → Allowed state session id change
     by None e f = impossible f
-    by (Some t) e f = record { table = t; found = e; is = f; same = same_number t.id id (found_passes (λ (u : Table). u.id == id) state.tables t e) }
+    by (Some t) e f = record { table = t; found = e; is = f; same = eqb-true t.id id (found_passes (λ (u : Table). u.id == id) state.tables t e) }
 
 pub columns_of : (base : Records) (dropped kept : List PastChange) (state : DatabaseState) → IsReached base dropped kept state → (id : ℕ) (table : Table) → table_with_id state.tables id ≡ Some table → AreNumbered table.greatest table.columns
 columns_of base dropped kept state reached id table found =
@@ -164,7 +161,7 @@ put_allowed state asked session table bookmark copied values may low is =
     let with_own : (fits && whole && small && indexed && free && own) ≡ true = and_left (fits && whole && small && indexed && free && own) escrow with_escrow in
     let with_small : (fits && whole && small) ≡ true = and_left (fits && whole && small) indexed (and_left (fits && whole && small && indexed) free (and_left (fits && whole && small && indexed && free) own with_own)) in
     let fit : fits ≡ true = and_left fits whole (and_left (fits && whole) small with_small) in
-    let few : record_size values ≤ 1700 = at_most (record_size values) 1700 (and_right (fits && whole) small with_small) in
+    let few : record_size values ≤ 1700 = leb-true (record_size values) 1700 (and_right (fits && whole) small with_small) in
     let there : (at : List ℕ) → is_some (row_at rows at) ≡ true → bookmark_fits at ≡ true = seen state asked session table.0 t may.found may.same in
     put_spelled table bookmark copied values low
     (put_fits (state.number + 1) (schema_of t) rows bookmark values (primary_rule (schema_of t)) (legal_primary asked.base asked.dropped asked.kept state asked.reached table.0 t may.found) (there bookmark)

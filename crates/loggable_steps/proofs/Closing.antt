@@ -3,6 +3,7 @@ use Rattle.std.proofs.Common.{◌≡◌, ℕ, ◌+◌, ◌<◌, Bool, true, fals
 use Rattle.std.specs.Prelude.{◌==◌, find, option_and_then, IfSome}
 use Rattle.std.specs.List.{AllByRecursion}
 use Rattle.std.proofs.lemmas.Bool.Decides.{nat_tests}
+use Rattle.std.proofs.lemmas.Bool.{eqb-true}
 use Rattle.column_set.specs.RecordValues.{RecordFields}
 use Rattle.cursor_nav.specs.Places.{are_sorted}
 use Rattle.derived_index.proofs.Adding.{KeysRise}
@@ -15,8 +16,8 @@ use Rattle.database_state.specs.State.{DatabaseState, LiveSession, PastChange, t
 use Rattle.database_state.specs.Conflicts.{yields_key}
 use Rattle.database_state.specs.View.{view, view_in}
 use Rattle.record_changes.specs.Records.{Records, records_of}
-use Rattle.record_changes.proofs.Tests.{equal_bytes, impossible, same_number}
-use Rattle.version_history.proofs.Lists.{all_both, all_weaker}
+use Rattle.record_changes.proofs.Tests.{equal_bytes}
+use Rattle.version_history.proofs.Lists.{all_both}
 use Rattle.version_keys.specs.KeySums.{IsApartFromSums, IsPlainIndex, SeesNoSum}
 use Rattle.version_keys.specs.TableOrder.{HasTablesInOrder}
 use Rattle.version_keys.specs.UniqueKeys.{AreUnique, HasFreeKeys, HasOwnKey, HasUniqueIndexes, IsSoundIndex, IsUniqueIndex, IsUniqueTable}
@@ -31,6 +32,8 @@ use Rattle.version_keys.proofs.UniqueLaws.{rows_found}
 use Rattle.version_records.specs.Bookmarks.{StandsUnder, is_bookmark}
 use Rattle.version_records.proofs.EachRecord.{RowsHave}
 use Rattle.common_lemmas.proofs.Found.{found_passes, of_found}
+use Rattle.common_lemmas.proofs.Lists.{all_weaker}
+use Rattle.common_lemmas.proofs.Booleans.{impossible}
 use Rattle.version_records.proofs.Standing.{bookmarks_seen}
 use Rattle.lawful_answers.specs.LawfulSteps.{IsReached}
 use Rattle.loggable_steps.specs.Replays.{closed}
@@ -127,7 +130,7 @@ pub unique_tables : KeyLaws → (base : Records) (dropped kept : List PastChange
 unique_tables laws base dropped kept state reached id = by (table_with_id state.tables id) refl
   where
     number : (t : Table) → table_with_id state.tables id ≡ Some t → t.id ≡ id
-    number t found = same_number t.id id (found_passes (λ (table : Table). table.id == id) state.tables t found)
+    number t found = eqb-true t.id id (found_passes (λ (table : Table). table.id == id) state.tables t found)
 
     by : (o : Option Table) → table_with_id state.tables id ≡ o → IfSome o IsUniqueTable
     by None e = tt

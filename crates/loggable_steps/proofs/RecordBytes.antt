@@ -2,7 +2,7 @@
 use Rattle.std.proofs.Common.{◌≡◌, ℕ, suc, ◌+◌, ◌*◌, ◌^◌, ◌≤◌, Bool, true, false, ◌&&◌, ◌||◌, cond, List, [], ◌∷◌, ◌++◌, length, Option, Some, None, refl, sym, ap, subst, ◌∙◌, arith}
 use Rattle.std.specs.Prelude.{◌==◌, map, nat_le, nat_lt, sum_by, find, bytes_eq}
 use Rattle.std.specs.List.{flat_map, list_all}
-use Rattle.std.proofs.lemmas.Bool.{and_parts, and_from, leb-true}
+use Rattle.std.proofs.lemmas.Bool.{and_parts, and_from, leb-true, eqb-true}
 use Rattle.std.proofs.lemmas.Bool.Decides.{nat_tests}
 use Rattle.std.proofs.lemmas.List.{length-append}
 use Rattle.std.proofs.lemmas.List.Concat.{flat_map-append, flat_map-cons}
@@ -14,8 +14,8 @@ use Rattle.column_set.specs.RecordValues.{RecordFields, column_of_id, size_of_le
 use Rattle.column_set.specs.RecordValues.{record_size}
 use Rattle.column_set.specs.Rows.{record_values_in_order}
 use Rattle.log_grammar.specs.EntryBytes.{value_bytes, value_fits as value_fits_entry}
-use Rattle.record_changes.proofs.Tests.{impossible, same_number}
 use Rattle.common_lemmas.proofs.Found.{found_passes}
+use Rattle.common_lemmas.proofs.Booleans.{impossible}
 use Rattle.database_state.specs.Table.{GreatestColumns}
 use Rattle.lawful_answers.specs.ColumnNumbers.{are_in_range, is_given_number}
 
@@ -100,7 +100,7 @@ found_all {X = X} test p (y ∷ xs) x h e = elim (test y) as (λ b. cond b (Some
 pub column_low : (greatest : GreatestColumns) (columns : List Column) (id : ℕ) (column : Column) → AreNumbered greatest columns → column_of_id columns id ≡ Some column → nat_lt id (2 ^ 16) ≡ true
 column_low greatest columns id column are found =
     let at : Column → Bool = λ c. c.id.0 == id in
-    subst (λ (n : ℕ). nat_lt n (2 ^ 16) ≡ true) (same_number column.id.0 id (found_passes at columns column found)) (given_low greatest column are.range (found_all at (is_given_number greatest) columns column are.given found))
+    subst (λ (n : ℕ). nat_lt n (2 ^ 16) ≡ true) (eqb-true column.id.0 id (found_passes at columns column found)) (given_low greatest column are.range (found_all at (is_given_number greatest) columns column are.given found))
 
 -- ---- a field
 

@@ -3,10 +3,11 @@ use Rattle.std.proofs.Common.{◌≡◌, ℕ, suc, ◌+◌, ◌*◌, ◌^◌, �
 use Rattle.std.specs.Prelude.{◌==◌, nat_le, nat_lt, is_none, is_some, unwrap_or}
 use Rattle.std.specs.Int.{w16, w32, to_le_bytes}
 use Rattle.std.specs.List.{flat_map, list_all, list_any}
-use Rattle.std.proofs.lemmas.Bool.{and_from, and_parts}
+use Rattle.std.proofs.lemmas.Bool.{and_from, and_parts, eqb-true, leb-true}
 use Rattle.std.proofs.lemmas.Bool.Decides.{nat_tests}
 use Rattle.std.proofs.lemmas.List.{length-append}
 use Rattle.common_lemmas.proofs.Options.{some_there}
+use Rattle.common_lemmas.proofs.Booleans.{and_left, and_right, impossible}
 use Rattle.jet_base.specs.declared.ids.TableId.{TableId}
 use Rattle.jet_base.specs.declared.replies.Jet.TheVariants as jet
 use Rattle.column_set.specs.declared.columns.Column.{Column}
@@ -22,14 +23,14 @@ use Rattle.database_state.specs.Table.{Table, schema_of, table_with_id}
 use Rattle.database_state.specs.State.{DatabaseState, levels}
 use Rattle.database_state.specs.SchemaChanges.{greatest_order, has_column, is_in_use, makes_table, new_table, next_column_id, next_index_id, rule_columns, schema_refusal, step_refusals, step_table}
 use Rattle.database_state.specs.Lawful.{has_next_numbers, is_name}
-use Rattle.record_changes.proofs.Tests.{and_left, and_right, and_second, impossible, same_number}
+use Rattle.record_changes.proofs.Tests.{and_second}
 use Rattle.version_keys.proofs.SchemaKeys.{IsNewIndex, at_found, new_index, unrefused}
 use Rattle.built_calls.specs.BuiltTables.{is_unnumbered_column, is_built_rule, makes_built}
 use Rattle.built_calls.proofs.BuiltColumns.{not_numbered}
 use Rattle.log_grammar.specs.EntryBytes.{column_bytes, column_fits, condition_bytes, condition_fits, index_bytes, index_fits, index_flags, name_bytes, name_fits, schema_bytes, schema_fits, segment_bytes, segment_fits}
 use Rattle.loggable_steps.specs.Loggable.{schema_fits_types}
 use Rattle.loggable_steps.proofs.Bookmarks.{IsLegalRule, legal_rule}
-use Rattle.loggable_steps.proofs.ChangeBytes.{IsAsked, at_most, columns_of}
+use Rattle.loggable_steps.proofs.ChangeBytes.{IsAsked, columns_of}
 use Rattle.loggable_steps.proofs.RecordBytes.{AreNumbered, column_low}
 
 -- a schema step can be written, and is short
@@ -40,7 +41,7 @@ pub record IsSpelled (made : SchemaStep) : Type 0 where
 -- ---- bytes
 
 name_most : (name : List ℕ) → name_fits name ≡ true → length (name_bytes name) ≤ 65
-name_most name h = by (length name) (at_most (length name) 64 (and_parts (nat_le 1 (length name)) (nat_le (length name) 64) h).1)
+name_most name h = by (length name) (leb-true (length name) 64 (and_parts (nat_le 1 (length name)) (nat_le (length name) 64) h).1)
   where
     by : (n : ℕ) → n ≤ 64 → suc n ≤ 65
     by n h = omega (arith, h)
@@ -179,7 +180,7 @@ index_spelled table t index low numbered order new = record {
   fits = and_from (nat_lt table.0 (2 ^ 32)) (index_fits index) low (new_fits t index new numbered order);
   short = more (length (to_le_bytes w32 table.0 ++ (to_le_bytes w16 index.id.0 ++ index_bytes index)))
       (both_most (to_le_bytes w32 table.0) (to_le_bytes w16 index.id.0 ++ index_bytes index) 4 (2 + 149) (omega arith)
-      (both_most (to_le_bytes w16 index.id.0) (index_bytes index) 2 149 (omega arith) (index_most index (at_most (length index.segments) 12 new.legal.few) (at_most (length index.conditions) 12 new.legal.few_conditions) new.name)));
+      (both_most (to_le_bytes w16 index.id.0) (index_bytes index) 2 149 (omega arith) (index_most index (leb-true (length index.segments) 12 new.legal.few) (leb-true (length index.conditions) 12 new.legal.few_conditions) new.name)));
 }
   where
     more : (n : ℕ) → n ≤ 4 + (2 + 149) → n ≤ 1000
@@ -208,7 +209,7 @@ schema_spelled state asked session (step.CreateIndex table rule) free next built
     new : (t : Table) → table_with_id state.tables table.0 ≡ Some t → IsNew t rule
     new t found =
         let named = numbers t found in
-        let is : IsNewIndex t rule = new_index state table rule t (at_found state session (step.CreateIndex table rule) t free found) (same_number rule.id.0 (next_index_id t.indexes) (and_left _ _ (and_left _ _ named))) in
+        let is : IsNewIndex t rule = new_index state table rule t (at_found state session (step.CreateIndex table rule) t free found) (eqb-true rule.id.0 (next_index_id t.indexes) (and_left _ _ (and_left _ _ named))) in
         record {
           legal = legal_rule rule (schema_of t) is.legal;
           columns = is.columns;

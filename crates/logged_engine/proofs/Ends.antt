@@ -1,13 +1,13 @@
 -- What is to end, and by how many bytes.
 use Rattle.std.proofs.Common.{◌≡◌, ℕ, ◌+◌, ◌-◌, ◌*◌, ◌≤◌, true, false, cond, List, map, length, Option, Some, None, sym, ap, subst, ◌∙◌, arith}
 use Rattle.std.specs.Prelude.{◌==◌, nat_lt, find, is_some, option_map}
+use Rattle.common_lemmas.proofs.Booleans.{and_left, and_right, impossible}
 use Rattle.index_derive.specs.declared.log.Entry.{Entry}
 use Rattle.index_derive.specs.declared.log.EntryKind.{EntryKind}
 use Rattle.index_derive.specs.declared.log.EntryKind.TheVariants as entry
 use Rattle.database_state.specs.State.{DatabaseState, LiveSession, levels}
 use Rattle.database_state.specs.Step.{with_one, without_one}
 use Rattle.database_state.specs.Lawful.{has_number, has_open as has_open_in, is_lawful, is_lawful_kind}
-use Rattle.record_changes.proofs.Tests.{and_left, and_right, impossible}
 use Rattle.version_history.specs.History.{EachTwo}
 use Rattle.version_cleanup.specs.declared.live.Transaction.{Transaction}
 use Rattle.version_cleanup.specs.LiveSessions.{LiveState, at_levels, began, ended, entered, left, levels_in, levels_of, live_state, lowered, new_session, opened, saved, session_in, sessions_after, shut, with_session}

@@ -3,7 +3,7 @@ use Rattle.std.proofs.Common.{◌≡◌, ℕ, ◌+◌, ◌<◌, ◌≤◌, suc, 
 use Rattle.std.specs.Prelude.{◌==◌, drop, is_some, nat_le}
 use Rattle.std.specs.List.{AllByRecursion}
 use Rattle.std.proofs.lemmas.Bool.Decides.{nat_tests}
-use Rattle.record_changes.proofs.Tests.{and_left, and_right, impossible}
+use Rattle.common_lemmas.proofs.Booleans.{and_left, and_right, impossible}
 use Rattle.index_derive.specs.declared.log.Entry.{Entry}
 use Rattle.index_derive.specs.declared.log.EntryKind.TheVariants as entry
 use Rattle.database_state.specs.State.{DatabaseState}

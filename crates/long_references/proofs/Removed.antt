@@ -2,12 +2,14 @@
 use Rattle.std.proofs.Common.{◌≡◌, ℕ, ◌+◌, ◌<◌, Bool, true, false, if◌then◌else◌, Option, List, [], ◌∷◌, refl, sym, ap, ◌∙◌, arith}
 use Rattle.std.specs.Prelude.{bytes_eq}
 use Rattle.std.specs.List.{list_any}
+use Rattle.common_lemmas.proofs.Booleans.{by_test}
+use Rattle.common_lemmas.proofs.Numbers.{same_bytes}
 use Rattle.column_set.specs.RecordValues.{lookup_by_key}
 use Rattle.column_set.specs.Rows.{RowFields}
 use Rattle.long_value.specs.Values.{Values}
 use Rattle.long_references.specs.RowReferences.{identifiers, not_among, references, removed_identifiers, times_among}
 use Rattle.long_references.specs.ReferenceCounts.{AreRows, HasCounts, NamesNoOther, NewestRows, RowBefore, reference_count, with_all_released, with_row}
-use Rattle.long_references.proofs.Totals.{among-no, among-yes, by_test, equal_bytes, none_among, refers_once, some_among, total-with_row}
+use Rattle.long_references.proofs.Totals.{among-no, among-yes, none_among, refers_once, some_among, total-with_row}
 use Rattle.long_references.proofs.Taken.{ValueLaws, released_all}
 
 left_out : (x : List ℕ) (ids others : List (List ℕ)) → list_any (bytes_eq x) others ≡ true → not_among others (x ∷ ids) ≡ not_among others ids
@@ -24,13 +26,13 @@ times-not_among id (x ∷ ids) others =
     (λ t. ap (times_among id) (left_out x ids others t) ∙ times-not_among id ids others
     ∙ by_test (bytes_eq id x)
     (λ e.
-    let there : list_any (bytes_eq id) others ≡ true = ap (λ (i : List ℕ). list_any (bytes_eq i) others) (equal_bytes id x e) ∙ t in
+    let there : list_any (bytes_eq id) others ≡ true = ap (λ (i : List ℕ). list_any (bytes_eq i) others) (same_bytes id x e) ∙ t in
     none there (times_among id ids) (times_among id (x ∷ ids)))
     (λ n. ap (λ (k : ℕ). if list_any (bytes_eq id) others then 0 else k) (sym (among-no id x ids n))))
     (λ f. ap (times_among id) (left_in x ids others f)
     ∙ by_test (bytes_eq id x)
     (λ e.
-    let apart : list_any (bytes_eq id) others ≡ false = ap (λ (i : List ℕ). list_any (bytes_eq i) others) (equal_bytes id x e) ∙ f in
+    let apart : list_any (bytes_eq id) others ≡ false = ap (λ (i : List ℕ). list_any (bytes_eq i) others) (same_bytes id x e) ∙ f in
     let rest = times-not_among id ids others ∙ all apart (times_among id ids) in
     let more = among-yes id x (not_among others ids) e in
     let was = among-yes id x ids e in

@@ -5,12 +5,14 @@ use Rattle.std.specs.Ordering.{is_eq}
 use Rattle.std.proofs.lemmas.Bool.{eqb-true, lt-ltb}
 use Rattle.std.proofs.lemmas.List.Elements.{All-head, All-tail}
 use Rattle.common_lemmas.proofs.Options.{none_there}
+use Rattle.common_lemmas.proofs.Booleans.{by_test}
+use Rattle.common_lemmas.proofs.Numbers.{same_bytes}
 use Rattle.column_set.specs.RecordValues.{lookup_by_key}
 use Rattle.column_set.specs.Rows.{RowFields}
 use Rattle.long_value.specs.Values.{AreLong, IsLong, LongValue, Values, order, put_value, value_of, with_reference, without_reference}
 use Rattle.long_references.specs.RowReferences.{identifiers, references, times_among}
 use Rattle.long_references.specs.ReferenceCounts.{AreRows, HasCounts, NewestRows, RowBefore, as_undone, count_of, identifiers_before, reference_count, references_before, with_all_released, with_all_taken, with_change, with_row, with_taken}
-use Rattle.long_references.proofs.Totals.{among-no, among-yes, by_test, equal_bytes, itself}
+use Rattle.long_references.proofs.Totals.{among-no, among-yes, itself}
 use Rattle.long_references.proofs.CountSteps.{changed, cleaned, undone}
 
 -- what the laws of long values say
@@ -68,7 +70,7 @@ taken_all laws id (one ∷ given) values =
     let rest = taken_all laws id given (with_taken values one) in
     by_test (bytes_eq id one.0)
     (λ t.
-    let same : id ≡ one.0 = equal_bytes id one.0 t in
+    let same : id ≡ one.0 = same_bytes id one.0 t in
     let now : count_of id (with_taken values one) ≡ count_of id values + 1 = subst (λ k. count_of k (with_taken values one) ≡ count_of k values + 1) (sym same) (own_taken laws values one) in
     omega (arith, rest, now, among-yes id one.0 (map (λ one. one.0) given) t))
     (λ f.
@@ -103,7 +105,7 @@ one_released : ValueLaws → (values : Values) (x id : List ℕ) (ids : List (Li
 one_released laws values x id ids some =
     by_test (bytes_eq id x)
     (λ t.
-    let same : id ≡ x = equal_bytes id x t in
+    let same : id ≡ x = same_bytes id x t in
     let now : count_of id (without_reference x values) + 1 ≡ count_of id values = subst (λ k. count_of k (without_reference x values) + 1 ≡ count_of k values) (sym same) (own_released laws values x some) in
     omega (arith, now, among-yes id x ids t))
     (λ f. omega (arith, other_released laws values x id (unequal id x f), among-no id x ids f))

@@ -10,7 +10,8 @@ use Rattle.std.specs.declared.cmp.Ordering.TheVariants.{Less, Equal, Greater}
 use Rattle.std.proofs.lemmas.Cmp.{tied_itself}
 use Rattle.std.proofs.lemmas.List.Sums.{sum_by-cons}
 use Rattle.std.proofs.lemmas.Slice.Eq.{bytes_eq-Decides}
-use Rattle.common_lemmas.proofs.Booleans.{T_first, T_second}
+use Rattle.common_lemmas.proofs.Booleans.{T_first, T_second, by_test}
+use Rattle.common_lemmas.proofs.Numbers.{same_bytes}
 use Rattle.column_set.specs.declared.rows.RowValue.{RowValue}
 use Rattle.column_set.specs.declared.rows.RowValue.TheVariants.{Here, Apart}
 use Rattle.column_set.specs.RecordValues.{lookup_by_key, put_by_key, remove_by_key}
@@ -18,29 +19,22 @@ use Rattle.column_set.specs.Rows.{RowFields, values_in_order}
 use Rattle.long_references.specs.RowReferences.{identifier, named_by, references, times_among, with_identifier}
 use Rattle.long_references.specs.ReferenceCounts.{AreRows, NewestRows, with_row}
 
-pub by_test : {P : Type 0} (b : Bool) → (b ≡ true → P) → (b ≡ false → P) → P
-by_test true f g = f refl
-by_test false f g = g refl
-
 pub holds : (b : Bool) → b ≡ true → T b
 holds b e = subst T (sym e) tt
 
 -- ---- equal byte strings
 
-pub equal_bytes : (a b : List ℕ) → bytes_eq a b ≡ true → a ≡ b
-equal_bytes a b t = (bytes_eq-Decides a b).0 t
-
 pub itself : (a : List ℕ) → bytes_eq a a ≡ true
 itself a = (bytes_eq-Decides a a).1 refl
 
 tied : (a b : List ℕ) → bytes_eq a b ≡ true → is_eq (slice_cmp nat_cmp b a) ≡ true
-tied a b t = let same : a ≡ b = equal_bytes a b t in ap (λ (x : List ℕ). is_eq (slice_cmp nat_cmp b x)) same ∙ ap is_eq (tied_itself nat_list_cmp_total b)
+tied a b t = let same : a ≡ b = same_bytes a b t in ap (λ (x : List ℕ). is_eq (slice_cmp nat_cmp b x)) same ∙ ap is_eq (tied_itself nat_list_cmp_total b)
 
 untied : (a b : List ℕ) → bytes_eq a b ≡ false → is_eq (slice_cmp nat_cmp b a) ≡ false
 untied a b f =
     by_test (is_eq (slice_cmp nat_cmp b a))
     (λ t.
-    let same : b ≡ a = equal_bytes b a (texts_ties b a ∙ t) in
+    let same : b ≡ a = same_bytes b a (texts_ties b a ∙ t) in
     absurd (true≢false (sym (itself a) ∙ ap (bytes_eq a) (sym same) ∙ f)))
     (λ t. t)
 
@@ -105,7 +99,7 @@ total-remove id key (e ∷ es) sorted =
     let rest = total-remove id key es (T_second (below_all (slice_cmp nat_cmp) e.0 es) (is_sorted (slice_cmp nat_cmp) es) sorted) in
     by_test (bytes_eq e.0 key)
     (λ t.
-    let same : e.0 ≡ key = equal_bytes e.0 key t in
+    let same : e.0 ≡ key = same_bytes e.0 key t in
     let gone : lookup_by_key key es ≡ None = none_below key es (subst (λ k. T (below_all (slice_cmp nat_cmp) k es)) same (T_first (below_all (slice_cmp nat_cmp) e.0 es) (is_sorted (slice_cmp nat_cmp) es) sorted)) in
     let none : references id (lookup_by_key key es) ≡ 0 = ap (references id) gone in
     let there : references id (lookup_by_key key (e ∷ es)) ≡ references id (Some e.1) = ap (references id) (found_first key e es (tied e.0 key t)) in
@@ -158,7 +152,7 @@ with_once id x ids once =
     (λ f. subst (λ (l : List (List ℕ)). times_among id l ≤ 1) (sym (added f))
     (by_test (bytes_eq id x)
     (λ t.
-    let same : id ≡ x = equal_bytes id x t in
+    let same : id ≡ x = same_bytes id x t in
     let none : times_among id ids ≡ 0 = ap (λ k. times_among k ids) same ∙ none_among x ids f in
     omega (arith, none, among-yes id x ids t))
     (λ t. omega (arith, once, among-no id x ids t))))

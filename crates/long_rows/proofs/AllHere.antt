@@ -3,6 +3,8 @@ use Rattle.std.proofs.Common.{◌≡◌, ℕ, suc, true, false, Some, List, [], 
 use Rattle.std.specs.Prelude.{nat_le}
 use Rattle.std.specs.List.{list_all}
 use Rattle.std.proofs.lemmas.Bool.Decides.{nat_tests}
+use Rattle.std.proofs.lemmas.Bool.{and_from}
+use Rattle.common_lemmas.proofs.Booleans.{and_left, and_right}
 use Rattle.column_set.specs.declared.rows.RowValue.{RowValue}
 use Rattle.column_set.specs.declared.rows.RowValue.TheVariants.{Here}
 use Rattle.column_set.specs.RecordValues.{RecordFields}
@@ -11,7 +13,6 @@ use Rattle.long_value.specs.Values.{Values}
 use Rattle.long_references.specs.RowReferences.{identifiers, named_by}
 use Rattle.long_rows.specs.WholeRows.{is_there, is_whole, record_in, whole_value}
 use Rattle.long_rows.specs.KeptRows.{Found, is_long, kept_fields, kept_value, kept_values, next_place, place_after}
-use Rattle.long_rows.proofs.Keeping.{and_both, and_left, and_right}
 
 values_shown : (values : Values) (vs : List (List ℕ)) → map (whole_value values) (map (λ v. Here v) vs) ≡ vs
 values_shown values [] = refl
@@ -27,7 +28,7 @@ values_there values (v ∷ vs) = values_there values vs
 
 pub all_whole : (values : Values) (fields : RecordFields) → is_whole values (all_here fields) ≡ true
 all_whole values [] = refl
-all_whole values ((column, vs) ∷ fields) = and_both (list_all (is_there values) (map (λ v. Here v) vs)) (is_whole values (all_here fields)) (values_there values vs) (all_whole values fields)
+all_whole values ((column, vs) ∷ fields) = and_from (list_all (is_there values) (map (λ v. Here v) vs)) (is_whole values (all_here fields)) (values_there values vs) (all_whole values fields)
 
 values_unnamed : (column : ℕ) (vs : List (List ℕ)) (ys : List (ℕ × RowValue)) → named_by (map (λ v. (column, v)) (map (λ v. Here v) vs) ++ ys) ≡ named_by ys
 values_unnamed column [] ys = refl

@@ -2,6 +2,7 @@
 use Rattle.std.proofs.Common.{◌≡◌, ◌⊎◌, inl, inr, ℕ, ◌+◌, ◌<◌, ◌^◌, false, None, List, [], ◌∷◌, length, refl, sym, ap, subst, ◌∙◌, arith}
 use Rattle.std.specs.Prelude.{bytes_eq}
 use Rattle.std.proofs.lemmas.Bool.{or_from}
+use Rattle.common_lemmas.proofs.Booleans.{by_test}
 use Rattle.column_set.specs.declared.rows.RowValue.{RowValue}
 use Rattle.column_set.specs.declared.rows.RowValue.TheVariants.{Here, Apart}
 use Rattle.column_set.specs.RecordValues.{RecordFields}
@@ -10,7 +11,6 @@ use Rattle.long_value.specs.Values.{value_of}
 use Rattle.long_references.specs.RowReferences.{identifier}
 use Rattle.long_references.specs.ReferenceCounts.{with_all_taken}
 use Rattle.long_references.proofs.Taken.{ValueLaws}
-use Rattle.long_references.proofs.Totals.{by_test}
 use Rattle.long_rows.specs.KeptRows.{Found, MayKeep, given_by, given_values, kept_row, with_given}
 use Rattle.long_rows.proofs.Kept.{AreKept, IsNew, IsShared, fields_kept}
 use Rattle.long_rows.proofs.Given.{IdLaw, IsFresh, added, among, bytes_differ, differ_by_value, next_bound, there}

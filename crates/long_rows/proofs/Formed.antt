@@ -4,15 +4,15 @@ use Rattle.std.specs.Prelude.{nat_le, nat_lt, ltb, sum_by}
 use Rattle.std.specs.List.{list_all}
 use Rattle.std.specs.Ordering.{is_lt, nat_cmp}
 use Rattle.std.specs.FinMap.Entries.{below_all, is_sorted}
-use Rattle.std.proofs.lemmas.Bool.{le-leb, lt-ltb, ltb-true}
+use Rattle.std.proofs.lemmas.Bool.{and_from, le-leb, lt-ltb, ltb-true}
 use Rattle.std.proofs.lemmas.List.{length-map}
 use Rattle.std.proofs.lemmas.List.Sums.{sum_by-cons}
+use Rattle.common_lemmas.proofs.Booleans.{and_left, and_right}
 use Rattle.column_set.specs.declared.rows.RowValue.{RowValue}
 use Rattle.column_set.specs.declared.rows.RowValue.TheVariants.{Here, Apart}
 use Rattle.column_set.specs.RecordValues.{RecordFields, record_size}
 use Rattle.column_set.specs.Rows.{field_fits_row, is_row, is_well_formed, largest_row, record_values_in_order, room_in_row, row_size, value_fits_row, values_in_order}
 use Rattle.long_rows.specs.KeptRows.{Found, MayKeep, are_values, kept_fields, kept_row, kept_value, kept_values, next_place, place_after}
-use Rattle.long_rows.proofs.Keeping.{and_both, and_left, and_right}
 use Rattle.long_rows.proofs.Kept.{AreKept, IsKept, IsNew, IsShared, fields_kept, is_kept, three_and}
 use Rattle.long_rows.proofs.Given.{next_bound}
 
@@ -22,19 +22,19 @@ keys_below : (found : Found) (place x : ℕ) (fields : RecordFields) → below_a
 keys_below found place x [] e = refl
 keys_below found place x ((column, vs) ∷ fields) e =
     let behind = place_after found column 0 place vs in
-    and_both (is_lt (nat_cmp x column)) (below_all nat_cmp x (kept_fields found behind fields)) (and_left (is_lt (nat_cmp x column)) (below_all nat_cmp x fields) e) (keys_below found behind x fields (and_right (is_lt (nat_cmp x column)) (below_all nat_cmp x fields) e))
+    and_from (is_lt (nat_cmp x column)) (below_all nat_cmp x (kept_fields found behind fields)) (and_left (is_lt (nat_cmp x column)) (below_all nat_cmp x fields) e) (keys_below found behind x fields (and_right (is_lt (nat_cmp x column)) (below_all nat_cmp x fields) e))
 
 keys_rise : (found : Found) (place : ℕ) (fields : RecordFields) → is_sorted nat_cmp fields ≡ true → is_sorted nat_cmp (kept_fields found place fields) ≡ true
 keys_rise found place [] e = refl
 keys_rise found place ((column, vs) ∷ fields) e =
     let behind = place_after found column 0 place vs in
-    and_both (below_all nat_cmp column (kept_fields found behind fields)) (is_sorted nat_cmp (kept_fields found behind fields))
+    and_from (below_all nat_cmp column (kept_fields found behind fields)) (is_sorted nat_cmp (kept_fields found behind fields))
     (keys_below found behind column fields (and_left (below_all nat_cmp column fields) (is_sorted nat_cmp fields) e)) (keys_rise found behind fields (and_right (below_all nat_cmp column fields) (is_sorted nat_cmp fields) e))
 
 -- ---- values
 
 four_and : (a b c d : Bool) → a ≡ true → b ≡ true → c ≡ true → d ≡ true → (a && b && c && d) ≡ true
-four_and a b c d e f g h = and_both (a && b && c) d (three_and a b c e f g) h
+four_and a b c d e f g h = and_from (a && b && c) d (three_and a b c e f g) h
 
 one_fits : (found : Found) → found.number < 2 ^ 64 → list_all is_row found.rows ≡ true → (at behind : ℕ) (x : RowValue) (v : List ℕ) → IsKept found at x v behind → nat_le (length v) 1048576 ≡ true → at < 2 ^ 32 → value_fits_row x ≡ true
 one_fits found number rows at behind (Here own) v is short small = ap (λ (b : List ℕ). nat_le (length b) 255) is.0 ∙ is.1
@@ -61,7 +61,7 @@ values_fit found number rows column at place (v ∷ vs) short small =
     let next = next_place found column at place v in
     let x = kept_value found column at place v in
     let bound = next_bound found place next x v (is_kept found column at place v) in
-    and_both (value_fits_row x) (list_all value_fits_row (kept_values found column (suc at) next vs))
+    and_from (value_fits_row x) (list_all value_fits_row (kept_values found column (suc at) next vs))
     (one_fits found number rows place next x v (is_kept found column at place v) (and_left (nat_le (length v) 1048576) (are_values vs) short) (omega (arith, small)))
     (values_fit found number rows column (suc at) next vs (and_right (nat_le (length v) 1048576) (are_values vs) short) (omega (arith, small, bound)))
 
@@ -83,7 +83,7 @@ fields_fit found number rows place ((column, vs) ∷ fields) columns some short 
     let behind = place_after found column 0 place vs in
     let bound = behind_values found column 0 place vs in
     let count = count-cons column vs fields in
-    and_both (field_fits_row (column, kept_values found column 0 place vs)) (list_all field_fits_row (kept_fields found behind fields))
+    and_from (field_fits_row (column, kept_values found column 0 place vs)) (list_all field_fits_row (kept_fields found behind fields))
     (three_and (nat_lt column (2 ^ 16)) (nat_lt 0 (length (kept_values found column 0 place vs))) (list_all value_fits_row (kept_values found column 0 place vs))
     (and_left (nat_lt column (2 ^ 16)) (list_all (λ field. nat_lt field.0 (2 ^ 16)) fields) columns)
     (some_values found column 0 place vs (and_left (ltb 0 (length vs)) (list_all (λ field. ltb 0 (length field.1)) fields) some))
@@ -117,8 +117,8 @@ row_formed found fields may size =
     let few = few_values found fields size may.small in
     let count = same_values found fields in
     let row = kept_row found fields in
-    and_both (is_well_formed row) (nat_lt (length (values_in_order row)) (2 ^ 16))
-    (and_both (is_sorted nat_cmp row) (list_all field_fits_row row)
+    and_from (is_well_formed row) (nat_lt (length (values_in_order row)) (2 ^ 16))
+    (and_from (is_sorted nat_cmp row) (list_all field_fits_row row)
     (keys_rise found 0 fields (and_left (is_sorted nat_cmp fields) (list_all (λ field. ltb 0 (length field.1)) fields) may.formed))
     (fields_fit found may.number may.rows 0 fields may.columns (and_right (is_sorted nat_cmp fields) (list_all (λ field. ltb 0 (length field.1)) fields) may.formed) may.short (omega (arith, few, count))))
     (lt-ltb (length (values_in_order row)) (2 ^ 16) (omega (arith, few)))

@@ -3,15 +3,15 @@ use Rattle.std.proofs.Common.{◌≡◌, ◌≢◌, ◌⊎◌, inl, inr, ℕ, su
 use Rattle.std.specs.Prelude.{bytes_eq, nat_le}
 use Rattle.std.specs.List.{AllByRecursion, list_all, list_any}
 use Rattle.std.proofs.lemmas.Bool.{leb-true, ltb-true, or_from}
+use Rattle.common_lemmas.proofs.Booleans.{and_left, and_right, by_test}
+use Rattle.common_lemmas.proofs.Numbers.{same_bytes}
 use Rattle.column_set.specs.declared.rows.RowValue.{RowValue}
 use Rattle.column_set.specs.declared.rows.RowValue.TheVariants.{Here, Apart}
 use Rattle.long_value.specs.Values.{LongValue, Values, value_of}
 use Rattle.long_value.specs.Stores.{id_bytes}
 use Rattle.long_value.specs.declared.values.LongId.{LongId}
 use Rattle.long_references.specs.RowReferences.{identifier, named_by, with_identifier}
-use Rattle.long_references.proofs.Totals.{by_test, equal_bytes}
 use Rattle.long_rows.specs.KeptRows.{Found, MayTake, Takes, given_by, is_long, with_given}
-use Rattle.long_rows.proofs.Keeping.{and_left, and_right}
 use Rattle.long_rows.proofs.Kept.{AreKept, IsKept, IsNew, IsShared}
 
 -- what the law of identifiers says
@@ -27,7 +27,7 @@ pub other_place : IdLaw → (n p q : ℕ) → n < 2 ^ 64 → p < 2 ^ 32 → q < 
 other_place law n p q n_lt p_lt q_lt apart e = apart ((law (record { entry = n; place = p }) (record { entry = n; place = q }) n_lt n_lt p_lt q_lt e).1)
 
 pub bytes_differ : (a b : List ℕ) → a ≢ b → bytes_eq a b ≡ false
-bytes_differ a b n = by_test (bytes_eq a b) (λ t. absurd (n (equal_bytes a b t))) (λ f. f)
+bytes_differ a b n = by_test (bytes_eq a b) (λ t. absurd (n (same_bytes a b t))) (λ f. f)
 
 pub differ_by_value : (values : Values) (a b : List ℕ) (value : LongValue) → value_of a values ≡ None → value_of b values ≡ Some value → a ≢ b
 differ_by_value values a b value none some e = not_both (value_of b values) value (ap (λ (i : List ℕ). value_of i values) (sym e) ∙ none) some

@@ -4,12 +4,14 @@ use Rattle.std.specs.Prelude.{bytes_eq, is_some}
 use Rattle.std.specs.List.{list_any}
 use Rattle.std.specs.Cmp.Lexicographic.{nat_list_cmp_total}
 use Rattle.std.specs.FinMap.Entries.{is_sorted, same_entries}
+use Rattle.common_lemmas.proofs.Booleans.{by_test}
+use Rattle.common_lemmas.proofs.Numbers.{same_bytes}
 use Rattle.column_set.specs.Rows.{RowFields}
 use Rattle.long_value.specs.Values.{AreLong, LongValue, Values, order, value_of, with_reference, without_reference}
 use Rattle.long_references.specs.RowReferences.{identifiers, times_among}
 use Rattle.long_references.specs.ReferenceCounts.{with_all_released, with_all_taken, with_taken}
 use Rattle.long_references.proofs.Taken.{ValueLaws}
-use Rattle.long_references.proofs.Totals.{among-no, among-yes, by_test, equal_bytes, holds, refers_once, some_among}
+use Rattle.long_references.proofs.Totals.{among-no, among-yes, holds, refers_once, some_among}
 use Rattle.long_rows.proofs.Given.{among, any_named}
 use Rattle.long_rows.proofs.InUse.{by_option, no_value, own_back, sorted_less, sorted_taken, tie_is_same}
 use Rattle.long_rows.proofs.Reading.{taken_beside, taken_new}
@@ -53,7 +55,7 @@ own_taken laws (one ∷ given) values k there once =
     let none : among k given ≡ false = by_test (among k given)
     (λ again. let some = some_among k (names_of given) (sym (any_named k given) ∙ again) in absurd (omega (arith, once, more, some)))
     (λ f. f) in
-    let same : k ≡ one.0 = equal_bytes k one.0 t in
+    let same : k ≡ one.0 = same_bytes k one.0 t in
     (one.1, all_taken_beside laws given (with_taken values one) k none ∙ ap (λ (i : List ℕ). value_of k (with_taken values (i, one.1))) (sym same)))
     (λ f.
     let later : among k given ≡ true = sym (ap (λ (b : Bool). b || among k given) f) ∙ there in
@@ -88,7 +90,7 @@ own_released laws (x ∷ ids) values k there once =
     let none : list_any (bytes_eq k) ids ≡ false = by_test (list_any (bytes_eq k) ids)
     (λ again. let some = some_among k ids again in absurd (omega (arith, once, more, some)))
     (λ f. f) in
-    let same : k ≡ x = equal_bytes k x t in
+    let same : k ≡ x = same_bytes k x t in
     released_beside laws ids (without_reference x values) k none ∙ ap (λ (i : List ℕ). value_of k (without_reference i values)) (sym same))
     (λ f.
     let later : list_any (bytes_eq k) ids ≡ true = sym (ap (λ (b : Bool). b || list_any (bytes_eq k) ids) f) ∙ there in

@@ -8,6 +8,8 @@ use Rattle.std.specs.declared.cmp.Ordering.TheVariants.{Equal}
 use Rattle.std.proofs.lemmas.Bool.Decides.{nat_tests}
 use Rattle.std.proofs.lemmas.List.Sums.{sum_by-append, sum_by-cons}
 use Rattle.std.proofs.lemmas.Slice.Eq.{bytes_eq-Decides}
+use Rattle.common_lemmas.proofs.Booleans.{by_test}
+use Rattle.common_lemmas.proofs.Numbers.{same_bytes}
 use Rattle.column_set.specs.RecordValues.{RecordFields, lookup_by_key}
 use Rattle.column_set.specs.Rows.{RowFields}
 use Rattle.long_value.specs.Values.{AreLong, LongValue, Values, order, put_value, released, value_of, with_reference, without_reference, without_value}
@@ -15,7 +17,7 @@ use Rattle.long_references.specs.RowReferences.{identifiers, references, removed
 use Rattle.long_references.specs.ReferenceCounts.{AreRows, HasCounts, NamesNoOther, NewestRows, RowBefore, as_undone, count_of, identifiers_before, references_before, with_all_released, with_row, with_taken}
 use Rattle.long_references.proofs.Taken.{ValueLaws, cleaned_counts, some_counted, undone_counts}
 use Rattle.long_references.proofs.Removed.{rewritten_counts}
-use Rattle.long_references.proofs.Totals.{by_test, equal_bytes, holds, row_references}
+use Rattle.long_references.proofs.Totals.{holds, row_references}
 use Rattle.long_rows.specs.WholeRows.{StandsFor}
 use Rattle.long_rows.specs.RowsInUse.{IsInUse, newest, before}
 use Rattle.long_rows.proofs.Keeping.{Keeps, bytes_in, still_stands}
@@ -74,7 +76,7 @@ gone_still : ValueLaws → (values : Values) (x k : List ℕ) → value_of k val
 gone_still laws values x k none =
     by_test (bytes_eq k x)
     (λ t.
-    let same : x ≡ k = sym (equal_bytes k x t) in
+    let same : x ≡ k = sym (same_bytes k x t) in
     ap (value_of k) (no_value values x (ap (λ (i : List ℕ). value_of i values) same ∙ none)) ∙ none)
     (λ f. laws.less_beside values x k (unequal k x f) ∙ none)
 
@@ -92,7 +94,7 @@ keeps_or_gone : ValueLaws → (values : Values) (x k : List ℕ) (found : LongVa
 keeps_or_gone laws values x k found is =
     by_test (bytes_eq k x)
     (λ t.
-    let same : k ≡ x = equal_bytes k x t in
+    let same : k ≡ x = same_bytes k x t in
     less_or_gone found (value_of k (without_reference x values)) (ap (λ (i : List ℕ). value_of k (without_reference i values)) (sym same) ∙ laws.less values k found is))
     (λ f. inr (ap bytes_in (laws.less_beside values x k (unequal k x f) ∙ is)))
 
@@ -203,5 +205,5 @@ given_back laws values id bytes long =
     same_entries order nat_list_cmp_total tie_is_same (without_reference id (with_taken values (id, bytes))) values
     (sorted_less (with_taken values (id, bytes)) id (sorted_taken values id bytes sorted)) sorted
     (λ k. by_test (bytes_eq k id)
-    (λ t. let same : k ≡ id = equal_bytes k id t in subst (λ (i : List ℕ). value_of i (without_reference id (with_taken values (id, bytes))) ≡ value_of i values) (sym same) (own_back laws values id bytes long))
+    (λ t. let same : k ≡ id = same_bytes k id t in subst (λ (i : List ℕ). value_of i (without_reference id (with_taken values (id, bytes))) ≡ value_of i values) (sym same) (own_back laws values id bytes long))
     (λ f. other_back laws values id bytes k (unequal k id f)))

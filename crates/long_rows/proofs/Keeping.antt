@@ -1,7 +1,9 @@
 -- A row that can be read whole stands for the same record while the values that it names keep their bytes.
-use Rattle.std.proofs.Common.{◌≡◌, ℕ, ◌<◌, ◌==◌, Bool, true, false, ◌&&◌, Option, Some, None, List, [], ◌∷◌, ◌++◌, length, map, option_map, refl, sym, ap, ◌∙◌, true≢false}
+use Rattle.std.proofs.Common.{◌≡◌, ℕ, ◌<◌, ◌==◌, true, Option, Some, None, List, [], ◌∷◌, ◌++◌, length, map, option_map, refl, sym, ap, ◌∙◌, true≢false}
 use Rattle.std.specs.List.{list_all}
+use Rattle.std.proofs.lemmas.Bool.{and_from}
 use Rattle.common_lemmas.proofs.Options.{same_some}
+use Rattle.common_lemmas.proofs.Booleans.{and_left, and_right}
 use Rattle.column_set.specs.declared.rows.RowValue.{RowValue}
 use Rattle.column_set.specs.declared.rows.RowValue.TheVariants.{Here, Apart}
 use Rattle.column_set.specs.RecordValues.{RecordFields}
@@ -17,18 +19,6 @@ bytes_in value = option_map (λ (found : LongValue). found.bytes) value
 -- a value that was there is there with the same bytes
 abbrev pub Keeps : Values → Values → List ℕ → Type 0
 Keeps old new id = (value : LongValue) → value_of id old ≡ Some value → bytes_in (value_of id new) ≡ Some value.bytes
-
-pub and_left : (a b : Bool) → (a && b) ≡ true → a ≡ true
-and_left true b e = refl
-and_left false b e = e
-
-pub and_right : (a b : Bool) → (a && b) ≡ true → b ≡ true
-and_right true b e = e
-and_right false b e = absurd (true≢false (sym e))
-
-pub and_both : (a b : Bool) → a ≡ true → b ≡ true → (a && b) ≡ true
-and_both true b e f = f
-and_both false b e f = e
 
 pub found_one : (size : ℕ) (o : Option LongValue) → has_length size o ≡ true → (value : LongValue) × (o ≡ Some value) × ((size == length value.bytes) ≡ true)
 found_one size None e = absurd (true≢false (sym e))
@@ -51,7 +41,7 @@ values_kept old new column (Apart entry place size ∷ vs) ys named whole =
     let rest = values_kept old new column vs ys named.1 (and_right (has_length size (value_of id old)) (list_all (is_there old) vs) whole) in
     let same : bytes_of_value (value_of id new) ≡ bytes_of_value (value_of id old) = is.0 ∙ sym (ap bytes_of_value was.1) in (
       ap (λ (b : List ℕ). b ∷ map (whole_value new) vs) same ∙ ap (λ (l : List (List ℕ)). bytes_of_value (value_of id old) ∷ l) rest.0,
-      and_both (has_length size (value_of id new)) (list_all (is_there new) vs) is.1 rest.1,
+      and_from (has_length size (value_of id new)) (list_all (is_there new) vs) is.1 rest.1,
       rest.2,
     )
 
@@ -61,7 +51,7 @@ fields_kept old new ((column, vs) ∷ row) named whole =
     let one = values_kept old new column vs (values_in_order row) named (and_left (list_all (is_there old) vs) (is_whole old row) whole) in
     let rest = fields_kept old new row one.2 (and_right (list_all (is_there old) vs) (is_whole old row) whole) in (
       ap (λ (l : List (List ℕ)). (column, l) ∷ record_in new row) one.0 ∙ ap (λ (fs : RecordFields). (column, map (whole_value old) vs) ∷ fs) rest.0,
-      and_both (list_all (is_there new) vs) (is_whole new row) one.1 rest.1,
+      and_from (list_all (is_there new) vs) (is_whole new row) one.1 rest.1,
     )
 
 pub still_stands : (old new : Values) (row : RowFields) (fields : RecordFields) → ((id : List ℕ) → 0 < references id (Some row) → Keeps old new id) → StandsFor old row fields → StandsFor new row fields

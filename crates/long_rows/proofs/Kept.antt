@@ -4,17 +4,18 @@ use Rattle.std.specs.Prelude.{bytes_eq, nat_le, nat_lt, slice_get, unwrap_or}
 use Rattle.std.specs.List.{list_all}
 use Rattle.std.specs.Ordering.{eq_by_cmp, nat_cmp}
 use Rattle.std.specs.FinMap.Entries.{is_sorted}
-use Rattle.std.proofs.lemmas.Bool.{eq-eqb, ltb-true}
+use Rattle.std.proofs.lemmas.Bool.{and_from, eq-eqb, ltb-true}
 use Rattle.std.proofs.lemmas.Bool.Decides.{nat_tests}
+use Rattle.common_lemmas.proofs.Booleans.{and_left, and_right, by_test}
+use Rattle.common_lemmas.proofs.Numbers.{same_bytes}
 use Rattle.column_set.specs.declared.rows.RowValue.{RowValue}
 use Rattle.column_set.specs.declared.rows.RowValue.TheVariants.{Here, Apart}
 use Rattle.column_set.specs.RecordValues.{RecordFields, lookup_by_number}
 use Rattle.column_set.specs.Rows.{RowFields, apart_at, field_fits_row, is_row, is_well_formed, place_apart, record_values_in_order, row_values_of, stands_for, value_fits_row, values_in_order, values_stand_for}
 use Rattle.long_value.specs.Values.{LongValue, Values, value_of}
 use Rattle.long_references.specs.RowReferences.{identifier}
-use Rattle.long_references.proofs.Totals.{by_test, equal_bytes, itself}
+use Rattle.long_references.proofs.Totals.{itself}
 use Rattle.long_rows.specs.KeptRows.{Found, is_long, kept_fields, kept_value, kept_values, may_share, most_references, next_place, or_else, place_after, place_behind, shared, shared_in, shared_one, value_apart}
-use Rattle.long_rows.proofs.Keeping.{and_both, and_left, and_right}
 
 -- ---- one value
 
@@ -103,7 +104,7 @@ may_share_is bytes None e = absurd (true≢false (sym e))
 may_share_is bytes (Some value) e = (
   value,
   refl,
-  equal_bytes value.bytes bytes (and_left (bytes_eq value.bytes bytes) (nat_lt value.count most_references) e),
+  same_bytes value.bytes bytes (and_left (bytes_eq value.bytes bytes) (nat_lt value.count most_references) e),
   ltb-true value.count most_references (and_right (bytes_eq value.bytes bytes) (nat_lt value.count most_references) e),
 )
 
@@ -180,8 +181,8 @@ fields_kept found place ((column, vs) ∷ fields) =
 -- ---- the in-page form of the record
 
 one_stands : (found : Found) (at : ℕ) (x : RowValue) (v : List ℕ) (next : ℕ) → IsKept found at x v next → stands_for x v ≡ true
-one_stands found at (Here own) v next is = and_both (bytes_eq own v) (nat_le (length v) 255) (ap (λ (b : List ℕ). bytes_eq own b) (sym is.0) ∙ itself own) is.1
-one_stands found at (Apart entry place size) v next is = and_both (is_long v) (size == length v) is.0 (eq-eqb size (length v) is.1)
+one_stands found at (Here own) v next is = and_from (bytes_eq own v) (nat_le (length v) 255) (ap (λ (b : List ℕ). bytes_eq own b) (sym is.0) ∙ itself own) is.1
+one_stands found at (Apart entry place size) v next is = and_from (is_long v) (size == length v) is.0 (eq-eqb size (length v) is.1)
 
 pub all_stand : (found : Found) (at : ℕ) (xs : List (ℕ × RowValue)) (vs : List (ℕ × List ℕ)) → AreKept found at xs vs → values_stand_for xs vs ≡ true
 all_stand found at [] [] kept = refl

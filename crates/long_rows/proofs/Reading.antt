@@ -2,7 +2,8 @@
 use Rattle.std.proofs.Common.{◌≡◌, ◌≢◌, ◌⊎◌, inl, inr, ℕ, suc, ◌+◌, ◌<◌, ◌≤◌, ◌^◌, true, false, Option, Some, None, List, [], ◌∷◌, ◌++◌, length, map, refl, sym, ap, subst, ◌∙◌, arith, true≢false}
 use Rattle.std.specs.Prelude.{is_some}
 use Rattle.std.specs.List.{list_all}
-use Rattle.std.proofs.lemmas.Bool.{eq-eqb}
+use Rattle.std.proofs.lemmas.Bool.{and_from, eq-eqb}
+use Rattle.common_lemmas.proofs.Booleans.{by_test}
 use Rattle.column_set.specs.declared.rows.RowValue.{RowValue}
 use Rattle.column_set.specs.declared.rows.RowValue.TheVariants.{Here, Apart}
 use Rattle.column_set.specs.RecordValues.{RecordFields}
@@ -11,10 +12,9 @@ use Rattle.long_value.specs.Values.{LongValue, Values, put_value, value_of, with
 use Rattle.long_references.specs.RowReferences.{identifier}
 use Rattle.long_references.specs.ReferenceCounts.{with_all_taken, with_taken}
 use Rattle.long_references.proofs.Taken.{ValueLaws}
-use Rattle.long_references.proofs.Totals.{by_test}
 use Rattle.long_rows.specs.WholeRows.{is_there, is_whole, record_in, whole_value}
 use Rattle.long_rows.specs.KeptRows.{Found, given_by, kept_fields, kept_value, kept_values, next_place, place_after}
-use Rattle.long_rows.proofs.Keeping.{Keeps, and_both, bytes_in, kept_one}
+use Rattle.long_rows.proofs.Keeping.{Keeps, bytes_in, kept_one}
 use Rattle.long_rows.proofs.Steps.{joined, keeps_all_taken, keeps_taken}
 use Rattle.long_rows.proofs.Kept.{AreKept, IsNew, IsShared, fields_kept}
 use Rattle.long_rows.proofs.Given.{IdLaw, IsFresh, added, among, differ_by_value, next_bound, not_given, other_place, there}
@@ -149,7 +149,7 @@ column_read found values column at place (v ∷ vs) ys ws read =
     let x = kept_value found column at place v in
     let xs = kept_values found column (suc at) (next_place found column at place v) vs in
     let rest = column_read found values column (suc at) (next_place found column at place v) vs ys ws read.2 in
-    (ap (λ (b : List ℕ). b ∷ map (whole_value values) xs) read.0 ∙ ap (λ (l : List (List ℕ)). v ∷ l) rest.0, and_both (is_there values x) (list_all (is_there values) xs) read.1 rest.1, rest.2)
+    (ap (λ (b : List ℕ). b ∷ map (whole_value values) xs) read.0 ∙ ap (λ (l : List (List ℕ)). v ∷ l) rest.0, and_from (is_there values x) (list_all (is_there values) xs) read.1 rest.1, rest.2)
 
 pub fields_read : (found : Found) (values : Values) (place : ℕ) (fields : RecordFields) → ReadAs values (values_in_order (kept_fields found place fields)) (record_values_in_order fields)
     → (record_in values (kept_fields found place fields) ≡ fields) × (is_whole values (kept_fields found place fields) ≡ true)
@@ -159,7 +159,7 @@ fields_read found values place ((column, vs) ∷ fields) read =
     let one = column_read found values column 0 place vs (values_in_order (kept_fields found behind fields)) (record_values_in_order fields) read in
     let rest = fields_read found values behind fields one.2 in (
       ap (λ (l : List (List ℕ)). (column, l) ∷ record_in values (kept_fields found behind fields)) one.0 ∙ ap (λ (fs : RecordFields). (column, vs) ∷ fs) rest.0,
-      and_both (list_all (is_there values) (kept_values found column 0 place vs)) (is_whole values (kept_fields found behind fields)) one.1 rest.1,
+      and_from (list_all (is_there values) (kept_values found column 0 place vs)) (is_whole values (kept_fields found behind fields)) one.1 rest.1,
     )
 
 pub row_read : ValueLaws → IdLaw → (found : Found) → IsFresh found → (fields : RecordFields) → length (values_in_order (kept_fields found 0 fields)) < 2 ^ 32

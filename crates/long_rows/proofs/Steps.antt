@@ -3,13 +3,15 @@ use Rattle.std.proofs.Common.{◌≡◌, ◌≢◌, ℕ, ◌-◌, ◌<◌, ◌==
 use Rattle.std.specs.Prelude.{bytes_eq, is_some}
 use Rattle.std.proofs.lemmas.Bool.{eqb-true}
 use Rattle.common_lemmas.proofs.Options.{none_there}
+use Rattle.common_lemmas.proofs.Booleans.{by_test}
+use Rattle.common_lemmas.proofs.Numbers.{same_bytes}
 use Rattle.column_set.specs.RecordValues.{RecordFields}
 use Rattle.column_set.specs.Rows.{RowFields}
 use Rattle.long_value.specs.Values.{LongValue, Values, put_value, value_of, with_reference, without_reference}
 use Rattle.long_references.specs.RowReferences.{references}
 use Rattle.long_references.specs.ReferenceCounts.{with_all_taken, with_taken}
 use Rattle.long_references.proofs.Taken.{ValueLaws}
-use Rattle.long_references.proofs.Totals.{by_test, equal_bytes, itself}
+use Rattle.long_references.proofs.Totals.{itself}
 use Rattle.long_rows.specs.WholeRows.{StandsFor}
 use Rattle.long_rows.proofs.Keeping.{Keeps, bytes_in, still_stands}
 
@@ -22,14 +24,14 @@ not_there o x none some = absurd cc
 pub keeps_put : ValueLaws → (values : Values) (id : List ℕ) (value : LongValue) (k : List ℕ) → value_of id values ≡ None → Keeps values (put_value id value values) k
 keeps_put laws values id value k none found is =
     by_test (bytes_eq k id)
-    (λ t. absurd (not_there (value_of id values) found none (ap (λ (i : List ℕ). value_of i values) (sym (equal_bytes k id t)) ∙ is)))
+    (λ t. absurd (not_there (value_of id values) found none (ap (λ (i : List ℕ). value_of i values) (sym (same_bytes k id t)) ∙ is)))
     (λ f. ap bytes_in (laws.beside values id k value (unequal k id f) ∙ is))
 
 pub keeps_more : ValueLaws → (values : Values) (id k : List ℕ) → Keeps values (with_reference id values) k
 keeps_more laws values id k found is =
     by_test (bytes_eq k id)
     (λ t.
-    let same : k ≡ id = equal_bytes k id t in
+    let same : k ≡ id = same_bytes k id t in
     let there : value_of id values ≡ Some found = ap (λ (i : List ℕ). value_of i values) (sym same) ∙ is in
     ap (λ (i : List ℕ). bytes_in (value_of i (with_reference id values))) same ∙ ap bytes_in (laws.more values id found there))
     (λ f. ap bytes_in (laws.more_beside values id k (unequal k id f) ∙ is))
@@ -38,7 +40,7 @@ pub keeps_less : ValueLaws → (values : Values) (id : List ℕ) (value : LongVa
 keeps_less laws values id value k there many found is =
     by_test (bytes_eq k id)
     (λ t.
-    let same : k ≡ id = equal_bytes k id t in
+    let same : k ≡ id = same_bytes k id t in
     let one : value_of id values ≡ Some found = ap (λ (i : List ℕ). value_of i values) (sym same) ∙ is in
     let more : (value.count == 1) ≡ false = by_test (value.count == 1) (λ e. let is_one = eqb-true value.count 1 e in absurd (omega (arith, is_one, many))) (λ e. e) in
     let left : value_of id (without_reference id values) ≡ Some (record value { count = value.count - 1 }) =

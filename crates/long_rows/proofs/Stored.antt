@@ -2,13 +2,14 @@
 use Rattle.std.proofs.Common.{◌≡◌, ℕ, true, List, [], ◌∷◌, ◌++◌, length, map, refl, arith}
 use Rattle.std.specs.Prelude.{IsTrue, nat_le}
 use Rattle.std.specs.List.{AllByRecursion, list_all}
+use Rattle.std.proofs.lemmas.Bool.{and_from}
+use Rattle.common_lemmas.proofs.Booleans.{and_left, and_right}
 use Rattle.column_set.specs.RecordValues.{RecordFields, record_size}
 use Rattle.column_set.specs.Rows.{RowFields, is_row_of, record_values_in_order, row_size, values_in_order}
 use Rattle.long_references.specs.ReferenceCounts.{with_all_taken}
 use Rattle.long_references.proofs.Taken.{ValueLaws}
 use Rattle.long_rows.specs.WholeRows.{StandsFor}
 use Rattle.long_rows.specs.KeptRows.{Found, MayKeep, MayTake, are_values, given_values, kept_row}
-use Rattle.long_rows.proofs.Keeping.{and_both, and_left, and_right}
 use Rattle.long_rows.proofs.Kept.{all_stand, fields_kept}
 use Rattle.long_rows.proofs.Given.{IdLaw, IsFresh, all_take, is_value}
 use Rattle.long_rows.proofs.Reading.{row_read}
@@ -29,7 +30,7 @@ fresh_of found fields may = record { number = may.number; absent = may.fresh }
 
 values_short : (column : ℕ) (vs : List (List ℕ)) (ws : List (ℕ × List ℕ)) → are_values vs ≡ true → list_all is_value ws ≡ true → list_all is_value (map (λ v. (column, v)) vs ++ ws) ≡ true
 values_short column [] ws e f = f
-values_short column (v ∷ vs) ws e f = and_both (nat_le (length v) 1048576) (list_all is_value (map (λ v. (column, v)) vs ++ ws)) (and_left (nat_le (length v) 1048576) (are_values vs) e) (values_short column vs ws (and_right (nat_le (length v) 1048576) (are_values vs) e) f)
+values_short column (v ∷ vs) ws e f = and_from (nat_le (length v) 1048576) (list_all is_value (map (λ v. (column, v)) vs ++ ws)) (and_left (nat_le (length v) 1048576) (are_values vs) e) (values_short column vs ws (and_right (nat_le (length v) 1048576) (are_values vs) e) f)
 
 all_short : (fields : RecordFields) → list_all (λ field. are_values field.1) fields ≡ true → list_all is_value (record_values_in_order fields) ≡ true
 all_short [] e = refl

@@ -2,7 +2,9 @@
 use Rattle.std.proofs.Common.{◌≡◌, ℕ, ◌==◌, ◌≤◌, Bool, true, false, not, ◌||◌, Some, List, [], ◌∷◌, ◌++◌, map, refl, sym, ap, subst, ◌∙◌, arith, true≢false}
 use Rattle.std.specs.Prelude.{IsTrue, bytes_eq}
 use Rattle.std.specs.List.{list_all, list_any}
-use Rattle.std.proofs.lemmas.Bool.{or_right}
+use Rattle.std.proofs.lemmas.Bool.{and_from, or_right}
+use Rattle.common_lemmas.proofs.Booleans.{and_left, and_right, by_test}
+use Rattle.common_lemmas.proofs.Numbers.{same_bytes}
 use Rattle.column_set.specs.declared.rows.RowValue.{RowValue}
 use Rattle.column_set.specs.declared.rows.RowValue.TheVariants.{Here, Apart}
 use Rattle.column_set.specs.RecordValues.{RecordFields, remove_by_number}
@@ -10,9 +12,8 @@ use Rattle.column_set.specs.Rows.{RowFields, is_row, values_in_order}
 use Rattle.long_value.specs.Values.{Values}
 use Rattle.long_references.specs.RowReferences.{identifier, identifiers, named_by, references, times_among, with_identifier}
 use Rattle.long_references.specs.ReferenceCounts.{NamesNoOther}
-use Rattle.long_references.proofs.Totals.{by_test, equal_bytes, none_among, refers_once, some_among}
+use Rattle.long_references.proofs.Totals.{none_among, refers_once, some_among}
 use Rattle.long_rows.specs.WholeRows.{StandsFor, is_there, is_whole, record_in, whole_value}
-use Rattle.long_rows.proofs.Keeping.{and_both, and_left, and_right}
 
 -- ---- what it names
 
@@ -27,7 +28,7 @@ or_keeps false b c h e = h e
 pub any_with : (k id : List ℕ) (ids : List (List ℕ)) → list_any (bytes_eq k) (with_identifier id ids) ≡ (bytes_eq k id || list_any (bytes_eq k) ids)
 any_with k id ids =
     by_test (list_any (bytes_eq id) ids)
-    (λ t. ap (list_any (bytes_eq k)) (there t) ∙ or_more (bytes_eq k id) (list_any (bytes_eq k) ids) (λ e. ap (λ (i : List ℕ). list_any (bytes_eq i) ids) (equal_bytes k id e) ∙ t))
+    (λ t. ap (list_any (bytes_eq k)) (there t) ∙ or_more (bytes_eq k id) (list_any (bytes_eq k) ids) (λ e. ap (λ (i : List ℕ). list_any (bytes_eq i) ids) (same_bytes k id e) ∙ t))
     (λ f. ap (list_any (bytes_eq k)) (added f))
   where
     there : list_any (bytes_eq id) ids ≡ true → with_identifier id ids ≡ ids
@@ -103,7 +104,7 @@ still_whole values (field ∷ row) column e =
     let rest = still_whole values row column (and_right own (is_whole values row) e) in
     by_test (field.0 == column)
     (λ t. ap (is_whole values) (gone column field row t) ∙ rest)
-    (λ f. ap (is_whole values) (stays column field row f) ∙ and_both own (is_whole values (remove_by_number column row)) (and_left own (is_whole values row) e) rest)
+    (λ f. ap (is_whole values) (stays column field row f) ∙ and_from own (is_whole values (remove_by_number column row)) (and_left own (is_whole values row) e) rest)
 
 pub stands : ((row : RowFields) (column : ℕ) → IsTrue (is_row row) → IsTrue (is_row (remove_by_number column row))) → (values : Values) (row : RowFields) (fields : RecordFields) (column : ℕ) → StandsFor values row fields
     → StandsFor values (remove_by_number column row) (remove_by_number column fields)

@@ -4,10 +4,11 @@ use Rattle.std.specs.Prelude.{unwrap_or}
 use Rattle.std.specs.Ordering.{is_eq}
 use Rattle.std.specs.Cmp.Lexicographic.{nat_list_cmp_total}
 use Rattle.std.specs.FinMap.Entries.{find-put}
+use Rattle.common_lemmas.proofs.Booleans.{by_test}
 use Rattle.byteorder.specs.Endian.{big_bytes, big_number}
 use Rattle.byteorder.specs.Numbers.{big_number-reads_back}
 use Rattle.long_value.specs.Values.{LongValue, Values, order, put_value, released, value_of, with_reference, without_reference, without_value}
-use Rattle.long_value.proofs.Keys.{by_test, differ, itself, same_key}
+use Rattle.long_value.proofs.Keys.{differ, itself, same_key}
 use Rattle.long_value.proofs.Maps.{gone, kept, value_gone, value_later, value_there}
 
 pub value_put : (values : Values) (id : List ℕ) (value : LongValue) → value_of id (put_value id value values) ≡ Some value

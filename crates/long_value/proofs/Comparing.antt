@@ -1,5 +1,5 @@
 -- The bytes of a value against others, chunk by chunk.
-use Rattle.std.proofs.Common.{◌≡◌, ℕ, ◌+◌, ◌*◌, ◌≤◌, Bool, true, false, not, List, ◌++◌, length, take, refl, sym, ap, ◌∙◌, arith, true≢false}
+use Rattle.std.proofs.Common.{◌≡◌, ℕ, ◌+◌, ◌*◌, ◌≤◌, true, List, ◌++◌, length, take, sym, ap, ◌∙◌, arith}
 use Rattle.std.specs.Prelude.{bytes_eq}
 use Rattle.std.proofs.lemmas.List.{take_all}
 use Rattle.std.proofs.lemmas.Slice.Eq.{bytes_eq-Decides}
@@ -19,10 +19,6 @@ more_same a b chunk other k same first second equal =
 pub all_same : (a b : List ℕ) (k : ℕ) → take (1024 * k) a ≡ take (1024 * k) b → length a ≡ length b → length b ≤ 1024 * k → bytes_eq a b ≡ true
 all_same a b k same equal past =
     (bytes_eq-Decides a b).1 (sym (take_all (1024 * k) a (omega (arith, equal, past))) ∙ same ∙ take_all (1024 * k) b past)
-
-pub not_not : (b : Bool) → not b ≡ false → b ≡ true
-not_not true e = refl
-not_not false e = absurd (true≢false e)
 
 pub past_all : (size k : ℕ) → chunk_count size ≤ k → size ≤ 1024 * k
 past_all size k le = omega arith

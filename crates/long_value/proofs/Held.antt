@@ -1,9 +1,11 @@
 -- What a store's tree has of its values, and what a change of the tree makes of them.
-use Rattle.std.proofs.Common.{◌≡◌, ◌≢◌, ℕ, true, false, true≢false, suc, ◌-◌, ◌*◌, ◌<◌, ◌≤◌, ◌==◌, List, [], length, find, take, drop, Option, Some, None, Result, Ok, Err, Bor, option_map, refl, sym, ap, subst, ◌∙◌, arith}
+use Rattle.std.proofs.Common.{◌≡◌, ◌≢◌, ℕ, true, true≢false, suc, ◌-◌, ◌*◌, ◌<◌, ◌≤◌, ◌==◌, List, [], length, find, take, drop, Option, Some, None, Result, Ok, Err, Bor, option_map, refl, sym, ap, subst, ◌∙◌, arith}
 use Rattle.std.specs.Prelude.{IsSomeAnd, OnOk, OnErr, is_some}
 use Rattle.std.proofs.lemmas.Bool.Decides.{Decides-eqb}
 use Rattle.std.specs.Option.{option_copied}
 use Rattle.std.specs.FinMap.Entries.{is_sorted}
+use Rattle.common_lemmas.proofs.Booleans.{by_test}
+use Rattle.common_lemmas.proofs.Options.{none_there}
 use Rattle.byteorder.specs.Endian.{little_bytes, little_number}
 use Rattle.byteorder.specs.Numbers.{little_number-reads_back}
 use Rattle.page_image.specs.Page.{Node}
@@ -18,7 +20,6 @@ use Rattle.long_value.specs.declared.values.LongId.{LongId}
 use Rattle.long_value.specs.declared.values.LongValues.{LongValues}
 use Rattle.long_value.proofs.ChunkNodes.{head_elsewhere, value_chunk, value_head, value_out}
 use Rattle.long_value.proofs.Maps.{holds, lacking, none_gone, put_long, put_nodes, value_gone, value_long, value_nodes, without_long}
-use Rattle.long_value.proofs.Keys.{by_test}
 use Rattle.long_value.proofs.Nodes.{redone_there}
 
 -- ---- numbers of chunks
@@ -57,10 +58,6 @@ is_there id values long all =
       | Some value ↦ λ e. ap is_some (head_there id value values long all e)
     ] refl
 
-pub none_there : {X : Type 0} (o : Option X) → is_some o ≡ false → o ≡ None
-none_there None e = refl
-none_there (Some v) e = absurd (true≢false e)
-
 pub value_there_is : {X : Type 0} (o : Option X) → is_some o ≡ true → (x : X) × (o ≡ Some x)
 value_there_is None e = absurd (true≢false (sym e))
 value_there_is (Some x) e = (x, refl)
@@ -97,10 +94,6 @@ taken_whole id value values long all e =
 pub copied_some : {X : Type 0} (o : Option (Bor X)) → is_some (option_copied o) ≡ is_some o
 copied_some None = refl
 copied_some (Some r) = refl
-
-pub mapped_some : {X Y : Type 0} (f : X → Y) (o : Option X) → is_some (option_map f o) ≡ is_some o
-mapped_some f None = refl
-mapped_some f (Some x) = refl
 
 pub some_data : (r : Bor (List ℕ)) (o : Option (Bor (List ℕ))) (d : List ℕ) → o ≡ Some r → option_copied o ≡ Some d → r.now ≡ d
 some_data r o d is e = let s : Some r.now ≡ Some d = sym (ap option_copied is) ∙ e in cc
@@ -148,10 +141,6 @@ length_read head value e few =
     ∙ little_number-reads_back 4 (length value.bytes) [] (omega arith)
 
 -- ---- stores that have changed
-
-pub ok_then : {A E P Q : Type 0} (r : Result A E) → (P → Q) → OnOk r P → OnOk r Q
-ok_then (Ok x) f p = f p
-ok_then (Err x) f p = p
 
 pub err_then : {A E P Q : Type 0} (r : Result A E) → (P → Q) → OnErr r P → OnErr r Q
 err_then (Ok x) f p = p

@@ -1,5 +1,5 @@
 -- What is in a map of values, and which nodes it has.
-use Rattle.std.proofs.Common.{◌≡◌, ℕ, Bool, true, false, not, ◌&&◌, T, List, [], ◌∷◌, filter, length, Some, None, refl, sym, ap, subst, ◌∙◌, true≢false}
+use Rattle.std.proofs.Common.{◌≡◌, ℕ, Bool, true, false, not, T, List, [], ◌∷◌, filter, length, Some, None, refl, sym, ap, subst, ◌∙◌, true≢false}
 use Rattle.std.specs.Prelude.{All}
 use Rattle.std.proofs.lemmas.List.Elements.{All-cons, All-head, All-filter, All-tail}
 use Rattle.std.specs.declared.cmp.Ordering.TheVariants.{Less, Equal, Greater}
@@ -7,26 +7,15 @@ use Rattle.std.specs.Ordering.{is_eq, is_lt, eq_by_cmp}
 use Rattle.std.specs.Cmp.Lexicographic.{nat_list_cmp_total}
 use Rattle.std.specs.FinMap.Entries.{below_all, by_order, is_sorted, is_sorted-put, is_sorted-where_key}
 use Rattle.std.proofs.lemmas.Bool.{not_from_false, not_from_true}
+use Rattle.common_lemmas.proofs.Booleans.{T_first, T_second, by_test, is_true}
 use Rattle.long_value.specs.Values.{AreLong, IsLong, LacksValue, LongValue, Values, nodes_of_values, order, put_value, value_of, with_value, without_value}
-use Rattle.long_value.proofs.Keys.{by_test, differing, same_key}
+use Rattle.long_value.proofs.Keys.{differing, same_key}
 use Rattle.long_value.proofs.ChunkNodes.{found_of_another, values_swapped}
 
 -- ---- tests
 
-pub T_first : (a b : Bool) → T (a && b) → T a
-T_first true b t = tt
-T_first false b t = t
-
-pub T_second : (a b : Bool) → T (a && b) → T b
-T_second true b t = t
-T_second false b t = absurd t
-
 pub holds : (b : Bool) → b ≡ true → T b
 holds b e = subst T (sym e) tt
-
-pub is_true : (b : Bool) → T b → b ≡ true
-is_true true t = refl
-is_true false t = absurd t
 
 not_T : (b : Bool) → b ≡ false → T (not b)
 not_T true e = absurd (true≢false e)

@@ -3,11 +3,12 @@ use Rattle.std.proofs.Common.{◌≡◌, ℕ, Bool, true, false, not, List, [], 
 use Rattle.std.specs.Prelude.{if◌then◌else◌}
 use Rattle.std.specs.Ordering.{is_eq, is_lt}
 use Rattle.std.proofs.lemmas.Bool.{not_from_false, not_from_true}
+use Rattle.common_lemmas.proofs.Booleans.{by_test}
 use Rattle.page_image.specs.Page.{Node}
 use Rattle.btree_inplace.specs.Changes.{inserted, with_data_at, without_key}
 use Rattle.btree_inplace.specs.Order.{has_key}
 use Rattle.long_value.specs.Values.{order}
-use Rattle.long_value.proofs.Keys.{between, by_test, itself, lower, lower_differs, not_above, same_key}
+use Rattle.long_value.proofs.Keys.{between, itself, lower, lower_differs, not_above, same_key}
 
 -- ---- one step
 

@@ -9,6 +9,7 @@ use Rattle.std.specs.Cmp.Lexicographic.{nat_list_cmp_total}
 use Rattle.std.specs.declared.cmp.Ordering.TheVariants.{Equal}
 use Rattle.std.specs.FinMap.Entries.{below_all, find-put, is_sorted, is_sorted-put, same_entries}
 use Rattle.std.proofs.lemmas.Bool.{and_from}
+use Rattle.common_lemmas.proofs.Booleans.{T_first, T_second, by_test}
 use Rattle.byteorder.specs.Endian.{big_bytes, big_number, little_number}
 use Rattle.byteorder.specs.Numbers.{little_number-reads_back}
 use Rattle.page_image.specs.Page.{Node}
@@ -17,8 +18,8 @@ use Rattle.btree_inplace.specs.Order.{get_in}
 use Rattle.long_value.specs.Values.{AreLong, IsLong, LongValue, Values, chunk_count, chunk_key, chunk_node, chunk_of, head_data, head_node, nodes_of_values, order, put_value, value_of, with_chunks}
 use Rattle.long_value.specs.Shown.{bytes_in, id_of, is_head, shown_values, value_at, values_of_heads}
 use Rattle.long_value.proofs.Held.{chunk_there, count_read, few_chunks}
-use Rattle.long_value.proofs.Keys.{by_test, differ, itself, number_back, same_key}
-use Rattle.long_value.proofs.Maps.{T_first, T_second, holds, nothing_gone, value_gone, value_later, value_long, value_there}
+use Rattle.long_value.proofs.Keys.{differ, itself, number_back, same_key}
+use Rattle.long_value.proofs.Maps.{holds, nothing_gone, value_gone, value_later, value_long, value_there}
 use Rattle.long_value.proofs.Nodes.{find_no, find_yes, ins_ge, ins_lt, not_found}
 
 -- whether a node is the head of one value

@@ -1,8 +1,7 @@
 -- The order of keys.
-use Rattle.std.proofs.Common.{◌≡◌, ℕ, ◌+◌, ◌<◌, ◌≤◌, inl, inr, true, List, length, refl, ap, ◌∙◌, arith}
-use Rattle.std.specs.Ordering.{nat_cmp, is_lt, ordering_reverse}
-use Rattle.std.specs.declared.cmp.Ordering.{Ordering}
-use Rattle.std.specs.declared.cmp.Ordering.TheVariants.{Less, Equal, Greater}
+use Rattle.std.proofs.Common.{◌≡◌, ℕ, ◌+◌, ◌<◌, ◌≤◌, inl, inr, List, length, ap, ◌∙◌, arith}
+use Rattle.std.specs.Ordering.{nat_cmp, ordering_reverse}
+use Rattle.std.specs.declared.cmp.Ordering.TheVariants.{Equal, Greater}
 use Rattle.std.specs.Cmp.Lexicographic.{slice_cmp}
 use Rattle.std.specs.FinMap.{slice_cmp-IsAntisymmetric, nat_cmp-IsAntisymmetric}
 use Rattle.std.proofs.lemmas.Cmp.{nat_list_cmp_total}
@@ -31,8 +30,3 @@ above_from nodes m key rising here k from h = elim (cases_lt m k) [
   | inl after ↦ IsBelow-trans key (node_at nodes m).key (node_at nodes k).key here (rising m k no_node after h)
   | inr at ↦ let same : k ≡ m = omega arith in rw same here
 ]
-
-pub Less-from_is_lt : (r : Ordering) → is_lt r ≡ true → r ≡ Less
-Less-from_is_lt Less t = refl
-Less-from_is_lt Equal t = cc
-Less-from_is_lt Greater t = cc

@@ -1,13 +1,16 @@
 -- Changes that do not collide may be made in either order.
 use Rattle.std.proofs.Common.{◌≡◌, ℕ, Bool, true, false, not, ◌&&◌, cond, List, Option, Some, None, refl, sym, ap, ◌∙◌}
 use Rattle.std.specs.Prelude.{◌==◌, bytes_eq}
+use Rattle.std.proofs.lemmas.Bool.{and_from, eqb-true}
+use Rattle.common_lemmas.proofs.Booleans.{and_left, and_right}
+use Rattle.common_lemmas.proofs.Numbers.{same_bytes, self_equal}
 use Rattle.column_set.specs.declared.changes.Change.{Change}
 use Rattle.column_set.specs.declared.changes.Change.TheVariants.{Put, Drop, Hold, Add}
 use Rattle.column_set.specs.RecordValues.{RecordFields}
 use Rattle.database_state.specs.Changes.{changed_table, changed_bookmark, is_sum}
 use Rattle.database_state.specs.State.{PastChange}
 use Rattle.database_state.specs.Conflicts.{collide}
-use Rattle.record_changes.proofs.Tests.{and_left, and_right, and_both, same_number, self_equal, same_bytes, equal_bytes}
+use Rattle.record_changes.proofs.Tests.{equal_bytes}
 use Rattle.record_changes.proofs.Sums.{sums_commute}
 use Rattle.record_changes.specs.Records.{Records, record_after, is_change_of, records_after, after_item}
 
@@ -16,11 +19,11 @@ use Rattle.record_changes.specs.Records.{Records, record_after, is_change_of, re
 pub both_touch : (t : ℕ) (b : List ℕ) (p q : Change) → is_change_of t b p ≡ true → is_change_of t b q ≡ true
     → ((changed_table p == changed_table q) && bytes_eq (changed_bookmark p) (changed_bookmark q)) ≡ true
 both_touch t b p q hp hq =
-    let tp = same_number (changed_table p) t (and_left _ _ hp) in
-    let tq = same_number (changed_table q) t (and_left _ _ hq) in
+    let tp = eqb-true (changed_table p) t (and_left _ _ hp) in
+    let tq = eqb-true (changed_table q) t (and_left _ _ hq) in
     let bp = same_bytes (changed_bookmark p) b (and_right (changed_table p == t) _ hp) in
     let bq = same_bytes (changed_bookmark q) b (and_right (changed_table q == t) _ hq) in
-    and_both _ _ (ap (λ n. n == changed_table q) (tp ∙ sym tq) ∙ self_equal (changed_table q)) (equal_bytes _ _ (bp ∙ sym bq))
+    and_from _ _ (ap (λ n. n == changed_table q) (tp ∙ sym tq) ∙ self_equal (changed_table q)) (equal_bytes _ _ (bp ∙ sym bq))
 
 sums_of : (a b : Bool) → a ≡ true → (a && not b) ≡ false → b ≡ true
 sums_of a true h g = refl

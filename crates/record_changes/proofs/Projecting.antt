@@ -7,14 +7,14 @@ use Rattle.std.specs.Ordering.{nat_cmp}
 use Rattle.std.specs.Cmp.Lexicographic.{slice_cmp, texts_ties, nat_list_cmp_total}
 use Rattle.std.specs.FinMap.Entries.{find-put, find-where_key}
 use Rattle.std.proofs.lemmas.Map.Lookups.{exact_bytes}
-use Rattle.common_lemmas.proofs.Numbers.{bytes_turned}
+use Rattle.std.proofs.lemmas.Bool.{eqb-true}
+use Rattle.common_lemmas.proofs.Numbers.{bytes_turned, same_bytes}
 use Rattle.column_set.specs.declared.changes.Change.{Change}
 use Rattle.column_set.specs.declared.changes.Change.TheVariants.{Put, Drop, Hold, Add}
 use Rattle.column_set.specs.RecordValues.{RecordFields}
 use Rattle.database_state.specs.Table.{Table, Rows, row_at, with_row, without_row, rows_of, table_with_id}
 use Rattle.database_state.specs.Changes.{changed_table, changed_bookmark, rows_with_sum, rows_after, tables_after, tables_after_all, with_sum}
 use Rattle.record_changes.specs.Records.{IsThere, records_of, record_after, is_change_of, records_after}
-use Rattle.record_changes.proofs.Tests.{same_number, same_bytes}
 
 -- ---- rows
 
@@ -78,7 +78,7 @@ pub found_id : (id : ℕ) (tables : List Table) (t : Table) → table_with_id ta
 found_id id [] t h = cc
 found_id id (first ∷ tables) t h =
     elim (first.id == id) as (λ b. (first.id == id) ≡ b → cond b (Some first) (table_with_id tables id) ≡ Some t → t.id ≡ id) [
-      | true ↦ λ e g. let same : first ≡ t = cc in ap (λ (t : Table). t.id) (sym same) ∙ same_number first.id id e
+      | true ↦ λ e g. let same : first ≡ t = cc in ap (λ (t : Table). t.id) (sym same) ∙ eqb-true first.id id e
       | false ↦ λ e g. found_id id tables t g
     ] refl h
 
@@ -104,7 +104,7 @@ projected tables change there = λ i id other. at id other i
     missing : (id : ℕ) → is_some (table_with_id tables id) ≡ false → (changed_table change == id) ≡ false
     missing id none =
         elim (changed_table change == id) as (λ b. (changed_table change == id) ≡ b → b ≡ false) [
-          | true ↦ λ e. sym there ∙ ap (λ n. is_some (table_with_id tables n)) (same_number (changed_table change) id e) ∙ none
+          | true ↦ λ e. sym there ∙ ap (λ n. is_some (table_with_id tables n)) (eqb-true (changed_table change) id e) ∙ none
           | false ↦ λ e. refl
         ] refl
 

@@ -10,10 +10,12 @@ use Rattle.std.specs.FinMap.Entries.{find-put, same_entries}
 use Rattle.std.proofs.lemmas.Bool.Decides.{nat_tests}
 use Rattle.std.proofs.lemmas.List.{take_all, take_more}
 use Rattle.std.proofs.lemmas.List.Folds.{list_any_more}
+use Rattle.std.proofs.lemmas.Bool.{eqb-true, not-true}
+use Rattle.common_lemmas.proofs.Booleans.{and_left, and_right, impossible}
+use Rattle.common_lemmas.proofs.Numbers.{self_equal}
 use Rattle.column_set.specs.declared.columns.Column.{Column}
 use Rattle.column_set.specs.Record.{is_record}
 use Rattle.column_set.specs.RecordValues.{RecordFields, column_of_id, lookup_by_number, put_by_number, values_of, with_values}
-use Rattle.record_changes.proofs.Tests.{and_left, and_right, impossible, not_true, same_number, self_equal}
 use Rattle.session_local.specs.SessionSide.{are_distinct}
 use Rattle.session_local.specs.WellFormed.{number_of_column}
 use Rattle.record_decisions.specs.Preparing.{IsCopied, values_with}
@@ -55,7 +57,7 @@ one-more first made new fields column at value low same had is number =
 
     by : (b : Bool) → (number == column) ≡ b
         → cond b (values_of made column ++ value ∷ []) (values_of made number) ≡ cond b (values_of first number ++ take (at + 1) (values_of fields number)) (values_of first number)
-    by true e = behind ∙ ap (λ n. values_of first n ++ take (at + 1) (values_of fields n)) (sym (same_number number column e))
+    by true e = behind ∙ ap (λ n. values_of first n ++ take (at + 1) (values_of fields n)) (sym (eqb-true number column e))
     by false e = had number ∙ ap (λ b. cond b (values_of first number ++ take at (values_of fields number)) (values_of first number)) e
 
 -- ---- a column more
@@ -89,12 +91,12 @@ number_is-new (first ∷ columns) (suc i) column distinct low is =
     neither false b e h = h
 
     once : list_any (λ other. other == number_of_column first) (map number_of_column columns) ≡ false
-    once = not_true _ (and_left (not (list_any (λ other. other == number_of_column first) (map number_of_column columns))) (are_distinct (map number_of_column columns)) distinct)
+    once = not-true _ (and_left (not (list_any (λ other. other == number_of_column first) (map number_of_column columns))) (are_distinct (map number_of_column columns)) distinct)
 
     other : (b : Bool) → (number_of_column first == number_of_column column) ≡ b → b ≡ false
     other false e = refl
     other true e =
-        sym (ap (λ n. list_any (λ other. other == n) (map number_of_column columns)) (same_number (number_of_column first) (number_of_column column) e) ∙ number_at columns i column (omega (arith, low)) is)
+        sym (ap (λ n. list_any (λ other. other == n) (map number_of_column columns)) (eqb-true (number_of_column first) (number_of_column column) e) ∙ number_at columns i column (omega (arith, low)) is)
         ∙ once
 
 -- The columns so far have their values, and one more has once these were put there.
@@ -121,7 +123,7 @@ column-more columns i column made new fields distinct low is had put number =
     by : (b : Bool) → (number == number_of_column column) ≡ b
         → cond b (values_of made number ++ values_of fields number) (values_of made number) ≡ cond (is_number_of (take i columns) number || (number_of_column column == number)) (values_of fields number) []
     by true e =
-        let same : number ≡ number_of_column column = same_number number (number_of_column column) e in
+        let same : number ≡ number_of_column column = eqb-true number (number_of_column column) e in
         let fresh : is_number_of (take i columns) number ≡ false = ap (is_number_of (take i columns)) same ∙ number_is-new columns i column distinct low is in
         let its : (number_of_column column == number) ≡ true = ap (λ n. number_of_column column == n) same ∙ self_equal (number_of_column column) in
         ap (λ (values : List (List ℕ)). values ++ values_of fields number) (had number ∙ ap (λ b. cond b (values_of fields number) []) fresh)
@@ -148,7 +150,7 @@ unnamed columns (field ∷ fields) number named none =
     other false e = refl
     other true e =
         sym (and_left (is_some (column_of_id columns field.0)) (list_all (λ field. is_some (column_of_id columns field.0)) fields) named)
-        ∙ ap (λ n. is_some (column_of_id columns n)) (sym (same_number number field.0 e))
+        ∙ ap (λ n. is_some (column_of_id columns n)) (sym (eqb-true number field.0 e))
         ∙ number_is-some columns number ∙ none
 
 -- what is found has values

@@ -2,6 +2,9 @@
 use Rattle.std.proofs.Common.{◌≡◌, ℕ, Bool, true, false, cond, not, ◌||◌, List, [], ◌∷◌, ◌++◌, map, Option, Some, None, unwrap_or, refl, sym, ap, subst, ◌∙◌}
 use Rattle.std.specs.Prelude.{ℤ, ◌==◌, bytes_eq, find, is_none, option_map, IfSome}
 use Rattle.std.specs.List.{list_any}
+use Rattle.std.proofs.lemmas.Bool.{eqb-true}
+use Rattle.common_lemmas.proofs.Booleans.{and_left, and_right, impossible}
+use Rattle.common_lemmas.proofs.Numbers.{self_equal}
 use Rattle.jet_base.specs.declared.ids.CursorId.{CursorId}
 use Rattle.jet_base.specs.declared.replies.Jet.{Jet}
 use Rattle.jet_base.specs.declared.replies.Jet.TheVariants as jet
@@ -15,7 +18,6 @@ use Rattle.database_state.specs.Refusals.{Refusals, first_refusal}
 use Rattle.database_state.specs.State.{DatabaseState}
 use Rattle.index_derive.specs.declared.log.Step.{Step}
 use Rattle.index_derive.specs.Entries.{is_escrow_column}
-use Rattle.record_changes.proofs.Tests.{and_left, and_right, impossible, same_number, self_equal}
 use Rattle.session_local.specs.declared.decision.Decision.{Decision}
 use Rattle.session_local.specs.declared.request.Request.{Request}
 use Rattle.session_local.specs.declared.request.Request.TheVariants as call
@@ -229,7 +231,7 @@ escrow_named (x ∷ columns) name column distinct e = by (bytes_eq x.name name) 
 
     other : column_named columns name ≡ Some column → (b : Bool) → (x.id.0 == column.id.0) ≡ b → b ≡ false
     other f false g = refl
-    other f true g = absurd (never (sym (named_among columns name column f) ∙ ap (λ n. list_any (λ number. number == n) (map number_of_column columns)) (sym (same_number x.id.0 column.id.0 g))
+    other f true g = absurd (never (sym (named_among columns name column f) ∙ ap (λ n. list_any (λ number. number == n) (map number_of_column columns)) (sym (eqb-true x.id.0 column.id.0 g))
         ∙ denied (list_any (λ number. number == x.id.0) (map number_of_column columns)) (and_left _ _ distinct)))
 
     by : (b : Bool) → cond b (Some x) (column_named columns name) ≡ Some column → (column_named columns name ≡ Some column → at (find (λ (c : Column). c.id.0 == column.id.0) columns) ≡ column.escrow) → at (cond (x.id.0 == column.id.0) (Some x) (find (λ (c : Column). c.id.0 == column.id.0) columns)) ≡ column.escrow

@@ -13,9 +13,9 @@ use Rattle.column_set.specs.RecordValues.{RecordFields, column_of_id, record_fit
 use Rattle.index_derive.specs.declared.log.Step.{Step}
 use Rattle.common_lemmas.proofs.Found.{all_found}
 use Rattle.common_lemmas.proofs.Lists.{all_stronger}
+use Rattle.common_lemmas.proofs.Booleans.{and_left, impossible}
 use Rattle.database_state.specs.Refusals.{Refusals, first_refusal}
 use Rattle.database_state.specs.State.{DatabaseState}
-use Rattle.record_changes.proofs.Tests.{and_left, impossible}
 use Rattle.session_local.specs.declared.decision.Decision.{Decision}
 use Rattle.session_local.specs.declared.prepared.Prepared.{Prepared}
 use Rattle.session_local.specs.declared.reply.Value.TheVariants as value

@@ -12,15 +12,15 @@ use Rattle.std.proofs.lemmas.Int.{of_z-to_z}
 use Rattle.std.proofs.Math.Nat.{mod-eq_of_lt}
 use Rattle.std.proofs.lemmas.List.{take_all, take_more}
 use Rattle.std.proofs.lemmas.List.Folds.{list_any_more}
-use Rattle.common_lemmas.proofs.Booleans.{is_true}
-use Rattle.common_lemmas.proofs.Numbers.{equal_turned}
+use Rattle.std.proofs.lemmas.Bool.{and_from, eqb-true}
+use Rattle.common_lemmas.proofs.Booleans.{and_left, and_right, impossible, is_true}
+use Rattle.common_lemmas.proofs.Numbers.{equal_turned, self_equal}
 use Rattle.column_set.specs.declared.columns.Column.{Column}
 use Rattle.column_set.specs.Record.{is_record}
 use Rattle.column_set.specs.RecordValues.{RecordFields, column_of_id, lookup_by_number, put_by_number, values_of, with_values}
 use Rattle.database_state.specs.Changes.{escrow_bytes, escrow_sum, with_sum}
 use Rattle.index_derive.specs.declared.rules.Schema.{Schema}
 use Rattle.index_derive.specs.Entries.{is_escrow_column}
-use Rattle.record_changes.proofs.Tests.{and_both, and_left, and_right, impossible, same_number, self_equal}
 use Rattle.session_local.specs.RecordCalls.{with_sums_at_zero}
 use Rattle.session_local.specs.SessionSide.{are_distinct}
 use Rattle.session_local.specs.WellFormed.{number_of_column}
@@ -33,17 +33,17 @@ use Rattle.record_decisions.proofs.CopiedValues.{same_record}
 -- ---- what stays a record
 
 all_put : (p : ℕ × List (List ℕ) → Bool) (column : ℕ) (values : List (List ℕ)) → ((number : ℕ) → p (number, values) ≡ true) → (fields : RecordFields) → list_all p fields ≡ true → list_all p (put_by_number column values fields) ≡ true
-all_put p column values h [] all = and_both _ _ (h column) refl
+all_put p column values h [] all = and_from _ _ (h column) refl
 all_put p column values h (field ∷ fields) all =
     elim (nat_cmp column field.0) as (λ o. list_all p (by_order o ((column, values) ∷ field ∷ fields) ((field.0, values) ∷ fields) (field ∷ put_by_number column values fields)) ≡ true) [
-      | Less ↦ and_both _ _ (h column) all
-      | Equal ↦ and_both _ _ (h field.0) (and_right (p field) (list_all p fields) all)
-      | Greater ↦ and_both _ _ (and_left (p field) (list_all p fields) all) (all_put p column values h fields (and_right (p field) (list_all p fields) all))
+      | Less ↦ and_from _ _ (h column) all
+      | Equal ↦ and_from _ _ (h field.0) (and_right (p field) (list_all p fields) all)
+      | Greater ↦ and_from _ _ (and_left (p field) (list_all p fields) all) (all_put p column values h fields (and_right (p field) (list_all p fields) all))
     ]
 
 sum_formed : (fields : RecordFields) (column : ℕ) (amount : ℤ) → is_record fields ≡ true → is_record (with_sum fields column amount) ≡ true
 sum_formed fields column amount h =
-    and_both _ _
+    and_from _ _
     (is_true _ (is_sorted-put nat_cmp nat_cmp_total column (escrow_sum (escrow_bytes fields column) amount ∷ []) fields (passes _ (and_left (is_sorted nat_cmp fields) _ h))))
     (all_put (λ field. ltb 0 (length field.1)) column (escrow_sum (escrow_bytes fields column) amount ∷ []) (λ number. refl) fields (and_right (is_sorted nat_cmp fields) _ h))
 
@@ -87,7 +87,7 @@ sum_put made seen column number h =
     ap (λ (values : List (List ℕ)). values_of (with_values made column values) number) (sym (value_is seen column h))
     ∙ put_values made column number bytes []
     ∙ elim (number == column) as (λ b. (number == column) ≡ b → cond b (bytes ∷ []) (values_of made number) ≡ cond b (values_of seen number) (values_of made number)) [
-      | true ↦ λ e. value_is seen column h ∙ ap (values_of seen) (sym (same_number number column e))
+      | true ↦ λ e. value_is seen column h ∙ ap (values_of seen) (sym (eqb-true number column e))
       | false ↦ λ e. refl
     ] refl
   where
@@ -165,7 +165,7 @@ escrow_is (c ∷ columns) number distinct =
 
     fresh : (number_of_column c == number) ≡ true → is_sum_of columns number ≡ false
     fresh e = refuted (is_sum_of columns number) (λ h.
-        never (sym (among columns number h) ∙ ap (λ n. list_any (λ other. other == n) (map number_of_column columns)) (sym (same_number (number_of_column c) number e))
+        never (sym (among columns number h) ∙ ap (λ n. list_any (λ other. other == n) (map number_of_column columns)) (sym (eqb-true (number_of_column c) number e))
         ∙ denied (list_any (λ other. other == number_of_column c) (map number_of_column columns)) (and_left _ _ distinct)))
 
 at_sum : (columns : List Column) (i : ℕ) (column : Column) → column.escrow ≡ true → i < length columns → column ≡ get_or columns i column → is_sum_of columns (number_of_column column) ≡ true

@@ -18,15 +18,16 @@ use Rattle.database_state.specs.State.{DatabaseState, PastChange, transaction_of
 use Rattle.database_state.specs.Table.{Rows, Table, primary_rule, rows_of, schema_of, table_with_id}
 use Rattle.database_state.specs.View.{view}
 use Rattle.record_changes.specs.Records.{Records, records_of}
-use Rattle.record_changes.proofs.Tests.{and_left, impossible, same_bytes}
 use Rattle.version_history.specs.History.{IsHistory, without_rows}
-use Rattle.version_history.proofs.Lists.{all_filter, all_weaker}
 use Rattle.version_keys.specs.KeySums.{HasKeyBefores, IndexesSeeNoSum, IsApartFromSums, SeesNoSum}
 use Rattle.version_keys.proofs.EscrowSums.{unseen_now}
 use Rattle.version_keys.proofs.IndexNumbers.{all_primary_first}
 use Rattle.version_keys.proofs.UniqueKept.{id_of}
 use Rattle.version_records.specs.Bookmarks.{HasBookmarks, StandsUnder, is_bookmark, is_entry_number}
 use Rattle.common_lemmas.proofs.Found.{of_found}
+use Rattle.common_lemmas.proofs.Booleans.{and_left, impossible}
+use Rattle.common_lemmas.proofs.Lists.{all_filter, all_weaker}
+use Rattle.common_lemmas.proofs.Numbers.{same_bytes}
 use Rattle.version_store.specs.declared.calls.Reader.{Reader}
 use Rattle.version_cleanup.specs.Cleaning.{reader_in}
 use Rattle.versioned_tables.specs.VersionedTables.{VersionedTables}

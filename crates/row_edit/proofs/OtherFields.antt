@@ -6,7 +6,7 @@ use Rattle.std.specs.Ordering.{nat_cmp}
 use Rattle.std.specs.FinMap.Entries.{is_sorted, is_sorted-where_key}
 use Rattle.std.proofs.lemmas.Bool.{and_parts, and_from, ltb-true, lt-ltb}
 use Rattle.std.proofs.lemmas.List.{length-append}
-use Rattle.common_lemmas.proofs.Lists.{all_filtered}
+use Rattle.common_lemmas.proofs.Lists.{all_filtered, length-filter}
 use Rattle.common_lemmas.proofs.Booleans.{is_true}
 use Rattle.column_set.specs.declared.rows.RowValue.{RowValue}
 use Rattle.column_set.specs.declared.rows.RowValue.TheVariants.{Here}
@@ -40,14 +40,6 @@ values_without column (field ∷ fields) = by (field.0 == column) refl (values_w
 
 -- ---- it is a row
 
-pub fewer : {X : Type 0} (kept : X → Bool) (xs : List X) → length (filter kept xs) ≤ length xs
-fewer kept [] = omega arith
-fewer {X} kept (x ∷ xs) = by (kept x) (fewer kept xs)
-  where
-    by : (b : Bool) → length (filter kept xs) ≤ length xs → length (cond b (x ∷ filter kept xs) (filter kept xs)) ≤ length (x ∷ xs)
-    by true h = omega arith
-    by false h = omega arith
-
 pub formed : (fields : RowFields) (column : ℕ) → is_row fields ≡ true → is_row (remove_by_number column fields) ≡ true
 formed fields column h =
     let parts = and_parts (is_well_formed fields) (ltb (length (values_in_order fields)) (2 ^ 16)) h in
@@ -59,7 +51,7 @@ formed fields column h =
     (lt-ltb _ _ few)
   where
     few_left : ltb (length (values_in_order fields)) (2 ^ 16) ≡ true → length (values_in_order (remove_by_number column fields)) < 2 ^ 16
-    few_left h = omega (arith, ltb-true _ _ h, ap length (values_without column fields), fewer (λ (value : ℕ × RowValue). not (value.0 == column)) (values_in_order fields))
+    few_left h = omega (arith, ltb-true _ _ h, ap length (values_without column fields), length-filter (λ (value : ℕ × RowValue). not (value.0 == column)) (values_in_order fields))
 
 -- ---- it is no longer
 

@@ -3,6 +3,7 @@ use Rattle.std.proofs.Common.{◌≡◌, ℕ, ◌≤◌, Bool, true, false, cond
 use Rattle.std.specs.Prelude.{◌==◌, nat_le, not, is_none, IfSome}
 use Rattle.std.specs.List.{list_any}
 use Rattle.std.proofs.lemmas.Bool.Decides.{nat_tests}
+use Rattle.common_lemmas.proofs.Booleans.{and_false, and_right}
 use Rattle.jet_base.specs.declared.replies.Jet.{Jet}
 use Rattle.jet_base.specs.declared.replies.Jet.TheVariants as jet
 use Rattle.index_derive.specs.declared.rules.IndexFlags.{IndexFlags}
@@ -26,7 +27,6 @@ use Rattle.engine_versions.specs.EngineState.{EngineState}
 use Rattle.engine_versions.specs.HoldsState.{HoldsState}
 use Rattle.jet_catalog.specs.Catalog.{CatalogState, IsNumbered, database_of, without_rows}
 use Rattle.jet_catalog.specs.Decisions.{answer, called_table, decided, refused_or, table_or_new}
-use Rattle.record_changes.proofs.Tests.{and_false, and_right}
 use Rattle.session_local.specs.declared.request.Request.{Request}
 use Rattle.session_local.specs.declared.request.Request.TheVariants as call
 use Rattle.session_local.specs.SessionSide.{SessionSide}

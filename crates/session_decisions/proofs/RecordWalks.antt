@@ -4,13 +4,16 @@ use Rattle.std.specs.Prelude.{◌==◌, find, is_some, unwrap_or}
 use Rattle.std.specs.List.{list_all}
 use Rattle.std.specs.Cmp.Lexicographic.{texts_ties}
 use Rattle.std.proofs.lemmas.Bool.Decides.{nat_tests}
+use Rattle.std.proofs.lemmas.Bool.{false_from_ne_true}
+use Rattle.common_lemmas.proofs.Booleans.{and_left, and_right, impossible}
+use Rattle.common_lemmas.proofs.Numbers.{same_bytes}
 use Rattle.column_set.specs.RecordValues.{RecordFields}
 use Rattle.index_derive.specs.declared.entries.Place.TheVariants.{Before, On}
 use Rattle.index_derive.specs.declared.rules.IndexRule.{IndexRule}
 use Rattle.index_derive.specs.Entries.{own_order}
 use Rattle.cursor_nav.specs.Places.{Pair, are_sorted, entry_after, pair_lt}
 use Rattle.database_state.specs.Table.{Rows, Table, entries_of_rule, index_entries, record_in, row_at, rows_of, rule_with_id, schema_of, table_with_id}
-use Rattle.record_changes.proofs.Tests.{and_left, and_right, equal_bytes, impossible, refuted, same_bytes}
+use Rattle.record_changes.proofs.Tests.{equal_bytes}
 use Rattle.stored_variants.specs.StoredVersions.{entries_in}
 use Rattle.versioned_tables.proofs.Order.{not_back, not_itself}
 use Rattle.versioned_tables.proofs.SeenTables.{seen_at_id}
@@ -121,7 +124,7 @@ found_at [] row rest h = ap (λ b. cond b (Some row.1) (row_at rest row.0)) (sym
     itself : (k : List ℕ) → bytes_eq k k ≡ true
     itself k = equal_bytes k k refl
 found_at (x ∷ front) row rest h =
-    ap (λ b. cond b (Some x.1) (row_at (front ++ row ∷ rest) row.0)) (sym (texts_ties row.0 x.0) ∙ refuted (bytes_eq row.0 x.0) (λ e. apart (same_bytes row.0 x.0 e)))
+    ap (λ b. cond b (Some x.1) (row_at (front ++ row ∷ rest) row.0)) (sym (texts_ties row.0 x.0) ∙ false_from_ne_true (bytes_eq row.0 x.0) (λ e. apart (same_bytes row.0 x.0 e)))
     ∙ found_at front row rest (and_right (list_all (pair_lt (x.0, x.0)) (own_order (front ++ row ∷ rest))) _ h)
   where
     below : pair_lt (x.0, x.0) (row.0, row.0) ≡ true

@@ -4,6 +4,7 @@ use Rattle.std.specs.Prelude.{bytes_eq}
 use Rattle.std.specs.List.{list_all, position}
 use Rattle.std.proofs.Math.ListN.{set}
 use Rattle.std.proofs.lemmas.List.{take_more}
+use Rattle.std.proofs.lemmas.Bool.{and_parts}
 use Rattle.jet_base.specs.declared.replies.Jet.{Jet}
 use Rattle.jet_base.specs.declared.replies.Jet.TheVariants as jet
 use Rattle.jet_base.specs.declared.ids.CursorId.{CursorId}
@@ -31,10 +32,11 @@ use Rattle.session_local.specs.Changing.{Changed, cursor_if, with_key, key_made_
 use Rattle.session_local.specs.SessionSide.{HeldState, label_of, are_distinct}
 use Rattle.session_local.specs.Holding.{begun_with_cursors}
 use Rattle.session_local.specs.WellFormed.{has_short_keys, is_well_formed_schema, is_well_formed_cursor, is_well_formed_update, stands_in}
-use Rattle.session_local.proofs.Distinct.{both, found-position, set-position}
+use Rattle.session_local.proofs.Distinct.{found-position, set-position}
 use Rattle.session_local.proofs.Labels.{labelled}
 use Rattle.common_lemmas.proofs.Found.{all_found}
-use Rattle.session_local.proofs.Records.{all_at, by_number, values_of-fit, values_of-counted}
+use Rattle.common_lemmas.proofs.Lists.{all_at}
+use Rattle.session_local.proofs.Records.{by_number, values_of-fit, values_of-counted}
 use Rattle.session_local.proofs.Kept.{schema_parts, schema_of_cursor, update_of_cursor, record_parts}
 
 -- ---- MakeKey
@@ -106,7 +108,7 @@ pub copied_value_fits : (c : OpenCursor) (update : PreparedUpdate) (name : List 
 copied_value_fits c update name column place value h is named found =
     let its = by_number (λ o. bytes_eq o.name name) c.schema.columns column (schema_parts c.schema (schema_of_cursor c h)).distinct named in
     let fit = values_of-fit c.schema.columns update.values column.id.0 column (copied c update h is).stand its in
-    let each = (both (column.multi || nat_le (length (values_of update.values column.id.0)) 1) (list_all (value_fits column.kind) (values_of update.values column.id.0)) fit).1 in
+    let each = (and_parts (column.multi || nat_le (length (values_of update.values column.id.0)) 1) (list_all (value_fits column.kind) (values_of update.values column.id.0)) fit).1 in
     all_at (value_fits column.kind) (values_of update.values column.id.0) place value each found
 
 pub no_value_at_0 : (sequence : ℕ) (values : List (List ℕ)) (value : List ℕ) → (if sequence == 0 then None else slice_get values (sequence - 1)) ≡ Some value → slice_get values (sequence - 1) ≡ Some value

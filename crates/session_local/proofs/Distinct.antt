@@ -1,33 +1,14 @@
 -- Lists of cursors in which no label stands twice.
-use Rattle.std.proofs.Common.{◌≡◌, ℕ, ◌+◌, ◌<◌, ◌==◌, Bool, true, false, cond, not, ◌&&◌, ◌||◌, zero, suc, ltb, List, [], ◌∷◌, ◌++◌, map, filter, find, length, Option, Some, None, is_some, refl, sym, ap, ◌∙◌, subst, if◌then◌else◌, get_or, take, drop, remove, arith, add-one}
+use Rattle.std.proofs.Common.{◌≡◌, ℕ, ◌+◌, ◌<◌, ◌==◌, Bool, true, false, cond, not, zero, suc, ltb, List, [], ◌∷◌, ◌++◌, map, filter, find, length, Option, Some, None, is_some, refl, sym, ap, ◌∙◌, subst, if◌then◌else◌, get_or, take, drop, remove, arith, add-one}
 use Rattle.std.specs.List.{list_any, position, position_or_len}
 use Rattle.std.proofs.Math.ListN.{set}
 use Rattle.std.proofs.lemmas.Bool.Decides.{nat_tests}
 use Rattle.std.proofs.lemmas.List.Folds.{find_at}
 use Rattle.std.proofs.lemmas.Option.{slice_get_read}
+use Rattle.std.proofs.lemmas.Bool.{and_from, and_parts, eqb-true, not-true, or_parts}
+use Rattle.common_lemmas.proofs.Numbers.{unequal_turned}
 use Rattle.session_local.specs.Local.{OpenCursor, unprepared}
 use Rattle.session_local.specs.SessionSide.{label_of, are_distinct}
-use Rattle.session_local.proofs.Labels.{same_number}
-
-pub both : (a b : Bool) → (a && b) ≡ true → (a ≡ true) × (b ≡ true)
-both true true e = (refl, refl)
-both true false e = cc
-both false b e = cc
-
-pub joined : (a b : Bool) → a ≡ true → b ≡ true → (a && b) ≡ true
-joined a b p q = rw (p, q) refl
-
-pub neither : (a b : Bool) → (a || b) ≡ false → (a ≡ false) × (b ≡ false)
-neither false false e = (refl, refl)
-neither false true e = cc
-neither true b e = cc
-
-pub denied : (b : Bool) → not b ≡ true → b ≡ false
-denied false e = refl
-denied true e = cc
-
-pub turned : (m n : ℕ) → (m == n) ≡ false → (n == m) ≡ false
-turned m n e = grind (arith, nat_tests)
 
 below : (m n : ℕ) → ltb m n ≡ true → m < n
 below m n e = grind (arith, nat_tests)
@@ -43,17 +24,17 @@ lowered m n = grind (arith, nat_tests)
 any_push : (label other : ℕ) (labels : List ℕ) → list_any (λ l. l == label) labels ≡ false → (other == label) ≡ false → list_any (λ l. l == label) (labels ++ other ∷ []) ≡ false
 any_push label other [] none apart = rw apart refl
 any_push label other (l ∷ ls) none apart =
-    let parts : ((l == label) ≡ false) × (list_any (λ l. l == label) ls ≡ false) = neither _ _ none in
+    let parts : ((l == label) ≡ false) × (list_any (λ l. l == label) ls ≡ false) = or_parts _ _ none in
     rw parts.0 (any_push label other ls parts.1 apart)
 
 distinct_labels_push : (cursors : List OpenCursor) (label : ℕ) → are_distinct (map label_of cursors) ≡ true → find (λ c. c.label == label) cursors ≡ None → are_distinct (map label_of cursors ++ label ∷ []) ≡ true
 distinct_labels_push [] label distinct free = refl
 distinct_labels_push (x ∷ xs) label distinct free =
-    let parts : (not (list_any (λ other. other == x.label) (map label_of xs)) ≡ true) × (are_distinct (map label_of xs) ≡ true) = both _ _ distinct in
+    let parts : (not (list_any (λ other. other == x.label) (map label_of xs)) ≡ true) × (are_distinct (map label_of xs) ≡ true) = and_parts _ _ distinct in
     elim (x.label == label) as (λ b. (x.label == label) ≡ b → cond b (Some x) (find (λ c. c.label == label) xs) ≡ None → are_distinct (x.label ∷ (map label_of xs ++ label ∷ [])) ≡ true) [
       | true ↦ λ e h. cc
-      | false ↦ λ e h. joined (not (list_any (λ other. other == x.label) (map label_of xs ++ label ∷ []))) (are_distinct (map label_of xs ++ label ∷ []))
-          (ap not (any_push x.label label (map label_of xs) (denied _ parts.0) (turned x.label label e)))
+      | false ↦ λ e h. and_from (not (list_any (λ other. other == x.label) (map label_of xs ++ label ∷ []))) (are_distinct (map label_of xs ++ label ∷ []))
+          (ap not (any_push x.label label (map label_of xs) (not-true _ parts.0) (unequal_turned x.label label e)))
           (distinct_labels_push xs label parts.1 h)
     ] refl free
 
@@ -69,7 +50,7 @@ are_distinct-push cursors c distinct free = rw (map_push cursors c) (distinct_la
 any_filter : (test : OpenCursor → Bool) (label : ℕ) (cursors : List OpenCursor) → list_any (λ l. l == label) (map label_of cursors) ≡ false → list_any (λ l. l == label) (map label_of (filter test cursors)) ≡ false
 any_filter test label [] none = refl
 any_filter test label (x ∷ xs) none =
-    let parts : ((x.label == label) ≡ false) × (list_any (λ l. l == label) (map label_of xs) ≡ false) = neither _ _ none in
+    let parts : ((x.label == label) ≡ false) × (list_any (λ l. l == label) (map label_of xs) ≡ false) = or_parts _ _ none in
     elim (test x) as (λ b. list_any (λ l. l == label) (map label_of (cond b (x ∷ filter test xs) (filter test xs))) ≡ false) [
       | true ↦ rw parts.0 (any_filter test label xs parts.1)
       | false ↦ any_filter test label xs parts.1
@@ -78,10 +59,10 @@ any_filter test label (x ∷ xs) none =
 pub are_distinct-filter : (test : OpenCursor → Bool) (cursors : List OpenCursor) → are_distinct (map label_of cursors) ≡ true → are_distinct (map label_of (filter test cursors)) ≡ true
 are_distinct-filter test [] distinct = refl
 are_distinct-filter test (x ∷ xs) distinct =
-    let parts : (not (list_any (λ other. other == x.label) (map label_of xs)) ≡ true) × (are_distinct (map label_of xs) ≡ true) = both _ _ distinct in
+    let parts : (not (list_any (λ other. other == x.label) (map label_of xs)) ≡ true) × (are_distinct (map label_of xs) ≡ true) = and_parts _ _ distinct in
     elim (test x) as (λ b. are_distinct (map label_of (cond b (x ∷ filter test xs) (filter test xs))) ≡ true) [
-      | true ↦ joined (not (list_any (λ other. other == x.label) (map label_of (filter test xs)))) (are_distinct (map label_of (filter test xs)))
-          (ap not (any_filter test x.label xs (denied _ parts.0)))
+      | true ↦ and_from (not (list_any (λ other. other == x.label) (map label_of (filter test xs)))) (are_distinct (map label_of (filter test xs)))
+          (ap not (any_filter test x.label xs (not-true _ parts.0)))
           (are_distinct-filter test xs parts.1)
       | false ↦ are_distinct-filter test xs parts.1
     ]
@@ -102,16 +83,16 @@ labels-set (x ∷ xs) (suc at) new d same = ap (λ ls. x.label ∷ ls) (labels-s
 no_such : (label : ℕ) (cursors : List OpenCursor) (new : OpenCursor) → list_any (λ l. l == label) (map label_of cursors) ≡ false → map (λ c. if c.label == label then new else c) cursors ≡ cursors
 no_such label [] new none = refl
 no_such label (x ∷ xs) new none =
-    let parts : ((x.label == label) ≡ false) × (list_any (λ l. l == label) (map label_of xs) ≡ false) = neither _ _ none in
+    let parts : ((x.label == label) ≡ false) × (list_any (λ l. l == label) (map label_of xs) ≡ false) = or_parts _ _ none in
     rw parts.0 (ap (λ cs. x ∷ cs) (no_such label xs new parts.1))
 
 set_is_map : (label : ℕ) (cursors : List OpenCursor) (at : ℕ) (new : OpenCursor) → are_distinct (map label_of cursors) ≡ true → position_or_len (λ c. c.label == label) cursors ≡ at → at < length cursors → set cursors at new ≡ map (λ c. if c.label == label then new else c) cursors
 set_is_map label [] at new distinct place within = refl
 set_is_map label (x ∷ xs) at new distinct place within =
-    let parts : (not (list_any (λ other. other == x.label) (map label_of xs)) ≡ true) × (are_distinct (map label_of xs) ≡ true) = both _ _ distinct in
+    let parts : (not (list_any (λ other. other == x.label) (map label_of xs)) ≡ true) × (are_distinct (map label_of xs) ≡ true) = and_parts _ _ distinct in
     elim (x.label == label) as (λ b. (x.label == label) ≡ b → cond (not b) (1 + position_or_len (λ c. c.label == label) xs) 0 ≡ at → set (x ∷ xs) at new ≡ (if b then new else x) ∷ map (λ c. if c.label == label then new else c) xs) [
-      | true ↦ λ e h. let same : x.label ≡ label = same_number x.label label e in
-          let none : list_any (λ l. l == label) (map label_of xs) ≡ false = rw (← same) (denied _ parts.0) in
+      | true ↦ λ e h. let same : x.label ≡ label = eqb-true x.label label e in
+          let none : list_any (λ l. l == label) (map label_of xs) ≡ false = rw (← same) (not-true _ parts.0) in
           rw (← h) (ap (λ cs. new ∷ cs) (sym (no_such label xs new none)))
       | false ↦ λ e h. let k = position_or_len (λ c. c.label == label) xs in
           let next : suc k ≡ at = omega arith in
@@ -169,16 +150,16 @@ drop_one_more cursors items i d new so_far within made =
 none_dropped : (label : ℕ) (cursors : List OpenCursor) → list_any (λ l. l == label) (map label_of cursors) ≡ false → filter (λ c. not (c.label == label)) cursors ≡ cursors
 none_dropped label [] none = refl
 none_dropped label (x ∷ xs) none =
-    let parts : ((x.label == label) ≡ false) × (list_any (λ l. l == label) (map label_of xs) ≡ false) = neither _ _ none in
+    let parts : ((x.label == label) ≡ false) × (list_any (λ l. l == label) (map label_of xs) ≡ false) = or_parts _ _ none in
     rw parts.0 (ap (λ cs. x ∷ cs) (none_dropped label xs parts.1))
 
 remove_is_filter : (label : ℕ) (cursors : List OpenCursor) (at : ℕ) → are_distinct (map label_of cursors) ≡ true → position_or_len (λ c. c.label == label) cursors ≡ at → at < length cursors → remove cursors at ≡ filter (λ c. not (c.label == label)) cursors
 remove_is_filter label [] at distinct place within = absurd (omega (arith, within))
 remove_is_filter label (x ∷ xs) at distinct place within =
-    let parts : (not (list_any (λ other. other == x.label) (map label_of xs)) ≡ true) × (are_distinct (map label_of xs) ≡ true) = both _ _ distinct in
+    let parts : (not (list_any (λ other. other == x.label) (map label_of xs)) ≡ true) × (are_distinct (map label_of xs) ≡ true) = and_parts _ _ distinct in
     elim (x.label == label) as (λ b. (x.label == label) ≡ b → cond (not b) (1 + position_or_len (λ c. c.label == label) xs) 0 ≡ at → remove (x ∷ xs) at ≡ cond (not b) (x ∷ filter (λ c. not (c.label == label)) xs) (filter (λ c. not (c.label == label)) xs)) [
-      | true ↦ λ e h. let same : x.label ≡ label = same_number x.label label e in
-          let none : list_any (λ l. l == label) (map label_of xs) ≡ false = rw (← same) (denied _ parts.0) in
+      | true ↦ λ e h. let same : x.label ≡ label = eqb-true x.label label e in
+          let none : list_any (λ l. l == label) (map label_of xs) ≡ false = rw (← same) (not-true _ parts.0) in
           rw (← h) (sym (none_dropped label xs none))
       | false ↦ λ e h. let k = position_or_len (λ c. c.label == label) xs in
           let next : suc k ≡ at = omega arith in

@@ -2,7 +2,7 @@
 use Rattle.std.proofs.Common.{◌≡◌, ℕ, zero, suc, ◌*◌, ◌≤◌, ◌==◌, Bool, true, false, cond, ◌&&◌, ◌||◌, List, [], ◌∷◌, ◌++◌, length, map, replicate, Option, Some, None, refl, nat_le, nat_lt, remove, set, if◌then◌else◌, ◌-◌, arith}
 use Rattle.std.specs.Prelude.{ℤ, pos, negsuc, bytes_eq}
 use Rattle.std.specs.List.{list_all}
-use Rattle.std.proofs.lemmas.Bool.{false≢true}
+use Rattle.std.proofs.lemmas.Bool.{and_from, and_parts, eqb-true, false≢true, leb-true}
 use Rattle.std.proofs.lemmas.Bool.Decides.{nat_tests}
 use Rattle.std.proofs.lemmas.List.{length-replicate}
 use Rattle.jet_base.specs.declared.words.Given.{Given}
@@ -14,17 +14,9 @@ use Rattle.jet_base.specs.Given.{as_bit, as_stored, number_fits, width_fits, giv
 use Rattle.column_set.specs.RecordValues.{value_fits}
 use Rattle.record_edit.specs.SetColumn.{is_place_of, values_after}
 use Rattle.database_state.specs.SchemaChanges.{is_type_long}
-use Rattle.session_local.proofs.Distinct.{both, joined}
-use Rattle.session_local.proofs.Labels.{same_number}
 
 at_most : (m n : ℕ) → nat_lt n m ≡ false → nat_le m n ≡ true
 at_most m n e = grind (arith, nat_tests)
-
-pub no_more : (m n : ℕ) → nat_le m n ≡ true → m ≤ n
-no_more m n e = grind (arith, nat_tests)
-
-pub as_many : (m n : ℕ) → m ≤ n → nat_le m n ≡ true
-as_many m n e = grind (arith, nat_tests)
 
 -- ---- numbers
 
@@ -55,7 +47,7 @@ number_stored LongText n h = absurd (false≢true h)
 -- ---- bytes
 
 two_not_one : (n : ℕ) → (suc (suc n) == 1) ≡ true → ⊥
-two_not_one n h = let e : suc (suc n) ≡ 1 = same_number (suc (suc n)) 1 h in omega (arith, e)
+two_not_one n h = let e : suc (suc n) ≡ 1 = eqb-true (suc (suc n)) 1 h in omega (arith, e)
 
 bit_stored : (bytes : List ℕ) → (length bytes == 1) ≡ true → value_fits Bit (map as_bit bytes) ≡ true
 bit_stored [] h = cc
@@ -95,7 +87,7 @@ value_fits-zero _ h = cc
 bit_length : (value : List ℕ) (b : ℕ) → bytes_eq value (b ∷ []) ≡ true → length value ≡ 1
 bit_length [] b h = cc
 bit_length (x ∷ []) b h = refl
-bit_length (x ∷ y ∷ rest) b h = let parts : ((x == b) ≡ true) × (false ≡ true) = both _ _ h in cc (parts.1)
+bit_length (x ∷ y ∷ rest) b h = let parts : ((x == b) ≡ true) × (false ≡ true) = and_parts _ _ h in cc (parts.1)
 
 either : (a b : Bool) (P : Type 0) → (a || b) ≡ true → (a ≡ true → P) → (b ≡ true → P) → P
 either true b P h one other = one refl
@@ -103,13 +95,13 @@ either false b P h one other = other h
 
 pub number_length : (kind : ColType) (value : List ℕ) → is_number_type kind ≡ true → value_fits kind value ≡ true → length value ≡ largest_value kind
 number_length Bit value number h = either (bytes_eq value (0 ∷ [])) (bytes_eq value (1 ∷ [])) (length value ≡ 1) h (λ e. bit_length value 0 e) (λ e. bit_length value 1 e)
-number_length UnsignedByte value number h = same_number _ _ h
-number_length Short value number h = same_number _ _ h
-number_length UnsignedShort value number h = same_number _ _ h
-number_length Long value number h = same_number _ _ h
-number_length UnsignedLong value number h = same_number _ _ h
-number_length LongLong value number h = same_number _ _ h
-number_length Currency value number h = same_number _ _ h
+number_length UnsignedByte value number h = eqb-true _ _ h
+number_length Short value number h = eqb-true _ _ h
+number_length UnsignedShort value number h = eqb-true _ _ h
+number_length Long value number h = eqb-true _ _ h
+number_length UnsignedLong value number h = eqb-true _ _ h
+number_length LongLong value number h = eqb-true _ _ h
+number_length Currency value number h = eqb-true _ _ h
 number_length Guid value number h = cc
 number_length Binary value number h = cc
 number_length Text value number h = cc
@@ -117,17 +109,17 @@ number_length LongBinary value number h = cc
 number_length LongText value number h = cc
 
 sixteen : (n : ℕ) → (n == 16) ≡ true → n ≤ 1048576
-sixteen n h = let e : n ≡ 16 = same_number n 16 h in omega (arith, e)
+sixteen n h = let e : n ≡ 16 = eqb-true n 16 h in omega (arith, e)
 
 short : (n : ℕ) → nat_le n 255 ≡ true → n ≤ 1048576
-short n h = let e = no_more n 255 h in omega (arith, e)
+short n h = let e = leb-true n 255 h in omega (arith, e)
 
 pub bytes_length : (kind : ColType) (value : List ℕ) → is_number_type kind ≡ false → value_fits kind value ≡ true → length value ≤ 1048576
 bytes_length Guid value other h = sixteen (length value) h
 bytes_length Binary value other h = short (length value) h
 bytes_length Text value other h = short (length value) h
-bytes_length LongBinary value other h = no_more (length value) 1048576 h
-bytes_length LongText value other h = no_more (length value) 1048576 h
+bytes_length LongBinary value other h = leb-true (length value) 1048576 h
+bytes_length LongText value other h = leb-true (length value) 1048576 h
 bytes_length _ value other h = cc
 
 -- ---- values of a column after a new one
@@ -135,24 +127,24 @@ bytes_length _ value other h = cc
 all_push : (fits : List ℕ → Bool) (values : List (List ℕ)) (value : List ℕ) → list_all fits values ≡ true → fits value ≡ true → list_all fits (values ++ value ∷ []) ≡ true
 all_push fits [] value all one = rw one refl
 all_push fits (x ∷ xs) value all one =
-    let parts : (fits x ≡ true) × (list_all fits xs ≡ true) = both _ _ all in
-    joined (fits x) (list_all fits (xs ++ value ∷ [])) parts.0 (all_push fits xs value parts.1 one)
+    let parts : (fits x ≡ true) × (list_all fits xs ≡ true) = and_parts _ _ all in
+    and_from (fits x) (list_all fits (xs ++ value ∷ [])) parts.0 (all_push fits xs value parts.1 one)
 
 all_set : (fits : List ℕ → Bool) (values : List (List ℕ)) (place : ℕ) (value : List ℕ) → list_all fits values ≡ true → fits value ≡ true → list_all fits (set values place value) ≡ true
 all_set fits [] place value all one = refl
 all_set fits (x ∷ xs) zero value all one =
-    let parts : (fits x ≡ true) × (list_all fits xs ≡ true) = both _ _ all in joined (fits value) (list_all fits xs) one parts.1
+    let parts : (fits x ≡ true) × (list_all fits xs ≡ true) = and_parts _ _ all in and_from (fits value) (list_all fits xs) one parts.1
 all_set fits (x ∷ xs) (suc place) value all one =
-    let parts : (fits x ≡ true) × (list_all fits xs ≡ true) = both _ _ all in
-    joined (fits x) (list_all fits (set xs place value)) parts.0 (all_set fits xs place value parts.1 one)
+    let parts : (fits x ≡ true) × (list_all fits xs ≡ true) = and_parts _ _ all in
+    and_from (fits x) (list_all fits (set xs place value)) parts.0 (all_set fits xs place value parts.1 one)
 
 all_removed : (fits : List ℕ → Bool) (values : List (List ℕ)) (place : ℕ) → list_all fits values ≡ true → list_all fits (remove values place) ≡ true
 all_removed fits [] zero all = refl
 all_removed fits [] (suc place) all = refl
-all_removed fits (x ∷ xs) zero all = let parts : (fits x ≡ true) × (list_all fits xs ≡ true) = both _ _ all in parts.1
+all_removed fits (x ∷ xs) zero all = let parts : (fits x ≡ true) × (list_all fits xs ≡ true) = and_parts _ _ all in parts.1
 all_removed fits (x ∷ xs) (suc place) all =
-    let parts : (fits x ≡ true) × (list_all fits xs ≡ true) = both _ _ all in
-    joined (fits x) (list_all fits (remove xs place)) parts.0 (all_removed fits xs place parts.1)
+    let parts : (fits x ≡ true) × (list_all fits xs ≡ true) = and_parts _ _ all in
+    and_from (fits x) (list_all fits (remove xs place)) parts.0 (all_removed fits xs place parts.1)
 
 abbrev pub fits_if : (List ℕ → Bool) → Option (List ℕ) → Bool
 fits_if fits None = true

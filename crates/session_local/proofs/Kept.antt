@@ -3,7 +3,7 @@ use Rattle.std.proofs.Common.{◌≡◌, ℕ, ◌≤◌, ◌==◌, Bool, true, f
 use Rattle.std.specs.List.{list_all, AllByRecursion}
 use Rattle.std.specs.Prelude.{bytes_eq}
 use Rattle.std.proofs.lemmas.Bool.Decides.{nat_tests}
-use Rattle.std.proofs.lemmas.Bool.{not-false}
+use Rattle.std.proofs.lemmas.Bool.{and_from, and_parts, le-leb, leb-true, not-false}
 use Rattle.jet_base.specs.declared.replies.Jet.{Jet}
 use Rattle.jet_base.specs.declared.replies.Jet.TheVariants as jet
 use Rattle.jet_base.specs.declared.words.Given.{Given}
@@ -29,10 +29,10 @@ use Rattle.session_local.specs.Finishing.{Decided, after_step, begun_with, is_re
 use Rattle.session_local.specs.Navigating.{navigated_on}
 use Rattle.session_local.specs.Changing.{Changed, cursor_if, insert_prepared_at, update_cancelled_at, update_prepared_at, new_update, value_set_in, value_set_on, changed_by, changed_unless, changed_to, refused_by, local_after}
 use Rattle.session_local.specs.WellFormed.{number_of_column, is_sum, is_long_if_sum, has_short_keys, is_well_formed_schema, stands_in, is_well_formed_record, is_well_formed_update, is_well_formed_cursor, is_well_formed_table, is_well_formed_on, is_well_formed_copy, IsWellFormed}
-use Rattle.session_local.proofs.Distinct.{both, joined}
-use Rattle.session_local.proofs.Fitting.{no_more, as_many, fits_if, value_fits-given_bytes, values_after-fit}
+use Rattle.session_local.proofs.Fitting.{fits_if, value_fits-given_bytes, values_after-fit}
 use Rattle.common_lemmas.proofs.Found.{all_found}
-use Rattle.session_local.proofs.Records.{all_filtered, by_number, values_of-fit, stands-in, all_with_values, sums_at_zero-stand, sums_at_zero-small}
+use Rattle.common_lemmas.proofs.Lists.{all_filtered}
+use Rattle.session_local.proofs.Records.{by_number, values_of-fit, stands-in, all_with_values, sums_at_zero-stand, sums_at_zero-small}
 
 -- ---- the parts of a schema
 
@@ -44,24 +44,24 @@ pub record SchemaParts (schema : Schema) : Type 0 where
 
 pub schema_parts : (schema : Schema) → is_well_formed_schema schema ≡ true → SchemaParts schema
 schema_parts schema h =
-    let last = both (are_distinct (map number_of_column schema.columns) && list_all is_long_if_sum schema.columns && nat_le (length (filter is_sum schema.columns)) 127) (list_all has_short_keys schema.indexes) h in
-    let more = both (are_distinct (map number_of_column schema.columns) && list_all is_long_if_sum schema.columns) (nat_le (length (filter is_sum schema.columns)) 127) last.0 in
-    let first = both (are_distinct (map number_of_column schema.columns)) (list_all is_long_if_sum schema.columns) more.0 in
+    let last = and_parts (are_distinct (map number_of_column schema.columns) && list_all is_long_if_sum schema.columns && nat_le (length (filter is_sum schema.columns)) 127) (list_all has_short_keys schema.indexes) h in
+    let more = and_parts (are_distinct (map number_of_column schema.columns) && list_all is_long_if_sum schema.columns) (nat_le (length (filter is_sum schema.columns)) 127) last.0 in
+    let first = and_parts (are_distinct (map number_of_column schema.columns)) (list_all is_long_if_sum schema.columns) more.0 in
     record { distinct = first.0; long = first.1; few = more.1; short = last.1 }
 
 pub schema_of_cursor : (c : OpenCursor) → is_well_formed_cursor c ≡ true → is_well_formed_schema c.schema ≡ true
-schema_of_cursor c h = (both (is_well_formed_schema c.schema) (is_well_formed_update c.schema.columns c.prepared) h).0
+schema_of_cursor c h = (and_parts (is_well_formed_schema c.schema) (is_well_formed_update c.schema.columns c.prepared) h).0
 
 pub update_of_cursor : (c : OpenCursor) → is_well_formed_cursor c ≡ true → is_well_formed_update c.schema.columns c.prepared ≡ true
-update_of_cursor c h = (both (is_well_formed_schema c.schema) (is_well_formed_update c.schema.columns c.prepared) h).1
+update_of_cursor c h = (and_parts (is_well_formed_schema c.schema) (is_well_formed_update c.schema.columns c.prepared) h).1
 
 pub record_parts : (columns : List Column) (fields : RecordFields) → is_well_formed_record columns fields ≡ true → (list_all (stands_in columns) fields ≡ true) × (record_size fields ≤ 1700)
 record_parts columns fields h =
-    let parts = both (list_all (stands_in columns) fields) (nat_le (record_size fields) 1700) h in
-    (parts.0, no_more (record_size fields) 1700 parts.1)
+    let parts = and_parts (list_all (stands_in columns) fields) (nat_le (record_size fields) 1700) h in
+    (parts.0, leb-true (record_size fields) 1700 parts.1)
 
 with_update : (c : OpenCursor) (update : Option PreparedUpdate) → is_well_formed_schema c.schema ≡ true → is_well_formed_update c.schema.columns update ≡ true → is_well_formed_cursor (record c { prepared = update }) ≡ true
-with_update c update schema fit = joined (is_well_formed_schema c.schema) (is_well_formed_update c.schema.columns update) schema fit
+with_update c update schema fit = and_from (is_well_formed_schema c.schema) (is_well_formed_update c.schema.columns update) schema fit
 
 -- ---- a value that is set
 
@@ -101,7 +101,7 @@ set_is_well_formed columns column sequence value fields found all none =
     let new = values_after column.multi sequence (stored_value column value) old in
     let fit : values_fit column new ≡ true =
     values_after-fit (value_fits column.kind) column.multi sequence (stored_value column value) old (values_of-fit columns fields column.id.0 column all found) (stored_fits column value s.fits s.small) in
-    joined (list_all (stands_in columns) (fields_after column sequence value fields)) (nat_le (record_size (fields_after column sequence value fields)) 1700)
+    and_from (list_all (stands_in columns) (fields_after column sequence value fields)) (nat_le (record_size (fields_after column sequence value fields)) 1700)
     (all_with_values columns fields column.id.0 new all (stands-in columns column.id.0 column new found fit))
     (not_beyond (record_size (fields_after column sequence value fields)) 1700 s.size)
 
@@ -125,9 +125,9 @@ insert-kept c h =
     let schema = schema_of_cursor c h in
     let s = schema_parts c.schema schema in
     let stand = sums_at_zero-stand c.schema.columns s.distinct s.long in
-    let small = sums_at_zero-small c.schema.columns (no_more (length (filter is_sum c.schema.columns)) 127 s.few) in
+    let small = sums_at_zero-small c.schema.columns (leb-true (length (filter is_sum c.schema.columns)) 127 s.few) in
     let fit : is_well_formed_update c.schema.columns (Some (new_update c)) ≡ true =
-    joined (list_all (stands_in c.schema.columns) (new_update c).values) (nat_le (record_size (new_update c).values) 1700) stand (as_many (record_size (new_update c).values) 1700 small) in
+    and_from (list_all (stands_in c.schema.columns) (new_update c).values) (nat_le (record_size (new_update c).values) 1700) stand (le-leb (record_size (new_update c).values) 1700 small) in
     elim (is_some c.prepared) as (λ b. is_well_formed_if (Changed.cursor (if b then refused_by jet.AlreadyPrepared else changed_to (record c { prepared = Some (new_update c) }))) ≡ true) [
       | true ↦ refl
       | false ↦ with_update c (Some (new_update c)) schema fit
@@ -174,11 +174,11 @@ changed-kept c _ h = h
 pub put-kept : (new : OpenCursor) (cursors : List OpenCursor) → list_all is_well_formed_cursor cursors ≡ true → is_well_formed_cursor new ≡ true → list_all is_well_formed_cursor (map (λ c. if c.label == new.label then new else c) cursors) ≡ true
 put-kept new [] all one = refl
 put-kept new (x ∷ xs) all one =
-    let parts : (is_well_formed_cursor x ≡ true) × (list_all is_well_formed_cursor xs ≡ true) = both _ _ all in
+    let parts : (is_well_formed_cursor x ≡ true) × (list_all is_well_formed_cursor xs ≡ true) = and_parts _ _ all in
     let rest = put-kept new xs parts.1 one in
     elim (x.label == new.label) as (λ b. (is_well_formed_cursor (if b then new else x) && list_all is_well_formed_cursor (map (λ c. if c.label == new.label then new else c) xs)) ≡ true) [
-      | true ↦ joined (is_well_formed_cursor new) (list_all is_well_formed_cursor (map (λ c. if c.label == new.label then new else c) xs)) one rest
-      | false ↦ joined (is_well_formed_cursor x) (list_all is_well_formed_cursor (map (λ c. if c.label == new.label then new else c) xs)) parts.0 rest
+      | true ↦ and_from (is_well_formed_cursor new) (list_all is_well_formed_cursor (map (λ c. if c.label == new.label then new else c) xs)) one rest
+      | false ↦ and_from (is_well_formed_cursor x) (list_all is_well_formed_cursor (map (λ c. if c.label == new.label then new else c) xs)) parts.0 rest
     ]
 
 pub local_after-kept : (local : LocalState) (c : Option OpenCursor) → IsWellFormed local → is_well_formed_if c ≡ true → IsWellFormed (local_after local c)
@@ -188,14 +188,14 @@ local_after-kept local (Some c) all one = put-kept c local.cursors all one
 unprepared-kept : (cursors : List OpenCursor) → list_all is_well_formed_cursor cursors ≡ true → list_all is_well_formed_cursor (map unprepared cursors) ≡ true
 unprepared-kept [] all = refl
 unprepared-kept (x ∷ xs) all =
-    let parts : (is_well_formed_cursor x ≡ true) × (list_all is_well_formed_cursor xs ≡ true) = both _ _ all in
-    joined (is_well_formed_cursor (unprepared x)) (list_all is_well_formed_cursor (map unprepared xs)) (with_update x None (schema_of_cursor x parts.0) refl) (unprepared-kept xs parts.1)
+    let parts : (is_well_formed_cursor x ≡ true) × (list_all is_well_formed_cursor xs ≡ true) = and_parts _ _ all in
+    and_from (is_well_formed_cursor (unprepared x)) (list_all is_well_formed_cursor (map unprepared xs)) (with_update x None (schema_of_cursor x parts.0) refl) (unprepared-kept xs parts.1)
 
 push-kept : (new : OpenCursor) (cursors : List OpenCursor) → list_all is_well_formed_cursor cursors ≡ true → is_well_formed_cursor new ≡ true → list_all is_well_formed_cursor (cursors ++ new ∷ []) ≡ true
 push-kept new [] all one = rw one refl
 push-kept new (x ∷ xs) all one =
-    let parts : (is_well_formed_cursor x ≡ true) × (list_all is_well_formed_cursor xs ≡ true) = both _ _ all in
-    joined (is_well_formed_cursor x) (list_all is_well_formed_cursor (xs ++ new ∷ [])) parts.0 (push-kept new xs parts.1 one)
+    let parts : (is_well_formed_cursor x ≡ true) × (list_all is_well_formed_cursor xs ≡ true) = and_parts _ _ all in
+    and_from (is_well_formed_cursor x) (list_all is_well_formed_cursor (xs ++ new ∷ [])) parts.0 (push-kept new xs parts.1 one)
 
 filtered-kept : (test : OpenCursor → Bool) (cursors : List OpenCursor) → list_all is_well_formed_cursor cursors ≡ true → list_all is_well_formed_cursor (filter test cursors) ≡ true
 filtered-kept test cursors all = all_filtered is_well_formed_cursor test cursors all
@@ -228,7 +228,7 @@ opened-kept local label None all fit = all
 opened-kept local label (Some table) all fit =
     elim (not local.begun || (is_some (cursor_labelled local label) || nat_le 16 (length local.cursors))) as (λ b. IsWellFormed (if b then local else with_new_cursor local (opened_cursor label table))) [
       | true ↦ all
-      | false ↦ push-kept (opened_cursor label table) local.cursors all (joined (is_well_formed_schema table.1) true fit refl)
+      | false ↦ push-kept (opened_cursor label table) local.cursors all (and_from (is_well_formed_schema table.1) true fit refl)
     ]
 
 begun-kept : (buffers : Bool) (local : LocalState) → IsWellFormed local → IsWellFormed (begun_with buffers local)
@@ -271,15 +271,15 @@ schema-agrees tables c (Some table) all is has = rw has.0 (all_found has_well_fo
 update-agrees : (state : DatabaseState) (session : ℕ) (c : OpenCursor) (update : Option PreparedUpdate) → IsStorable state session c update → is_well_formed_update c.schema.columns update ≡ true
 update-agrees state session c None fit = refl
 update-agrees state session c (Some update) fit =
-    let stand = both (list_all (stands_in c.schema.columns) update.values) (list_all (λ column. not (is_kept_column column) || has_value update.values column.id.0) c.schema.columns) fit.1 in
-    joined (list_all (stands_in c.schema.columns) update.values) (nat_le (record_size update.values) 1700) stand.0 (as_many (record_size update.values) 1700 fit.0)
+    let stand = and_parts (list_all (stands_in c.schema.columns) update.values) (list_all (λ column. not (is_kept_column column) || has_value update.values column.id.0) c.schema.columns) fit.1 in
+    and_from (list_all (stands_in c.schema.columns) update.values) (nat_le (record_size update.values) 1700) stand.0 (le-leb (record_size update.values) 1700 fit.0)
 
 cursors-agree : (state : DatabaseState) (session : ℕ) (cursors : List OpenCursor) → list_all has_well_formed_schema state.tables ≡ true → AllByRecursion (λ c. HasSchemaOf c (table_with_id state.tables c.cursor.table)) cursors → AllByRecursion (λ c. IsStorable state session c c.prepared) cursors → list_all is_well_formed_cursor cursors ≡ true
 cursors-agree state session [] tables schemas prepared = refl
 cursors-agree state session (c ∷ cs) tables schemas prepared =
     let schema = schema-agrees state.tables c (table_with_id state.tables c.cursor.table) tables refl schemas.0 in
-    joined (is_well_formed_cursor c) (list_all is_well_formed_cursor cs)
-    (joined (is_well_formed_schema c.schema) (is_well_formed_update c.schema.columns c.prepared) schema (update-agrees state session c c.prepared prepared.0))
+    and_from (is_well_formed_cursor c) (list_all is_well_formed_cursor cs)
+    (and_from (is_well_formed_schema c.schema) (is_well_formed_update c.schema.columns c.prepared) schema (update-agrees state session c c.prepared prepared.0))
     (cursors-agree state session cs tables schemas.1 prepared.1)
 
 pub agrees-kept : (state : DatabaseState) (session : ℕ) (local : LocalState) → Agrees state session local → list_all has_well_formed_schema state.tables ≡ true → IsWellFormed local

@@ -1,20 +1,15 @@
 -- Cursors by label.
-use Rattle.std.proofs.Common.{◌≡◌, ℕ, ◌==◌, true, false, cond, List, [], ◌∷◌, map, find, Some, refl, sym, subst, if◌then◌else◌, arith}
-use Rattle.std.proofs.lemmas.Bool.Decides.{nat_tests}
+use Rattle.std.proofs.Common.{◌≡◌, ℕ, ◌==◌, true, false, cond, List, [], ◌∷◌, map, find, Some, refl, sym, subst, if◌then◌else◌}
+use Rattle.std.proofs.lemmas.Bool.{eqb-true}
+use Rattle.common_lemmas.proofs.Numbers.{self_equal}
 use Rattle.session_local.specs.Local.{LocalState, OpenCursor, cursor_labelled, with_cursor}
-
-pub same_number : (m n : ℕ) → (m == n) ≡ true → m ≡ n
-same_number m n e = grind (arith, nat_tests)
-
-pub number_is_itself : (n : ℕ) → (n == n) ≡ true
-number_is_itself n = grind (arith, nat_tests)
 
 -- a cursor that is found by a label has it
 pub labelled : (label : ℕ) (cursors : List OpenCursor) (c : OpenCursor) → find (λ c. c.label == label) cursors ≡ Some c → c.label ≡ label
 labelled label [] c found = cc
 labelled label (x ∷ xs) c found =
     elim (x.label == label) as (λ b. (x.label == label) ≡ b → cond b (Some x) (find (λ c. c.label == label) xs) ≡ Some c → c.label ≡ label) [
-      | true ↦ λ e h. let same : x ≡ c = cc in let n = same_number x.label label e in cc
+      | true ↦ λ e h. let same : x ≡ c = cc in let n = eqb-true x.label label e in cc
       | false ↦ λ e h. labelled label xs c h
     ] refl found
 
@@ -33,4 +28,4 @@ found_after label (x ∷ xs) new old same found =
 pub cursor_labelled-with_cursor : (local : LocalState) (label : ℕ) (new old : OpenCursor) → new.label ≡ label → cursor_labelled local label ≡ Some old → cursor_labelled (with_cursor local new) label ≡ Some new
 cursor_labelled-with_cursor local label new old same found =
     let P : ℕ → Type 0 = λ l. find (λ c. c.label == label) (put_at l new local.cursors) ≡ Some new in
-    subst P (sym same) (found_after label local.cursors new old (rw same (number_is_itself label)) found)
+    subst P (sym same) (found_after label local.cursors new old (rw same (self_equal label)) found)

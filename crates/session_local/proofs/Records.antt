@@ -1,5 +1,5 @@
 -- Records whose values stand under columns that take them.
-use Rattle.std.proofs.Common.{◌≡◌, ℕ, zero, suc, ◌+◌, ◌*◌, ◌≤◌, ◌==◌, Bool, true, false, cond, not, ◌&&◌, ◌||◌, List, [], ◌∷◌, length, map, filter, find, fold, Option, Some, None, refl, sym, ap, ◌∙◌, sum_by, unwrap_or, slice_get, get_or, take, drop, ◌-◌, arith}
+use Rattle.std.proofs.Common.{◌≡◌, ℕ, zero, suc, ◌+◌, ◌*◌, ◌≤◌, ◌==◌, Bool, true, false, cond, not, ◌&&◌, ◌||◌, List, [], ◌∷◌, length, map, filter, find, fold, Option, Some, None, refl, sym, ap, ◌∙◌, sum_by, unwrap_or, get_or, take, drop, ◌-◌, arith}
 use Rattle.std.specs.List.{list_all, list_any}
 use Rattle.std.specs.Ordering.{nat_cmp, is_eq}
 use Rattle.std.specs.declared.cmp.Ordering.{Ordering}
@@ -7,26 +7,16 @@ use Rattle.std.specs.declared.cmp.Ordering.TheVariants.{Less, Equal, Greater}
 use Rattle.std.specs.FinMap.{nat_cmp-IsAntisymmetric}
 use Rattle.std.specs.FinMap.Entries.{find as find_entry, put as put_entry, by_order}
 use Rattle.std.proofs.lemmas.List.Sums.{sum_by-cons}
+use Rattle.std.proofs.lemmas.Bool.{and_from, and_parts, eqb-true, not-true, or_parts}
+use Rattle.common_lemmas.proofs.Lists.{all_filtered}
+use Rattle.common_lemmas.proofs.Numbers.{self_equal, unequal_turned}
 use Rattle.column_set.specs.declared.columns.Column.{Column}
 use Rattle.column_set.specs.RecordValues.{RecordFields, values_of, with_values, column_of_id, value_fits, values_fit, size_of_value, size_of_values, record_size}
 use Rattle.database_state.specs.SchemaChanges.{is_type_long}
 use Rattle.session_local.specs.RecordCalls.{with_sums_at_zero}
 use Rattle.session_local.specs.SessionSide.{are_distinct}
 use Rattle.session_local.specs.WellFormed.{number_of_column, is_sum, is_long_if_sum, stands_in}
-use Rattle.session_local.proofs.Distinct.{both, joined, neither, denied, turned}
 use Rattle.session_local.proofs.Fitting.{value_fits-zero}
-use Rattle.session_local.proofs.Labels.{same_number, number_is_itself}
-
--- ---- lists that pass a test
-
-pub all_filtered : {X : Type 0} (p test : X → Bool) (xs : List X) → list_all p xs ≡ true → list_all p (filter test xs) ≡ true
-all_filtered p test [] all = refl
-all_filtered p test (x ∷ xs) all =
-    let parts : (p x ≡ true) × (list_all p xs ≡ true) = both _ _ all in
-    elim (test x) as (λ b. list_all p (cond b (x ∷ filter test xs) (filter test xs)) ≡ true) [
-      | true ↦ joined (p x) (list_all p (filter test xs)) parts.0 (all_filtered p test xs parts.1)
-      | false ↦ all_filtered p test xs parts.1
-    ]
 
 -- ---- columns by number
 
@@ -45,15 +35,15 @@ any_found test (x ∷ xs) column number found same =
 pub by_number : (test : Column → Bool) (columns : List Column) (column : Column) → are_distinct (map number_of_column columns) ≡ true → find test columns ≡ Some column → column_of_id columns column.id.0 ≡ Some column
 by_number test [] column distinct found = cc
 by_number test (x ∷ xs) column distinct found =
-    let parts : (not (list_any (λ other. other == x.id.0) (map number_of_column xs)) ≡ true) × (are_distinct (map number_of_column xs) ≡ true) = both _ _ distinct in
+    let parts : (not (list_any (λ other. other == x.id.0) (map number_of_column xs)) ≡ true) × (are_distinct (map number_of_column xs) ≡ true) = and_parts _ _ distinct in
     elim (test x) as (λ b. cond b (Some x) (find test xs) ≡ Some column → cond (x.id.0 == column.id.0) (Some x) (column_of_id xs column.id.0) ≡ Some column) [
-      | true ↦ λ h. let is : x ≡ column = cc in rw (is, number_is_itself column.id.0) refl
+      | true ↦ λ h. let is : x ≡ column = cc in rw (is, self_equal column.id.0) refl
       | false ↦ λ h. elim (x.id.0 == column.id.0) as (λ b. (x.id.0 == column.id.0) ≡ b → cond b (Some x) (column_of_id xs column.id.0) ≡ Some column) [
         | true ↦ λ e.
-            let same : x.id.0 ≡ column.id.0 = same_number x.id.0 column.id.0 e in
-            let again : (column.id.0 == x.id.0) ≡ true = rw same (number_is_itself column.id.0) in
+            let same : x.id.0 ≡ column.id.0 = eqb-true x.id.0 column.id.0 e in
+            let again : (column.id.0 == x.id.0) ≡ true = rw same (self_equal column.id.0) in
             let twice : list_any (λ other. other == x.id.0) (map number_of_column xs) ≡ true = any_found test xs column x.id.0 h again in
-            let once : list_any (λ other. other == x.id.0) (map number_of_column xs) ≡ false = denied _ parts.0 in
+            let once : list_any (λ other. other == x.id.0) (map number_of_column xs) ≡ false = not-true _ parts.0 in
             cc
         | false ↦ λ e. by_number test xs column parts.1 h
       ] refl
@@ -80,7 +70,7 @@ taken columns field found is = ap (λ (o : Option Column). elim o [ Some column 
 pub values_of-fit : (columns : List Column) (fields : RecordFields) (id : ℕ) (column : Column) → list_all (stands_in columns) fields ≡ true → column_of_id columns id ≡ Some column → values_fit column (values_of fields id) ≡ true
 values_of-fit columns [] id column all found = no_values_fit column
 values_of-fit columns (field ∷ fields) id column all found =
-    let parts : (stands_in columns field ≡ true) × (list_all (stands_in columns) fields ≡ true) = both _ _ all in
+    let parts : (stands_in columns field ≡ true) × (list_all (stands_in columns) fields ≡ true) = and_parts _ _ all in
     elim (is_eq (nat_cmp id field.0)) as (λ b. is_eq (nat_cmp id field.0) ≡ b → values_fit column (unwrap_or (cond b (Some field.1) (find_entry nat_cmp id fields)) []) ≡ true) [
       | true ↦ λ e. let same : id ≡ field.0 = tied id field.0 e in
           let its : column_of_id columns field.0 ≡ Some column = rw (← same) found in
@@ -95,12 +85,12 @@ stands-in columns id column values found fit = taken columns (id, values) (Some 
 all_put : (columns : List Column) (id : ℕ) (values : List (List ℕ)) (fields : RecordFields) → list_all (stands_in columns) fields ≡ true → stands_in columns (id, values) ≡ true → list_all (stands_in columns) (put_entry nat_cmp id values fields) ≡ true
 all_put columns id values [] all one = rw one refl
 all_put columns id values (field ∷ fields) all one =
-    let parts : (stands_in columns field ≡ true) × (list_all (stands_in columns) fields ≡ true) = both _ _ all in
+    let parts : (stands_in columns field ≡ true) × (list_all (stands_in columns) fields ≡ true) = and_parts _ _ all in
     elim (nat_cmp id field.0) as (λ o. nat_cmp id field.0 ≡ o → list_all (stands_in columns) (by_order o ((id, values) ∷ field ∷ fields) ((field.0, values) ∷ fields) (field ∷ put_entry nat_cmp id values fields)) ≡ true) [
-      | Less ↦ λ e. joined (stands_in columns (id, values)) (list_all (stands_in columns) (field ∷ fields)) one all
+      | Less ↦ λ e. and_from (stands_in columns (id, values)) (list_all (stands_in columns) (field ∷ fields)) one all
       | Equal ↦ λ e. let same : id ≡ field.0 = nat_cmp-IsAntisymmetric id field.0 e in
-          joined (stands_in columns (field.0, values)) (list_all (stands_in columns) fields) (rw (← same) one) parts.1
-      | Greater ↦ λ e. joined (stands_in columns field) (list_all (stands_in columns) (put_entry nat_cmp id values fields)) parts.0 (all_put columns id values fields parts.1 one)
+          and_from (stands_in columns (field.0, values)) (list_all (stands_in columns) fields) (rw (← same) one) parts.1
+      | Greater ↦ λ e. and_from (stands_in columns field) (list_all (stands_in columns) (put_entry nat_cmp id values fields)) parts.0 (all_put columns id values fields parts.1 one)
     ] refl
 
 -- a record with other values that stand in their column
@@ -148,25 +138,25 @@ takes_zero columns column = stands_in columns (column.id.0, zero_values)
 all_zeros : (columns sums : List Column) (fields : RecordFields) → list_all (takes_zero columns) sums ≡ true → list_all (stands_in columns) fields ≡ true → list_all (stands_in columns) (with_zeros fields sums) ≡ true
 all_zeros columns [] fields each all = all
 all_zeros columns (sum ∷ sums) fields each all =
-    let parts : (takes_zero columns sum ≡ true) × (list_all (takes_zero columns) sums ≡ true) = both _ _ each in
+    let parts : (takes_zero columns sum ≡ true) × (list_all (takes_zero columns) sums ≡ true) = and_parts _ _ each in
     all_zeros columns sums (with_values fields sum.id.0 zero_values) parts.1 (all_with_values columns fields sum.id.0 zero_values all parts.0)
 
 -- one column more, of another number
 below_one_more : (x : Column) (columns sums : List Column) → list_all (takes_zero columns) sums ≡ true → list_any (λ other. other == x.id.0) (map number_of_column sums) ≡ false → list_all (takes_zero (x ∷ columns)) sums ≡ true
 below_one_more x columns [] each none = refl
 below_one_more x columns (sum ∷ sums) each none =
-    let parts : (takes_zero columns sum ≡ true) × (list_all (takes_zero columns) sums ≡ true) = both _ _ each in
-    let apart : ((sum.id.0 == x.id.0) ≡ false) × (list_any (λ other. other == x.id.0) (map number_of_column sums) ≡ false) = neither _ _ none in
-    let other : (x.id.0 == sum.id.0) ≡ false = turned sum.id.0 x.id.0 apart.0 in
+    let parts : (takes_zero columns sum ≡ true) × (list_all (takes_zero columns) sums ≡ true) = and_parts _ _ each in
+    let apart : ((sum.id.0 == x.id.0) ≡ false) × (list_any (λ other. other == x.id.0) (map number_of_column sums) ≡ false) = or_parts _ _ none in
+    let other : (x.id.0 == sum.id.0) ≡ false = unequal_turned sum.id.0 x.id.0 apart.0 in
     let past : column_of_id (x ∷ columns) sum.id.0 ≡ column_of_id columns sum.id.0 = ap (λ b. cond b (Some x) (column_of_id columns sum.id.0)) other in
-    joined (takes_zero (x ∷ columns) sum) (list_all (takes_zero (x ∷ columns)) sums)
+    and_from (takes_zero (x ∷ columns) sum) (list_all (takes_zero (x ∷ columns)) sums)
     (taken (x ∷ columns) (sum.id.0, zero_values) (column_of_id columns sum.id.0) past ∙ parts.0)
     (below_one_more x columns sums parts.1 apart.1)
 
 any_filtered : (number : ℕ) (columns : List Column) → list_any (λ other. other == number) (map number_of_column columns) ≡ false → list_any (λ other. other == number) (map number_of_column (filter is_sum columns)) ≡ false
 any_filtered number [] none = refl
 any_filtered number (x ∷ xs) none =
-    let parts : ((x.id.0 == number) ≡ false) × (list_any (λ other. other == number) (map number_of_column xs) ≡ false) = neither _ _ none in
+    let parts : ((x.id.0 == number) ≡ false) × (list_any (λ other. other == number) (map number_of_column xs) ≡ false) = or_parts _ _ none in
     elim (is_sum x) as (λ b. list_any (λ other. other == number) (map number_of_column (cond b (x ∷ filter is_sum xs) (filter is_sum xs))) ≡ false) [
       | true ↦ rw parts.0 (any_filtered number xs parts.1)
       | false ↦ any_filtered number xs parts.1
@@ -177,17 +167,17 @@ takes_its_zero x columns long sum =
     let kind : is_type_long x.kind ≡ true = rw sum at long in
     let zero : value_fits x.kind (0 ∷ 0 ∷ 0 ∷ 0 ∷ []) ≡ true = value_fits-zero x.kind kind in
     let fit : values_fit x zero_values ≡ true = rw zero (elim x.multi as (λ b. ((b || true) && true) ≡ true) [ true ↦ refl | false ↦ refl ]) in
-    stands-in (x ∷ columns) x.id.0 x zero_values (rw (number_is_itself x.id.0) refl) fit
+    stands-in (x ∷ columns) x.id.0 x zero_values (rw (self_equal x.id.0) refl) fit
 
 sums_take_zero : (columns : List Column) → are_distinct (map number_of_column columns) ≡ true → list_all is_long_if_sum columns ≡ true → list_all (takes_zero columns) (filter is_sum columns) ≡ true
 sums_take_zero [] distinct long = refl
 sums_take_zero (x ∷ xs) distinct long =
-    let parts : (not (list_any (λ other. other == x.id.0) (map number_of_column xs)) ≡ true) × (are_distinct (map number_of_column xs) ≡ true) = both _ _ distinct in
-    let longs : (is_long_if_sum x ≡ true) × (list_all is_long_if_sum xs ≡ true) = both _ _ long in
+    let parts : (not (list_any (λ other. other == x.id.0) (map number_of_column xs)) ≡ true) × (are_distinct (map number_of_column xs) ≡ true) = and_parts _ _ distinct in
+    let longs : (is_long_if_sum x ≡ true) × (list_all is_long_if_sum xs ≡ true) = and_parts _ _ long in
     let rest : list_all (takes_zero (x ∷ xs)) (filter is_sum xs) ≡ true =
-    below_one_more x xs (filter is_sum xs) (sums_take_zero xs parts.1 longs.1) (any_filtered x.id.0 xs (denied _ parts.0)) in
+    below_one_more x xs (filter is_sum xs) (sums_take_zero xs parts.1 longs.1) (any_filtered x.id.0 xs (not-true _ parts.0)) in
     elim (is_sum x) as (λ b. is_sum x ≡ b → list_all (takes_zero (x ∷ xs)) (cond b (x ∷ filter is_sum xs) (filter is_sum xs)) ≡ true) [
-      | true ↦ λ e. joined (takes_zero (x ∷ xs) x) (list_all (takes_zero (x ∷ xs)) (filter is_sum xs)) (takes_its_zero x xs longs.0 e) rest
+      | true ↦ λ e. and_from (takes_zero (x ∷ xs) x) (list_all (takes_zero (x ∷ xs)) (filter is_sum xs)) (takes_its_zero x xs longs.0 e) rest
       | false ↦ λ e. rest
     ] refl
 
@@ -206,13 +196,6 @@ pub sums_at_zero-small : (columns : List Column) → length (filter is_sum colum
 sums_at_zero-small columns few = let size = size_zeros (filter is_sum columns) [] in omega (arith, size)
 
 -- ---- one value of a column
-
-pub all_at : {X : Type 0} (p : X → Bool) (xs : List X) (i : ℕ) (x : X) → list_all p xs ≡ true → slice_get xs i ≡ Some x → p x ≡ true
-all_at p [] i x all found = cc
-all_at p (y ∷ ys) zero x all found =
-    let parts : (p y ≡ true) × (list_all p ys ≡ true) = both _ _ all in let same : y ≡ x = cc in rw (← same) parts.0
-all_at p (y ∷ ys) (suc i) x all found =
-    let parts : (p y ≡ true) × (list_all p ys ≡ true) = both _ _ all in all_at p ys i x parts.1 found
 
 pub any_numbers : (number : ℕ) (columns : List Column) → list_any (λ other. other == number) (map number_of_column columns) ≡ list_any (λ column. column.id.0 == number) columns
 any_numbers number [] = refl

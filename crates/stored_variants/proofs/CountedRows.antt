@@ -6,7 +6,8 @@ use Rattle.std.specs.Ordering.{is_eq, nat_cmp}
 use Rattle.std.specs.Cmp.Lexicographic.{nat_list_cmp_total, slice_cmp, texts_ties}
 use Rattle.std.specs.declared.cmp.Ordering.TheVariants.{Equal}
 use Rattle.std.specs.FinMap.Entries.{below_all, find-put, find-where_key, is_sorted, is_sorted-put, is_sorted-where_key, same_entries}
-use Rattle.common_lemmas.proofs.Booleans.{is_true}
+use Rattle.common_lemmas.proofs.Booleans.{and_left, and_right, impossible, is_true}
+use Rattle.common_lemmas.proofs.Numbers.{bytes_turned, same_bytes, self_equal}
 use Rattle.column_set.specs.RecordValues.{bytes_lt, lookup_by_key}
 use Rattle.column_set.specs.RowReading.{row_in}
 use Rattle.column_set.specs.Rows.{RowFields}
@@ -15,13 +16,12 @@ use Rattle.cursor_nav.specs.Places.{are_sorted, pair_lt}
 use Rattle.database_state.specs.State.{undone}
 use Rattle.long_references.specs.ReferenceCounts.{AreRows, NewestRows, RowBefore, as_undone, with_row}
 use Rattle.page_image.specs.Page.{Node}
-use Rattle.record_changes.proofs.Tests.{and_left, and_right, impossible, same_bytes, self_equal}
 use Rattle.table_trees.specs.StoredNodes.{bookmark_entries}
 use Rattle.version_store.specs.HeldChanges.{HeldChange, undone_at, with_status}
 use Rattle.versioned_tables.proofs.Neighbours.{IsIn}
 use Rattle.stored_variants.specs.CountedValues.{newest_rows, row_before, rows_before, with_own_row}
 use Rattle.stored_variants.specs.RecordRows.{row_in_node, row_under}
-use Rattle.stored_variants.proofs.NodeRecords.{key_is, none_behind, same_test, turned}
+use Rattle.stored_variants.proofs.NodeRecords.{key_is, none_behind, same_test}
 
 -- ---- the row under a bookmark
 
@@ -91,14 +91,14 @@ rise_with key (Some row) rows rise = is_sorted-put (slice_cmp nat_cmp) nat_list_
 at_with : (key own : List ℕ) (row : Option RowFields) (rows : NewestRows) → lookup_by_key own (with_row key row rows) ≡ cond (bytes_eq key own) row (lookup_by_key own rows)
 at_with key own None rows =
     find-where_key (slice_cmp nat_cmp) (λ k. not (bytes_eq k key)) own (λ x e. ap (λ k. not (bytes_eq k key)) (sym (equal_keys own x e))) rows
-    ∙ ap (λ b. cond (not b) (lookup_by_key own rows) None) (turned own key) ∙ by (bytes_eq key own)
+    ∙ ap (λ b. cond (not b) (lookup_by_key own rows) None) (bytes_turned own key) ∙ by (bytes_eq key own)
   where
     by : (b : Bool) → cond (not b) (lookup_by_key own rows) None ≡ cond b None (lookup_by_key own rows)
     by true = refl
     by false = refl
 at_with key own (Some row) rows =
     find-put (slice_cmp nat_cmp) nat_list_cmp_total own key row rows
-    ∙ sym (ap (λ t. cond t (Some row) (lookup_by_key own rows)) (turned key own ∙ texts_ties own key))
+    ∙ sym (ap (λ t. cond t (Some row) (lookup_by_key own rows)) (bytes_turned key own ∙ texts_ties own key))
 
 -- nodes with another row under one bookmark, or none
 pub newest_with : (one other : List Node) (key : List ℕ) (row : Option (List ℕ)) → are_sorted (bookmark_entries one) ≡ true → are_sorted (bookmark_entries other) ≡ true

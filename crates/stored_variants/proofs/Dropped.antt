@@ -5,13 +5,15 @@ use Rattle.btree_inplace.specs.Changes.{with_data_at}
 use Rattle.btree_inplace.specs.Order.{extent_in, get_in, has_key}
 use Rattle.database_state.specs.Table.{Table, table_with_id, without_row}
 use Rattle.page_image.specs.Page.{Node}
-use Rattle.record_changes.proofs.Tests.{impossible, same_number, self_equal}
 use Rattle.table_trees.specs.StoredNodes.{put_data, IsShortNode}
 use Rattle.table_trees.specs.StoredTables.{StoredTable, has_table, is_table, put_nodes, table_indexes, table_long_values, table_nodes, with_nodes}
 use Rattle.stored_variants.specs.RecordRows.{row_in_node, row_under, record_of, rows_of_nodes, with_record}
 use Rattle.stored_variants.specs.VersionsKept.{needed_trees, tree_numbers}
 use Rattle.std.specs.Cmp.Lexicographic.{texts_ties}
 use Rattle.std.proofs.lemmas.List.Elements.{All-head, All-tail}
+use Rattle.std.proofs.lemmas.Bool.{eqb-true}
+use Rattle.common_lemmas.proofs.Numbers.{self_equal}
+use Rattle.common_lemmas.proofs.Booleans.{impossible}
 use Rattle.long_value.specs.Values.{Values}
 
 -- laws of tables and nodes
@@ -34,9 +36,9 @@ nodes_are laws trees id bookmark there other = by (id == other) refl
   where
     by : (b : Bool) → (id == other) ≡ b → table_nodes (emptied trees id bookmark) other ≡ cond b (with_data_at (table_nodes trees other) bookmark []) (table_nodes trees other)
     by true e =
-        ap (table_nodes (emptied trees id bookmark)) (sym (same_number id other e))
+        ap (table_nodes (emptied trees id bookmark)) (sym (eqb-true id other e))
         ∙ laws.named trees id (with_data_at (table_nodes trees id) bookmark []) there
-        ∙ ap (λ n. with_data_at (table_nodes trees n) bookmark []) (same_number id other e)
+        ∙ ap (λ n. with_data_at (table_nodes trees n) bookmark []) (eqb-true id other e)
     by false e =
         laws.others trees id other (with_data_at (table_nodes trees id) bookmark []) (λ same. impossible (sym e ∙ ap (λ n. n == other) (sym same) ∙ self_equal other))
 
@@ -135,14 +137,6 @@ room_in (n ∷ nodes) short own = by (has_key own n) (All-head IsShortNode n nod
         → IfSome (option_and_then row_in_node (option_map (λ (n : Node). n.data) (cond b (Some n) (find (has_key own) nodes)))) (λ row. IsSomeAnd (option_map (λ (n : Node). n.extent) (cond b (Some n) (find (has_key own) nodes))) (λ n. length row ≤ n))
     by true is rest = fits n.data n.extent is.row
     by false is rest = rest
-
-pub turned_number : (a b : ℕ) → (a == b) ≡ (b == a)
-turned_number a b = by (a == b) (b == a) refl refl
-  where
-    by : (x y : Bool) → (a == b) ≡ x → (b == a) ≡ y → (a == b) ≡ (b == a)
-    by true y e f = e ∙ sym (ap (λ n. n == a) (sym (same_number a b e)) ∙ self_equal a)
-    by false true e f = ap (λ n. n == b) (sym (same_number b a f)) ∙ self_equal b ∙ sym f
-    by false false e f = e ∙ sym f
 
 pub rows_emptied : (longs : Values) (bookmark : List ℕ) (nodes : List Node) → rows_of_nodes longs (with_data_at nodes bookmark []) ≡ without_row (rows_of_nodes longs nodes) bookmark
 rows_emptied longs bookmark [] = refl

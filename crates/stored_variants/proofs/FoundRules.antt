@@ -2,10 +2,11 @@
 use Rattle.std.proofs.Common.{◌≡◌, Bool, true, false, cond, List, [], ◌∷◌, Option, Some, find, ap, subst, ℕ, None, refl, sym, ◌∙◌, not, ◌&&◌, ◌||◌, map}
 use Rattle.std.specs.Prelude.{unwrap_or, ◌==◌}
 use Rattle.std.specs.List.{AllByRecursion, list_any}
+use Rattle.std.proofs.lemmas.Bool.{eqb-true}
+use Rattle.common_lemmas.proofs.Booleans.{impossible}
 use Rattle.database_state.specs.Table.{rule_with_id}
 use Rattle.index_derive.specs.declared.rules.IndexRule.{IndexRule}
 use Rattle.index_derive.specs.declared.rules.Schema.{Schema}
-use Rattle.record_changes.proofs.Tests.{same_number, impossible}
 use Rattle.stored_variants.specs.VersionsKept.{only_secondary}
 use Rattle.column_set.specs.RecordValues.{RecordFields}
 use Rattle.database_state.specs.Conflicts.{yields_key}
@@ -17,7 +18,7 @@ found_rule index [] rule e = cc
 found_rule index (r ∷ rules) rule e = by (r.id.0 == index) refl e (found_rule index rules rule)
   where
     by : (b : Bool) → (r.id.0 == index) ≡ b → cond b (Some r) (find (λ (r : IndexRule). r.id.0 == index) rules) ≡ Some rule → (find (λ (r : IndexRule). r.id.0 == index) rules ≡ Some rule → rule.id.0 ≡ index) → rule.id.0 ≡ index
-    by true h e rest = ap (λ (o : Option IndexRule). (unwrap_or o rule).id.0) (sym e) ∙ same_number r.id.0 index h
+    by true h e rest = ap (λ (o : Option IndexRule). (unwrap_or o rule).id.0) (sym e) ∙ eqb-true r.id.0 index h
     by false h e rest = rest e
 
 pub secondary_found : (index : ℕ) (schema : Schema) (rule : IndexRule) → only_secondary (rule_with_id schema index) ≡ Some rule → (rule_with_id schema rule.id.0 ≡ Some rule) × (rule.id.0 ≡ index)
@@ -50,7 +51,7 @@ record_yields schema values (r ∷ rules) rule all found k e = by r.flags.primar
     by : (a b : Bool) → (r.id.0 == rule.id.0) ≡ b → (c : Bool) → yields_key r schema k (Some values) ≡ c → ((not a && (b && c)) || record_keys rules schema values rule.id.0 k) ≡ true
         → (record_keys rules schema values rule.id.0 k ≡ true → yields_key rule schema k (Some values) ≡ true) → yields_key rule schema k (Some values) ≡ true
     by false true e true y is rest =
-        subst (λ (x : IndexRule). yields_key x schema k (Some values) ≡ true) (same_rule r rule (sym all.0.found ∙ ap (rule_with_id schema) (same_number r.id.0 rule.id.0 e) ∙ found)) y
+        subst (λ (x : IndexRule). yields_key x schema k (Some values) ≡ true) (same_rule r rule (sym all.0.found ∙ ap (rule_with_id schema) (eqb-true r.id.0 rule.id.0 e) ∙ found)) y
     by false true e false y is rest = rest is
     by false false e c y is rest = rest is
     by true b e c y is rest = rest is

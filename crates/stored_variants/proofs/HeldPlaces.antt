@@ -3,9 +3,6 @@ use Rattle.std.proofs.Common.{◌≡◌, Some, ℕ, zero, suc, Bool, true, false
 use Rattle.std.specs.Prelude.{IsSomeAnd, slice_get}
 use Rattle.version_store.specs.HeldChanges.{HeldChange, last_place, later_place}
 
-pub same_some : {X : Type 0} (x y : X) → Some x ≡ Some y → x ≡ y
-same_some x y e = cc
-
 pub take_all : (held : List HeldChange) → take (length held) held ≡ held
 take_all [] = refl
 take_all (h ∷ held) = ap (λ hs. h ∷ hs) (take_all held)

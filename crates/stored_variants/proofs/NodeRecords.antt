@@ -5,31 +5,24 @@ use Rattle.std.specs.Prelude.{◌==◌, bytes_eq, option_and_then}
 use Rattle.std.specs.List.{list_all}
 use Rattle.std.specs.Ordering.{eq_by_cmp, nat_cmp, is_eq}
 use Rattle.std.specs.Cmp.Lexicographic.{slice_cmp, texts_ties}
+use Rattle.std.proofs.lemmas.Bool.{false_from_ne_true}
 use Rattle.page_image.specs.Page.{Node}
 use Rattle.btree_inplace.specs.Order.{get_in, has_key}
 use Rattle.column_set.specs.RecordValues.{bytes_lt}
 use Rattle.cursor_nav.specs.Places.{are_sorted, pair_lt}
 use Rattle.database_state.specs.Table.{row_at}
-use Rattle.common_lemmas.proofs.Orders.{less-irreflexive}
-use Rattle.record_changes.proofs.Tests.{and_left, and_right, equal_bytes, impossible, refuted, same_bytes}
+use Rattle.common_lemmas.proofs.Orders.{is_less, less-irreflexive}
+use Rattle.common_lemmas.proofs.Booleans.{and_left, and_right, impossible}
+use Rattle.common_lemmas.proofs.Numbers.{bytes_turned, same_bytes}
 use Rattle.table_trees.specs.StoredNodes.{bookmark_entries}
 use Rattle.stored_variants.specs.RecordRows.{record_of, row_in_node, row_under, rows_of_nodes, with_record}
-use Rattle.versioned_tables.proofs.Order.{is_less}
 use Rattle.long_value.specs.Values.{Values}
 
 -- ---- tests of bookmarks
 
-pub turned : (a b : List ℕ) → bytes_eq a b ≡ bytes_eq b a
-turned a b = by (bytes_eq a b) (bytes_eq b a) refl refl
-  where
-    by : (x y : Bool) → bytes_eq a b ≡ x → bytes_eq b a ≡ y → bytes_eq a b ≡ bytes_eq b a
-    by true y e f = e ∙ sym (equal_bytes b a (sym (same_bytes a b e)))
-    by false true e f = equal_bytes a b (sym (same_bytes b a f)) ∙ sym f
-    by false false e f = e ∙ sym f
-
 -- the test of a node and that of a record are one
 pub same_test : (bookmark key : List ℕ) → is_eq (slice_cmp nat_cmp key bookmark) ≡ eq_by_cmp (slice_cmp nat_cmp) bookmark key
-same_test bookmark key = sym (texts_ties key bookmark) ∙ turned key bookmark ∙ texts_ties bookmark key
+same_test bookmark key = sym (texts_ties key bookmark) ∙ bytes_turned key bookmark ∙ texts_ties bookmark key
 
 pub key_is : (key bookmark : List ℕ) → is_eq (slice_cmp nat_cmp key bookmark) ≡ true → key ≡ bookmark
 key_is key bookmark e = same_bytes key bookmark (texts_ties key bookmark ∙ e)
@@ -53,7 +46,7 @@ none_behind key bookmark (n ∷ nodes) same low =
     ∙ none_behind key bookmark nodes same (and_right (pair_lt (key, key) (n.key, n.key)) _ low)
   where
     other : has_key bookmark n ≡ false
-    other = refuted (has_key bookmark n) (λ e. apart key n.key (and_left (pair_lt (key, key) (n.key, n.key)) _ low) (same ∙ sym (key_is n.key bookmark e)))
+    other = false_from_ne_true (has_key bookmark n) (λ e. apart key n.key (and_left (pair_lt (key, key) (n.key, n.key)) _ low) (same ∙ sym (key_is n.key bookmark e)))
 
 -- the newest record under a bookmark is the one of its row
 pub record_at : (longs : Values) (nodes : List Node) → are_sorted (bookmark_entries nodes) ≡ true → (bookmark : List ℕ) → row_at (rows_of_nodes longs nodes) bookmark ≡ option_map (record_of longs) (row_under nodes bookmark)

@@ -3,12 +3,14 @@ use Rattle.std.proofs.Common.{◌≡◌, ℕ, ◌<◌, Bool, true, false, inl, i
 use Rattle.std.specs.Prelude.{bytes_eq}
 use Rattle.std.specs.List.{list_all}
 use Rattle.std.specs.Cmp.Lexicographic.{texts_ties}
+use Rattle.std.proofs.lemmas.Bool.{false_from_ne_true}
+use Rattle.common_lemmas.proofs.Booleans.{and_left, and_right, impossible}
 use Rattle.page_image.specs.Page.{Node}
 use Rattle.btree_inplace.specs.Order.{has_key, key_and_data}
 use Rattle.index_derive.specs.declared.entries.Place.{Place}
 use Rattle.index_derive.specs.declared.entries.Place.TheVariants.{On}
 use Rattle.cursor_nav.specs.Places.{Pair, are_sorted, is_beyond, pair_lt}
-use Rattle.record_changes.proofs.Tests.{and_left, and_right, equal_bytes, impossible, refuted}
+use Rattle.record_changes.proofs.Tests.{equal_bytes}
 use Rattle.table_trees.specs.StoredNodes.{bookmark_entries, node_after}
 use Rattle.versioned_tables.proofs.Neighbours.{IsIn, all_in, fewer, found_in}
 use Rattle.stored_variants.proofs.NodeRecords.{apart, key_is}
@@ -78,7 +80,7 @@ next_is_there place (x ∷ nodes) n sorted e = by (is_node_past place x) refl e 
         let same : x ≡ n = ap node_or e in
         ap (λ b. cond b (Some x) (find (has_key n.key) nodes)) (has_own_key x n.key (ap (λ (m : Node). m.key) same)) ∙ ap (λ (m : Node). Some m) same
     by false f e rest =
-        let other : has_key n.key x ≡ false = refuted (has_key n.key x) (λ same. apart x.key n.key (below x n nodes low (found_in (is_node_past place) n nodes e).0) (key_is x.key n.key same)) in
+        let other : has_key n.key x ≡ false = false_from_ne_true (has_key n.key x) (λ same. apart x.key n.key (below x n nodes low (found_in (is_node_past place) n nodes e).0) (key_is x.key n.key same)) in
         ap (λ b. cond b (Some x) (find (has_key n.key) nodes)) other ∙ rest e
 
 -- another bookmark of a node lies beyond the place just where it lies beyond the node that is found

@@ -5,10 +5,10 @@ use Rattle.std.specs.List.{list_all}
 use Rattle.std.specs.Ordering.{nat_cmp}
 use Rattle.std.specs.Cmp.Lexicographic.{slice_cmp}
 use Rattle.std.specs.FinMap.Entries.{below_all}
+use Rattle.common_lemmas.proofs.Booleans.{and_left, and_right, impossible}
 use Rattle.column_set.specs.RecordValues.{bytes_lt}
 use Rattle.cursor_nav.specs.Places.{are_sorted, pair_lt}
 use Rattle.page_image.specs.Page.{Node}
-use Rattle.record_changes.proofs.Tests.{and_left, and_right, impossible}
 use Rattle.table_trees.specs.StoredNodes.{bookmark_entries}
 use Rattle.versioned_tables.specs.Holding.{RowsRise}
 use Rattle.stored_variants.specs.RecordRows.{row_in_node, rows_of_nodes, with_record}

@@ -6,6 +6,7 @@ use Rattle.std.specs.Ordering.{is_eq, nat_cmp}
 use Rattle.std.specs.Cmp.Lexicographic.{nat_list_cmp_total, slice_cmp, texts_ties}
 use Rattle.std.specs.declared.cmp.Ordering.TheVariants.{Equal}
 use Rattle.std.specs.FinMap.Entries.{same_entries}
+use Rattle.common_lemmas.proofs.Numbers.{same_bytes}
 use Rattle.btree_inplace.specs.Order.{extent_in}
 use Rattle.column_set.specs.RecordValues.{RecordFields, record_fits}
 use Rattle.column_set.specs.RowReading.{row_in}
@@ -16,7 +17,6 @@ use Rattle.index_derive.specs.declared.rules.IndexRule.{IndexRule}
 use Rattle.long_rows.specs.WholeRows.{is_whole}
 use Rattle.long_value.specs.Values.{Values}
 use Rattle.page_image.specs.Page.{Node}
-use Rattle.record_changes.proofs.Tests.{same_bytes}
 use Rattle.table_trees.specs.StoredNodes.{bookmark_entries}
 use Rattle.table_trees.specs.StoredTables.{StoredIndex, StoredTable, index_entries, is_index, part_of, table_indexes, table_nodes}
 use Rattle.version_store.specs.HeldChanges.{HeldChange, is_standing}

@@ -1,10 +1,10 @@
 -- The tables of the catalog beside their trees.
 use Rattle.std.proofs.Common.{◌≡◌, ℕ, Bool, true, false, cond, List, [], ◌∷◌, Option, Some, None, find, map, option_map, refl, sym, ap, subst, ◌∙◌}
 use Rattle.std.specs.Prelude.{◌==◌, bytes_eq, IfSome, unwrap_or}
+use Rattle.std.proofs.lemmas.Bool.{eqb-true}
 use Rattle.cursor_nav.specs.Places.{are_sorted}
 use Rattle.database_state.specs.Table.{Table, record_in, row_at, rows_of, table_named, table_with_id, with_table}
 use Rattle.jet_catalog.specs.Catalog.{without_rows}
-use Rattle.record_changes.proofs.Tests.{same_number}
 use Rattle.table_trees.specs.StoredNodes.{bookmark_entries}
 use Rattle.table_trees.specs.StoredTables.{StoredTable, is_table, table_nodes}
 use Rattle.version_store.specs.HeldChanges.{HeldChange}
@@ -22,7 +22,7 @@ found_number id [] t e = cc
 found_number id (x ∷ tables) t e = by (x.id == id) refl (found_number id tables t) e
   where
     by : (b : Bool) → (x.id == id) ≡ b → (table_with_id tables id ≡ Some t → t.id ≡ id) → cond b (Some x) (table_with_id tables id) ≡ Some t → t.id ≡ id
-    by true h rest e = ap (λ o. id_or o) (sym e) ∙ same_number x.id id h
+    by true h rest e = ap (λ o. id_or o) (sym e) ∙ eqb-true x.id id h
       where
         id_or : Option Table → ℕ
         id_or None = 0

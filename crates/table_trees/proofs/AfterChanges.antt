@@ -4,9 +4,8 @@ use Rattle.std.specs.Prelude.{unwrap_or}
 use Rattle.std.specs.List.{list_any}
 use Rattle.std.proofs.lemmas.Bool.{eqb-true}
 use Rattle.std.proofs.lemmas.List.Folds.{list_any-append}
-use Rattle.common_lemmas.proofs.Booleans.{and_false, or_false}
+use Rattle.common_lemmas.proofs.Booleans.{and_false, by_test, or_false}
 use Rattle.table_trees.specs.StoredTables.{StoredIndex, StoredTable, changed_where, has_index, has_table, is_index, is_table, part_of, put_indexes, table_indexes, with_indexes, without_where}
-use Rattle.table_trees.proofs.Pages.{by_test}
 use Rattle.table_trees.proofs.Lookups.{changed_nowhere, found_nowhere, none_passes}
 
 -- what is at one place or the next

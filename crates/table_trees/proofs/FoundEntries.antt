@@ -3,10 +3,10 @@ use Rattle.std.proofs.Common.{◌≡◌, ◌≤◌, Bool, List, [], ◌∷◌, l
 use Rattle.std.specs.Prelude.{All, IfSome}
 use Rattle.std.specs.List.{last_or}
 use Rattle.std.proofs.lemmas.List.Elements.{All-head, All-tail}
+use Rattle.common_lemmas.proofs.Booleans.{by_test}
 use Rattle.index_derive.specs.declared.entries.Place.{Place}
 use Rattle.cursor_nav.specs.Places.{Pair, entry_after, entry_before, is_beyond, is_short_of}
 use Rattle.index_tree.specs.Entries.{IsShort}
-use Rattle.table_trees.proofs.Pages.{by_test}
 
 found_short : (test : Pair → Bool) (entries : List Pair) → All IsShort entries → IfSome (find test entries) IsShort
 found_short test [] h = tt

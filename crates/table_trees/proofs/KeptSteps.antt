@@ -2,6 +2,7 @@
 use Rattle.std.proofs.Common.{◌≡◌, ℕ, suc, ◌+◌, ◌-◌, ◌==◌, Bool, Option, Some, None, List, [], ◌∷◌, get_or, map, find, option_map, unwrap_or, sym, ap, subst, ◌∙◌, arith}
 use Rattle.std.specs.Prelude.{count_by}
 use Rattle.std.specs.List.{flat_map, position_from}
+use Rattle.common_lemmas.proofs.Booleans.{by_test}
 use Rattle.index_derive.specs.declared.schema_calls.SchemaStep.{SchemaStep}
 use Rattle.jet_catalog.specs.Catalog.{CatalogState}
 use Rattle.page_image.specs.Page.{Node}
@@ -18,7 +19,7 @@ use Rattle.table_trees.specs.declared.table.Table.{Table}
 use Rattle.table_trees.specs.declared.table.TableIndex.{TableIndex}
 use Rattle.table_trees.proofs.Lookups.{count-map, found_nowhere, placed, placed_nowhere}
 use Rattle.table_trees.proofs.Members.{all_stay}
-use Rattle.table_trees.proofs.Pages.{by_test, copies-append}
+use Rattle.table_trees.proofs.Pages.{copies-append}
 use Rattle.table_trees.proofs.StoreChanges.{TablesStay, catalog_same, is_named, stored_trees, tables_same}
 
 -- ---- the roots of a table

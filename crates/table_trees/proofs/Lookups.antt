@@ -3,8 +3,9 @@ use Rattle.std.proofs.Common.{◌≡◌, ℕ, zero, suc, ◌+◌, ◌-◌, ◌<�
 use Rattle.std.specs.Prelude.{count_by, is_some}
 use Rattle.std.specs.List.{list_any, position_from}
 use Rattle.std.proofs.lemmas.List.Sums.{sum_by-append, sum_by-cons}
+use Rattle.common_lemmas.proofs.Booleans.{by_test}
 use Rattle.table_trees.specs.StoredTables.{changed_where, without_where}
-use Rattle.table_trees.proofs.Pages.{by_test, one_if}
+use Rattle.table_trees.proofs.Pages.{one_if}
 
 -- ---- how many pass
 

@@ -1,6 +1,7 @@
 -- What a new table, column or index is to the catalog's tree: its item can be written, with the roots of trees that stand.
 use Rattle.std.proofs.Common.{◌≡◌, ℕ, ◌==◌, ◌<◌, ◌^◌, Some, List, [], ◌∷◌, sym, ap, subst, ◌∙◌}
 use Rattle.std.proofs.lemmas.Bool.{and_from, eqb-true, lt-ltb}
+use Rattle.common_lemmas.proofs.Booleans.{by_test}
 use Rattle.jet_base.specs.declared.ids.TableId.{TableId}
 use Rattle.column_set.specs.declared.columns.Column.{Column}
 use Rattle.index_derive.specs.declared.rules.IndexRule.{IndexRule}
@@ -9,7 +10,6 @@ use Rattle.jet_catalog.specs.Catalog.{CatalogState}
 use Rattle.catalog_changes.specs.CatalogSteps.{Roots}
 use Rattle.catalog_tree.specs.CatalogsKept.{TakesColumn, TakesIndex, TakesTable}
 use Rattle.table_trees.specs.ShownCatalogs.{IsNewColumn, IsNewIndex, IsNewTable}
-use Rattle.table_trees.proofs.Pages.{by_test}
 
 pub takes_table : (roots : Roots) (catalog : CatalogState) (table : TableId) (name : List ℕ) (records long_values : ℕ) → IsNewTable catalog table name → table.0 < 2 ^ 32 → records < 2 ^ 32 → long_values < 2 ^ 32
     → (roots table.0).records ≡ records → (roots table.0).long_values ≡ long_values → TakesTable roots catalog table name records long_values

@@ -11,8 +11,9 @@ use Rattle.std.specs.Ordering.{is_eq, is_lt, ordering_reverse}
 use Rattle.std.specs.Cmp.Lexicographic.{nat_list_cmp_total}
 use Rattle.std.specs.FinMap.Entries.{by_order, below_all, is_sorted, is_sorted-put}
 use Rattle.std.proofs.lemmas.Bool.{and_from}
-use Rattle.common_lemmas.proofs.Booleans.{and_left, and_right}
+use Rattle.common_lemmas.proofs.Booleans.{and_left, and_right, by_test}
 use Rattle.common_lemmas.proofs.Orders.{is_equal}
+use Rattle.common_lemmas.proofs.Finding.{find_map, find_reverse, last_map}
 use Rattle.page_image.specs.Page.{Node}
 use Rattle.page_space.specs.Frames.{Frames}
 use Rattle.btree_inplace.specs.Changes.{inserted, inserted_if_absent, without_key}
@@ -27,8 +28,7 @@ use Rattle.table_trees.specs.StoredNodes.{IsShortNode, bookmark_entries, node_af
 use Rattle.table_trees.specs.NodeTrees.{NodesBecome, node_root}
 use Rattle.table_trees.specs.declared.nodes.NodeTree.{NodeTree}
 use Rattle.table_trees.proofs.BookmarkOrder.{order, own_pairs_rise, same_either_way}
-use Rattle.table_trees.proofs.Finding.{find_map, find_reverse, last_map}
-use Rattle.table_trees.proofs.Pages.{by_test, rearranged}
+use Rattle.table_trees.proofs.Pages.{rearranged}
 
 -- ---- equal bookmarks
 

@@ -4,6 +4,7 @@ use Rattle.std.specs.Prelude.{All, IfSome, nat_lt}
 use Rattle.std.specs.List.{list_any}
 use Rattle.std.proofs.lemmas.Bool.{and_parts, eq-eqb, eqb-true}
 use Rattle.std.proofs.lemmas.List.Elements.{All-cons, All-nil}
+use Rattle.common_lemmas.proofs.Booleans.{by_test}
 use Rattle.database_state.specs.Table.{Table, table_with_id}
 use Rattle.jet_catalog.specs.Catalog.{CatalogState}
 use Rattle.catalog_grammar.specs.Catalogs.{TableRoots, rise_above}
@@ -14,7 +15,6 @@ use Rattle.catalog_changes.proofs.StepNodes.{table_numbers}
 use Rattle.table_trees.specs.StoredTables.{changed_where, without_where}
 use Rattle.table_trees.specs.StoredTrees.{StoredCatalog, StoredRoots, are_roots_of, new_roots, no_roots, put_roots, root_behind, roots_by_number, told_roots, with_index_root, with_root_of, with_table_roots, without_index_root, without_root_of, without_table_roots}
 use Rattle.table_trees.specs.ShownCatalogs.{ShowsCatalog}
-use Rattle.table_trees.proofs.Pages.{by_test}
 
 -- what the law of the catalog says
 pub record OthersDoNotCount : Type 0 where

@@ -3,14 +3,11 @@ use Rattle.std.proofs.Common.{◌≡◌, ◌≢◌, ℕ, zero, suc, ◌+◌, ◌
 use Rattle.std.specs.Prelude.{AllPairs, Contains, is_some}
 use Rattle.std.proofs.lemmas.Bool.{eqb-true}
 use Rattle.std.proofs.lemmas.List.Sums.{sum_by-append, sum_by-cons}
+use Rattle.common_lemmas.proofs.Booleans.{by_test}
 use Rattle.page_image.specs.Page.{PageContents}
 use Rattle.page_space.specs.Frames.{Frames, IsTaken, page_at}
 use Rattle.btree_inplace.specs.Trees.{AreApart, Exchanges}
 use Rattle.table_trees.specs.Pages.{AreOwn, Rearranges, copies, times_taken}
-
-pub by_test : {P : Type 0} (b : Bool) → (b ≡ true → P) → (b ≡ false → P) → P
-by_test true f g = f refl
-by_test false f g = g refl
 
 pub none_or_some : (n : ℕ) → (n ≡ 0) ⊎ (0 < n)
 none_or_some zero = inl refl

@@ -4,9 +4,9 @@ use Rattle.std.specs.Prelude.{All, count_by, is_some, unwrap_or}
 use Rattle.std.specs.List.{list_any, position_from}
 use Rattle.std.proofs.lemmas.List.{get_or-map, length-map}
 use Rattle.std.proofs.lemmas.List.Elements.{All-head, All-tail}
+use Rattle.common_lemmas.proofs.Booleans.{by_test}
 use Rattle.page_space.specs.Frames.{Frames}
 use Rattle.table_trees.specs.StoredTables.{changed_where, part_of, without_where}
-use Rattle.table_trees.proofs.Pages.{by_test}
 use Rattle.table_trees.proofs.Lookups.{any-map, changed-only, count-append, count-map, count-no, count-yes, found_nowhere, has_place, only, placed, placed_nowhere, without-only}
 use Rattle.table_trees.proofs.Members.{OneChanges, Steps}
 

@@ -3,6 +3,7 @@ use Rattle.std.proofs.Common.{◌≡◌, ℕ, ◌≤◌, ◌==◌, Bool, false, 
 use Rattle.std.specs.Prelude.{count_by, remove}
 use Rattle.std.specs.List.{flat_map, position_from}
 use Rattle.std.proofs.lemmas.Bool.{eqb-true}
+use Rattle.common_lemmas.proofs.Booleans.{by_test}
 use Rattle.page_image.specs.Page.{Node}
 use Rattle.page_space.specs.Frames.{Frames}
 use Rattle.cursor_nav.specs.Places.{Pair}
@@ -21,7 +22,7 @@ use Rattle.table_trees.specs.declared.catalog.KeptCatalog.{KeptCatalog}
 use Rattle.table_trees.specs.declared.long_values.LongTree.{LongTree}
 use Rattle.table_trees.specs.declared.nodes.NodeTree.{NodeTree}
 use Rattle.table_trees.specs.declared.table.Table.{Table}
-use Rattle.table_trees.proofs.Pages.{by_test, copies-append}
+use Rattle.table_trees.proofs.Pages.{copies-append}
 use Rattle.table_trees.proofs.Lookups.{count-append, count-map, count-no, count-yes, none_passes}
 use Rattle.table_trees.proofs.Members.{AreBounded, OneChanges, Steps, all_stay, one_added, one_removed, one_set}
 use Rattle.table_trees.proofs.Places.{IsPlaced, count-added, count-without, found_no_part, found_part, none_shown, part_has, step_changed, step_removed, step_same}

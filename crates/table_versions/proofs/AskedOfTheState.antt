@@ -2,6 +2,8 @@
 use Rattle.std.proofs.Common.{◌≡◌, ℕ, true, not, ◌&&◌, List, [], ◌∷◌, Option, Some, None, filter, option_map, unwrap_or, refl, sym, ap, ◌∙◌}
 use Rattle.std.specs.Prelude.{bytes_eq, is_some, IsSomeAnd}
 use Rattle.std.specs.List.{AllByRecursion, list_any}
+use Rattle.common_lemmas.proofs.Lists.{all_weaker}
+use Rattle.common_lemmas.proofs.Booleans.{impossible}
 use Rattle.column_set.specs.RecordValues.{RecordFields}
 use Rattle.cursor_nav.specs.Places.{Pair}
 use Rattle.database_state.specs.Conflicts.{has_key_conflict as has_key_conflict_in, yields_key}
@@ -14,9 +16,7 @@ use Rattle.index_derive.specs.declared.rules.Schema.{Schema}
 use Rattle.index_derive.specs.Entries.{key_list}
 use Rattle.jet_base.specs.declared.replies.Jet.TheVariants as jet
 use Rattle.record_changes.specs.Records.{Records, records_of}
-use Rattle.record_changes.proofs.Tests.{impossible}
 use Rattle.version_history.specs.History.{without_rows}
-use Rattle.version_history.proofs.Lists.{all_weaker}
 use Rattle.version_history.proofs.Viewing.{same_there}
 use Rattle.version_keys.specs.KeySums.{HasKeyBefores, SeesNoSum}
 use Rattle.version_store.specs.declared.calls.Reader.{Reader}

@@ -1,6 +1,8 @@
 -- Changes of records keep the counts of long values.
 use Rattle.std.proofs.Common.{◌≡◌, ℕ, Bool, true, false, ◌&&◌, cond, List, [], ◌∷◌, ◌++◌, Option, None, map, option_map, refl, sym, ap, subst, ◌∙◌}
 use Rattle.std.specs.Prelude.{◌==◌, bytes_eq}
+use Rattle.std.proofs.lemmas.Bool.{eqb-true}
+use Rattle.common_lemmas.proofs.Numbers.{self_equal}
 use Rattle.column_set.specs.RecordValues.{lookup_by_key}
 use Rattle.column_set.specs.RowReading.{row_in}
 use Rattle.column_set.specs.Rows.{RowFields}
@@ -9,7 +11,6 @@ use Rattle.database_state.specs.State.{is_undone}
 use Rattle.long_references.specs.ReferenceCounts.{AreRows, HasCounts, NewestRows, RowBefore, reference_count, with_all_taken, with_change, with_row}
 use Rattle.long_references.specs.RowReferences.{identifiers}
 use Rattle.long_value.specs.Values.{Values}
-use Rattle.record_changes.proofs.Tests.{same_number, self_equal}
 use Rattle.table_trees.specs.StoredNodes.{bookmark_entries}
 use Rattle.table_trees.specs.StoredTables.{StoredTable, table_long_values, table_nodes}
 use Rattle.version_store.specs.HeldChanges.{HeldChange}
@@ -74,7 +75,7 @@ changed_counted law table bookmark row given old new changes sorted sorted_then 
             ∙ (λ i. record { bookmark = holds.at i; row = (ap (option_map row_in) holds.before ∙ sym (own_row (table_nodes old table) (sorted table) bookmark)) i; is_undone = holds.stands i } ∷ [])
 
     by : (b : Bool) → (table == other) ≡ b → HasCounts (table_long_values new other) (newest_rows (table_nodes new other)) (rows_before other (held ++ h ∷ []))
-    by true e = subst (λ (n : ℕ). HasCounts (table_long_values new n) (newest_rows (table_nodes new n)) (rows_before n (held ++ h ∷ []))) (same_number table other e) own
+    by true e = subst (λ (n : ℕ). HasCounts (table_long_values new n) (newest_rows (table_nodes new n)) (rows_before n (held ++ h ∷ []))) (eqb-true table other e) own
     by false e =
         counts_as (table_long_values old other) (table_long_values new other) (newest_rows (table_nodes old other)) (newest_rows (table_nodes new other)) (rows_before other held) (rows_before other (held ++ h ∷ []))
         (changes.values other ∙ ap (λ (b : Bool). cond b (with_all_taken given (table_long_values old table)) (table_long_values old other)) e)

@@ -3,6 +3,10 @@ use Rattle.std.proofs.Common.{◌≡◌, ℕ, ◌≤◌, Bool, true, false, ◌&
 use Rattle.std.specs.Prelude.{◌==◌, All, IfSome, IsSomeAnd, bytes_eq, is_some, option_and_then}
 use Rattle.std.specs.List.{AllByRecursion, list_any}
 use Rattle.std.proofs.lemmas.List.Folds.{list_any-append}
+use Rattle.std.proofs.lemmas.Bool.{eqb-true}
+use Rattle.common_lemmas.proofs.Booleans.{and_left, and_right, impossible}
+use Rattle.common_lemmas.proofs.Lists.{all_append}
+use Rattle.common_lemmas.proofs.Numbers.{equal_turned, same_bytes}
 use Rattle.btree_inplace.specs.Changes.{with_data_at}
 use Rattle.btree_inplace.specs.Order.{extent_in, has_key}
 use Rattle.column_set.specs.declared.changes.Change.{Change}
@@ -17,7 +21,6 @@ use Rattle.index_derive.specs.declared.rules.IndexRule.{IndexRule}
 use Rattle.jet_catalog.specs.Catalog.{CatalogState}
 use Rattle.jet_base.specs.declared.ids.TableId.{TableId}
 use Rattle.page_image.specs.Page.{Node}
-use Rattle.record_changes.proofs.Tests.{and_left, and_right, impossible, same_bytes, same_number}
 use Rattle.table_trees.specs.StoredNodes.{IsShortNode, bookmark_entries}
 use Rattle.table_trees.specs.StoredTables.{table_long_values, StoredIndex, StoredTable, has_table, index_entries, is_index, part_of, table_nodes, with_nodes}
 use Rattle.version_store.specs.declared.calls.By.{By}
@@ -31,12 +34,11 @@ use Rattle.stored_variants.specs.RecordRows.{TableValues, IsRecordRow, held_reco
 use Rattle.stored_variants.specs.StoredVersions.{StoredVersions}
 use Rattle.stored_variants.specs.VersionsView.{with_newest, stored_versions, with_newest_by}
 use Rattle.stored_variants.specs.VersionsKept.{AreKept, AreKeptWith, IsKeptChange, IsKeptTable, IsRowUnder, secondary_rule}
-use Rattle.stored_variants.proofs.Dropped.{TreeLaws, emptied, extent_at, has_trees, nodes_are, row_then, same_numbers, there_at, room_in, turned_number, rows_emptied}
+use Rattle.stored_variants.proofs.Dropped.{TreeLaws, emptied, extent_at, has_trees, nodes_are, row_then, same_numbers, there_at, room_in, rows_emptied}
 use Rattle.stored_variants.specs.CountedValues.{AreCounted, HasNoValueBehind}
 use Rattle.table_versions.proofs.CountedSteps.{ChangeCounts, ChangesRow, changed_counted}
 use Rattle.table_versions.proofs.Held.{appended, no_sum}
 use Rattle.table_versions.proofs.StepInStore.{IsStored, brings_none, entries_stay, same_values}
-use Rattle.versioned_tables.proofs.Lists.{all_append}
 use Rattle.stored_variants.proofs.NodeRecords.{record_at}
 use Rattle.table_versions.proofs.Span.{RowSizes, same_cost}
 use Rattle.stored_variants.proofs.Tables.{found_number, newest_at, newest_is_row, table_at}
@@ -90,7 +92,7 @@ same_variants longs laws trees by table bookmark known held test none other own 
 
     before_is : hit ≡ true → (held_record_in longs new).before ≡ newest
     before_is e =
-        (λ i. option_map (record_of (longs (same_number table.0 other (and_left (table.0 == other) _ e) i))) (row_under (table_nodes trees (same_number table.0 other (and_left (table.0 == other) _ e) i)) (same_bytes bookmark own (and_right (table.0 == other) _ e) i)))
+        (λ i. option_map (record_of (longs (eqb-true table.0 other (and_left (table.0 == other) _ e) i))) (row_under (table_nodes trees (eqb-true table.0 other (and_left (table.0 == other) _ e) i)) (same_bytes bookmark own (and_right (table.0 == other) _ e) i)))
         ∙ sym (record_at (longs other) (table_nodes trees other) (known.sorted other) own)
 
     moved : (a b : Bool) → (false || (b || (((true && true) && true) && a || false))) ≡ (a || b)
@@ -205,7 +207,7 @@ rows_then : (longs : TableValues) (laws : TreeLaws) (trees : List StoredTable) (
     → rows_of_nodes (longs other) (table_nodes (emptied trees id bookmark) other) ≡ cond (other == id) (without_row (rows_of_nodes (longs other) (table_nodes trees other)) bookmark) (rows_of_nodes (longs other) (table_nodes trees other))
 rows_then longs laws trees id bookmark there other =
     ap (rows_of_nodes (longs other)) (nodes_are laws trees id bookmark there other) ∙ by (id == other)
-    ∙ ap (λ b. cond b (without_row (rows_of_nodes (longs other) (table_nodes trees other)) bookmark) (rows_of_nodes (longs other) (table_nodes trees other))) (turned_number id other)
+    ∙ ap (λ b. cond b (without_row (rows_of_nodes (longs other) (table_nodes trees other)) bookmark) (rows_of_nodes (longs other) (table_nodes trees other))) (equal_turned id other)
   where
     by : (b : Bool) → rows_of_nodes (longs other) (cond b (with_data_at (table_nodes trees other) bookmark []) (table_nodes trees other)) ≡ cond b (without_row (rows_of_nodes (longs other) (table_nodes trees other)) bookmark) (rows_of_nodes (longs other) (table_nodes trees other))
     by true = rows_emptied (longs other) bookmark (table_nodes trees other)
@@ -355,7 +357,7 @@ after_drop sizes laws counted latest catalog trees held stored sorted short now 
     }
 
     none : (b : Bool) (other : ℕ) → (id == other) ≡ b → table_long_values left other ≡ cond b (table_long_values trees id) (table_long_values trees other)
-    none true other e = values other ∙ ap (table_long_values trees) (sym (same_number id other e))
+    none true other e = values other ∙ ap (table_long_values trees) (sym (eqb-true id other e))
     none false other e = values other
 
     changes : ChangesRow id bookmark None [] trees left

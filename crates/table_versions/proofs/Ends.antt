@@ -1,9 +1,10 @@
 -- Levels that are released and sessions that commit.
 use Rattle.std.proofs.Common.{◌≡◌, ℕ, ◌-◌, Bool, true, false, not, ◌&&◌, cond, List, None, option_map, refl, sym, ap, ◌∙◌}
 use Rattle.std.specs.Prelude.{◌==◌}
+use Rattle.std.proofs.lemmas.Bool.{and_from, eqb-true}
+use Rattle.common_lemmas.proofs.Booleans.{and_left, and_right, impossible}
 use Rattle.database_state.specs.State.{Status, uncommitted, committed, undone, is_open, is_undone}
 use Rattle.database_state.specs.Table.{Table}
-use Rattle.record_changes.proofs.Tests.{and_both, and_left, and_right, impossible, same_number}
 use Rattle.table_trees.specs.StoredTables.{StoredTable}
 use Rattle.version_store.specs.HeldChanges.{HeldChange, committed_change, is_open_at, is_open_of, is_rewrite, released_change, with_status}
 use Rattle.versioned_tables.specs.HeldRecords.{committed_change as committed_record, is_change_at, is_standing_rewrite, released_change as released_record}
@@ -41,7 +42,7 @@ released_same longs session level h =
     ∙ ap (λ b. cond (b && (h.level == level)) (record (held_record_in longs h) { level = h.level - 1 }) (held_record_in longs h)) (turned (h.session == session) (is_open h.status))
   where
     level_is : (h.level == level) ≡ true → level ≡ h.level
-    level_is e = sym (same_number h.level level e)
+    level_is e = sym (eqb-true h.level level e)
 
     by : (b : Bool) → is_open_at session level h ≡ b → held_record_in longs (cond b (record h { level = level - 1 }) h) ≡ cond b (record (held_record_in longs h) { level = h.level - 1 }) (held_record_in longs h)
     by true e = ap (λ n. record (held_record_in longs h) { level = n - 1 }) (level_is (and_right (is_open_of session h) _ e))
@@ -65,7 +66,7 @@ pub committed_kept : (longs : TableValues) (tables : List Table) (trees : List S
 committed_kept longs tables trees session number h kept = by (is_open_of session h) refl
   where
     stood : is_open_of session h ≡ true → is_standing (with_status (committed number) h) ≡ true → is_standing h ≡ true
-    stood e standing = and_both (is_rewrite h.kind) (not (is_undone h.status)) (and_left _ _ standing) (open_stands h.status (and_right (h.session == session) _ e))
+    stood e standing = and_from (is_rewrite h.kind) (not (is_undone h.status)) (and_left _ _ standing) (open_stands h.status (and_right (h.session == session) _ e))
 
     by : (b : Bool) → is_open_of session h ≡ b → IsKeptChange longs tables trees (cond b (with_status (committed number) h) h)
     by true e = record {

@@ -1,6 +1,6 @@
 -- Entries of an index that are gone over where they lie, up to the first that a reader is shown.
-use Rattle.std.proofs.Common.{◌≡◌, ◌≤◌, ℕ, Bool, Bor, true, false, not, ◌&&◌, ◌||◌, cond, inl, inr, List, [], ◌∷◌, drop, Option, Some, None, filter, find, length, map, refl, sym, ap, subst, ◌∙◌, true≢false}
-use Rattle.std.specs.Prelude.{IfSome, IsSomeAnd, bytes_eq, is_some}
+use Rattle.std.proofs.Common.{◌≡◌, ◌≤◌, ℕ, Bool, Bor, true, false, not, ◌&&◌, ◌||◌, cond, inl, inr, List, [], ◌∷◌, drop, Option, Some, None, filter, find, length, map, refl, sym, ap, subst, ◌∙◌}
+use Rattle.std.specs.Prelude.{IfSome, IsSomeAnd, bytes_eq}
 use Rattle.std.specs.List.{list_any}
 use Rattle.column_set.specs.RecordValues.{RecordFields}
 use Rattle.cursor_nav.specs.Places.{Pair, are_sorted, entry_after, entry_before, is_beyond, is_short_of}
@@ -88,10 +88,6 @@ short_pairs None short = tt
 short_pairs (Some f) short = short
 
 -- ---- a record that no held change touches
-
-pub none_here : {A : Type 0} (o : Option A) → is_some o ≡ false → o ≡ None
-none_here None e = refl
-none_here (Some x) e = absurd (true≢false e)
 
 abbrev key_before : TableValues → IndexRule → Schema → List ℕ → ℕ → List ℕ → List HeldChange → Bool
 key_before longs rule schema key table bookmark held = list_any (λ change. is_standing_rewrite table bookmark change && yields_key rule schema key change.before) (map (held_record_in longs) held)

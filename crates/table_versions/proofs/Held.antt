@@ -1,13 +1,13 @@
 -- A lock or a sum that is held behind the other changes.
 use Rattle.std.proofs.Common.{◌≡◌, ℕ, Bool, true, false, not, ◌&&◌, ◌||◌, List, [], ◌∷◌, ◌++◌, Option, Some, None, map, refl, sym, ap, ◌∙◌}
 use Rattle.std.specs.Prelude.{◌+◌, IfSome, is_some, nat_lt, option_map}
+use Rattle.common_lemmas.proofs.Booleans.{and_left, impossible}
+use Rattle.common_lemmas.proofs.Lists.{all_append}
 use Rattle.column_set.specs.declared.changes.Change.{Change}
 use Rattle.column_set.specs.declared.changes.Change.TheVariants.{Put, Drop, Hold, Add}
 use Rattle.database_state.specs.Changes.{changed_table}
 use Rattle.database_state.specs.State.{is_undone}
 use Rattle.database_state.specs.Table.{Table, schema_of, table_with_id}
-use Rattle.versioned_tables.proofs.Lists.{all_append}
-use Rattle.record_changes.proofs.Tests.{and_left, impossible}
 use Rattle.table_trees.specs.StoredTables.{StoredTable}
 use Rattle.version_store.specs.declared.calls.By.{By}
 use Rattle.version_store.specs.declared.calls.ChangeKind.{ChangeKind}

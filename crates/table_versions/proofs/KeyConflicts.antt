@@ -2,14 +2,16 @@
 use Rattle.std.proofs.Common.{◌≡◌, ℕ, Bool, true, false, ◌&&◌, ◌||◌, cond, List, [], ◌∷◌, Option, Some, None, find, refl, sym, ap, ◌∙◌}
 use Rattle.std.specs.Prelude.{◌==◌, bytes_eq}
 use Rattle.std.specs.List.{list_any}
-use Rattle.std.proofs.lemmas.Bool.{or_left, or_right}
+use Rattle.std.proofs.lemmas.Bool.{and_from, eqb-true, or_left, or_right}
+use Rattle.common_lemmas.proofs.Booleans.{and_left, and_right, impossible}
+use Rattle.common_lemmas.proofs.Numbers.{same_bytes}
 use Rattle.column_set.specs.RecordValues.{RecordFields}
 use Rattle.cursor_nav.specs.Places.{Pair}
 use Rattle.database_state.specs.Conflicts.{yields_key}
 use Rattle.derived_index.specs.KeptEntries.{has_entry}
 use Rattle.index_derive.specs.declared.rules.IndexRule.{IndexRule}
 use Rattle.index_derive.specs.declared.rules.Schema.{Schema}
-use Rattle.record_changes.proofs.Tests.{and_both, and_left, and_right, equal_bytes, impossible, same_bytes, same_number}
+use Rattle.record_changes.proofs.Tests.{equal_bytes}
 use Rattle.version_store.specs.declared.calls.Reader.{Reader}
 use Rattle.versioned_tables.specs.HeldRecords.{HeldRecord, before_or, has_key_conflict, is_change_at, is_concurrent, is_standing_rewrite, next_variant}
 use Rattle.versioned_tables.specs.Variants.{is_variant_key}
@@ -59,7 +61,7 @@ next_is_variant rule schema key newest table bookmark (h ∷ held) e = by (is_st
     by : (b : Bool) → is_standing_rewrite table bookmark h ≡ b → yields_before rule schema key own (cond b (Some h) (find (is_standing_rewrite table bookmark) held)) ≡ true
         → (next_yields rule schema key own table bookmark held ≡ true → is_variant_key newest held rule schema table key bookmark ≡ true)
         → is_variant_key newest (h ∷ held) rule schema table key bookmark ≡ true
-    by true s e rest = or_right own _ (or_left (is_standing_rewrite table bookmark h && yields_key rule schema key h.before) _ (and_both _ _ s e))
+    by true s e rest = or_right own _ (or_left (is_standing_rewrite table bookmark h && yields_key rule schema key h.before) _ (and_from _ _ s e))
     by false s e rest = one_more own (is_standing_rewrite table bookmark h && yields_key rule schema key h.before) _ (rest e)
 
 -- a conflict with the changes of a record is one over a key of a variant
@@ -99,11 +101,11 @@ of_some_record reader newest table rule schema key (h ∷ held) e f =
     either (is_concurrent reader h && ((h.table == table) && variants h.table)) _ e
     (λ own.
     let at : ((h.table == table) && variants h.table) ≡ true = and_right (is_concurrent reader h) _ own in
-    let number : h.table ≡ table = same_number h.table table (and_left (h.table == table) _ at) in
+    let number : h.table ≡ table = eqb-true h.table table (and_left (h.table == table) _ at) in
     f h.bookmark
     (or_left _ _
-    (and_both (is_concurrent reader h) _ (and_left (is_concurrent reader h) _ own)
-    (and_both (is_change_at table h.bookmark h) _ (and_both (h.table == table) _ (and_left (h.table == table) _ at) (equal_bytes h.bookmark h.bookmark refl))
+    (and_from (is_concurrent reader h) _ (and_left (is_concurrent reader h) _ own)
+    (and_from (is_change_at table h.bookmark h) _ (and_from (h.table == table) _ (and_left (h.table == table) _ at) (equal_bytes h.bookmark h.bookmark refl))
     (sym (λ i. same_next newest rule schema key table h.bookmark (h ∷ held) i || same_next newest rule schema key table h.bookmark held i)
     ∙ ap variants (sym number) ∙ and_right (h.table == table) _ at)))))
     (λ rest. of_some_record reader newest table rule schema key held rest (λ bookmark under. f bookmark (or_right _ _ under)))
@@ -120,11 +122,11 @@ of_one_record reader newest table rule schema key (h ∷ held) bookmark e =
     (λ own.
     let at : (is_change_at table bookmark h && yielding) ≡ true = and_right (is_concurrent reader h) _ own in
     let named : is_change_at table bookmark h ≡ true = and_left (is_change_at table bookmark h) _ at in
-    let number : h.table ≡ table = same_number h.table table (and_left (h.table == table) _ named) in
+    let number : h.table ≡ table = eqb-true h.table table (and_left (h.table == table) _ named) in
     let place : h.bookmark ≡ bookmark = same_bytes h.bookmark bookmark (and_right (h.table == table) _ named) in
     or_left _ _
-    (and_both (is_concurrent reader h) _ (and_left (is_concurrent reader h) _ own)
-    (and_both (h.table == table) _ (and_left (h.table == table) _ named)
+    (and_from (is_concurrent reader h) _ (and_left (is_concurrent reader h) _ own)
+    (and_from (h.table == table) _ (and_left (h.table == table) _ named)
     ((λ i. variants (number i) (place i))
     ∙ (λ i. same_next newest rule schema key table bookmark (h ∷ held) i || same_next newest rule schema key table bookmark held i)
     ∙ and_right (is_change_at table bookmark h) _ at))))
@@ -152,7 +154,7 @@ conflict_at_entries reader newest table rule schema key held entries known =
     (λ some. any_then (has_key_and under key) entries some (λ e passes. of_one_record reader newest table rule schema key held e.1 (and_right (bytes_eq e.0 key) _ passes)))
     (λ conflict. of_some_record reader newest table rule schema key held conflict (λ bookmark here.
     any_more (λ e. bytes_eq e.0 key && bytes_eq e.1 bookmark) (has_key_and under key)
-    (λ e passes. and_both _ _ (and_left (bytes_eq e.0 key) _ passes) (ap under (same_bytes e.1 bookmark (and_right (bytes_eq e.0 key) _ passes)) ∙ here)) entries
+    (λ e passes. and_from _ _ (and_left (bytes_eq e.0 key) _ passes) (ap under (same_bytes e.1 bookmark (and_right (bytes_eq e.0 key) _ passes)) ∙ here)) entries
     (known bookmark (conflict_is_variant reader rule schema key (newest table bookmark) table bookmark held here))))
   where
     under : List ℕ → Bool

@@ -5,11 +5,12 @@ use Rattle.std.specs.List.Sorted.{IsStrictlySortedBy}
 use Rattle.std.specs.declared.cmp.Ordering.TheVariants.{Less}
 use Rattle.std.specs.Ordering.{is_lt, nat_cmp}
 use Rattle.std.specs.Cmp.Lexicographic.{slice_cmp}
+use Rattle.std.proofs.lemmas.Bool.{false_from_ne_true}
 use Rattle.index_derive.specs.Derived.{is_above, next_in}
-use Rattle.record_changes.proofs.Tests.{impossible, refuted}
 use Rattle.versioned_tables.proofs.Neighbours.{fewer, found_in}
 use Rattle.versioned_tables.proofs.Order.{lt_lt, not_below_itself}
 use Rattle.common_lemmas.proofs.Found.{of_found}
+use Rattle.common_lemmas.proofs.Booleans.{impossible}
 use Rattle.table_versions.proofs.WithKey.{filter_alike}
 
 abbrev pub Rise : List (List ℕ) → Type 0
@@ -21,7 +22,7 @@ key_from test keys None = false
 key_from test keys (Some key) = test key || list_any test (filter (is_above (Some key)) keys)
 
 above_itself : (key : List ℕ) → is_above (Some key) key ≡ false
-above_itself key = refuted (is_above (Some key) key) (not_below_itself key)
+above_itself key = false_from_ne_true (is_above (Some key) key) (not_below_itself key)
 
 above_more : (after : Option (List ℕ)) (x y : List ℕ) → is_above after x ≡ true → slice_cmp nat_cmp x y ≡ Less → is_above after y ≡ true
 above_more None x y h less = refl
@@ -44,7 +45,7 @@ key_beyond test after (x ∷ xs) rise = by (is_above after x) refl (key_beyond t
     later None f = refl
     later (Some k) f =
         let less : slice_cmp nat_cmp x k ≡ Less = of_found (λ y. slice_cmp nat_cmp x y ≡ Less) (is_above after) xs k f rise.0 in
-        let not_above : is_above (Some k) x ≡ false = refuted (is_above (Some k) x) (λ back. not_below_itself x (lt_lt x k x (ap is_lt less) back)) in
+        let not_above : is_above (Some k) x ≡ false = false_from_ne_true (is_above (Some k) x) (λ back. not_below_itself x (lt_lt x k x (ap is_lt less) back)) in
         sym (ap (λ b. test k || list_any test (cond b (x ∷ filter (is_above (Some k)) xs) (filter (is_above (Some k)) xs))) not_above)
 
     by : (b : Bool) → is_above after x ≡ b → list_any test (filter (is_above after) xs) ≡ key_from test xs (next_in xs after)

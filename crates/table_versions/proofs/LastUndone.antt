@@ -2,10 +2,10 @@
 use Rattle.std.proofs.Common.{◌≡◌, ℕ, zero, suc, Bool, true, false, not, ◌&&◌, ◌||◌, cond, List, [], ◌∷◌, Option, Some, None, map, option_map, refl, sym, ap, ◌∙◌}
 use Rattle.std.specs.Prelude.{◌==◌, slice_get}
 use Rattle.std.specs.List.{list_any}
+use Rattle.common_lemmas.proofs.Booleans.{impossible}
 use Rattle.database_state.specs.Changes.{tables_after}
 use Rattle.database_state.specs.State.{is_open, is_undone, undone}
 use Rattle.database_state.specs.Table.{Table}
-use Rattle.record_changes.proofs.Tests.{impossible}
 use Rattle.version_store.specs.HeldChanges.{HeldChange, is_open_at, is_rewrite, last_place, later_place, undone_at, with_status}
 use Rattle.versioned_tables.specs.HeldRecords.{HeldRecord, as_undone, inverse, is_open_at as is_open_record, undone_change}
 use Rattle.versioned_tables.specs.VersionedTables.{last_undone, tables_with_last_back}

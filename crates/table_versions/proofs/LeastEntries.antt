@@ -5,6 +5,8 @@ use Rattle.std.specs.List.{AllByRecursion, flat_map}
 use Rattle.std.specs.Ordering.{eq_by_cmp, nat_cmp}
 use Rattle.std.specs.Cmp.Lexicographic.{slice_cmp, texts_ties}
 use Rattle.std.proofs.lemmas.List.Elements.{All-head, All-tail}
+use Rattle.common_lemmas.proofs.Numbers.{bytes_turned, same_bytes}
+use Rattle.common_lemmas.proofs.Booleans.{impossible}
 use Rattle.btree_inplace.specs.Order.{get_in, has_key}
 use Rattle.column_set.specs.RecordValues.{RecordFields}
 use Rattle.cursor_nav.specs.Places.{Pair, are_sorted, least_entry_of}
@@ -20,7 +22,6 @@ use Rattle.index_derive.specs.Entries.{KeyRefusal, NullKeyDisallowed, KeyTruncat
 use Rattle.jet_base.specs.declared.replies.Jet.TheVariants as jet
 use Rattle.jet_catalog.specs.Catalog.{CatalogState}
 use Rattle.page_image.specs.Page.{Node}
-use Rattle.record_changes.proofs.Tests.{impossible, same_bytes}
 use Rattle.table_trees.specs.StoredNodes.{IsShortNode, bookmark_entries}
 use Rattle.table_trees.specs.StoredTables.{table_long_values, StoredTable, table_nodes}
 use Rattle.version_store.specs.declared.calls.Reader.{Reader}
@@ -33,7 +34,7 @@ use Rattle.stored_variants.specs.RecordRows.{TableValues, held_record_in, record
 use Rattle.stored_variants.specs.StoredVersions.{StoredVersions, entries_in, seen_entries}
 use Rattle.stored_variants.specs.VersionsView.{with_newest, stored_versions, with_newest_by}
 use Rattle.stored_variants.specs.VersionsKept.{AreKept, AreKeptWith, IsKeptChange, IsKeptTable, IsRowUnder, only_secondary}
-use Rattle.stored_variants.proofs.NodeRecords.{record_at, turned}
+use Rattle.stored_variants.proofs.NodeRecords.{record_at}
 use Rattle.table_versions.proofs.OwnOrder.{order_is, seen_is_variant, seen_rise}
 use Rattle.stored_variants.proofs.RisingRows.{rows_rise}
 use Rattle.table_versions.proofs.SeenRecords.{hidden_of, hidden_stands, record_seen, seen_is}
@@ -75,7 +76,7 @@ seen_in_order latest catalog trees held sorted now shows reader table =
 -- ---- the least of a record
 
 swapped_bytes : (xs ys : List ℕ) → bytes_eq xs ys ≡ eq_by_cmp (slice_cmp nat_cmp) ys xs
-swapped_bytes xs ys = turned xs ys ∙ texts_ties ys xs
+swapped_bytes xs ys = bytes_turned xs ys ∙ texts_ties ys xs
 
 least_own : (bookmark : List ℕ) (rows : Rows) → least_entry_of bookmark (own_order rows) ≡ option_map (λ x. (bookmark, bookmark)) (row_at rows bookmark)
 least_own bookmark [] = refl

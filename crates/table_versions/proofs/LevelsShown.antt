@@ -1,9 +1,10 @@
 -- The newest open change of a level is undone: what the store shows.
 use Rattle.std.proofs.Common.{◌≡◌, ℕ, Bool, true, ◌&&◌, List, [], ◌∷◌, length, Option, Some, None, map, option_map, refl, sym, ap, subst, ◌∙◌}
 use Rattle.std.specs.Prelude.{◌==◌, IsSomeAnd, slice_get}
+use Rattle.common_lemmas.proofs.Booleans.{and_left, and_right}
+use Rattle.common_lemmas.proofs.Options.{same_some}
 use Rattle.database_state.specs.State.{is_open}
 use Rattle.jet_catalog.specs.Catalog.{CatalogState}
-use Rattle.record_changes.proofs.Tests.{and_left, and_right}
 use Rattle.table_trees.specs.StoredTables.{table_long_values, StoredTable}
 use Rattle.version_store.specs.Answers.{change_at}
 use Rattle.version_store.specs.HeldChanges.{HeldChange, is_open_at, last_place, undone_at}
@@ -14,7 +15,7 @@ use Rattle.stored_variants.specs.StoredVersions.{StoredVersions}
 use Rattle.variant_trees.specs.UndoneChanges.{IsBack}
 use Rattle.stored_variants.specs.VersionsView.{with_newest, stored_versions}
 use Rattle.table_versions.proofs.LastUndone.{any_last, last_back, last_changed, none_back, same_level}
-use Rattle.stored_variants.proofs.HeldPlaces.{StandsAt, last_stands, take_all, same_some}
+use Rattle.stored_variants.proofs.HeldPlaces.{StandsAt, last_stands, take_all}
 
 -- the change that is undone was one that is open at the level
 pub newest_there : (p : HeldChange → Bool) (held : List HeldChange) (place : ℕ) → last_place p held ≡ Some place → (h : HeldChange) × (slice_get held place ≡ Some h) × (p h ≡ true)

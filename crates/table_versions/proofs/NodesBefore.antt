@@ -2,12 +2,13 @@
 use Rattle.std.proofs.Common.{◌≡◌, ◌≤◌, ◌<◌, ℕ, Bool, true, false, ◌⊎◌, inl, inr, cond, List, [], ◌∷◌, Option, Some, None, filter, find, length, option_map, refl, sym, ap, ◌∙◌}
 use Rattle.std.specs.Prelude.{IfSome}
 use Rattle.std.specs.List.{last_or, list_all}
+use Rattle.std.proofs.lemmas.Bool.{false_from_ne_true}
+use Rattle.common_lemmas.proofs.Booleans.{and_left, and_right}
 use Rattle.btree_inplace.specs.Order.{get_in, has_key, key_and_data}
 use Rattle.cursor_nav.specs.Places.{Pair, are_sorted, entry_before, is_short_of, pair_lt}
 use Rattle.index_derive.specs.declared.entries.Place.{Place}
 use Rattle.index_derive.specs.declared.entries.Place.TheVariants.{On}
 use Rattle.page_image.specs.Page.{Node}
-use Rattle.record_changes.proofs.Tests.{and_left, and_right, refuted}
 use Rattle.table_trees.specs.StoredNodes.{bookmark_entries, node_before}
 use Rattle.stored_variants.proofs.NodeRecords.{apart, key_is}
 use Rattle.table_versions.proofs.NodesShown.{entry_at}
@@ -31,7 +32,7 @@ is_there (x ∷ nodes) n sorted (inl same) =
     ap (λ b. cond b (Some x) (find (has_key n.key) nodes)) (has_own_key x n.key (ap (λ (m : Node). m.key) same)) ∙ ap (λ (m : Node). Some m) same
 is_there (x ∷ nodes) n sorted (inr later) =
     let low : list_all (pair_lt (x.key, x.key)) (bookmark_entries nodes) ≡ true = and_left _ _ sorted in
-    let other : has_key n.key x ≡ false = refuted (has_key n.key x) (λ same. apart x.key n.key (below x n nodes low later) (key_is x.key n.key same)) in
+    let other : has_key n.key x ≡ false = false_from_ne_true (has_key n.key x) (λ same. apart x.key n.key (below x n nodes low later) (key_is x.key n.key same)) in
     ap (λ b. cond b (Some x) (find (has_key n.key) nodes)) other ∙ is_there nodes n (and_right (list_all (pair_lt (x.key, x.key)) (bookmark_entries nodes)) _ sorted) later
 
 -- the last that passes is one of them

@@ -5,8 +5,9 @@ use Rattle.std.specs.List.{list_all}
 use Rattle.std.specs.Ordering.{eq_by_cmp, nat_cmp, is_lt}
 use Rattle.std.specs.Cmp.Lexicographic.{slice_cmp, nat_list_cmp_total, texts_ties}
 use Rattle.std.specs.FinMap.Entries.{below_all, is_sorted-put, is_sorted-where_key}
-use Rattle.std.proofs.lemmas.Bool.{or_left, or_right}
-use Rattle.common_lemmas.proofs.Booleans.{T_first, T_second, is_true}
+use Rattle.std.proofs.lemmas.Bool.{and_from, or_left, or_right}
+use Rattle.common_lemmas.proofs.Booleans.{T_first, T_second, and_left, and_right, is_true}
+use Rattle.common_lemmas.proofs.Numbers.{bytes_turned, same_bytes}
 use Rattle.btree_inplace.specs.Order.{get_in, has_key}
 use Rattle.column_set.specs.RecordValues.{RecordFields}
 use Rattle.cursor_nav.specs.Places.{Pair, are_sorted, pair_lt}
@@ -14,7 +15,6 @@ use Rattle.database_state.specs.Table.{Rows, row_at}
 use Rattle.derived_index.specs.KeptEntries.{has_entry}
 use Rattle.index_derive.specs.Entries.{own_order}
 use Rattle.page_image.specs.Page.{Node}
-use Rattle.record_changes.proofs.Tests.{and_both, and_left, and_right, same_bytes}
 use Rattle.table_trees.specs.StoredNodes.{bookmark_entries}
 use Rattle.version_store.specs.declared.calls.Reader.{Reader}
 use Rattle.version_store.specs.HeldChanges.{is_rewrite}
@@ -23,7 +23,6 @@ use Rattle.versioned_tables.specs.VersionedTables.{hides_in, rows_with, seen_row
 use Rattle.versioned_tables.specs.Variants.{has_variant}
 use Rattle.versioned_tables.specs.Holding.{RowsRise}
 use Rattle.stored_variants.specs.RecordRows.{rows_of_nodes}
-use Rattle.stored_variants.proofs.NodeRecords.{turned}
 use Rattle.table_versions.proofs.SeenRecords.{unseen_stands}
 use Rattle.stored_variants.proofs.RisingRows.{rows_rise}
 use Rattle.long_value.specs.Values.{Values}
@@ -33,11 +32,11 @@ use Rattle.long_value.specs.Values.{Values}
 below_all_is : (key : List ℕ) (rows : Rows) → T (below_all (slice_cmp nat_cmp) key rows) → list_all (pair_lt (key, key)) (own_order rows) ≡ true
 below_all_is key [] h = refl
 below_all_is key (row ∷ rows) h =
-    and_both _ _ (or_left _ _ (is_true (is_lt (slice_cmp nat_cmp key row.0)) (T_first _ _ h))) (below_all_is key rows (T_second (is_lt (slice_cmp nat_cmp key row.0)) _ h))
+    and_from _ _ (or_left _ _ (is_true (is_lt (slice_cmp nat_cmp key row.0)) (T_first _ _ h))) (below_all_is key rows (T_second (is_lt (slice_cmp nat_cmp key row.0)) _ h))
 
 pub order_is : (rows : Rows) → RowsRise rows → are_sorted (own_order rows) ≡ true
 order_is [] h = refl
-order_is (row ∷ rows) h = and_both _ _ (below_all_is row.0 rows (T_first _ _ h)) (order_is rows (T_second (below_all (slice_cmp nat_cmp) row.0 rows) _ h))
+order_is (row ∷ rows) h = and_from _ _ (below_all_is row.0 rows (T_first _ _ h)) (order_is rows (T_second (below_all (slice_cmp nat_cmp) row.0 rows) _ h))
 
 -- what is taken back leaves the order
 with_rises : (rows : Rows) (bookmark : List ℕ) (values : Option RecordFields) → RowsRise rows → RowsRise (rows_with rows bookmark values)
@@ -69,14 +68,14 @@ seen_is_variant reader table bookmark newest (h ∷ held) e = by (hides table bo
     by true hit rest g =
         let touched : (is_change_at table bookmark h && is_rewrite h.kind) ≡ true = and_left _ _ hit in
         let live = unseen_stands reader h.session h.status (and_right (is_change_at table bookmark h && is_rewrite h.kind) _ hit) in
-        or_right (is_some newest) _ (or_left (is_standing_rewrite table bookmark h && is_some h.before) _ (and_both _ _ (and_both _ _ touched live) g))
+        or_right (is_some newest) _ (or_left (is_standing_rewrite table bookmark h && is_some h.before) _ (and_from _ _ (and_from _ _ touched live) g))
     by false miss rest g = later (is_some newest) (is_standing_rewrite table bookmark h && is_some h.before) _ (rest g)
 
 -- ---- entries that are there
 
 -- an own pair is the pair asked where both are its bookmark
 own_pair : (key bookmark own : List ℕ) → bytes_eq own bookmark ≡ true → bytes_eq own key ≡ bytes_eq key bookmark
-own_pair key bookmark own e = ap (λ (k : List ℕ). bytes_eq k key) (same_bytes own bookmark e) ∙ turned bookmark key
+own_pair key bookmark own e = ap (λ (k : List ℕ). bytes_eq k key) (same_bytes own bookmark e) ∙ bytes_turned bookmark key
 
 pub there-rows : (key bookmark : List ℕ) (rows : Rows) → has_entry key bookmark (own_order rows) ≡ (bytes_eq key bookmark && is_some (row_at rows bookmark))
 there-rows key bookmark [] = never (bytes_eq key bookmark)
@@ -87,7 +86,7 @@ there-rows key bookmark [] = never (bytes_eq key bookmark)
 there-rows key bookmark (row ∷ rows) = by (bytes_eq row.0 bookmark) refl (there-rows key bookmark rows)
   where
     test : (b : Bool) → bytes_eq row.0 bookmark ≡ b → eq_by_cmp (slice_cmp nat_cmp) bookmark row.0 ≡ b
-    test b e = sym (texts_ties bookmark row.0) ∙ turned bookmark row.0 ∙ e
+    test b e = sym (texts_ties bookmark row.0) ∙ bytes_turned bookmark row.0 ∙ e
 
     T_first : (a c : Bool) → ((a && true) || (a && c)) ≡ (a && true)
     T_first true c = refl

@@ -4,6 +4,7 @@ use Rattle.std.specs.Prelude.{IsSomeAnd, bytes_eq, is_some}
 use Rattle.std.specs.List.{list_any}
 use Rattle.std.specs.Ordering.{eq_by_cmp, nat_cmp}
 use Rattle.std.specs.Cmp.Lexicographic.{slice_cmp, texts_ties}
+use Rattle.common_lemmas.proofs.Numbers.{bytes_turned, same_bytes}
 use Rattle.column_set.specs.RecordValues.{RecordFields}
 use Rattle.cursor_nav.specs.Places.{Pair}
 use Rattle.database_state.specs.Puts.{is_replaced}
@@ -11,7 +12,6 @@ use Rattle.database_state.specs.Table.{Rows, Table, entries_of_rule, index_entri
 use Rattle.index_derive.specs.declared.rules.IndexRule.{IndexRule}
 use Rattle.index_derive.specs.declared.rules.Schema.{Schema}
 use Rattle.index_derive.specs.Entries.{derive, own_order}
-use Rattle.record_changes.proofs.Tests.{same_bytes}
 use Rattle.version_store.specs.declared.calls.Reader.{Reader}
 use Rattle.versioned_tables.specs.HeldRecords.{seen_record}
 use Rattle.versioned_tables.specs.VersionedTables.{VersionedTables, seen_rows, seen_table, seen_tables}
@@ -19,14 +19,13 @@ use Rattle.versioned_tables.proofs.SeenTables.{seen_at_id}
 use Rattle.table_versions.specs.KeyConflicts.{is_taken_for}
 use Rattle.stored_variants.specs.StoredVersions.{entries_in}
 use Rattle.table_versions.proofs.AskedOfTheState.{FindsShown}
-use Rattle.stored_variants.proofs.NodeRecords.{turned}
 
 taken_rows : (own : Option (List ℕ)) (key : List ℕ) (rows : Rows) → list_any (λ (entry : Pair). bytes_eq entry.0 key && not (is_replaced own entry.1)) (own_order rows) ≡ (is_some (row_at rows key) && not (is_replaced own key))
 taken_rows own key [] = refl
 taken_rows own key (row ∷ rows) = by (bytes_eq row.0 key) refl (taken_rows own key rows)
   where
     test : (b : Bool) → bytes_eq row.0 key ≡ b → eq_by_cmp (slice_cmp nat_cmp) key row.0 ≡ b
-    test b e = sym (texts_ties key row.0) ∙ turned key row.0 ∙ e
+    test b e = sym (texts_ties key row.0) ∙ bytes_turned key row.0 ∙ e
 
     either_other : (n s : Bool) → (n || (s && n)) ≡ n
     either_other true s = refl

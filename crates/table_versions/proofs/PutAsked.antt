@@ -2,6 +2,10 @@
 use Rattle.std.proofs.Common.{◌≡◌, ℕ, Bool, true, false, not, ◌&&◌, ◌||◌, cond, List, [], ◌∷◌, filter, find, map, Option, Some, None, Result, Ok, Err, option_map, refl, sym, ap, subst, ◌∙◌}
 use Rattle.std.specs.Prelude.{◌==◌, IfSome, IsOk, is_none, unwrap_or}
 use Rattle.std.specs.List.{AllByRecursion, flat_map, list_any}
+use Rattle.std.proofs.lemmas.Bool.{eqb-true}
+use Rattle.common_lemmas.proofs.Booleans.{and_left, and_right, impossible}
+use Rattle.common_lemmas.proofs.Lists.{all_append, all_filter}
+use Rattle.common_lemmas.proofs.Numbers.{self_equal}
 use Rattle.jet_base.specs.declared.replies.Jet.TheVariants as jet
 use Rattle.column_set.specs.RecordValues.{RecordFields, record_fits}
 use Rattle.column_set.specs.Refusals.{Refusals, first_refusal}
@@ -15,7 +19,6 @@ use Rattle.index_derive.specs.declared.rules.IndexRule.{IndexRule}
 use Rattle.index_derive.specs.declared.rules.Schema.{Schema}
 use Rattle.index_derive.specs.Entries.{KeyRefusal, NullKeyDisallowed, KeyTruncated, entries}
 use Rattle.page_image.specs.Page.{Node}
-use Rattle.record_changes.proofs.Tests.{and_left, and_right, impossible, same_number, self_equal}
 use Rattle.table_trees.specs.StoredNodes.{bookmark_entries}
 use Rattle.table_trees.specs.StoredTables.{StoredIndex, StoredTable, index_entries, is_table, table_indexes, table_nodes}
 use Rattle.version_store.specs.HeldChanges.{HeldChange, is_rewrite, is_standing}
@@ -27,7 +30,6 @@ use Rattle.variant_trees.specs.PutStages.{AreKeysOfRecords, CanTake, HasVariantK
 use Rattle.stored_variants.specs.RecordRows.{TableValues, held_record_in, record_of, row_under, rows_of_nodes}
 use Rattle.stored_variants.specs.VersionsKept.{AreKeptWith, IsKeptChange, IsKeptTable, IsRowUnder, IsStoredRule, needed_trees, only_secondary, secondary_rule, secondary_rules, tree_numbers}
 use Rattle.stored_variants.proofs.FoundRules.{list_any_numbers}
-use Rattle.versioned_tables.proofs.Lists.{all_append, all_filter}
 use Rattle.stored_variants.proofs.NodeRecords.{record_at}
 use Rattle.table_versions.proofs.SeenRecords.{before_is_row}
 use Rattle.stored_variants.proofs.Tables.{found_number}
@@ -143,7 +145,7 @@ before_fits longs tables trees id t found (h ∷ held) kept = (λ same. fits sam
   where
     under : (h.table == t.id) ≡ true → is_standing h ≡ true → IfSome h.before (IsRowUnder (longs h.table) t h.bookmark)
     under same standing =
-        subst (λ (o : Option Table). IfSome o (λ table. IfSome h.before (IsRowUnder (longs h.table) table h.bookmark))) (ap (table_with_id tables) (same_number h.table t.id same ∙ found_number id tables t found) ∙ found) (kept.0.before standing)
+        subst (λ (o : Option Table). IfSome o (λ table. IfSome h.before (IsRowUnder (longs h.table) table h.bookmark))) (ap (table_with_id tables) (eqb-true h.table t.id same ∙ found_number id tables t found) ∙ found) (kept.0.before standing)
 
     fit : (row : Option (List ℕ)) → IfSome row (IsRowUnder (longs h.table) t h.bookmark) → IfSome (option_map (record_of (longs h.table)) row) (λ values. record_fits t.columns values ≡ true)
     fit None is = tt

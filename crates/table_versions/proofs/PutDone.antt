@@ -2,6 +2,9 @@
 use Rattle.std.proofs.Common.{◌≡◌, ℕ, ◌≤◌, ◌<◌, ◌^◌, Bool, true, false, ◌&&◌, cond, List, [], ◌∷◌, ◌++◌, length, map, Option, Some, None, Result, Ok, Err, option_map, refl, sym, ap, subst, ◌∙◌, arith}
 use Rattle.std.specs.Prelude.{◌==◌, All, IfSome, IsSomeAnd, IsTrue, OnErr, OnOk, is_some, option_and_then}
 use Rattle.std.specs.List.{AllByRecursion, list_all}
+use Rattle.std.proofs.lemmas.Bool.{and_from, eqb-true}
+use Rattle.common_lemmas.proofs.Numbers.{self_equal}
+use Rattle.common_lemmas.proofs.Booleans.{impossible}
 use Rattle.column_set.specs.declared.changes.Change.{Change}
 use Rattle.column_set.specs.declared.changes.Change.TheVariants.{Put, Drop, Hold, Add}
 use Rattle.column_set.specs.RecordValues.{RecordFields, record_fits, record_size}
@@ -17,7 +20,6 @@ use Rattle.long_references.specs.RowReferences.{identifier, identifiers}
 use Rattle.long_rows.specs.KeptRows.{Found, MayKeep, given_values, kept_row}
 use Rattle.long_rows.specs.WholeRows.{StandsFor, is_whole, record_in as record_in_row}
 use Rattle.long_value.specs.Values.{Values, value_of}
-use Rattle.record_changes.proofs.Tests.{and_both, impossible, same_number, self_equal}
 use Rattle.jet_base.specs.declared.ids.TableId.{TableId}
 use Rattle.jet_catalog.specs.Catalog.{CatalogState, ids_rise}
 use Rattle.table_trees.specs.StoredNodes.{IsShortNode}
@@ -70,10 +72,10 @@ row_of_bytes laws bytes is = ap (λ (b : List ℕ). is_row (row_in b)) is.2 ∙ 
 
 given_rows : PutLaws → (newest copied : Option (List ℕ)) → (values : Values) → IfSome newest (IsRecordRow values) → IfSome copied IsRowBytes → list_all is_row (row_given newest ++ row_given copied) ≡ true
 given_rows laws None None values own other = refl
-given_rows laws None (Some copied) values own other = and_both (is_row (row_in copied)) true (row_of_bytes laws copied other) refl
-given_rows laws (Some row) None values own other = and_both (is_row (row_in row)) true own.formed refl
+given_rows laws None (Some copied) values own other = and_from (is_row (row_in copied)) true (row_of_bytes laws copied other) refl
+given_rows laws (Some row) None values own other = and_from (is_row (row_in row)) true own.formed refl
 given_rows laws (Some row) (Some copied) values own other =
-    and_both (is_row (row_in row)) (is_row (row_in copied) && true) own.formed (and_both (is_row (row_in copied)) true (row_of_bytes laws copied other) refl)
+    and_from (is_row (row_in row)) (is_row (row_in copied) && true) own.formed (and_from (is_row (row_in copied)) true (row_of_bytes laws copied other) refl)
 
 -- a put may make a row of the record
 pub may_keep : PutLaws → (latest : ℕ) (catalog : CatalogState) (trees : List StoredTable) (held : List HeldChange) → IsStored latest catalog trees held → (number : ℕ) → latest < number → number < 2 ^ 64 → (id : ℕ) (t : Table) (bookmark : List ℕ) (copied : Option (List ℕ)) (values : RecordFields)
@@ -189,7 +191,7 @@ after_record sizes laws latest catalog trees held stored sorted short now shows 
       where
         by_test : (b : Bool) → (table.0 == other) ≡ b → StandsFor (longs other) row fields
         by_test true e =
-            let same = same_number table.0 other e in
+            let same = eqb-true table.0 other e in
             subst (λ (n : ℕ). StandsFor (was n) row fields → StandsFor (longs n) row fields) same (λ s. subst (λ (v : Values). StandsFor v row fields) (sym own_values) (laws.taken (was table.0) given row fields s)) stands
         by_test false e = subst (λ (v : Values). StandsFor v row fields) (sym (other_values other e)) stands
 
@@ -214,7 +216,7 @@ after_record sizes laws latest catalog trees held stored sorted short now shows 
 
         by_test : (b : Bool) → (table.0 == other) ≡ b → long_value_of new_trees other (identifier number place) ≡ None
         by_test true e =
-            let same = same_number table.0 other e in
+            let same = eqb-true table.0 other e in
             subst (λ (n : ℕ). long_value_of trees n (identifier number place) ≡ None → long_value_of new_trees n (identifier number place) ≡ None) same
             (λ none. ap (value_of (identifier number place)) own_values ∙ laws.none_behind from values number place may behind fits place_fits none) before
         by_test false e = ap (value_of (identifier number place)) (other_values other e) ∙ before

@@ -7,6 +7,10 @@ use Rattle.std.specs.Ordering.{nat_cmp, is_eq}
 use Rattle.std.specs.Cmp.Lexicographic.{slice_cmp, nat_list_cmp_total, texts_ties}
 use Rattle.std.specs.FinMap.Entries.{find-put, is_sorted-put, same_entries}
 use Rattle.std.proofs.lemmas.List.Folds.{list_any-append}
+use Rattle.std.proofs.lemmas.Bool.{eqb-true}
+use Rattle.common_lemmas.proofs.Booleans.{and_left, and_right, impossible}
+use Rattle.common_lemmas.proofs.Numbers.{bytes_turned, equal_turned, same_bytes, self_equal}
+use Rattle.common_lemmas.proofs.Lists.{all_append}
 use Rattle.btree_inplace.specs.Order.{extent_in, get_in}
 use Rattle.column_set.specs.declared.changes.Change.TheVariants.{Put}
 use Rattle.column_set.specs.RecordValues.{RecordFields}
@@ -19,7 +23,6 @@ use Rattle.index_derive.specs.declared.rules.IndexRule.{IndexRule}
 use Rattle.index_derive.specs.declared.rules.Schema.{Schema}
 use Rattle.jet_base.specs.declared.ids.TableId.{TableId}
 use Rattle.jet_catalog.specs.Catalog.{ids_rise}
-use Rattle.record_changes.proofs.Tests.{and_left, and_right, impossible, same_bytes, same_number, self_equal}
 use Rattle.table_trees.specs.StoredNodes.{IsShortNode, bookmark_entries}
 use Rattle.table_trees.specs.StoredTables.{StoredIndex, StoredTable, index_entries, is_table, table_nodes}
 use Rattle.version_store.specs.declared.calls.By.{By}
@@ -36,11 +39,10 @@ use Rattle.variant_trees.specs.GoneKeys.{index_numbers, table_numbers}
 use Rattle.variant_trees.specs.PutStages.{AreWidened, IsPut, IsSame, IsWidened, is_place}
 use Rattle.stored_variants.specs.VersionsKept.{AreKeptWith, IsKeptChange, IsKeptTable, IsRowUnder, needed_trees, only_secondary, secondary_rule, tree_numbers}
 use Rattle.stored_variants.specs.VersionsView.{with_newest_by}
-use Rattle.stored_variants.proofs.Dropped.{room_in, turned_number}
+use Rattle.stored_variants.proofs.Dropped.{room_in}
 use Rattle.table_versions.proofs.Held.{appended, no_sum}
 use Rattle.stored_variants.proofs.FoundRules.{secondary_found, record_yields}
-use Rattle.versioned_tables.proofs.Lists.{all_append}
-use Rattle.stored_variants.proofs.NodeRecords.{record_at, turned}
+use Rattle.stored_variants.proofs.NodeRecords.{record_at}
 use Rattle.stored_variants.proofs.RisingRows.{rows_rise}
 use Rattle.table_versions.proofs.Span.{RowSizes, same_cost}
 use Rattle.stored_variants.proofs.Tables.{found_number, newest_at, newest_is_row}
@@ -185,7 +187,7 @@ same_index table schema old new same t is index = by (t.id == table) refl
 
     by : (b : Bool) → (t.id == table) ≡ b → SameIndex old new t.id index (secondary_rule t index)
     by true e =
-        let found = same_number t.id table e in
+        let found = eqb-true t.id table e in
         subst (λ (n : ℕ). SameIndex old new n index (secondary_rule t index)) (sym found)
         (subst (λ (s : Schema). SameIndex old new table index (only_secondary (rule_with_id s index))) (is found) (same.entries index))
     by false e = any (secondary_rule t index) (λ at. impossible (sym e ∙ ap (λ n. n == table) at ∙ self_equal table))
@@ -258,7 +260,7 @@ put_record longs table bookmark row values given keys old new put some shows sor
     record_at (longs other) (table_nodes new other) (sorted_then other) own ∙ ap (option_map (record_of (longs other))) (put_under table bookmark row given keys old new put some other own) ∙ by (is_place table bookmark other own) refl
   where
     by : (b : Bool) → is_place table bookmark other own ≡ b → option_map (record_of (longs other)) (cond b (Some row) (row_under (table_nodes old other) own)) ≡ cond b (Some values) (row_at (rows_of_nodes (longs other) (table_nodes old other)) own)
-    by true e = ap (λ (n : ℕ). Some (record_of (longs n) row)) (sym (same_number table other (and_left (table == other) _ e))) ∙ ap (λ (fields : RecordFields). Some fields) shows
+    by true e = ap (λ (n : ℕ). Some (record_of (longs n) row)) (sym (eqb-true table other (and_left (table == other) _ e))) ∙ ap (λ (fields : RecordFields). Some fields) shows
     by false e = sym (record_at (longs other) (table_nodes old other) (sorted other) own)
 
 -- the put that is held
@@ -291,7 +293,7 @@ more_variants longs by table bookmark copied values old sorted held test none ot
 
     before_is : hit ≡ true → (held_record_in longs new).before ≡ newest
     before_is e =
-        (λ i. option_map (record_of (longs (same_number table.0 other (and_left (table.0 == other) _ e) i))) (row_under (table_nodes old (same_number table.0 other (and_left (table.0 == other) _ e) i)) (same_bytes bookmark own (and_right (table.0 == other) _ e) i)))
+        (λ i. option_map (record_of (longs (eqb-true table.0 other (and_left (table.0 == other) _ e) i))) (row_under (table_nodes old (eqb-true table.0 other (and_left (table.0 == other) _ e) i)) (same_bytes bookmark own (and_right (table.0 == other) _ e) i)))
         ∙ sym (record_at (longs other) (table_nodes old other) (sorted other) own)
 
     moved : (v a b : Bool) → (v || (b || (((true && true) && true) && a || false))) ≡ ((a || b) || (true && v))
@@ -389,7 +391,7 @@ table_put longs by table bookmark copied row values given own is rules old new p
 
     under : (at : List ℕ) (b : Bool) → is_place table.0 bookmark t.id at ≡ b → IfSome (cond b (Some row) (row_under (table_nodes old t.id) at)) (IsRowUnder (longs t.id) t at)
     under at true e =
-        let number : table.0 ≡ t.id = same_number table.0 t.id (and_left (table.0 == t.id) _ e) in
+        let number : table.0 ≡ t.id = eqb-true table.0 t.id (and_left (table.0 == t.id) _ e) in
         subst (λ (x : Table). IsRowUnder (longs t.id) x at row) (which (sym number))
         (subst (λ (n : ℕ). IsRowUnder (longs n) own at row) number (subst (λ (b : List ℕ). IsRowUnder (longs table.0) own b row) (same_bytes bookmark at (and_right (table.0 == t.id) _ e)) is.under))
     under at false e = kept.rows at
@@ -403,10 +405,10 @@ table_put longs by table bookmark copied row values given own is rules old new p
     entry : (index : ℕ) (rule : IndexRule) → secondary_rule t index ≡ Some rule → (b : Bool) → (t.id == table.0) ≡ b → (key at : List ℕ)
         → has_entry key at (index_entries new t.id index) ≡ (has_entry key at (index_entries old t.id index) || (is_place table.0 bookmark t.id at && yields_key rule (schema_of t) key (Some values)))
     entry index rule e true same key at =
-        let number = same_number t.id table.0 same in
+        let number = eqb-true t.id table.0 same in
         let found : secondary_rule own index ≡ Some rule = ap (λ (x : Table). secondary_rule x index) (which number) ∙ e in
         (λ i. has_entry key at (index_entries new (number i) index)) ∙ put.entries index key at
-        ∙ (λ i. has_entry key at (index_entries old (sym number i) index) || (turned at bookmark i && own_keys (schema_of own) values index rule rules found key i))
+        ∙ (λ i. has_entry key at (index_entries old (sym number i) index) || (bytes_turned at bookmark i && own_keys (schema_of own) values index rule rules found key i))
         ∙ (λ i. has_entry key at (index_entries old t.id index) || ((sym (self_equal table.0) i && bytes_eq bookmark at) && yields_key rule (schema_of (which number i)) key (Some values)))
         ∙ (λ i. has_entry key at (index_entries old t.id index) || (((table.0 == sym number i) && bytes_eq bookmark at) && yields_key rule (schema_of t) key (Some values)))
     entry index rule e false same key at =
@@ -419,7 +421,7 @@ table_put longs by table bookmark copied row values given own is rules old new p
         none false = refl
 
         other : (b : Bool) → (table.0 == t.id) ≡ b → (table.0 == t.id) ≡ false
-        other true h = impossible (sym same ∙ ap (λ n. n == table.0) (sym (same_number table.0 t.id h)) ∙ self_equal table.0)
+        other true h = impossible (sym same ∙ ap (λ n. n == table.0) (sym (eqb-true table.0 t.id h)) ∙ self_equal table.0)
         other false h = h
 
     each : (index : ℕ) (o : Option IndexRule) → secondary_rule t index ≡ o
@@ -485,7 +487,7 @@ rows_put : (longs : TableValues) (table : ℕ) (bookmark row : List ℕ) (values
     → rows_of_nodes (longs other) (table_nodes new other) ≡ cond (other == table) (with_row (rows_of_nodes (longs other) (table_nodes old other)) bookmark values) (rows_of_nodes (longs other) (table_nodes old other))
 rows_put longs table bookmark row values given keys old new put some shows sorted sorted_then other =
     same_rows (rows_of_nodes (longs other) (table_nodes new other)) (cond (other == table) (with_row rows bookmark values) rows) (rows_rise (longs other) (table_nodes new other) (sorted_then other)) (rises (other == table))
-    (λ at. put_record longs table bookmark row values given keys old new put some shows sorted sorted_then other at ∙ ap (λ b. cond (b && bytes_eq bookmark at) (Some values) (row_at rows at)) (turned_number table other) ∙ by at (other == table))
+    (λ at. put_record longs table bookmark row values given keys old new put some shows sorted sorted_then other at ∙ ap (λ b. cond (b && bytes_eq bookmark at) (Some values) (row_at rows at)) (equal_turned table other) ∙ by at (other == table))
   where
     rows : Rows
     rows = rows_of_nodes (longs other) (table_nodes old other)
@@ -496,7 +498,7 @@ rows_put longs table bookmark row values given keys old new put some shows sorte
 
     by : (at : List ℕ) (b : Bool) → cond (b && bytes_eq bookmark at) (Some values) (row_at rows at) ≡ row_at (cond b (with_row rows bookmark values) rows) at
     by at true =
-        ap (λ t. cond t (Some values) (row_at rows at)) (turned bookmark at ∙ texts_ties at bookmark)
+        ap (λ t. cond t (Some values) (row_at rows at)) (bytes_turned bookmark at ∙ texts_ties at bookmark)
         ∙ sym (find-put (slice_cmp nat_cmp) nat_list_cmp_total at bookmark values rows)
     by at false = refl
 

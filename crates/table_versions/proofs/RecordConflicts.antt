@@ -1,12 +1,14 @@
 -- Going over the held changes of one record, from the newest back.
 use Rattle.std.proofs.Common.{◌≡◌, ℕ, zero, suc, ◌<◌, Bool, true, false, not, ◌&&◌, ◌||◌, cond, List, [], ◌∷◌, length, Option, Some, None, find, map, drop, take, option_map, refl, sym, ap, subst, ◌∙◌, arith}
 use Rattle.std.specs.Prelude.{◌==◌, slice_get, unwrap_or, IfSome}
+use Rattle.std.proofs.lemmas.Bool.{eqb-true}
 use Rattle.common_lemmas.proofs.Options.{none_some}
+use Rattle.common_lemmas.proofs.Booleans.{and_false, and_left, and_right}
+use Rattle.common_lemmas.proofs.Numbers.{same_bytes}
 use Rattle.database_state.specs.Conflicts.{yields_key}
 use Rattle.database_state.specs.State.{is_undone}
 use Rattle.index_derive.specs.declared.rules.IndexRule.{IndexRule}
 use Rattle.index_derive.specs.declared.rules.Schema.{Schema}
-use Rattle.record_changes.proofs.Tests.{and_false, and_left, and_right, same_bytes, same_number}
 use Rattle.version_store.specs.declared.calls.Reader.{Reader}
 use Rattle.version_store.specs.HeldChanges.{HeldChange, is_concurrent, is_record, is_rewrite, is_standing, last_place, later_place}
 use Rattle.versioned_tables.specs.HeldRecords.{is_standing_rewrite}
@@ -109,7 +111,7 @@ abbrev pub is_of : Asked → HeldChange → Bool
 is_of a h = is_record a.table a.bookmark h
 
 pub own_table : (a : Asked) (h : HeldChange) → is_of a h ≡ true → h.table ≡ a.table
-own_table a h own = same_number h.table a.table (and_left (h.table == a.table) _ own)
+own_table a h own = eqb-true h.table a.table (and_left (h.table == a.table) _ own)
 
 pub other_yields : (longs : TableValues) (a : Asked) (h : HeldChange) (rest : List HeldChange) → is_of a h ≡ false → first_yields longs a (h ∷ rest) ≡ first_yields longs a rest
 other_yields longs a h rest e =
@@ -215,7 +217,7 @@ walk_goes_on longs a held place before after concurrent walk before_is concurren
     goes_on : (h : HeldChange) → slice_get held place ≡ Some h → Walks longs a held next before
     goes_on h at =
         let own : is_of a h ≡ true = walk.own place h refl at in
-        let number : h.table ≡ a.table = same_number h.table a.table (and_left (h.table == a.table) _ own) in
+        let number : h.table ≡ a.table = eqb-true h.table a.table (and_left (h.table == a.table) _ own) in
         let bookmark : h.bookmark ≡ a.bookmark = same_bytes h.bookmark a.bookmark (and_right (h.table == a.table) _ own) in
         let is : next ≡ last_place (is_of a) (take place held) = next_is h at ∙ (λ i. last_place (is_record (number i) (bookmark i)) (take place held)) in
         let told = here longs a held place before after concurrent walk before_is concurrent_is h at in

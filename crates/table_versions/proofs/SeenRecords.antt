@@ -2,10 +2,11 @@
 use Rattle.std.proofs.Common.{◌≡◌, ℕ, Bool, true, false, not, ◌&&◌, cond, List, [], ◌∷◌, Option, Some, None, find, map, option_map, refl, ap, subst, ◌∙◌}
 use Rattle.std.specs.Prelude.{◌==◌, IfSome, bytes_eq, is_some}
 use Rattle.std.specs.List.{AllByRecursion}
+use Rattle.std.proofs.lemmas.Bool.{and_from, eqb-true}
+use Rattle.common_lemmas.proofs.Booleans.{and_left, and_right, impossible}
 use Rattle.column_set.specs.RecordValues.{RecordFields}
 use Rattle.database_state.specs.State.{Status, uncommitted, committed, undone, is_undone}
 use Rattle.database_state.specs.Table.{Table, table_with_id}
-use Rattle.record_changes.proofs.Tests.{and_both, and_left, and_right, impossible, same_number}
 use Rattle.table_trees.specs.StoredTables.{StoredTable}
 use Rattle.version_store.specs.declared.calls.Reader.{Reader}
 use Rattle.version_store.specs.HeldChanges.{HeldChange, SeenRow, current, row_before, absent, hides, is_record, is_rewrite, is_unseen_status, seen_at, seen_before, seen_row}
@@ -29,14 +30,14 @@ unseen_stands reader session undone e = impossible e
 
 pub hidden_stands : (table : ℕ) (bookmark : List ℕ) (reader : Reader) (h : HeldChange) → hides table bookmark reader h ≡ true → is_standing h ≡ true
 hidden_stands table bookmark reader h hit =
-    and_both (is_rewrite h.kind) (not (is_undone h.status))
+    and_from (is_rewrite h.kind) (not (is_undone h.status))
     (and_right (is_record table bookmark h) _ (and_left (is_record table bookmark h && is_rewrite h.kind) _ hit))
     (unseen_stands reader h.session h.status (and_right (is_record table bookmark h && is_rewrite h.kind) _ hit))
 
 -- and it is of the record
 pub hidden_of : (table : ℕ) (bookmark : List ℕ) (reader : Reader) (h : HeldChange) → hides table bookmark reader h ≡ true → h.table ≡ table
 hidden_of table bookmark reader h hit =
-    same_number h.table table (and_left (h.table == table) (bytes_eq h.bookmark bookmark) (and_left (is_record table bookmark h) (is_rewrite h.kind) (and_left (is_record table bookmark h && is_rewrite h.kind) _ hit)))
+    eqb-true h.table table (and_left (h.table == table) (bytes_eq h.bookmark bookmark) (and_left (is_record table bookmark h) (is_rewrite h.kind) (and_left (is_record table bookmark h && is_rewrite h.kind) _ hit)))
 
 shown_before : (vals : Values) (newest : Option RecordFields) (row : Option (List ℕ)) → option_map (record_of vals) row ≡ record_seen vals newest (seen_before row)
 shown_before vals newest None = refl

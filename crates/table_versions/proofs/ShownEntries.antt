@@ -1,13 +1,13 @@
 -- Of the stored entries of an index those that are shown are the entries of the records that the reader sees.
 use Rattle.std.proofs.Common.{◌≡◌, ℕ, Bool, true, false, cond, List, [], ◌∷◌, Option, Some, None, filter, find, map, option_map, refl, sym, ap, subst, ◌∙◌}
 use Rattle.std.specs.Prelude.{◌==◌, IfSome, IsSomeAnd, unwrap_or}
+use Rattle.std.proofs.lemmas.Bool.{eqb-true}
 use Rattle.cursor_nav.specs.Places.{Pair, are_sorted}
 use Rattle.database_state.specs.Table.{Rows, Table, entries_of_rule, index_entries, row_at, rows_of, rule_with_id, schema_of, table_with_id}
 use Rattle.index_derive.specs.declared.rules.IndexRule.{IndexRule}
 use Rattle.index_derive.specs.declared.rules.Schema.{Schema}
 use Rattle.index_derive.specs.Entries.{derive, own_order}
 use Rattle.jet_catalog.specs.Catalog.{CatalogState}
-use Rattle.record_changes.proofs.Tests.{same_number}
 use Rattle.table_trees.specs.StoredNodes.{bookmark_entries}
 use Rattle.table_trees.specs.StoredTables.{table_long_values, StoredTable, index_entries as entries_in_tree, table_nodes}
 use Rattle.version_store.specs.declared.calls.Reader.{Reader}
@@ -45,7 +45,7 @@ rule_number index [] rule e = cc
 rule_number index (r ∷ rules) rule e = by (r.id.0 == index) refl (rule_number index rules rule) e
   where
     by : (b : Bool) → (r.id.0 == index) ≡ b → (rule_among rules index ≡ Some rule → rule.id.0 ≡ index) → cond b (Some r) (rule_among rules index) ≡ Some rule → rule.id.0 ≡ index
-    by true h rest e = ap (λ (o : Option IndexRule). (unwrap_or o r).id.0) (sym e) ∙ same_number r.id.0 index h
+    by true h rest e = ap (λ (o : Option IndexRule). (unwrap_or o r).id.0) (sym e) ∙ eqb-true r.id.0 index h
     by false h rest e = rest e
 
 -- the entries that are derived of the records which the reader sees

@@ -2,7 +2,10 @@
 use Rattle.std.proofs.Common.{◌≡◌, ℕ, zero, suc, Bool, true, false, not, ◌&&◌, ◌||◌, cond, List, [], ◌∷◌, length, Option, Some, None, Ok, Err, map, option_map, refl, sym, ap, subst, ◌∙◌}
 use Rattle.std.specs.Prelude.{◌==◌, bytes_eq, slice_get, unwrap_or, IfSome, IsSomeAnd, MatchOption}
 use Rattle.std.specs.List.{AllByRecursion, list_any}
+use Rattle.std.proofs.lemmas.Bool.{and_from, eqb-true}
 use Rattle.common_lemmas.proofs.Options.{none_some}
+use Rattle.common_lemmas.proofs.Booleans.{and_left, and_right, impossible}
+use Rattle.common_lemmas.proofs.Numbers.{same_bytes}
 use Rattle.column_set.specs.RecordValues.{RecordFields, has_value}
 use Rattle.cursor_nav.specs.Places.{are_sorted}
 use Rattle.database_state.specs.Conflicts.{yields_key}
@@ -14,7 +17,6 @@ use Rattle.index_derive.specs.Entries.{NullKeyDisallowed, KeyTruncated, entries,
 use Rattle.index_derive.specs.Primary.{first_values, primary_entries}
 use Rattle.key_normal.specs.KeyBytes.{is_cut}
 use Rattle.jet_catalog.specs.Catalog.{CatalogState}
-use Rattle.record_changes.proofs.Tests.{and_both, and_left, and_right, impossible, same_bytes, same_number}
 use Rattle.table_trees.specs.StoredNodes.{bookmark_entries}
 use Rattle.table_trees.specs.StoredTables.{table_long_values, StoredTable, index_entries, table_nodes}
 use Rattle.version_store.specs.declared.calls.Reader.{Reader}
@@ -163,9 +165,9 @@ changed_key longs law tables trees t named rule key bookmark legal primary first
         let rewrite : is_standing_rewrite t.id bookmark (held_record_in longs h) ≡ true = and_left _ _ e in
         let touched : (is_record t.id bookmark h && is_rewrite h.kind) ≡ true = and_left _ (not (is_undone h.status)) rewrite in
         let at : is_record t.id bookmark h ≡ true = and_left (is_record t.id bookmark h) _ touched in
-        let number : h.table ≡ t.id = same_number h.table t.id (and_left (h.table == t.id) _ at) in
+        let number : h.table ≡ t.id = eqb-true h.table t.id (and_left (h.table == t.id) _ at) in
         let own : h.bookmark ≡ bookmark = same_bytes h.bookmark bookmark (and_right (h.table == t.id) _ at) in
-        let standing : is_standing h ≡ true = and_both (is_rewrite h.kind) (not (is_undone h.status)) (and_right (is_record t.id bookmark h) _ touched) (and_right (is_record t.id bookmark h && is_rewrite h.kind) _ rewrite) in
+        let standing : is_standing h ≡ true = and_from (is_rewrite h.kind) (not (is_undone h.status)) (and_right (is_record t.id bookmark h) _ touched) (and_right (is_record t.id bookmark h && is_rewrite h.kind) _ rewrite) in
         let R : ℕ → Option Table → List ℕ → Type 0 = λ n o b. IfSome o (λ table. IfSome h.before (IsRowUnder (longs n) table b)) in
         let row : IfSome h.before (IsRowUnder (longs t.id) t bookmark) =
         subst (λ (o : Option Table). R t.id o bookmark) (ap (table_with_id tables) number ∙ named)

@@ -3,7 +3,6 @@ use Rattle.std.proofs.Common.{◌≡◌, ℕ, zero, suc, ◌≤◌, Bool, true, 
 use Rattle.std.specs.Prelude.{◌==◌, slice_get, IfSome, IsSomeAnd, unwrap_or}
 use Rattle.std.specs.List.{AllByRecursion}
 use Rattle.database_state.specs.Table.{Table, rule_with_id, schema_of, table_with_id}
-use Rattle.versioned_tables.proofs.Lists.{all_append, all_filter}
 use Rattle.index_derive.specs.declared.rules.IndexRule.{IndexRule}
 use Rattle.index_derive.specs.declared.rules.Schema.{Schema}
 use Rattle.index_derive.specs.Entries.{is_legal}
@@ -16,6 +15,7 @@ use Rattle.stored_variants.specs.VersionsKept.{AreKept, AreKeptWith, IsKeptTable
 use Rattle.stored_variants.specs.VersionsView.{stored_versions, with_newest_by}
 use Rattle.stored_variants.proofs.Tables.{table_at}
 use Rattle.common_lemmas.proofs.Found.{of_found}
+use Rattle.common_lemmas.proofs.Lists.{all_append, all_filter}
 
 -- an index that is found is one of the table's
 pub stored_rule : (table : Table) (index : ℕ) (rule : IndexRule) → AllByRecursion (IsStoredRule table) table.indexes → rule_with_id (schema_of table) index ≡ Some rule → IsStoredRule table rule

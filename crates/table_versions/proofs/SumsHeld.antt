@@ -1,6 +1,7 @@
 -- A sum that is held.
 use Rattle.std.proofs.Common.{◌≡◌, ℕ, true, false, List, [], ◌∷◌, ◌++◌, Option, Some, None, map, refl, ap, subst, ◌∙◌}
 use Rattle.std.specs.Prelude.{IfSome, IsSomeAnd, is_some, option_map}
+use Rattle.common_lemmas.proofs.Booleans.{impossible}
 use Rattle.column_set.specs.declared.changes.Change.{Change}
 use Rattle.column_set.specs.declared.changes.Change.TheVariants.{Put, Drop, Hold, Add}
 use Rattle.column_set.specs.RecordValues.{RecordFields}
@@ -8,7 +9,6 @@ use Rattle.database_state.specs.Changes.{changed_bookmark, changed_table, is_sum
 use Rattle.database_state.specs.Table.{Table, record_in, schema_of, table_with_id}
 use Rattle.index_derive.specs.declared.rules.Schema.{Schema}
 use Rattle.jet_catalog.specs.Catalog.{CatalogState}
-use Rattle.record_changes.proofs.Tests.{impossible}
 use Rattle.table_trees.specs.StoredTables.{table_long_values, StoredTable}
 use Rattle.version_store.specs.declared.calls.By.{By}
 use Rattle.version_store.specs.HeldChanges.{HeldChange, is_rewrite, kind_of, new_change}

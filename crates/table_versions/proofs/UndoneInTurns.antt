@@ -2,10 +2,10 @@
 -- in the second.
 use Rattle.std.proofs.Common.{◌≡◌, Bool, true, false, ◌||◌, cond, List, [], ◌∷◌, map, refl, sym, ap, ◌∙◌}
 use Rattle.std.specs.List.{AllByRecursion, list_any}
+use Rattle.common_lemmas.proofs.Lists.{all_weaker}
 use Rattle.database_state.specs.Table.{Table}
 use Rattle.database_state.specs.Changes.{tables_after}
 use Rattle.version_history.specs.History.{EachTwo}
-use Rattle.version_history.proofs.Lists.{all_weaker}
 use Rattle.versioned_tables.specs.HeldRecords.{HeldRecord, as_undone, inverse, undone_change}
 use Rattle.versioned_tables.specs.VersionedTables.{LeavesUndone, VersionedTables, tables_taken_back, with_changes_undone}
 use Rattle.versioned_tables.proofs.OneByOne.{none_undone}

@@ -1,7 +1,7 @@
 -- A level whose open changes are undone one by one.
 use Rattle.std.proofs.Common.{◌≡◌, ℕ, ◌<◌, suc, Bool, true, false, ◌||◌, cond, List, [], ◌∷◌, refl, sym, ap, subst, ◌∙◌, arith}
 use Rattle.std.specs.List.{list_any}
-use Rattle.record_changes.proofs.Tests.{impossible}
+use Rattle.common_lemmas.proofs.Booleans.{impossible}
 use Rattle.versioned_tables.specs.HeldRecords.{HeldRecord, as_undone, undone_change}
 use Rattle.versioned_tables.specs.VersionedTables.{LeavesUndone, VersionedTables, last_undone, with_last_undone}
 

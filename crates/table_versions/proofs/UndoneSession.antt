@@ -3,9 +3,11 @@ use Rattle.std.proofs.Common.{◌≡◌, ℕ, ◌-◌, ◌<◌, ◌≤◌, Bool,
 use Rattle.std.specs.Prelude.{◌==◌, nat_lt}
 use Rattle.std.specs.List.{AllByRecursion, list_any}
 use Rattle.std.proofs.lemmas.Bool.Decides.{nat_tests}
-use Rattle.record_changes.proofs.Tests.{and_left, and_right, refuted}
+use Rattle.std.proofs.lemmas.Bool.{false_from_ne_true}
+use Rattle.common_lemmas.proofs.Booleans.{and_left, and_right}
+use Rattle.common_lemmas.proofs.Lists.{all_weaker}
 use Rattle.version_history.specs.History.{EachTwo}
-use Rattle.version_history.proofs.Lists.{all_weaker, each_weaker}
+use Rattle.version_history.proofs.Lists.{each_weaker}
 use Rattle.versioned_tables.specs.HeldRecords.{HeldRecord, is_open_at, is_open_of}
 use Rattle.versioned_tables.specs.VersionedTables.{VersionedTables, with_changes_undone}
 use Rattle.versioned_tables.proofs.OneByOne.{none_undone}
@@ -53,7 +55,7 @@ one_more level n some = by (nat_lt level n) (n == level) refl refl
 
 goes_first : (session level : ℕ) (earlier later : HeldRecord) → LevelsRise session earlier later → GoesFirst (is_open_above session level) (is_open_at session level) earlier later
 goes_first session level earlier later rise above =
-    refuted (is_open_at session level later)
+    false_from_ne_true (is_open_at session level later)
     (λ at. not_below level earlier.level later.level (rise (and_left (is_open_of session earlier) (nat_lt level earlier.level) above) (and_left (is_open_of session later) (later.level == level) at))
     (and_right (is_open_of session earlier) (nat_lt level earlier.level) above) (and_right (is_open_of session later) (later.level == level) at))
 
@@ -77,7 +79,7 @@ none_above : (session : ℕ) (held : List HeldRecord) → AllByRecursion (HasLev
 none_above session [] levels = refl
 none_above session (h ∷ held) levels =
     ap (λ (b : Bool). b || list_any (is_open_above session 7) held)
-    (refuted (is_open_above session 7 h) (λ above. not_over h.level (levels.0 (and_left (is_open_of session h) (nat_lt 7 h.level) above)).1 (and_right (is_open_of session h) (nat_lt 7 h.level) above)))
+    (false_from_ne_true (is_open_above session 7 h) (λ above. not_over h.level (levels.0 (and_left (is_open_of session h) (nat_lt 7 h.level) above)).1 (and_right (is_open_of session h) (nat_lt 7 h.level) above)))
     ∙ none_above session held levels.1
 
 pub none_undone_above : (session : ℕ) (store : VersionedTables) → AllByRecursion (HasLevel session) store.held → with_changes_undone (is_open_above session 7) store ≡ store

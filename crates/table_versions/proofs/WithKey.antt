@@ -1,12 +1,14 @@
 -- The entries of a key among all, gone over one after the other.
-use Rattle.std.proofs.Common.{◌≡◌, ℕ, Bool, true, false, not, ◌&&◌, ◌||◌, cond, inl, inr, List, [], ◌∷◌, Option, Some, None, filter, find, refl, sym, ap, ◌∙◌}
+use Rattle.std.proofs.Common.{◌≡◌, ℕ, Bool, true, false, ◌&&◌, ◌||◌, cond, inl, inr, List, [], ◌∷◌, Option, Some, None, filter, find, refl, sym, ap, ◌∙◌}
 use Rattle.std.specs.Prelude.{bytes_eq, IfSome}
 use Rattle.std.specs.List.{AllByRecursion, list_all, list_any}
+use Rattle.std.proofs.lemmas.Bool.{false_from_ne_true}
+use Rattle.common_lemmas.proofs.Booleans.{and_false, and_left, and_right, impossible}
+use Rattle.common_lemmas.proofs.Numbers.{same_bytes}
 use Rattle.column_set.specs.RecordValues.{bytes_le}
 use Rattle.cursor_nav.specs.Places.{Pair, are_sorted, entry_after, is_beyond, pair_lt}
 use Rattle.index_derive.specs.declared.entries.Place.{Place}
 use Rattle.index_derive.specs.declared.entries.Place.TheVariants.{Gap, On}
-use Rattle.record_changes.proofs.Tests.{and_false, and_left, and_right, impossible, refuted, same_bytes}
 use Rattle.versioned_tables.proofs.Neighbours.{above_all, all_in, found_in}
 use Rattle.versioned_tables.proofs.Order.{beyond_more, keys_of, le_itself, lt_le, not_back, not_below_itself, not_itself}
 
@@ -73,7 +75,7 @@ abbrev pub has_key_and : (List ℕ → Bool) → List ℕ → Pair → Bool
 has_key_and test key e = bytes_eq e.0 key && test e.1
 
 below_gap : (test : List ℕ → Bool) (key : List ℕ) (y : Pair) → is_beyond (Gap key false) y ≡ false → has_key_and test key y ≡ false
-below_gap test key y e = ap (λ b. b && test y.1) (refuted (bytes_eq y.0 key) (λ same. impossible (sym e ∙ ap (λ (k : List ℕ). bytes_le key k) (same_bytes y.0 key same) ∙ le_itself key)))
+below_gap test key y e = ap (λ b. b && test y.1) (false_from_ne_true (bytes_eq y.0 key) (λ same. impossible (sym e ∙ ap (λ (k : List ℕ). bytes_le key k) (same_bytes y.0 key same) ∙ le_itself key)))
 
 -- from the gap below the key on
 pub from_gap : (test : List ℕ → Bool) (key : List ℕ) (next : Option Pair) (entries : List Pair) → are_sorted entries ≡ true → next ≡ entry_after (Gap key false) entries
@@ -101,7 +103,7 @@ past_key test key e entries low other =
   where
     greater : (y : Pair) → pair_lt e y ≡ true → bytes_eq y.0 key ≡ false
     greater y above = elim (keys_of e y above) [
-      | inl less ↦ refuted (bytes_eq y.0 key) (λ same. not_below_itself e.0 (lt_le e.0 y.0 e.0 less (ap (λ (k : List ℕ). bytes_le k e.0) (same_bytes y.0 key same) ∙ low)))
+      | inl less ↦ false_from_ne_true (bytes_eq y.0 key) (λ same. not_below_itself e.0 (lt_le e.0 y.0 e.0 less (ap (λ (k : List ℕ). bytes_le k e.0) (same_bytes y.0 key same) ∙ low)))
       | inr same ↦ ap (λ (k : List ℕ). bytes_eq k key) (sym same) ∙ other
     ]
 
@@ -130,10 +132,6 @@ walk_finds test key entries e walk same passes = walk.same ∙ (λ i. (same i &&
 
 pub walk_passes : (test : List ℕ → Bool) (key : List ℕ) (entries : List Pair) (e : Pair) → KeyWalk test key entries (Some e) → bytes_eq e.0 key ≡ false → list_any (has_key_and test key) entries ≡ false
 walk_passes test key entries e walk other = walk.same ∙ past_key test key e entries walk.low other
-
-pub not_false : (b : Bool) → not b ≡ false → b ≡ true
-not_false true e = refl
-not_false false e = impossible (sym e)
 
 pub walk_ends : (test : List ℕ → Bool) (key : List ℕ) (entries : List Pair) (found : Option Pair) → KeyWalk test key entries found → found ≡ None → list_any (has_key_and test key) entries ≡ false
 walk_ends test key entries found walk is = walk.same ∙ ap (any_from (has_key_and test key) entries) is

@@ -1,6 +1,6 @@
 -- What holds of the entries holds of them with one more.
-use Rattle.std.proofs.Common.{Result, Ok, Err, List, [], ◌∷◌}
-use Rattle.std.specs.Prelude.{All, OnOk, OnErr}
+use Rattle.std.proofs.Common.{List, [], ◌∷◌}
+use Rattle.std.specs.Prelude.{All}
 use Rattle.std.proofs.lemmas.List.Elements.{All-cons, All-head, All-tail}
 use Rattle.common_lemmas.proofs.Booleans.{by_test}
 use Rattle.cursor_nav.specs.Places.{Pair}
@@ -12,7 +12,3 @@ insert_all P e (x ∷ es) h k =
     by_test (entry_le e x)
     (λ t. let whole : All P (e ∷ x ∷ es) = All-cons P e (x ∷ es) h k in rw t whole)
     (λ t. let whole : All P (x ∷ insert_entry e es) = All-cons P x (insert_entry e es) (All-head P x es k) (insert_all P e es h (All-tail P x es k)) in rw t whole)
-
-pub either_way : {A E : Type 0} {P Q R : Type 0} (r : Result A E) → (P → R) → (Q → R) → OnOk r P → OnErr r Q → R
-either_way (Ok x) f g h k = f h
-either_way (Err x) f g h k = g k

@@ -2,6 +2,7 @@
 use Rattle.std.proofs.Common.{◌≡◌, ℕ, Bool, true, false, not, ◌||◌, List, [], ◌∷◌, Option, Some, None, length, refl, sym, ap, ◌∙◌}
 use Rattle.std.specs.Prelude.{MatchOption, is_none, is_some}
 use Rattle.std.specs.List.{AllByRecursion, flat_map, list_all}
+use Rattle.std.proofs.lemmas.Bool.{and_from}
 use Rattle.column_set.specs.declared.columns.Column.{Column}
 use Rattle.column_set.specs.RecordValues.{RecordFields, column_of_id, has_value, is_kept_column, record_fits, values_fit, values_of}
 use Rattle.database_state.specs.Lawful.{is_indexable}
@@ -14,14 +15,14 @@ use Rattle.index_derive.specs.declared.rules.IndexRule.{IndexRule}
 use Rattle.index_derive.specs.declared.rules.Schema.{Schema}
 use Rattle.index_derive.specs.Entries.{entries, primary_key}
 use Rattle.jet_base.specs.declared.replies.Jet.TheVariants as jet
-use Rattle.record_changes.proofs.Tests.{and_both, and_left, and_right}
-use Rattle.version_history.proofs.Lists.{all_both, all_weaker}
+use Rattle.version_history.proofs.Lists.{all_both}
 use Rattle.version_keys.proofs.IndexNumbers.{all_primary_first}
 use Rattle.version_keys.proofs.SameColumns.{entries_same, legal_same, primary_key_same}
 use Rattle.version_keys.proofs.SchemaKeys.{each_column, found_has}
 use Rattle.stored_variants.specs.VersionsKept.{IsBookmarkOf, IsStoredRule}
 use Rattle.common_lemmas.proofs.Found.{of_found}
-use Rattle.common_lemmas.proofs.Lists.{all_stronger}
+use Rattle.common_lemmas.proofs.Lists.{all_stronger, all_weaker}
+use Rattle.common_lemmas.proofs.Booleans.{and_left, and_right}
 
 abbrev pub with_columns : List Column → GreatestColumns → Rows → Table → Table
 with_columns columns greatest rows t = record t { columns = columns; greatest = greatest; rows = rows }
@@ -41,7 +42,7 @@ has_all : (columns : List Column) (greatest : GreatestColumns) (rows : Rows) (t 
     → list_all (has_column (with_columns columns greatest rows t)) ids ≡ true
 has_all columns greatest rows t [] same h = refl
 has_all columns greatest rows t (id ∷ ids) same h =
-    and_both (has_column (with_columns columns greatest rows t) id) (list_all (has_column (with_columns columns greatest rows t)) ids)
+    and_from (has_column (with_columns columns greatest rows t) id) (list_all (has_column (with_columns columns greatest rows t)) ids)
     (sym (found_has columns id) ∙ ap is_some same.0 ∙ found_has t.columns id ∙ and_left (has_column t id) _ h)
     (has_all columns greatest rows t ids same.1 (and_right (has_column t id) _ h))
 
@@ -108,7 +109,7 @@ column_there (Some column) values h = refl
 -- a record fits one column more
 pub fits_with : (column : Column) (columns : List Column) (values : RecordFields) → is_kept_column column ≡ false → record_fits columns values ≡ true → record_fits (columns_with column columns) values ≡ true
 fits_with column columns values plain h =
-    and_both (list_all (takes (columns_with column columns)) values) (list_all (λ c. not (is_kept_column c) || has_value values c.id.0) (columns_with column columns))
+    and_from (list_all (takes (columns_with column columns)) values) (list_all (λ c. not (is_kept_column c) || has_value values c.id.0) (columns_with column columns))
     (all_stronger (takes columns) (takes (columns_with column columns))
     (λ field e. ap (λ (o : Option Column). elim o [ Some c ↦ values_fit c field.1 | None ↦ false ]) (column_of_id-columns_with column field.0 columns (column_there (column_of_id columns field.0) field.1 e)) ∙ e)
     values (and_left (list_all (takes columns) values) _ h))

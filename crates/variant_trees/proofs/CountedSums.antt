@@ -1,12 +1,12 @@
 -- Counts of long values where a row has a sum made in it.
 use Rattle.std.proofs.Common.{◌≡◌, ℕ, Bool, true, false, ◌&&◌, cond, List, Option, Some, option_map, refl, sym, ap, ◌∙◌}
 use Rattle.std.specs.Prelude.{◌==◌, bytes_eq}
+use Rattle.std.proofs.lemmas.Bool.{eqb-true}
 use Rattle.column_set.specs.RowReading.{row_in}
 use Rattle.btree_inplace.specs.Changes.{with_data_at}
 use Rattle.long_references.specs.ReferenceCounts.{count_of, reference_count}
 use Rattle.long_references.specs.RowReferences.{identifiers, references, times_among}
 use Rattle.long_references.proofs.CountSteps.{rewritten}
-use Rattle.record_changes.proofs.Tests.{same_number}
 use Rattle.table_trees.specs.StoredTables.{StoredTable, table_nodes}
 use Rattle.version_store.specs.HeldChanges.{HeldChange}
 use Rattle.stored_variants.specs.CountedValues.{AreCounted, newest_rows, rows_before}
@@ -32,6 +32,6 @@ sum_counted laws trees id bookmark row now under some names fills held counts = 
         ap (λ rows. reference_count k rows (rows_before n held)) (newest_with (table_nodes trees n) (table_nodes new n) bookmark (row_in_node now) (fills.sorted n) (fills.sorted_then n) (λ own. row_then n own true e))
         ∙ rewritten k bookmark (option_map row_in (row_in_node now)) (newest_rows (table_nodes trees n)) (rows_before n held) (own_rows_are (table_nodes trees n) (fills.sorted n))
         (ap (λ (o : Option (List ℕ)). references k (option_map row_in o)) some ∙ ap (times_among k) names
-        ∙ sym (ap (references k) (own_row (table_nodes trees n) (fills.sorted n) bookmark ∙ ap (option_map row_in) (ap (λ m. row_under (table_nodes trees m) bookmark) (sym (same_number id n e)) ∙ under))))
+        ∙ sym (ap (references k) (own_row (table_nodes trees n) (fills.sorted n) bookmark ∙ ap (option_map row_in) (ap (λ m. row_under (table_nodes trees m) bookmark) (sym (eqb-true id n e)) ∙ under))))
     by n k false e =
         ap (λ rows. reference_count k rows (rows_before n held)) (same_newest (table_nodes new n) (table_nodes trees n) (fills.sorted_then n) (fills.sorted n) (λ own. row_then n own false e))

@@ -2,9 +2,11 @@
 use Rattle.std.proofs.Common.{◌≡◌, ◌≢◌, ℕ, Bool, true, false, not, ◌&&◌, ◌||◌, cond, List, [], ◌∷◌, Option, Some, None, find, map, option_map, refl, sym, ap, ◌∙◌}
 use Rattle.std.specs.Prelude.{◌==◌, bytes_eq, unwrap_or}
 use Rattle.std.specs.List.{list_any}
+use Rattle.std.proofs.lemmas.Bool.{eqb-true}
+use Rattle.common_lemmas.proofs.Booleans.{and_left, and_right, impossible}
+use Rattle.common_lemmas.proofs.Numbers.{same_bytes, self_equal}
 use Rattle.cursor_nav.specs.Places.{Pair}
 use Rattle.derived_index.specs.KeptEntries.{has_entry, without_entry}
-use Rattle.record_changes.proofs.Tests.{and_left, and_right, impossible, same_bytes, same_number, self_equal}
 use Rattle.table_trees.specs.StoredTables.{StoredIndex, StoredTable, changed_where, has_index, has_table, index_entries, is_index, is_table, part_of, put_entries, put_indexes, table_indexes, table_long_values, table_nodes, with_entries, with_indexes}
 use Rattle.variant_trees.specs.GoneKeys.{ChangesEntries, index_numbers, table_numbers}
 
@@ -84,10 +86,10 @@ entries_changed laws trees table index entries there = record {
 
     by : (other : ℕ) (b : Bool) → (other == table) ≡ b → index_numbers (with_entries table index entries trees) other ≡ index_numbers trees other
     by other true e =
-        ap (index_numbers (with_entries table index entries trees)) (same_number other table e)
+        ap (index_numbers (with_entries table index entries trees)) (eqb-true other table e)
         ∙ ap (map (λ (x : StoredIndex). x.0)) (laws.named trees table changed (table_there trees table index there))
         ∙ same_index_numbers index entries (table_indexes trees table)
-        ∙ sym (ap (index_numbers trees) (same_number other table e))
+        ∙ sym (ap (index_numbers trees) (eqb-true other table e))
     by other false e = ap (map (λ (x : StoredIndex). x.0)) (laws.others trees table other changed (other_number other table e))
 
 pub entries_stay : (table : ℕ) (trees : List StoredTable) → ChangesEntries table trees trees

@@ -2,7 +2,8 @@
 use Rattle.std.proofs.Common.{◌≡◌, ℕ, Bool, true, false, not, ◌&&◌, ◌||◌, inl, inr, List, [], Option, Some, None, find, option_map, refl, sym, ap, subst, ◌∙◌}
 use Rattle.std.specs.Prelude.{bytes_eq, IfSome, option_and_then}
 use Rattle.std.specs.List.{list_any}
-use Rattle.common_lemmas.proofs.Booleans.{or_false}
+use Rattle.common_lemmas.proofs.Booleans.{and_right, impossible, or_false}
+use Rattle.common_lemmas.proofs.Numbers.{same_bytes}
 use Rattle.page_image.specs.Page.{Node}
 use Rattle.btree_inplace.specs.Order.{has_key, key_and_data}
 use Rattle.cursor_nav.specs.Places.{Pair, are_sorted}
@@ -14,7 +15,6 @@ use Rattle.index_derive.specs.declared.rules.IndexRule.{IndexRule}
 use Rattle.index_derive.specs.declared.rules.Schema.{Schema}
 use Rattle.index_derive.specs.Entries.{is_legal}
 use Rattle.index_tree.specs.Entries.{IsApart}
-use Rattle.record_changes.proofs.Tests.{and_right, impossible, same_bytes}
 use Rattle.table_trees.specs.StoredNodes.{bookmark_entries, node_after}
 use Rattle.table_trees.specs.StoredTables.{table_long_values, StoredTable, index_entries, table_nodes}
 use Rattle.variant_trees.specs.NewEntries.{IsAmong, IsTakenRow, OnlyEntries, is_key_in_node, is_newest_key}

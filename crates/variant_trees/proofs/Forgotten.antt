@@ -16,7 +16,6 @@ use Rattle.index_derive.specs.declared.rules.Schema.{Schema}
 use Rattle.index_derive.specs.Entries.{KeyRefusal, NullKeyDisallowed, KeyTruncated, entries, is_legal, primary_key}
 use Rattle.jet_catalog.specs.Catalog.{CatalogState, IsNumbered, ids_rise}
 use Rattle.page_image.specs.Page.{Node}
-use Rattle.record_changes.proofs.Tests.{and_left, and_right, impossible, refuted, same_number, self_equal}
 use Rattle.table_trees.specs.StoredTables.{StoredTable, index_entries, table_long_values, table_nodes}
 use Rattle.version_store.specs.HeldChanges.{HeldChange, is_rewrite, is_standing}
 use Rattle.versioned_tables.specs.HeldRecords.{HeldRecord, is_standing_rewrite}
@@ -34,14 +33,16 @@ use Rattle.long_references.specs.RowReferences.{identifiers, references}
 use Rattle.long_rows.specs.RowsInUse.{before}
 use Rattle.long_value.specs.Values.{Values, value_of}
 use Rattle.std.proofs.lemmas.List.Sums.{sum_by-cons}
-use Rattle.std.proofs.lemmas.Bool.{ltb-true}
+use Rattle.std.proofs.lemmas.Bool.{eqb-true, false_from_ne_true, ltb-true}
 use Rattle.common_lemmas.proofs.Options.{none_some, same_some}
+use Rattle.common_lemmas.proofs.Booleans.{and_left, and_right, impossible}
+use Rattle.common_lemmas.proofs.Lists.{all_append, all_filter}
+use Rattle.common_lemmas.proofs.Numbers.{self_equal}
 use Rattle.stored_variants.specs.CountedValues.{AreCounted, newest_rows, row_before, rows_before}
 use Rattle.stored_variants.proofs.CountedRows.{first_of_other, first_of_table}
 use Rattle.variant_trees.proofs.CountedUndone.{no_references}
 use Rattle.variant_trees.proofs.EntryTrees.{other_number}
 use Rattle.variant_trees.proofs.Released.{named_is_there}
-use Rattle.versioned_tables.proofs.Lists.{all_append, all_filter}
 
 -- ---- the keys of a row that an index took
 
@@ -222,7 +223,7 @@ oldest_left longs tables trees h rest row is kept = record {
 -- ---- tables have ids of their own
 
 not_same : (a b n : ℕ) → n ≤ a → a < b → (b == n) ≡ false
-not_same a b n h g = refuted (b == n) (λ e. no (same_number b n e))
+not_same a b n h g = false_from_ne_true (b == n) (λ e. no (eqb-true b n e))
   where
     no : b ≡ n → ⊥
     no e = omega arith
@@ -412,7 +413,7 @@ oldest_counted law old mid new held table bookmark row k values rows released co
     by n true e =
         let own : (k.change.table == n) ≡ true = ap (λ m. m == n) k.of_table ∙ e in
         let now : table_long_values new n ≡ with_all_released (identifiers (Some (row_in row))) (table_long_values old n) =
-        subst (λ (m : ℕ). table_long_values new m ≡ with_all_released (identifiers (Some (row_in row))) (table_long_values mid m)) (same_number table n e) released.named
+        subst (λ (m : ℕ). table_long_values new m ≡ with_all_released (identifiers (Some (row_in row))) (table_long_values mid m)) (eqb-true table n e) released.named
         ∙ ap (with_all_released (identifiers (Some (row_in row)))) (values n) in
         subst (λ (v : Values). HasCounts v (newest_rows (table_nodes old n)) (rows_before n k.rest)) (ap (λ (ids : List (List ℕ)). with_all_released ids (table_long_values old n)) gone ∙ sym now)
         (law (table_long_values old n) (newest_rows (table_nodes old n)) (row_before k.change) (rows_before n k.rest)

@@ -2,6 +2,9 @@
 use Rattle.std.proofs.Common.{◌≡◌, ℕ, ◌≤◌, Bool, true, false, not, ◌&&◌, ◌||◌, cond, List, [], ◌∷◌, Option, Some, None, find, map, option_map, refl, sym, ap, subst, ◌∙◌}
 use Rattle.std.specs.Prelude.{◌==◌, IfSome, IsSomeAnd, bytes_eq, is_none, is_some, option_and_then}
 use Rattle.std.specs.List.{AllByRecursion, list_any}
+use Rattle.std.proofs.lemmas.Bool.{eqb-true}
+use Rattle.common_lemmas.proofs.Numbers.{same_bytes, self_equal}
+use Rattle.common_lemmas.proofs.Booleans.{impossible}
 use Rattle.btree_inplace.specs.Changes.{with_data_at, without_key}
 use Rattle.btree_inplace.specs.Order.{extent_in, get_in, has_key}
 use Rattle.column_set.specs.RecordValues.{RecordFields}
@@ -14,7 +17,7 @@ use Rattle.kept_rows.specs.ValuesChanged.{HasLongValues}
 use Rattle.long_references.specs.ReferenceCounts.{with_all_taken}
 use Rattle.long_value.specs.Values.{Values}
 use Rattle.page_image.specs.Page.{Node}
-use Rattle.record_changes.proofs.Tests.{equal_bytes, impossible, same_bytes, same_number, self_equal}
+use Rattle.record_changes.proofs.Tests.{equal_bytes}
 use Rattle.table_trees.specs.StoredNodes.{put_data}
 use Rattle.table_trees.specs.StoredTables.{StoredIndex, StoredTable, has_table, index_entries, is_index, part_of, table_long_values, table_nodes, with_nodes}
 use Rattle.versioned_tables.specs.HeldRecords.{HeldRecord}
@@ -136,7 +139,7 @@ taken_back schema values table bookmark newest held base now taken rules half ot
     same (Some row) e false = refl
 
     row : (other : ℕ) (own : List ℕ) (a b : Bool) → (table == other) ≡ a → bytes_eq bookmark own ≡ b → node_at_least (a && b) (get_in (table_nodes base other) own) ≡ get_in (table_nodes base other) own
-    row other own true true e f = same (get_in (table_nodes base other) own) (there ∙ (λ i. is_none (get_in (table_nodes base (same_number table other e i)) (same_bytes bookmark own f i)))) true
+    row other own true true e f = same (get_in (table_nodes base other) own) (there ∙ (λ i. is_none (get_in (table_nodes base (eqb-true table other e i)) (same_bytes bookmark own f i)))) true
     row other own true false e f = refl
     row other own false b e f = refl
 
@@ -174,7 +177,7 @@ taken_back_with_node laws schema values table bookmark newest held base now take
     gone (Some row) e = impossible (sym e)
 
     none : (other : ℕ) (own : List ℕ) → (table == other) ≡ true → bytes_eq bookmark own ≡ true → get_in (table_nodes base other) own ≡ None
-    none other own e f = (λ i. get_in (table_nodes base (sym (same_number table other e) i)) (sym (same_bytes bookmark own f) i)) ∙ gone (get_in (table_nodes base table) bookmark) absent
+    none other own e f = (λ i. get_in (table_nodes base (sym (eqb-true table other e) i)) (sym (same_bytes bookmark own f) i)) ∙ gone (get_in (table_nodes base table) bookmark) absent
 
     kept : (other : ℕ) (own : List ℕ) → is_place table bookmark other own ≡ false → get_in (table_nodes taken other) own ≡ get_in (table_nodes base other) own
     kept other own miss = ap (λ (nodes : List Node). get_in nodes own) (others.nodes other) ∙ half.rows other own ∙ ap (λ b. node_at_least b (get_in (table_nodes base other) own)) miss
@@ -183,7 +186,7 @@ taken_back_with_node laws schema values table bookmark newest held base now take
         → data_of (cond a (cond b None (find (has_key own) (table_nodes taken table))) (find (has_key own) (table_nodes taken other))) ≡ get_in (table_nodes base other) own
     row other own true true e f = sym (none other own e f)
     row other own true false e f =
-        (λ i. get_in (table_nodes taken (same_number table other e i)) own) ∙ kept other own (λ i. e i && f i)
+        (λ i. get_in (table_nodes taken (eqb-true table other e i)) own) ∙ kept other own (λ i. e i && f i)
     row other own false b e f = kept other own (ap (λ x. x && bytes_eq bookmark own) e)
 
     no_extent : (o : Option Node) → data_of o ≡ None → extent_of o ≡ None
@@ -199,7 +202,7 @@ taken_back_with_node laws schema values table bookmark newest held base now take
     wide : (other : ℕ) (own : List ℕ) (a b : Bool) → (table == other) ≡ a → bytes_eq bookmark own ≡ b
         → IsWidened (extent_in (table_nodes base other) own) (extent_of (cond a (cond b None (find (has_key own) (table_nodes taken table))) (find (has_key own) (table_nodes taken other))))
     wide other own true true e f = subst (λ (o : Option ℕ). IsWidened o None) (sym (no_extent (find (has_key own) (table_nodes base other)) (none other own e f))) tt
-    wide other own true false e f = subst (λ (n : ℕ). IsWidened (extent_in (table_nodes base other) own) (extent_in (table_nodes taken n) own)) (sym (same_number table other e)) (widened other own)
+    wide other own true false e f = subst (λ (n : ℕ). IsWidened (extent_in (table_nodes base other) own) (extent_in (table_nodes taken n) own)) (sym (eqb-true table other e)) (widened other own)
     wide other own false b e f = widened other own
 
 -- ---- a put that is done
@@ -225,7 +228,7 @@ pub values_given : (table : ℕ) (given : List (List ℕ × List ℕ)) (old mid 
 values_given table given old mid new same long other = by (table == other) refl
   where
     by : (b : Bool) → (table == other) ≡ b → table_long_values new other ≡ cond b (with_all_taken given (table_long_values old table)) (table_long_values old other)
-    by true e = ap (table_long_values new) (sym (same_number table other e)) ∙ long.named ∙ ap (with_all_taken given) (same table)
+    by true e = ap (table_long_values new) (sym (eqb-true table other e)) ∙ long.named ∙ ap (with_all_taken given) (same table)
     by false e = long.others other (λ is. other_number table other e (sym is)) ∙ same other
 
 pub put_done : (laws : NodeLaws) (table : ℕ) (bookmark row : List ℕ) (size : ℕ) (given : List (List ℕ × List ℕ)) (keys : Keys) (old mid keyed ready : List StoredTable) → has_table ready table ≡ true → HasRoom table bookmark size old mid → HasKeys table bookmark keys mid keyed
@@ -276,7 +279,7 @@ put_done laws table bookmark row size given keys old mid keyed ready there room 
     data_is other own true true e f =
         put_there (find (has_key own) (table_nodes ready table)) ((λ i. is_some (get_in (table_nodes ready table) (sym (same_bytes bookmark own f) i))) ∙ node_is_there table bookmark keys old ready half)
     data_is other own true false e f =
-        unchanged (find (has_key own) (table_nodes ready table)) ∙ (λ i. get_in (table_nodes ready (same_number table other e i)) own) ∙ kept other own (λ i. e i && f i)
+        unchanged (find (has_key own) (table_nodes ready table)) ∙ (λ i. get_in (table_nodes ready (eqb-true table other e i)) own) ∙ kept other own (λ i. e i && f i)
     data_is other own false b e f = kept other own (ap (λ x. x && bytes_eq bookmark own) e)
 
     same_extent : (b : Bool) (o : Option Node) → extent_of (option_map (λ (n : Node). cond b (put_data row n) n) o) ≡ extent_of o
@@ -287,7 +290,7 @@ put_done laws table bookmark row size given keys old mid keyed ready there room 
     wide : (other : ℕ) (own : List ℕ) (a b : Bool) → (table == other) ≡ a
         → IsWidened (extent_in (table_nodes old other) own) (extent_of (cond a (option_map (λ (n : Node). cond b (put_data row n) n) (find (has_key own) (table_nodes ready table))) (find (has_key own) (table_nodes ready other))))
     wide other own true b e =
-        subst (λ (o : Option ℕ). IsWidened (extent_in (table_nodes old other) own) o) (sym (same_extent b (find (has_key own) (table_nodes ready table)) ∙ (λ i. extent_in (table_nodes ready (same_number table other e i)) own))) (half.extents other own)
+        subst (λ (o : Option ℕ). IsWidened (extent_in (table_nodes old other) own) o) (sym (same_extent b (find (has_key own) (table_nodes ready table)) ∙ (λ i. extent_in (table_nodes ready (eqb-true table other e i)) own))) (half.extents other own)
     wide other own false b e = half.extents other own
 
 -- nothing was done

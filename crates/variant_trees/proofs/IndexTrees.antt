@@ -3,6 +3,7 @@ use Rattle.std.proofs.Common.{◌≡◌, ◌≢◌, ℕ, Bool, true, false, not,
 use Rattle.std.specs.Prelude.{◌==◌, nat_lt, IfSome, IsSomeAnd, is_some, unwrap_or}
 use Rattle.std.specs.List.{list_any}
 use Rattle.std.proofs.lemmas.List.Elements.{filter-append}
+use Rattle.common_lemmas.proofs.Numbers.{self_equal}
 use Rattle.column_set.specs.RecordValues.{RecordFields}
 use Rattle.cursor_nav.specs.Places.{are_sorted}
 use Rattle.database_state.specs.Conflicts.{yields_key}
@@ -15,7 +16,7 @@ use Rattle.index_derive.specs.Entries.{entries}
 use Rattle.jet_base.specs.declared.ids.TableId.{TableId}
 use Rattle.jet_catalog.specs.Catalog.{CatalogState, IsNumbered, catalog_after, ids_rise}
 use Rattle.page_image.specs.Page.{Node}
-use Rattle.record_changes.proofs.Tests.{or_first, or_second, self_equal}
+use Rattle.record_changes.proofs.Tests.{or_first, or_second}
 use Rattle.table_trees.specs.StoredNodes.{bookmark_entries}
 use Rattle.table_trees.specs.StoredTables.{table_long_values, StoredIndex, StoredTable, has_index, has_table, index_entries, is_index, is_table, put_indexes, table_indexes, table_nodes, with_indexes, with_new_index, without_index as without_tree, without_where}
 use Rattle.variant_trees.specs.NewEntries.{CanFill, HasNewestKeys, IsTakenRow, OnlyEntries, is_newest_key}

@@ -2,6 +2,8 @@
 use Rattle.std.proofs.Common.{◌≡◌, ℕ, Bool, true, false, not, ◌||◌, cond, List, [], ◌∷◌, ◌++◌, Option, Some, None, filter, find, map, option_map, refl, sym, ap, subst, ◌∙◌}
 use Rattle.std.specs.Prelude.{◌==◌, IfSome, IsSomeAnd, is_some, unwrap_or}
 use Rattle.std.specs.List.{list_any}
+use Rattle.std.proofs.lemmas.Bool.{eqb-true}
+use Rattle.common_lemmas.proofs.Numbers.{self_equal}
 use Rattle.jet_base.specs.Ids.{table_id}
 use Rattle.jet_base.specs.declared.ids.ColumnId.{ColumnId}
 use Rattle.jet_base.specs.declared.ids.IndexId.{IndexId}
@@ -15,7 +17,7 @@ use Rattle.database_state.specs.Table.{GreatestColumns, Table, table_with_id, wi
 use Rattle.jet_catalog.specs.Catalog.{CatalogState, IsNumbered, catalog_after}
 use Rattle.catalog_changes.specs.CatalogSteps.{has_index, has_nodes}
 use Rattle.catalog_tree.specs.CatalogsKept.{HasColumn, HasIndex}
-use Rattle.record_changes.proofs.Tests.{or_first, or_second, same_number, self_equal}
+use Rattle.record_changes.proofs.Tests.{or_first, or_second}
 use Rattle.table_trees.specs.ShownCatalogs.{IsNewColumn, IsNewIndex, ShowsCatalog, ShowsStep}
 use Rattle.table_trees.specs.StoredTables.{StoredTable, has_index as has_tree, has_table, is_index, is_table}
 use Rattle.table_trees.specs.StoredTrees.{StoredCatalog, StoredRoots, roots_by_number}
@@ -144,7 +146,7 @@ tables_back id rule (t ∷ tables) distinct lacks = by (t.id == id) refl lacks (
     back u = cond (u.id == id) (without_index rule.id.0 u) u
 
     none : (t.id == id) ≡ true → table_with_id tables id ≡ None
-    none e = none_in id tables (ap (λ n. list_any (λ (x : Table). x.id == n) tables) (sym (same_number t.id id e)) ∙ distinct.0)
+    none e = none_in id tables (ap (λ n. list_any (λ (x : Table). x.id == n) tables) (sym (eqb-true t.id id e)) ∙ distinct.0)
 
     by : (b : Bool) → (t.id == id) ≡ b → LacksIndex rule.id.0 (cond b (Some t) (table_with_id tables id)) → (LacksIndex rule.id.0 (table_with_id tables id) → with_and_without id rule tables ≡ tables)
         → back (cond b (with_index rule t) t) ∷ with_and_without id rule tables ≡ t ∷ tables

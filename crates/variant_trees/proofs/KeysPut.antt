@@ -5,7 +5,9 @@ use Rattle.std.specs.List.{AllByRecursion, list_any}
 use Rattle.std.proofs.lemmas.List.{take_all}
 use Rattle.std.proofs.lemmas.List.Elements.{All-cons}
 use Rattle.std.proofs.lemmas.List.Folds.{list_any_more}
-use Rattle.std.proofs.lemmas.Bool.{or_left}
+use Rattle.std.proofs.lemmas.Bool.{eqb-true, or_left}
+use Rattle.common_lemmas.proofs.Booleans.{and_left, and_right, impossible}
+use Rattle.common_lemmas.proofs.Numbers.{bytes_turned, same_bytes, self_equal}
 use Rattle.column_set.specs.RecordValues.{RecordFields, record_fits}
 use Rattle.cursor_nav.specs.Places.{Pair}
 use Rattle.database_state.specs.Conflicts.{yields_key}
@@ -14,13 +16,12 @@ use Rattle.index_derive.specs.declared.rules.IndexRule.{IndexRule}
 use Rattle.index_derive.specs.declared.rules.Schema.{Schema}
 use Rattle.index_derive.specs.Entries.{entries, entry_le, insert_entry, is_legal, key_list, keys_or_none, KeyRefusal}
 use Rattle.index_tree.specs.Entries.{IsApart, IsApartFromAll}
-use Rattle.record_changes.proofs.Tests.{and_left, and_right, equal_bytes, impossible, same_bytes, same_number, self_equal}
+use Rattle.record_changes.proofs.Tests.{equal_bytes}
 use Rattle.table_trees.specs.StoredTables.{StoredTable, has_index, index_entries, table_indexes, with_entries}
 use Rattle.stored_variants.specs.PutRecords.{HasKeysOf, Keys, record_keys, rule_keys}
 use Rattle.variant_trees.specs.GoneKeys.{index_numbers}
 use Rattle.variant_trees.specs.PutStages.{AreKeysOfRecords, CanTake, HasKeys, IsKeyOfRecord, MayHaveKeys, one_key, some_keys}
 use Rattle.variant_trees.proofs.EntryTrees.{EntryLaws, IndexLaws, entries_changed, entries_stay, entries_then}
-use Rattle.stored_variants.proofs.NodeRecords.{turned}
 use Rattle.stored_variants.proofs.FoundRules.{list_any_numbers}
 
 -- ---- an entry that is put
@@ -63,7 +64,7 @@ has_it trees table index key bookmark there = record {
         let which = and_right (bytes_eq own bookmark) _ e in
         let is : has_entry k own (index_entries trees table i) ≡ true =
         (λ j. has_entry (same_bytes k key (and_right (index == i) _ which) j) (same_bytes own bookmark (and_left (bytes_eq own bookmark) _ e) j)
-        (index_entries trees table (sym (same_number index i (and_left (index == i) _ which)) j))) ∙ there in
+        (index_entries trees table (sym (eqb-true index i (and_left (index == i) _ which)) j))) ∙ there in
         is ∙ ap (λ b. b || true) (sym is)
 
 -- and one that was not
@@ -94,12 +95,12 @@ has_put laws entry_laws trees table index key bookmark there = record {
         → has_entry k own (index_entries (with_entries table index (insert_entry (key, bookmark) (index_entries trees table index)) trees) table i)
         ≡ (has_entry k own (index_entries trees table i) || (bytes_eq own bookmark && (b && bytes_eq k key)))
     by i k own true e =
-        (λ j. has_entry k own (index_entries (with_entries table index (insert_entry (key, bookmark) (index_entries trees table index)) trees) table (sym (same_number index i e) j)))
+        (λ j. has_entry k own (index_entries (with_entries table index (insert_entry (key, bookmark) (index_entries trees table index)) trees) table (sym (eqb-true index i e) j)))
         ∙ ap (has_entry k own) (entry_laws.named trees table index _ there)
         ∙ found_inserted (key, bookmark) k own (index_entries trees table index)
-        ∙ (λ j. (turned key k j && turned bookmark own j) || has_entry k own (index_entries trees table index))
+        ∙ (λ j. (bytes_turned key k j && bytes_turned bookmark own j) || has_entry k own (index_entries trees table index))
         ∙ moved (bytes_eq k key) (bytes_eq own bookmark) (has_entry k own (index_entries trees table index))
-        ∙ (λ j. has_entry k own (index_entries trees table (same_number index i e j)) || (bytes_eq own bookmark && bytes_eq k key))
+        ∙ (λ j. has_entry k own (index_entries trees table (eqb-true index i e j)) || (bytes_eq own bookmark && bytes_eq k key))
     by i k own false e = ap (has_entry k own) (entry_laws.others trees table index i _ (unlike index i e)) ∙ and_false (has_entry k own (index_entries trees table i)) (bytes_eq own bookmark)
 
 -- ---- more keys

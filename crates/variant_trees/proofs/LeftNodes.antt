@@ -2,7 +2,9 @@
 use Rattle.std.proofs.Common.{◌≡◌, ℕ, ◌≤◌, Bool, true, false, not, ◌&&◌, ◌||◌, cond, List, [], ◌∷◌, length, Option, Some, None, find, map, option_map, refl, sym, ap, subst, ◌∙◌}
 use Rattle.std.specs.Prelude.{◌==◌, IfSome, IsSomeAnd, bytes_eq, is_some, option_and_then, unwrap_or}
 use Rattle.std.specs.List.{AllByRecursion, list_any}
-use Rattle.std.proofs.lemmas.Bool.{or_left, or_right}
+use Rattle.std.proofs.lemmas.Bool.{eqb-true, or_left, or_right}
+use Rattle.common_lemmas.proofs.Booleans.{and_left, and_right, impossible}
+use Rattle.common_lemmas.proofs.Numbers.{bytes_turned, same_bytes, self_equal}
 use Rattle.btree_inplace.specs.Order.{extent_in, get_in, has_key}
 use Rattle.column_set.specs.RecordValues.{RecordFields}
 use Rattle.database_state.specs.State.{Status, uncommitted, committed, undone, is_open, is_undone}
@@ -11,7 +13,6 @@ use Rattle.derived_index.specs.KeptEntries.{has_entry}
 use Rattle.index_derive.specs.declared.rules.IndexRule.{IndexRule}
 use Rattle.index_derive.specs.declared.rules.Schema.{Schema}
 use Rattle.page_image.specs.Page.{Node}
-use Rattle.record_changes.proofs.Tests.{and_left, and_right, impossible, same_bytes, same_number, self_equal}
 use Rattle.table_trees.specs.StoredTables.{StoredIndex, StoredTable, has_table, index_entries, is_index, is_table, part_of, table_nodes}
 use Rattle.version_store.specs.HeldChanges.{HeldChange, is_rewrite}
 use Rattle.versioned_tables.specs.HeldRecords.{HeldRecord, is_standing_rewrite}
@@ -22,7 +23,6 @@ use Rattle.variant_trees.specs.LeftVariants.{AreLeft, DistinctIds, IsLeft, Loses
 use Rattle.stored_variants.specs.VersionsView.{with_newest_by}
 use Rattle.stored_variants.specs.VersionsKept.{AreKeptWith, IsKeptChange, IsKeptTable, IsRowUnder, needed_trees, only_secondary, secondary_rule, tree_numbers}
 use Rattle.variant_trees.proofs.EntryTrees.{no_part, other_number}
-use Rattle.stored_variants.proofs.NodeRecords.{turned}
 use Rattle.stored_variants.proofs.Tables.{found_number}
 
 -- ---- numbers
@@ -87,7 +87,7 @@ numbers_needed (x ∷ new) (y ∷ trees) (t ∷ tables) ids needed same indexes 
     here = λ i. (number i, (sym (own_indexes x new y.number number) ∙ indexes y.number ∙ own_indexes y trees y.number refl) i)
 
     none : (n : ℕ) → (y.number == n) ≡ true → has_table trees n ≡ false
-    none n e = same_ids trees tables (ap other_pairs needed) n ∙ ap (λ (m : ℕ). list_any (λ (z : Table). z.id == m) tables) (sym (same_number y.number n e) ∙ ap (λ (p : ℕ × List ℕ). p.0) (ap first_pair needed)) ∙ ids.0
+    none n e = same_ids trees tables (ap other_pairs needed) n ∙ ap (λ (m : ℕ). list_any (λ (z : Table). z.id == m) tables) (sym (eqb-true y.number n e) ∙ ap (λ (p : ℕ × List ℕ). p.0) (ap first_pair needed)) ∙ ids.0
 
     past : (z : StoredTable) (zs : List StoredTable) (n : ℕ) → (z.number == n) ≡ false → index_numbers (z ∷ zs) n ≡ index_numbers zs n
     past z zs n e = ap (λ (b : Bool). map (λ (i : StoredIndex). i.0) (unwrap_or (option_map (λ (y : StoredTable). y.indexes) (cond b (Some z) (find (is_table n) zs))) [])) e
@@ -116,7 +116,7 @@ found_then newest held schema id bookmark gone old between new goes table own =
 
 -- the record is the one
 this_table : (id : ℕ) (bookmark : List ℕ) (table : ℕ) (own : List ℕ) → is_this id bookmark table own ≡ true → id ≡ table
-this_table id bookmark table own e = same_number id table (and_left (id == table) (bytes_eq bookmark own) e)
+this_table id bookmark table own e = eqb-true id table (and_left (id == table) (bytes_eq bookmark own) e)
 
 this_bookmark : (id : ℕ) (bookmark : List ℕ) (table : ℕ) (own : List ℕ) → is_this id bookmark table own ≡ true → bookmark ≡ own
 this_bookmark id bookmark table own e = same_bytes bookmark own (and_right (id == table) (bytes_eq bookmark own) e)
@@ -186,11 +186,11 @@ table_kept_then longs newest held schema id bookmark gone old between new goes i
         ∙ nothing (has_entry key own (index_entries old t.id index))
         ∙ ap (λ b. has_entry key own (index_entries old t.id index) && not (b && is_gone_key (row_at (rows_of_nodes (longs t.id) (table_nodes old t.id)) own) held rule (schema_of t) t.id own gone key)) (sym (ap (λ b. b && bytes_eq bookmark own) e))
     gone_keys index rule found key own true e =
-        subst (λ (n : ℕ). has_entry key own (index_entries between n index) ≡ (has_entry key own (index_entries old n index) && not (bytes_eq own bookmark && is_gone_key newest held rule schema id bookmark gone key))) (same_number id t.id e) (lost key own)
+        subst (λ (n : ℕ). has_entry key own (index_entries between n index) ≡ (has_entry key own (index_entries old n index) && not (bytes_eq own bookmark && is_gone_key newest held rule schema id bookmark gone key))) (eqb-true id t.id e) (lost key own)
         ∙ ap (λ b. has_entry key own (index_entries old t.id index) && not b) (this (bytes_eq own bookmark) refl)
       where
         rule_is : only_secondary (rule_with_id schema index) ≡ Some rule
-        rule_is = ap (λ (s : Schema). only_secondary (rule_with_id s index)) (same_schema (sym (same_number id t.id e))) ∙ found
+        rule_is = ap (λ (s : Schema). only_secondary (rule_with_id s index)) (same_schema (sym (eqb-true id t.id e))) ∙ found
 
         lost : (key own : List ℕ) → has_entry key own (index_entries between id index) ≡ (has_entry key own (index_entries old id index) && not (bytes_eq own bookmark && is_gone_key newest held rule schema id bookmark gone key))
         lost = subst (λ (o : Option IndexRule). IfSome o (λ r. (key own : List ℕ) → has_entry key own (index_entries between id index) ≡ (has_entry key own (index_entries old id index) && not (bytes_eq own bookmark && is_gone_key newest held r schema id bookmark gone key)))) rule_is (goes.keys index)
@@ -199,11 +199,11 @@ table_kept_then longs newest held schema id bookmark gone old between new goes i
             → (bytes_eq own bookmark && is_gone_key newest held rule schema id bookmark gone key) ≡ (is_this id bookmark t.id own && is_gone_key (row_at (rows_of_nodes (longs t.id) (table_nodes old t.id)) own) held rule (schema_of t) t.id own gone key)
         this true f =
             ap (λ n. bytes_eq own bookmark && is_gone_key n held rule schema id bookmark gone key) is_newest
-            ∙ (λ i. bytes_eq own bookmark && is_gone_key (row_at (rows_of_nodes (longs (same_number id t.id e i)) (table_nodes old (same_number id t.id e i))) (sym (same_bytes own bookmark f) i)) held rule (same_schema (sym (same_number id t.id e)) i) (same_number id t.id e i) (sym (same_bytes own bookmark f) i) gone key)
-            ∙ ap (λ b. b && is_gone_key (row_at (rows_of_nodes (longs t.id) (table_nodes old t.id)) own) held rule (schema_of t) t.id own gone key) (turned own bookmark ∙ sym (ap (λ b. b && bytes_eq bookmark own) e))
+            ∙ (λ i. bytes_eq own bookmark && is_gone_key (row_at (rows_of_nodes (longs (eqb-true id t.id e i)) (table_nodes old (eqb-true id t.id e i))) (sym (same_bytes own bookmark f) i)) held rule (same_schema (sym (eqb-true id t.id e)) i) (eqb-true id t.id e i) (sym (same_bytes own bookmark f) i) gone key)
+            ∙ ap (λ b. b && is_gone_key (row_at (rows_of_nodes (longs t.id) (table_nodes old t.id)) own) held rule (schema_of t) t.id own gone key) (bytes_turned own bookmark ∙ sym (ap (λ b. b && bytes_eq bookmark own) e))
         this false f =
             ap (λ b. b && is_gone_key newest held rule schema id bookmark gone key) f
-            ∙ sym (ap (λ b. b && is_gone_key (row_at (rows_of_nodes (longs t.id) (table_nodes old t.id)) own) held rule (schema_of t) t.id own gone key) (ap (λ b. b && bytes_eq bookmark own) e ∙ sym (turned own bookmark) ∙ f))
+            ∙ sym (ap (λ b. b && is_gone_key (row_at (rows_of_nodes (longs t.id) (table_nodes old t.id)) own) held rule (schema_of t) t.id own gone key) (ap (λ b. b && bytes_eq bookmark own) e ∙ sym (bytes_turned own bookmark) ∙ f))
 
     entries_left : (index : ℕ) (o : Option IndexRule) → secondary_rule t index ≡ o
         → IfSome o (λ rule. (key own : List ℕ) → is_variant_key (row_at (rows_of_nodes (longs t.id) (table_nodes old t.id)) own) held rule (schema_of t) t.id key own

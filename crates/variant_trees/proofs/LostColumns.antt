@@ -2,6 +2,7 @@
 use Rattle.std.proofs.Common.{◌≢◌, ◌≡◌, ℕ, Bool, true, false, not, ◌||◌, cond, List, [], ◌∷◌, Option, Some, None, map, option_map, refl, sym, ap, subst, ◌∙◌}
 use Rattle.std.specs.Prelude.{IsTrue, ◌==◌, filter, IfSome, IsSomeAnd, is_some}
 use Rattle.std.specs.List.{AllByRecursion, list_any}
+use Rattle.std.proofs.lemmas.Bool.{eqb-true}
 use Rattle.btree_inplace.specs.Order.{get_in}
 use Rattle.column_set.specs.declared.columns.Column.{Column}
 use Rattle.column_set.specs.RecordValues.{RecordFields, column_of_id, record_fits, remove_by_number, values_of, with_values}
@@ -19,10 +20,8 @@ use Rattle.jet_base.specs.declared.ids.ColumnId.{ColumnId}
 use Rattle.jet_base.specs.declared.ids.TableId.{TableId}
 use Rattle.jet_catalog.specs.Catalog.{IsNumbered, CatalogState, catalog_after}
 use Rattle.page_image.specs.Page.{Node}
-use Rattle.record_changes.proofs.Tests.{impossible, same_number}
 use Rattle.table_trees.specs.StoredNodes.{bookmark_entries}
 use Rattle.table_trees.specs.StoredTables.{table_long_values, StoredIndex, StoredTable, index_entries, is_index, part_of, table_indexes, table_nodes}
-use Rattle.version_history.proofs.Lists.{all_weaker}
 use Rattle.version_keys.proofs.IndexNumbers.{all_primary_first, none_of}
 use Rattle.version_keys.proofs.SameColumns.{yields_same}
 use Rattle.version_keys.proofs.SchemaKeys.{mapped_row, other_column}
@@ -38,6 +37,8 @@ use Rattle.variant_trees.proofs.EntryTrees.{other_number}
 use Rattle.variant_trees.proofs.LostRows.{RowLaws, all_records, fits_without, got_without, record_without, row_is, rows_lost, under_without, values_elsewhere}
 use Rattle.variant_trees.proofs.Stepping.{IsSettled, StepsTo, changed_at, is_made, kept_of, moved, newest_same, plain_table, settled_of}
 use Rattle.common_lemmas.proofs.Found.{of_found}
+use Rattle.common_lemmas.proofs.Lists.{all_weaker}
+use Rattle.common_lemmas.proofs.Booleans.{impossible}
 use Rattle.stored_variants.proofs.Tables.{newest_is_row, found_number}
 use Rattle.column_set.specs.RowReading.{row_in}
 use Rattle.long_references.specs.ReferenceCounts.{HasCounts}
@@ -90,7 +91,7 @@ numbers_left column t values numbers id escrow = by (id == column) refl
     by : (b : Bool) → (id == column) ≡ b → holds_number (remove_by_number column values) id ≡ true
     by true e =
         impossible
-        (sym (ap (λ (o : Option Column). elim o [ Some c ↦ c.escrow | None ↦ false ]) (ap (column_of_id (without_column column t).columns) (same_number id column e) ∙ gone t.columns))
+        (sym (ap (λ (o : Option Column). elim o [ Some c ↦ c.escrow | None ↦ false ]) (ap (column_of_id (without_column column t).columns) (eqb-true id column e) ∙ gone t.columns))
         ∙ escrow)
     by false e =
         ap is_one_number (values_elsewhere column values id e)
@@ -217,7 +218,7 @@ column_goes longs laws id column tables trees other distinct sorted unused h kep
         by : (b : Bool) → (t.id == id.0) ≡ b → with_newest_by longs other (cond b (without_column column.0 t) t) ≡ cond b (without_column column.0 (with_newest_by longs trees t)) (with_newest_by longs trees t)
         by true e =
             ap (λ (rows : Rows). record (without_column column.0 t) { rows = rows })
-            (subst (λ (n : ℕ). rows_of_nodes (longs n) (table_nodes other n) ≡ map (λ row. (row.0, with_values row.1 column.0 [])) (rows_of_nodes (longs n) (table_nodes trees n))) (sym (same_number t.id id.0 e))
+            (subst (λ (n : ℕ). rows_of_nodes (longs n) (table_nodes other n) ≡ map (λ row. (row.0, with_values row.1 column.0 [])) (rows_of_nodes (longs n) (table_nodes trees n))) (sym (eqb-true t.id id.0 e))
             (ap (rows_of_nodes (longs id.0)) h.nodes ∙ rows_lost (longs id.0) laws column.0 (table_nodes trees id.0) held))
         by false e = newest_same longs trees other t (h.others t.id (λ same. other_number t.id id.0 e same))
 
@@ -238,7 +239,7 @@ rows_same id tables trees other kept lost = record {
 
     by : (table : ℕ) (bookmark : List ℕ) (b : Bool) → (id == table) ≡ b → IfSome (row_under (table_nodes other table) bookmark) (StaysSame (table_long_values trees table) (table_long_values other table))
     by table bookmark true e =
-        subst (λ (n : ℕ). IfSome (row_under (table_nodes other n) bookmark) (StaysSame (table_long_values trees n) (table_long_values other n))) (same_number id table e)
+        subst (λ (n : ℕ). IfSome (row_under (table_nodes other n) bookmark) (StaysSame (table_long_values trees n) (table_long_values other n))) (eqb-true id table e)
         (of (table_long_values trees id) (table_long_values other id) (row_under (table_nodes other id) bookmark) (lost.rows bookmark))
     by table bookmark false e =
         stays (table_long_values trees table) (table_long_values other table) (row_under (table_nodes other table) bookmark) (lost.others table (λ same. other_number id table e (sym same)))
@@ -248,7 +249,7 @@ lost_counted : (id : ℕ) (these : List Node) (trees other : List StoredTable) �
 lost_counted id these trees other h lost counts = λ table. by table (id == table) refl
   where
     by : (table : ℕ) (b : Bool) → (id == table) ≡ b → HasCounts (table_long_values other table) (newest_rows (table_nodes other table)) []
-    by table true e = subst (λ (n : ℕ). HasCounts (table_long_values other n) (newest_rows (table_nodes other n)) []) (same_number id table e) lost.counts
+    by table true e = subst (λ (n : ℕ). HasCounts (table_long_values other n) (newest_rows (table_nodes other n)) []) (eqb-true id table e) lost.counts
     by table false e =
         let apart : table ≢ id = λ same. other_number id table e (sym same) in
         subst (λ (v : Values). HasCounts v (newest_rows (table_nodes other table)) []) (sym (lost.others table apart))
@@ -258,7 +259,7 @@ lost_none : (id : ℕ) (trees other : List StoredTable) → LosesValues id trees
 lost_none id trees other lost = λ table x none. by table x none (id == table) refl
   where
     by : (table : ℕ) (x : List ℕ) → value_of x (table_long_values trees table) ≡ None → (b : Bool) → (id == table) ≡ b → value_of x (table_long_values other table) ≡ None
-    by table x none true e = ap (λ n. value_of x (table_long_values other n)) (sym (same_number id table e)) ∙ lost.none x (ap (λ n. value_of x (table_long_values trees n)) (same_number id table e) ∙ none)
+    by table x none true e = ap (λ n. value_of x (table_long_values other n)) (sym (eqb-true id table e)) ∙ lost.none x (ap (λ n. value_of x (table_long_values trees n)) (eqb-true id table e) ∙ none)
     by table x none false e = ap (value_of x) (lost.others table (λ same. other_number id table e (sym same))) ∙ none
 
 -- in a catalog

@@ -3,6 +3,8 @@ use Rattle.std.proofs.Common.{◌≡◌, ℕ, zero, suc, ◌<◌, Bool, true, fa
 use Rattle.std.specs.Prelude.{◌==◌, IfSome, bytes_eq}
 use Rattle.std.specs.List.{AllByRecursion, list_any}
 use Rattle.std.proofs.lemmas.List.Folds.{list_any-append}
+use Rattle.std.proofs.lemmas.Bool.{eqb-true}
+use Rattle.common_lemmas.proofs.Booleans.{impossible}
 use Rattle.column_set.specs.RecordValues.{RecordFields}
 use Rattle.cursor_nav.specs.Places.{Pair}
 use Rattle.database_state.specs.Table.{rule_with_id}
@@ -10,7 +12,6 @@ use Rattle.derived_index.specs.KeptEntries.{has_entry}
 use Rattle.index_derive.specs.declared.rules.IndexRule.{IndexRule}
 use Rattle.index_derive.specs.declared.rules.Schema.{Schema}
 use Rattle.index_derive.specs.Derived.{next_in}
-use Rattle.record_changes.proofs.Tests.{impossible, same_number}
 use Rattle.table_trees.specs.StoredTables.{StoredTable, index_entries}
 use Rattle.versioned_tables.specs.HeldRecords.{HeldRecord}
 use Rattle.stored_variants.specs.PutRecords.{HasKeysOf}
@@ -142,7 +143,7 @@ indexes_pass newest held schema table bookmark gone count old now rule so_far ha
 }
   where
     none : (index : ℕ) → (rule.id.0 == index) ≡ true → only_secondary (rule_with_id schema index) ≡ None
-    none index e = ap (λ n. only_secondary (rule_with_id schema n)) (sym (same_number rule.id.0 index e)) ∙ ap only_secondary has.found ∙ ap (λ b. cond b None (Some rule)) primary
+    none index e = ap (λ n. only_secondary (rule_with_id schema n)) (sym (eqb-true rule.id.0 index e)) ∙ ap only_secondary has.found ∙ ap (λ b. cond b None (Some rule)) primary
 
     same : (o : Option IndexRule) (b : Bool) (index : ℕ) → IfSome o (λ r. LosesWhere b (LosesKeys newest held r schema table bookmark gone) (index_entries old table index) (index_entries now table index))
         → IfSome o (λ r. LosesWhere (b || false) (LosesKeys newest held r schema table bookmark gone) (index_entries old table index) (index_entries now table index))
@@ -172,7 +173,7 @@ indexes_lose newest held schema table bookmark gone count old now then rule so_f
 }
   where
     this : (index : ℕ) → (rule.id.0 == index) ≡ true → only_secondary (rule_with_id schema index) ≡ Some rule
-    this index e = ap (λ n. only_secondary (rule_with_id schema n)) (sym (same_number rule.id.0 index e)) ∙ ap only_secondary has.found ∙ ap (λ b. cond b None (Some rule)) secondary
+    this index e = ap (λ n. only_secondary (rule_with_id schema n)) (sym (eqb-true rule.id.0 index e)) ∙ ap only_secondary has.found ∙ ap (λ b. cond b None (Some rule)) secondary
 
     joined : (b : Bool) (index : ℕ) → LosesWhere b (LosesKeys newest held rule schema table bookmark gone) (index_entries old table index) (index_entries now table index) → LosesKeys newest held rule schema table bookmark gone (index_entries now table index) (index_entries then table index)
         → LosesWhere (b || true) (LosesKeys newest held rule schema table bookmark gone) (index_entries old table index) (index_entries then table index)
@@ -194,7 +195,7 @@ indexes_lose newest held schema table bookmark gone count old now then rule so_f
         subst (λ (o : Option IndexRule). IfSome o (λ r. LosesWhere (list_any (is_numbered index) (take count schema.indexes) || true) (LosesKeys newest held r schema table bookmark gone) (index_entries old table index) (index_entries then table index))) (sym (this index e))
         (joined (list_any (is_numbered index) (take count schema.indexes)) index
         (subst (λ (o : Option IndexRule). IfSome o (λ r. LosesWhere (list_any (is_numbered index) (take count schema.indexes)) (LosesKeys newest held r schema table bookmark gone) (index_entries old table index) (index_entries now table index))) (this index e) h)
-        (subst (λ (n : ℕ). LosesKeys newest held rule schema table bookmark gone (index_entries now table n) (index_entries then table n)) (same_number rule.id.0 index e) loses))
+        (subst (λ (n : ℕ). LosesKeys newest held rule schema table bookmark gone (index_entries now table n) (index_entries then table n)) (eqb-true rule.id.0 index e) loses))
     by index false e h =
         same (only_secondary (rule_with_id schema index)) (list_any (is_numbered index) (take count schema.indexes)) index (keep index (λ turned. other_number rule.id.0 index e (sym turned))) h
 

@@ -2,11 +2,13 @@
 use Rattle.std.proofs.Common.{◌≡◌, ℕ, Bool, true, false, not, ◌&&◌, ◌||◌, cond, List, [], ◌∷◌, Option, Some, None, find, option_map, refl, sym, ap, subst, ◌∙◌}
 use Rattle.std.specs.Prelude.{◌==◌, bytes_eq, is_some, option_and_then}
 use Rattle.std.specs.List.{list_all}
+use Rattle.std.proofs.lemmas.Bool.{eqb-true}
+use Rattle.common_lemmas.proofs.Booleans.{and_left, and_right, impossible}
+use Rattle.common_lemmas.proofs.Numbers.{same_bytes}
 use Rattle.btree_inplace.specs.Changes.{without_key}
 use Rattle.btree_inplace.specs.Order.{get_in, has_key}
 use Rattle.cursor_nav.specs.Places.{are_sorted, pair_lt}
 use Rattle.page_image.specs.Page.{Node}
-use Rattle.record_changes.proofs.Tests.{and_left, and_right, impossible, same_bytes, same_number}
 use Rattle.table_trees.specs.StoredNodes.{bookmark_entries}
 use Rattle.table_trees.specs.StoredTables.{StoredTable, has_table, table_nodes, with_nodes, is_table}
 use Rattle.versioned_tables.specs.HeldRecords.{HeldRecord}
@@ -38,7 +40,7 @@ lost_nothing v id bookmark trees none = record {
         → find (has_key own) (table_nodes trees other) ≡ cond (not v && is_this id bookmark other own) None (find (has_key own) (table_nodes trees other))
     by true none other own b e = refl
     by false none other own true e =
-        (λ i. find (has_key (sym (same_bytes bookmark own (and_right (id == other) (bytes_eq bookmark own) e)) i)) (table_nodes trees (sym (same_number id other (and_left (id == other) (bytes_eq bookmark own) e)) i)))
+        (λ i. find (has_key (sym (same_bytes bookmark own (and_right (id == other) (bytes_eq bookmark own) e)) i)) (table_nodes trees (sym (eqb-true id other (and_left (id == other) (bytes_eq bookmark own) e)) i)))
         ∙ none refl
         ∙ sym (ap (λ b. cond b None (find (has_key own) (table_nodes trees other))) e)
     by false none other own false e = sym (ap (λ b. cond b None (find (has_key own) (table_nodes trees other))) e)
@@ -156,8 +158,8 @@ node_goes longs laws removes id bookmark held trees sorted empty none =
 
     here : (other : ℕ) → (id == other) ≡ true → table_nodes (with_nodes id left trees) other ≡ without_key (table_nodes trees other) bookmark
     here other e =
-        ap (table_nodes (with_nodes id left trees)) (sym (same_number id other e)) ∙ laws.named trees id left there
-        ∙ ap (λ n. without_key (table_nodes trees n) bookmark) (same_number id other e)
+        ap (table_nodes (with_nodes id left trees)) (sym (eqb-true id other e)) ∙ laws.named trees id left there
+        ∙ ap (λ n. without_key (table_nodes trees n) bookmark) (eqb-true id other e)
 
     there_too : (other : ℕ) → (id == other) ≡ false → table_nodes (with_nodes id left trees) other ≡ table_nodes trees other
     there_too other e = laws.others trees id other left (λ same. other_number id other e (sym same))
@@ -173,11 +175,11 @@ node_goes longs laws removes id bookmark held trees sorted empty none =
     rows_then : (vals : Values) (other : ℕ) (b : Bool) → (id == other) ≡ b → rows_of_nodes vals (table_nodes (with_nodes id left trees) other) ≡ rows_of_nodes vals (table_nodes trees other)
     rows_then vals other true e =
         ap (rows_of_nodes vals) (here other e)
-        ∙ subst (λ (n : ℕ). rows_of_nodes vals (without_key (table_nodes trees n) bookmark) ≡ rows_of_nodes vals (table_nodes trees n)) (same_number id other e) (rows_without vals (table_nodes trees id) bookmark sorted is_empty)
+        ∙ subst (λ (n : ℕ). rows_of_nodes vals (without_key (table_nodes trees n) bookmark) ≡ rows_of_nodes vals (table_nodes trees n)) (eqb-true id other e) (rows_without vals (table_nodes trees id) bookmark sorted is_empty)
     rows_then vals other false e = ap (rows_of_nodes vals) (there_too other e)
 
     newest_then : (other : ℕ) (b : Bool) → (id == other) ≡ b → newest_rows (table_nodes (with_nodes id left trees) other) ≡ newest_rows (table_nodes trees other)
     newest_then other true e =
         ap newest_rows (here other e)
-        ∙ subst (λ (n : ℕ). newest_rows (without_key (table_nodes trees n) bookmark) ≡ newest_rows (table_nodes trees n)) (same_number id other e) (newest_without (table_nodes trees id) bookmark sorted is_empty)
+        ∙ subst (λ (n : ℕ). newest_rows (without_key (table_nodes trees n) bookmark) ≡ newest_rows (table_nodes trees n)) (eqb-true id other e) (newest_without (table_nodes trees id) bookmark sorted is_empty)
     newest_then other false e = ap newest_rows (there_too other e)

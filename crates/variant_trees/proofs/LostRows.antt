@@ -12,9 +12,10 @@ use Rattle.database_state.specs.SchemaChanges.{without_column}
 use Rattle.database_state.specs.Table.{Table, row_at}
 use Rattle.long_rows.specs.WholeRows.{StandsFor, is_whole, record_in}
 use Rattle.page_image.specs.Page.{Node}
-use Rattle.record_changes.proofs.Tests.{and_both, and_left, and_right, equal_bytes, impossible, refuted}
+use Rattle.record_changes.proofs.Tests.{equal_bytes}
 use Rattle.std.specs.Cmp.Lexicographic.{texts_ties}
-use Rattle.std.proofs.lemmas.Bool.{not-true}
+use Rattle.std.proofs.lemmas.Bool.{and_from, false_from_ne_true, not-true}
+use Rattle.common_lemmas.proofs.Booleans.{and_left, and_right, impossible}
 use Rattle.table_trees.specs.StoredNodes.{bookmark_entries}
 use Rattle.version_keys.proofs.SchemaKeys.{other_column, other_values}
 use Rattle.variant_trees.specs.LostColumns.{HoldsRecord, node_without, row_without}
@@ -93,7 +94,7 @@ found_own (n ∷ nodes) sorted = (
     behind : (later : List Node) → list_all (pair_lt (n.key, n.key)) (bookmark_entries later) ≡ true → AllByRecursion (λ m. find (has_key m.key) nodes ≡ Some m) later → AllByRecursion (λ m. find (has_key m.key) (n ∷ nodes) ≡ Some m) later
     behind [] low all = tt
     behind (m ∷ later) low all = (
-      ap (λ b. cond b (Some n) (find (has_key m.key) nodes)) (refuted (has_key m.key n) (λ e. apart n.key m.key (and_left (pair_lt (n.key, n.key) (m.key, m.key)) _ low) (key_is n.key m.key e))) ∙ all.0,
+      ap (λ b. cond b (Some n) (find (has_key m.key) nodes)) (false_from_ne_true (has_key m.key n) (λ e. apart n.key m.key (and_left (pair_lt (n.key, n.key) (m.key, m.key)) _ low) (key_is n.key m.key e))) ∙ all.0,
       behind later (and_right (pair_lt (n.key, n.key) (m.key, m.key)) _ low) all.1,
     )
 
@@ -131,13 +132,13 @@ all_left p q kept same [] h = refl
 all_left {X} p q kept same (x ∷ xs) h = by (kept x) refl (and_left (q x) (list_all q xs) h) (all_left p q kept same xs (and_right (q x) (list_all q xs) h))
   where
     by : (b : Bool) → kept x ≡ b → q x ≡ true → list_all p (filter kept xs) ≡ true → list_all p (cond b (x ∷ filter kept xs) (filter kept xs)) ≡ true
-    by true e own rest = and_both (p x) (list_all p (filter kept xs)) (same x e ∙ own) rest
+    by true e own rest = and_from (p x) (list_all p (filter kept xs)) (same x e ∙ own) rest
     by false e own rest = rest
 
 -- a record without the values of a column fits the not-true columns
 pub fits_without : (column : ℕ) (t : Table) (values : RecordFields) → record_fits t.columns values ≡ true → record_fits (without_column column t).columns (remove_by_number column values) ≡ true
 fits_without column t values h =
-    and_both (list_all (takes (without_column column t).columns) (remove_by_number column values)) (list_all (has_kept (remove_by_number column values)) (without_column column t).columns)
+    and_from (list_all (takes (without_column column t).columns) (remove_by_number column values)) (list_all (has_kept (remove_by_number column values)) (without_column column t).columns)
     (all_left (takes (without_column column t).columns) (takes t.columns) (λ field. not (field.0 == column))
     (λ field left. ap (λ (o : Option Column). elim o [ Some c ↦ values_fit c field.1 | None ↦ false ]) (other_column column t field.0 (not-true (field.0 == column) left)))
     values (and_left (list_all (takes t.columns) values) (list_all (has_kept values) t.columns) h))

@@ -15,10 +15,8 @@ use Rattle.index_derive.specs.declared.schema_calls.SchemaStep.TheVariants as st
 use Rattle.jet_base.specs.declared.ids.TableId.{TableId}
 use Rattle.jet_catalog.specs.Catalog.{CatalogState, catalog_after}
 use Rattle.page_image.specs.Page.{Node}
-use Rattle.record_changes.proofs.Tests.{impossible}
 use Rattle.table_trees.specs.StoredNodes.{bookmark_entries}
 use Rattle.table_trees.specs.StoredTables.{table_long_values, StoredTable, index_entries, table_nodes}
-use Rattle.version_history.proofs.Lists.{all_weaker}
 use Rattle.version_keys.proofs.IndexNumbers.{all_primary_first}
 use Rattle.version_keys.proofs.SameColumns.{yields_same}
 use Rattle.versioned_tables.specs.Variants.{HoldsVariants}
@@ -30,6 +28,8 @@ use Rattle.variant_trees.proofs.ChangedColumns.{SameColumns, SameFields, added_c
 use Rattle.stored_variants.proofs.NodeRecords.{record_at}
 use Rattle.variant_trees.proofs.Stepping.{IsSettled, StepsTo, changed_at, made_with_values, kept_of, map_table, plain_table, settled_of}
 use Rattle.common_lemmas.proofs.Found.{of_found}
+use Rattle.common_lemmas.proofs.Lists.{all_weaker}
+use Rattle.common_lemmas.proofs.Booleans.{impossible}
 use Rattle.stored_variants.proofs.Tables.{table_at}
 use Rattle.long_value.specs.Values.{Values}
 use Rattle.stored_variants.specs.CountedValues.{AreCounted}

@@ -2,7 +2,11 @@
 use Rattle.std.proofs.Common.{◌≡◌, ◌≢◌, ℕ, Bool, true, false, not, ◌||◌, cond, List, [], ◌∷◌, ◌++◌, Option, Some, None, filter, find, map, option_map, refl, sym, ap, subst, ◌∙◌}
 use Rattle.std.specs.Prelude.{◌==◌, IfSome, IsSomeAnd, is_some, unwrap_or}
 use Rattle.std.specs.List.{AllByRecursion, list_any}
-use Rattle.common_lemmas.proofs.Lists.{filter_swap}
+use Rattle.std.proofs.lemmas.Bool.{eqb-true, not-true}
+use Rattle.common_lemmas.proofs.Lists.{all_each, all_filter, all_weaker, filter_swap}
+use Rattle.common_lemmas.proofs.Numbers.{self_equal}
+use Rattle.common_lemmas.proofs.Booleans.{impossible}
+use Rattle.common_lemmas.proofs.Finding.{find_none}
 use Rattle.database_state.specs.SchemaChanges.{without_index}
 use Rattle.database_state.specs.Table.{Table, primary_first, primary_rule, row_at, rule_with_id, schema_of, table_with_id, with_table}
 use Rattle.derived_index.specs.KeptEntries.{has_entry}
@@ -13,9 +17,7 @@ use Rattle.jet_base.specs.declared.ids.IndexId.{IndexId}
 use Rattle.jet_base.specs.declared.ids.TableId.{TableId}
 use Rattle.jet_catalog.specs.Catalog.{CatalogState, IsNumbered, catalog_after, ids_rise}
 use Rattle.page_image.specs.Page.{Node}
-use Rattle.record_changes.proofs.Tests.{impossible, not_true, same_number, self_equal}
 use Rattle.table_trees.specs.StoredTables.{table_long_values, StoredIndex, StoredTable, has_index, index_entries, is_index, is_table, table_indexes, table_nodes, with_indexes, without_index as without_tree, without_where}
-use Rattle.version_history.proofs.Lists.{all_filter, all_true, all_weaker}
 use Rattle.version_keys.proofs.IndexNumbers.{all_primary_first, found_without}
 use Rattle.versioned_tables.specs.Variants.{HoldsVariants}
 use Rattle.stored_variants.specs.RecordRows.{TableValues, record_of, row_under, rows_of_nodes}
@@ -38,10 +40,6 @@ filtered P R q f (x ∷ xs) h = by (q x) refl (filtered P R q f xs h.1)
     by : (b : Bool) → q x ≡ b → AllByRecursion R (filter q xs) → AllByRecursion R (cond b (x ∷ filter q xs) (filter q xs))
     by true e rest = (f x e h.0, rest)
     by false e rest = rest
-
-pub none_found : {X : Type 0} (p : X → Bool) (xs : List X) → AllByRecursion (λ x. p x ≡ false) xs → find p xs ≡ None
-none_found p [] h = refl
-none_found p (x ∷ xs) h = ap (λ b. cond b (Some x) (find p xs)) h.0 ∙ none_found p xs h.1
 
 -- ---- the indexes that have trees
 
@@ -115,7 +113,7 @@ needs_tree t index there = by (rule_with_id (schema_of t) index) refl there
     by None e h = impossible h
     by (Some rule) e h =
         found_behind (λ r. r.id.0 == index) (filter (λ r. r.flags.primary) t.indexes) (secondary_rules t) rule
-        (filtered (λ r. Unit {0}) (λ r. r.flags.primary ≡ true) (λ r. r.flags.primary) (λ r f u. f) t.indexes (all_true (λ r. Unit {0}) (λ r. tt) t.indexes)) e (is_plain rule rule.flags.primary h)
+        (filtered (λ r. Unit {0}) (λ r. r.flags.primary ≡ true) (λ r. r.flags.primary) (λ r f u. f) t.indexes (all_each (λ r. Unit {0}) (λ r. tt) t.indexes)) e (is_plain rule rule.flags.primary h)
 
 -- ---- an index goes
 
@@ -150,16 +148,16 @@ index_gone longs laws trees index t there k = subst (λ (n : List Node). IsKeptT
         by : (r : IndexRule) → IsStoredRule t r → r.flags.primary ≡ true → (b : Bool) → (r.id.0 == index) ≡ b → not b ≡ true
         by r is primary false e = refl
         by r is primary true e =
-            impossible (sym (is_plain r r.flags.primary (sym (ap (λ o. is_some (only_secondary o)) (ap (rule_with_id (schema_of t)) (sym (same_number r.id.0 index e)) ∙ is.found)) ∙ there)) ∙ primary)
+            impossible (sym (is_plain r r.flags.primary (sym (ap (λ o. is_some (only_secondary o)) (ap (rule_with_id (schema_of t)) (sym (eqb-true r.id.0 index e)) ∙ is.found)) ∙ there)) ∙ primary)
 
     same_primary : primary_rule (schema_of (without_index index t)) ≡ primary_rule (schema_of t)
     same_primary = found_without (λ r. r.flags.primary) (leaves index) t.indexes stays
 
     found : (i : ℕ) → (i == index) ≡ false → rule_with_id (schema_of (without_index index t)) i ≡ rule_with_id (schema_of t) i
-    found i e = found_without (λ r. r.id.0 == i) (leaves index) t.indexes (all_true (λ r. (r.id.0 == i) ≡ true → leaves index r ≡ true) (λ r f. ap (λ n. not (n == index)) (same_number r.id.0 i f) ∙ ap not e) t.indexes)
+    found i e = found_without (λ r. r.id.0 == i) (leaves index) t.indexes (all_each (λ r. (r.id.0 == i) ≡ true → leaves index r ≡ true) (λ r f. ap (λ n. not (n == index)) (eqb-true r.id.0 i f) ∙ ap not e) t.indexes)
 
     rule : (r : IndexRule) → leaves index r ≡ true → IsStoredRule t r → IsStoredRule (without_index index t) r
-    rule r left is = rule_as t rest r (found r.id.0 (not_true (r.id.0 == index) left) ∙ is.found) (λ primary. same_primary ∙ is.primary primary) is.legal is.columns is.short
+    rule r left is = rule_as t rest r (found r.id.0 (not-true (r.id.0 == index) left) ∙ is.found) (λ primary. same_primary ∙ is.primary primary) is.legal is.columns is.short
 
     row : (bookmark : List ℕ) (o : Option (List ℕ)) → IfSome o (IsRowUnder (longs t.id) t bookmark) → IfSome o (IsRowUnder (longs t.id) (without_index index t) bookmark)
     row bookmark None is = tt
@@ -167,9 +165,9 @@ index_gone longs laws trees index t there k = subst (λ (n : List Node). IsKeptT
 
     none : (i : ℕ) → (i == index) ≡ true → rule_with_id (schema_of (without_index index t)) i ≡ None
     none i e =
-        none_found (λ r. r.id.0 == i) (primary_first rest)
+        find_none (λ r. r.id.0 == i) (primary_first rest)
         (all_primary_first (λ r. (r.id.0 == i) ≡ false) rest
-        (filtered (λ r. Unit {0}) (λ r. (r.id.0 == i) ≡ false) (leaves index) (λ r left u. ap (λ n. r.id.0 == n) (same_number i index e) ∙ not_true (r.id.0 == index) left) t.indexes (all_true (λ r. Unit {0}) (λ r. tt) t.indexes)))
+        (filtered (λ r. Unit {0}) (λ r. (r.id.0 == i) ≡ false) (leaves index) (λ r left u. ap (λ n. r.id.0 == n) (eqb-true i index e) ∙ not-true (r.id.0 == index) left) t.indexes (all_each (λ r. Unit {0}) (λ r. tt) t.indexes)))
 
     held : (i : ℕ) → (i == index) ≡ false → (o : Option IndexRule) → IfSome (only_secondary o) (λ r. HoldsVariants (rows_of_nodes (longs t.id) (table_nodes trees t.id)) [] r (schema_of t) t.id (index_entries trees t.id i))
         → IfSome (only_secondary o) (λ r. HoldsVariants (rows_of_nodes (longs t.id) (table_nodes trees t.id)) [] r (schema_of (without_index index t)) t.id (index_entries other t.id i))

@@ -2,6 +2,10 @@
 use Rattle.std.proofs.Common.{◌≡◌, ◌≢◌, ◌<◌, ℕ, Bool, true, false, not, ◌||◌, cond, List, [], ◌∷◌, ◌++◌, Option, Some, None, filter, map, refl, sym, ap, subst, ◌∙◌, arith}
 use Rattle.std.specs.Prelude.{◌==◌, IfSome, is_some, nat_le, nat_lt}
 use Rattle.std.proofs.lemmas.Bool.Decides.{nat_tests}
+use Rattle.std.proofs.lemmas.Bool.{eqb-true}
+use Rattle.common_lemmas.proofs.Booleans.{and_left, and_right, impossible}
+use Rattle.common_lemmas.proofs.Numbers.{self_equal}
+use Rattle.common_lemmas.proofs.Lists.{all_each}
 use Rattle.database_state.specs.SchemaChanges.{new_table}
 use Rattle.database_state.specs.Table.{Table, table_with_id}
 use Rattle.index_derive.specs.declared.schema_calls.SchemaStep.{SchemaStep}
@@ -9,9 +13,8 @@ use Rattle.index_derive.specs.declared.schema_calls.SchemaStep.TheVariants as st
 use Rattle.jet_base.specs.declared.ids.TableId.{TableId}
 use Rattle.jet_catalog.specs.Catalog.{CatalogState, IsNumbered, catalog_after, ids_rise, without_rows}
 use Rattle.page_image.specs.Page.{Node}
-use Rattle.record_changes.proofs.Tests.{and_left, and_right, impossible, or_first, or_second, same_number, self_equal}
+use Rattle.record_changes.proofs.Tests.{or_first, or_second}
 use Rattle.table_trees.specs.StoredTables.{table_long_values, StoredTable, has_table, is_table, new_table as new_tree, table_indexes, table_nodes, without_table}
-use Rattle.version_history.proofs.Lists.{all_true}
 use Rattle.version_keys.proofs.IndexNumbers.{found_in_filter}
 use Rattle.version_keys.proofs.SchemaKeys.{with_last}
 use Rattle.stored_variants.specs.RecordRows.{TableValues, rows_of_nodes}
@@ -130,11 +133,11 @@ left_at P R d tables g h id = cases (id == d) refl
 
     cases : (b : Bool) → (id == d) ≡ b → IfSome (table_with_id (filter (stays d) tables) id) R
     cases true e =
-        subst (λ (n : ℕ). IfSome (table_with_id (filter (stays d) tables) n) R) (sym (same_number id d e))
+        subst (λ (n : ℕ). IfSome (table_with_id (filter (stays d) tables) n) R) (sym (eqb-true id d e))
         (subst (λ (o : Option Table). IfSome o R) (sym (gone d tables)) tt)
     cases false e =
         subst (λ (o : Option Table). IfSome o R)
-        (sym (found_in_filter (λ t. t.id == id) (stays d) tables (all_true (λ t. (t.id == id) ≡ true → stays d t ≡ true) (λ t f. ap (λ n. not (n == d)) (same_number t.id id f) ∙ ap not e) tables)))
+        (sym (found_in_filter (λ t. t.id == id) (stays d) tables (all_each (λ t. (t.id == id) ≡ true → stays d t ≡ true) (λ t f. ap (λ n. not (n == d)) (eqb-true t.id id f) ∙ ap not e) tables)))
         (other (table_with_id tables id) refl e (h id))
 
 left_shown : (longs : TableValues) → OldTableLaws → (trees : List StoredTable) (id : ℕ) (tables : List Table) → map (with_newest_by longs (without_table id trees)) (filter (stays id) tables) ≡ filter (stays id) (map (with_newest_by longs trees) tables)
@@ -180,7 +183,7 @@ left_kept longs other_longs id other same tables none kept = record {
 }
   where
     by : (table : ℕ) (b : Bool) → (id == table) ≡ b → IfSome (table_with_id tables table) (IsKeptTable other (other_longs table) (table_nodes other table) [])
-    by table true e = subst (λ (o : Option Table). IfSome o (IsKeptTable other (other_longs table) (table_nodes other table) [])) (sym (ap (table_with_id tables) (sym (same_number id table e)) ∙ none)) tt
+    by table true e = subst (λ (o : Option Table). IfSome o (IsKeptTable other (other_longs table) (table_nodes other table) [])) (sym (ap (table_with_id tables) (sym (eqb-true id table e)) ∙ none)) tt
     by table false e = subst (λ (v : Values). IfSome (table_with_id tables table) (IsKeptTable other v (table_nodes other table) [])) (sym (same table (λ is. apart_from id table e (sym is)))) (kept.each table)
 
 left_read : (longs other_longs : TableValues) (id : ℕ) (other : List StoredTable) → ((table : ℕ) → table ≢ id → other_longs table ≡ longs table) → (tables : List Table) → map (with_newest_by other_longs other) (filter (stays id) tables) ≡ map (with_newest_by longs other) (filter (stays id) tables)
@@ -204,7 +207,7 @@ left_counted id trees other old counts = λ table. by table (id == table) refl
   where
     by : (table : ℕ) (b : Bool) → (id == table) ≡ b → HasCounts (table_long_values other table) (newest_rows (table_nodes other table)) []
     by table true e =
-        subst (λ (n : ℕ). HasCounts (table_long_values other n) (newest_rows (table_nodes other n)) []) (same_number id table e)
+        subst (λ (n : ℕ). HasCounts (table_long_values other n) (newest_rows (table_nodes other n)) []) (eqb-true id table e)
         (subst (λ (v : Values). HasCounts v (newest_rows (table_nodes other id)) []) (sym old.own) (subst (λ (ns : List Node). HasCounts [] (newest_rows ns) []) (sym old.own_nodes) (λ x. refl)))
     by table false e =
         let apart : table ≢ id = λ is. apart_from id table e (sym is) in
@@ -215,7 +218,7 @@ left_without : (id : ℕ) (trees other : List StoredTable) → OldValues id tree
 left_without id trees other old = λ table x none. by table x none (id == table) refl
   where
     by : (table : ℕ) (x : List ℕ) → value_of x (table_long_values trees table) ≡ None → (b : Bool) → (id == table) ≡ b → value_of x (table_long_values other table) ≡ None
-    by table x none true e = ap (λ n. value_of x (table_long_values other n)) (sym (same_number id table e)) ∙ ap (value_of x) old.own
+    by table x none true e = ap (λ n. value_of x (table_long_values other n)) (sym (eqb-true id table e)) ∙ ap (value_of x) old.own
     by table x none false e = ap (value_of x) (old.others table (λ is. apart_from id table e (sym is))) ∙ none
 
 pub delete_made : OldTableLaws → (made : SchemaStep) (id : TableId) → made ≡ step.DeleteTable id → (was : CatalogState) (trees : List StoredTable) → AreKeptWith (table_long_values trees) was.tables trees []

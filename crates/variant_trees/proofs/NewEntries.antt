@@ -7,17 +7,18 @@ use Rattle.std.specs.declared.cmp.Ordering.TheVariants.{Less}
 use Rattle.std.specs.Ordering.{nat_cmp}
 use Rattle.std.specs.Cmp.Lexicographic.{slice_cmp}
 use Rattle.std.proofs.lemmas.List.Folds.{list_any_more}
+use Rattle.std.proofs.lemmas.Bool.{false_from_ne_true}
 use Rattle.common_lemmas.proofs.Orders.{less-irreflexive}
+use Rattle.common_lemmas.proofs.Booleans.{and_right}
+use Rattle.common_lemmas.proofs.Numbers.{bytes_turned, same_bytes}
 use Rattle.cursor_nav.specs.Places.{Pair}
 use Rattle.derived_index.specs.KeptEntries.{has_entry}
 use Rattle.index_derive.specs.Entries.{insert_entry}
 use Rattle.index_tree.specs.Entries.{IsApart, IsApartFromAll}
-use Rattle.record_changes.proofs.Tests.{and_right, refuted, same_bytes}
 use Rattle.table_trees.specs.StoredTables.{StoredIndex, StoredTable, changed_where, has_index, index_entries, is_index, is_table, put_entries, put_indexes, table_indexes, with_entries, with_indexes, without_where}
 use Rattle.variant_trees.specs.NewEntries.{IsAmong, OnlyEntries}
 use Rattle.variant_trees.proofs.EntryTrees.{EntryLaws, IndexLaws, entries_changed, entries_stay, entries_then, table_there}
 use Rattle.variant_trees.proofs.KeysPut.{all_entries, found_inserted, in_front, index_stays, key_at}
-use Rattle.stored_variants.proofs.NodeRecords.{turned}
 
 -- ---- the entries of one index alone
 
@@ -102,7 +103,7 @@ some_more laws entry_laws table index keys bookmark key n was is then low key_is
   entries = λ own_key own.
       ap (has_entry own_key own) (ap (λ (t : List StoredTable). index_entries t table index) made ∙ entry_laws.named is table index (insert_entry (key, bookmark) (index_entries is table index)) is_there)
       ∙ found_inserted (key, bookmark) own_key own (index_entries is table index)
-      ∙ (λ i. (turned key own_key i && turned bookmark own i) || h.entries own_key own i)
+      ∙ (λ i. (bytes_turned key own_key i && bytes_turned bookmark own i) || h.entries own_key own i)
       ∙ reordered (bytes_eq own_key key) (bytes_eq own bookmark) (has_entry own_key own (index_entries was table index)) (list_any (bytes_eq own_key) (take n keys))
       ∙ ap (λ b. has_entry own_key own (index_entries was table index) || (bytes_eq own bookmark && b))
       (ap (λ (k : List ℕ). list_any (bytes_eq own_key) (take n keys) || bytes_eq own_key k) key_is ∙ sym (list_any_more (bytes_eq own_key) keys n key low));
@@ -127,7 +128,7 @@ not_among (key ∷ keys) sorted (suc n) d low =
     λ i. below n keys sorted.0 (fewer n (length keys) low) i || not_among keys sorted.1 n d (fewer n (length keys) low) i
   where
     apart : (other : List ℕ) → slice_cmp nat_cmp key other ≡ Less → bytes_eq other key ≡ false
-    apart other less = refuted (bytes_eq other key) (λ e. less-irreflexive key (subst (λ (k : List ℕ). slice_cmp nat_cmp key k ≡ Less) (same_bytes other key e) less))
+    apart other less = false_from_ne_true (bytes_eq other key) (λ e. less-irreflexive key (subst (λ (k : List ℕ). slice_cmp nat_cmp key k ≡ Less) (same_bytes other key e) less))
 
     below : (n : ℕ) (ks : List (List ℕ)) → AllByRecursion (λ k. slice_cmp nat_cmp key k ≡ Less) ks → n < length ks → bytes_eq (slice_index_or ks n d) key ≡ false
     below n [] all low = absurd (below_none n low)

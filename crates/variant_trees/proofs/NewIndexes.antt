@@ -6,6 +6,11 @@ use Rattle.std.specs.Ordering.{eq_by_cmp, nat_cmp}
 use Rattle.std.specs.Cmp.Lexicographic.{slice_cmp}
 use Rattle.std.proofs.lemmas.Bool.Decides.{nat_tests}
 use Rattle.std.proofs.lemmas.List.Elements.{filter-append}
+use Rattle.std.proofs.lemmas.Bool.{eqb-true}
+use Rattle.common_lemmas.proofs.Lists.{all_append}
+use Rattle.common_lemmas.proofs.Numbers.{self_equal}
+use Rattle.common_lemmas.proofs.Booleans.{impossible}
+use Rattle.common_lemmas.proofs.Finding.{find_none}
 use Rattle.column_set.specs.RecordValues.{RecordFields}
 use Rattle.cursor_nav.specs.Places.{are_sorted}
 use Rattle.database_state.specs.Conflicts.{yields_key}
@@ -20,10 +25,9 @@ use Rattle.index_derive.specs.Entries.{entries}
 use Rattle.jet_base.specs.declared.ids.TableId.{TableId}
 use Rattle.jet_catalog.specs.Catalog.{CatalogState, catalog_after}
 use Rattle.page_image.specs.Page.{Node}
-use Rattle.record_changes.proofs.Tests.{impossible, or_first, or_second, same_number, self_equal}
+use Rattle.record_changes.proofs.Tests.{or_first, or_second}
 use Rattle.table_trees.specs.StoredNodes.{bookmark_entries}
 use Rattle.table_trees.specs.StoredTables.{table_long_values, StoredTable, index_entries, table_indexes, table_nodes}
-use Rattle.version_history.proofs.Lists.{all_append}
 use Rattle.version_keys.proofs.IndexNumbers.{all_primary_first, found_alone, found_with, none_of}
 use Rattle.versioned_tables.specs.Variants.{HoldsVariants}
 use Rattle.stored_variants.specs.RecordRows.{TableValues, record_of, row_under, rows_of_nodes}
@@ -31,7 +35,6 @@ use Rattle.stored_variants.specs.SchemaSteps.{IsIndexFor, IsMade}
 use Rattle.stored_variants.specs.VersionsKept.{AreKeptWith, IsKeptTable, IsRowUnder, IsStoredRule, needed_trees, only_secondary, secondary_rule, secondary_rules, tree_numbers}
 use Rattle.stored_variants.specs.VersionsView.{with_newest_by}
 use Rattle.variant_trees.proofs.MadeColumns.{no_rows_left}
-use Rattle.variant_trees.proofs.MadeIndexes.{none_found}
 use Rattle.stored_variants.proofs.NodeRecords.{record_at}
 use Rattle.variant_trees.proofs.OtherRules.{Takes, row_as, rule_as, yields_as}
 use Rattle.variant_trees.proofs.Stepping.{IsSettled, StepsTo, changed_at, made_with_values, kept_of, map_same, map_table, moved, newest_same, plain_table, settled_of}
@@ -99,7 +102,7 @@ index_made longs trees other t rule sorted fit has k = subst (λ (n : List Node)
     primary_stays r is primary true e = no (sym (is.primary primary) ∙ none)
       where
         none : primary_rule (schema_of t) ≡ None
-        none = none_found (λ r. r.flags.primary) (primary_first t.indexes) (all_primary_first (λ r. r.flags.primary ≡ false) t.indexes (none_of (λ r. r.flags.primary) t.indexes (fit.primary e).first))
+        none = find_none (λ r. r.flags.primary) (primary_first t.indexes) (all_primary_first (λ r. r.flags.primary ≡ false) t.indexes (none_of (λ r. r.flags.primary) t.indexes (fit.primary e).first))
 
         no : {A : Type 0} → Some r ≡ None → A
         no f = cc
@@ -153,7 +156,7 @@ index_made longs trees other t rule sorted fit has k = subst (λ (n : List Node)
 
     each : (i : ℕ) (b : Bool) → (i == rule.id.0) ≡ b → IfSome (secondary_rule (with_index rule t) i) (λ r. HoldsVariants (rows_of_nodes (longs t.id) nodes) [] r (schema_of (with_index rule t)) t.id (index_entries other t.id i))
     each i true e =
-        subst (λ (n : ℕ). IfSome (secondary_rule (with_index rule t) n) (λ r. HoldsVariants (rows_of_nodes (longs t.id) nodes) [] r (schema_of (with_index rule t)) t.id (index_entries other t.id n))) (sym (same_number i rule.id.0 e))
+        subst (λ (n : ℕ). IfSome (secondary_rule (with_index rule t) n) (λ r. HoldsVariants (rows_of_nodes (longs t.id) nodes) [] r (schema_of (with_index rule t)) t.id (index_entries other t.id n))) (sym (eqb-true i rule.id.0 e))
         (subst (λ (o : Option IndexRule). IfSome (only_secondary o) (λ r. HoldsVariants (rows_of_nodes (longs t.id) nodes) [] r (schema_of (with_index rule t)) t.id (index_entries other t.id rule.id.0))) (sym own_rule.found) (own_held rule.flags.primary refl))
     each i false e =
         subst (λ (o : Option IndexRule). IfSome (only_secondary o) (λ r. HoldsVariants (rows_of_nodes (longs t.id) nodes) [] r (schema_of (with_index rule t)) t.id (index_entries other t.id i))) (sym (found_other i e))

@@ -1,6 +1,9 @@
 -- A put whose row stands in a new node.
 use Rattle.std.proofs.Common.{◌≡◌, ℕ, Bool, true, false, ◌&&◌, ◌||◌, cond, List, [], Option, Some, None, find, length, map, option_map, refl, sym, ap, subst, ◌∙◌}
 use Rattle.std.specs.Prelude.{◌==◌, bytes_eq, is_none, is_some}
+use Rattle.std.proofs.lemmas.Bool.{eqb-true}
+use Rattle.common_lemmas.proofs.Numbers.{same_bytes, self_equal}
+use Rattle.common_lemmas.proofs.Booleans.{impossible}
 use Rattle.btree_inplace.specs.Changes.{inserted, with_data_at}
 use Rattle.btree_inplace.specs.Order.{extent_in, get_in, has_key}
 use Rattle.derived_index.specs.KeptEntries.{has_entry}
@@ -8,7 +11,7 @@ use Rattle.kept_rows.specs.ValuesChanged.{HasLongValues}
 use Rattle.long_references.specs.ReferenceCounts.{with_all_taken}
 use Rattle.long_value.specs.Values.{Values}
 use Rattle.page_image.specs.Page.{Node}
-use Rattle.record_changes.proofs.Tests.{equal_bytes, impossible, same_bytes, same_number, self_equal}
+use Rattle.record_changes.proofs.Tests.{equal_bytes}
 use Rattle.table_trees.specs.StoredNodes.{put_data}
 use Rattle.table_trees.specs.StoredTables.{StoredIndex, StoredTable, has_table, index_entries, is_index, part_of, table_long_values, table_nodes, with_nodes}
 use Rattle.stored_variants.specs.PutRecords.{Keys}
@@ -39,7 +42,7 @@ row_in_new laws trees table bookmark row there absent = record {
         ∙ ap (λ o. cond (table == other) o (find (has_key own) (table_nodes trees other))) (laws.put (table_nodes trees table) node own)
 
     none : (other : ℕ) (own : List ℕ) → (table == other) ≡ true → bytes_eq bookmark own ≡ true → get_in (table_nodes trees other) own ≡ None
-    none other own e f = (λ i. get_in (table_nodes trees (sym (same_number table other e) i)) (sym (same_bytes bookmark own f) i)) ∙ absent
+    none other own e f = (λ i. get_in (table_nodes trees (sym (eqb-true table other e) i)) (sym (same_bytes bookmark own f) i)) ∙ absent
 
     no_extent : (o : Option Node) → data_of o ≡ None → extent_of o ≡ None
     no_extent None e = refl
@@ -51,13 +54,13 @@ row_in_new laws trees table bookmark row there absent = record {
     row_is : (other : ℕ) (own : List ℕ) (a b : Bool) → (table == other) ≡ a
         → data_of (cond a (cond b (Some node) (find (has_key own) (table_nodes trees table))) (find (has_key own) (table_nodes trees other))) ≡ cond (a && b) (Some row) (get_in (table_nodes trees other) own)
     row_is other own true true e = refl
-    row_is other own true false e = λ i. get_in (table_nodes trees (same_number table other e i)) own
+    row_is other own true false e = λ i. get_in (table_nodes trees (eqb-true table other e i)) own
     row_is other own false b e = refl
 
     wide : (other : ℕ) (own : List ℕ) (a b : Bool) → (table == other) ≡ a → bytes_eq bookmark own ≡ b
         → IsWidened (extent_in (table_nodes trees other) own) (extent_of (cond a (cond b (Some node) (find (has_key own) (table_nodes trees table))) (find (has_key own) (table_nodes trees other))))
     wide other own true true e f = subst (λ (o : Option ℕ). IsWidened o (Some (length row))) (sym (no_extent (find (has_key own) (table_nodes trees other)) (none other own e f))) tt
-    wide other own true false e f = subst (λ (n : ℕ). IsWidened (extent_in (table_nodes trees other) own) (extent_in (table_nodes trees n) own)) (sym (same_number table other e)) (no_less (extent_in (table_nodes trees other) own))
+    wide other own true false e f = subst (λ (n : ℕ). IsWidened (extent_in (table_nodes trees other) own) (extent_in (table_nodes trees n) own)) (sym (eqb-true table other e)) (no_less (extent_in (table_nodes trees other) own))
     wide other own false b e f = no_less (extent_in (table_nodes trees other) own)
 
 -- ---- the keys
@@ -166,7 +169,7 @@ emptied laws table bookmark row keys old ready there absent put = record {
     unchanged (Some n) = refl
 
     none : (other : ℕ) (own : List ℕ) → (table == other) ≡ true → bytes_eq bookmark own ≡ true → get_in (table_nodes old other) own ≡ None
-    none other own e f = (λ i. get_in (table_nodes old (sym (same_number table other e) i)) (sym (same_bytes bookmark own f) i)) ∙ absent
+    none other own e f = (λ i. get_in (table_nodes old (sym (eqb-true table other e) i)) (sym (same_bytes bookmark own f) i)) ∙ absent
 
     data_is : (other : ℕ) (own : List ℕ) (a b : Bool) → (table == other) ≡ a → bytes_eq bookmark own ≡ b
         → data_of (cond a (option_map (λ (n : Node). cond b (put_data [] n) n) (find (has_key own) (table_nodes ready table))) (find (has_key own) (table_nodes ready other))) ≡ node_at_least (a && b) (get_in (table_nodes old other) own)
@@ -174,7 +177,7 @@ emptied laws table bookmark row keys old ready there absent put = record {
         put_there [] (find (has_key own) (table_nodes ready table)) ((λ i. is_some (get_in (table_nodes ready table) (sym (same_bytes bookmark own f) i))) ∙ new_node_is_there table bookmark row keys old ready put)
         ∙ sym (ap (node_at_least true) (none other own e f))
     data_is other own true false e f =
-        unchanged (find (has_key own) (table_nodes ready table)) ∙ (λ i. get_in (table_nodes ready (same_number table other e i)) own) ∙ kept other own (λ i. e i && f i)
+        unchanged (find (has_key own) (table_nodes ready table)) ∙ (λ i. get_in (table_nodes ready (eqb-true table other e i)) own) ∙ kept other own (λ i. e i && f i)
     data_is other own false b e f = kept other own (ap (λ x. x && bytes_eq bookmark own) e)
 
     same_extent : (b : Bool) (o : Option Node) → extent_of (option_map (λ (n : Node). cond b (put_data [] n) n) o) ≡ extent_of o
@@ -185,7 +188,7 @@ emptied laws table bookmark row keys old ready there absent put = record {
     wide : (other : ℕ) (own : List ℕ) (a b : Bool) → (table == other) ≡ a
         → IsWidened (extent_in (table_nodes old other) own) (extent_of (cond a (option_map (λ (n : Node). cond b (put_data [] n) n) (find (has_key own) (table_nodes ready table))) (find (has_key own) (table_nodes ready other))))
     wide other own true b e =
-        subst (λ (o : Option ℕ). IsWidened (extent_in (table_nodes old other) own) o) (sym (same_extent b (find (has_key own) (table_nodes ready table)) ∙ (λ i. extent_in (table_nodes ready (same_number table other e i)) own))) (put.extents other own)
+        subst (λ (o : Option ℕ). IsWidened (extent_in (table_nodes old other) own) o) (sym (same_extent b (find (has_key own) (table_nodes ready table)) ∙ (λ i. extent_in (table_nodes ready (eqb-true table other e i)) own))) (put.extents other own)
     wide other own false b e = put.extents other own
 
 -- a node that has room is there

@@ -2,13 +2,13 @@
 use Rattle.std.proofs.Common.{◌≡◌, ℕ, zero, suc, ◌+◌, ◌≤◌, Bool, true, false, not, ◌&&◌, ◌||◌, cond, List, [], ◌∷◌, length, Option, Some, None, map, option_map, refl, sym, ap, subst, ◌∙◌}
 use Rattle.std.specs.Prelude.{IfSome, IsSomeAnd, is_some, slice_get, sum_by}
 use Rattle.std.specs.List.{AllByRecursion}
-use Rattle.common_lemmas.proofs.Options.{none_some}
+use Rattle.common_lemmas.proofs.Options.{none_some, same_some}
+use Rattle.common_lemmas.proofs.Booleans.{and_right, impossible}
 use Rattle.btree_inplace.specs.Order.{extent_in}
 use Rattle.database_state.specs.Changes.{tables_after}
 use Rattle.database_state.specs.State.{Status, uncommitted, committed, undone, is_open, is_undone}
 use Rattle.database_state.specs.Table.{Table, schema_of, table_with_id}
 use Rattle.index_derive.specs.declared.rules.Schema.{Schema}
-use Rattle.record_changes.proofs.Tests.{and_right, impossible}
 use Rattle.table_trees.specs.StoredTables.{table_long_values, StoredTable, table_nodes}
 use Rattle.version_store.specs.declared.calls.ChangeKind.{ChangeKind}
 use Rattle.version_store.specs.declared.calls.ChangeKind.TheVariants as kind
@@ -28,7 +28,6 @@ use Rattle.stored_variants.proofs.Tables.{unchanged}
 use Rattle.variant_trees.proofs.Refilled.{all_undone, undone_kept}
 use Rattle.variant_trees.proofs.CountedUndone.{none_counts}
 use Rattle.variant_trees.proofs.UndoneThere.{mapped_at, undone_there}
-use Rattle.stored_variants.proofs.HeldPlaces.{same_some}
 
 -- what holds of each change holds of the one at a place
 pub all_place : (P : HeldChange → Type 0) (held : List HeldChange) (place : ℕ) (h : HeldChange) → AllByRecursion P held → slice_get held place ≡ Some h → P h

@@ -2,6 +2,8 @@
 use Rattle.std.proofs.Common.{◌≡◌, ◌≤◌, ℕ, Bool, true, false, cond, List, [], ◌∷◌, Option, Some, None, length, refl, sym, ap, subst, ◌∙◌}
 use Rattle.std.specs.Prelude.{MatchOption, is_none}
 use Rattle.std.specs.List.{AllByRecursion, list_all}
+use Rattle.common_lemmas.proofs.Lists.{all_each, all_weaker}
+use Rattle.common_lemmas.proofs.Booleans.{impossible}
 use Rattle.column_set.specs.RecordValues.{RecordFields, column_of_id}
 use Rattle.database_state.specs.Conflicts.{yields_key}
 use Rattle.database_state.specs.Lawful.{is_indexable}
@@ -13,8 +15,6 @@ use Rattle.index_derive.specs.declared.rules.IndexRule.{IndexRule}
 use Rattle.index_derive.specs.declared.rules.Schema.{Schema}
 use Rattle.index_derive.specs.Entries.{entries, is_legal, primary_key}
 use Rattle.jet_base.specs.declared.replies.Jet.TheVariants as jet
-use Rattle.record_changes.proofs.Tests.{impossible}
-use Rattle.version_history.proofs.Lists.{all_true, all_weaker}
 use Rattle.version_keys.proofs.FreeKeys.{in_any_order}
 use Rattle.version_keys.proofs.IndexNumbers.{all_primary_first}
 use Rattle.version_keys.proofs.SameColumns.{SameAt, entries_same, legal_same, primary_key_same, yields_same}
@@ -29,13 +29,13 @@ with_rules rules t = record t { indexes = rules }
 -- ---- the same columns
 
 same_at : (t : Table) (rules : List IndexRule) (values : RecordFields) (ids : List ℕ) → AllByRecursion (SameAt (schema_of (with_rules rules t)) (schema_of t) values values) ids
-same_at t rules values ids = all_true (SameAt (schema_of (with_rules rules t)) (schema_of t) values values) (λ id. (refl, refl)) ids
+same_at t rules values ids = all_each (SameAt (schema_of (with_rules rules t)) (schema_of t) values values) (λ id. (refl, refl)) ids
 
 pub entries_as : (t : Table) (rules : List IndexRule) (rule : IndexRule) (values : RecordFields) → entries rule (schema_of (with_rules rules t)) values ≡ entries rule (schema_of t) values
 entries_as t rules rule values = entries_same rule (schema_of (with_rules rules t)) (schema_of t) values values (same_at t rules values (rule_columns rule))
 
 pub legal_as : (t : Table) (rules : List IndexRule) (rule : IndexRule) → is_legal rule (schema_of (with_rules rules t)) ≡ is_legal rule (schema_of t)
-legal_as t rules rule = legal_same rule (schema_of (with_rules rules t)) (schema_of t) (all_true (λ id. column_of_id t.columns id ≡ column_of_id t.columns id) (λ id. refl) (rule_columns rule))
+legal_as t rules rule = legal_same rule (schema_of (with_rules rules t)) (schema_of t) (all_each (λ id. column_of_id t.columns id ≡ column_of_id t.columns id) (λ id. refl) (rule_columns rule))
 
 pub yields_as : (t : Table) (rules : List IndexRule) (rule : IndexRule) (key : List ℕ) (found : Option RecordFields) → yields_key rule (schema_of (with_rules rules t)) key found ≡ yields_key rule (schema_of t) key found
 yields_as t rules rule key None = refl

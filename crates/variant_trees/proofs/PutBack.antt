@@ -5,6 +5,9 @@ use Rattle.std.specs.declared.cmp.Ordering.TheVariants.{Equal}
 use Rattle.std.specs.Ordering.{nat_cmp, is_eq}
 use Rattle.std.specs.Cmp.Lexicographic.{slice_cmp, nat_list_cmp_total, texts_ties}
 use Rattle.std.specs.FinMap.Entries.{find-put, is_sorted-put, same_entries}
+use Rattle.std.proofs.lemmas.Bool.{eqb-true}
+use Rattle.common_lemmas.proofs.Booleans.{and_left, and_right, impossible}
+use Rattle.common_lemmas.proofs.Numbers.{bytes_turned, equal_turned, same_bytes}
 use Rattle.btree_inplace.specs.Changes.{with_data_at}
 use Rattle.column_set.specs.RecordValues.{RecordFields}
 use Rattle.database_state.specs.Changes.{tables_after}
@@ -12,7 +15,6 @@ use Rattle.database_state.specs.Conflicts.{yields_key}
 use Rattle.database_state.specs.Table.{Rows, Table, row_at, schema_of, table_with_id, with_row, without_row}
 use Rattle.derived_index.specs.KeptEntries.{has_entry}
 use Rattle.index_derive.specs.declared.rules.IndexRule.{IndexRule}
-use Rattle.record_changes.proofs.Tests.{and_left, and_right, impossible, same_bytes, same_number}
 use Rattle.table_trees.specs.StoredTables.{StoredTable, index_entries, table_nodes}
 use Rattle.version_store.specs.declared.calls.ChangeKind.{ChangeKind}
 use Rattle.version_store.specs.declared.calls.ChangeKind.TheVariants as kind
@@ -26,8 +28,7 @@ use Rattle.variant_trees.specs.LeftVariants.{is_this}
 use Rattle.variant_trees.specs.UndoneChanges.{tables_put_back}
 use Rattle.stored_variants.specs.VersionsView.{with_newest_by}
 use Rattle.stored_variants.specs.VersionsKept.{AreKeptWith, IsKeptChange, IsKeptTable, secondary_rule}
-use Rattle.stored_variants.proofs.Dropped.{TreeLaws, same_numbers, rows_emptied, turned_number}
-use Rattle.stored_variants.proofs.NodeRecords.{turned}
+use Rattle.stored_variants.proofs.Dropped.{TreeLaws, same_numbers, rows_emptied}
 use Rattle.stored_variants.proofs.RisingRows.{rows_rise}
 use Rattle.variant_trees.proofs.Refilled.{Fills, Undoes, all_undone, filled, nodes_filled, record_back, record_filled, room_filled, rows_back, same_index, there_filled, undone_kept, undone_same}
 use Rattle.stored_variants.proofs.Tables.{found_number}
@@ -36,7 +37,7 @@ use Rattle.stored_variants.proofs.Tables.{found_number}
 
 this_none : (longs : TableValues) (trees : List StoredTable) (h : HeldChange) → row_at (rows_of_nodes (longs h.table) (table_nodes trees h.table)) h.bookmark ≡ None → (table : ℕ) (own : List ℕ) → is_this h.table h.bookmark table own ≡ true → row_at (rows_of_nodes (longs table) (table_nodes trees table)) own ≡ None
 this_none longs trees h none table own e =
-    (λ i. row_at (rows_of_nodes (longs (sym (same_number h.table table (and_left (h.table == table) (bytes_eq h.bookmark own) e)) i)) (table_nodes trees (sym (same_number h.table table (and_left (h.table == table) (bytes_eq h.bookmark own) e)) i))) (sym (same_bytes h.bookmark own (and_right (h.table == table) (bytes_eq h.bookmark own) e)) i)) ∙ none
+    (λ i. row_at (rows_of_nodes (longs (sym (eqb-true h.table table (and_left (h.table == table) (bytes_eq h.bookmark own) e)) i)) (table_nodes trees (sym (eqb-true h.table table (and_left (h.table == table) (bytes_eq h.bookmark own) e)) i))) (sym (same_bytes h.bookmark own (and_right (h.table == table) (bytes_eq h.bookmark own) e)) i)) ∙ none
 
 table_same : (longs : TableValues) (laws : TreeLaws) (trees : List StoredTable) (held : List HeldChange) (place : ℕ) (h : HeldChange) (row : List ℕ) → Undoes held place h row → Fills laws trees h.table h.bookmark row
     → row_at (rows_of_nodes (longs h.table) (table_nodes trees h.table)) h.bookmark ≡ None → (tables : List Table) → IsKeptChange longs tables trees h → (t : Table) → table_with_id tables t.id ≡ Some t → IsKeptTable trees (longs t.id) (table_nodes trees t.id) (map (held_record_in longs) held) t
@@ -138,7 +139,7 @@ pub rows_filled : (longs : TableValues) (laws : TreeLaws) (trees : List StoredTa
     → rows_of_nodes (longs other) (table_nodes (filled trees id bookmark row) other) ≡ cond (other == id) (rows_with (rows_of_nodes (longs other) (table_nodes trees other)) bookmark (option_map (record_of (longs id)) (row_in_node row))) (rows_of_nodes (longs other) (table_nodes trees other))
 rows_filled longs laws trees id bookmark [] fills other =
     ap (rows_of_nodes (longs other)) (nodes_filled laws trees id bookmark [] fills.table other) ∙ by (id == other)
-    ∙ ap (λ b. cond b (without_row (rows_of_nodes (longs other) (table_nodes trees other)) bookmark) (rows_of_nodes (longs other) (table_nodes trees other))) (turned_number id other)
+    ∙ ap (λ b. cond b (without_row (rows_of_nodes (longs other) (table_nodes trees other)) bookmark) (rows_of_nodes (longs other) (table_nodes trees other))) (equal_turned id other)
   where
     by : (b : Bool) → rows_of_nodes (longs other) (cond b (with_data_at (table_nodes trees other) bookmark []) (table_nodes trees other)) ≡ cond b (without_row (rows_of_nodes (longs other) (table_nodes trees other)) bookmark) (rows_of_nodes (longs other) (table_nodes trees other))
     by true = rows_emptied (longs other) bookmark (table_nodes trees other)
@@ -146,7 +147,7 @@ rows_filled longs laws trees id bookmark [] fills other =
 rows_filled longs laws trees id bookmark (byte ∷ bytes) fills other =
     same_rows (rows_of_nodes (longs other) (table_nodes (filled trees id bookmark (byte ∷ bytes)) other)) (cond (other == id) (with_row rows bookmark values) rows)
     (rows_rise (longs other) (table_nodes (filled trees id bookmark (byte ∷ bytes)) other) (fills.sorted_then other)) (rises (other == id))
-    (λ at. record_filled longs laws trees id bookmark (byte ∷ bytes) fills other at ∙ ap (λ b. cond (b && bytes_eq bookmark at) (Some values) (row_at rows at)) (turned_number id other) ∙ by at (other == id))
+    (λ at. record_filled longs laws trees id bookmark (byte ∷ bytes) fills other at ∙ ap (λ b. cond (b && bytes_eq bookmark at) (Some values) (row_at rows at)) (equal_turned id other) ∙ by at (other == id))
   where
     values : RecordFields
     values = record_of (longs id) (byte ∷ bytes)
@@ -160,7 +161,7 @@ rows_filled longs laws trees id bookmark (byte ∷ bytes) fills other =
 
     by : (at : List ℕ) (b : Bool) → cond (b && bytes_eq bookmark at) (Some values) (row_at rows at) ≡ row_at (cond b (with_row rows bookmark values) rows) at
     by at true =
-        ap (λ t. cond t (Some values) (row_at rows at)) (turned bookmark at ∙ texts_ties at bookmark)
+        ap (λ t. cond t (Some values) (row_at rows at)) (bytes_turned bookmark at ∙ texts_ties at bookmark)
         ∙ sym (find-put (slice_cmp nat_cmp) nat_list_cmp_total at bookmark values rows)
     by at false = refl
 
@@ -181,7 +182,7 @@ none_there [] bookmark none = refl
 none_there (r ∷ rows) bookmark none = by (bytes_eq r.0 bookmark) refl (none_there rows bookmark)
   where
     test : (b : Bool) → bytes_eq r.0 bookmark ≡ b → is_eq (slice_cmp nat_cmp bookmark r.0) ≡ b
-    test b e = sym (texts_ties bookmark r.0) ∙ turned bookmark r.0 ∙ e
+    test b e = sym (texts_ties bookmark r.0) ∙ bytes_turned bookmark r.0 ∙ e
 
     no : {A : Type 0} → Some r.1 ≡ None → A
     no e = cc
@@ -196,7 +197,7 @@ tables_unchanged longs trees h before none (t ∷ tables) = λ i. by (t.id == h.
   where
     gone : (t.id == h.table) ≡ true → rows_of_nodes (longs t.id) (table_nodes trees t.id) ≡ rows_with (rows_of_nodes (longs t.id) (table_nodes trees t.id)) h.bookmark (option_map (record_of (longs h.table)) h.before)
     gone e =
-        sym (none_there (rows_of_nodes (longs t.id) (table_nodes trees t.id)) h.bookmark (ap (λ n. row_at (rows_of_nodes (longs n) (table_nodes trees n)) h.bookmark) (same_number t.id h.table e) ∙ none))
+        sym (none_there (rows_of_nodes (longs t.id) (table_nodes trees t.id)) h.bookmark (ap (λ n. row_at (rows_of_nodes (longs n) (table_nodes trees n)) h.bookmark) (eqb-true t.id h.table e) ∙ none))
         ∙ ap (λ (o : Option (List ℕ)). rows_with (rows_of_nodes (longs t.id) (table_nodes trees t.id)) h.bookmark (option_map (record_of (longs h.table)) o)) (sym before)
 
     by : (b : Bool) → (t.id == h.table) ≡ b → with_newest_by longs trees t ≡ cond b (record (with_newest_by longs trees t) { rows = rows_with (rows_of_nodes (longs t.id) (table_nodes trees t.id)) h.bookmark (option_map (record_of (longs h.table)) h.before) }) (with_newest_by longs trees t)

@@ -2,12 +2,15 @@
 use Rattle.std.proofs.Common.{◌≡◌, ℕ, ◌≤◌, Bool, true, false, ◌&&◌, cond, List, [], length, map, Option, Some, None, option_map, refl, sym, ap, subst, ◌∙◌}
 use Rattle.std.specs.Prelude.{◌==◌, IfSome, IsSomeAnd, bytes_eq, is_some, slice_get, unwrap_or}
 use Rattle.std.specs.List.{AllByRecursion}
+use Rattle.std.proofs.lemmas.Bool.{eqb-true}
+use Rattle.common_lemmas.proofs.Numbers.{same_bytes, self_equal}
+use Rattle.common_lemmas.proofs.Booleans.{impossible}
 use Rattle.btree_inplace.specs.Order.{extent_in, get_in}
 use Rattle.cursor_nav.specs.Places.{are_sorted}
 use Rattle.database_state.specs.State.{undone}
 use Rattle.database_state.specs.Table.{Table, row_at}
 use Rattle.index_derive.specs.declared.rules.Schema.{Schema}
-use Rattle.record_changes.proofs.Tests.{equal_bytes, impossible, same_bytes, same_number, self_equal}
+use Rattle.record_changes.proofs.Tests.{equal_bytes}
 use Rattle.table_trees.specs.StoredNodes.{bookmark_entries}
 use Rattle.table_trees.specs.StoredTables.{table_long_values, StoredTable, table_nodes}
 use Rattle.version_store.specs.HeldChanges.{HeldChange, undone_at, with_status}
@@ -207,7 +210,7 @@ rows_unchanged schema table trees now place bookmark row reads sorted is empty h
     none = sym (row_is schema table trees now place bookmark row reads) ∙ no_bytes row empty
 
     gone : (b : Bool) → (table == other) ≡ true → (own : List ℕ) → bytes_eq bookmark own ≡ b → row_under (table_nodes trees other) own ≡ cond b None (row_under (table_nodes trees other) own)
-    gone true e own f = (λ i. row_under (table_nodes trees (sym (same_number table other e) i)) (sym (same_bytes bookmark own f) i)) ∙ is
+    gone true e own f = (λ i. row_under (table_nodes trees (sym (eqb-true table other e) i)) (sym (same_bytes bookmark own f) i)) ∙ is
     gone false e own f = refl
 
     by : (b : Bool) → (table == other) ≡ b → newest_rows (table_nodes trees other) ≡ rows_put_back reads.change table other (newest_rows (table_nodes trees other))

@@ -2,7 +2,9 @@
 use Rattle.std.proofs.Common.{◌≡◌, ℕ, ◌≤◌, zero, suc, Bool, true, false, not, ◌&&◌, ◌||◌, cond, List, [], ◌∷◌, length, Option, Some, None, find, map, option_map, refl, sym, ap, subst, ◌∙◌}
 use Rattle.std.specs.Prelude.{◌==◌, IfSome, IsSomeAnd, bytes_eq, is_some, option_and_then, slice_get}
 use Rattle.std.specs.List.{AllByRecursion}
-use Rattle.common_lemmas.proofs.Booleans.{or_swap}
+use Rattle.std.proofs.lemmas.Bool.{eqb-true}
+use Rattle.common_lemmas.proofs.Booleans.{and_left, and_right, impossible, or_swap}
+use Rattle.common_lemmas.proofs.Numbers.{same_bytes}
 use Rattle.btree_inplace.specs.Changes.{with_data_at}
 use Rattle.btree_inplace.specs.Order.{extent_in, get_in, has_key}
 use Rattle.column_set.specs.RecordValues.{RecordFields}
@@ -13,7 +15,6 @@ use Rattle.database_state.specs.Table.{Table, row_at, schema_of, table_with_id}
 use Rattle.derived_index.specs.KeptEntries.{has_entry}
 use Rattle.index_derive.specs.declared.rules.IndexRule.{IndexRule}
 use Rattle.page_image.specs.Page.{Node}
-use Rattle.record_changes.proofs.Tests.{and_left, and_right, impossible, same_bytes, same_number}
 use Rattle.table_trees.specs.StoredNodes.{bookmark_entries, put_data}
 use Rattle.table_trees.specs.StoredTables.{StoredIndex, StoredTable, has_table, index_entries, is_index, part_of, table_nodes, with_nodes}
 use Rattle.version_store.specs.HeldChanges.{HeldChange, is_rewrite, undone_at, with_status}
@@ -50,9 +51,9 @@ nodes_filled laws trees id bookmark row there other = by (id == other) refl
   where
     by : (b : Bool) → (id == other) ≡ b → table_nodes (filled trees id bookmark row) other ≡ cond b (with_data_at (table_nodes trees other) bookmark row) (table_nodes trees other)
     by true e =
-        ap (table_nodes (filled trees id bookmark row)) (sym (same_number id other e))
+        ap (table_nodes (filled trees id bookmark row)) (sym (eqb-true id other e))
         ∙ laws.named trees id (with_data_at (table_nodes trees id) bookmark row) there
-        ∙ ap (λ n. with_data_at (table_nodes trees n) bookmark row) (same_number id other e)
+        ∙ ap (λ n. with_data_at (table_nodes trees n) bookmark row) (eqb-true id other e)
     by false e = laws.others trees id other (with_data_at (table_nodes trees id) bookmark row) (λ same. other_number id other e (sym same))
 
 found_filled : (laws : TreeLaws) (trees : List StoredTable) (id : ℕ) (bookmark row : List ℕ) → has_table trees id ≡ true → (other : ℕ) (own : List ℕ)
@@ -95,7 +96,7 @@ row_filled laws trees id bookmark row there node other own =
     no_node : is_this id bookmark other own ≡ true → find (has_key own) (table_nodes trees other) ≡ None → false ≡ true
     no_node e none =
         sym (ap (λ (o : Option Node). is_some (option_map (λ (n : Node). n.data) o)) none)
-        ∙ (λ i. is_some (get_in (table_nodes trees (sym (same_number id other (and_left (id == other) (bytes_eq bookmark own) e)) i)) (sym (same_bytes bookmark own (and_right (id == other) (bytes_eq bookmark own) e)) i)))
+        ∙ (λ i. is_some (get_in (table_nodes trees (sym (eqb-true id other (and_left (id == other) (bytes_eq bookmark own) e)) i)) (sym (same_bytes bookmark own (and_right (id == other) (bytes_eq bookmark own) e)) i)))
         ∙ node
 
     by : (b : Bool) → is_this id bookmark other own ≡ b → (o : Option Node) → find (has_key own) (table_nodes trees other) ≡ o
@@ -114,7 +115,7 @@ record_filled longs laws trees id bookmark row fills other own =
   where
     by : (b : Bool) → is_this id bookmark other own ≡ b
         → option_map (record_of (longs other)) (cond b (row_in_node row) (row_under (table_nodes trees other) own)) ≡ cond b (option_map (record_of (longs id)) (row_in_node row)) (row_at (rows_of_nodes (longs other) (table_nodes trees other)) own)
-    by true e = ap (λ n. option_map (record_of (longs n)) (row_in_node row)) (sym (same_number id other (and_left (id == other) (bytes_eq bookmark own) e)))
+    by true e = ap (λ n. option_map (record_of (longs n)) (row_in_node row)) (sym (eqb-true id other (and_left (id == other) (bytes_eq bookmark own) e)))
     by false e = sym (record_at (longs other) (table_nodes trees other) (fills.sorted other) own)
 
 -- ---- an undone change among the others
@@ -268,7 +269,7 @@ rows_back longs laws trees held place h row undoes fills tables kept t found row
   where
     before : is_this h.table h.bookmark t.id own ≡ true → IfSome h.before (IsRowUnder (longs t.id) t own)
     before e =
-        let same : h.table ≡ t.id = same_number h.table t.id (and_left (h.table == t.id) (bytes_eq h.bookmark own) e) in
+        let same : h.table ≡ t.id = eqb-true h.table t.id (and_left (h.table == t.id) (bytes_eq h.bookmark own) e) in
         subst (λ (b : List ℕ). IfSome h.before (IsRowUnder (longs t.id) t b)) (same_bytes h.bookmark own (and_right (h.table == t.id) (bytes_eq h.bookmark own) e))
         (subst (λ (n : ℕ). IfSome h.before (IsRowUnder (longs n) t h.bookmark)) same
         (subst (λ (o : Option Table). IfSome o (λ u. IfSome h.before (IsRowUnder (longs h.table) u h.bookmark))) (ap (table_with_id tables) same ∙ found)
@@ -305,7 +306,7 @@ table_back longs laws trees held place h row undoes fills gone newest tables kep
 
     this_newest : (own : List ℕ) → is_this h.table h.bookmark t.id own ≡ true → old own ≡ Some gone
     this_newest own e =
-        (λ i. row_at (rows_of_nodes (longs (sym (same_number h.table t.id (and_left (h.table == t.id) (bytes_eq h.bookmark own) e)) i)) (table_nodes trees (sym (same_number h.table t.id (and_left (h.table == t.id) (bytes_eq h.bookmark own) e)) i))) (sym (same_bytes h.bookmark own (and_right (h.table == t.id) (bytes_eq h.bookmark own) e)) i)) ∙ newest
+        (λ i. row_at (rows_of_nodes (longs (sym (eqb-true h.table t.id (and_left (h.table == t.id) (bytes_eq h.bookmark own) e)) i)) (table_nodes trees (sym (eqb-true h.table t.id (and_left (h.table == t.id) (bytes_eq h.bookmark own) e)) i))) (sym (same_bytes h.bookmark own (and_right (h.table == t.id) (bytes_eq h.bookmark own) e)) i)) ∙ newest
 
     by : (index : ℕ) (o : Option IndexRule) → IfSome o (λ rule. HoldsVariants (rows_of_nodes (longs t.id) (table_nodes trees t.id)) (map (held_record_in longs) held) rule (schema_of t) t.id (index_entries trees t.id index))
         → IfSome o (λ rule. (key own : List ℕ) → is_variant_key (row_at (rows_of_nodes (longs t.id) (table_nodes (filled trees h.table h.bookmark row) t.id)) own) later rule (schema_of t) t.id key own

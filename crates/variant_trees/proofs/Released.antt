@@ -2,6 +2,9 @@
 use Rattle.std.proofs.Common.{◌≡◌, ℕ, ◌<◌, Bool, true, false, inl, inr, List, [], ◌∷◌, Option, Some, None, map, option_map, refl, sym, ap, subst, ◌∙◌, true≢false}
 use Rattle.std.specs.Prelude.{◌==◌, IfSome, IsSome, IsTrue, bytes_eq, is_some, not, unwrap_or}
 use Rattle.std.specs.List.{AllByRecursion}
+use Rattle.std.proofs.lemmas.Bool.{eqb-true}
+use Rattle.common_lemmas.proofs.Booleans.{and_right, by_test}
+use Rattle.common_lemmas.proofs.Numbers.{same_bytes}
 use Rattle.column_set.specs.RowReading.{row_in}
 use Rattle.column_set.specs.Rows.{RowFields}
 use Rattle.database_state.specs.State.{is_undone}
@@ -10,13 +13,12 @@ use Rattle.kept_rows.specs.ValuesChanged.{HasLongValues}
 use Rattle.long_references.specs.ReferenceCounts.{HasCounts, NewestRows, RowBefore, with_all_released}
 use Rattle.long_references.specs.RowReferences.{references}
 use Rattle.long_references.proofs.Taken.{ValueLaws}
-use Rattle.long_references.proofs.Totals.{by_test, equal_bytes, itself}
+use Rattle.long_references.proofs.Totals.{itself}
 use Rattle.long_rows.specs.RowsInUse.{IsInUse, newest, before as before_change}
 use Rattle.long_rows.specs.WholeRows.{is_whole, record_in}
 use Rattle.long_rows.proofs.InUse.{counted, is_there, stands_less}
 use Rattle.long_value.specs.Values.{LongValue, Values, released, value_of, without_reference}
 use Rattle.page_image.specs.Page.{Node}
-use Rattle.record_changes.proofs.Tests.{and_right, same_number}
 use Rattle.table_trees.specs.StoredTables.{StoredIndex, StoredTable, long_value_of, table_long_values, table_nodes}
 use Rattle.version_store.specs.HeldChanges.{HeldChange, is_rewrite, is_standing}
 use Rattle.versioned_tables.proofs.Neighbours.{IsIn}
@@ -40,7 +42,7 @@ no_value values id e = ap (λ (o : Option LongValue). unwrap_or (option_map (λ 
 none_beside : ValueLaws → (k x : List ℕ) (values : Values) → value_of x values ≡ None → value_of x (without_reference k values) ≡ None
 none_beside laws k x values none =
     by_test (bytes_eq x k)
-    (λ t. ap (value_of x) (no_value values k (ap (λ (id : List ℕ). value_of id values) (sym (equal_bytes x k t)) ∙ none)) ∙ none)
+    (λ t. ap (value_of x) (no_value values k (ap (λ (id : List ℕ). value_of id values) (sym (same_bytes x k t)) ∙ none)) ∙ none)
     (λ f. laws.less_beside values k x (λ e. true≢false (sym (itself x) ∙ ap (bytes_eq x) e ∙ f)) ∙ none)
 
 pub none_stays : ValueLaws → (ids : List (List ℕ)) (x : List ℕ) (values : Values) → value_of x values ≡ None → value_of x (with_all_released ids values) ≡ None
@@ -90,7 +92,7 @@ in_use laws tables old mid new id ids held r table row needed is = by (id == tab
     by : (b : Bool) → (id == table) ≡ b → StaysSame (table_long_values mid table) (table_long_values new table) row
     by true e =
         used laws ids (table_long_values mid table) (table_long_values new table) (newest_rows (table_nodes mid table)) (rows_before table held) row
-        (subst (λ (n : ℕ). table_long_values new n ≡ with_all_released ids (table_long_values mid n)) (same_number id table e) r.released.named) counts needed is
+        (subst (λ (n : ℕ). table_long_values new n ≡ with_all_released ids (table_long_values mid n)) (eqb-true id table e) r.released.named) counts needed is
     by false e = untouched (table_long_values mid table) (table_long_values new table) row (r.released.others table (λ same. other_number id table e (sym same))) is
 
 are_same : (laws : ValueLaws) (tables : List Table) (old mid new : List StoredTable) (id : ℕ) (ids : List (List ℕ)) (held : List HeldChange) → Releases laws tables old mid new id ids held → AreSame (table_long_values mid) (table_long_values new) mid held
@@ -165,7 +167,7 @@ pub no_value_came : (laws : ValueLaws) (tables : List Table) (old mid new : List
 no_value_came laws tables old mid new id ids held r = λ table x none.
     let before : long_value_of mid table x ≡ None = ap (value_of x) (r.values table) ∙ none in
     by_test (id == table)
-    (λ e. ap (value_of x) (subst (λ (n : ℕ). table_long_values new n ≡ with_all_released ids (table_long_values mid n)) (same_number id table e) r.released.named) ∙ none_stays laws ids x (table_long_values mid table) before)
+    (λ e. ap (value_of x) (subst (λ (n : ℕ). table_long_values new n ≡ with_all_released ids (table_long_values mid n)) (eqb-true id table e) r.released.named) ∙ none_stays laws ids x (table_long_values mid table) before)
     (λ e. ap (value_of x) (r.released.others table (λ same. other_number id table e (sym same))) ∙ before)
 
 -- ---- a row that gives up its references

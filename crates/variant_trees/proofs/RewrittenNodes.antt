@@ -9,8 +9,10 @@ use Rattle.cursor_nav.specs.Places.{are_sorted, is_beyond, pair_lt}
 use Rattle.index_derive.specs.declared.entries.Place.{Place}
 use Rattle.index_derive.specs.declared.entries.Place.TheVariants.{Before, On}
 use Rattle.page_image.specs.Page.{Node}
-use Rattle.record_changes.proofs.Tests.{and_left, and_right, equal_bytes, refuted}
+use Rattle.record_changes.proofs.Tests.{equal_bytes}
 use Rattle.std.specs.Cmp.Lexicographic.{texts_ties}
+use Rattle.std.proofs.lemmas.Bool.{false_from_ne_true}
+use Rattle.common_lemmas.proofs.Booleans.{and_left, and_right}
 use Rattle.table_trees.specs.StoredNodes.{IsShortNode, bookmark_entries, node_after, put_data}
 use Rattle.table_trees.specs.StoredTables.{StoredTable, has_table, table_nodes}
 use Rattle.stored_variants.specs.RecordRows.{IsRecordRow}
@@ -63,7 +65,7 @@ itself : (n : Node) → has_key n.key n ≡ true
 itself n = sym (texts_ties n.key n.key) ∙ equal_bytes n.key n.key refl
 
 other_key : (own n : Node) → (n.key ≡ own.key → ⊥) → has_key own.key n ≡ false
-other_key own n ne = refuted (has_key own.key n) (λ e. ne (key_is n.key own.key e))
+other_key own n ne = false_from_ne_true (has_key own.key n) (λ e. ne (key_is n.key own.key e))
 
 apart_beyond : (place : Place) (own n : Node) → is_node_past place own ≡ true → is_node_past place n ≡ false → n.key ≡ own.key → ⊥
 apart_beyond place own n there short same = no (sym short ∙ ap (λ k. is_beyond place (k, k)) same ∙ there)
@@ -135,7 +137,7 @@ one_more place column own (n ∷ nodes) sorted e = by (is_node_past place n) ref
         there = (found_in (is_node_past place) own nodes f).1
 
         below : pair_lt (own.key, own.key) (n.key, n.key) ≡ false
-        below = refuted (pair_lt (own.key, own.key) (n.key, n.key)) (λ less. no (sym t ∙ beyond_more place (own.key, own.key) (n.key, n.key) there less))
+        below = false_from_ne_true (pair_lt (own.key, own.key) (n.key, n.key)) (λ less. no (sym t ∙ beyond_more place (own.key, own.key) (n.key, n.key) there less))
           where
             no : false ≡ true → ⊥
             no e = cc

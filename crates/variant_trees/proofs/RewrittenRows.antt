@@ -1,6 +1,7 @@
 -- A row is written anew, and gives up the references to long values that it has no more.
 use Rattle.std.proofs.Common.{◌≡◌, ◌≢◌, ℕ, Bool, true, false, cond, List, [], Option, Some, None, find, option_map, refl, sym, ap, subst, ◌∙◌}
 use Rattle.std.specs.Prelude.{◌<◌, IsSome, bytes_eq, is_some, option_and_then}
+use Rattle.common_lemmas.proofs.Numbers.{same_bytes}
 use Rattle.btree_inplace.specs.Changes.{with_data_at}
 use Rattle.btree_inplace.specs.Order.{has_key}
 use Rattle.column_set.specs.RowReading.{row_in}
@@ -14,7 +15,6 @@ use Rattle.long_references.proofs.Taken.{ValueLaws}
 use Rattle.long_rows.specs.RowsInUse.{newest}
 use Rattle.long_value.specs.Values.{Values, value_of}
 use Rattle.page_image.specs.Page.{Node}
-use Rattle.record_changes.proofs.Tests.{same_bytes}
 use Rattle.table_trees.specs.StoredNodes.{bookmark_entries, put_data}
 use Rattle.table_trees.specs.StoredTables.{StoredTable, has_table, table_indexes, table_long_values, table_nodes, with_nodes}
 use Rattle.stored_variants.specs.CountedValues.{newest_rows}

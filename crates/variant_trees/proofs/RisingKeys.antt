@@ -5,11 +5,10 @@ use Rattle.std.specs.List.Sorted.{IsStrictlySortedBy}
 use Rattle.std.specs.declared.cmp.Ordering.TheVariants.{Less}
 use Rattle.std.specs.Ordering.{nat_cmp, is_lt}
 use Rattle.std.specs.Cmp.Lexicographic.{slice_cmp, nat_list_cmp_total}
+use Rattle.std.proofs.lemmas.Bool.{false_from_ne_true}
 use Rattle.common_lemmas.proofs.Found.{of_found}
-use Rattle.common_lemmas.proofs.Orders.{less-asymmetric, less-irreflexive}
+use Rattle.common_lemmas.proofs.Orders.{is_less, less-asymmetric, less-irreflexive}
 use Rattle.index_derive.specs.Derived.{is_above, next_in}
-use Rattle.record_changes.proofs.Tests.{refuted}
-use Rattle.versioned_tables.proofs.Order.{is_less}
 
 abbrev pub Rise : List (List ℕ) → Type 0
 Rise keys = IsStrictlySortedBy (slice_cmp nat_cmp) keys
@@ -27,10 +26,10 @@ above_more None x y h g = refl
 above_more (Some k) x y h g = ap is_lt (nat_list_cmp_total.trans k x y (is_less (slice_cmp nat_cmp k x) h) g)
 
 not_itself : (x : List ℕ) → is_above (Some x) x ≡ false
-not_itself x = refuted (is_above (Some x) x) (λ h. less-irreflexive x (is_less (slice_cmp nat_cmp x x) h))
+not_itself x = false_from_ne_true (is_above (Some x) x) (λ h. less-irreflexive x (is_less (slice_cmp nat_cmp x x) h))
 
 not_back : (x y : List ℕ) → IsLess x y → is_above (Some y) x ≡ false
-not_back x y g = refuted (is_above (Some y) x) (λ h. less-asymmetric x y g (is_less (slice_cmp nat_cmp y x) h))
+not_back x y g = false_from_ne_true (is_above (Some y) x) (λ h. less-asymmetric x y g (is_less (slice_cmp nat_cmp y x) h))
 
 filter_all : (p : List ℕ → Bool) (xs : List (List ℕ)) → AllByRecursion (λ x. p x ≡ true) xs → filter p xs ≡ xs
 filter_all p [] h = refl

@@ -2,10 +2,13 @@
 use Rattle.std.proofs.Common.{◌≡◌, ◌≢◌, ℕ, ◌≤◌, Bool, true, false, ◌&&◌, cond, if◌then◌else◌, List, [], ◌∷◌, Option, Some, None, find, length, option_map, refl, sym, ap, subst, ◌∙◌, arith}
 use Rattle.std.specs.Prelude.{◌==◌, All, IsSomeAnd, bytes_eq, is_none, unwrap_or}
 use Rattle.std.proofs.lemmas.List.Elements.{All-head, All-tail}
+use Rattle.std.proofs.lemmas.Bool.{eqb-true}
+use Rattle.common_lemmas.proofs.Numbers.{same_bytes, self_equal}
+use Rattle.common_lemmas.proofs.Booleans.{impossible}
 use Rattle.btree_inplace.specs.Changes.{inserted, with_data_at, with_extent_at, without_key}
 use Rattle.btree_inplace.specs.Order.{extent_in, get_in, has_key}
 use Rattle.page_image.specs.Page.{Node}
-use Rattle.record_changes.proofs.Tests.{equal_bytes, impossible, same_bytes, same_number, self_equal}
+use Rattle.record_changes.proofs.Tests.{equal_bytes}
 use Rattle.table_trees.specs.StoredNodes.{IsShortNode, put_data, put_extent}
 use Rattle.table_trees.specs.StoredTables.{StoredTable, has_table, is_table, put_nodes, table_indexes, table_long_values, table_nodes, with_nodes}
 use Rattle.variant_trees.specs.GoneKeys.{table_numbers}
@@ -36,7 +39,7 @@ found_then laws trees table nodes there other own = by (table == other) refl
   where
     by : (b : Bool) → (table == other) ≡ b → find (has_key own) (table_nodes (with_nodes table nodes trees) other) ≡ cond b (find (has_key own) nodes) (find (has_key own) (table_nodes trees other))
     by true e =
-        (λ i. find (has_key own) (table_nodes (with_nodes table nodes trees) (sym (same_number table other e) i)))
+        (λ i. find (has_key own) (table_nodes (with_nodes table nodes trees) (sym (eqb-true table other e) i)))
         ∙ ap (find (has_key own)) (laws.named trees table nodes there)
     by false e =
         ap (find (has_key own)) (laws.others trees table other nodes (λ same. impossible (sym e ∙ ap (λ n. n == other) (sym same) ∙ self_equal other)))
@@ -79,7 +82,7 @@ room_in_new laws trees table bookmark size there absent = record {
     own_found = λ i. cond (self_equal table i) (cond (equal_bytes bookmark bookmark refl i) (Some node) (find (has_key bookmark) (table_nodes trees table))) (find (has_key bookmark) (table_nodes trees table))
 
     none : (other : ℕ) (own : List ℕ) → (table == other) ≡ true → bytes_eq bookmark own ≡ true → get_in (table_nodes trees other) own ≡ None
-    none other own e f = (λ i. get_in (table_nodes trees (sym (same_number table other e) i)) (sym (same_bytes bookmark own f) i)) ∙ absent
+    none other own e f = (λ i. get_in (table_nodes trees (sym (eqb-true table other e) i)) (sym (same_bytes bookmark own f) i)) ∙ absent
 
     no_extent : (o : Option Node) → data_of o ≡ None → extent_of o ≡ None
     no_extent None e = refl
@@ -91,13 +94,13 @@ room_in_new laws trees table bookmark size there absent = record {
     row : (other : ℕ) (own : List ℕ) (a b : Bool) → (table == other) ≡ a → bytes_eq bookmark own ≡ b
         → data_of (cond a (cond b (Some node) (find (has_key own) (table_nodes trees table))) (find (has_key own) (table_nodes trees other))) ≡ node_at_least (a && b) (get_in (table_nodes trees other) own)
     row other own true true e f = sym (ap (node_at_least true) (none other own e f))
-    row other own true false e f = λ i. get_in (table_nodes trees (same_number table other e i)) own
+    row other own true false e f = λ i. get_in (table_nodes trees (eqb-true table other e i)) own
     row other own false b e f = refl
 
     wide : (other : ℕ) (own : List ℕ) (a b : Bool) → (table == other) ≡ a → bytes_eq bookmark own ≡ b
         → IsWidened (extent_in (table_nodes trees other) own) (extent_of (cond a (cond b (Some node) (find (has_key own) (table_nodes trees table))) (find (has_key own) (table_nodes trees other))))
     wide other own true true e f = subst (λ (o : Option ℕ). IsWidened o (Some size)) (sym (no_extent (find (has_key own) (table_nodes trees other)) (none other own e f))) tt
-    wide other own true false e f = subst (λ (n : ℕ). IsWidened (extent_in (table_nodes trees other) own) (extent_in (table_nodes trees n) own)) (sym (same_number table other e)) (no_less (extent_in (table_nodes trees other) own))
+    wide other own true false e f = subst (λ (n : ℕ). IsWidened (extent_in (table_nodes trees other) own) (extent_in (table_nodes trees n) own)) (sym (eqb-true table other e)) (no_less (extent_in (table_nodes trees other) own))
     wide other own false b e f = no_less (extent_in (table_nodes trees other) own)
 
 -- ---- a node that is there
@@ -114,7 +117,7 @@ stays_at trees table bookmark n there other own = by (table == other) (bytes_eq 
   where
     by : (a b : Bool) → (table == other) ≡ a → bytes_eq bookmark own ≡ b → get_in (table_nodes trees other) own ≡ node_at_least (a && b) (get_in (table_nodes trees other) own)
     by true true e f =
-        some_row (find (has_key own) (table_nodes trees other)) n ((λ i. extent_in (table_nodes trees (sym (same_number table other e) i)) (sym (same_bytes bookmark own f) i)) ∙ there) true
+        some_row (find (has_key own) (table_nodes trees other)) n ((λ i. extent_in (table_nodes trees (sym (eqb-true table other e) i)) (sym (same_bytes bookmark own f) i)) ∙ there) true
     by true false e f = refl
     by false b e f = refl
 
@@ -162,7 +165,7 @@ room_in_wider laws trees table bookmark size n there is less = record {
 
     row : (other : ℕ) (own : List ℕ) (a b : Bool) → (table == other) ≡ a
         → data_of (cond a (option_map (λ (x : Node). cond b (put_extent size x) x) (find (has_key own) (table_nodes trees table))) (find (has_key own) (table_nodes trees other))) ≡ get_in (table_nodes trees other) own
-    row other own true b e = same_data b (find (has_key own) (table_nodes trees table)) ∙ (λ i. get_in (table_nodes trees (same_number table other e i)) own)
+    row other own true b e = same_data b (find (has_key own) (table_nodes trees table)) ∙ (λ i. get_in (table_nodes trees (eqb-true table other e i)) own)
     row other own false b e = refl
 
     more : (o : Option Node) → extent_of o ≡ Some n → IsWidened (extent_of o) (extent_of (option_map (put_extent size) o))
@@ -176,10 +179,10 @@ room_in_wider laws trees table bookmark size n there is less = record {
     wide : (other : ℕ) (own : List ℕ) (a b : Bool) → (table == other) ≡ a → bytes_eq bookmark own ≡ b
         → IsWidened (extent_in (table_nodes trees other) own) (extent_of (cond a (option_map (λ (x : Node). cond b (put_extent size x) x) (find (has_key own) (table_nodes trees table))) (find (has_key own) (table_nodes trees other))))
     wide other own true true e f =
-        subst (λ (m : ℕ). IsWidened (extent_in (table_nodes trees m) own) (extent_of (option_map (put_extent size) (find (has_key own) (table_nodes trees table))))) (same_number table other e)
+        subst (λ (m : ℕ). IsWidened (extent_in (table_nodes trees m) own) (extent_of (option_map (put_extent size) (find (has_key own) (table_nodes trees table))))) (eqb-true table other e)
         (more (find (has_key own) (table_nodes trees table)) ((λ i. extent_in (table_nodes trees table) (sym (same_bytes bookmark own f) i)) ∙ is))
     wide other own true false e f =
-        subst (λ (m : ℕ). IsWidened (extent_in (table_nodes trees m) own) (extent_of (option_map (λ (x : Node). x) (find (has_key own) (table_nodes trees table))))) (same_number table other e)
+        subst (λ (m : ℕ). IsWidened (extent_in (table_nodes trees m) own) (extent_of (option_map (λ (x : Node). x) (find (has_key own) (table_nodes trees table))))) (eqb-true table other e)
         (same_extent (find (has_key own) (table_nodes trees table)))
     wide other own false b e f = no_less (extent_in (table_nodes trees other) own)
 

@@ -7,6 +7,8 @@ use Rattle.std.specs.FinMap.Entries.{by_order}
 use Rattle.std.specs.declared.cmp.Ordering.{Ordering}
 use Rattle.std.specs.declared.cmp.Ordering.TheVariants.{Less, Equal, Greater}
 use Rattle.std.proofs.lemmas.Bool.Decides.{nat_tests}
+use Rattle.std.proofs.lemmas.Bool.{and_from}
+use Rattle.common_lemmas.proofs.Booleans.{and_left, and_right, impossible}
 use Rattle.column_set.specs.declared.rows.RowValue.{RowValue}
 use Rattle.column_set.specs.declared.rows.RowValue.TheVariants.{Here, Apart}
 use Rattle.column_set.specs.RecordValues.{lookup_by_number, put_by_number, values_of}
@@ -16,7 +18,6 @@ use Rattle.long_rows.specs.WholeRows.{bytes_of_value, is_there, is_whole, record
 use Rattle.long_rows.proofs.Keeping.{found_one}
 use Rattle.long_rows.proofs.Kept.{and_four}
 use Rattle.long_value.specs.Values.{Values, value_of}
-use Rattle.record_changes.proofs.Tests.{and_both, and_left, and_right, impossible}
 
 -- ---- the values of a column
 
@@ -40,7 +41,7 @@ values_pass test (field ∷ row) column all = by (eq_by_cmp nat_cmp column field
 values_fit : (row : RowFields) → list_all field_fits_row row ≡ true → list_all (λ (field : ℕ × List RowValue). list_all value_fits_row field.1) row ≡ true
 values_fit [] all = refl
 values_fit (field ∷ row) all =
-    and_both (list_all value_fits_row field.1) (list_all (λ (field : ℕ × List RowValue). list_all value_fits_row field.1) row)
+    and_from (list_all value_fits_row field.1) (list_all (λ (field : ℕ × List RowValue). list_all value_fits_row field.1) row)
     (and_right (nat_lt field.0 (2 ^ 16) && nat_lt 0 (length field.1)) (list_all value_fits_row field.1) (and_left (field_fits_row field) (list_all field_fits_row row) all))
     (values_fit row (and_right (field_fits_row field) (list_all field_fits_row row) all))
 
@@ -92,7 +93,7 @@ whole_put vals (field ∷ row) column new whole = by (nat_cmp column field.0) (w
     by : (o : Ordering) → is_whole vals (put_by_number column (Here new ∷ []) row) ≡ true → is_whole vals (by_order o ((column, Here new ∷ []) ∷ field ∷ row) ((field.0, Here new ∷ []) ∷ row) (field ∷ put_by_number column (Here new ∷ []) row)) ≡ true
     by Less rest = whole
     by Equal rest = and_right (list_all (is_there vals) field.1) (is_whole vals row) whole
-    by Greater rest = and_both (list_all (is_there vals) field.1) (is_whole vals (put_by_number column (Here new ∷ []) row)) (and_left (list_all (is_there vals) field.1) (is_whole vals row) whole) rest
+    by Greater rest = and_from (list_all (is_there vals) field.1) (is_whole vals (put_by_number column (Here new ∷ []) row)) (and_left (list_all (is_there vals) field.1) (is_whole vals row) whole) rest
 
 named_behind : (column : ℕ) (vs : List RowValue) (xs ys : List (ℕ × RowValue)) → named_by xs ≡ named_by ys → named_by (map (λ v. (column, v)) vs ++ xs) ≡ named_by (map (λ v. (column, v)) vs ++ ys)
 named_behind column [] xs ys same = same

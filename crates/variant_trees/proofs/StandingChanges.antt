@@ -2,10 +2,11 @@
 use Rattle.std.proofs.Common.{◌≡◌, ℕ, zero, suc, ◌<◌, ◌≤◌, Bool, true, false, ◌&&◌, ◌||◌, cond, List, [], ◌∷◌, length, Option, Some, None, map, drop, take, option_map, refl, sym, ap, subst, ◌∙◌, arith}
 use Rattle.std.specs.Prelude.{◌==◌, IfSome, IsSomeAnd, bytes_eq, is_some, not, slice_get}
 use Rattle.std.specs.List.{list_any}
-use Rattle.common_lemmas.proofs.Booleans.{or_swap}
+use Rattle.std.proofs.lemmas.Bool.{and_from, eqb-true}
+use Rattle.common_lemmas.proofs.Booleans.{and_left, and_right, or_swap}
+use Rattle.common_lemmas.proofs.Numbers.{same_bytes}
 use Rattle.column_set.specs.RecordValues.{RecordFields}
 use Rattle.database_state.specs.State.{is_undone}
-use Rattle.record_changes.proofs.Tests.{and_both, and_left, and_right, same_bytes, same_number}
 use Rattle.version_store.specs.HeldChanges.{HeldChange, is_record, is_rewrite, is_standing_rewrite, last_place, later_place}
 use Rattle.stored_variants.specs.RecordRows.{TableValues, some_before, IsRecordRow, held_record_in, record_of}
 use Rattle.variant_trees.specs.GoneKeys.{AreRows, held_from}
@@ -104,7 +105,7 @@ of_record table bookmark h stands = and_left (is_record table bookmark h) (is_re
 
 not_undone : (table : ℕ) (bookmark : List ℕ) (h : HeldChange) → is_standing_rewrite table bookmark h ≡ true → (is_rewrite h.kind && not (is_undone h.status)) ≡ true
 not_undone table bookmark h stands =
-    and_both (is_rewrite h.kind) (not (is_undone h.status))
+    and_from (is_rewrite h.kind) (not (is_undone h.status))
     (and_right (is_record table bookmark h) (is_rewrite h.kind) (and_left (is_record table bookmark h && is_rewrite h.kind) (not (is_undone h.status)) stands))
     (and_right (is_record table bookmark h && is_rewrite h.kind) (not (is_undone h.status)) stands)
 
@@ -118,7 +119,7 @@ older_is table bookmark held place older stands is = by (slice_get held place) s
     by None stands is = absurd stands
     by (Some h) stands is =
         is h refl
-        ∙ (λ i. last_place (is_standing_rewrite (same_number h.table table (and_left (h.table == table) (bytes_eq h.bookmark bookmark) own) i) (same_bytes h.bookmark bookmark (and_right (h.table == table) (bytes_eq h.bookmark bookmark) own) i)) (take place held))
+        ∙ (λ i. last_place (is_standing_rewrite (eqb-true h.table table (and_left (h.table == table) (bytes_eq h.bookmark bookmark) own) i) (same_bytes h.bookmark bookmark (and_right (h.table == table) (bytes_eq h.bookmark bookmark) own) i)) (take place held))
       where
         own : is_record table bookmark h ≡ true
         own = of_record table bookmark h stands
@@ -150,7 +151,7 @@ found_here longs test table bookmark [] place row stands is = absurd stands
 found_here longs test table bookmark (h ∷ held) zero row stands is =
     ap (λ b. b && test (held_record_in longs h).before) stands
     ∙ ap (λ b. test (cond b (option_map (record_of (longs h.table)) h.before) None)) (not_undone table bookmark h stands)
-    ∙ ap (λ n. test (option_map (record_of (longs n)) h.before)) (same_number h.table table (and_left (h.table == table) (bytes_eq h.bookmark bookmark) (of_record table bookmark h stands)))
+    ∙ ap (λ n. test (option_map (record_of (longs n)) h.before)) (eqb-true h.table table (and_left (h.table == table) (bytes_eq h.bookmark bookmark) (of_record table bookmark h stands)))
     ∙ ap (λ (r : Option (List ℕ)). test (option_map (record_of (longs table)) r)) (same h.before row is)
   where
     same : (x y : Option (List ℕ)) → Some x ≡ Some y → x ≡ y
@@ -191,7 +192,7 @@ pub row_before : (longs : TableValues) (table : ℕ) (bookmark : List ℕ) (held
     → slice_get (map (λ (h : HeldChange). h.before) held) place ≡ Some row → IfSome row (IsRecordRow (longs table))
 row_before longs table bookmark [] place row are stands is = absurd stands
 row_before longs table bookmark (h ∷ held) zero row are stands is =
-    subst (λ (n : ℕ). IfSome row (IsRecordRow (longs n))) (same_number h.table table (and_left (h.table == table) (bytes_eq h.bookmark bookmark) (of_record table bookmark h stands)))
+    subst (λ (n : ℕ). IfSome row (IsRecordRow (longs n))) (eqb-true h.table table (and_left (h.table == table) (bytes_eq h.bookmark bookmark) (of_record table bookmark h stands)))
     (subst (λ (o : Option (List ℕ)). IfSome o (IsRecordRow (longs h.table))) (same h.before row is) (are.0 (not_undone table bookmark h stands)))
   where
     same : (x y : Option (List ℕ)) → Some x ≡ Some y → x ≡ y

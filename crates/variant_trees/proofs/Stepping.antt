@@ -1,6 +1,7 @@
 -- What a schema step makes of the tables of the catalog beside their trees, while no change is held.
 use Rattle.std.proofs.Common.{◌≡◌, ℕ, Bool, true, false, cond, List, [], ◌∷◌, ◌++◌, Option, Some, None, filter, map, option_map, refl, sym, ap, subst, ◌∙◌}
 use Rattle.std.specs.Prelude.{◌==◌, IfSome}
+use Rattle.std.proofs.lemmas.Bool.{eqb-true}
 use Rattle.database_state.specs.SchemaChanges.{tables_after_step}
 use Rattle.database_state.specs.Table.{Table, schema_of, table_with_id, with_table}
 use Rattle.derived_index.specs.KeptEntries.{has_entry}
@@ -8,7 +9,6 @@ use Rattle.index_derive.specs.declared.rules.IndexRule.{IndexRule}
 use Rattle.index_derive.specs.declared.schema_calls.SchemaStep.{SchemaStep}
 use Rattle.jet_catalog.specs.Catalog.{CatalogState, catalog_after, without_rows}
 use Rattle.page_image.specs.Page.{Node}
-use Rattle.record_changes.proofs.Tests.{same_number}
 use Rattle.table_trees.specs.StoredTables.{table_long_values, StoredIndex, StoredTable, index_entries, is_index, part_of, table_indexes, table_nodes}
 use Rattle.version_keys.proofs.SchemaKeys.{other_table, this_table}
 use Rattle.versioned_tables.specs.Variants.{HoldsVariants}
@@ -83,7 +83,7 @@ changed_at P R d change keeps tables f g h id = cases (id == d) refl
 
     cases : (b : Bool) → (id == d) ≡ b → IfSome (table_with_id (with_table d change tables) id) R
     cases true e =
-        subst (λ (n : ℕ). IfSome (table_with_id (with_table d change tables) n) R) (sym (same_number id d e))
+        subst (λ (n : ℕ). IfSome (table_with_id (with_table d change tables) n) R) (sym (eqb-true id d e))
         (subst (λ (o : Option Table). IfSome o R) (sym (this_table d change keeps tables)) (named (table_with_id tables d) refl (h d)))
     cases false e = subst (λ (o : Option Table). IfSome o R) (sym (other_table d change keeps tables id e)) (other (table_with_id tables id) refl e (h id))
 

@@ -5,6 +5,7 @@ use Rattle.std.specs.Int.{w32, cast_unsigned, from_le_bytes, to_le_bytes}
 use Rattle.std.specs.List.{AllByRecursion, list_any, refill}
 use Rattle.std.specs.Ordering.{nat_cmp}
 use Rattle.std.specs.FinMap.Entries.{is_sorted}
+use Rattle.std.proofs.lemmas.Bool.{eqb-true}
 use Rattle.btree_inplace.specs.Changes.{with_data_at}
 use Rattle.column_set.specs.declared.changes.Change.TheVariants.{Add}
 use Rattle.column_set.specs.declared.rows.RowValue.TheVariants.{Here}
@@ -23,10 +24,8 @@ use Rattle.index_derive.specs.declared.rules.Schema.{Schema}
 use Rattle.index_derive.specs.Entries.{is_escrow_column, is_legal}
 use Rattle.jet_base.specs.declared.ids.ColumnId.{ColumnId}
 use Rattle.jet_base.specs.declared.ids.TableId.{TableId}
-use Rattle.record_changes.proofs.Tests.{and_left, and_right, impossible, same_bytes, same_number}
 use Rattle.table_trees.specs.StoredNodes.{bookmark_entries}
 use Rattle.table_trees.specs.StoredTables.{StoredTable, index_entries, table_long_values, table_nodes}
-use Rattle.version_history.proofs.Lists.{all_weaker}
 use Rattle.version_keys.proofs.IndexNumbers.{all_primary_first, none_of}
 use Rattle.version_keys.proofs.SameColumns.{yields_same}
 use Rattle.version_records.proofs.StoredSums.{sum_fits}
@@ -54,6 +53,9 @@ use Rattle.variant_trees.proofs.PutBack.{rows_filled}
 use Rattle.variant_trees.proofs.Refilled.{Fills, filled, record_filled, room_filled, row_filled, same_index, there_filled}
 use Rattle.common_lemmas.proofs.Found.{of_found}
 use Rattle.common_lemmas.proofs.Options.{same_some}
+use Rattle.common_lemmas.proofs.Booleans.{and_left, and_right, impossible}
+use Rattle.common_lemmas.proofs.Lists.{all_weaker}
+use Rattle.common_lemmas.proofs.Numbers.{same_bytes}
 use Rattle.stored_variants.proofs.Tables.{found_number}
 use Rattle.variant_trees.proofs.UndoneThere.{fills, node_of_row}
 use Rattle.long_references.specs.RowReferences.{identifiers}
@@ -91,7 +93,7 @@ same_fields t column amount escrow values rule is =
       where
         by : (b : Bool) → (id == column) ≡ b → b ≡ false
         by false e = refl
-        by true e = impossible (sym plain ∙ ap (is_escrow_column (schema_of t)) (same_number id column e) ∙ escrow)
+        by true e = impossible (sym plain ∙ ap (is_escrow_column (schema_of t)) (eqb-true id column e) ∙ escrow)
 
 all_same : (t : Table) (column : ℕ) (amount : ℤ) → is_escrow_column (schema_of t) column ≡ true → AllByRecursion (IsStoredRule t) t.indexes → (values : RecordFields) → AllByRecursion (SameFields t.columns t (with_sum values column amount) values) t.indexes
 all_same t column amount escrow rules values = all_weaker (IsStoredRule t) (SameFields t.columns t (with_sum values column amount) values) (same_fields t column amount escrow values) t.indexes rules
@@ -121,7 +123,7 @@ pub its_value : (vals : Values) → SumLaws → (t : Table) (bookmark row : List
     → (row_values_of (row_in row) column ≡ Here (escrow_bytes (record_of vals row) column) ∷ []) × (length (escrow_bytes (record_of vals row) column) ≡ 4)
 its_value vals laws t bookmark row is column escrow =
     let one = one_value (record_of vals row) column (is.fits.numbers column escrow) in
-    let four : length (escrow_bytes (record_of vals row) column) ≡ 4 = same_number (length (escrow_bytes (record_of vals row) column)) 4 (and_left _ _ one.1) in (
+    let four : length (escrow_bytes (record_of vals row) column) ≡ 4 = eqb-true (length (escrow_bytes (record_of vals row) column)) 4 (and_left _ _ one.1) in (
       stands_here vals (row_in row) column (escrow_bytes (record_of vals row) column) (row-fits (row_in row) is.fits.row.formed) is.fits.row.whole (ap (λ (o : Option (List (List ℕ))). unwrap_or o []) one.0) four,
       four,
     )
@@ -161,7 +163,7 @@ summed_row vals laws t rules bookmark row is column escrow amount = record {
     has = its_value vals laws t bookmark row is column escrow
 
     same_size : length new ≡ length old
-    same_size = same_number (length new) 4 (and_left _ _ (sum_is_number (escrow_bytes (record_of vals row) column) amount)) ∙ sym has.1
+    same_size = eqb-true (length new) 4 (and_left _ _ (sum_is_number (escrow_bytes (record_of vals row) column) amount)) ∙ sym has.1
 
     formed : IsTrue (is_row (put_by_number column (Here new ∷ []) (row_in row)))
     formed = laws.formed (row_in row) column old new is.fits.row.formed has.0 same_size
@@ -190,7 +192,7 @@ pub record Sums (longs : TableValues) (laws : TreeLaws) (trees : List StoredTabl
 was_there : (longs : TableValues) (laws : TreeLaws) (trees : List StoredTable) (id : ℕ) (bookmark row : List ℕ) (column : ℕ) (amount : ℤ) (now : List ℕ) → Sums longs laws trees id bookmark row column amount now → (other : ℕ) (own : List ℕ) → is_this id bookmark other own ≡ true
     → row_at (rows_of_nodes (longs other) (table_nodes trees other)) own ≡ Some (record_of (longs id) row)
 was_there longs laws trees id bookmark row column amount now sums other own e =
-    (λ i. row_at (rows_of_nodes (longs (sym (same_number id other (and_left (id == other) (bytes_eq bookmark own) e)) i)) (table_nodes trees (sym (same_number id other (and_left (id == other) (bytes_eq bookmark own) e)) i))) (sym (same_bytes bookmark own (and_right (id == other) (bytes_eq bookmark own) e)) i))
+    (λ i. row_at (rows_of_nodes (longs (sym (eqb-true id other (and_left (id == other) (bytes_eq bookmark own) e)) i)) (table_nodes trees (sym (eqb-true id other (and_left (id == other) (bytes_eq bookmark own) e)) i))) (sym (same_bytes bookmark own (and_right (id == other) (bytes_eq bookmark own) e)) i))
     ∙ record_at (longs id) (table_nodes trees id) (sums.fills.sorted id) bookmark
     ∙ ap (option_map (record_of (longs id))) sums.under
 
@@ -224,7 +226,7 @@ table_summed longs laws trees id bookmark row column amount now sums own escrow 
     row_at_all : (at : List ℕ) (b : Bool) → is_this id bookmark t.id at ≡ b → IfSome (cond b (row_in_node now) (row_under (table_nodes trees t.id) at)) (IsRowUnder (longs t.id) t at)
     row_at_all at true e =
         subst (λ (o : Option (List ℕ)). IfSome o (IsRowUnder (longs t.id) t at)) (sym sums.some)
-        (subst (λ (n : ℕ). IsRowUnder (longs n) t at now) (same_number id t.id (and_left (id == t.id) (bytes_eq bookmark at) e))
+        (subst (λ (n : ℕ). IsRowUnder (longs n) t at now) (eqb-true id t.id (and_left (id == t.id) (bytes_eq bookmark at) e))
         (subst (λ (x : Table). IsRowUnder (longs id) x at now) (which (and_left (id == t.id) (bytes_eq bookmark at) e))
         (subst (λ (b : List ℕ). IsRowUnder (longs id) own b now) (same_bytes bookmark at (and_right (id == t.id) (bytes_eq bookmark at) e)) under)))
     row_at_all at false e = kept.rows at
@@ -265,7 +267,7 @@ sum_kept longs laws trees id bookmark row column amount now sums tables own name
         let number : t.id ≡ other = found_number other tables t e in
         subst (λ (n : ℕ). IsKeptTable (filled trees id bookmark now) (longs n) (table_nodes (filled trees id bookmark now) n) (map (held_record_in longs) held) t) number
         (table_summed longs laws trees id bookmark row column amount now sums own escrow under (map (held_record_in longs) held) t
-        (λ here. same_some own t (sym named ∙ ap (table_with_id tables) (same_number id t.id here ∙ number) ∙ e))
+        (λ here. same_some own t (sym named ∙ ap (table_with_id tables) (eqb-true id t.id here ∙ number) ∙ e))
         (subst (λ (n : ℕ). IsKeptTable trees (longs n) (table_nodes trees n) (map (held_record_in longs) held) t) (sym number) is))
 
 -- ---- what it shows
@@ -281,7 +283,7 @@ sum_shown longs laws trees table bookmark row column amount now sums (t ∷ tabl
 
     newest : (t.id == table.0) ≡ true → row_at rows bookmark ≡ Some (record_of (longs table.0) row)
     newest e =
-        ap (λ (n : ℕ). row_at (rows_of_nodes (longs n) (table_nodes trees n)) bookmark) (same_number t.id table.0 e)
+        ap (λ (n : ℕ). row_at (rows_of_nodes (longs n) (table_nodes trees n)) bookmark) (eqb-true t.id table.0 e)
         ∙ record_at (longs table.0) (table_nodes trees table.0) (sums.fills.sorted table.0) bookmark ∙ ap (option_map (record_of (longs table.0))) sums.under
 
     by : (b : Bool) → (t.id == table.0) ≡ b → record t { rows = cond b (rows_with rows bookmark (option_map (record_of (longs table.0)) (row_in_node now))) rows }
@@ -304,7 +306,7 @@ no_sum_shown longs trees sorted table bookmark column amount none (t ∷ tables)
 
     newest : (t.id == table.0) ≡ true → row_at rows bookmark ≡ None
     newest e =
-        ap (λ (n : ℕ). row_at (rows_of_nodes (longs n) (table_nodes trees n)) bookmark) (same_number t.id table.0 e)
+        ap (λ (n : ℕ). row_at (rows_of_nodes (longs n) (table_nodes trees n)) bookmark) (eqb-true t.id table.0 e)
         ∙ record_at (longs table.0) (table_nodes trees table.0) (sorted table.0) bookmark ∙ ap (option_map (record_of (longs table.0))) none
 
     by : (b : Bool) → (t.id == table.0) ≡ b → with_newest_by longs trees t ≡ cond b (record (with_newest_by longs trees t) { rows = rows_with_sum rows bookmark (row_at rows bookmark) column.0 amount }) (with_newest_by longs trees t)

@@ -2,13 +2,13 @@
 use Rattle.std.proofs.Common.{◌≡◌, ℕ, zero, suc, ◌+◌, ◌-◌, ◌%◌, ◌^◌, ◌<◌, true, List, Option, Some, None, map, refl, sym, ap, subst, ◌∙◌, arith}
 use Rattle.std.specs.Prelude.{ℤ, pos, negsuc, neg_ℤ, FitsSigned, IfSome, IsSomeAnd, is_some}
 use Rattle.std.specs.Int.{w32, cast_unsigned}
+use Rattle.common_lemmas.proofs.Booleans.{impossible}
 use Rattle.column_set.specs.declared.changes.Change.TheVariants.{Add}
 use Rattle.database_state.specs.Changes.{rows_with_sum, tables_after}
 use Rattle.database_state.specs.Table.{Table, row_at, schema_of, table_with_id, with_table}
 use Rattle.index_derive.specs.Entries.{is_escrow_column}
 use Rattle.jet_base.specs.declared.ids.ColumnId.{ColumnId}
 use Rattle.jet_base.specs.declared.ids.TableId.{TableId}
-use Rattle.record_changes.proofs.Tests.{impossible}
 use Rattle.table_trees.specs.StoredTables.{table_long_values, StoredTable, table_nodes}
 use Rattle.version_store.specs.declared.calls.ChangeKind.{ChangeKind}
 use Rattle.version_store.specs.declared.calls.ChangeKind.TheVariants as kind

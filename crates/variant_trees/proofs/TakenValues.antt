@@ -1,6 +1,7 @@
 -- The long values that a put takes, and those that it gives back where it fails.
 use Rattle.std.proofs.Common.{◌≡◌, ℕ, ◌+◌, ◌<◌, ◌≤◌, Bool, true, false, List, Option, Some, map, refl, sym, ap, subst, ◌∙◌, arith}
 use Rattle.std.specs.Prelude.{◌==◌, IfSome, IsSome, IsSomeAnd}
+use Rattle.std.proofs.lemmas.Bool.{eqb-true}
 use Rattle.btree_inplace.specs.Order.{extent_in}
 use Rattle.column_set.specs.Rows.{RowFields}
 use Rattle.kept_rows.specs.ValuesChanged.{HasLongValues}
@@ -10,7 +11,6 @@ use Rattle.long_references.proofs.Taken.{ValueLaws, taken_all}
 use Rattle.long_rows.proofs.InUse.{is_there}
 use Rattle.long_value.specs.Values.{AreLong, Values, value_of}
 use Rattle.page_image.specs.Page.{Node}
-use Rattle.record_changes.proofs.Tests.{same_number}
 use Rattle.stored_variants.specs.PutRecords.{Keys}
 use Rattle.stored_variants.specs.RecordRows.{IsRecordRow, TableValues, row_under}
 use Rattle.table_trees.specs.StoredTables.{StoredTable, table_long_values, table_nodes}
@@ -50,7 +50,7 @@ pub values_same : (table : ℕ) (mid new : List StoredTable) → HasLongValues t
 values_same table mid new long = λ other. by other (table == other) refl
   where
     by : (other : ℕ) (b : Bool) → (table == other) ≡ b → table_long_values new other ≡ table_long_values mid other
-    by other true e = subst (λ (n : ℕ). table_long_values new n ≡ table_long_values mid n) (same_number table other e) long.named
+    by other true e = subst (λ (n : ℕ). table_long_values new n ≡ table_long_values mid n) (eqb-true table other e) long.named
     by other false e = long.others other (λ is. other_number table other e (sym is))
 
 -- ---- what stays with the values

@@ -2,9 +2,9 @@
 use Rattle.std.proofs.Common.{◌≡◌, ◌≤◌, ℕ, Bool, true, false, cond, List, [], ◌∷◌, Some, find, map, option_map, refl, sym, ap, ◌∙◌, arith}
 use Rattle.std.specs.Prelude.{◌==◌, nat_lt, unwrap_or}
 use Rattle.std.proofs.lemmas.Bool.Decides.{nat_tests}
+use Rattle.common_lemmas.proofs.Booleans.{and_left, and_right, impossible}
 use Rattle.database_state.specs.Table.{Table, with_table}
 use Rattle.jet_catalog.specs.Catalog.{ids_rise}
-use Rattle.record_changes.proofs.Tests.{and_left, and_right, impossible}
 use Rattle.table_trees.specs.StoredTables.{StoredIndex, StoredTable, is_table, put_indexes, table_indexes, with_indexes}
 use Rattle.stored_variants.specs.VersionsKept.{needed_trees, tree_numbers}
 

@@ -1,6 +1,8 @@
 -- Long values once a put or a drop is undone: the row that was newest gives up its references, and each value is counted.
 use Rattle.std.proofs.Common.{◌≡◌, ℕ, ◌<◌, Bool, true, false, cond, List, Option, Some, map, option_map, refl, sym, ap, subst, ◌∙◌}
 use Rattle.std.specs.Prelude.{◌==◌, ◌++◌, ◌∷◌, IfSome, IsSome, is_some}
+use Rattle.std.proofs.lemmas.Bool.{eqb-true}
+use Rattle.common_lemmas.proofs.Booleans.{impossible}
 use Rattle.column_set.specs.RecordValues.{lookup_by_key}
 use Rattle.column_set.specs.RowReading.{row_in}
 use Rattle.database_state.specs.State.{Status, committed, is_open, is_undone, uncommitted, undone}
@@ -11,7 +13,6 @@ use Rattle.long_references.specs.RowReferences.{identifiers, references}
 use Rattle.long_references.proofs.Taken.{ValueLaws}
 use Rattle.long_rows.specs.RowsInUse.{newest}
 use Rattle.long_value.specs.Values.{Values, value_of}
-use Rattle.record_changes.proofs.Tests.{impossible, same_number}
 use Rattle.table_trees.specs.StoredTables.{StoredTable, table_long_values, table_nodes}
 use Rattle.version_store.specs.HeldChanges.{HeldChange, is_rewrite, undone_at}
 use Rattle.stored_variants.specs.CountedValues.{AreCounted, newest_rows, row_before, rows_before}
@@ -56,7 +57,7 @@ undone_counted law tables old mid new now place table held h was sorted values r
     named : (n : ℕ) → (table == n) ≡ true → identifiers (lookup_by_key h.bookmark (own_rows n)) ≡ ids
     named n e =
         ap identifiers (own_row (table_nodes old n) (sorted n) h.bookmark)
-        ∙ (λ i. identifiers (option_map row_in (row_under (table_nodes old (sym (same_number table n e) i)) h.bookmark)))
+        ∙ (λ i. identifiers (option_map row_in (row_under (table_nodes old (sym (eqb-true table n e) i)) h.bookmark)))
         ∙ names
 
     by : (n : ℕ) (b : Bool) → (table == n) ≡ b → HasCounts (table_long_values new n) (rows_put_back h table n (own_rows n)) (rows_before n after)
@@ -64,7 +65,7 @@ undone_counted law tables old mid new now place table held h was sorted values r
         let own : (h.table == n) ≡ true = ap (λ m. m == n) was.named ∙ e in
         let u : AreUndone n place h held = own_undone n place h held own was.at in
         let now_has : table_long_values new n ≡ with_all_released ids (table_long_values old n) =
-        subst (λ (m : ℕ). table_long_values new m ≡ with_all_released ids (table_long_values mid m)) (same_number table n e) released.named
+        subst (λ (m : ℕ). table_long_values new m ≡ with_all_released ids (table_long_values mid m)) (eqb-true table n e) released.named
         ∙ ap (with_all_released ids) (values n) in
         subst (λ (r : NewestRows). HasCounts (table_long_values new n) r (rows_before n after)) (sym (here n true e))
         (subst (HasCounts (table_long_values new n) (with_row h.bookmark (option_map row_in h.before) (own_rows n))) (sym u.is)

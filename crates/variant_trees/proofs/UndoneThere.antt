@@ -3,13 +3,13 @@ use Rattle.std.proofs.Common.{◌≡◌, ℕ, zero, suc, ◌<◌, ◌≤◌, Boo
 use Rattle.std.specs.Prelude.{All, IfSome, IsSomeAnd, is_some, option_and_then, slice_get, unwrap_or}
 use Rattle.std.proofs.lemmas.List.Elements.{All-head, All-tail}
 use Rattle.common_lemmas.proofs.Options.{none_some, same_some}
+use Rattle.common_lemmas.proofs.Booleans.{impossible}
 use Rattle.btree_inplace.specs.Order.{extent_in, get_in, has_key}
 use Rattle.column_set.specs.Rows.{IsRowBytes}
 use Rattle.column_set.specs.RowReading.{row_in}
 use Rattle.cursor_nav.specs.Places.{are_sorted}
 use Rattle.database_state.specs.State.{undone}
 use Rattle.page_image.specs.Page.{Node}
-use Rattle.record_changes.proofs.Tests.{impossible}
 use Rattle.table_trees.specs.StoredNodes.{IsShortNode, bookmark_entries}
 use Rattle.table_trees.specs.StoredTables.{StoredTable, has_table, is_table, table_nodes}
 use Rattle.version_store.specs.HeldChanges.{HeldChange, undone_at, with_status}

@@ -6,10 +6,11 @@ use Rattle.std.proofs.lemmas.Bool.{eqb-true}
 use Rattle.std.proofs.lemmas.Bool.Decides.{nat_tests}
 use Rattle.std.proofs.lemmas.List.{set-get_or}
 use Rattle.std.proofs.lemmas.List.Quantifiers.{position-Some}
+use Rattle.common_lemmas.proofs.Booleans.{and_left, and_right}
 use Rattle.version_cleanup.specs.declared.live.Transaction.{Transaction}
 use Rattle.version_cleanup.specs.LiveSessions.{LiveState, session_in, is_live, transaction_in, levels_in, levels_of, lowered, ended, level_ended, with_session, left, insert_session, are_rising, new_session}
 use Rattle.version_cleanup.specs.Shown.{AreLive}
-use Rattle.version_cleanup.proofs.Rising.{KeepsLabel, and-left, and-right, are_above, rising-changed, rising-left, rising-inserted, others-stay, others-left, length-changed, length-left, length-inserted}
+use Rattle.version_cleanup.proofs.Rising.{KeepsLabel, are_above, rising-changed, rising-left, rising-inserted, others-stay, others-left, length-changed, length-left, length-inserted}
 
 abbrev pub has_label : ℕ → LiveState → Bool
 has_label label s = s.label == label
@@ -72,10 +73,10 @@ changed-here : (label place : ℕ) (change : LiveState → LiveState) (sessions 
 changed-here label place change [] d rising is = absurd (omega (arith, is.within))
 changed-here label zero change (s ∷ sessions) d rising is =
     let same : s.label ≡ label = eqb-true s.label label (is.here d) in
-    ap (λ (l : List LiveState). change s ∷ l) (sym (others-stay label change sessions (subst (λ (n : ℕ). are_above n sessions ≡ true) same (and-left (are_above s.label sessions) (are_rising sessions) rising))))
+    ap (λ (l : List LiveState). change s ∷ l) (sym (others-stay label change sessions (subst (λ (n : ℕ). are_above n sessions ≡ true) same (and_left (are_above s.label sessions) (are_rising sessions) rising))))
     ∙ ap (λ (b : Bool). (if b then change s else s) ∷ with_session label change sessions) (sym (is.here d))
 changed-here label (suc place) change (s ∷ sessions) d rising is =
-    ap (λ (l : List LiveState). s ∷ l) (changed-here label place change sessions d (and-right (are_above s.label sessions) (are_rising sessions) rising) (found-tail label place s sessions is))
+    ap (λ (l : List LiveState). s ∷ l) (changed-here label place change sessions d (and_right (are_above s.label sessions) (are_rising sessions) rising) (found-tail label place s sessions is))
     ∙ ap (λ (b : Bool). (if b then change s else s) ∷ with_session label change sessions) (sym (is.before 0 d (omega arith)))
 
 changed-none : (label : ℕ) (change : LiveState → LiveState) (sessions : List LiveState) → position (has_label label) sessions ≡ None → with_session label change sessions ≡ sessions
@@ -88,10 +89,10 @@ removed-here : (label place : ℕ) (sessions : List LiveState) → are_rising se
 removed-here label place [] rising is = absurd (omega (arith, is.within))
 removed-here label zero (s ∷ sessions) rising is =
     let same : s.label ≡ label = eqb-true s.label label (is.here s) in
-    sym (others-left label sessions (subst (λ (n : ℕ). are_above n sessions ≡ true) same (and-left (are_above s.label sessions) (are_rising sessions) rising)))
+    sym (others-left label sessions (subst (λ (n : ℕ). are_above n sessions ≡ true) same (and_left (are_above s.label sessions) (are_rising sessions) rising)))
     ∙ ap (λ (b : Bool). if not b then s ∷ left label sessions else left label sessions) (sym (is.here s))
 removed-here label (suc place) (s ∷ sessions) rising is =
-    ap (λ (l : List LiveState). s ∷ l) (removed-here label place sessions (and-right (are_above s.label sessions) (are_rising sessions) rising) (found-tail label place s sessions is))
+    ap (λ (l : List LiveState). s ∷ l) (removed-here label place sessions (and_right (are_above s.label sessions) (are_rising sessions) rising) (found-tail label place s sessions is))
     ∙ ap (λ (b : Bool). if not b then s ∷ left label sessions else left label sessions) (sym (is.before 0 s (omega arith)))
 
 -- ---- what the calls leave, from what `position` answers

@@ -3,18 +3,20 @@ use Rattle.std.proofs.Common.{◌≡◌, ◌≢◌, ℕ, ◌+◌, ◌<◌, ◌�
 use Rattle.std.specs.Prelude.{◌==◌, nat_lt, is_some, IfSome}
 use Rattle.std.specs.List.{AllByRecursion}
 use Rattle.std.proofs.lemmas.Bool.Decides.{nat_tests}
+use Rattle.std.proofs.lemmas.Bool.{eqb-true}
+use Rattle.common_lemmas.proofs.Lists.{all_append, all_weaker}
+use Rattle.common_lemmas.proofs.Booleans.{impossible}
 use Rattle.database_state.specs.Table.{Table, table_with_id}
 use Rattle.database_state.specs.Changes.{changed_table, is_sum}
 use Rattle.database_state.specs.State.{PastChange, Transaction, Status, uncommitted, committed, undone, is_open, is_undone}
 use Rattle.database_state.specs.Conflicts.{collide, is_concurrent, is_concurrent_status}
 use Rattle.record_changes.specs.Records.{Records, after_item, record_after, records_after_items}
 use Rattle.record_changes.proofs.Folds.{folded-append, folded-same}
-use Rattle.record_changes.proofs.Tests.{impossible, same_number}
 use Rattle.version_history.specs.History.{InOrder, InOrderWhere, IsBegun, IsOpenIn, IsPassed, IsPassedBy, IsPlaced, IsPlacedBy, KeepsHistory, LevelsRise, NumbersRise, is_apart_by, is_begun_after}
 use Rattle.version_history.specs.Readers.{is_standing, was_committed, was_committed_status}
 use Rattle.version_history.proofs.Befores.{at, befores-append}
 use Rattle.version_history.proofs.Keeping.{apart_moved, some_at, some_map, with_at}
-use Rattle.version_history.proofs.Lists.{all_append, all_both, all_weaker, each_append, each_both}
+use Rattle.version_history.proofs.Lists.{all_both, each_append, each_both}
 use Rattle.version_history.proofs.Viewing.{none_open}
 
 -- ---- a transaction begins
@@ -138,7 +140,7 @@ order_new Meet n tables transactions t new number is_new e p placed free live li
     by false is uncommitted h live free = impossible (sym free ∙ ap (λ b. not b && true) is)
     by true is (committed at) h live free =
         settled at (p.session == new.session) (below at h.1)
-        (own_begun at (subst (λ u. IfSome u (λ x. at < x.begin)) (ap transactions (same_number p.session new.session is) ∙ e) h.2))
+        (own_begun at (subst (λ u. IfSome u (λ x. at < x.begin)) (ap transactions (eqb-true p.session new.session is) ∙ e) h.2))
     by false is (committed at) h live free =
         settled at (p.session == new.session) (below at h.1)
         (begun at (subst (λ u. IfSome u (λ x. at ≢ x.begin)) e (h.3 new.session)) (sym (ap (λ b. not b && nat_lt t.begin at) is) ∙ free))

@@ -4,6 +4,7 @@ use Rattle.std.specs.Prelude.{◌==◌, filter, IfSome}
 use Rattle.std.specs.List.{list_any}
 use Rattle.std.proofs.lemmas.Bool.Decides.{nat_tests}
 use Rattle.std.proofs.lemmas.List.Elements.{filter-append}
+use Rattle.common_lemmas.proofs.Lists.{all_weaker, filter_none}
 use Rattle.column_set.specs.declared.changes.Change.{Change}
 use Rattle.index_derive.specs.declared.rules.IndexRule.{IndexRule}
 use Rattle.index_derive.specs.declared.rules.Schema.{Schema}
@@ -12,7 +13,6 @@ use Rattle.database_state.specs.State.{DatabaseState, PastChange, Transaction, S
 use Rattle.database_state.specs.Conflicts.{collide, is_after_begin, is_concurrent, is_concurrent_status, concurrent_changes, has_write_conflict, has_key_conflict, yields_key}
 use Rattle.record_changes.specs.Records.{Records}
 use Rattle.version_history.specs.History.{IsHistory, IsPassed, IsPassedBy}
-use Rattle.version_history.proofs.Lists.{all_weaker, none_passes}
 
 passed_apart : (n : ℕ) (transactions : ℕ → Option Transaction) (session : ℕ) (s : Status) → IsPassedBy n transactions s → is_concurrent_status (transactions session) s ≡ false
 passed_apart n transactions session uncommitted h = absurd h
@@ -30,7 +30,7 @@ concurrent_kept base dropped kept state h session =
     ap (filter (is_concurrent session (transaction_of state session))) h.past
     ∙ filter-append (is_concurrent session (transaction_of state session)) dropped kept
     ∙ ap (λ xs. xs ++ filter (is_concurrent session (transaction_of state session)) kept)
-    (none_passes (is_concurrent session (transaction_of state session)) dropped
+    (filter_none (is_concurrent session (transaction_of state session)) dropped
     (all_weaker (IsPassed state.number (transaction_of state)) (λ item. is_concurrent session (transaction_of state session) item ≡ false)
     (λ item p. and_none (not (item.session == session)) (is_concurrent_status (transaction_of state session) item.status) (passed_apart state.number (transaction_of state) session item.status p)) dropped h.passed))
   where

@@ -4,6 +4,10 @@ use Rattle.std.specs.Prelude.{◌==◌, nat_le, nat_lt, find, option_and_then, i
 use Rattle.std.specs.List.{AllByRecursion, list_any}
 use Rattle.std.proofs.lemmas.Bool.Decides.{nat_tests}
 use Rattle.std.proofs.lemmas.List.{map-append}
+use Rattle.std.proofs.lemmas.Bool.{and_from, eqb-true}
+use Rattle.common_lemmas.proofs.Booleans.{and_left, and_right, impossible}
+use Rattle.common_lemmas.proofs.Lists.{all_append, all_each, all_filter, all_map, all_weaker}
+use Rattle.common_lemmas.proofs.Numbers.{self_equal}
 use Rattle.column_set.specs.declared.changes.Change.{Change}
 use Rattle.column_set.specs.declared.changes.Change.TheVariants.{Put, Drop, Hold, Add}
 use Rattle.index_derive.specs.declared.schema_calls.SchemaStep.{SchemaStep}
@@ -16,7 +20,7 @@ use Rattle.database_state.specs.VersionStore.{is_needed, is_needed_status}
 use Rattle.database_state.specs.Step.{with_transaction, at_levels, with_levels, with_changes_at, is_at_level, every_change, released, all_committed, changed, with_schema_step}
 use Rattle.record_changes.specs.Records.{IsThere, Records, after_item, is_change_of, record_after, records_after_items, records_of}
 use Rattle.record_changes.proofs.Projecting.{projected}
-use Rattle.record_changes.proofs.Tests.{and_both, and_left, and_right, equal_bytes, impossible, or_first, or_second, same_number, self_equal}
+use Rattle.record_changes.proofs.Tests.{equal_bytes, or_first, or_second}
 use Rattle.version_history.specs.History.{IsBegun, IsHistory, IsOpenIn, IsPassed, IsPassedBy, IsPlaced, IsPlacedBy, KeepsHistory, without_rows}
 use Rattle.version_history.specs.KeptSteps.{committed_own, lowered_own, new_change, with_next_number}
 use Rattle.version_history.specs.Readers.{is_standing, was_committed}
@@ -25,7 +29,6 @@ use Rattle.version_history.proofs.Beginning.{keeps_changed}
 use Rattle.version_history.proofs.Ending.{keeps_cleaned, keeps_committed, keeps_lowered}
 use Rattle.version_history.proofs.Entries.{history_later, history_moved}
 use Rattle.version_history.proofs.Keeping.{Follows, passed_followed, passed_later, with_at}
-use Rattle.version_history.proofs.Lists.{all_append, all_filter, all_map, all_true, all_weaker}
 use Rattle.version_history.proofs.SeenRecords.{are_there, folded, newest_records, of_kept, open_after}
 use Rattle.version_history.proofs.Transactions.{transaction-ended, transaction-levels}
 use Rattle.version_history.proofs.Viewing.{same_there}
@@ -61,7 +64,7 @@ released_by base dropped kept label state t e two h =
     (transaction-levels label (λ n. n - 1) lowering ∙ ap (λ u. with_at label (at_levels (λ n. n - 1) u) (transaction_of state)) e)
     (subst (λ u. Follows u (Some (record t { levels = t.levels - 1 }))) (sym e) (fewer t two))
     (all_map (λ item. is_open_change_of label item ≡ true → IsOpenIn item (transaction_of state label) → IsOpenIn item (Some (record t { levels = t.levels - 1 }))) (lowered_own label t.levels) kept
-    (all_true (λ item. is_open_change_of label (lowered_own label t.levels item) ≡ true → IsOpenIn (lowered_own label t.levels item) (transaction_of state label) → IsOpenIn (lowered_own label t.levels item) (Some (record t { levels = t.levels - 1 })))
+    (all_each (λ item. is_open_change_of label (lowered_own label t.levels item) ≡ true → IsOpenIn (lowered_own label t.levels item) (transaction_of state label) → IsOpenIn (lowered_own label t.levels item) (Some (record t { levels = t.levels - 1 })))
     (λ item own inside. one item own (subst (IsOpenIn (lowered_own label t.levels item)) e inside)) kept))
     made
   where
@@ -79,7 +82,7 @@ released_by base dropped kept label state t e two h =
     one item =
         elim (is_open_change_of label item && (item.level == t.levels)) as (λ b. (is_open_change_of label item && (item.level == t.levels)) ≡ b
         → is_open_change_of label (cond b (record item { level = item.level - 1 }) item) ≡ true → IsOpenIn (cond b (record item { level = item.level - 1 }) item) (Some t) → IsOpenIn (cond b (record item { level = item.level - 1 }) item) (Some (record t { levels = t.levels - 1 }))) [
-          | true ↦ λ e own inside. (inside.0, inside.1, at_last item.level t.levels (same_number item.level t.levels (and_right (is_open_change_of label item) _ e)))
+          | true ↦ λ e own inside. (inside.0, inside.1, at_last item.level t.levels (eqb-true item.level t.levels (and_right (is_open_change_of label item) _ e)))
           | false ↦ λ e own inside. (inside.0, inside.1, below item.level t.levels (beside (is_open_change_of label item) (item.level == t.levels) own e) inside.2)
         ] refl
       where
@@ -231,7 +234,7 @@ history_plainly_changed base dropped kept label change t state e free there h = 
 }
   where
     one_table : (c : Change) → is_change_of (changed_table c) (changed_bookmark c) c ≡ true
-    one_table c = and_both _ _ (self_equal (changed_table c)) (equal_bytes (changed_bookmark c) (changed_bookmark c) refl)
+    one_table c = and_from _ _ (self_equal (changed_table c)) (equal_bytes (changed_bookmark c) (changed_bookmark c) refl)
 
     made : record_in (tables_after (newest (with_next_number state)) change) (changed_table change) (changed_bookmark change) ≡ record_after change (record_in (newest (with_next_number state)) (changed_table change) (changed_bookmark change))
     made =

@@ -2,19 +2,22 @@
 use Rattle.std.proofs.Common.{◌≡◌, ◌≢◌, ℕ, ◌+◌, ◌-◌, ◌<◌, ◌≤◌, Bool, true, false, not, ◌&&◌, ◌||◌, cond, List, ◌∷◌, Option, Some, None, refl, sym, ap, subst, ◌∙◌, arith}
 use Rattle.std.specs.Prelude.{◌==◌, nat_lt, is_some, map, IfSome, if◌then◌else◌}
 use Rattle.std.proofs.lemmas.Bool.Decides.{nat_tests}
+use Rattle.std.proofs.lemmas.Bool.{and_from, eqb-true}
+use Rattle.common_lemmas.proofs.Booleans.{and_left, and_right, impossible}
+use Rattle.common_lemmas.proofs.Lists.{all_each, all_map, all_weaker}
+use Rattle.common_lemmas.proofs.Numbers.{self_equal}
 use Rattle.database_state.specs.Table.{Table, table_with_id}
 use Rattle.database_state.specs.Changes.{changed_table}
 use Rattle.database_state.specs.State.{PastChange, Transaction, Status, uncommitted, committed, undone, is_open, is_undone, is_open_change_of}
 use Rattle.database_state.specs.Conflicts.{collide}
 use Rattle.record_changes.specs.Records.{Records, after_item, records_after_items, records_of}
 use Rattle.record_changes.proofs.Folds.{folded-cons, folded-map}
-use Rattle.record_changes.proofs.Tests.{and_both, and_left, and_right, impossible, same_number, self_equal}
 use Rattle.version_history.specs.History.{InOrder, InOrderWhere, IsBegun, IsOpenIn, IsPassed, IsPassedBy, IsPlaced, IsPlacedBy, KeepsHistory, LevelsRise, NumbersRise, is_apart_by, is_begun_after, is_settled_for, without_rows}
 use Rattle.version_history.specs.KeptSteps.{committed_own, lowered_own}
 use Rattle.version_history.specs.Readers.{is_standing, was_committed, was_committed_status}
 use Rattle.version_history.proofs.Befores.{at, befores-map}
 use Rattle.version_history.proofs.Keeping.{apart_moved, some_at, some_map, with_at}
-use Rattle.version_history.proofs.Lists.{all_map, all_true, all_weaker, each_map}
+use Rattle.version_history.proofs.Lists.{each_map}
 use Rattle.version_history.proofs.Viewing.{same_there}
 
 -- ---- all open changes of a session committed
@@ -81,11 +84,11 @@ order_committed Meet session n transactions p q same h live_p live_q meet =
     let apart = h live_before_p live_before_q (same meet) in
     elim (is_open_change_of session p) as (λ b. is_open_change_of session p ≡ b → is_apart_of (cond b (record p { status = committed (n + 1) }) p) (committed_own session (n + 1) q) ≡ true) [
       | true ↦ λ own_p. elim (is_open_change_of session q) as (λ b. is_open_change_of session q ≡ b → is_apart_of (record p { status = committed (n + 1) }) (cond b (record q { status = committed (n + 1) }) q) ≡ true) [
-        | true ↦ λ own_q. both (p.session == q.session) (ap (λ k. k == q.session) (same_number p.session session (and_right (is_open p.status) _ own_p)) ∙ swapped (same_number q.session session (and_right (is_open q.status) _ own_q))) (nat_lt (n + 1) q.number && is_settled_for (with_at session None transactions q.session) (committed (n + 1)) (committed (n + 1)))
-        | false ↦ λ not_q. absurd (first p.status q.status (own_open session p own_p) (same_number p.session session (and_right (is_open p.status) _ own_p)) not_q apart)
+        | true ↦ λ own_q. both (p.session == q.session) (ap (λ k. k == q.session) (eqb-true p.session session (and_right (is_open p.status) _ own_p)) ∙ swapped (eqb-true q.session session (and_right (is_open q.status) _ own_q))) (nat_lt (n + 1) q.number && is_settled_for (with_at session None transactions q.session) (committed (n + 1)) (committed (n + 1)))
+        | false ↦ λ not_q. absurd (first p.status q.status (own_open session p own_p) (eqb-true p.session session (and_right (is_open p.status) _ own_p)) not_q apart)
       ] refl
       | false ↦ λ not_p. elim (is_open_change_of session q) as (λ b. is_open_change_of session q ≡ b → is_apart_of p (cond b (record q { status = committed (n + 1) }) q) ≡ true) [
-        | true ↦ λ own_q. second p.status q.status (own_open session q own_q) (same_number q.session session (and_right (is_open q.status) _ own_q)) not_p apart
+        | true ↦ λ own_q. second p.status q.status (own_open session q own_q) (eqb-true q.session session (and_right (is_open q.status) _ own_q)) not_p apart
         | false ↦ λ not_q. apart_moved (transactions q.session) (with_at session None transactions q.session) q.number (p.session == q.session) p.status q.status
             (λ opens e. subst (λ u. is_begun_after u p.status ≡ true) (sym (ap (λ b. cond b None (transactions q.session)) (beside (is_open q.status) (q.session == session) opens not_q))) e) apart
       ] refl
@@ -114,7 +117,7 @@ order_committed Meet session n transactions p q same h live_p live_q meet =
 
     first : (sp sq : Status) → is_open sp ≡ true → p.session ≡ session → (is_open sq && (q.session == session)) ≡ false → is_apart_by (transactions q.session) q.number (p.session == q.session) sp sq ≡ true → ⊥
     first uncommitted uncommitted e of_p not_q apart =
-        let same : p.session ≡ q.session = same_number p.session q.session (or_none (p.session == q.session) apart) in
+        let same : p.session ≡ q.session = eqb-true p.session q.session (or_none (p.session == q.session) apart) in
         impossible (sym not_q ∙ ap (λ k. k == session) (sym same ∙ of_p) ∙ self_equal session)
     first uncommitted (committed k) e of_p not_q apart = never (p.session == q.session) apart
     first uncommitted undone e of_p not_q apart = never (p.session == q.session) apart
@@ -128,7 +131,7 @@ order_committed Meet session n transactions p q same h live_p live_q meet =
     second : (sp sq : Status) → is_open sq ≡ true → q.session ≡ session → (is_open sp && (p.session == session)) ≡ false → is_apart_by (transactions q.session) q.number (p.session == q.session) sp sq ≡ true
         → is_apart_by (with_at session None transactions q.session) q.number (p.session == q.session) sp (committed (n + 1)) ≡ true
     second uncommitted uncommitted e of_q not_p apart =
-        let same : p.session ≡ q.session = same_number p.session q.session (or_none (p.session == q.session) apart) in
+        let same : p.session ≡ q.session = eqb-true p.session q.session (or_none (p.session == q.session) apart) in
         impossible (sym not_p ∙ ap (λ k. k == session) (same ∙ of_q) ∙ self_equal session)
     second (committed k) uncommitted e of_q not_p apart =
         ap (λ b. ((p.session == q.session) && (k == (n + 1))) || (b && true)) (settled (p.session == q.session) (nat_lt k q.number) _ apart) ∙ last ((p.session == q.session) && (k == (n + 1)))
@@ -192,12 +195,12 @@ pub keeps_committed : (session n : ℕ) (tables after : List Table) (transaction
     → KeepsHistory n tables transactions base kept → KeepsHistory (n + 1) after (with_at session None transactions) base (map (committed_own session (n + 1)) kept)
 keeps_committed session n tables after transactions base kept made same h = record {
   committed = made ∙ sym (folded-map (was_committed None) (λ item. was_committed None item || is_open_change_of session item) (committed_own session (n + 1)) (commit_change session (n + 1)) kept
-      (all_true (λ item. was_committed None (committed_own session (n + 1) item) ≡ (was_committed None item || is_open_change_of session item)) (commit_seen session (n + 1)) kept) base);
+      (all_each (λ item. was_committed None (committed_own session (n + 1) item) ≡ (was_committed None item || is_open_change_of session item)) (commit_seen session (n + 1)) kept) base);
   begun = λ x. some_at (IsBegun (n + 1) after base (map (committed_own session (n + 1)) kept)) session None transactions x (λ e. tt)
       (λ e. some_map (IsBegun n tables base kept) (IsBegun (n + 1) after base (map (committed_own session (n + 1)) kept))
       (λ t b. record {
         snapshot = b.snapshot ∙ sym (folded-map (was_committed (Some t)) (was_committed (Some t)) (committed_own session (n + 1)) (commit_change session (n + 1)) kept
-            (all_true (λ item. was_committed (Some t) (committed_own session (n + 1) item) ≡ was_committed (Some t) item) (commit_unseen session n t b.begin) kept) base);
+            (all_each (λ item. was_committed (Some t) (committed_own session (n + 1) item) ≡ was_committed (Some t) item) (commit_unseen session n t b.begin) kept) base);
         defined = b.defined ∙ sym same;
         begin = omega (arith, b.begin);
         levels = b.levels;
@@ -205,8 +208,8 @@ keeps_committed session n tables after transactions base kept made same h = reco
   in_order = each_map (IsPlaced n tables transactions) (InOrder transactions) (InOrder (with_at session None transactions)) (committed_own session (n + 1))
       (λ p q pp pq. order_committed (λ p q. collide p.change q.change ≡ true) session n transactions p q
       (λ hit. ap (λ c. collide c q.change) (sym (commit_change session (n + 1) p)) ∙ ap (collide (committed_own session (n + 1) p).change) (sym (commit_change session (n + 1) q)) ∙ hit)) kept h.placed h.in_order;
-  numbers = each_map (λ item. Unit {0}) NumbersRise NumbersRise (committed_own session (n + 1)) (λ p q x y lt. subst (λ (a : ℕ). a < (committed_own session (n + 1) q).number) (sym (commit_number session (n + 1) p)) (subst (λ (b : ℕ). p.number < b) (sym (commit_number session (n + 1) q)) lt)) kept (all_true (λ item. Unit {0}) (λ item. tt) kept) h.numbers;
-  levels = each_map (λ item. Unit {0}) LevelsRise LevelsRise (committed_own session (n + 1)) (λ p q x y. levels_committed session (n + 1) p q) kept (all_true (λ item. Unit {0}) (λ item. tt) kept) h.levels;
+  numbers = each_map (λ item. Unit {0}) NumbersRise NumbersRise (committed_own session (n + 1)) (λ p q x y lt. subst (λ (a : ℕ). a < (committed_own session (n + 1) q).number) (sym (commit_number session (n + 1) p)) (subst (λ (b : ℕ). p.number < b) (sym (commit_number session (n + 1) q)) lt)) kept (all_each (λ item. Unit {0}) (λ item. tt) kept) h.numbers;
+  levels = each_map (λ item. Unit {0}) LevelsRise LevelsRise (committed_own session (n + 1)) (λ p q x y. levels_committed session (n + 1) p q) kept (all_each (λ item. Unit {0}) (λ item. tt) kept) h.levels;
   befores = befores-map (committed_own session (n + 1)) (commit_change session (n + 1)) (commit_before session (n + 1)) (commit_live session (n + 1)) kept base h.befores;
   placed = all_map (IsPlaced (n + 1) after (with_at session None transactions)) (committed_own session (n + 1)) kept
       (all_weaker (IsPlaced n tables transactions) (λ item. IsPlaced (n + 1) after (with_at session None transactions) (committed_own session (n + 1) item))
@@ -249,8 +252,8 @@ levels_lowered session level p q h most =
       | false ↦ λ not_p. elim (is_open_change_of session q && (q.level == level)) as (λ b. (is_open_change_of session q && (q.level == level)) ≡ b → LevelsRise p (cond b (record q { level = q.level - 1 }) q)) [
         | true ↦ λ low_q open_p open_q same.
             let own_q : is_open_change_of session q ≡ true = and_left _ _ low_q in
-            let own_p : is_open_change_of session p ≡ true = and_both _ _ open_p (ap (λ k. k == session) same ∙ and_right (is_open q.status) _ own_q) in
-            let at_level : q.level ≡ level = same_number q.level level (and_right (is_open_change_of session q) _ low_q) in
+            let own_p : is_open_change_of session p ≡ true = and_from _ _ open_p (ap (λ k. k == session) same ∙ and_right (is_open q.status) _ own_q) in
+            let at_level : q.level ≡ level = eqb-true q.level level (and_right (is_open_change_of session q) _ low_q) in
             below p.level q.level level (h open_p open_q same) at_level (beside (is_open_change_of session p) (p.level == level) own_p not_p)
         | false ↦ λ not_q. h
       ] refl
@@ -272,7 +275,7 @@ levels_lowered session level p q h most =
 placed_lowered : (n : ℕ) (tables : List Table) (transactions : ℕ → Option Transaction) (session level : ℕ) → 2 ≤ level → (item : PastChange) → IsPlaced n tables transactions item → IsPlaced n tables transactions (lowered_own session level item)
 placed_lowered n tables transactions session level two item h =
     elim (is_open_change_of session item && (item.level == level)) as (λ b. (is_open_change_of session item && (item.level == level)) ≡ b → IsPlaced n tables transactions (cond b (record item { level = item.level - 1 }) item)) [
-      | true ↦ λ low. (h.0, h.1, by item.status (same_number item.level level (and_right (is_open_change_of session item) _ low)) h.2, h.3)
+      | true ↦ λ low. (h.0, h.1, by item.status (eqb-true item.level level (and_right (is_open_change_of session item) _ low)) h.2, h.3)
       | false ↦ λ e. h
     ] refl
   where
@@ -290,8 +293,8 @@ pub keeps_lowered : (n : ℕ) (tables : List Table) (transactions : ℕ → Opti
 keeps_lowered n tables transactions base kept session t e two h = record {
   committed = h.committed ∙ same None;
   begun = λ x. some_map (IsBegun n tables base kept) (IsBegun n tables base (map (lowered_own session t.levels) kept)) (λ u b. record { snapshot = b.snapshot ∙ same (Some u); defined = b.defined; begin = b.begin; levels = b.levels }) (transactions x) (h.begun x);
-  in_order = each_map (λ item. Unit {0}) (InOrder transactions) (InOrder transactions) (lowered_own session t.levels) (λ p q x y. order_lowered transactions session t.levels p q) kept (all_true (λ item. Unit {0}) (λ item. tt) kept) h.in_order;
-  numbers = each_map (λ item. Unit {0}) NumbersRise NumbersRise (lowered_own session t.levels) (λ p q x y lt. subst (λ (a : ℕ). a < (lowered_own session t.levels q).number) (sym (lower_number session t.levels p)) (subst (λ (b : ℕ). p.number < b) (sym (lower_number session t.levels q)) lt)) kept (all_true (λ item. Unit {0}) (λ item. tt) kept) h.numbers;
+  in_order = each_map (λ item. Unit {0}) (InOrder transactions) (InOrder transactions) (lowered_own session t.levels) (λ p q x y. order_lowered transactions session t.levels p q) kept (all_each (λ item. Unit {0}) (λ item. tt) kept) h.in_order;
+  numbers = each_map (λ item. Unit {0}) NumbersRise NumbersRise (lowered_own session t.levels) (λ p q x y lt. subst (λ (a : ℕ). a < (lowered_own session t.levels q).number) (sym (lower_number session t.levels p)) (subst (λ (b : ℕ). p.number < b) (sym (lower_number session t.levels q)) lt)) kept (all_each (λ item. Unit {0}) (λ item. tt) kept) h.numbers;
   levels = each_map (IsPlaced n tables transactions) LevelsRise LevelsRise (lowered_own session t.levels) (λ p q pp pq rise. levels_lowered session t.levels p q rise (most q pq)) kept h.placed h.levels;
   befores = befores-map (lowered_own session t.levels) (lower_change session t.levels) (lower_before session t.levels) (λ item. ap (λ s. not (is_undone s)) (lower_status session t.levels item)) kept base h.befores;
   placed = all_map (IsPlaced n tables transactions) (lowered_own session t.levels) kept (all_weaker (IsPlaced n tables transactions) (λ item. IsPlaced n tables transactions (lowered_own session t.levels item)) (placed_lowered n tables transactions session t.levels two) kept h.placed);
@@ -299,13 +302,13 @@ keeps_lowered n tables transactions base kept session t e two h = record {
   where
     same : (u : Option Transaction) → records_after_items (was_committed u) base kept ≡ records_after_items (was_committed u) base (map (lowered_own session t.levels) kept)
     same u = sym (folded-map (was_committed u) (was_committed u) (lowered_own session t.levels) (lower_change session t.levels) kept
-        (all_true (λ item. was_committed u (lowered_own session t.levels item) ≡ was_committed u item) (λ item. ap (was_committed_status u) (lower_status session t.levels item)) kept) base)
+        (all_each (λ item. was_committed u (lowered_own session t.levels item) ≡ was_committed u item) (λ item. ap (was_committed_status u) (lower_status session t.levels item)) kept) base)
 
     most : (q : PastChange) → IsPlaced n tables transactions q → is_open_change_of session q ≡ true → q.level ≤ t.levels
     most q placed own = by q.status (and_left _ _ own) placed.2
       where
         by : (s : Status) → is_open s ≡ true → IsPlacedBy n transactions q s → q.level ≤ t.levels
-        by uncommitted o h = (subst (IsOpenIn q) (ap transactions (same_number q.session session (and_right (is_open q.status) _ own)) ∙ e) h).2
+        by uncommitted o h = (subst (IsOpenIn q) (ap transactions (eqb-true q.session session (and_right (is_open q.status) _ own)) ∙ e) h).2
         by (committed k) o h = impossible o
         by undone o h = impossible o
 

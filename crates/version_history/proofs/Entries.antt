@@ -4,16 +4,19 @@ use Rattle.std.specs.Prelude.{◌==◌, nat_lt, is_some, map, IfSome}
 use Rattle.std.specs.List.{AllByRecursion}
 use Rattle.std.proofs.lemmas.Bool.Decides.{nat_tests}
 use Rattle.std.proofs.lemmas.List.{map-append}
+use Rattle.std.proofs.lemmas.Bool.{and_from, eqb-true}
+use Rattle.common_lemmas.proofs.Booleans.{and_left, and_right, impossible}
+use Rattle.common_lemmas.proofs.Lists.{all_each, all_map, all_weaker}
+use Rattle.common_lemmas.proofs.Numbers.{self_equal}
 use Rattle.database_state.specs.Table.{Table}
 use Rattle.database_state.specs.State.{DatabaseState, PastChange, LiveSession, Transaction, Status, uncommitted, committed, undone, is_open, is_open_change_of, live_session, transaction_of, levels_of, levels, with_session}
 use Rattle.database_state.specs.Step.{entered, left, with_transaction, began, at_levels, with_levels, with_changes_at, is_at_level, every_change, innermost_undone, all_undone}
 use Rattle.record_changes.specs.Records.{Records}
-use Rattle.record_changes.proofs.Tests.{and_both, and_left, and_right, impossible, same_number, self_equal}
 use Rattle.version_history.specs.History.{IsBegun, IsHistory, IsOpenIn, IsPassed, IsPassedBy, IsPlaced, IsPlacedBy, KeepsHistory, LevelsRise}
 use Rattle.version_history.specs.KeptSteps.{is_own_open, undone_where, with_next_number}
 use Rattle.version_history.proofs.Beginning.{keeps_begun, passed_begun}
 use Rattle.version_history.proofs.Keeping.{Follows, StaysOpen, goes_apart, keeps_followed, keeps_later, keeps_undone, passed_followed, passed_later, with_at}
-use Rattle.version_history.proofs.Lists.{all_both, all_map, all_true, all_weaker}
+use Rattle.version_history.proofs.Lists.{all_both}
 use Rattle.version_history.proofs.Transactions.{same-with, transaction-begun, transaction-ended, transaction-entered, transaction-left, transaction-levels}
 
 -- ---- the number
@@ -52,7 +55,7 @@ pub follows_at : (n : ℕ) (tables : List Table) (base : Records) (kept : List P
     → (x : ℕ) → Follows (transactions x) (with_at label u transactions x)
 follows_at n tables base kept transactions begun label u f x =
     elim (x == label) as (λ b. (x == label) ≡ b → Follows (transactions x) (cond b u (transactions x))) [
-      | true ↦ λ e. subst (λ (k : ℕ). Follows (transactions k) u) (sym (same_number x label e)) f
+      | true ↦ λ e. subst (λ (k : ℕ). Follows (transactions k) u) (sym (eqb-true x label e)) f
       | false ↦ λ e. follows_self n tables base kept (transactions x) (begun x)
     ] refl
 
@@ -66,7 +69,7 @@ stays_at : (n : ℕ) (tables : List Table) (transactions : ℕ → Option Transa
 stays_at n tables transactions label u item placed f opens =
     let inside = open_in n transactions item item.status opens placed.2 in
     elim (item.session == label) as (λ b. (item.session == label) ≡ b → IsOpenIn item (cond b u (transactions item.session))) [
-      | true ↦ λ e. f (and_both _ _ opens e) (subst (λ (k : ℕ). IsOpenIn item (transactions k)) (same_number item.session label e) inside)
+      | true ↦ λ e. f (and_from _ _ opens e) (subst (λ (k : ℕ). IsOpenIn item (transactions k)) (eqb-true item.session label e) inside)
       | false ↦ λ e. inside
     ] refl
 
@@ -104,7 +107,7 @@ pub history_saved : (base : Records) (dropped kept : List PastChange) (label : �
 history_saved base dropped kept label state h =
     history_moved base dropped kept label (at_levels (λ n. n + 1) (transaction_of state label)) state (with_levels label (λ n. n + 1) state) refl refl refl
     (transaction-levels label (λ n. n + 1) state) (more (transaction_of state label))
-    (all_true (λ item. is_open_change_of label item ≡ true → IsOpenIn item (transaction_of state label) → IsOpenIn item (at_levels (λ n. n + 1) (transaction_of state label))) (λ item own inside. deeper item (transaction_of state label) inside) kept) h
+    (all_each (λ item. is_open_change_of label item ≡ true → IsOpenIn item (transaction_of state label) → IsOpenIn item (at_levels (λ n. n + 1) (transaction_of state label))) (λ item own inside. deeper item (transaction_of state label) inside) kept) h
 
 -- ---- a begin
 
@@ -145,7 +148,7 @@ history_undone base dropped kept label test state suffix h = record {
       (λ item p. ap (λ b. cond (b && test item) (record item { status = undone }) item) (passed_own state.number (transaction_of state) label item p)) dropped h.passed));
   passed = h.passed;
   keeps = keeps_undone state.number state.tables (transaction_of state) base kept (is_own_open label test) (λ item e. and_left (is_open item.status) _ (and_left _ _ e))
-      (goes_apart state.number state.tables (transaction_of state) base kept label test (λ item. Unit {0}) (all_true (λ item. Unit {0}) (λ item. tt) kept) (λ p q e own placed each rise less. suffix p q e own placed rise) h.keeps) h.keeps;
+      (goes_apart state.number state.tables (transaction_of state) base kept label test (λ item. Unit {0}) (all_each (λ item. Unit {0}) (λ item. tt) kept) (λ p q e own placed each rise less. suffix p q e own placed rise) h.keeps) h.keeps;
 }
 
 -- no open change of the session stays
@@ -156,7 +159,7 @@ history_all_undone base dropped kept label state h =
     history_moved base dropped (map (undone_where (is_own_open label every_change)) kept) label None (with_changes_at label every_change (λ item. record item { status = undone }) state) (all_undone label state) refl refl refl
     (transaction-ended label (with_changes_at label every_change (λ item. record item { status = undone }) state)) tt
     (all_map (λ item. is_open_change_of label item ≡ true → IsOpenIn item (transaction_of state label) → ⊥) (undone_where (is_own_open label every_change)) kept
-    (all_true (λ item. is_open_change_of label (undone_where (is_own_open label every_change) item) ≡ true → IsOpenIn (undone_where (is_own_open label every_change) item) (transaction_of state label) → ⊥) (λ item own inside. none item own) kept))
+    (all_each (λ item. is_open_change_of label (undone_where (is_own_open label every_change) item) ≡ true → IsOpenIn (undone_where (is_own_open label every_change) item) (transaction_of state label) → ⊥) (λ item own inside. none item own) kept))
     (history_undone base dropped kept label every_change state (λ p q e own placed rise. refl) h)
   where
     none : (item : PastChange) → is_open_change_of label (undone_where (is_own_open label every_change) item) ≡ true → ⊥
@@ -179,9 +182,9 @@ pub at_innermost : (label : ℕ) (state : DatabaseState) (p q : PastChange) → 
     → (q.level == levels state label) ≡ true
 at_innermost label state p q e own placed rise =
     let own_p : is_open_change_of label p ≡ true = and_left _ _ e in
-    let of_p : p.session ≡ label = same_number p.session label (and_right (is_open p.status) _ own_p) in
-    let of_q : q.session ≡ label = same_number q.session label (and_right (is_open q.status) _ own) in
-    let low : p.level ≡ levels state label = same_number p.level (levels state label) (and_right (is_open_change_of label p) _ e) in
+    let of_p : p.session ≡ label = eqb-true p.session label (and_right (is_open p.status) _ own_p) in
+    let of_q : q.session ≡ label = eqb-true q.session label (and_right (is_open q.status) _ own) in
+    let low : p.level ≡ levels state label = eqb-true p.level (levels state label) (and_right (is_open_change_of label p) _ e) in
     let le = rise (and_left _ _ own_p) (and_left _ _ own) (of_p ∙ sym of_q) in
     let inside : IsOpenIn q (transaction_of state label) = subst (λ (k : ℕ). IsOpenIn q (transaction_of state k)) of_q (open_in state.number (transaction_of state) q q.status (and_left _ _ own) placed.2) in
     between p.level q.level (levels state label) le low (at_most (transaction_of state label) inside)
@@ -238,7 +241,7 @@ history_innermost_undone base dropped kept label state h =
         → AllByRecursion (λ item. is_open_change_of label item ≡ true → (inside : IsOpenIn item (transaction_of state label)) → P item inside) kept_after
     each P f =
         all_map (λ item. is_open_change_of label item ≡ true → (inside : IsOpenIn item (transaction_of state label)) → P item inside) (undone_where (is_own_open label (is_at_level (levels state label)))) kept
-        (all_true (λ item. is_open_change_of label (undone_where (is_own_open label (is_at_level (levels state label))) item) ≡ true → (inside : IsOpenIn (undone_where (is_own_open label (is_at_level (levels state label))) item) (transaction_of state label)) → P (undone_where (is_own_open label (is_at_level (levels state label))) item) inside) one kept)
+        (all_each (λ item. is_open_change_of label (undone_where (is_own_open label (is_at_level (levels state label))) item) ≡ true → (inside : IsOpenIn (undone_where (is_own_open label (is_at_level (levels state label))) item) (transaction_of state label)) → P (undone_where (is_own_open label (is_at_level (levels state label))) item) inside) one kept)
       where
         beside : (a b : Bool) → a ≡ true → (a && b) ≡ false → b ≡ false
         beside true b e g = g
@@ -262,4 +265,4 @@ history_left base dropped kept label state h =
     let ended : transaction_of (all_undone label state) label ≡ None = ap (λ (t : ℕ → Option Transaction). t label) (transaction-ended label (with_changes_at label every_change (λ item. record item { status = undone }) state)) ∙ ap (λ b. cond b None (transaction_of state label)) (self_equal label) in
     history_moved base dropped (map (undone_where (is_own_open label every_change)) kept) label None (all_undone label state) (left label (all_undone label state)) refl refl refl
     (transaction-left label (all_undone label state)) tt
-    (all_true (λ item. is_open_change_of label item ≡ true → IsOpenIn item (transaction_of (all_undone label state) label) → ⊥) (λ item own inside. subst (IsOpenIn item) ended inside) (map (undone_where (is_own_open label every_change)) kept)) made
+    (all_each (λ item. is_open_change_of label item ≡ true → IsOpenIn item (transaction_of (all_undone label state) label) → ⊥) (λ item own inside. subst (IsOpenIn item) ended inside) (map (undone_where (is_own_open label every_change)) kept)) made

@@ -2,6 +2,10 @@
 use Rattle.std.proofs.Common.{◌≡◌, ℕ, Bool, true, false, not, ◌&&◌, ◌||◌, cond, List, [], ◌∷◌, Option, Some, refl, sym, ap, ◌∙◌}
 use Rattle.std.specs.Prelude.{◌==◌, find, filter, fold}
 use Rattle.std.specs.List.{AllByRecursion}
+use Rattle.std.proofs.lemmas.Bool.{and_from, eqb-true, not-true}
+use Rattle.common_lemmas.proofs.Booleans.{and_left, and_right}
+use Rattle.common_lemmas.proofs.Lists.{all_weaker}
+use Rattle.common_lemmas.proofs.Numbers.{same_bytes}
 use Rattle.column_set.specs.declared.changes.Change.{Change}
 use Rattle.column_set.specs.declared.changes.Change.TheVariants.{Put, Drop, Hold, Add}
 use Rattle.column_set.specs.RecordValues.{RecordFields}
@@ -10,10 +14,10 @@ use Rattle.database_state.specs.State.{DatabaseState, PastChange, Transaction, S
 use Rattle.database_state.specs.Conflicts.{collide}
 use Rattle.record_changes.specs.Records.{Records, after_item, is_change_of, record_after, records_after, records_after_items}
 use Rattle.record_changes.proofs.Commuting.{both_touch, commute}
-use Rattle.record_changes.proofs.Tests.{and_both, and_left, and_right, contradicted, not_true, same_bytes, same_number}
+use Rattle.record_changes.proofs.Tests.{contradicted}
 use Rattle.version_history.specs.History.{EachTwo, HasBefores}
 use Rattle.version_history.specs.Readers.{before_or, found_record, hides, is_rewrite, is_standing, is_unseen, sees, until, was_committed_status}
-use Rattle.version_history.proofs.Lists.{all_weaker, each_until, each_weaker}
+use Rattle.version_history.proofs.Lists.{each_until, each_weaker}
 use Rattle.version_history.proofs.Merging.{Commute, merged}
 use Rattle.version_history.proofs.SeenEarlier.{SeenEarlier}
 
@@ -44,7 +48,7 @@ found_before session tr t b (item ∷ kept) base newest h e =
           let mine : is_change_of t b item.change ≡ true = and_left _ _ touched in
           let live : is_standing item ≡ true = and_left _ _ (and_right (is_change_of t b item.change && is_rewrite item.change) _ hit) in
           h.0 live (no_sum item.change (and_right (is_change_of t b item.change) _ touched))
-          ∙ ap (λ (n : ℕ). base n (changed_bookmark item.change)) (same_number (changed_table item.change) t (and_left _ _ mine))
+          ∙ ap (λ (n : ℕ). base n (changed_bookmark item.change)) (eqb-true (changed_table item.change) t (and_left _ _ mine))
           ∙ ap (λ (k : List ℕ). base t k) (same_bytes (changed_bookmark item.change) b (and_right (changed_table item.change == t) _ mine))
       | false ↦ λ miss.
           elim (is_standing item) as (λ x. HasBefores (cond x (records_after base item.change) base) kept → newest ≡ fold after_item base (cond x (item ∷ filter is_standing kept) (filter is_standing kept)) t b
@@ -67,7 +71,7 @@ untouched test t b (q ∷ items) h base =
 
 -- a put or a drop collides with each change of its record
 hit_collides : (t : ℕ) (b : List ℕ) (p q : Change) → is_rewrite p ≡ true → is_change_of t b p ≡ true → is_change_of t b q ≡ true → collide p q ≡ true
-hit_collides t b p q rewrite hp hq = and_both _ _ (both_touch t b p q hp hq) (ap (λ x. not (x && is_sum q)) (no_sum p rewrite))
+hit_collides t b p q rewrite hp hq = and_from _ _ (both_touch t b p q hp hq) (ap (λ x. not (x && is_sum q)) (no_sum p rewrite))
 
 pub seen_until : (session : ℕ) (tr : Option Transaction) (t : ℕ) (b : List ℕ) (kept : List PastChange) → EachTwo (SeenEarlier session tr) kept → (base : Records)
     → records_after_items (sees session tr) base kept t b ≡ records_after_items (sees session tr) base (until (hides session tr t b) kept) t b
@@ -79,7 +83,7 @@ seen_until session tr t b (item ∷ kept) h base =
           let touched : (is_change_of t b item.change && is_rewrite item.change) ≡ true = and_left _ _ hit in
           let mine : is_change_of t b item.change ≡ true = and_left _ _ touched in
           let unseen : is_unseen session tr item ≡ true = and_right (is_change_of t b item.change && is_rewrite item.change) _ hit in
-          let hidden : sees session tr item ≡ false = not_true _ (and_right (is_standing item) _ unseen) in
+          let hidden : sees session tr item ≡ false = not-true _ (and_right (is_standing item) _ unseen) in
           untouched (sees session tr) t b (item ∷ kept) (
             (λ e. absurd_test (is_change_of t b item.change) hidden e),
             all_weaker (SeenEarlier session tr item) (λ q. sees session tr q ≡ true → is_change_of t b q.change ≡ false)
@@ -119,7 +123,7 @@ pub unseen_after : (session : ℕ) (tr : Option Transaction) (base : Records) (i
 unseen_after session tr base items h =
     merged after_item (sees session tr) (is_unseen session tr) (λ item e. hidden (is_standing item) (sees session tr item) e) base items
     (each_weaker (SeenEarlier session tr) (λ p q. is_unseen session tr p ≡ true → sees session tr q ≡ true → Commute after_item p q)
-    (λ p q early unseen seen. commute p q (contradicted (collide p.change q.change) (λ hit. sym (early (and_left _ _ unseen) seen hit) ∙ not_true _ (and_right (is_standing p) _ unseen)))) items h)
+    (λ p q early unseen seen. commute p q (contradicted (collide p.change q.change) (λ hit. sym (early (and_left _ _ unseen) seen hit) ∙ not-true _ (and_right (is_standing p) _ unseen)))) items h)
     ∙ ap (λ (test : PastChange → Bool). records_after_items test base items) (λ i item. live_by (sees session tr item) (is_standing item) (seen_live session tr item) i)
   where
     hidden : (live seen : Bool) → seen ≡ true → (live && not seen) ≡ false

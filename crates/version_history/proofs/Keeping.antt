@@ -2,17 +2,21 @@
 use Rattle.std.proofs.Common.{◌≡◌, ◌≢◌, ℕ, ◌+◌, ◌<◌, ◌≤◌, Bool, true, false, not, ◌&&◌, ◌||◌, cond, List, ◌∷◌, ◌++◌, [], Option, Some, None, refl, sym, ap, subst, ◌∙◌, arith}
 use Rattle.std.specs.Prelude.{◌==◌, nat_lt, map, IfSome, if◌then◌else◌}
 use Rattle.std.specs.List.{AllByRecursion}
+use Rattle.std.proofs.lemmas.Bool.{and_from, eqb-true}
+use Rattle.common_lemmas.proofs.Booleans.{and_left, and_right, impossible}
+use Rattle.common_lemmas.proofs.Lists.{all_each, all_map, all_weaker}
+use Rattle.common_lemmas.proofs.Numbers.{self_equal}
 use Rattle.database_state.specs.Table.{Table}
 use Rattle.database_state.specs.State.{PastChange, Transaction, Status, uncommitted, committed, undone, is_open, is_undone, is_open_change_of}
 use Rattle.database_state.specs.Conflicts.{collide}
 use Rattle.record_changes.specs.Records.{Records, records_after_items, records_of}
 use Rattle.record_changes.proofs.Folds.{folded-map}
-use Rattle.record_changes.proofs.Tests.{and_both, and_left, and_right, contradicted, impossible, same_number, self_equal}
+use Rattle.record_changes.proofs.Tests.{contradicted}
 use Rattle.version_history.specs.History.{EachTwo, InOrder, IsBegun, IsOpenIn, IsPassed, IsPassedBy, IsPlaced, IsPlacedBy, InOrderWhere, KeepsHistory, LevelsRise, NumbersRise, is_apart_by, is_begun_after, is_committed_before, is_same_status, without_rows}
 use Rattle.version_history.specs.KeptSteps.{is_own_open, undone_where}
 use Rattle.version_history.specs.Readers.{is_standing, was_committed, was_committed_status}
 use Rattle.version_history.proofs.Befores.{GoesApart, at, befores-undo}
-use Rattle.version_history.proofs.Lists.{all_both, all_map, all_true, all_weaker, each_and, each_both, each_map}
+use Rattle.version_history.proofs.Lists.{all_both, each_and, each_both, each_map}
 
 -- ---- tests
 
@@ -212,21 +216,21 @@ pub keeps_undone : (n : ℕ) (tables : List Table) (transactions : ℕ → Optio
 keeps_undone n tables transactions base kept gone opens apart h = record {
   committed = h.committed ∙ same None;
   begun = λ x. some_map (IsBegun n tables base kept) (IsBegun n tables base (map (undone_where gone) kept)) (λ t b. record { snapshot = b.snapshot ∙ same (Some t); defined = b.defined; begin = b.begin; levels = b.levels }) (transactions x) (h.begun x);
-  in_order = each_map (λ item. Unit {0}) (InOrder transactions) (InOrder transactions) (undone_where gone) (λ p q x y. order_undone (λ p q. collide p.change q.change ≡ true) transactions gone p q) kept (all_true (λ item. Unit {0}) (λ item. tt) kept) h.in_order;
-  numbers = each_map (λ item. Unit {0}) NumbersRise NumbersRise (undone_where gone) (λ p q x y lt. subst (λ (a : ℕ). a < (undone_where gone q).number) (sym (undone_number gone p)) (subst (λ (b : ℕ). p.number < b) (sym (undone_number gone q)) lt)) kept (all_true (λ item. Unit {0}) (λ item. tt) kept) h.numbers;
-  levels = each_map (λ item. Unit {0}) LevelsRise LevelsRise (undone_where gone) (λ p q x y. levels_undone gone p q) kept (all_true (λ item. Unit {0}) (λ item. tt) kept) h.levels;
+  in_order = each_map (λ item. Unit {0}) (InOrder transactions) (InOrder transactions) (undone_where gone) (λ p q x y. order_undone (λ p q. collide p.change q.change ≡ true) transactions gone p q) kept (all_each (λ item. Unit {0}) (λ item. tt) kept) h.in_order;
+  numbers = each_map (λ item. Unit {0}) NumbersRise NumbersRise (undone_where gone) (λ p q x y lt. subst (λ (a : ℕ). a < (undone_where gone q).number) (sym (undone_number gone p)) (subst (λ (b : ℕ). p.number < b) (sym (undone_number gone q)) lt)) kept (all_each (λ item. Unit {0}) (λ item. tt) kept) h.numbers;
+  levels = each_map (λ item. Unit {0}) LevelsRise LevelsRise (undone_where gone) (λ p q x y. levels_undone gone p q) kept (all_each (λ item. Unit {0}) (λ item. tt) kept) h.levels;
   befores = befores-undo gone (λ item e. open_live item.status (opens item e)) kept base h.befores apart;
   placed = all_map (IsPlaced n tables transactions) (undone_where gone) kept (all_weaker (IsPlaced n tables transactions) (λ item. IsPlaced n tables transactions (undone_where gone item)) (placed_undone n tables transactions gone) kept h.placed);
 }
   where
     same : (t : Option Transaction) → records_after_items (was_committed t) base kept ≡ records_after_items (was_committed t) base (map (undone_where gone) kept)
-    same t = sym (folded-map (was_committed t) (was_committed t) (undone_where gone) (undone_change gone) kept (all_true (λ item. was_committed t (undone_where gone item) ≡ was_committed t item) (undone_committed t gone opens) kept) base)
+    same t = sym (folded-map (was_committed t) (was_committed t) (undone_where gone) (undone_change gone) kept (all_each (λ item. was_committed t (undone_where gone item) ≡ was_committed t item) (undone_committed t gone opens) kept) base)
 
 -- whoever collides with an open change of the session behind it is one too
 pub also_open : (transactions : ℕ → Option Transaction) (session : ℕ) (p q : PastChange) (sp sq : Status) → is_open sp ≡ true → p.session ≡ session → is_apart_by (transactions q.session) q.number (p.session == q.session) sp sq ≡ true
     → (is_open sq && (q.session == session)) ≡ true
 also_open transactions session p q uncommitted uncommitted e of_p apart =
-    let same : p.session ≡ q.session = same_number p.session q.session (or_none (p.session == q.session) apart) in
+    let same : p.session ≡ q.session = eqb-true p.session q.session (or_none (p.session == q.session) apart) in
     ap (λ k. k == session) (sym same ∙ of_p) ∙ self_equal session
   where
     or_none : (a : Bool) → ((a && true) || false) ≡ true → a ≡ true
@@ -254,17 +258,17 @@ goes_apart n tables transactions base kept session test Each every next h =
     (λ p q pp pq r goes live stays. contradicted (collide p.change q.change) (λ hit.
     let own : is_open_change_of session p ≡ true = and_left _ _ goes in
     let open_p : is_open p.status ≡ true = and_left _ _ own in
-    let of_p : p.session ≡ session = same_number p.session session (and_right (is_open p.status) _ own) in
+    let of_p : p.session ≡ session = eqb-true p.session session (and_right (is_open p.status) _ own) in
     let apart = r.0 (open_live p.status open_p) live hit in
     let also : is_open_change_of session q ≡ true = also_open transactions session p q p.status q.status open_p of_p apart in
-    sym (and_both _ _ also (next p q goes also pq.0 pq.1 r.1.0 r.1.1)) ∙ stays))
+    sym (and_from _ _ also (next p q goes also pq.0 pq.1 r.1.0 r.1.1)) ∙ stays))
     kept (all_both (IsPlaced n tables transactions) Each (λ q. IsPlaced n tables transactions q × Each q) (λ q a b. (a, b)) kept h.placed every) (each_and (InOrder transactions) (λ p q. LevelsRise p q × NumbersRise p q) kept h.in_order (each_and LevelsRise NumbersRise kept h.levels h.numbers))
 
 goes_apart_last : (n : ℕ) (tables : List Table) (transactions : ℕ → Option Transaction) (base : Records) (kept : List PastChange) (session last : ℕ) → AllByRecursion (λ q. is_open_change_of session q ≡ true → q.number ≤ last) kept
     → KeepsHistory n tables transactions base kept → EachTwo (GoesApart (is_own_open session (λ item. item.number == last))) kept
 goes_apart_last n tables transactions base kept session last most h =
     goes_apart n tables transactions base kept session (λ item. item.number == last) (λ q. is_open_change_of session q ≡ true → q.number ≤ last) most
-    (λ p q goes also placed le rise less. absurd (past p.number q.number last (same_number p.number last (and_right (is_open_change_of session p) _ goes)) less (le also))) h
+    (λ p q goes also placed le rise less. absurd (past p.number q.number last (eqb-true p.number last (and_right (is_open_change_of session p) _ goes)) less (le also))) h
   where
     past : (a b k : ℕ) → a ≡ k → a < b → b ≤ k → ⊥
     past a b k e lt le = omega arith
@@ -283,7 +287,7 @@ pub newest_apart : (n : ℕ) (tables : List Table) (transactions : ℕ → Optio
 newest_apart n tables transactions base front item rest session h own none =
     all_both (λ later. is_open_change_of session later ≡ false) (InOrder transactions item) (λ later. is_standing later ≡ true → collide item.change later.change ≡ false)
     (λ later off order live. contradicted (collide item.change later.change) (λ hit.
-    sym (also_open transactions session item later item.status later.status (and_left _ _ own) (same_number item.session session (and_right (is_open item.status) _ own)) (order (open_live item.status (and_left _ _ own)) live hit)) ∙ off))
+    sym (also_open transactions session item later item.status later.status (and_left _ _ own) (eqb-true item.session session (and_right (is_open item.status) _ own)) (order (open_live item.status (and_left _ _ own)) live hit)) ∙ off))
     rest none (back front h.in_order).0
   where
     back : (xs : List PastChange) → EachTwo (InOrder transactions) (xs ++ item ∷ rest) → EachTwo (InOrder transactions) (item ∷ rest)

@@ -3,16 +3,19 @@ use Rattle.std.proofs.Common.{◌≡◌, ℕ, ◌+◌, ◌-◌, ◌<◌, Bool, t
 use Rattle.std.specs.Prelude.{◌==◌, nat_lt, map, filter, find, is_some, option_and_then, if◌then◌else◌}
 use Rattle.std.specs.List.{AllByRecursion}
 use Rattle.std.proofs.lemmas.Bool.Decides.{nat_tests}
+use Rattle.std.proofs.lemmas.Bool.{not-true}
+use Rattle.common_lemmas.proofs.Booleans.{and_left, and_right, impossible}
+use Rattle.common_lemmas.proofs.Lists.{all_each, all_filter, all_weaker}
+use Rattle.common_lemmas.proofs.Numbers.{self_equal}
 use Rattle.index_derive.specs.declared.log.Entry.{Entry}
 use Rattle.index_derive.specs.declared.log.EntryKind.{EntryKind}
 use Rattle.index_derive.specs.declared.log.EntryKind.TheVariants as entry
 use Rattle.database_state.specs.State.{DatabaseState, LiveSession, undone, transaction_of, live_session, levels}
 use Rattle.database_state.specs.Step.{insert_session, with_transaction, at_levels, with_levels, with_changes_at, is_at_level, applied, state_after}
 use Rattle.database_state.specs.Lawful.{has_number, is_lawful, is_lawful_kind}
-use Rattle.record_changes.proofs.Tests.{and_left, and_right, impossible, not_true, self_equal}
 use Rattle.version_history.specs.History.{EachTwo, LabelsRise}
 use Rattle.version_history.specs.KeptSteps.{with_next_number}
-use Rattle.version_history.proofs.Lists.{all_both, all_filter, all_true, all_weaker, each_map}
+use Rattle.version_history.proofs.Lists.{all_both, each_map}
 
 -- ---- a session more
 
@@ -52,7 +55,7 @@ rise_with : (label : ℕ) (change : LiveSession → LiveSession) → ((s : LiveS
     → EachTwo LabelsRise (map (λ s. if s.label == label then change s else s) sessions)
 rise_with label change same sessions h =
     each_map (λ (s : LiveSession). Unit {0}) LabelsRise LabelsRise (λ s. if s.label == label then change s else s)
-    (λ one other x y lt. subst (λ (a : ℕ). a < (if other.label == label then change other else other).label) (sym (label_of one)) (subst (λ (b : ℕ). one.label < b) (sym (label_of other)) lt)) sessions (all_true (λ (s : LiveSession). Unit {0}) (λ s. tt) sessions) h
+    (λ one other x y lt. subst (λ (a : ℕ). a < (if other.label == label then change other else other).label) (sym (label_of one)) (subst (λ (b : ℕ). one.label < b) (sym (label_of other)) lt)) sessions (all_each (λ (s : LiveSession). Unit {0}) (λ s. tt) sessions) h
   where
     label_of : (s : LiveSession) → (if s.label == label then change s else s).label ≡ s.label
     label_of s = elim (s.label == label) as (λ b. (cond b (change s) s).label ≡ s.label) [ true ↦ same s | false ↦ refl ]
@@ -65,7 +68,7 @@ rise_filter p (s ∷ sessions) h = elim (p s) as (λ b. EachTwo LabelsRise (cond
 
 by_kind : (state : DatabaseState) (label : ℕ) (kind : EntryKind) → EachTwo LabelsRise state.sessions → is_lawful_kind state label kind ≡ true → EachTwo LabelsRise (applied label kind (with_next_number state)).sessions
 by_kind state label entry.Enter h e =
-    rise_insert (record { label = label; open_tables = []; transaction = None }) state.sessions (not_there label state.sessions (not_true (is_some (live_session state label)) (and_left _ _ e))) h
+    rise_insert (record { label = label; open_tables = []; transaction = None }) state.sessions (not_there label state.sessions (not-true (is_some (live_session state label)) (and_left _ _ e))) h
 by_kind state label entry.Leave h e = rise_filter (λ s. not (s.label == label)) (with_transaction label None (with_next_number state)).sessions (rise_with label (λ s. record s { transaction = None }) (λ s. refl) state.sessions h)
 by_kind state label (entry.Open table) h e = rise_with label _ (λ s. refl) state.sessions h
 by_kind state label (entry.Shut table) h e = rise_with label _ (λ s. refl) state.sessions h

@@ -3,6 +3,8 @@ use Rattle.std.proofs.Common.{◌≡◌, ℕ, ◌≤◌, Bool, true, false, not,
 use Rattle.std.specs.Prelude.{◌==◌, nat_lt, find, option_and_then, is_some, is_none, IfSome}
 use Rattle.std.specs.List.{list_any}
 use Rattle.std.proofs.lemmas.Bool.Decides.{nat_tests}
+use Rattle.std.proofs.lemmas.Bool.{eqb-true, not-true}
+use Rattle.common_lemmas.proofs.Booleans.{and_left, and_right, impossible}
 use Rattle.column_set.specs.declared.changes.Change.{Change}
 use Rattle.index_derive.specs.declared.log.Entry.{Entry}
 use Rattle.index_derive.specs.declared.log.EntryKind.{EntryKind}
@@ -16,7 +18,6 @@ use Rattle.database_state.specs.SchemaChanges.{schema_refusal, is_in_use, step_t
 use Rattle.database_state.specs.Step.{applied, state_after}
 use Rattle.database_state.specs.Lawful.{has_number, is_lawful, is_lawful_kind, is_lawful_change, is_lawful_at}
 use Rattle.record_changes.specs.Records.{Records, records_of}
-use Rattle.record_changes.proofs.Tests.{and_left, and_right, impossible, not_true, same_number}
 use Rattle.version_history.specs.History.{HasHistory, IsBegun, IsHistory}
 use Rattle.version_history.specs.KeptSteps.{base_after, dropped_after, kept_after, with_next_number}
 use Rattle.version_history.proofs.EndEntries.{history_changed, history_committed, history_defined, history_released}
@@ -45,7 +46,7 @@ changed_by base dropped kept state label change h e None none = absurd (never (n
     never b e f = impossible (sym f ∙ e)
 changed_by base dropped kept state label change h e (Some t) is =
     history_changed base dropped kept label change t state is
-    (not_true (has_write_conflict state label change) (and_right (nat_lt 0 (levels state label)) _ (and_left _ _ e)))
+    (not-true (has_write_conflict state label change) (and_right (nat_lt 0 (levels state label)) _ (and_left _ _ e)))
     (there (table_with_id state.tables (changed_table change)) (and_right (nat_lt 0 (levels state label) && not (has_write_conflict state label change)) _ e)) h
   where
     there : (found : Option Table) → is_lawful_at state label found change ≡ true → is_some found ≡ true
@@ -76,7 +77,7 @@ pub all_outside : (base : Records) (dropped kept : List PastChange) (state : Dat
 all_outside base dropped kept state label made h e x =
     let free = none_in_use state label made e in
     elim (x == label) as (λ b. (x == label) ≡ b → transaction_of state x ≡ None) [
-      | true ↦ λ f. ap (transaction_of state) (same_number x label f) ∙ outside base dropped kept state h label free.0
+      | true ↦ λ f. ap (transaction_of state) (eqb-true x label f) ∙ outside base dropped kept state h label free.0
       | false ↦ λ f. none_elsewhere label state.sessions free.1 x f
     ] refl
 
@@ -85,7 +86,7 @@ all_outside base dropped kept state label made h e x =
 by_kind : (base : Records) (dropped kept : List PastChange) (state : DatabaseState) (label : ℕ) (kind : EntryKind) → IsHistory base dropped kept state → is_lawful_kind state label kind ≡ true
     → IsHistory (base_after state kind base) (dropped_after kind dropped kept) (kept_after state label kind kept) (applied label kind (with_next_number state))
 by_kind base dropped kept state label entry.Enter h e =
-    history_entered base dropped kept label (with_next_number state) (not_true (is_some (live_session state label)) (and_left _ _ e)) (history_later base dropped kept state h)
+    history_entered base dropped kept label (with_next_number state) (not-true (is_some (live_session state label)) (and_left _ _ e)) (history_later base dropped kept state h)
 by_kind base dropped kept state label entry.Leave h e = history_left base dropped kept label (with_next_number state) (history_later base dropped kept state h)
 by_kind base dropped kept state label (entry.Open table) h e =
     history_with base dropped kept label _ (λ s. refl) (λ s. refl) (with_next_number state) (history_later base dropped kept state h)

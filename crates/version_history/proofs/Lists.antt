@@ -1,31 +1,13 @@
 -- Lists of which each element, or each two, have something.
-use Rattle.std.proofs.Common.{◌≡◌, Bool, true, false, cond, List, [], ◌∷◌, ◌++◌, filter, map, refl, ap, ◌∙◌}
+use Rattle.std.proofs.Common.{Bool, true, false, cond, List, [], ◌∷◌, ◌++◌, map}
 use Rattle.std.specs.List.{AllByRecursion}
+use Rattle.common_lemmas.proofs.Lists.{all_append, all_map, all_weaker}
 use Rattle.version_history.specs.History.{EachTwo}
 use Rattle.version_history.specs.Readers.{until}
-
-pub all_append : {X : Type 0} (P : X → Type 0) (xs ys : List X) → AllByRecursion P xs → AllByRecursion P ys → AllByRecursion P (xs ++ ys)
-all_append P [] ys h k = k
-all_append P (x ∷ xs) ys h k = (h.0, all_append P xs ys h.1 k)
-
-pub all_map : {X Y : Type 0} (P : Y → Type 0) (f : X → Y) (xs : List X) → AllByRecursion (λ x. P (f x)) xs → AllByRecursion P (map f xs)
-all_map P f [] h = tt
-all_map P f (x ∷ xs) h = (h.0, all_map P f xs h.1)
-
-pub all_weaker : {X : Type 0} (P Q : X → Type 0) → ((x : X) → P x → Q x) → (xs : List X) → AllByRecursion P xs → AllByRecursion Q xs
-all_weaker P Q f [] h = tt
-all_weaker P Q f (x ∷ xs) h = (f x h.0, all_weaker P Q f xs h.1)
 
 pub all_both : {X : Type 0} (P Q R : X → Type 0) → ((x : X) → P x → Q x → R x) → (xs : List X) → AllByRecursion P xs → AllByRecursion Q xs → AllByRecursion R xs
 all_both P Q R f [] h g = tt
 all_both P Q R f (x ∷ xs) h g = (f x h.0 g.0, all_both P Q R f xs h.1 g.1)
-
-pub all_filter : {X : Type 0} (P : X → Type 0) (p : X → Bool) (xs : List X) → AllByRecursion P xs → AllByRecursion P (filter p xs)
-all_filter P p [] h = tt
-all_filter P p (x ∷ xs) h = elim (p x) as (λ b. AllByRecursion P (cond b (x ∷ filter p xs) (filter p xs))) [
-  | true ↦ (h.0, all_filter P p xs h.1)
-  | false ↦ all_filter P p xs h.1
-]
 
 pub each_weaker : {X : Type 0} (R S : X → X → Type 0) → ((x y : X) → R x y → S x y) → (xs : List X) → EachTwo R xs → EachTwo S xs
 each_weaker R S f [] h = tt
@@ -39,10 +21,6 @@ each_append R (x ∷ xs) y h k = (all_append (R x) xs (y ∷ []) h.0 (k.0, tt), 
 pub each_map : {X Y : Type 0} (P : X → Type 0) (R : X → X → Type 0) (S : Y → Y → Type 0) (f : X → Y) → ((x y : X) → P x → P y → R x y → S (f x) (f y)) → (xs : List X) → AllByRecursion P xs → EachTwo R xs → EachTwo S (map f xs)
 each_map P R S f g [] p h = tt
 each_map P R S f g (x ∷ xs) p h = (all_map (S (f x)) f xs (all_both P (R x) (λ y. S (f x) (f y)) (λ y py r. g x y p.0 py r) xs p.1 h.0), each_map P R S f g xs p.1 h.1)
-
-pub none_passes : {X : Type 0} (p : X → Bool) (xs : List X) → AllByRecursion (λ x. p x ≡ false) xs → filter p xs ≡ []
-none_passes p [] h = refl
-none_passes p (x ∷ xs) h = ap (λ b. cond b (x ∷ filter p xs) (filter p xs)) h.0 ∙ none_passes p xs h.1
 
 -- each two, of which each also has something
 pub each_both : {X : Type 0} (P : X → Type 0) (R S : X → X → Type 0) → ((x y : X) → P x → P y → R x y → S x y) → (xs : List X) → AllByRecursion P xs → EachTwo R xs → EachTwo S xs
@@ -60,7 +38,3 @@ each_until R test (x ∷ xs) h = elim (test x) as (λ b. EachTwo R (cond b [] (x
 pub each_and : {X : Type 0} (R S : X → X → Type 0) (xs : List X) → EachTwo R xs → EachTwo S xs → EachTwo (λ x y. R x y × S x y) xs
 each_and R S [] h g = tt
 each_and R S (x ∷ xs) h g = (all_both (R x) (S x) (λ y. R x y × S x y) (λ y r s. (r, s)) xs h.0 g.0, each_and R S xs h.1 g.1)
-
-pub all_true : {X : Type 0} (P : X → Type 0) → ((x : X) → P x) → (xs : List X) → AllByRecursion P xs
-all_true P f [] = tt
-all_true P f (x ∷ xs) = (f x, all_true P f xs)

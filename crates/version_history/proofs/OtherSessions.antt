@@ -3,8 +3,9 @@ use Rattle.std.proofs.Common.{◌≡◌, ℕ, ◌+◌, ◌-◌, Bool, true, fals
 use Rattle.std.specs.Prelude.{◌==◌, nat_lt, is_some, map, filter, if◌then◌else◌}
 use Rattle.std.proofs.lemmas.List.{map-append}
 use Rattle.std.proofs.lemmas.List.Elements.{filter-append}
+use Rattle.std.proofs.lemmas.Bool.{eqb-true}
 use Rattle.common_lemmas.proofs.Numbers.{unequal_turned}
-use Rattle.common_lemmas.proofs.Booleans.{and_false}
+use Rattle.common_lemmas.proofs.Booleans.{and_false, and_left, and_right}
 use Rattle.index_derive.specs.declared.log.Entry.{Entry}
 use Rattle.index_derive.specs.declared.log.EntryKind.{EntryKind}
 use Rattle.index_derive.specs.declared.log.EntryKind.TheVariants as entry
@@ -13,7 +14,6 @@ use Rattle.database_state.specs.State.{DatabaseState, PastChange, Transaction, c
 use Rattle.database_state.specs.View.{view, view_in}
 use Rattle.database_state.specs.Step.{with_transaction, at_levels, with_levels, with_changes_at, is_at_level, every_change, all_undone, applied, state_after}
 use Rattle.database_state.specs.Lawful.{has_number, is_lawful, is_lawful_kind}
-use Rattle.record_changes.proofs.Tests.{and_left, and_right, same_number}
 use Rattle.version_history.specs.KeptSteps.{with_next_number}
 use Rattle.version_history.proofs.Keeping.{with_at}
 use Rattle.version_history.proofs.Transactions.{same-with, transaction-begun, transaction-ended, transaction-entered, transaction-left, transaction-levels}
@@ -33,8 +33,8 @@ off session label other t transactions = ap (λ b. cond b t (transactions sessio
 -- another session's changes
 none_own : (session label : ℕ) (item : PastChange) → (session == label) ≡ false → is_open_change_of label item ≡ true → (item.session == session) ≡ false
 none_own session label item other own =
-    let is : item.session ≡ label = same_number item.session label (and_right (is_open item.status) _ own) in
-    refuse (item.session == session) (λ e. sym (ap (λ k. k == label) (sym (same_number item.session session e)) ∙ and_right (is_open item.status) _ own) ∙ other)
+    let is : item.session ≡ label = eqb-true item.session label (and_right (is_open item.status) _ own) in
+    refuse (item.session == session) (λ e. sym (ap (λ k. k == label) (sym (eqb-true item.session session e)) ∙ and_right (is_open item.status) _ own) ∙ other)
   where
     refuse : (b : Bool) → (b ≡ true → true ≡ false) → b ≡ false
     refuse true f = f refl

@@ -2,11 +2,12 @@
 use Rattle.std.proofs.Common.{◌≡◌, ℕ, ◌<◌, ◌≤◌, Bool, true, false, not, ◌&&◌, ◌||◌, List, Option, Some, None, refl, ap, subst, arith}
 use Rattle.std.specs.Prelude.{◌==◌, nat_lt}
 use Rattle.std.proofs.lemmas.Bool.Decides.{nat_tests}
+use Rattle.std.proofs.lemmas.Bool.{eqb-true}
+use Rattle.common_lemmas.proofs.Booleans.{and_left, and_right}
 use Rattle.database_state.specs.Table.{Table}
 use Rattle.database_state.specs.State.{DatabaseState, PastChange, Transaction, Status, uncommitted, committed, undone, is_open, is_undone, transaction_of}
 use Rattle.database_state.specs.Conflicts.{collide, is_after_begin}
 use Rattle.record_changes.specs.Records.{Records}
-use Rattle.record_changes.proofs.Tests.{and_left, and_right, same_number}
 use Rattle.version_history.specs.History.{EachTwo, InOrder, IsHistory, IsPlaced, IsPlacedBy, KeepsHistory, is_apart, is_apart_by}
 use Rattle.version_history.specs.Readers.{is_standing, sees, was_committed_status}
 use Rattle.version_history.proofs.Lists.{each_both}
@@ -38,7 +39,7 @@ by_commit t u number n false own uncommitted lt live seen h = cc
 by_commit t u number n same own undone lt live seen h = cc
 by_commit t u number n same own (committed m) lt live seen h =
     or_case (same && (m == n)) (nat_lt m number && true) _
-    (λ e. let eq = same_number m n (and_right same _ e) in shown m (lower t m n (omega arith) seen))
+    (λ e. let eq = eqb-true m n (and_right same _ e) in shown m (lower t m n (omega arith) seen))
     (λ e. let below : nat_lt m number ≡ true = and_left _ _ e in let less = less_from m number below in shown m (lower t m n (omega arith) seen))
     h
   where
@@ -74,7 +75,7 @@ by_state : (session : ℕ) (transactions : ℕ → Option Transaction) (p q : Pa
     → is_apart_by (transactions q.session) q.number (p.session == q.session) p.status later ≡ true → (was_committed_status (transactions session) later || (is_open later && (q.session == session))) ≡ true
     → (was_committed_status (transactions session) p.status || (is_open p.status && (p.session == session))) ≡ true
 by_state session transactions p q uncommitted below live apart seen =
-    let own : q.session ≡ session = same_number q.session session seen in
+    let own : q.session ≡ session = eqb-true q.session session seen in
     by_own (transactions session) q.number (p.session == session) p.status live
     (subst (λ (k : ℕ). is_apart_by (transactions k) q.number (p.session == k) p.status uncommitted ≡ true) own apart)
 by_state session transactions p q (committed n) below live apart seen =

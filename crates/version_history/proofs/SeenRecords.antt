@@ -3,6 +3,8 @@ use Rattle.std.proofs.Common.{◌≡◌, ℕ, Bool, true, false, not, ◌||◌, 
 use Rattle.std.specs.Prelude.{◌==◌, map, filter, fold}
 use Rattle.std.specs.List.{AllByRecursion}
 use Rattle.std.proofs.lemmas.List.Elements.{filter-append}
+use Rattle.common_lemmas.proofs.Booleans.{and_left}
+use Rattle.common_lemmas.proofs.Lists.{all_filter, all_weaker, filter_none}
 use Rattle.database_state.specs.Table.{Table}
 use Rattle.database_state.specs.Changes.{changed_table, tables_after, tables_after_all}
 use Rattle.database_state.specs.State.{DatabaseState, PastChange, Transaction, Status, uncommitted, committed, undone, is_open, is_open_change_of, change_of, transaction_of, open_changes, open_changes_of}
@@ -11,10 +13,10 @@ use Rattle.database_state.specs.Conflicts.{collide}
 use Rattle.record_changes.specs.Records.{IsThere, Records, after_item, records_after_items, records_of}
 use Rattle.record_changes.proofs.Commuting.{commute}
 use Rattle.record_changes.proofs.Projecting.{projected, stays}
-use Rattle.record_changes.proofs.Tests.{and_left, contradicted}
+use Rattle.record_changes.proofs.Tests.{contradicted}
 use Rattle.version_history.specs.History.{EachTwo, InOrder, IsHistory, IsPassed, IsPassedBy, IsPlaced, KeepsHistory, is_apart_by}
 use Rattle.version_history.specs.Readers.{is_standing, was_committed, was_committed_status}
-use Rattle.version_history.proofs.Lists.{all_filter, all_weaker, each_weaker, none_passes}
+use Rattle.version_history.proofs.Lists.{each_weaker}
 use Rattle.version_history.proofs.Merging.{Commute, merged}
 
 -- ---- changes of tables as changes of records
@@ -92,7 +94,7 @@ pub of_kept : (base : Records) (dropped kept : List PastChange) (state : Databas
     → filter test state.past ≡ filter test kept
 of_kept base dropped kept state h test opens =
     ap (filter test) h.past ∙ filter-append test dropped kept
-    ∙ ap (λ xs. xs ++ filter test kept) (none_passes test dropped (all_weaker (IsPassed state.number (transaction_of state)) (λ item. test item ≡ false) (λ item p. closed item p) dropped h.passed))
+    ∙ ap (λ xs. xs ++ filter test kept) (filter_none test dropped (all_weaker (IsPassed state.number (transaction_of state)) (λ item. test item ≡ false) (λ item p. closed item p) dropped h.passed))
   where
     closed : (item : PastChange) → IsPassed state.number (transaction_of state) item → test item ≡ false
     closed item p = contradicted (test item) (λ e. sym (opens item e) ∙ passed_open state.number (transaction_of state) item.status p)

@@ -3,13 +3,13 @@ use Rattle.std.proofs.Common.{◌≡◌, ℕ, ◌<◌, false, ◌||◌, cond, Li
 use Rattle.std.specs.Prelude.{IfSome, sum_by}
 use Rattle.std.specs.List.{AllByRecursion, list_any}
 use Rattle.std.proofs.lemmas.Bool.Decides.{nat_tests}
+use Rattle.common_lemmas.proofs.Lists.{all_weaker}
 use Rattle.database_state.specs.State.{DatabaseState, LiveSession, PastChange, Transaction, Status, uncommitted, committed, undone, transaction_of}
 use Rattle.database_state.specs.Conflicts.{is_after_begin}
 use Rattle.database_state.specs.VersionStore.{is_needed, is_needed_status, from_oldest_needed, cost_of, version_span}
 use Rattle.record_changes.specs.Records.{Records}
 use Rattle.version_history.specs.History.{EachTwo, IsHistory, IsPassed, IsPassedBy, LabelsRise}
 use Rattle.version_history.proofs.Labels.{AreLabelled, are_labelled}
-use Rattle.version_history.proofs.Lists.{all_weaker}
 
 passed_unneeded : (state : DatabaseState) → AreLabelled state → (item : PastChange) → IsPassed state.number (transaction_of state) item → is_needed state.sessions item ≡ false
 passed_unneeded state labels item h = by item.status h

@@ -2,9 +2,11 @@
 use Rattle.std.proofs.Common.{◌≡◌, ℕ, Bool, true, false, not, ◌&&◌, ◌||◌, cond, List, [], ◌∷◌, map, filter, Option, Some, None, refl, sym, ap, ◌∙◌}
 use Rattle.std.specs.Prelude.{◌==◌, if◌then◌else◌, nat_lt, find, is_some, option_map, option_and_then}
 use Rattle.std.specs.List.{list_any}
+use Rattle.std.proofs.lemmas.Bool.{eqb-true}
+use Rattle.common_lemmas.proofs.Numbers.{self_equal}
+use Rattle.common_lemmas.proofs.Booleans.{impossible}
 use Rattle.database_state.specs.State.{DatabaseState, LiveSession, Transaction, live_session, transaction_of, with_session}
 use Rattle.database_state.specs.Step.{insert_session, entered, left, with_transaction, at_levels, with_levels}
-use Rattle.record_changes.proofs.Tests.{impossible, same_number, self_equal}
 use Rattle.version_history.proofs.Keeping.{with_at}
 
 abbrev pub labelled : ℕ → List LiveSession → Option LiveSession
@@ -26,12 +28,12 @@ found-with label x change same (s ∷ sessions) =
           ap (λ k. cond (k == x) (Some (change s)) (labelled x (map (λ s. if s.label == label then change s else s) sessions))) (same s)
           ∙ elim (s.label == x) as (λ b. (s.label == x) ≡ b → cond b (Some (change s)) (labelled x (map (λ s. if s.label == label then change s else s) sessions))
           ≡ cond (x == label) (option_map change (cond b (Some s) (labelled x sessions))) (cond b (Some s) (labelled x sessions))) [
-            | true ↦ λ f. ap (λ b. cond b (Some (change s)) (Some s)) (sym (ap (λ k. k == label) (sym (same_number s.label x f)) ∙ e))
+            | true ↦ λ f. ap (λ b. cond b (Some (change s)) (Some s)) (sym (ap (λ k. k == label) (sym (eqb-true s.label x f)) ∙ e))
             | false ↦ λ f. found-with label x change same sessions
           ] refl
       | false ↦ λ e. elim (s.label == x) as (λ b. (s.label == x) ≡ b → cond b (Some s) (labelled x (map (λ s. if s.label == label then change s else s) sessions))
           ≡ cond (x == label) (option_map change (cond b (Some s) (labelled x sessions))) (cond b (Some s) (labelled x sessions))) [
-            | true ↦ λ f. ap (λ b. cond b (Some (change s)) (Some s)) (sym (ap (λ k. k == label) (sym (same_number s.label x f)) ∙ e))
+            | true ↦ λ f. ap (λ b. cond b (Some (change s)) (Some s)) (sym (ap (λ k. k == label) (sym (eqb-true s.label x f)) ∙ e))
             | false ↦ λ f. found-with label x change same sessions
           ] refl
     ] refl
@@ -68,7 +70,7 @@ transaction-begun label t state live = λ i x. (ap transaction_in (found-with la
     new (Some s) e = refl
 
     either : (x : ℕ) (b : Bool) → (x == label) ≡ b → transaction_in (cond b (option_map (λ (s : LiveSession). record s { transaction = Some t }) (labelled x state.sessions)) (labelled x state.sessions)) ≡ cond b (Some t) (transaction_in (labelled x state.sessions))
-    either x true e = new (labelled x state.sessions) (ap (λ k. is_some (labelled k state.sessions)) (same_number x label e) ∙ live)
+    either x true e = new (labelled x state.sessions) (ap (λ k. is_some (labelled k state.sessions)) (eqb-true x label e) ∙ live)
     either x false e = refl
 
 pub transaction-levels : (label : ℕ) (f : ℕ → ℕ) (state : DatabaseState) → transaction_of (with_levels label f state) ≡ with_at label (at_levels f (transaction_of state label)) (transaction_of state)
@@ -80,7 +82,7 @@ transaction-levels label f state = λ i x. (ap transaction_in (found-with label 
 
     either : (x : ℕ) (b : Bool) → (x == label) ≡ b → transaction_in (cond b (option_map (λ (s : LiveSession). record s { transaction = at_levels f s.transaction }) (labelled x state.sessions)) (labelled x state.sessions))
         ≡ cond b (at_levels f (transaction_of state label)) (transaction_in (labelled x state.sessions))
-    either x true e = new (labelled x state.sessions) ∙ ap (λ k. at_levels f (transaction_of state k)) (same_number x label e)
+    either x true e = new (labelled x state.sessions) ∙ ap (λ k. at_levels f (transaction_of state k)) (eqb-true x label e)
     either x false e = refl
 
 -- ---- a session more, or one less
@@ -90,7 +92,7 @@ found-insert new none x [] h = elim (new.label == x) as (λ b. transaction_in (c
 found-insert new none x (s ∷ sessions) h =
     elim (nat_lt new.label s.label) as (λ b. transaction_in (labelled x (cond b (new ∷ s ∷ sessions) (s ∷ insert_session new sessions))) ≡ transaction_in (labelled x (s ∷ sessions))) [
       | true ↦ elim (new.label == x) as (λ b. (new.label == x) ≡ b → transaction_in (cond b (Some new) (labelled x (s ∷ sessions))) ≡ transaction_in (labelled x (s ∷ sessions))) [
-        | true ↦ λ e. none ∙ sym (ap transaction_in (h (ap (λ k. k == new.label) (sym (same_number new.label x e)) ∙ self_equal new.label)))
+        | true ↦ λ e. none ∙ sym (ap transaction_in (h (ap (λ k. k == new.label) (sym (eqb-true new.label x e)) ∙ self_equal new.label)))
         | false ↦ λ e. refl
       ] refl
       | false ↦ elim (s.label == x) as (λ b. ((x == new.label) ≡ true → cond b (Some s) (labelled x sessions) ≡ None) → transaction_in (cond b (Some s) (labelled x (insert_session new sessions))) ≡ transaction_in (cond b (Some s) (labelled x sessions))) [
@@ -100,7 +102,7 @@ found-insert new none x (s ∷ sessions) h =
     ]
 
 pub transaction-entered : (label : ℕ) (state : DatabaseState) → is_some (live_session state label) ≡ false → transaction_of (entered label state) ≡ transaction_of state
-transaction-entered label state none = λ i x. found-insert (record { label = label; open_tables = []; transaction = None }) refl x state.sessions (λ e. not_there (labelled x state.sessions) (ap (λ k. is_some (labelled k state.sessions)) (same_number x label e) ∙ none)) i
+transaction-entered label state none = λ i x. found-insert (record { label = label; open_tables = []; transaction = None }) refl x state.sessions (λ e. not_there (labelled x state.sessions) (ap (λ k. is_some (labelled k state.sessions)) (eqb-true x label e) ∙ none)) i
   where
     not_there : (found : Option LiveSession) → is_some found ≡ false → found ≡ None
     not_there None e = refl
@@ -113,12 +115,12 @@ found-left label x (s ∷ sessions) =
     ≡ cond (x == label) None (cond (s.label == x) (Some s) (labelled x sessions))) [
       | true ↦ λ e. elim (s.label == x) as (λ b. (s.label == x) ≡ b → labelled x (filter (λ s. not (s.label == label)) sessions) ≡ cond (x == label) None (cond b (Some s) (labelled x sessions))) [
         | true ↦ λ f.
-            let here : (x == label) ≡ true = ap (λ k. k == label) (sym (same_number s.label x f)) ∙ e in
+            let here : (x == label) ≡ true = ap (λ k. k == label) (sym (eqb-true s.label x f)) ∙ e in
             found-left label x sessions ∙ ap (λ b. cond b None (labelled x sessions)) here ∙ sym (ap (λ b. cond b None (Some s)) here)
         | false ↦ λ f. found-left label x sessions
       ] refl
       | false ↦ λ e. elim (s.label == x) as (λ b. (s.label == x) ≡ b → cond b (Some s) (labelled x (filter (λ s. not (s.label == label)) sessions)) ≡ cond (x == label) None (cond b (Some s) (labelled x sessions))) [
-        | true ↦ λ f. sym (ap (λ b. cond b None (Some s)) (ap (λ k. k == label) (sym (same_number s.label x f)) ∙ e))
+        | true ↦ λ f. sym (ap (λ b. cond b None (Some s)) (ap (λ k. k == label) (sym (eqb-true s.label x f)) ∙ e))
         | false ↦ λ f. found-left label x sessions
       ] refl
     ] refl
@@ -136,7 +138,7 @@ pub none_elsewhere : (session : ℕ) (sessions : List LiveSession) → list_any 
 none_elsewhere session [] h x other = refl
 none_elsewhere session (s ∷ sessions) h x other =
     elim (s.label == x) as (λ b. (s.label == x) ≡ b → transaction_in (cond b (Some s) (labelled x sessions)) ≡ None) [
-      | true ↦ λ e. closed (s.label == session) s.transaction (ap (λ k. k == session) (same_number s.label x e) ∙ other) (first _ _ h)
+      | true ↦ λ e. closed (s.label == session) s.transaction (ap (λ k. k == session) (eqb-true s.label x e) ∙ other) (first _ _ h)
       | false ↦ λ e. none_elsewhere session sessions (second (not (s.label == session) && is_some s.transaction) _ h) x other
     ] refl
   where

@@ -4,17 +4,19 @@ use Rattle.std.specs.Prelude.{filter, fold}
 use Rattle.std.specs.List.{AllByRecursion}
 use Rattle.std.proofs.lemmas.List.Elements.{filter-append}
 use Rattle.std.proofs.lemmas.List.Sums.{fold-append}
+use Rattle.std.proofs.lemmas.Bool.{and_from}
+use Rattle.common_lemmas.proofs.Lists.{all_weaker}
+use Rattle.common_lemmas.proofs.Numbers.{self_equal}
 use Rattle.column_set.specs.declared.changes.Change.{Change}
 use Rattle.database_state.specs.Changes.{changed_table, changed_bookmark, is_sum}
 use Rattle.database_state.specs.State.{PastChange}
 use Rattle.database_state.specs.Conflicts.{collide}
 use Rattle.record_changes.specs.Records.{Records, after_item, is_change_of, record_after, records_after_items}
 use Rattle.record_changes.proofs.Commuting.{both_touch, commute}
-use Rattle.record_changes.proofs.Tests.{and_both, equal_bytes, self_equal}
+use Rattle.record_changes.proofs.Tests.{equal_bytes}
 use Rattle.version_history.specs.History.{HasBefores}
 use Rattle.version_history.specs.Readers.{is_standing}
 use Rattle.version_history.proofs.Befores.{at}
-use Rattle.version_history.proofs.Lists.{all_weaker}
 use Rattle.version_history.proofs.Merging.{Commute, moved}
 
 -- no later change that stands collides with it
@@ -47,10 +49,10 @@ off : (p q : Change) → collide p q ≡ false → is_sum p ≡ false → is_cha
 off p q h sum = by (is_change_of (changed_table p) (changed_bookmark p) q) refl
   where
     self : is_change_of (changed_table p) (changed_bookmark p) p ≡ true
-    self = and_both _ _ (self_equal (changed_table p)) (equal_bytes (changed_bookmark p) (changed_bookmark p) refl)
+    self = and_from _ _ (self_equal (changed_table p)) (equal_bytes (changed_bookmark p) (changed_bookmark p) refl)
 
     by : (b : Bool) → is_change_of (changed_table p) (changed_bookmark p) q ≡ b → b ≡ false
-    by true e = sym (and_both _ _ (both_touch (changed_table p) (changed_bookmark p) p q self e) (ap (λ s. not (s && is_sum q)) sum)) ∙ h
+    by true e = sym (and_from _ _ (both_touch (changed_table p) (changed_bookmark p) p q self e) (ap (λ s. not (s && is_sum q)) sum)) ∙ h
     by false e = refl
 
 beside : (rest : List PastChange) (item : PastChange) → is_sum item.change ≡ false → IsLastOf item rest → (r : Records) → at (records_after_items is_standing r rest) item.change ≡ at r item.change

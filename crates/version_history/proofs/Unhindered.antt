@@ -3,6 +3,9 @@ use Rattle.std.proofs.Common.{◌≡◌, ℕ, ◌<◌, Bool, true, false, not, �
 use Rattle.std.specs.Prelude.{◌==◌, nat_lt, filter, fold, IfSome}
 use Rattle.std.specs.List.{AllByRecursion}
 use Rattle.std.proofs.lemmas.Bool.Decides.{nat_tests}
+use Rattle.std.proofs.lemmas.Bool.{and_from, eqb-true}
+use Rattle.common_lemmas.proofs.Numbers.{self_equal}
+use Rattle.common_lemmas.proofs.Booleans.{impossible}
 use Rattle.column_set.specs.declared.changes.Change.{Change}
 use Rattle.column_set.specs.RecordValues.{RecordFields}
 use Rattle.database_state.specs.Changes.{changed_table, changed_bookmark, is_sum}
@@ -11,7 +14,7 @@ use Rattle.database_state.specs.View.{newest, view}
 use Rattle.database_state.specs.Conflicts.{collide, is_concurrent, is_concurrent_status, has_write_conflict}
 use Rattle.record_changes.specs.Records.{Records, after_item, is_change_of, record_after, records_after_items, records_of}
 use Rattle.record_changes.proofs.Commuting.{both_touch}
-use Rattle.record_changes.proofs.Tests.{and_both, equal_bytes, impossible, same_number, self_equal}
+use Rattle.record_changes.proofs.Tests.{equal_bytes}
 use Rattle.version_history.specs.History.{IsHistory, IsPlaced, IsPlacedBy}
 use Rattle.version_history.specs.Readers.{is_standing, sees, was_committed_status}
 use Rattle.version_history.proofs.EndEntries.{free_of}
@@ -67,7 +70,7 @@ seen_unless n transactions session t p e placed free = by (p.session == session)
         → not (is_undone s) ≡ (was_committed_status (Some t) s || (is_open s && (p.session == session)))
     by true is uncommitted h free = sym is
     by false is uncommitted h free = impossible (sym (free refl) ∙ ap (λ b. not b && true) is)
-    by true is (committed m) h free = own m (subst (λ u. IfSome u (λ x. m < x.begin)) (ap transactions (same_number p.session session is) ∙ e) h.2)
+    by true is (committed m) h free = own m (subst (λ u. IfSome u (λ x. m < x.begin)) (ap transactions (eqb-true p.session session is) ∙ e) h.2)
     by false is (committed m) h free = sym (ap (λ b. not b || false) (sym (ap (λ b. not b && nat_lt t.begin m) is) ∙ free refl))
     by same is undone h free = refl
 
@@ -85,10 +88,10 @@ finds_newest base dropped kept state h session t change e sum free =
     ∙ ap (λ (r : Records). r (changed_table change) (changed_bookmark change)) (sym (view_records base dropped kept state h session))
   where
     itself : is_change_of (changed_table change) (changed_bookmark change) change ≡ true
-    itself = and_both _ _ (self_equal (changed_table change)) (equal_bytes (changed_bookmark change) (changed_bookmark change) refl)
+    itself = and_from _ _ (self_equal (changed_table change)) (equal_bytes (changed_bookmark change) (changed_bookmark change) refl)
 
     hit : (p : Change) → is_change_of (changed_table change) (changed_bookmark change) p ≡ true → collide p change ≡ true
-    hit p mine = and_both _ _ (both_touch (changed_table change) (changed_bookmark change) p change mine itself) (none (is_sum p) (is_sum change) sum)
+    hit p mine = and_from _ _ (both_touch (changed_table change) (changed_bookmark change) p change mine itself) (none (is_sum p) (is_sum change) sum)
       where
         none : (a b : Bool) → b ≡ false → not (a && b) ≡ true
         none true b e = ap not e

@@ -1,16 +1,17 @@
 -- What a session sees, as the kept changes give it.
 use Rattle.std.proofs.Common.{◌≡◌, ℕ, true, false, cond, List, [], ◌∷◌, Option, Some, None, refl, sym, ap, subst, ◌∙◌}
 use Rattle.std.specs.Prelude.{◌==◌, is_some, map, filter, fold, IfSome}
+use Rattle.std.proofs.lemmas.Bool.{eqb-true, false_from_ne_true}
+use Rattle.common_lemmas.proofs.Booleans.{and_left, and_right}
+use Rattle.common_lemmas.proofs.Lists.{all_filter, all_weaker, filter_none}
 use Rattle.database_state.specs.Table.{Table, table_with_id}
 use Rattle.database_state.specs.Changes.{changed_table, tables_after_all}
 use Rattle.database_state.specs.State.{DatabaseState, PastChange, Transaction, Status, uncommitted, committed, undone, is_open, is_open_change_of, change_of, transaction_of}
 use Rattle.database_state.specs.View.{newest, view, view_in}
 use Rattle.record_changes.specs.Records.{IsThere, Records, after_item, records_after_items, records_of}
-use Rattle.record_changes.proofs.Tests.{and_left, and_right, refuted, same_number}
 use Rattle.version_history.specs.History.{IsBegun, IsHistory, IsOpenIn, IsPlaced, IsPlacedBy, without_rows}
 use Rattle.version_history.specs.Readers.{found_record, hides, is_unseen, sees, until, was_committed}
 use Rattle.version_history.proofs.FoundRecord.{found}
-use Rattle.version_history.proofs.Lists.{all_filter, all_weaker, none_passes}
 use Rattle.version_history.proofs.SeenEarlier.{seen_earlier}
 use Rattle.version_history.proofs.SeenRecords.{folded, newest_records, of_kept, open_after}
 
@@ -20,7 +21,7 @@ own_open session item e = and_left _ _ e
 -- ---- outside a transaction
 
 pub none_open : (number : ℕ) (tables : List Table) (transactions : ℕ → Option Transaction) (session : ℕ) → transactions session ≡ None → (item : PastChange) → IsPlaced number tables transactions item → is_open_change_of session item ≡ false
-none_open number tables transactions session e item placed = refuted (is_open_change_of session item) (λ own. by item.status (and_left _ _ own) placed.2 (same_number item.session session (and_right (is_open item.status) _ own)))
+none_open number tables transactions session e item placed = false_from_ne_true (is_open_change_of session item) (λ own. by item.status (and_left _ _ own) placed.2 (eqb-true item.session session (and_right (is_open item.status) _ own)))
   where
     by : (s : Status) → is_open s ≡ true → IsPlacedBy number transactions item s → item.session ≡ session → ⊥
     by uncommitted h open_in is = subst (IsOpenIn item) (ap transactions is ∙ e) open_in
@@ -51,7 +52,7 @@ view_by : (base : Records) (dropped kept : List PastChange) (state : DatabaseSta
     → records_of (view_in state session t) ≡ records_after_items (sees session t) base kept
 view_by base dropped kept state h session None e =
     h.keeps.committed
-    ∙ ap (λ items. fold after_item (records_after_items (was_committed None) base kept) items) (sym (none_passes (is_open_change_of session) kept (all_weaker (IsPlaced state.number state.tables (transaction_of state)) (λ item. is_open_change_of session item ≡ false) (none_open state.number state.tables (transaction_of state) session e) kept h.keeps.placed)))
+    ∙ ap (λ items. fold after_item (records_after_items (was_committed None) base kept) items) (sym (filter_none (is_open_change_of session) kept (all_weaker (IsPlaced state.number state.tables (transaction_of state)) (λ item. is_open_change_of session item ≡ false) (none_open state.number state.tables (transaction_of state) session e) kept h.keeps.placed)))
     ∙ open_after (transaction_of state) None (is_open_change_of session) (own_open session) base kept h.keeps.in_order
 view_by base dropped kept state h session (Some t) e =
     let begun : IsBegun state.number state.tables base kept t = subst (λ u. IfSome u (IsBegun state.number state.tables base kept)) e (h.keeps.begun session) in

@@ -2,6 +2,10 @@
 use Rattle.std.proofs.Common.{◌≡◌, ℕ, Bool, true, false, ◌&&◌, ◌||◌, cond, List, [], ◌∷◌, ◌++◌, Some, Ok, Err, refl, sym, ap, ◌∙◌, bytes_eq}
 use Rattle.std.specs.Prelude.{◌==◌, fold, filter, map, not}
 use Rattle.std.specs.List.{AllByRecursion, list_any}
+use Rattle.std.proofs.lemmas.Bool.{eqb-true, false_from_ne_true}
+use Rattle.common_lemmas.proofs.Booleans.{and_left, and_right, impossible}
+use Rattle.common_lemmas.proofs.Lists.{all_append, all_map, all_weaker}
+use Rattle.common_lemmas.proofs.Numbers.{same_bytes}
 use Rattle.column_set.specs.RecordValues.{RecordFields, has_value}
 use Rattle.key_normal.specs.KeyBytes.{is_cut}
 use Rattle.index_derive.specs.declared.rules.IndexRule.{IndexRule}
@@ -12,10 +16,9 @@ use Rattle.database_state.specs.Changes.{changed_table, changed_bookmark, is_sum
 use Rattle.database_state.specs.State.{PastChange}
 use Rattle.database_state.specs.Conflicts.{yields_key}
 use Rattle.record_changes.specs.Records.{Records, after_item, is_change_of, record_after, records_after_items}
-use Rattle.record_changes.proofs.Tests.{and_left, and_right, equal_bytes, impossible, refuted, same_bytes, same_number}
+use Rattle.record_changes.proofs.Tests.{equal_bytes}
 use Rattle.version_history.specs.History.{HasBefores}
 use Rattle.version_history.specs.Readers.{is_standing}
-use Rattle.version_history.proofs.Lists.{all_append, all_map, all_weaker}
 use Rattle.version_keys.specs.UniqueKeys.{BringsKey, HasBookmarkKeys, HasOwnKey, MeetsKey}
 use Rattle.version_keys.specs.KeySums.{SeesNoSum}
 use Rattle.version_keys.proofs.KeySums.{sum_keeps}
@@ -58,7 +61,7 @@ newest_own rule schema table (item ∷ items) records befores plain afters h boo
     next live at =
         elim (is_change_of table at item.change) as (λ b. is_change_of table at item.change ≡ b → HasOwnKey rule schema at (cond b (record_after item.change (records table at)) (records table at))) [
           | true ↦ λ mine key had.
-              let of_table : changed_table item.change ≡ table = same_number (changed_table item.change) table (and_left _ _ mine) in
+              let of_table : changed_table item.change ≡ table = eqb-true (changed_table item.change) table (and_left _ _ mine) in
               let of_bookmark : changed_bookmark item.change ≡ at = same_bytes (changed_bookmark item.change) at (and_right (changed_table item.change == table) _ mine) in
               elim (is_sum item.change) as (λ b. is_sum item.change ≡ b → key ≡ at) [
                 | true ↦ λ sum. h.at_first at key (sym (sum_keeps rule schema item.change (plain.0 of_table) sum (records table at) key) ∙ had)
@@ -97,7 +100,7 @@ own_mapped rule schema table base kept f change before after h = record {
 pub own_free : (rule : IndexRule) (schema : Schema) (table : ℕ) (newest : Records) (new : PastChange) → ((bookmark : List ℕ) → HasOwnKey rule schema bookmark (newest table bookmark)) → HasOwnKey rule schema (changed_bookmark new.change) new.after
     → (key other : List ℕ) → BringsKey rule schema key new → bytes_eq (changed_bookmark new.change) other ≡ false → yields_key rule schema key (newest table other) ≡ false
 own_free rule schema table newest new owns own key other brings apart =
-    refuted (yields_key rule schema key (newest table other)) (λ had.
+    false_from_ne_true (yields_key rule schema key (newest table other)) (λ had.
     impossible (sym apart ∙ equal_bytes (changed_bookmark new.change) other (sym (own key brings.0) ∙ owns other key had)))
 
 -- and no other change has it

@@ -7,8 +7,10 @@ use Rattle.std.specs.declared.cmp.Ordering.TheVariants.{Less}
 use Rattle.std.specs.Ordering.{is_eq}
 use Rattle.std.specs.Cmp.Lexicographic.{texts_ties}
 use Rattle.std.proofs.lemmas.List.Folds.{list_any-append}
-use Rattle.std.proofs.lemmas.Bool.{or_left, or_right}
-use Rattle.common_lemmas.proofs.Lists.{all_listed}
+use Rattle.std.proofs.lemmas.Bool.{false_from_ne_true, or_left, or_right}
+use Rattle.common_lemmas.proofs.Lists.{all_listed, all_map, all_weaker}
+use Rattle.common_lemmas.proofs.Numbers.{self_equal}
+use Rattle.common_lemmas.proofs.Booleans.{impossible}
 use Rattle.column_set.specs.RecordValues.{RecordFields}
 use Rattle.index_derive.specs.declared.rules.IndexRule.{IndexRule}
 use Rattle.index_derive.specs.declared.rules.Schema.{Schema}
@@ -27,13 +29,13 @@ use Rattle.derived_index.proofs.Rising.{AreRisingKeys}
 use Rattle.derived_index.proofs.Rows.{RowsRise}
 use Rattle.derived_index.proofs.Standing.{same_test}
 use Rattle.record_changes.specs.Records.{Records, records_of}
-use Rattle.record_changes.proofs.Tests.{equal_bytes, impossible, or_first, or_second, refuted, self_equal}
+use Rattle.record_changes.proofs.Tests.{equal_bytes, or_first, or_second}
 use Rattle.version_history.specs.History.{IsHistory}
 use Rattle.version_history.specs.KeptSteps.{committed_own, kept_after, with_next_number}
 use Rattle.version_history.proofs.EndEntries.{history_committed, same_definitions}
 use Rattle.version_history.proofs.Ending.{commit_before, commit_change}
 use Rattle.version_history.proofs.Keeping.{with_at}
-use Rattle.version_history.proofs.Lists.{all_both, all_map, all_weaker}
+use Rattle.version_history.proofs.Lists.{all_both}
 use Rattle.version_history.proofs.Transactions.{transaction-ended}
 use Rattle.version_keys.specs.UniqueKeys.{AreUnique, HasFreeKeys, HasUniqueIndexes, HasUniqueKeys, IsSoundIndex, IsUniqueIndex}
 use Rattle.version_keys.specs.KeySums.{IndexesSeeNoSum, SeesNoSum, adds_to_index}
@@ -64,7 +66,7 @@ apart_lists [] rest h g f = g
 apart_lists (k ∷ ks) rest h g f =
     ap (λ b. b || has_double (ks ++ rest))
     (list_any-append (bytes_eq k) ks rest ∙ ap (λ b. b || list_any (bytes_eq k) rest) (or_first (list_any (bytes_eq k) ks) _ h)
-    ∙ refuted (list_any (bytes_eq k) rest) (λ also. f k (or_left (bytes_eq k k) _ (equal_bytes k k refl)) also))
+    ∙ false_from_ne_true (list_any (bytes_eq k) rest) (λ also. f k (or_left (bytes_eq k k) _ (equal_bytes k k refl)) also))
     ∙ apart_lists ks rest (or_second (list_any (bytes_eq k) ks) _ h) g (λ key a b. f key (or_right (bytes_eq key k) _ a) b)
 
 -- the row that has a key

@@ -2,6 +2,9 @@
 use Rattle.std.proofs.Common.{◌≡◌, ℕ, ◌+◌, Bool, true, false, not, ◌||◌, List, [], ◌∷◌, ◌++◌, Option, Some, None, refl, sym, ap, ◌∙◌}
 use Rattle.std.specs.Prelude.{◌==◌, if◌then◌else◌, is_none, is_some, map, IfSome}
 use Rattle.std.specs.List.{AllByRecursion, list_any}
+use Rattle.std.proofs.lemmas.Bool.{eqb-true, false_from_ne_true}
+use Rattle.common_lemmas.proofs.Booleans.{and_left, and_right, impossible}
+use Rattle.common_lemmas.proofs.Lists.{all_append, all_each, all_filter, all_weaker}
 use Rattle.column_set.specs.declared.changes.Change.{Change}
 use Rattle.column_set.specs.declared.changes.Change.TheVariants.{Put, Drop, Hold, Add}
 use Rattle.column_set.specs.declared.columns.Column.{Column}
@@ -23,7 +26,6 @@ use Rattle.database_state.specs.Step.{applied, every_change, is_at_level, state_
 use Rattle.database_state.specs.Lawful.{has_number, is_lawful, is_lawful_at, is_lawful_change, is_lawful_kind}
 use Rattle.database_state.proofs.Columns.{column_of_id-columns_with}
 use Rattle.record_changes.specs.Records.{Records, after_item, records_after_items, records_of}
-use Rattle.record_changes.proofs.Tests.{and_left, and_right, impossible, refuted, same_number}
 use Rattle.version_history.specs.History.{IsHistory, IsPlaced, LevelsRise}
 use Rattle.version_history.specs.KeptSteps.{base_after, committed_own, is_own_open, kept_after, lowered_own, new_change, undone_where, with_next_number}
 use Rattle.version_history.specs.Readers.{is_standing}
@@ -31,7 +33,7 @@ use Rattle.version_history.proofs.Befores.{at}
 use Rattle.version_history.proofs.Ending.{commit_before, commit_change, commit_live, lower_before, lower_change, lower_status}
 use Rattle.version_history.proofs.Entries.{at_innermost, history_later}
 use Rattle.version_history.proofs.Keeping.{goes_apart, open_live, undone_change}
-use Rattle.version_history.proofs.Lists.{all_append, all_both, all_filter, all_true, all_weaker}
+use Rattle.version_history.proofs.Lists.{all_both}
 use Rattle.version_history.proofs.SeenRecords.{newest_records}
 use Rattle.version_keys.specs.KeySums.{HasEscrowSums, HasKeyBefores, HasSameKeys, IndexesSeeNoSum, IsApartFromSums, IsPlainIndex, SeesNoSum, adds_to_index, is_plain_column, names_column}
 use Rattle.version_keys.proofs.IndexNumbers.{none_of}
@@ -103,7 +105,7 @@ step_keeps_plain state label (step.DeleteIndex table index) e h id =
 
 -- an index of plain columns names no escrow column
 unnamed : (table : Table) (rule : IndexRule) (column : ℕ) → IsPlainIndex table rule → is_escrow_column (schema_of table) column ≡ true → names_column rule column ≡ false
-unnamed table rule column plain escrow = refuted (names_column rule column) (λ named. among (rule_columns rule) plain named)
+unnamed table rule column plain escrow = false_from_ne_true (names_column rule column) (λ named. among (rule_columns rule) plain named)
   where
     both : (found : Option Column) → is_plain found ≡ true → elim found [ Some c ↦ c.escrow | None ↦ false ] ≡ true → ⊥
     both None p e = impossible p
@@ -112,7 +114,7 @@ unnamed table rule column plain escrow = refuted (names_column rule column) (λ 
     among : (ids : List ℕ) → AllByRecursion (λ id. is_plain_column table id ≡ true) ids → list_any (λ id. id == column) ids ≡ true → ⊥
     among [] p n = impossible n
     among (id ∷ ids) p n = elim (id == column) as (λ b. (id == column) ≡ b → (b || list_any (λ i. i == column) ids) ≡ true → ⊥) [
-      | true ↦ λ e g. both (column_of_id table.columns column) (ap (is_plain_column table) (sym (same_number id column e)) ∙ p.0) escrow
+      | true ↦ λ e g. both (column_of_id table.columns column) (ap (is_plain_column table) (sym (eqb-true id column e)) ∙ p.0) escrow
       | false ↦ λ e g. among ids p.1 g
     ] refl n
 
@@ -128,7 +130,7 @@ known_undone : (rule : IndexRule) (schema : Schema) (table : ℕ) (base : Record
 known_undone rule schema table base dropped kept state h label test next known = (
   sees_mapped rule table (undone_where (is_own_open label test)) (undone_change (is_own_open label test)) kept known.0,
   key_befores-undo rule schema table (is_own_open label test) (λ item e. open_live item.status (and_left _ _ (and_left _ _ e))) kept base known.0
-      (goes_apart state.number state.tables (transaction_of state) base kept label test (λ item. Unit {0}) (all_true (λ item. Unit {0}) (λ item. tt) kept) (λ p q e own placed each rise less. next p q e own placed rise) h.keeps) known.1,
+      (goes_apart state.number state.tables (transaction_of state) base kept label test (λ item. Unit {0}) (all_each (λ item. Unit {0}) (λ item. tt) kept) (λ p q e own placed each rise less. next p q e own placed rise) h.keeps) known.1,
 )
 
 known_by_kind : (rule : IndexRule) (schema : Schema) (table : ℕ) (base : Records) (dropped kept : List PastChange) (state : DatabaseState) → IsHistory base dropped kept state → (label : ℕ) (kind : EntryKind) → changes_records kind ≡ false
@@ -275,7 +277,7 @@ next_by_kind base dropped kept state label (entry.Schema made) h e sums = λ id.
   where
     nothing : (found : Option Table) → IfSome found (λ t. AllByRecursion (λ rule. SeesNoSum rule t.id []) t.indexes)
     nothing None = tt
-    nothing (Some t) = all_true (λ rule. SeesNoSum rule t.id []) (λ rule. tt) t.indexes
+    nothing (Some t) = all_each (λ rule. SeesNoSum rule t.id []) (λ rule. tt) t.indexes
 
 pub unseen_next : (base : Records) (dropped kept : List PastChange) (state : DatabaseState) (made : Entry) → IsHistory base dropped kept state → is_lawful state made ≡ true → HasEscrowSums base kept state
     → IndexesSeeNoSum (kept_after state made.session.0 made.kind kept) state

@@ -1,5 +1,6 @@
 -- No reader finds a key of a unique index at two records.
 use Rattle.std.proofs.Common.{◌≡◌, inl, inr, ℕ, List, Option, refl, sym, subst}
+use Rattle.common_lemmas.proofs.Lists.{all_weaker}
 use Rattle.index_derive.specs.declared.rules.IndexRule.{IndexRule}
 use Rattle.index_derive.specs.declared.rules.Schema.{Schema}
 use Rattle.database_state.specs.Table.{Table}
@@ -11,7 +12,7 @@ use Rattle.version_history.specs.Readers.{is_standing, sees}
 use Rattle.version_keys.specs.UniqueKeys.{AreUnique, HasFreeKeys, InKeyOrder, SeesEarlier}
 use Rattle.version_keys.specs.KeySums.{SeesNoSum}
 use Rattle.version_history.proofs.FoundRecord.{seen_live}
-use Rattle.version_history.proofs.Lists.{all_weaker, each_and, each_both, each_weaker}
+use Rattle.version_history.proofs.Lists.{each_and, each_both, each_weaker}
 use Rattle.version_history.proofs.SeenEarlier.{seen_where_apart}
 use Rattle.version_history.proofs.SeenRecords.{newest_records}
 use Rattle.version_history.proofs.Viewing.{view_records}

@@ -6,6 +6,8 @@ use Rattle.column_set.specs.declared.changes.Change.{Change}
 use Rattle.column_set.specs.declared.changes.Change.TheVariants.{Put, Drop, Hold, Add}
 use Rattle.column_set.specs.RecordValues.{RecordFields}
 use Rattle.std.specs.Prelude.{Option}
+use Rattle.common_lemmas.proofs.Lists.{all_weaker}
+use Rattle.common_lemmas.proofs.Booleans.{impossible}
 use Rattle.index_derive.specs.declared.rules.IndexRule.{IndexRule}
 use Rattle.index_derive.specs.declared.rules.Schema.{Schema}
 use Rattle.database_state.specs.Changes.{changed_table, is_sum}
@@ -13,10 +15,9 @@ use Rattle.database_state.specs.State.{DatabaseState, PastChange, transaction_of
 use Rattle.database_state.specs.View.{newest, view}
 use Rattle.database_state.specs.Conflicts.{yields_key}
 use Rattle.record_changes.specs.Records.{Records, after_item, is_change_of, record_after, records_after_items, records_of}
-use Rattle.record_changes.proofs.Tests.{impossible}
 use Rattle.version_history.specs.History.{IsHistory}
 use Rattle.version_history.specs.Readers.{found_record, hides, is_rewrite, is_unseen, until}
-use Rattle.version_history.proofs.Lists.{all_both, all_until, all_weaker}
+use Rattle.version_history.proofs.Lists.{all_both, all_until}
 use Rattle.version_history.proofs.Viewing.{found_in}
 use Rattle.version_keys.specs.KeySums.{HasSameKeys, SeesNoSum, adds_to_index}
 use Rattle.version_keys.specs.Variants.{HasNoSums}

@@ -5,8 +5,10 @@ use Rattle.std.specs.List.{AllByRecursion, list_any, list_all}
 use Rattle.std.specs.Ordering.{nat_cmp, eq_by_cmp}
 use Rattle.std.specs.Cmp.Lexicographic.{slice_cmp, nat_list_eq_equiv}
 use Rattle.std.proofs.lemmas.List.Folds.{list_any-append}
-use Rattle.std.proofs.lemmas.Bool.{or_right}
-use Rattle.common_lemmas.proofs.Lists.{all_parted}
+use Rattle.std.proofs.lemmas.Bool.{and_from, false_from_ne_true, not-true, or_right}
+use Rattle.common_lemmas.proofs.Lists.{all_parted, all_weaker}
+use Rattle.common_lemmas.proofs.Booleans.{and_left, and_right, impossible}
+use Rattle.common_lemmas.proofs.Numbers.{same_bytes, self_equal}
 use Rattle.column_set.specs.RecordValues.{RecordFields}
 use Rattle.index_derive.specs.declared.rules.IndexRule.{IndexRule}
 use Rattle.index_derive.specs.declared.rules.Schema.{Schema}
@@ -22,13 +24,13 @@ use Rattle.derived_index.proofs.Members.{any_sorted}
 use Rattle.derived_index.proofs.Rows.{all_entries, entries_of}
 use Rattle.derived_index.proofs.Standing.{same_test}
 use Rattle.record_changes.specs.Records.{Records, is_change_of, record_after, records_after_items, records_of}
-use Rattle.record_changes.proofs.Tests.{and_both, and_left, and_right, impossible, not_true, or_first, or_second, refuted, same_bytes, self_equal}
+use Rattle.record_changes.proofs.Tests.{or_first, or_second}
 use Rattle.version_history.specs.History.{IsHistory, IsPlaced}
 use Rattle.version_history.specs.Readers.{is_standing, sees}
 use Rattle.version_history.proofs.Concurrent.{key_conflict_kept}
 use Rattle.version_history.proofs.EndEntries.{no_conflict}
 use Rattle.version_history.proofs.FoundRecord.{seen_live}
-use Rattle.version_history.proofs.Lists.{all_both, all_weaker}
+use Rattle.version_history.proofs.Lists.{all_both}
 use Rattle.version_history.proofs.SeenEarlier.{seen_in_order}
 use Rattle.version_history.proofs.Unhindered.{seen_unless}
 use Rattle.version_history.proofs.Viewing.{view_records}
@@ -136,7 +138,7 @@ pub record IsLawfulKey (state : DatabaseState) (label : ℕ) (table : ℕ) (sche
 brought : (state : DatabaseState) (label table : ℕ) (schema : Schema) (rule : IndexRule) (rows : Rows) (bookmark : List ℕ) (values : RecordFields) (new : PastChange) → IsLawfulKey state label table schema rule rows bookmark values new
     → (key : List ℕ) → BringsKey rule schema key new → (has_key_conflict state label table schema rule key || is_taken schema rows rule (Some bookmark) key) ≡ false
 brought state label table schema rule rows bookmark values new lawful key brings =
-    not_true (has_key_conflict state label table schema rule key || is_taken schema rows rule (Some bookmark) key)
+    not-true (has_key_conflict state label table schema rule key || is_taken schema rows rule (Some bookmark) key)
     (key_passes (λ key. not (has_key_conflict state label table schema rule key || is_taken schema rows rule (Some bookmark) key)) (λ key. not (yields_key rule schema key (row_at rows bookmark))) key (key_list rule schema values) lawful.passes
     (sym (ap (yields_key rule schema key) lawful.after) ∙ brings.0) (ap not (sym (ap (yields_key rule schema key) lawful.before) ∙ brings.1)))
 
@@ -155,7 +157,7 @@ put_meets base dropped kept state h label table schema rule rows bookmark values
     all_weaker (λ p. (key : List ℕ) → BringsKey rule schema key new → ((changed_table p.change == table) && (yields_key rule schema key p.before || yields_key rule schema key p.after)) ≡ true → is_concurrent label (transaction_of state label) p ≡ false)
     (λ p. is_standing p ≡ true → MeetsKey rule schema table p new → is_concurrent label (transaction_of state label) p ≡ false)
     (λ p f live meets. f meets.3.0 meets.3.2
-    (and_both _ _ (ap (λ k. k == table) meets.0 ∙ self_equal table) (ap (λ b. b || yields_key rule schema meets.3.0 p.after) meets.3.1))) kept
+    (and_from _ _ (ap (λ k. k == table) meets.0 ∙ self_equal table) (ap (λ b. b || yields_key rule schema meets.3.0 p.after) meets.3.1))) kept
     (all_forall (λ p key. ((changed_table p.change == table) && (yields_key rule schema key p.before || yields_key rule schema key p.after)) ≡ true → is_concurrent label (transaction_of state label) p ≡ false)
     (λ key. BringsKey rule schema key new) kept
     (λ key brings. unmet base dropped kept state h label table schema rule key
@@ -167,7 +169,7 @@ pub put_free : (base : Records) (dropped kept : List PastChange) (state : Databa
     → (bookmark : List ℕ) (values : RecordFields) (new : PastChange) → IsLawfulKey state label table schema rule rows bookmark values new
     → (key other : List ℕ) → BringsKey rule schema key new → bytes_eq (changed_bookmark new.change) other ≡ false → yields_key rule schema key (records_after_items is_standing base kept table other) ≡ false
 put_free base dropped kept state h label table t e schema rule plain rows seen bookmark values new lawful key other brings apart =
-    refuted (yields_key rule schema key (records_after_items is_standing base kept table other)) (λ had.
+    false_from_ne_true (yields_key rule schema key (records_after_items is_standing base kept table other)) (λ had.
     impossible (sym (ap (yields_key rule schema key) (sym (seen other ∙ ap (λ (r : Records). r table other) (view_records base dropped kept state h label))) ∙ off)
     ∙ key_of_newest rule schema key table other (sees label (transaction_of state label)) (seen_live label (transaction_of state label)) kept base base h.keeps.befores plain
     (all_weaker (IsPlaced state.number state.tables (transaction_of state)) (λ item. item.after ≡ record_after item.change item.before) (λ item p. p.3) kept h.keeps.placed)
@@ -183,7 +185,7 @@ put_free base dropped kept state h label table t e schema rule plain rows seen b
     bare = all_both (IsPlaced state.number state.tables (transaction_of state))
         (λ p. ((changed_table p.change == table) && (yields_key rule schema key p.before || yields_key rule schema key p.after)) ≡ true → is_concurrent label (transaction_of state label) p ≡ false)
         (λ p. is_standing p ≡ true → sees label (transaction_of state label) p ≡ false → is_change_of table other p.change ≡ true → yields_key rule schema key p.after ≡ false)
-        (λ p placed f live unseen mine. refuted (yields_key rule schema key p.after) (λ had.
-        let apart_from : is_concurrent label (Some t) p ≡ false = ap (λ u. is_concurrent label u p) (sym e) ∙ f (and_both _ _ (and_left _ _ mine) (or_right (yields_key rule schema key p.before) _ had)) in
+        (λ p placed f live unseen mine. false_from_ne_true (yields_key rule schema key p.after) (λ had.
+        let apart_from : is_concurrent label (Some t) p ≡ false = ap (λ u. is_concurrent label u p) (sym e) ∙ f (and_from _ _ (and_left _ _ mine) (or_right (yields_key rule schema key p.before) _ had)) in
         impossible (sym unseen ∙ ap (λ u. sees label u p) e ∙ sym (seen_unless state.number (transaction_of state) label t p e placed.2 (λ standing. apart_from)) ∙ live)))
         kept h.keeps.placed (unmet base dropped kept state h label table schema rule key (or_first (has_key_conflict state label table schema rule key) _ free))

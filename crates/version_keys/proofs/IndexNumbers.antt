@@ -4,12 +4,12 @@ use Rattle.std.specs.Prelude.{◌==◌, filter, find, if◌then◌else◌}
 use Rattle.std.specs.List.{AllByRecursion, list_any}
 use Rattle.std.proofs.lemmas.Bool.Decides.{nat_tests}
 use Rattle.std.proofs.lemmas.List.Elements.{filter-append}
-use Rattle.common_lemmas.proofs.Lists.{filter_swap}
+use Rattle.common_lemmas.proofs.Lists.{all_append, all_each, all_filter, filter_none, filter_swap}
+use Rattle.common_lemmas.proofs.Booleans.{impossible}
 use Rattle.index_derive.specs.declared.rules.IndexRule.{IndexRule}
 use Rattle.database_state.specs.Table.{primary_first}
 use Rattle.database_state.specs.SchemaChanges.{least_free_id, next_index_id}
-use Rattle.record_changes.proofs.Tests.{contradicted, impossible, or_first, or_second}
-use Rattle.version_history.proofs.Lists.{all_append, all_filter, all_true, none_passes}
+use Rattle.record_changes.proofs.Tests.{contradicted, or_first, or_second}
 
 -- ---- lists
 
@@ -45,9 +45,9 @@ found_without p q rules h =
 -- where one comes that does not pass
 pub found_with : (p : IndexRule → Bool) (rules : List IndexRule) (made : IndexRule) → p made ≡ false → find p (primary_first (rules ++ made ∷ [])) ≡ find p (primary_first rules)
 found_with p rules made miss =
-    sym (found_without p p (rules ++ made ∷ []) (all_true (λ r. p r ≡ true → p r ≡ true) (λ r e. e) (rules ++ made ∷ [])))
+    sym (found_without p p (rules ++ made ∷ []) (all_each (λ r. p r ≡ true → p r ≡ true) (λ r e. e) (rules ++ made ∷ [])))
     ∙ ap (λ xs. find p (primary_first xs)) (filter-append p rules (made ∷ []) ∙ ap (λ b. filter p rules ++ cond b (made ∷ []) []) miss ∙ last (filter p rules))
-    ∙ found_without p p rules (all_true (λ r. p r ≡ true → p r ≡ true) (λ r e. e) rules)
+    ∙ found_without p p rules (all_each (λ r. p r ≡ true → p r ≡ true) (λ r e. e) rules)
   where
     last : (xs : List IndexRule) → xs ++ [] ≡ xs
     last [] = refl
@@ -56,8 +56,8 @@ found_with p rules made miss =
 -- where one comes that passes alone
 pub found_alone : (p : IndexRule → Bool) (rules : List IndexRule) (made : IndexRule) → AllByRecursion (λ r. p r ≡ false) rules → p made ≡ true → find p (primary_first (rules ++ made ∷ [])) ≡ Some made
 found_alone p rules made none hit =
-    sym (found_without p p (rules ++ made ∷ []) (all_true (λ r. p r ≡ true → p r ≡ true) (λ r e. e) (rules ++ made ∷ [])))
-    ∙ ap (λ xs. find p (primary_first xs)) (filter-append p rules (made ∷ []) ∙ ap (λ b. filter p rules ++ cond b (made ∷ []) []) hit ∙ ap (λ xs. xs ++ made ∷ []) (none_passes p rules none))
+    sym (found_without p p (rules ++ made ∷ []) (all_each (λ r. p r ≡ true → p r ≡ true) (λ r e. e) (rules ++ made ∷ [])))
+    ∙ ap (λ xs. find p (primary_first xs)) (filter-append p rules (made ∷ []) ∙ ap (λ b. filter p rules ++ cond b (made ∷ []) []) hit ∙ ap (λ xs. xs ++ made ∷ []) (filter_none p rules none))
     ∙ elim (made.flags.primary) as (λ b. find p (cond b (made ∷ []) [] ++ cond (not b) (made ∷ []) []) ≡ Some made) [ true ↦ here | false ↦ here ]
   where
     here : cond (p made) (Some made) None ≡ Some made

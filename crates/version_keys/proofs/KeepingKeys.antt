@@ -2,6 +2,10 @@
 use Rattle.std.proofs.Common.{◌≡◌, ◌⊎◌, inl, inr, ℕ, Bool, true, false, not, ◌&&◌, cond, List, [], ◌∷◌, ◌++◌, refl, sym, ap, subst, ◌∙◌, bytes_eq}
 use Rattle.std.specs.Prelude.{◌==◌, map, filter, fold}
 use Rattle.std.specs.List.{AllByRecursion}
+use Rattle.std.proofs.lemmas.Bool.{and_from, eqb-true}
+use Rattle.common_lemmas.proofs.Booleans.{and_left, and_right, impossible}
+use Rattle.common_lemmas.proofs.Lists.{all_weaker}
+use Rattle.common_lemmas.proofs.Numbers.{same_bytes}
 use Rattle.index_derive.specs.declared.rules.IndexRule.{IndexRule}
 use Rattle.index_derive.specs.declared.rules.Schema.{Schema}
 use Rattle.database_state.specs.Changes.{changed_table, changed_bookmark, is_sum}
@@ -14,8 +18,6 @@ use Rattle.version_keys.specs.KeySums.{HasSameKeys, SeesNoSum}
 use Rattle.version_keys.proofs.KeySums.{item_keeps, item_same}
 use Rattle.version_keys.specs.UniqueKeys.{BringsKey, BringsFreeKeys, SeesEarlier}
 use Rattle.record_changes.proofs.Commuting.{both_touch}
-use Rattle.record_changes.proofs.Tests.{and_both, and_left, and_right, impossible, same_bytes, same_number}
-use Rattle.version_history.proofs.Lists.{all_weaker}
 use Rattle.version_history.specs.KeptSteps.{undone_where}
 use Rattle.record_changes.proofs.Folds.{folded-cons}
 use Rattle.version_keys.proofs.UniqueThroughout.{AreOpenOrShut, open_seen, open_unseen}
@@ -46,7 +48,7 @@ free_undone rule schema table gone alive (item ∷ items) r newest befores plain
           → (b ≡ true → changed_table item.change ≡ table → (key other : List ℕ) → BringsKey rule schema key item → bytes_eq (changed_bookmark item.change) other ≡ false → yields_key rule schema key (r table other) ≡ false)
           × BringsFreeKeys rule schema table (cond b (after_item r item) r) (map (undone_where gone) items)) [
             | true ↦ λ live g f.
-                let seen : stays gone item ≡ true = and_both _ _ live (ap not left) in (
+                let seen : stays gone item ≡ true = and_from _ _ live (ap not left) in (
                   (λ l own key other brings apart. elim (either other) [
                     | inl same ↦ same key ∙ free.0 live own key other brings apart
                     | inr shut ↦ refuse (yields_key rule schema key (r table other)) (λ had. (shut.0 seen own).1 key had brings apart)
@@ -132,14 +134,14 @@ key_of_newest rule schema key table bookmark test alive (p ∷ items) r newest b
         rewritten sum live unseen =
             elim (is_change_of table bookmark p.change) as (λ b. is_change_of table bookmark p.change ≡ b → IsSameOrBare rule schema key table bookmark test r (after_item newest p) items) [
               | true ↦ λ e.
-                  let of_table : changed_table p.change ≡ table = same_number (changed_table p.change) table (and_left _ _ e) in
+                  let of_table : changed_table p.change ≡ table = eqb-true (changed_table p.change) table (and_left _ _ e) in
                   let of_bookmark : changed_bookmark p.change ≡ bookmark = same_bytes (changed_bookmark p.change) bookmark (and_right (changed_table p.change == table) _ e) in
                   let was : p.before ≡ newest table bookmark = befores.0 live sum ∙ ap (λ (k : ℕ). newest k (changed_bookmark p.change)) of_table ∙ ap (newest table) of_bookmark in
                   let is : after_item newest p table bookmark ≡ p.after = ap (λ b. cond b (record_after p.change (newest table bookmark)) (newest table bookmark)) e ∙ ap (record_after p.change) (sym was) ∙ sym afters.0 in
                   inr (
                     ap (yields_key rule schema key) is ∙ bare.0 live unseen e,
                     all_weaker (λ q. is_standing p ≡ true → test q ≡ true → collide p.change q.change ≡ true → test p ≡ true) (λ q. test q ≡ true → is_change_of table bookmark q.change ≡ true → ⊥)
-                        (λ q h seen mine. never (sym (h live seen (and_both _ _ (both_touch table bookmark p.change q.change e mine) (ap (λ s. not (s && is_sum q.change)) sum))) ∙ unseen)) items earlier.0,
+                        (λ q h seen mine. never (sym (h live seen (and_from _ _ (both_touch table bookmark p.change q.change e mine) (ap (λ s. not (s && is_sum q.change)) sum))) ∙ unseen)) items earlier.0,
                   )
               | false ↦ λ e. elim either [
                 | inl same ↦ inl (λ k. same k ∙ ap (yields_key rule schema k) (sym (off newest e)))

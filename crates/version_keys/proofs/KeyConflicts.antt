@@ -2,6 +2,9 @@
 use Rattle.std.proofs.Common.{◌≡◌, ℕ, Bool, true, false, not, ◌&&◌, ◌||◌, cond, List, [], ◌∷◌, Option, Some, refl, sym, ap, subst, ◌∙◌}
 use Rattle.std.specs.Prelude.{◌==◌, find, filter, fold}
 use Rattle.std.specs.List.{AllByRecursion, list_any}
+use Rattle.std.proofs.lemmas.Bool.{and_from, eqb-true}
+use Rattle.common_lemmas.proofs.Booleans.{and_left, and_right, impossible}
+use Rattle.common_lemmas.proofs.Numbers.{same_bytes, self_equal}
 use Rattle.column_set.specs.declared.changes.Change.{Change}
 use Rattle.index_derive.specs.declared.rules.IndexRule.{IndexRule}
 use Rattle.index_derive.specs.declared.rules.Schema.{Schema}
@@ -11,7 +14,7 @@ use Rattle.database_state.specs.State.{DatabaseState, PastChange, Transaction, S
 use Rattle.database_state.specs.View.{newest}
 use Rattle.database_state.specs.Conflicts.{is_concurrent, is_concurrent_status, has_key_conflict, yields_key}
 use Rattle.record_changes.specs.Records.{Records, after_item, is_change_of, record_after, records_after_items, records_of}
-use Rattle.record_changes.proofs.Tests.{and_both, and_left, and_right, equal_bytes, impossible, same_bytes, same_number, self_equal}
+use Rattle.record_changes.proofs.Tests.{equal_bytes}
 use Rattle.version_history.specs.History.{HasBefores, IsHistory, IsPlaced}
 use Rattle.version_history.specs.Readers.{before_or, is_rewrite, is_standing}
 use Rattle.version_history.proofs.Concurrent.{key_conflict_kept}
@@ -33,13 +36,13 @@ variant_next rule schema t b newest (item ∷ items) r h plain e key =
           let mine : is_change_of t b item.change ≡ true = and_left _ _ touched in
           let live : is_standing item ≡ true = and_right (is_change_of t b item.change && is_rewrite item.change) _ hit in
           ap (yields_key rule schema key) (sym (h.0 live (no_sum item.change (and_right (is_change_of t b item.change) _ touched))
-          ∙ ap (λ (n : ℕ). r n (changed_bookmark item.change)) (same_number (changed_table item.change) t (and_left _ _ mine))
+          ∙ ap (λ (n : ℕ). r n (changed_bookmark item.change)) (eqb-true (changed_table item.change) t (and_left _ _ mine))
           ∙ ap (λ (k : List ℕ). r t k) (same_bytes (changed_bookmark item.change) b (and_right (changed_table item.change == t) _ mine))))
       | false ↦ λ miss. elim (is_standing item) as (λ x. is_standing item ≡ x → HasBefores (cond x (after_item r item) r) items → newest t b ≡ fold after_item r (cond x (item ∷ filter is_standing items) (filter is_standing items)) t b
           → yields_key rule schema key (r t b) ≡ yields_key rule schema key (next_variant newest t b items)) [
             | true ↦ λ live g d.
                 sym (elim (is_change_of t b item.change) as (λ x. is_change_of t b item.change ≡ x → yields_key rule schema key (cond x (record_after item.change (r t b)) (r t b)) ≡ yields_key rule schema key (r t b)) [
-                  | true ↦ λ f. keys_stay rule schema item.change (only (is_change_of t b item.change) (is_rewrite item.change) (is_standing item) f live miss) (plain.0 (same_number (changed_table item.change) t (and_left _ _ f))) (r t b) key
+                  | true ↦ λ f. keys_stay rule schema item.change (only (is_change_of t b item.change) (is_rewrite item.change) (is_standing item) f live miss) (plain.0 (eqb-true (changed_table item.change) t (and_left _ _ f))) (r t b) key
                   | false ↦ λ f. refl
                 ] refl)
                 ∙ variant_next rule schema t b newest items (after_item r item) g plain.1 d key
@@ -99,7 +102,7 @@ by_variants n tables transactions newest session table u schema rule key (item �
     found item = (changed_table item.change == table) && (yields_key rule schema key item.before || yields_key rule schema key item.after)
 
     itself : (c : Change) → is_change_of (changed_table c) (changed_bookmark c) c ≡ true
-    itself c = and_both _ _ (self_equal (changed_table c)) (equal_bytes (changed_bookmark c) (changed_bookmark c) refl)
+    itself c = and_from _ _ (self_equal (changed_table c)) (equal_bytes (changed_bookmark c) (changed_bookmark c) refl)
 
     here : is_standing item ≡ true → HasBefores (after_item r item) items → newest ≡ records_after_items is_standing (after_item r item) items → found item
         ≡ ((changed_table item.change == table) && (yields_key rule schema key (next_variant newest (changed_table item.change) (changed_bookmark item.change) (item ∷ items))
@@ -107,7 +110,7 @@ by_variants n tables transactions newest session table u schema rule key (item �
     here live g d =
         elim (changed_table item.change == table) as (λ x. (changed_table item.change == table) ≡ x → (x && (yields_key rule schema key item.before || yields_key rule schema key item.after))
         ≡ (x && (yields_key rule schema key (next_variant newest (changed_table item.change) (changed_bookmark item.change) (item ∷ items)) || yields_key rule schema key (next_variant newest (changed_table item.change) (changed_bookmark item.change) items)))) [
-          | true ↦ λ is. let own : changed_table item.change ≡ table = same_number (changed_table item.change) table is in
+          | true ↦ λ is. let own : changed_table item.change ≡ table = eqb-true (changed_table item.change) table is in
               λ i. before own i || after own i
           | false ↦ λ is. refl
         ] refl

@@ -2,6 +2,9 @@
 use Rattle.std.proofs.Common.{◌≡◌, ℕ, Bool, true, false, cond, List, [], ◌∷◌, Option, Some, None, refl, sym, ap, subst, ◌∙◌}
 use Rattle.std.specs.Prelude.{ℤ, ◌==◌, filter, fold, IfSome}
 use Rattle.std.specs.List.{AllByRecursion, list_any}
+use Rattle.std.proofs.lemmas.Bool.{eqb-true}
+use Rattle.common_lemmas.proofs.Booleans.{and_left, impossible}
+use Rattle.common_lemmas.proofs.Lists.{all_each, all_weaker}
 use Rattle.column_set.specs.declared.changes.Change.{Change}
 use Rattle.column_set.specs.declared.changes.Change.TheVariants.{Put, Drop, Hold, Add}
 use Rattle.column_set.specs.RecordValues.{RecordFields, values_of}
@@ -13,9 +16,8 @@ use Rattle.database_state.specs.SchemaChanges.{rule_columns}
 use Rattle.database_state.specs.State.{DatabaseState, PastChange}
 use Rattle.database_state.specs.Conflicts.{yields_key}
 use Rattle.record_changes.specs.Records.{Records, after_item, is_change_of, record_after, records_after_items}
-use Rattle.record_changes.proofs.Tests.{and_left, impossible, or_first, or_second, same_number}
+use Rattle.record_changes.proofs.Tests.{or_first, or_second}
 use Rattle.version_history.specs.Readers.{is_rewrite}
-use Rattle.version_history.proofs.Lists.{all_true, all_weaker}
 use Rattle.version_sums.proofs.StoredSums.{values_seen}
 use Rattle.version_keys.specs.KeySums.{HasKeyBefores, HasSameKeys, IndexesSeeNoSum, SeesNoSum, adds_to_index, names_column}
 use Rattle.version_keys.specs.Variants.{HasNoSums}
@@ -69,7 +71,7 @@ pub item_same : (rule : IndexRule) (schema : Schema) (r s : Records) (item : Pas
 item_same rule schema r s item table bookmark plain same key =
     elim (is_change_of table bookmark item.change) as (λ b. is_change_of table bookmark item.change ≡ b
     → yields_key rule schema key (cond b (record_after item.change (r table bookmark)) (r table bookmark)) ≡ yields_key rule schema key (cond b (record_after item.change (s table bookmark)) (s table bookmark))) [
-      | true ↦ λ e. after_same rule schema item.change (plain (same_number (changed_table item.change) table (and_left _ _ e))) (r table bookmark) (s table bookmark) same key
+      | true ↦ λ e. after_same rule schema item.change (plain (eqb-true (changed_table item.change) table (and_left _ _ e))) (r table bookmark) (s table bookmark) same key
       | false ↦ λ e. same key
     ] refl
 
@@ -77,7 +79,7 @@ pub item_keeps : (rule : IndexRule) (schema : Schema) (r : Records) (item : Past
     → HasSameKeys rule schema (after_item r item table bookmark) (r table bookmark)
 item_keeps rule schema r item table bookmark sum plain key =
     elim (is_change_of table bookmark item.change) as (λ b. is_change_of table bookmark item.change ≡ b → yields_key rule schema key (cond b (record_after item.change (r table bookmark)) (r table bookmark)) ≡ yields_key rule schema key (r table bookmark)) [
-      | true ↦ λ e. sum_keeps rule schema item.change (plain (same_number (changed_table item.change) table (and_left _ _ e))) sum (r table bookmark) key
+      | true ↦ λ e. sum_keeps rule schema item.change (plain (eqb-true (changed_table item.change) table (and_left _ _ e))) sum (r table bookmark) key
       | false ↦ λ e. refl
     ] refl
 
@@ -89,7 +91,7 @@ left_alone rule schema test t b (q ∷ items) h plain base key =
     elim (test q) as (λ x. test q ≡ x → yields_key rule schema key (fold after_item base (cond x (q ∷ filter test items) (filter test items)) t b) ≡ yields_key rule schema key (base t b)) [
       | true ↦ λ e. left_alone rule schema test t b items h.1 plain.1 (after_item base q) key
           ∙ elim (is_change_of t b q.change) as (λ x. is_change_of t b q.change ≡ x → yields_key rule schema key (cond x (record_after q.change (base t b)) (base t b)) ≡ yields_key rule schema key (base t b)) [
-            | true ↦ λ f. keys_stay rule schema q.change (h.0 e f) (plain.0 (same_number (changed_table q.change) t (and_left _ _ f))) (base t b) key
+            | true ↦ λ f. keys_stay rule schema q.change (h.0 e f) (plain.0 (eqb-true (changed_table q.change) t (and_left _ _ f))) (base t b) key
             | false ↦ λ f. refl
           ] refl
       | false ↦ λ e. left_alone rule schema test t b items h.1 plain.1 base key
@@ -111,7 +113,7 @@ all_see_none kept state none id = by (table_with_id state.tables id)
   where
     by : (found : Option Table) → IfSome found (λ table. AllByRecursion (λ rule. SeesNoSum rule table.id kept) table.indexes)
     by None = tt
-    by (Some table) = all_true (λ rule. SeesNoSum rule table.id kept) (λ rule. sees_none rule table.id kept none) table.indexes
+    by (Some table) = all_each (λ rule. SeesNoSum rule table.id kept) (λ rule. sees_none rule table.id kept none) table.indexes
 
 pub befores_of_none : (rule : IndexRule) (schema : Schema) (table : ℕ) (kept : List PastChange) (base : Records) → HasNoSums kept → HasKeyBefores rule schema table base kept
 befores_of_none rule schema table [] base none = tt

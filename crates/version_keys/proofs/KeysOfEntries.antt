@@ -3,6 +3,9 @@ use Rattle.std.proofs.Common.{◌≡◌, inl, inr, ℕ, ◌+◌, ◌-◌, Bool, 
 use Rattle.std.specs.Prelude.{◌==◌, nat_lt, nat_le, is_some, map}
 use Rattle.std.specs.List.{AllByRecursion}
 use Rattle.std.proofs.lemmas.Bool.Decides.{nat_tests}
+use Rattle.std.proofs.lemmas.Bool.{and_from, eqb-true, false_from_ne_true, not-true}
+use Rattle.common_lemmas.proofs.Booleans.{and_left, and_right, impossible}
+use Rattle.common_lemmas.proofs.Lists.{all_each}
 use Rattle.index_derive.specs.declared.rules.IndexRule.{IndexRule}
 use Rattle.index_derive.specs.declared.rules.Schema.{Schema}
 use Rattle.index_derive.specs.declared.log.EntryKind.{EntryKind}
@@ -14,7 +17,6 @@ use Rattle.database_state.specs.Conflicts.{is_concurrent, yields_key}
 use Rattle.database_state.specs.Step.{all_undone, applied, at_levels, every_change, is_at_level, with_changes_at, with_levels, with_transaction}
 use Rattle.database_state.specs.Lawful.{is_lawful_kind}
 use Rattle.record_changes.specs.Records.{Records, after_item, records_after, records_after_items}
-use Rattle.record_changes.proofs.Tests.{and_both, and_left, and_right, impossible, not_true, refuted, same_number}
 use Rattle.version_history.specs.History.{InOrder, IsHistory, IsPlaced, KeepsHistory, LevelsRise, is_apart}
 use Rattle.version_history.specs.KeptSteps.{committed_own, is_own_open, kept_after, lowered_own, undone_where, with_next_number}
 use Rattle.version_history.specs.Readers.{is_standing}
@@ -23,7 +25,7 @@ use Rattle.version_history.proofs.Ending.{commit_before, commit_change, commit_l
 use Rattle.version_history.proofs.Entries.{at_innermost, fewer, follows_at, more}
 use Rattle.version_history.proofs.Keeping.{Follows, also_open, open_in, open_live, order_followed, order_undone, with_at}
 use Rattle.version_history.proofs.LawfulEntries.{outside}
-use Rattle.version_history.proofs.Lists.{all_both, all_true, each_and, each_append, each_both, each_map}
+use Rattle.version_history.proofs.Lists.{all_both, each_and, each_append, each_both, each_map}
 use Rattle.version_history.proofs.Transactions.{same-with, transaction-begun, transaction-ended, transaction-entered, transaction-left, transaction-levels}
 use Rattle.version_keys.specs.UniqueKeys.{BringsFreeKeys, BringsKey, HasFreeKeys, InKeyOrder, MeetsKey, SeesEarlier}
 use Rattle.version_keys.specs.KeySums.{SeesNoSum}
@@ -76,12 +78,12 @@ stays_pair : (rule : IndexRule) (schema : Schema) (table n : ℕ) (tables : List
     → (p q : PastChange) → IsPlaced n tables transactions p → IsPlaced n tables transactions q → LevelsRise p q × (InOrder transactions p q × InKeyOrder rule schema table transactions p q)
     → SeesEarlier rule schema table (λ item. is_standing item && not (is_own_open session test item)) p q
 stays_pair rule schema table n tables transactions session test next p q pp pq orders live stays either =
-    and_both _ _ live (ap not (refuted (is_own_open session test p) (λ goes.
+    and_from _ _ live (ap not (false_from_ne_true (is_own_open session test p) (λ goes.
     let own : is_open_change_of session p ≡ true = and_left _ _ goes in
     let stands : is_standing q ≡ true = and_left _ _ stays in
     let apart : is_apart transactions p q ≡ true = elim either [ inl hit ↦ orders.1.0 live stands hit | inr meets ↦ orders.1.1 live stands meets ] in
-    let also : is_open_change_of session q ≡ true = also_open transactions session p q p.status q.status (and_left _ _ own) (same_number p.session session (and_right (is_open p.status) _ own)) apart in
-    impossible (sym (not_true (is_own_open session test q) (and_right (is_standing q) _ stays)) ∙ and_both _ _ also (next p q goes also pq orders.0)))))
+    let also : is_open_change_of session q ≡ true = also_open transactions session p q p.status q.status (and_left _ _ own) (eqb-true p.session session (and_right (is_open p.status) _ own)) apart in
+    impossible (sym (not-true (is_own_open session test q) (and_right (is_standing q) _ stays)) ∙ and_from _ _ also (next p q goes also pq orders.0)))))
 
 pub keys_undone_own : (rule : IndexRule) (schema : Schema) (table n : ℕ) (tables : List Table) (transactions : ℕ → Option Transaction) (base : Records) (kept : List PastChange) (session : ℕ) (test : PastChange → Bool)
     → ((p q : PastChange) → is_own_open session test p ≡ true → is_open_change_of session q ≡ true → IsPlaced n tables transactions q → LevelsRise p q → test q ≡ true)
@@ -94,7 +96,7 @@ keys_undone_own rule schema table n tables transactions base kept session test n
       (each_and LevelsRise (λ p q. InOrder transactions p q × InKeyOrder rule schema table transactions p q) kept keeps.levels (each_and (InOrder transactions) (InKeyOrder rule schema table transactions) kept keeps.in_order h.key_order)))
       h.free_keys;
   key_order = each_map (λ item. Unit {0}) (InKeyOrder rule schema table transactions) (InKeyOrder rule schema table transactions) (undone_where (is_own_open session test))
-      (λ p q x y. undone_pair p q) kept (all_true (λ item. Unit {0}) (λ item. tt) kept) h.key_order;
+      (λ p q x y. undone_pair p q) kept (all_each (λ item. Unit {0}) (λ item. tt) kept) h.key_order;
 }
   where
     undone_pair : (p q : PastChange) → InKeyOrder rule schema table transactions p q → InKeyOrder rule schema table transactions (undone_where (is_own_open session test) p) (undone_where (is_own_open session test) q)
@@ -113,7 +115,7 @@ keys_lowered rule schema table transactions base kept session level h = record {
   key_order = each_map (λ item. Unit {0}) (InKeyOrder rule schema table transactions) (InKeyOrder rule schema table transactions) (lowered_own session level)
       (λ p q x y order. lowered (λ i. InKeyOrder rule schema table transactions i (lowered_own session level q)) session level p
       (lowered (λ i. InKeyOrder rule schema table transactions (record p { level = p.level - 1 }) i) session level q order order)
-      (lowered (λ i. InKeyOrder rule schema table transactions p i) session level q order order)) kept (all_true (λ item. Unit {0}) (λ item. tt) kept) h.key_order;
+      (lowered (λ i. InKeyOrder rule schema table transactions p i) session level q order order)) kept (all_each (λ item. Unit {0}) (λ item. tt) kept) h.key_order;
 }
 
 -- ---- a commit
@@ -128,7 +130,7 @@ keys_committed rule schema table n transactions base kept session h = record {
   free_keys = brings_map rule schema table (committed_own session (n + 1)) (commit_change session (n + 1)) (commit_before session (n + 1)) (commit_after session (n + 1)) (commit_live session (n + 1)) kept base h.free_keys;
   key_order = each_map (λ item. Unit {0}) (InKeyOrder rule schema table transactions) (InKeyOrder rule schema table (with_at session None transactions)) (committed_own session (n + 1))
       (λ p q x y. order_committed (MeetsKey rule schema table) session n transactions p q
-      (meets_before rule schema table (committed_own session (n + 1)) (commit_change session (n + 1)) (commit_before session (n + 1)) (commit_after session (n + 1)) p q)) kept (all_true (λ item. Unit {0}) (λ item. tt) kept) h.key_order;
+      (meets_before rule schema table (committed_own session (n + 1)) (commit_change session (n + 1)) (commit_before session (n + 1)) (commit_after session (n + 1)) p q)) kept (all_each (λ item. Unit {0}) (λ item. tt) kept) h.key_order;
 }
 
 -- ---- a change
@@ -175,7 +177,7 @@ pub keys_by_kind : (rule : IndexRule) (schema : Schema) (table : ℕ) (base : Re
     → IsHistory base dropped kept state → SeesNoSum rule table kept → is_lawful_kind state label kind ≡ true → IsHistory base dropped (kept_after state label kind kept) (applied label kind (with_next_number state))
     → HasFreeKeys rule schema table (transaction_of state) base kept → HasFreeKeys rule schema table (transaction_of (applied label kind (with_next_number state))) base (kept_after state label kind kept)
 keys_by_kind rule schema table base dropped kept state label entry.Enter plain h sees e after free =
-    keys_same rule schema table base kept (transaction_of state) _ (transaction-entered label (with_next_number state) (not_true (is_some (live_session state label)) (and_left _ _ e))) free
+    keys_same rule schema table base kept (transaction_of state) _ (transaction-entered label (with_next_number state) (not-true (is_some (live_session state label)) (and_left _ _ e))) free
 keys_by_kind rule schema table base dropped kept state label entry.Leave plain h sees e after free =
     let undoing : DatabaseState = with_changes_at label every_change (λ item. record item { status = undone }) (with_next_number state) in
     keys_moved rule schema table base dropped kept _ state _ label None

@@ -1,6 +1,8 @@
 -- A commit in a transaction of one level is always lawful.
 use Rattle.std.proofs.Common.{◌≡◌, ℕ, true, List, Some, ap, ◌∙◌}
 use Rattle.std.specs.Prelude.{◌==◌}
+use Rattle.std.proofs.lemmas.Bool.{and_from}
+use Rattle.common_lemmas.proofs.Numbers.{self_equal}
 use Rattle.index_derive.specs.declared.log.EntryKind.TheVariants as entry
 use Rattle.database_state.specs.Table.{table_with_id}
 use Rattle.database_state.specs.Changes.{tables_after_all}
@@ -10,7 +12,6 @@ use Rattle.database_state.specs.Lawful.{is_lawful}
 use Rattle.derived_index.proofs.Adding.{KeysRise}
 use Rattle.derived_index.proofs.Rows.{RowsRise}
 use Rattle.record_changes.specs.Records.{Records}
-use Rattle.record_changes.proofs.Tests.{and_both, self_equal}
 use Rattle.version_history.specs.History.{IsHistory}
 use Rattle.version_history.proofs.Lists.{all_both}
 use Rattle.version_keys.specs.TableOrder.{HasTablesInOrder}
@@ -24,7 +25,7 @@ pub commit_lawful : KeysRise → (base : Records) (dropped kept : List PastChang
 unfolding is_lawful state_after
 commit_lawful rise base dropped kept state label h sees unique ordered one =
     let order = order_after state.greatest_table state.tables (open_changes_of label state.past) (to_rise state ordered) in
-    and_both _ _ (ap (λ n. n == 1) one ∙ self_equal 1)
+    and_from _ _ (ap (λ n. n == 1) one ∙ self_equal 1)
     (committed_unique rise base dropped kept state label h sees unique
     (all_both (λ t. table_with_id (tables_after_all state.tables (open_changes_of label state.past)) t.id ≡ Some t) (λ t. RowsRise t.rows) (λ t. (table_with_id (tables_after_all state.tables (open_changes_of label state.past)) t.id ≡ Some t) × RowsRise t.rows)
     (λ t found rise. (found, rise)) (tables_after_all state.tables (open_changes_of label state.past)) (found_each (tables_after_all state.tables (open_changes_of label state.past)) order.0) order.2))

@@ -5,6 +5,9 @@ use Rattle.std.specs.List.{AllByRecursion, list_all}
 use Rattle.std.specs.declared.cmp.Ordering.TheVariants.{Less}
 use Rattle.std.specs.Ordering.{is_lt, ordering_then}
 use Rattle.std.proofs.lemmas.Bool.Decides.{nat_tests}
+use Rattle.std.proofs.lemmas.Bool.{and_from, eqb-true}
+use Rattle.common_lemmas.proofs.Booleans.{and_left, and_right}
+use Rattle.common_lemmas.proofs.Lists.{all_append, all_each, all_filter, all_map, all_weaker}
 use Rattle.column_set.specs.declared.changes.Change.{Change}
 use Rattle.column_set.specs.declared.changes.Change.TheVariants.{Put, Drop, Hold, Add}
 use Rattle.column_set.specs.RecordValues.{RecordFields, with_values}
@@ -23,21 +26,20 @@ use Rattle.database_state.specs.Step.{applied, is_at_level, state_after, with_ch
 use Rattle.database_state.specs.Lawful.{has_next_numbers, has_number, is_lawful, is_lawful_kind}
 use Rattle.derived_index.proofs.PairOrder.{key_cmp, pair_lt-is}
 use Rattle.derived_index.proofs.Rows.{IsBelow, RowsRise, rise-put, rise-sorted}
-use Rattle.record_changes.proofs.Tests.{and_both, and_left, and_right, same_number}
 use Rattle.version_history.specs.History.{EachTwo}
 use Rattle.version_history.specs.KeptSteps.{with_next_number}
-use Rattle.version_history.proofs.Lists.{all_append, all_filter, all_map, all_true, all_weaker, each_append, each_map}
+use Rattle.version_history.proofs.Lists.{each_append, each_map}
 use Rattle.version_keys.specs.TableOrder.{HasTablesInOrder, IdsRise}
 
 -- ---- records in order
 
 sorted_rise : (rows : Rows) → RowsRise rows → are_sorted (own_order rows) ≡ true
 sorted_rise [] h = refl
-sorted_rise (row ∷ rows) h = and_both (list_all (pair_lt (row.0, row.0)) (own_order rows)) (are_sorted (own_order rows)) (above rows h.0) (sorted_rise rows h.1)
+sorted_rise (row ∷ rows) h = and_from (list_all (pair_lt (row.0, row.0)) (own_order rows)) (are_sorted (own_order rows)) (above rows h.0) (sorted_rise rows h.1)
   where
     above : (rest : Rows) → IsBelow row.0 rest → list_all (pair_lt (row.0, row.0)) (own_order rest) ≡ true
     above [] b = refl
-    above (other ∷ rest) b = and_both (pair_lt (row.0, row.0) (other.0, other.0)) (list_all (pair_lt (row.0, row.0)) (own_order rest))
+    above (other ∷ rest) b = and_from (pair_lt (row.0, row.0) (other.0, other.0)) (list_all (pair_lt (row.0, row.0)) (own_order rest))
         (pair_lt-is (row.0, row.0) (other.0, other.0) ∙ ap (λ o. is_lt (ordering_then o (key_cmp row.0 other.0))) b.0) (above rest b.1)
 
 rise_filter : (p : List ℕ × RecordFields → Bool) (rows : Rows) → RowsRise rows → RowsRise (filter p rows)
@@ -64,7 +66,7 @@ InOrderTo greatest tables = EachTwo IdsRise tables × AllByRecursion (λ t. (0 <
 
 mapped_order : (greatest : ℕ) (f : Table → Table) → ((t : Table) → (f t).id ≡ t.id) → ((t : Table) → RowsRise t.rows → RowsRise (f t).rows) → (tables : List Table) → InOrderTo greatest tables → InOrderTo greatest (map f tables)
 mapped_order greatest f same rise tables h = (
-  each_map (λ t. Unit {0}) IdsRise IdsRise f (λ one other x y less. subst (λ (a : ℕ). a < (f other).id) (sym (same one)) (subst (λ (b : ℕ). one.id < b) (sym (same other)) less)) tables (all_true (λ t. Unit {0}) (λ t. tt) tables) h.0,
+  each_map (λ t. Unit {0}) IdsRise IdsRise f (λ one other x y less. subst (λ (a : ℕ). a < (f other).id) (sym (same one)) (subst (λ (b : ℕ). one.id < b) (sym (same other)) less)) tables (all_each (λ t. Unit {0}) (λ t. tt) tables) h.0,
   all_map (λ t. (0 < t.id) × (t.id ≤ greatest)) f tables (all_weaker (λ t. (0 < t.id) × (t.id ≤ greatest)) (λ t. (0 < (f t).id) × ((f t).id ≤ greatest)) (λ t le. subst (λ (a : ℕ). (0 < a) × (a ≤ greatest)) (sym (same t)) le) tables h.1),
   all_map (λ t. RowsRise t.rows) f tables (all_weaker (λ t. RowsRise t.rows) (λ t. RowsRise (f t).rows) rise tables h.2),
 )
@@ -121,7 +123,7 @@ rise_map f (row ∷ rows) h = (all_map (λ other. key_cmp row.0 other.0 ≡ Less
 
 order_step : (state : DatabaseState) (made : SchemaStep) → has_next_numbers state made ≡ true → InOrderTo state.greatest_table state.tables → InOrderTo (greatest_table_after state.greatest_table made) (tables_after_step state.tables made)
 order_step state (step.CreateTable table name) numbers h =
-    let next : table.0 ≡ state.greatest_table + 1 = same_number table.0 (state.greatest_table + 1) (and_left _ _ numbers) in (
+    let next : table.0 ≡ state.greatest_table + 1 = eqb-true table.0 (state.greatest_table + 1) (and_left _ _ numbers) in (
       each_append IdsRise state.tables (new_table table.0 name) h.0 (all_weaker (λ t. (0 < t.id) × (t.id ≤ state.greatest_table)) (λ t. t.id < table.0) (λ t le. above t.id state.greatest_table table.0 le.1 next) state.tables h.1),
       all_append (λ t. (0 < t.id) × (t.id ≤ table.0)) state.tables (new_table table.0 name ∷ []) (all_weaker (λ t. (0 < t.id) × (t.id ≤ state.greatest_table)) (λ t. (0 < t.id) × (t.id ≤ table.0)) (λ t le. (le.0, below t.id state.greatest_table table.0 le.1 next)) state.tables h.1) ((positive state.greatest_table table.0 next, itself table.0), tt),
       all_append (λ t. RowsRise t.rows) state.tables (new_table table.0 name ∷ []) h.2 (tt, tt),

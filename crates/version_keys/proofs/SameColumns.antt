@@ -2,7 +2,7 @@
 use Rattle.std.proofs.Common.{◌≡◌, ℕ, ◌+◌, Bool, true, false, not, ◌&&◌, ◌||◌, cond, List, [], ◌∷◌, ◌++◌, take, length, Option, Some, None, Result, Ok, Err, refl, sym, ap, ◌∙◌}
 use Rattle.std.specs.Prelude.{◌==◌, count_by, filter, flat_map, fold, is_none, map, nat_le, nat_lt, bytes_eq}
 use Rattle.std.specs.List.{AllByRecursion, list_all, list_any}
-use Rattle.common_lemmas.proofs.Lists.{all_parted}
+use Rattle.common_lemmas.proofs.Lists.{all_parted, all_weaker}
 use Rattle.column_set.specs.declared.columns.Column.{Column}
 use Rattle.column_set.specs.RecordValues.{RecordFields, column_of_id, has_value, values_of}
 use Rattle.jet_base.specs.declared.words.ColType.TheVariants.{Binary}
@@ -14,7 +14,6 @@ use Rattle.index_derive.specs.declared.rules.Segment.{Segment}
 use Rattle.index_derive.specs.Entries.{KeyRefusal, KeyTruncated, KeyValues, NullKeyDisallowed, all_key_values, columns_of_key, condition_columns, entries, first_or_null, has_double_number, has_ignore_flag, is_escrow_column, is_ignored, is_legal, is_multi_column, is_text_type, is_tuples_key, key_columns, keys_or_none, meets_conditions, parts_of_columns, parts_of_text, parts_of_texts, primary_key, product, sorted_keys, type_of_column, values_or_null}
 use Rattle.database_state.specs.Conflicts.{yields_key}
 use Rattle.database_state.specs.SchemaChanges.{rule_columns}
-use Rattle.version_history.proofs.Lists.{all_weaker}
 
 -- the column is the same, and the values in it
 abbrev pub SameAt : Schema → Schema → RecordFields → RecordFields → ℕ → Type 0

@@ -7,6 +7,10 @@ use Rattle.std.specs.Ordering.{nat_cmp, eq_by_cmp}
 use Rattle.std.specs.Cmp.Lexicographic.{slice_cmp}
 use Rattle.std.proofs.lemmas.Bool.Decides.{nat_tests}
 use Rattle.std.proofs.lemmas.List.Folds.{list_any-append}
+use Rattle.std.proofs.lemmas.Bool.{eqb-true}
+use Rattle.common_lemmas.proofs.Booleans.{and_left, and_right, impossible}
+use Rattle.common_lemmas.proofs.Lists.{all_append, all_each, all_weaker}
+use Rattle.common_lemmas.proofs.Numbers.{same_bytes, self_equal}
 use Rattle.jet_base.specs.declared.ids.ColumnId.{ColumnId}
 use Rattle.jet_base.specs.declared.ids.TableId.{TableId}
 use Rattle.jet_base.specs.declared.replies.Jet.TheVariants as jet
@@ -25,8 +29,8 @@ use Rattle.database_state.specs.Conflicts.{yields_key}
 use Rattle.database_state.specs.Lawful.{has_next_numbers, is_name}
 use Rattle.database_state.proofs.Columns.{column_of_id-columns_with}
 use Rattle.derived_index.proofs.Standing.{same_test}
-use Rattle.record_changes.proofs.Tests.{and_left, and_right, and_second, contradicted, equal_bytes, impossible, or_second, same_bytes, same_number, self_equal}
-use Rattle.version_history.proofs.Lists.{all_append, all_both, all_true, all_weaker}
+use Rattle.record_changes.proofs.Tests.{and_second, contradicted, equal_bytes, or_second}
+use Rattle.version_history.proofs.Lists.{all_both}
 use Rattle.version_keys.specs.UniqueKeys.{HasOwnKey, IsSoundIndex}
 use Rattle.version_keys.proofs.FreeKeys.{in_any_order}
 use Rattle.version_keys.proofs.IndexNumbers.{found_alone, found_in_filter, found_with, found_without, next_is_free, none_of}
@@ -129,7 +133,7 @@ mapped_row f (row ∷ rows) bookmark =
 
 pub other_column : (column : ℕ) (table : Table) (id : ℕ) → (id == column) ≡ false → column_of_id (without_column column table).columns id ≡ column_of_id table.columns id
 other_column column table id e = found_in_filter (λ c. c.id.0 == id) (λ c. not (c.id.0 == column)) table.columns
-    (all_true (λ c. (c.id.0 == id) ≡ true → not (c.id.0 == column) ≡ true) (λ c f. ap (λ k. not (k == column)) (same_number c.id.0 id f) ∙ ap not e) table.columns)
+    (all_each (λ c. (c.id.0 == id) ≡ true → not (c.id.0 == column) ≡ true) (λ c f. ap (λ k. not (k == column)) (eqb-true c.id.0 id f) ∙ ap not e) table.columns)
 
 removed_column : (column : ℕ) (table : Table) → AllByRecursion (λ rule. AllByRecursion (λ id. (id == column) ≡ false) (rule_columns rule)) table.indexes → AreTableIndexes table → AreTableIndexes (without_column column table)
 removed_column column table unused h = all_both (IsTableIndex table) (λ rule. AllByRecursion (λ id. (id == column) ≡ false) (rule_columns rule)) (IsTableIndex (without_column column table))
@@ -230,13 +234,13 @@ made_index made table new h =
     (is_new, tt)
   where
     same_schema : (rule : IndexRule) → AllByRecursion (λ id. column_of_id table.columns id ≡ column_of_id table.columns id) (rule_columns rule)
-    same_schema rule = all_true (λ id. column_of_id table.columns id ≡ column_of_id table.columns id) (λ id. refl) (rule_columns rule)
+    same_schema rule = all_each (λ id. column_of_id table.columns id ≡ column_of_id table.columns id) (λ id. refl) (rule_columns rule)
 
     old : (rule : IndexRule) → (rule.id.0 == made.id.0) ≡ false → (rule.flags.primary ≡ true → made.flags.primary ≡ false) → IsTableIndex table rule → IsTableIndex (with_index made table) rule
     old rule apart other is = kept_index table (with_index made table) rule
         (found_with (λ r. r.id.0 == rule.id.0) table.indexes made (turned rule.id.0 made.id.0 apart) ∙ is.0.0)
         (λ primary. found_with (λ r. r.flags.primary) table.indexes made (other primary) ∙ (is.0.2 primary).0)
-        (all_true (λ id. (column_of_id table.columns id ≡ column_of_id table.columns id) × (has_column table id ≡ true → has_column table id ≡ true)) (λ id. (refl, λ e. e)) (rule_columns rule))
+        (all_each (λ id. (column_of_id table.columns id ≡ column_of_id table.columns id) × (has_column table id ≡ true → has_column table id ≡ true)) (λ id. (refl, λ e. e)) (rule_columns rule))
         (same_rows (schema_of (with_index made table)) (schema_of table) rule table.rows (same_schema rule)) is
       where
         turned : (a b : ℕ) → (a == b) ≡ false → (b == a) ≡ false
@@ -274,11 +278,11 @@ removed_index : (index : ℕ) (table : Table) → AllByRecursion (λ rule. ((rul
 removed_index index table stays h = filtered (IsTableIndex table) (IsTableIndex (without_index index table)) (λ r. not (r.id.0 == index))
     (λ rule left is. kept_index table (without_index index table) rule
     (found_without (λ r. r.id.0 == rule.id.0) (λ r. not (r.id.0 == index)) table.indexes
-    (all_true (λ r. (r.id.0 == rule.id.0) ≡ true → not (r.id.0 == index) ≡ true) (λ r e. ap (λ k. not (k == index)) (same_number r.id.0 rule.id.0 e) ∙ left) table.indexes) ∙ is.0.0)
+    (all_each (λ r. (r.id.0 == rule.id.0) ≡ true → not (r.id.0 == index) ≡ true) (λ r e. ap (λ k. not (k == index)) (eqb-true r.id.0 rule.id.0 e) ∙ left) table.indexes) ∙ is.0.0)
     (λ primary. found_without (λ r. r.flags.primary) (λ r. not (r.id.0 == index)) table.indexes
     (all_weaker (λ r. ((r.id.0 == index) && r.flags.primary) ≡ false) (λ r. r.flags.primary ≡ true → not (r.id.0 == index) ≡ true) (λ r none e. ap not (first (r.id.0 == index) r.flags.primary e none)) table.indexes stays) ∙ (is.0.2 primary).0)
-    (all_true (λ id. (column_of_id table.columns id ≡ column_of_id table.columns id) × (has_column table id ≡ true → has_column table id ≡ true)) (λ id. (refl, λ e. e)) (rule_columns rule))
-    (same_rows (schema_of (without_index index table)) (schema_of table) rule table.rows (all_true (λ id. column_of_id table.columns id ≡ column_of_id table.columns id) (λ id. refl) (rule_columns rule))) is)
+    (all_each (λ id. (column_of_id table.columns id ≡ column_of_id table.columns id) × (has_column table id ≡ true → has_column table id ≡ true)) (λ id. (refl, λ e. e)) (rule_columns rule))
+    (same_rows (schema_of (without_index index table)) (schema_of table) rule table.rows (all_each (λ id. column_of_id table.columns id ≡ column_of_id table.columns id) (λ id. refl) (rule_columns rule))) is)
     table.indexes h
   where
     first : (a b : Bool) → b ≡ true → (a && b) ≡ false → a ≡ false
@@ -314,7 +318,7 @@ pub at_table : (P : Table → Type 0) (d : ℕ) (change : Table → Table) → (
     → ((id : ℕ) → IfSome (table_with_id tables id) P) → (id : ℕ) → IfSome (table_with_id (with_table d change tables) id) P
 at_table P d change keeps tables f h id =
     elim (id == d) as (λ b. (id == d) ≡ b → IfSome (table_with_id (with_table d change tables) id) P) [
-      | true ↦ λ e. subst (λ (k : ℕ). IfSome (table_with_id (with_table d change tables) k) P) (sym (same_number id d e))
+      | true ↦ λ e. subst (λ (k : ℕ). IfSome (table_with_id (with_table d change tables) k) P) (sym (eqb-true id d e))
           (subst (λ (found : Option Table). IfSome found P) (sym (this_table d change keeps tables)) (by (table_with_id tables d) refl (h d)))
       | false ↦ λ e. subst (λ (found : Option Table). IfSome found P) (sym (other_table d change keeps tables id e)) (h id)
     ] refl
@@ -335,7 +339,7 @@ without_table P d tables id h =
     elim (id == d) as (λ b. (id == d) ≡ b → IfSome (table_with_id (filter (λ t. not (t.id == d)) tables) id) P) [
       | true ↦ λ e. subst (λ (found : Option Table). IfSome found P) (sym (gone tables e)) tt
       | false ↦ λ e. subst (λ (found : Option Table). IfSome found P)
-          (sym (found_in_filter (λ t. t.id == id) (λ t. not (t.id == d)) tables (all_true (λ t. (t.id == id) ≡ true → not (t.id == d) ≡ true) (λ t f. ap (λ k. not (k == d)) (same_number t.id id f) ∙ ap not e) tables))) h
+          (sym (found_in_filter (λ t. t.id == id) (λ t. not (t.id == d)) tables (all_each (λ t. (t.id == id) ≡ true → not (t.id == d) ≡ true) (λ t f. ap (λ k. not (k == d)) (eqb-true t.id id f) ∙ ap not e) tables))) h
     ] refl
   where
     gone : (ts : List Table) → (id == d) ≡ true → table_with_id (filter (λ t. not (t.id == d)) ts) id ≡ None
@@ -396,7 +400,7 @@ new_index state id made t refused number = record {
   where
     by_primary : (b : Bool) → (b && list_any (λ r. r.flags.primary) t.indexes) ≡ false → AllByRecursion (λ rule. b ≡ true → rule.flags.primary ≡ false) t.indexes
     by_primary true e = all_weaker (λ rule. rule.flags.primary ≡ false) (λ rule. true ≡ true → rule.flags.primary ≡ false) (λ rule f g. f) t.indexes (none_of (λ r. r.flags.primary) t.indexes e)
-    by_primary false e = all_true (λ rule. false ≡ true → rule.flags.primary ≡ false) (λ rule g. impossible g) t.indexes
+    by_primary false e = all_each (λ rule. false ≡ true → rule.flags.primary ≡ false) (λ rule g. impossible g) t.indexes
 
     yes : (b : Bool) → not b ≡ false → b ≡ true
     yes true e = refl
@@ -414,7 +418,7 @@ step_keeps_indexes state label (step.DeleteColumn table column) e numbers h id =
 step_keeps_indexes state label (step.CreateIndex table rule) e numbers h id =
     at_table AreTableIndexes table.0 (with_index rule) (λ t. refl) state.tables
     (λ t found is. made_index rule t (new_index state table rule t (at_found state label (step.CreateIndex table rule) t e found)
-    (same_number rule.id.0 (next_index_id t.indexes) (and_left _ _ (and_left _ _ (subst (λ (o : Option Table). has_numbers (unwrap_or o (new_table 0 [])) ≡ true) found numbers))))) is) h id
+    (eqb-true rule.id.0 (next_index_id t.indexes) (and_left _ _ (and_left _ _ (subst (λ (o : Option Table). has_numbers (unwrap_or o (new_table 0 [])) ≡ true) found numbers))))) is) h id
   where
     has_numbers : Table → Bool
     has_numbers t = (rule.id.0 == next_index_id t.indexes) && (rule.order == (greatest_order t.indexes + 1)) && is_name rule.name

@@ -2,6 +2,8 @@
 use Rattle.std.proofs.Common.{◌≡◌, ℕ, Bool, true, false, not, ◌&&◌, cond, List, [], ◌∷◌, ◌++◌, refl, sym, ap, subst, ◌∙◌, bytes_eq}
 use Rattle.std.specs.Prelude.{◌==◌, map}
 use Rattle.std.specs.List.{AllByRecursion}
+use Rattle.common_lemmas.proofs.Lists.{all_each, all_map, all_weaker}
+use Rattle.common_lemmas.proofs.Booleans.{impossible}
 use Rattle.column_set.specs.declared.changes.Change.{Change}
 use Rattle.index_derive.specs.declared.rules.IndexRule.{IndexRule}
 use Rattle.index_derive.specs.declared.rules.Schema.{Schema}
@@ -10,12 +12,11 @@ use Rattle.database_state.specs.State.{PastChange, undone}
 use Rattle.database_state.specs.Conflicts.{collide, yields_key}
 use Rattle.record_changes.specs.Records.{Records, after_item, is_change_of, record_after, records_after, records_after_items}
 use Rattle.record_changes.proofs.Folds.{folded-cons}
-use Rattle.record_changes.proofs.Tests.{impossible}
 use Rattle.version_history.specs.History.{EachTwo}
 use Rattle.version_history.specs.KeptSteps.{undone_where}
 use Rattle.version_history.specs.Readers.{is_standing}
 use Rattle.version_history.proofs.Befores.{GoesApart, at}
-use Rattle.version_history.proofs.Lists.{all_both, all_map, all_true, all_weaker}
+use Rattle.version_history.proofs.Lists.{all_both}
 use Rattle.version_keys.specs.KeySums.{HasKeyBefores, HasSameKeys, SeesNoSum, adds_to_index}
 use Rattle.version_keys.proofs.KeySums.{item_keeps, item_same}
 
@@ -106,4 +107,4 @@ undone_from rule schema table gone alive (item ∷ items) r s h plain apart agre
 pub key_befores-undo : (rule : IndexRule) (schema : Schema) (table : ℕ) (gone : PastChange → Bool) → ((item : PastChange) → gone item ≡ true → is_standing item ≡ true) → (items : List PastChange) (base : Records)
     → SeesNoSum rule table items → EachTwo (GoesApart gone) items → HasKeyBefores rule schema table base items → HasKeyBefores rule schema table base (map (undone_where gone) items)
 key_befores-undo rule schema table gone alive items base plain apart h =
-    undone_from rule schema table gone alive items base base h plain apart (all_true (Agree rule schema table gone base base) (λ item live stays sum own key. refl) items)
+    undone_from rule schema table gone alive items base base h plain apart (all_each (Agree rule schema table gone base base) (λ item live stays sum own key. refl) items)

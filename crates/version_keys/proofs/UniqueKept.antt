@@ -2,6 +2,10 @@
 use Rattle.std.proofs.Common.{◌≡◌, ℕ, ◌+◌, Bool, true, false, not, ◌||◌, ◌-◌, cond, List, [], ◌∷◌, ◌++◌, Option, Some, None, refl, sym, ap, subst, ◌∙◌, bytes_eq}
 use Rattle.std.specs.Prelude.{◌==◌, nat_lt, map, filter, IfSome}
 use Rattle.std.specs.List.{AllByRecursion, list_all}
+use Rattle.std.proofs.lemmas.Bool.{eqb-true, not-true}
+use Rattle.common_lemmas.proofs.Booleans.{and_left, and_right, impossible}
+use Rattle.common_lemmas.proofs.Lists.{all_each, all_weaker}
+use Rattle.common_lemmas.proofs.Numbers.{self_equal}
 use Rattle.column_set.specs.declared.changes.Change.{Change}
 use Rattle.column_set.specs.declared.changes.Change.TheVariants.{Put, Drop, Hold, Add}
 use Rattle.column_set.specs.RecordValues.{RecordFields}
@@ -19,7 +23,6 @@ use Rattle.database_state.specs.Conflicts.{has_key_conflict, has_write_conflict,
 use Rattle.database_state.specs.Step.{applied, every_change, is_at_level, with_changes_at, with_levels, with_transaction}
 use Rattle.database_state.specs.Lawful.{has_free_keys, is_bookmark_of, is_lawful_at, is_lawful_change, is_lawful_kind, is_lawful_put}
 use Rattle.record_changes.specs.Records.{Records, record_after, records_after_items, records_of}
-use Rattle.record_changes.proofs.Tests.{and_left, and_right, impossible, not_true, same_number, self_equal}
 use Rattle.version_history.specs.History.{IsHistory, IsPlaced, without_rows}
 use Rattle.version_history.specs.KeptSteps.{committed_own, is_own_open, kept_after, lowered_own, new_change, undone_where, with_next_number}
 use Rattle.version_history.specs.Readers.{is_standing}
@@ -27,7 +30,7 @@ use Rattle.version_history.proofs.EndEntries.{back, same_definitions}
 use Rattle.version_history.proofs.Ending.{commit_before, commit_change, lower_before, lower_change}
 use Rattle.version_history.proofs.Entries.{history_later}
 use Rattle.version_history.proofs.Keeping.{undone_change}
-use Rattle.version_history.proofs.Lists.{all_both, all_true, all_weaker}
+use Rattle.version_history.proofs.Lists.{all_both}
 use Rattle.version_history.proofs.SeenRecords.{newest_records}
 use Rattle.version_history.proofs.Unhindered.{finds_newest}
 use Rattle.version_keys.specs.UniqueKeys.{BringsKey, HasBookmarkKeys, HasOwnKey, HasUniqueIndexes, HasUniqueKeys, IsSoundIndex, IsUniqueIndex, MeetsKey}
@@ -64,7 +67,7 @@ some_at P Q (Some t) f h = f t refl h
 pub id_of : (tables : List Table) (id : ℕ) (t : Table) → table_with_id tables id ≡ Some t → t.id ≡ id
 id_of [] id t e = cc
 id_of (x ∷ tables) id t e = elim (x.id == id) as (λ b. (x.id == id) ≡ b → cond b (Some x) (table_with_id tables id) ≡ Some t → t.id ≡ id) [
-  | true ↦ λ f g. ap (λ (y : Table). y.id) (sym (same_some x t g)) ∙ same_number x.id id f
+  | true ↦ λ f g. ap (λ (y : Table). y.id) (sym (same_some x t g)) ∙ eqb-true x.id id f
   | false ↦ λ f g. id_of tables id t g
 ] refl e
   where
@@ -160,7 +163,7 @@ brings_none : (state : DatabaseState) (base : Records) (kept : List PastChange) 
 brings_none state base kept label t new table rule keeps own = (
   (
     λ of_table key other brings apart. impossible (sym brings.1 ∙ keeps of_table key brings.0),
-    all_true (λ p. is_standing p ≡ true → MeetsKey rule (schema_of table) table.id p new → is_concurrent label (Some t) p ≡ false)
+    all_each (λ p. is_standing p ≡ true → MeetsKey rule (schema_of table) table.id p new → is_concurrent label (Some t) p ≡ false)
         (λ p live meets. impossible (sym meets.3.2.1 ∙ keeps meets.1 meets.3.0 meets.3.2.0)) kept,
   ),
   λ primary of_table. (own primary of_table, λ key had. own primary of_table key (keeps of_table key had)),
@@ -255,7 +258,7 @@ keys_of_change : HasOneEntry → (base : Records) (dropped kept : List PastChang
 keys_of_change one base dropped kept state label t (Put id bookmark copied values) h e free lawful after table is_table each adds =
     elim (id.0 == table.id) as (λ b. (id.0 == table.id) ≡ b → AllByRecursion (λ rule. is_unique rule ≡ true → NewKeys state base kept label t (new_change label (Put id bookmark copied values) (with_next_number state)) table rule) table.indexes) [
       | true ↦ λ f.
-          let same : id.0 ≡ table.id = same_number id.0 table.id f in
+          let same : id.0 ≡ table.id = eqb-true id.0 table.id f in
           let newest_is : (new_change label (Put id bookmark copied values) (with_next_number state)).before ≡ records_after_items is_standing base kept table.id bookmark =
           ap (λ (r : Records). r id.0 bookmark) (newest_before base dropped kept state h) ∙ ap (λ k. records_after_items is_standing base kept k bookmark) same in
           put_keys one base dropped kept state label t h e table (rows_of (table_with_id (view state label) table.id)) refl bookmark copied values (new_change label (Put id bookmark copied values) (with_next_number state))
@@ -264,14 +267,14 @@ keys_of_change one base dropped kept state label t (Put id bookmark copied value
           ∙ finds_newest base dropped kept state h label t (Put id bookmark copied values) e refl free ∙ ap (λ k. records_of (view state label) k bookmark) same)
           after each
       | false ↦ λ f. other_keys base dropped kept state label t h table (new_change label (Put id bookmark copied values) (with_next_number state)) (ap (λ (r : Records). r id.0 bookmark) (newest_before base dropped kept state h))
-          (all_true (BringsNone (new_change label (Put id bookmark copied values) (with_next_number state)) table) (λ rule of_table. absurd (impossible (sym f ∙ ap (λ k. k == table.id) of_table ∙ self_equal table.id))) table.indexes) each
+          (all_each (BringsNone (new_change label (Put id bookmark copied values) (with_next_number state)) table) (λ rule of_table. absurd (impossible (sym f ∙ ap (λ k. k == table.id) of_table ∙ self_equal table.id))) table.indexes) each
     ] refl
 keys_of_change one base dropped kept state label t (Drop id bookmark) h e free lawful after table is_table each adds =
     other_keys base dropped kept state label t h table (new_change label (Drop id bookmark) (with_next_number state)) (ap (λ (r : Records). r id.0 bookmark) (newest_before base dropped kept state h))
-    (all_true (BringsNone (new_change label (Drop id bookmark) (with_next_number state)) table) (λ rule of_table key had. impossible (ap (yields_key rule (schema_of table) key) (sym after) ∙ had)) table.indexes) each
+    (all_each (BringsNone (new_change label (Drop id bookmark) (with_next_number state)) table) (λ rule of_table key had. impossible (ap (yields_key rule (schema_of table) key) (sym after) ∙ had)) table.indexes) each
 keys_of_change one base dropped kept state label t (Hold id bookmark) h e free lawful after table is_table each adds =
     other_keys base dropped kept state label t h table (new_change label (Hold id bookmark) (with_next_number state)) (ap (λ (r : Records). r id.0 bookmark) (newest_before base dropped kept state h))
-    (all_true (BringsNone (new_change label (Hold id bookmark) (with_next_number state)) table) (λ rule of_table key had. ap (yields_key rule (schema_of table) key) (sym after) ∙ had) table.indexes) each
+    (all_each (BringsNone (new_change label (Hold id bookmark) (with_next_number state)) table) (λ rule of_table key had. ap (yields_key rule (schema_of table) key) (sym after) ∙ had) table.indexes) each
 keys_of_change one base dropped kept state label t (Add id bookmark column amount) h e free lawful after table is_table each adds =
     other_keys base dropped kept state label t h table (new_change label (Add id bookmark column amount) (with_next_number state)) (ap (λ (r : Records). r id.0 bookmark) (newest_before base dropped kept state h))
     (all_weaker (λ rule. id.0 ≡ table.id → adds_to_index rule (Add id bookmark column amount) ≡ false) (BringsNone (new_change label (Add id bookmark column amount) (with_next_number state)) table)
@@ -294,7 +297,7 @@ change_by one base dropped kept state label t change e h sees sees_after lawful 
           λ primary. own_appended rule (schema_of table) table.id base kept new (new_keys.1 primary) (keys.1 primary),
         ),
       )) table.indexes each
-      (keys_of_change one base dropped kept state label t change h e (not_true (has_write_conflict state label change) (and_right _ _ (and_left _ _ lawful))) (and_right _ _ lawful) after table
+      (keys_of_change one base dropped kept state label t change h e (not-true (has_write_conflict state label change) (and_right _ _ (and_left _ _ lawful))) (and_right _ _ lawful) after table
       (ap (table_with_id state.tables) (id_of state.tables id table is) ∙ is)
       (both (λ rule. IsSoundIndex table rule × IsUniqueIndex (transaction_of state) base kept table rule) (λ rule. SeesNoSum rule table.id kept) (IsKnown state base kept table) (λ rule known plain. (known, plain)) table.indexes each (seen_by kept state sees id table is))
       (all_weaker (λ rule. SeesNoSum rule table.id (kept ++ new ∷ [])) (λ rule. changed_table change ≡ table.id → adds_to_index rule change ≡ false)

@@ -2,6 +2,8 @@
 use Rattle.std.proofs.Common.{◌≡◌, inl, ℕ, true, false, not, List, [], ◌∷◌, Option, Some, None, refl, sym, ap, subst, ◌∙◌}
 use Rattle.std.specs.Prelude.{if◌then◌else◌, is_none, IfSome}
 use Rattle.std.specs.List.{AllByRecursion}
+use Rattle.common_lemmas.proofs.Booleans.{and_left, and_right}
+use Rattle.common_lemmas.proofs.Lists.{all_weaker}
 use Rattle.index_derive.specs.declared.rules.IndexRule.{IndexRule}
 use Rattle.index_derive.specs.declared.rules.Schema.{Schema}
 use Rattle.index_derive.specs.declared.log.Entry.{Entry}
@@ -18,12 +20,11 @@ use Rattle.database_state.specs.Step.{applied, state_after}
 use Rattle.database_state.specs.Lawful.{has_next_numbers, has_number, is_lawful, is_lawful_kind}
 use Rattle.record_changes.specs.Records.{Records, after_item, record_after, records_after_items, records_of}
 use Rattle.record_changes.proofs.Folds.{folded-cons, folded-same}
-use Rattle.record_changes.proofs.Tests.{and_left, and_right}
 use Rattle.version_history.specs.History.{IsHistory, IsOpenIn, IsPlaced, IsPlacedBy}
 use Rattle.version_history.specs.KeptSteps.{base_after, dropped_after, kept_after, with_next_number}
 use Rattle.version_history.specs.Readers.{is_standing, was_committed, was_committed_status}
 use Rattle.version_history.proofs.LawfulEntries.{all_outside, keeps_lawful}
-use Rattle.version_history.proofs.Lists.{all_both, all_weaker}
+use Rattle.version_history.proofs.Lists.{all_both}
 use Rattle.version_history.proofs.SeenRecords.{newest_records}
 use Rattle.version_keys.specs.UniqueKeys.{AreUnique, HasBookmarkKeys, HasFreeKeys, HasOwnKey, HasUniqueIndexes, HasUniqueKeys, IsSoundIndex, IsUniqueIndex, IsUniqueTable}
 use Rattle.version_keys.specs.KeySums.{IndexesSeeNoSum, SeesNoSum, adds_to_index}

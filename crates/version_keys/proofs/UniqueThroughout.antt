@@ -2,6 +2,10 @@
 use Rattle.std.proofs.Common.{◌≡◌, ◌⊎◌, inl, inr, ℕ, Bool, true, false, not, ◌&&◌, cond, List, [], ◌∷◌, refl, sym, ap, subst, ◌∙◌, bytes_eq}
 use Rattle.std.specs.Prelude.{◌==◌, filter, fold}
 use Rattle.std.specs.List.{AllByRecursion}
+use Rattle.std.proofs.lemmas.Bool.{and_from, eqb-true}
+use Rattle.common_lemmas.proofs.Booleans.{and_left, and_right, impossible}
+use Rattle.common_lemmas.proofs.Lists.{all_weaker}
+use Rattle.common_lemmas.proofs.Numbers.{same_bytes, self_equal}
 use Rattle.column_set.specs.declared.changes.Change.{Change}
 use Rattle.index_derive.specs.declared.rules.IndexRule.{IndexRule}
 use Rattle.index_derive.specs.declared.rules.Schema.{Schema}
@@ -10,13 +14,12 @@ use Rattle.database_state.specs.State.{PastChange}
 use Rattle.database_state.specs.Conflicts.{yields_key}
 use Rattle.record_changes.specs.Records.{Records, after_item, is_change_of, record_after, records_after_items}
 use Rattle.record_changes.proofs.Commuting.{both_touch}
-use Rattle.record_changes.proofs.Tests.{and_both, and_left, and_right, equal_bytes, impossible, same_bytes, same_number, self_equal}
+use Rattle.record_changes.proofs.Tests.{equal_bytes}
 use Rattle.version_history.specs.History.{EachTwo, HasBefores}
 use Rattle.version_history.specs.Readers.{is_standing}
 use Rattle.version_keys.specs.UniqueKeys.{AreUnique, BringsFreeKeys, BringsKey, SeesEarlier}
 use Rattle.version_keys.specs.KeySums.{HasSameKeys, SeesNoSum, adds_to_index}
 use Rattle.version_keys.proofs.KeySums.{after_same, item_keeps, item_same}
-use Rattle.version_history.proofs.Lists.{all_weaker}
 
 -- ---- a record that the reader has as it was before a change that it does not see
 
@@ -34,7 +37,7 @@ AreOpenOrShut rule schema table test r newest items =
 
 -- the changed record, and any other
 here : (table : ℕ) (bookmark : List ℕ) (c : Change) → changed_table c ≡ table → bytes_eq (changed_bookmark c) bookmark ≡ true → is_change_of table bookmark c ≡ true
-here table bookmark c e f = and_both _ _ (ap (λ k. k == table) e ∙ self_equal table) f
+here table bookmark c e f = and_from _ _ (ap (λ k. k == table) e ∙ self_equal table) f
 
 touched : (r : Records) (item : PastChange) (table : ℕ) (bookmark : List ℕ) (b : Bool) → is_change_of table bookmark item.change ≡ b → after_item r item table bookmark ≡ cond b (record_after item.change (r table bookmark)) (r table bookmark)
 touched r item table bookmark b e = ap (λ x. cond x (record_after item.change (r table bookmark)) (r table bookmark)) e
@@ -47,7 +50,7 @@ open_seen rule schema table test r newest item items seen plain either bookmark 
     → HasSameKeys rule schema (after_item r item table bookmark) (after_item newest item table bookmark) ⊎ AllByRecursion (IsShut rule schema table test (after_item r item) bookmark) items) [
       | true ↦ λ e. elim (either bookmark) [
         | inl same ↦ inl (item_same rule schema r newest item table bookmark plain same)
-        | inr shut ↦ absurd ((shut.0 seen (same_number (changed_table item.change) table (and_left _ _ e))).0 (and_right (changed_table item.change == table) _ e))
+        | inr shut ↦ absurd ((shut.0 seen (eqb-true (changed_table item.change) table (and_left _ _ e))).0 (and_right (changed_table item.change == table) _ e))
       ]
       | false ↦ λ e. elim (either bookmark) [
         | inl same ↦ inl (item_same rule schema r newest item table bookmark plain same)
@@ -84,10 +87,10 @@ open_unseen rule schema table test r newest item items unseen live plain before 
 
     shut : is_sum item.change ≡ false → is_change_of table bookmark item.change ≡ true → HasSameKeys rule schema (r table bookmark) (newest table bookmark) → (q : PastChange) → SeesEarlier rule schema table test item q → IsShut rule schema table test r bookmark q
     shut sum e same q h seen own =
-        let of_table : changed_table item.change ≡ table = same_number (changed_table item.change) table (and_left _ _ e) in
+        let of_table : changed_table item.change ≡ table = eqb-true (changed_table item.change) table (and_left _ _ e) in
         let of_bookmark : changed_bookmark item.change ≡ bookmark = same_bytes (changed_bookmark item.change) bookmark (and_right (changed_table item.change == table) _ e) in
         let was : item.before ≡ newest table bookmark = before sum ∙ ap (λ (k : ℕ). newest k (changed_bookmark item.change)) of_table ∙ ap (newest table) of_bookmark in (
-          (λ hit. never (sym (h live seen (inl (and_both _ _ (both_touch table bookmark item.change q.change e (here table bookmark q.change own hit)) (ap (λ s. not (s && is_sum q.change)) sum)))) ∙ unseen)),
+          (λ hit. never (sym (h live seen (inl (and_from _ _ (both_touch table bookmark item.change q.change e (here table bookmark q.change own hit)) (ap (λ s. not (s && is_sum q.change)) sum)))) ∙ unseen)),
           λ key had brings apart. never (sym (h live seen (inr (of_table, own, ap (bytes_eq (changed_bookmark q.change)) of_bookmark ∙ apart, (key, ap (yields_key rule schema key) was ∙ sym (same key) ∙ had, brings)))) ∙ unseen),
         )
 
@@ -131,7 +134,7 @@ unique_seen rule schema table test r newest item items seen plain before after f
     mine : (own beside : List ℕ) → bytes_eq own beside ≡ false → is_change_of table own item.change ≡ true → is_change_of table beside item.change ≡ false
         → yields_key rule schema key (after_item r item table own) ≡ true → yields_key rule schema key (after_item r item table beside) ≡ true → ⊥
     mine own beside e f g had also =
-        let of_table : changed_table item.change ≡ table = same_number (changed_table item.change) table (and_left _ _ f) in
+        let of_table : changed_table item.change ≡ table = eqb-true (changed_table item.change) table (and_left _ _ f) in
         let of_bookmark : changed_bookmark item.change ≡ own = same_bytes (changed_bookmark item.change) own (and_right (changed_table item.change == table) _ f) in
         let same : HasSameKeys rule schema (r table own) (newest table own) = elim (either own) [ inl s ↦ s | inr shut ↦ absurd ((shut.0 seen of_table).0 (and_right (changed_table item.change == table) _ f)) ] in
         let was : item.before ≡ newest table own = before ∙ ap (λ (k : ℕ). newest k (changed_bookmark item.change)) of_table ∙ ap (newest table) of_bookmark in

@@ -3,6 +3,7 @@ use Rattle.std.proofs.Common.{◌≡◌, ℕ, Bool, true, false, ◌&&◌, ◌||
 use Rattle.std.specs.Prelude.{filter, fold, IfSome}
 use Rattle.std.specs.List.{list_any}
 use Rattle.std.proofs.lemmas.List.Folds.{list_any-append}
+use Rattle.common_lemmas.proofs.Booleans.{impossible}
 use Rattle.column_set.specs.declared.changes.Change.{Change}
 use Rattle.column_set.specs.declared.changes.Change.TheVariants.{Put, Drop, Hold, Add}
 use Rattle.column_set.specs.RecordValues.{RecordFields}
@@ -12,7 +13,6 @@ use Rattle.database_state.specs.Changes.{is_sum}
 use Rattle.database_state.specs.State.{PastChange, undone}
 use Rattle.database_state.specs.Conflicts.{yields_key}
 use Rattle.record_changes.specs.Records.{Records, after_item, is_change_of, record_after, records_after_items}
-use Rattle.record_changes.proofs.Tests.{impossible}
 use Rattle.version_history.specs.Readers.{is_rewrite, is_standing}
 use Rattle.version_keys.specs.Variants.{EachLeaves, is_standing_rewrite, is_variant_key}
 

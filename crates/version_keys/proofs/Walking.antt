@@ -2,7 +2,9 @@
 use Rattle.std.proofs.Common.{◌≡◌, ℕ, Bool, true, false, ◌&&◌, ◌||◌, cond, List, [], ◌∷◌, Option, Some, refl, sym, ap, ◌∙◌, bytes_eq}
 use Rattle.std.specs.Prelude.{filter, find}
 use Rattle.std.specs.List.{list_any}
-use Rattle.std.proofs.lemmas.Bool.{or_left, or_right}
+use Rattle.std.proofs.lemmas.Bool.{and_from, or_left, or_right}
+use Rattle.common_lemmas.proofs.Booleans.{and_left, and_right}
+use Rattle.common_lemmas.proofs.Numbers.{same_bytes}
 use Rattle.column_set.specs.RecordValues.{RecordFields}
 use Rattle.column_set.specs.RecordValues.{lookup_by_key}
 use Rattle.cursor_nav.specs.Places.{Pair, are_sorted}
@@ -15,7 +17,6 @@ use Rattle.database_state.specs.State.{DatabaseState, PastChange, Transaction, t
 use Rattle.database_state.specs.View.{newest, view}
 use Rattle.database_state.specs.Conflicts.{yields_key}
 use Rattle.record_changes.specs.Records.{Records, is_change_of, records_of}
-use Rattle.record_changes.proofs.Tests.{and_both, and_left, and_right, same_bytes}
 use Rattle.version_history.specs.History.{IsHistory}
 use Rattle.version_history.specs.Readers.{before_or, found_record, hides, is_rewrite, is_standing}
 use Rattle.version_keys.specs.KeySums.{SeesNoSum}
@@ -35,7 +36,7 @@ found_is_variant session t table rule schema key bookmark newest (item ∷ kept)
       | true ↦ λ hit g.
           let touched : (is_change_of table bookmark item.change && is_rewrite item.change) ≡ true = and_left _ _ hit in
           let live : is_standing item ≡ true = and_left _ _ (and_right (is_change_of table bookmark item.change && is_rewrite item.change) _ hit) in
-          or_right (yields_key rule schema key newest) _ (or_left (is_standing_rewrite table bookmark item && yields_key rule schema key item.before) _ (and_both _ _ (and_both _ _ touched live) g))
+          or_right (yields_key rule schema key newest) _ (or_left (is_standing_rewrite table bookmark item && yields_key rule schema key item.before) _ (and_from _ _ (and_from _ _ touched live) g))
       | false ↦ λ miss g. later (yields_key rule schema key newest) (is_standing_rewrite table bookmark item && yields_key rule schema key item.before) _ (found_is_variant session t table rule schema key bookmark newest kept g)
     ] refl h
   where

@@ -5,7 +5,10 @@ use Rattle.std.specs.List.{list_any}
 use Rattle.std.specs.Cmp.{unsigned_tied}
 use Rattle.std.specs.Ordering.{is_eq, nat_cmp}
 use Rattle.std.specs.FinMap.Entries.{by_order}
+use Rattle.std.proofs.lemmas.Bool.{eqb-true}
 use Rattle.common_lemmas.proofs.Lists.{filter_swap}
+use Rattle.common_lemmas.proofs.Numbers.{self_equal}
+use Rattle.common_lemmas.proofs.Booleans.{impossible}
 use Rattle.column_set.specs.declared.changes.Change.{Change}
 use Rattle.column_set.specs.declared.changes.Change.TheVariants.{Put, Drop, Hold, Add}
 use Rattle.column_set.specs.declared.columns.Column.{Column}
@@ -13,7 +16,6 @@ use Rattle.column_set.specs.RecordValues.{RecordFields, column_of_id, put_by_num
 use Rattle.database_state.specs.Changes.{is_sum, with_sum}
 use Rattle.database_state.specs.Equivalence.{without_sums}
 use Rattle.record_changes.specs.Records.{record_after}
-use Rattle.record_changes.proofs.Tests.{impossible, same_number, self_equal}
 use Rattle.version_records.specs.SumBefores.{AreSameButForSums}
 
 -- ---- a column that is put and removed
@@ -30,7 +32,7 @@ removed_put k v (e ∷ fields) =
     ] refl
   where
     tied : nat_cmp k e.0 ≡ Equal → (e.0 == k) ≡ true
-    tied p = ap (λ (n : ℕ). e.0 == n) (same_number k e.0 (sym (unsigned_tied k e.0) ∙ ap is_eq p)) ∙ self_equal e.0
+    tied p = ap (λ (n : ℕ). e.0 == n) (eqb-true k e.0 (sym (unsigned_tied k e.0) ∙ ap is_eq p)) ∙ self_equal e.0
 
 -- ---- columns that are cleared
 
@@ -40,7 +42,7 @@ cleared sums fields = fold (λ left column. with_values left column.id.0 []) fie
 cleared_alike : (c : ℕ) (sums : List Column) → list_any (λ s. s.id.0 == c) sums ≡ true → (one other : RecordFields) → remove_by_number c one ≡ remove_by_number c other → cleared sums one ≡ cleared sums other
 cleared_alike c [] h one other same = impossible h
 cleared_alike c (s ∷ sums) h one other same = elim (s.id.0 == c) as (λ b. (s.id.0 == c) ≡ b → (b || list_any (λ s. s.id.0 == c) sums) ≡ true → cleared (s ∷ sums) one ≡ cleared (s ∷ sums) other) [
-  | true ↦ λ e g. ap (cleared sums) (subst (λ (k : ℕ). remove_by_number k one ≡ remove_by_number k other) (sym (same_number s.id.0 c e)) same)
+  | true ↦ λ e g. ap (cleared sums) (subst (λ (k : ℕ). remove_by_number k one ≡ remove_by_number k other) (sym (eqb-true s.id.0 c e)) same)
   | false ↦ λ e g. cleared_alike c sums g (remove_by_number s.id.0 one) (remove_by_number s.id.0 other)
       (filter_swap (λ x. not (x.0 == c)) (λ x. not (x.0 == s.id.0)) one ∙ ap (remove_by_number s.id.0) same ∙ sym (filter_swap (λ x. not (x.0 == c)) (λ x. not (x.0 == s.id.0)) other))
 ] refl h

@@ -2,6 +2,10 @@
 use Rattle.std.proofs.Common.{◌≡◌, ℕ, ◌+◌, ◌-◌, Bool, true, false, cond, List, [], ◌∷◌, Option, Some, None, refl, sym, ap, subst, ◌∙◌}
 use Rattle.std.specs.Prelude.{ℤ, ◌==◌, filter, fold, map, if◌then◌else◌, nat_lt, option_map, IfSome}
 use Rattle.std.specs.List.{AllByRecursion}
+use Rattle.std.proofs.lemmas.Bool.{eqb-true}
+use Rattle.common_lemmas.proofs.Booleans.{and_left, and_right, impossible}
+use Rattle.common_lemmas.proofs.Lists.{all_append, all_map, all_weaker}
+use Rattle.common_lemmas.proofs.Numbers.{same_bytes}
 use Rattle.column_set.specs.declared.changes.Change.{Change}
 use Rattle.column_set.specs.declared.changes.Change.TheVariants.{Put, Drop, Hold, Add}
 use Rattle.column_set.specs.RecordValues.{RecordFields}
@@ -16,14 +20,12 @@ use Rattle.database_state.specs.Step.{applied, every_change, is_at_level, with_c
 use Rattle.database_state.specs.Lawful.{is_lawful_at, is_lawful_put}
 use Rattle.record_changes.specs.Records.{Records, after_item, is_change_of, record_after, records_after_items, records_of}
 use Rattle.record_changes.proofs.Folds.{folded-cons}
-use Rattle.record_changes.proofs.Tests.{and_left, and_right, impossible, same_bytes, same_number}
 use Rattle.version_history.specs.History.{IsHistory, IsPlaced, without_rows}
 use Rattle.version_history.specs.KeptSteps.{committed_own, is_own_open, kept_after, lowered_own, new_change, undone_where, with_next_number}
 use Rattle.version_history.specs.Readers.{is_standing, sees, was_committed}
 use Rattle.version_history.proofs.Ending.{commit_before, commit_change, lower_before, lower_change}
 use Rattle.version_history.proofs.Entries.{history_later}
 use Rattle.version_history.proofs.Keeping.{some_map, undone_change}
-use Rattle.version_history.proofs.Lists.{all_append, all_map, all_weaker}
 use Rattle.version_history.proofs.SeenRecords.{newest_records}
 use Rattle.version_history.proofs.Viewing.{view_records}
 use Rattle.version_keys.specs.Variants.{HasNoSums}
@@ -107,10 +109,10 @@ leaves_each P number tables id table found bookmark [] keeps afters h = tt
 leaves_each P number tables id table found bookmark (item ∷ items) keeps afters h = (
   (
     λ mine. subst (λ (at : List ℕ). SumKeeps (P number (schema_of table) at) item.change) (same_bytes (changed_bookmark item.change) bookmark (and_right (changed_table item.change == id) _ mine))
-        (at_its (λ t. SumKeeps (P number (schema_of t) (changed_bookmark item.change)) item.change) tables id table item found (same_number (changed_table item.change) id (and_left _ _ mine)) keeps.0),
+        (at_its (λ t. SumKeeps (P number (schema_of t) (changed_bookmark item.change)) item.change) tables id table item found (eqb-true (changed_table item.change) id (and_left _ _ mine)) keeps.0),
     afters.0,
     λ mine. subst (λ (at : List ℕ). IfSome item.after (P number (schema_of table) at)) (same_bytes (changed_bookmark item.change) bookmark (and_right (changed_table item.change == id) _ mine))
-        (at_its (λ t. HasBoth P number (schema_of t) item) tables id table item found (same_number (changed_table item.change) id (and_left _ _ mine)) h.0).1,
+        (at_its (λ t. HasBoth P number (schema_of t) item) tables id table item found (eqb-true (changed_table item.change) id (and_left _ _ mine)) h.0).1,
   ),
   leaves_each P number tables id table found bookmark items keeps.1 afters.1 h.1,
 )

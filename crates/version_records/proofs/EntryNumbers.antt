@@ -2,8 +2,9 @@
 use Rattle.std.proofs.Common.{◌≡◌, ℕ, zero, suc, ◌+◌, ◌*◌, ◌/◌, ◌<◌, ◌≤◌, Bool, true, false, ◌&&◌, List, length, refl, sym, arith}
 use Rattle.std.specs.Prelude.{◌==◌, ◌^◌, nat_le, reverse}
 use Rattle.std.proofs.lemmas.Bool.Decides.{nat_tests}
+use Rattle.std.proofs.lemmas.Bool.{and_from}
+use Rattle.common_lemmas.proofs.Booleans.{and_left, and_right}
 use Rattle.jet_base.specs.ColumnType.{big_endian, little_endian, from_little_endian}
-use Rattle.record_changes.proofs.Tests.{and_both, and_left, and_right}
 use Rattle.version_records.specs.Bookmarks.{is_entry_number}
 
 within : (width n : ℕ) → from_little_endian (little_endian width n) ≤ n
@@ -47,7 +48,7 @@ entry_number-later number later less small =
 
 -- what was a number of an entry stays one
 pub entry_number-stays : (number : ℕ) (bookmark : List ℕ) → is_entry_number number bookmark ≡ true → is_entry_number (number + 1) bookmark ≡ true
-entry_number-stays number bookmark h = and_both _ _ (and_left (length bookmark == 8) _ h) (more (from_little_endian (reverse bookmark)) number (and_right (length bookmark == 8) _ h))
+entry_number-stays number bookmark h = and_from _ _ (and_left (length bookmark == 8) _ h) (more (from_little_endian (reverse bookmark)) number (and_right (length bookmark == 8) _ h))
   where
     more : (a n : ℕ) → nat_le a n ≡ true → nat_le a (n + 1) ≡ true
     more a n e = grind (arith, nat_tests)

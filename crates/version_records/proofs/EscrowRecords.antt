@@ -5,6 +5,7 @@ use Rattle.std.specs.List.{AllByRecursion, list_all}
 use Rattle.std.specs.Ordering.{nat_cmp}
 use Rattle.std.specs.FinMap.Entries.{is_sorted-where_key}
 use Rattle.std.proofs.lemmas.Bool.Decides.{nat_tests}
+use Rattle.std.proofs.lemmas.Bool.{eqb-true}
 use Rattle.column_set.specs.declared.changes.Change.{Change}
 use Rattle.column_set.specs.declared.changes.Change.TheVariants.{Put, Drop, Hold, Add}
 use Rattle.column_set.specs.declared.columns.Column.{Column}
@@ -25,15 +26,16 @@ use Rattle.database_state.specs.Step.{applied, every_change, is_at_level, state_
 use Rattle.database_state.specs.Lawful.{has_number, is_lawful, is_lawful_at, is_lawful_kind, is_lawful_put, keeps_escrow}
 use Rattle.database_state.proofs.Columns.{list_all-columns_with}
 use Rattle.common_lemmas.proofs.Found.{all_found, found_passes}
-use Rattle.common_lemmas.proofs.Lists.{all_filtered}
+use Rattle.common_lemmas.proofs.Lists.{all_append, all_filtered, all_map, all_weaker}
+use Rattle.common_lemmas.proofs.Booleans.{and_left, and_right, impossible}
+use Rattle.common_lemmas.proofs.Numbers.{same_bytes}
 use Rattle.record_changes.specs.Records.{Records, after_item, records_of}
-use Rattle.record_changes.proofs.Tests.{and_left, and_right, and_second, impossible, same_bytes, same_number}
+use Rattle.record_changes.proofs.Tests.{and_second}
 use Rattle.version_history.specs.History.{IsHistory, IsPlaced, without_rows}
 use Rattle.version_history.specs.KeptSteps.{base_after, committed_own, dropped_after, is_own_open, kept_after, lowered_own, new_change, undone_where, with_next_number}
 use Rattle.version_history.specs.Readers.{is_standing}
 use Rattle.version_history.proofs.EndEntries.{back}
 use Rattle.version_history.proofs.LawfulEntries.{keeps_lawful}
-use Rattle.version_history.proofs.Lists.{all_append, all_map, all_weaker}
 use Rattle.version_sums.specs.EscrowNumbers.{IsOfItsType, holds_number, is_number, is_one_number}
 use Rattle.version_sums.proofs.Puts.{found_has}
 use Rattle.version_sums.proofs.VeryRecords.{one_value, sum_holds, sum_rises}
@@ -72,7 +74,7 @@ is_escrow found = elim found [ Some column ↦ column.escrow | None ↦ false ]
 
 found_all : (p : Column → Bool) (columns : List Column) (id : ℕ) (c : Column) → list_all p columns ≡ true → column_of_id columns id ≡ Some c → (p c ≡ true) × (c.id.0 ≡ id)
 found_all p columns id c h e =
-    let at = λ (x : Column). x.id.0 == id in (all_found p at columns c h e, same_number c.id.0 id (found_passes at columns c e))
+    let at = λ (x : Column). x.id.0 == id in (all_found p at columns c h e, eqb-true c.id.0 id (found_passes at columns c e))
 
 abbrev fits_at : List Column → ℕ × List (List ℕ) → Bool
 fits_at columns field = elim (column_of_id columns field.0) [ Some column ↦ values_fit column field.1 | None ↦ false ]
@@ -187,7 +189,7 @@ gone : (column id : ℕ) (columns : List Column) → (id == column) ≡ true →
 gone column id [] e = refl
 gone column id (c ∷ columns) e = elim (c.id.0 == column) as (λ b. (c.id.0 == column) ≡ b → column_of_id (cond (not b) (c ∷ filter (λ c. not (c.id.0 == column)) columns) (filter (λ c. not (c.id.0 == column)) columns)) id ≡ None) [
   | true ↦ λ f. gone column id columns e
-  | false ↦ λ f. ap (λ b. cond b (Some c) (column_of_id (filter (λ c. not (c.id.0 == column)) columns) id)) (ap (λ (k : ℕ). c.id.0 == k) (same_number id column e) ∙ f) ∙ gone column id columns e
+  | false ↦ λ f. ap (λ b. cond b (Some c) (column_of_id (filter (λ c. not (c.id.0 == column)) columns) id)) (ap (λ (k : ℕ). c.id.0 == k) (eqb-true id column e) ∙ f) ∙ gone column id columns e
 ] refl
 
 numbers_without : (column : ℕ) (table : Table) → Numbers table → Numbers (without_column column table)

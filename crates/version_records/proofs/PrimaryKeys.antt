@@ -2,6 +2,7 @@
 use Rattle.std.proofs.Common.{◌≡◌, Bool, true, false, not, ◌&&◌, ◌||◌, List, [], ◌∷◌, Ok, Err, refl, sym, ap, ◌∙◌, bytes_eq}
 use Rattle.std.specs.Prelude.{flat_map}
 use Rattle.std.specs.List.{AllByRecursion, list_any}
+use Rattle.common_lemmas.proofs.Booleans.{impossible}
 use Rattle.jet_base.specs.declared.replies.Jet.TheVariants as jet
 use Rattle.column_set.specs.RecordValues.{RecordFields, has_value}
 use Rattle.key_normal.specs.KeyBytes.{is_cut}
@@ -11,7 +12,7 @@ use Rattle.index_derive.specs.Entries.{KeyTruncated, NullKeyDisallowed, entries,
 use Rattle.index_derive.specs.Primary.{first_values}
 use Rattle.database_state.specs.Refusals.{Refusals}
 use Rattle.database_state.specs.Puts.{is_cut_refusal, is_null_refusal}
-use Rattle.record_changes.proofs.Tests.{equal_bytes, impossible}
+use Rattle.record_changes.proofs.Tests.{equal_bytes}
 use Rattle.version_keys.proofs.BookmarkKeys.{HasOneEntry}
 
 abbrev pub AreUnrefused : Refusals → Type 0

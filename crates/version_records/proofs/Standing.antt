@@ -25,13 +25,11 @@ use Rattle.database_state.specs.View.{view}
 use Rattle.database_state.specs.Step.{applied, state_after}
 use Rattle.database_state.specs.Lawful.{has_number, is_bookmark_of, is_indexable, is_lawful, is_lawful_kind, is_lawful_put}
 use Rattle.record_changes.specs.Records.{Records, after_item, records_of}
-use Rattle.record_changes.proofs.Tests.{and_left, and_right, impossible, same_bytes}
 use Rattle.version_history.specs.History.{IsHistory, IsPlaced}
 use Rattle.version_history.specs.KeptSteps.{base_after, dropped_after, kept_after, new_change, with_next_number}
 use Rattle.version_history.specs.Readers.{is_standing}
 use Rattle.version_history.proofs.EndEntries.{back}
 use Rattle.version_history.proofs.LawfulEntries.{keeps_lawful}
-use Rattle.version_history.proofs.Lists.{all_weaker}
 use Rattle.version_keys.specs.UniqueKeys.{HasUniqueIndexes, HasUniqueKeys, IsSoundIndex, IsUniqueIndex}
 use Rattle.version_keys.specs.KeySums.{IndexesSeeNoSum, SeesNoSum, adds_to_index}
 use Rattle.version_keys.proofs.KeySums.{keys_with_sum}
@@ -46,6 +44,9 @@ use Rattle.version_records.specs.EachRecord.{EachRecordHas}
 use Rattle.version_records.proofs.EachRecord.{GoesOn, PutsHave, RowsHave, SumKeeps, SumsKeep, any_put, each_begun, each_by_kind, each_changed, each_cleaned_where, each_row, each_viewed}
 use Rattle.version_records.proofs.EntryNumbers.{entry_number-own, entry_number-stays}
 use Rattle.common_lemmas.proofs.Found.{found_passes, of_found}
+use Rattle.common_lemmas.proofs.Booleans.{and_left, and_right, impossible}
+use Rattle.common_lemmas.proofs.Lists.{all_weaker}
+use Rattle.common_lemmas.proofs.Numbers.{same_bytes}
 use Rattle.version_records.proofs.PrimaryKeys.{each_null, primary_listed}
 use Rattle.version_records.proofs.Touching.{touched_after}
 

@@ -2,6 +2,10 @@
 use Rattle.std.proofs.Common.{◌≡◌, ℕ, ◌+◌, ◌≤◌, Bool, true, false, not, ◌&&◌, ◌||◌, cond, List, [], ◌∷◌, Option, Some, None, refl, sym, ap, subst, ◌∙◌, arith, bytes_eq}
 use Rattle.std.specs.Prelude.{ℤ, ◌==◌, if◌then◌else◌, length, nat_le, nat_lt, sum_by, IfSome}
 use Rattle.std.specs.List.{AllByRecursion, list_all}
+use Rattle.std.proofs.lemmas.Bool.{and_from, eqb-true}
+use Rattle.common_lemmas.proofs.Booleans.{and_left, and_right}
+use Rattle.common_lemmas.proofs.Lists.{all_stronger, all_weaker}
+use Rattle.common_lemmas.proofs.Numbers.{same_bytes}
 use Rattle.jet_base.specs.declared.words.ColType.{ColType}
 use Rattle.jet_base.specs.declared.words.ColType.TheVariants as type
 use Rattle.jet_base.specs.ColumnType.{largest_value}
@@ -21,14 +25,13 @@ use Rattle.database_state.specs.View.{view}
 use Rattle.database_state.specs.Step.{applied, state_after}
 use Rattle.database_state.specs.Lawful.{has_number, is_lawful, is_lawful_at, is_lawful_kind}
 use Rattle.record_changes.specs.Records.{Records, after_item, records_of}
-use Rattle.record_changes.proofs.Tests.{and_both, and_left, and_right, same_bytes, same_number}
 use Rattle.version_history.specs.History.{IsHistory, IsPlaced}
 use Rattle.version_history.specs.KeptSteps.{base_after, dropped_after, kept_after, new_change, with_next_number}
 use Rattle.version_history.specs.Readers.{is_standing}
 use Rattle.version_history.proofs.EndEntries.{back}
 use Rattle.version_history.proofs.Keeping.{some_map}
 use Rattle.version_history.proofs.LawfulEntries.{keeps_lawful}
-use Rattle.version_history.proofs.Lists.{all_both, all_weaker}
+use Rattle.version_history.proofs.Lists.{all_both}
 use Rattle.version_sums.specs.EscrowNumbers.{ColumnsRise, holds_number, is_number}
 use Rattle.version_sums.proofs.Puts.{all_put, found_has, sum_put}
 use Rattle.version_sums.proofs.StoredSums.{values_seen}
@@ -38,7 +41,7 @@ use Rattle.version_records.specs.RecordNumbers.{AddsToEscrow, HasEscrowNumbers, 
 use Rattle.version_records.specs.StoredRecords.{IsStored, leaves_records_short}
 use Rattle.version_records.proofs.EachRecord.{AtChange, AtFirst, GoesOn, PutHas, RowsHave, SumKeeps, SumsKeep, each_begun, each_by_kind, each_changed, each_cleaned_where, each_row, each_viewed}
 use Rattle.version_records.proofs.EscrowRecords.{AtSum, put_numbers, sum_keeps}
-use Rattle.version_records.proofs.Storing.{all_stronger, step_stores, stored_goes_on, stored_puts}
+use Rattle.version_records.proofs.Storing.{step_stores, stored_goes_on, stored_puts}
 
 -- ---- a sum leaves the size and the fit of a record
 
@@ -46,7 +49,7 @@ size_one : (x y : List ℕ) → length x ≡ length y → size_of_values (x ∷ 
 size_one x y e = ap (λ (n : ℕ). sum_by (λ (m : ℕ). 5 + size_of_length m) (n ∷ [])) e
 
 other_length : (x y : List ℕ) → length x ≡ 4 → (length y == 1) ≡ true → bytes_eq x y ≡ true → ⊥
-other_length x y four one same = apart (length x) four (ap length (same_bytes x y same) ∙ same_number (length y) 1 one)
+other_length x y four one same = apart (length x) four (ap length (same_bytes x y same) ∙ eqb-true (length y) 1 one)
   where
     apart : (n : ℕ) → n ≡ 4 → n ≡ 1 → ⊥
     apart n e f = omega (arith, e, f)
@@ -74,11 +77,11 @@ fits_four type.LongText x y four e h = ap (λ (n : ℕ). nat_le n (largest_value
 column_fits : (o : Option Column) (x y : List ℕ) → length x ≡ 4 → length x ≡ length y → (elim o [ Some column ↦ values_fit column (x ∷ []) | None ↦ false ]) ≡ true → (elim o [ Some column ↦ values_fit column (y ∷ []) | None ↦ false ]) ≡ true
 column_fits None x y four e h = h
 column_fits (Some column) x y four e h =
-    and_both (column.multi || nat_le 1 1) (value_fits column.kind y && true) (and_left (column.multi || nat_le 1 1) (value_fits column.kind x && true) h)
-    (and_both (value_fits column.kind y) true (fits_four column.kind x y four e (and_left (value_fits column.kind x) true (and_right (column.multi || nat_le 1 1) (value_fits column.kind x && true) h))) refl)
+    and_from (column.multi || nat_le 1 1) (value_fits column.kind y && true) (and_left (column.multi || nat_le 1 1) (value_fits column.kind x && true) h)
+    (and_from (value_fits column.kind y) true (fits_four column.kind x y four e (and_left (value_fits column.kind x) true (and_right (column.multi || nat_le 1 1) (value_fits column.kind x && true) h))) refl)
 
 four_of : (bytes : List ℕ) → is_number bytes ≡ true → length bytes ≡ 4
-four_of bytes e = same_number (length bytes) 4 (and_left (length bytes == 4) (list_all (λ b. nat_lt b 256) bytes) e)
+four_of bytes e = eqb-true (length bytes) 4 (and_left (length bytes == 4) (list_all (λ b. nat_lt b 256) bytes) e)
 
 -- a record that is stored, and holds numbers in its escrow columns
 abbrev pub IsStoredWithNumbers : ℕ → Schema → List ℕ → RecordFields → Type 0
@@ -86,7 +89,7 @@ IsStoredWithNumbers number schema bookmark values = IsStored number schema bookm
 
 pub sum_fits : (schema : Schema) (column : ℕ) (amount : ℤ) (values : RecordFields) → ColumnsRise values → holds_number values column ≡ true → record_fits schema.columns values ≡ true → record_fits schema.columns (with_sum values column amount) ≡ true
 sum_fits schema column amount values rise held h =
-    and_both (list_all fits (with_sum values column amount)) (list_all (λ c. not (is_kept_column c) || has_value (with_sum values column amount) c.id.0) schema.columns)
+    and_from (list_all fits (with_sum values column amount)) (list_all (λ c. not (is_kept_column c) || has_value (with_sum values column amount) c.id.0) schema.columns)
     (all_put fits column (new ∷ []) (old ∷ []) (column_fits (column_of_id schema.columns column) old new four_old (four_old ∙ sym four_new) (found_has fits column (old ∷ []) values every one.0)) values rise one.0 every)
     (all_stronger (λ c. not (is_kept_column c) || has_value values c.id.0) (λ c. not (is_kept_column c) || has_value (with_sum values column amount) c.id.0) (λ c had. stays (is_kept_column c) c.id.0 had) schema.columns
     (and_right (list_all fits values) (list_all (λ c. not (is_kept_column c) || has_value values c.id.0) schema.columns) h))

@@ -4,6 +4,9 @@ use Rattle.std.specs.Prelude.{◌==◌, filter, is_none, is_some, length, nat_le
 use Rattle.std.specs.List.{list_all}
 use Rattle.std.proofs.lemmas.Bool.Decides.{nat_tests}
 use Rattle.std.proofs.lemmas.List.Filters.{sum_by-filter_both}
+use Rattle.std.proofs.lemmas.Bool.{and_from, not-true}
+use Rattle.common_lemmas.proofs.Booleans.{and_left, and_right, impossible}
+use Rattle.common_lemmas.proofs.Lists.{all_stronger}
 use Rattle.column_set.specs.declared.columns.Column.{Column}
 use Rattle.column_set.specs.RecordValues.{RecordFields, column_of_id, has_value, is_kept_column, record_fits, record_size, remove_by_number, size_of_values, values_fit, with_values}
 use Rattle.index_derive.specs.declared.log.Entry.{Entry}
@@ -19,7 +22,7 @@ use Rattle.database_state.specs.Step.{applied, state_after}
 use Rattle.database_state.specs.Lawful.{has_number, is_lawful, is_lawful_kind}
 use Rattle.database_state.proofs.Columns.{column_of_id-columns_with, list_all-columns_with}
 use Rattle.record_changes.specs.Records.{Records}
-use Rattle.record_changes.proofs.Tests.{and_both, and_left, and_right, and_second, impossible, not_true}
+use Rattle.record_changes.proofs.Tests.{and_second}
 use Rattle.version_history.specs.History.{IsHistory, IsPlaced}
 use Rattle.version_history.specs.KeptSteps.{base_after, dropped_after, kept_after, new_change, with_next_number}
 use Rattle.version_history.proofs.EndEntries.{back}
@@ -47,14 +50,10 @@ stored_puts state label table rows bookmark copied values found had lawful = par
 
 -- ---- tests of lists
 
-pub all_stronger : {X : Type 0} (p q : X → Bool) → ((x : X) → p x ≡ true → q x ≡ true) → (xs : List X) → list_all p xs ≡ true → list_all q xs ≡ true
-all_stronger p q f [] h = refl
-all_stronger p q f (x ∷ xs) h = and_both _ _ (f x (and_left _ _ h)) (all_stronger p q f xs (and_right (p x) _ h))
-
 all_left : {X : Type 0} (p q left : X → Bool) → ((x : X) → left x ≡ true → p x ≡ true → q x ≡ true) → (xs : List X) → list_all p xs ≡ true → list_all q (filter left xs) ≡ true
 all_left p q left f [] h = refl
 all_left p q left f (x ∷ xs) h = elim (left x) as (λ b. left x ≡ b → list_all q (cond b (x ∷ filter left xs) (filter left xs)) ≡ true) [
-  | true ↦ λ e. and_both _ _ (f x e (and_left _ _ h)) (all_left p q left f xs (and_right (p x) _ h))
+  | true ↦ λ e. and_from _ _ (f x e (and_left _ _ h)) (all_left p q left f xs (and_right (p x) _ h))
   | false ↦ λ e. all_left p q left f xs (and_right (p x) _ h)
 ] refl
 
@@ -66,7 +65,7 @@ column_there (Some column) values h = refl
 
 fits_with : (column : Column) (columns : List Column) (values : RecordFields) → is_kept_column column ≡ false → record_fits columns values ≡ true → record_fits (columns_with column columns) values ≡ true
 fits_with column columns values plain h =
-    and_both _ _
+    and_from _ _
     (all_stronger (λ field. elim (column_of_id columns field.0) [ Some c ↦ values_fit c field.1 | None ↦ false ]) (λ field. elim (column_of_id (columns_with column columns) field.0) [ Some c ↦ values_fit c field.1 | None ↦ false ])
     (λ field e. ap (λ (o : Option Column). elim o [ Some c ↦ values_fit c field.1 | None ↦ false ]) (column_of_id-columns_with column field.0 columns (column_there (column_of_id columns field.0) field.1 e)) ∙ e) values (and_left _ _ h))
     (list_all-columns_with (λ c. not (is_kept_column c) || has_value values c.id.0) column columns (and_right (list_all (λ field. elim (column_of_id columns field.0) [ Some c ↦ values_fit c field.1 | None ↦ false ]) values) _ h)
@@ -74,11 +73,11 @@ fits_with column columns values plain h =
 
 fits_without : (column : ℕ) (table : Table) (values : RecordFields) → record_fits table.columns values ≡ true → record_fits (without_column column table).columns (remove_by_number column values) ≡ true
 fits_without column table values h =
-    and_both _ _
+    and_from _ _
     (all_left (λ field. elim (column_of_id table.columns field.0) [ Some c ↦ values_fit c field.1 | None ↦ false ]) (λ field. elim (column_of_id (without_column column table).columns field.0) [ Some c ↦ values_fit c field.1 | None ↦ false ]) (λ field. not (field.0 == column))
-    (λ field left e. ap (λ (o : Option Column). elim o [ Some c ↦ values_fit c field.1 | None ↦ false ]) (other_column column table field.0 (not_true (field.0 == column) left)) ∙ e) values (and_left _ _ h))
+    (λ field left e. ap (λ (o : Option Column). elim o [ Some c ↦ values_fit c field.1 | None ↦ false ]) (other_column column table field.0 (not-true (field.0 == column) left)) ∙ e) values (and_left _ _ h))
     (all_left (λ c. not (is_kept_column c) || has_value values c.id.0) (λ c. not (is_kept_column c) || has_value (remove_by_number column values) c.id.0) (λ c. not (c.id.0 == column))
-    (λ c left e. ap (λ (v : Option (List (List ℕ))). not (is_kept_column c) || nat_lt 0 (length (unwrap_or v []))) (other_values values column c.id.0 (not_true (c.id.0 == column) left)) ∙ e) table.columns
+    (λ c left e. ap (λ (v : Option (List (List ℕ))). not (is_kept_column c) || nat_lt 0 (length (unwrap_or v []))) (other_values values column c.id.0 (not-true (c.id.0 == column) left)) ∙ e) table.columns
     (and_right (list_all (λ field. elim (column_of_id table.columns field.0) [ Some c ↦ values_fit c field.1 | None ↦ false ]) values) _ h))
 
 smaller : (column : ℕ) (values : RecordFields) → record_size values ≤ 1700 → record_size (remove_by_number column values) ≤ 1700

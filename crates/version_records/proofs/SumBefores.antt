@@ -2,6 +2,9 @@
 use Rattle.std.proofs.Common.{◌≡◌, ℕ, ◌+◌, Bool, true, false, not, ◌&&◌, cond, List, [], ◌∷◌, ◌++◌, Option, Some, None, refl, sym, ap, subst, ◌∙◌, bytes_eq}
 use Rattle.std.specs.Prelude.{◌==◌, if◌then◌else◌, map, option_map, IfSome}
 use Rattle.std.specs.List.{AllByRecursion}
+use Rattle.std.proofs.lemmas.Bool.{eqb-true}
+use Rattle.common_lemmas.proofs.Booleans.{and_left, impossible}
+use Rattle.common_lemmas.proofs.Lists.{all_each, all_weaker}
 use Rattle.column_set.specs.declared.changes.Change.{Change}
 use Rattle.column_set.specs.declared.changes.Change.TheVariants.{Put, Drop, Hold, Add}
 use Rattle.column_set.specs.declared.columns.Column.{Column}
@@ -16,7 +19,6 @@ use Rattle.database_state.specs.Conflicts.{collide}
 use Rattle.database_state.specs.Step.{applied, every_change, is_at_level, state_after}
 use Rattle.record_changes.specs.Records.{Records, after_item, is_change_of, record_after, records_after, records_after_items, records_of}
 use Rattle.record_changes.proofs.Folds.{folded-cons}
-use Rattle.record_changes.proofs.Tests.{and_left, impossible, same_number}
 use Rattle.version_history.specs.History.{EachTwo, IsHistory, IsPlaced, LevelsRise}
 use Rattle.version_history.specs.KeptSteps.{base_after, committed_own, is_own_open, kept_after, lowered_own, new_change, undone_where, with_next_number}
 use Rattle.version_history.specs.Readers.{is_standing}
@@ -24,7 +26,7 @@ use Rattle.version_history.proofs.Befores.{GoesApart, at}
 use Rattle.version_history.proofs.Ending.{commit_before, commit_change, commit_live, lower_before, lower_change, lower_status}
 use Rattle.version_history.proofs.Entries.{at_innermost, history_later}
 use Rattle.version_history.proofs.Keeping.{goes_apart, open_live}
-use Rattle.version_history.proofs.Lists.{all_both, all_true, all_weaker}
+use Rattle.version_history.proofs.Lists.{all_both}
 use Rattle.version_history.proofs.SeenRecords.{newest_records}
 use Rattle.version_keys.proofs.KeysOfEntries.{changes_records}
 use Rattle.version_keys.proofs.UniqueKept.{id_of, same_defined, same_tables, some_at}
@@ -43,7 +45,7 @@ item_same : (columns : List Column) (r s : Records) (item : PastChange) (table :
 item_same columns r s item table bookmark plain same =
     elim (is_change_of table bookmark item.change) as (λ b. is_change_of table bookmark item.change ≡ b
     → AreSameButForSums columns (cond b (record_after item.change (r table bookmark)) (r table bookmark)) (cond b (record_after item.change (s table bookmark)) (s table bookmark))) [
-      | true ↦ λ e. after_same columns item.change (plain (same_number (changed_table item.change) table (and_left _ _ e))) (r table bookmark) (s table bookmark) same
+      | true ↦ λ e. after_same columns item.change (plain (eqb-true (changed_table item.change) table (and_left _ _ e))) (r table bookmark) (s table bookmark) same
       | false ↦ λ e. same
     ] refl
 
@@ -51,7 +53,7 @@ item_keeps : (columns : List Column) (r : Records) (item : PastChange) (table : 
     → AreSameButForSums columns (after_item r item table bookmark) (r table bookmark)
 item_keeps columns r item table bookmark sum plain =
     elim (is_change_of table bookmark item.change) as (λ b. is_change_of table bookmark item.change ≡ b → AreSameButForSums columns (cond b (record_after item.change (r table bookmark)) (r table bookmark)) (r table bookmark)) [
-      | true ↦ λ e. sum_same columns item.change (plain (same_number (changed_table item.change) table (and_left _ _ e))) sum (r table bookmark)
+      | true ↦ λ e. sum_same columns item.change (plain (eqb-true (changed_table item.change) table (and_left _ _ e))) sum (r table bookmark)
       | false ↦ λ e. refl
     ] refl
 
@@ -133,8 +135,8 @@ befores-undo : (columns : List Column) (table : ℕ) (base : Records) (dropped k
     → AreOfEscrow columns table kept → HasSumBefores columns table base kept → HasSumBefores columns table base (map (undone_where (is_own_open label test)) kept)
 befores-undo columns table base dropped kept state h label test next plain befores =
     undone_from columns table (is_own_open label test) (λ item e. open_live item.status (and_left _ _ (and_left _ _ e))) kept base base befores plain
-    (goes_apart state.number state.tables (transaction_of state) base kept label test (λ item. Unit {0}) (all_true (λ item. Unit {0}) (λ item. tt) kept) (λ p q e own placed each rise less. next p q e own placed rise) h.keeps)
-    (all_true (Agree columns table (is_own_open label test) base base) (λ item live stays sum own. refl) kept)
+    (goes_apart state.number state.tables (transaction_of state) base kept label test (λ item. Unit {0}) (all_each (λ item. Unit {0}) (λ item. tt) kept) (λ p q e own placed each rise less. next p q e own placed rise) h.keeps)
+    (all_each (Agree columns table (is_own_open label test) base base) (λ item live stays sum own. refl) kept)
 
 -- ---- entries that change no record
 

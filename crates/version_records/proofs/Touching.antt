@@ -2,7 +2,9 @@
 use Rattle.std.proofs.Common.{◌≡◌, ℕ, ◌+◌, true, false, ◌||◌, List, [], ◌∷◌, Option, Some, None, refl, sym, ap, ◌∙◌}
 use Rattle.std.specs.Prelude.{is_some, map, nat_lt}
 use Rattle.std.specs.List.{AllByRecursion}
-use Rattle.std.proofs.lemmas.Bool.{or_left, or_right}
+use Rattle.std.proofs.lemmas.Bool.{not-true, or_left, or_right}
+use Rattle.common_lemmas.proofs.Booleans.{and_left, and_right, impossible}
+use Rattle.common_lemmas.proofs.Lists.{all_append, all_map, all_weaker}
 use Rattle.column_set.specs.declared.changes.Change.{Change}
 use Rattle.column_set.specs.declared.changes.Change.TheVariants.{Put, Drop, Hold, Add}
 use Rattle.column_set.specs.RecordValues.{RecordFields}
@@ -16,12 +18,10 @@ use Rattle.database_state.specs.Conflicts.{has_write_conflict}
 use Rattle.database_state.specs.Step.{applied, every_change, is_at_level}
 use Rattle.database_state.specs.Lawful.{is_lawful_at, is_lawful_change, is_lawful_kind}
 use Rattle.record_changes.specs.Records.{Records, record_after, records_of}
-use Rattle.record_changes.proofs.Tests.{and_left, and_right, impossible, not_true}
 use Rattle.version_history.specs.History.{IsHistory, IsPlaced}
 use Rattle.version_history.specs.KeptSteps.{base_after, committed_own, dropped_after, is_own_open, kept_after, lowered_own, new_change, undone_where, with_next_number}
 use Rattle.version_history.proofs.EndEntries.{back}
 use Rattle.version_history.proofs.Entries.{history_later}
-use Rattle.version_history.proofs.Lists.{all_append, all_map, all_weaker}
 use Rattle.version_history.proofs.SeenRecords.{newest_records}
 use Rattle.version_sums.proofs.StoredRecord.{found_there}
 use Rattle.version_sums.proofs.UnhinderedSums.{unhindered_found}
@@ -70,7 +70,7 @@ changed_touches : (base : Records) (dropped kept : List PastChange) (state : Dat
     → TouchesRecord (new_change label change (with_next_number state))
 changed_touches base dropped kept state label change h lawful after None e = impossible (sym (ap (λ u. nat_lt 0 (levels_of u)) e) ∙ and_left _ _ (and_left _ _ lawful))
 changed_touches base dropped kept state label change h lawful after (Some t) e =
-    touches_new base dropped kept state label t change h e (not_true (has_write_conflict state label change) (and_right _ _ (and_left _ _ lawful))) (and_right _ _ lawful) after
+    touches_new base dropped kept state label t change h e (not-true (has_write_conflict state label change) (and_right _ _ (and_left _ _ lawful))) (and_right _ _ lawful) after
 
 pub touched_after : (base : Records) (dropped kept : List PastChange) (state : DatabaseState) (label : ℕ) (kind : EntryKind) → IsHistory base dropped kept state → is_lawful_kind state label kind ≡ true
     → IsHistory (base_after state kind base) (dropped_after kind dropped kept) (kept_after state label kind kept) (applied label kind (with_next_number state)) → AllByRecursion TouchesRecord kept → AllByRecursion TouchesRecord (kept_after state label kind kept)

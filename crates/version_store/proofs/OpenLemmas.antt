@@ -6,6 +6,7 @@ use Rattle.std.proofs.lemmas.List.{get_or-set_same, get_or-set_other, length-map
 use Rattle.std.proofs.lemmas.Option.{slice_get_within, slice_get-get_or}
 use Rattle.std.proofs.Math.ListN.{get_or-eq_default}
 use Rattle.common_lemmas.proofs.Booleans.{and_false}
+use Rattle.common_lemmas.proofs.Options.{same_some}
 use Rattle.database_state.specs.State.{is_open}
 use Rattle.version_store.specs.declared.item.Item.{Item}
 use Rattle.version_store.specs.declared.item.Status.TheVariants as status
@@ -17,9 +18,6 @@ use Rattle.version_store.specs.OpenChanges.{AreBelow, AreLinked, OpenChanges, Re
 
 pub get-none : {X : Type 0} (k : ℕ) (x : X) → slice_get {X = X} [] k ≡ Some x → ⊥
 get-none k x e = cc
-
-pub same-some : {X : Type 0} (x y : X) → Some x ≡ Some y → x ≡ y
-same-some x y e = cc
 
 get-append : {X : Type 0} (xs : List X) (y : X) (k : ℕ) → k < length xs → slice_get (xs ++ y ∷ []) k ≡ slice_get xs k
 get-append [] y k lt = absurd (omega arith)
@@ -82,7 +80,7 @@ record Mapped (f : Item → Item) (items : List Item) (k : ℕ) (new : Item) : T
 
 mapped-at : (f : Item → Item) (items : List Item) (k : ℕ) (new : Item) → slice_get (map f items) k ≡ Some new → Mapped f items k new
 mapped-at f [] k new e = absurd (get-none k new e)
-mapped-at f (x ∷ items) zero new e = record { old = x; is = refl; made = same-some (f x) new e }
+mapped-at f (x ∷ items) zero new e = record { old = x; is = refl; made = same_some (f x) new e }
 mapped-at f (x ∷ items) (suc k) new e = let rest = mapped-at f items k new e in record { old = rest.old; is = rest.is; made = rest.made }
 
 pub map-tamed : (f : Item → Item) (items : List Item) → ((x : Item) → Tamed x (f x)) → AreTamed items (map f items)
@@ -248,7 +246,7 @@ undone-place items at old k new is e = by (k == at) refl
     by : (b : Bool) → (k == at) ≡ b → Undone items at old k new
     by true h =
         let same : k ≡ at = eqb-true k at h in
-        let made : done ≡ new = same-some done new (sym (get-set_same items at done (slice_get_within items at old is)) ∙ ap (slice_get (set items at done)) (sym same) ∙ e) in
+        let made : done ≡ new = same_some done new (sym (get-set_same items at done (slice_get_within items at old is)) ∙ ap (slice_get (set items at done)) (sym same) ∙ e) in
         record {
           was = old;
           is = ap (slice_get items) same ∙ is;
@@ -421,7 +419,7 @@ place-of items x k y at = by (cases_lt k (length items))
     by (inl lt) = older lt (sym (get-append items x k lt) ∙ at)
     by (inr le) =
         let same : k ≡ length items = omega (arith, within) in
-        newest_one same (same-some x y (sym (get-last items x) ∙ ap (slice_get (items ++ x ∷ [])) (sym same) ∙ at))
+        newest_one same (same_some x y (sym (get-last items x) ∙ ap (slice_get (items ++ x ∷ [])) (sym same) ∙ at))
 
 reach-longer : (session : ℕ) (items : List Item) (x : Item) (end bound : ℕ) → bound ≤ length items → Reach session items end bound → Reach session (items ++ x ∷ []) end bound
 reach-longer session items x end bound le reach = record {

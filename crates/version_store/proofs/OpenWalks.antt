@@ -4,11 +4,12 @@ use Rattle.std.specs.Prelude.{slice_get, if◌then◌else◌}
 use Rattle.std.proofs.lemmas.Bool.{cases_lt, eqb-true}
 use Rattle.std.proofs.lemmas.List.{length-set}
 use Rattle.std.proofs.lemmas.Option.{slice_get_within, slice_get_read}
+use Rattle.common_lemmas.proofs.Options.{same_some}
 use Rattle.version_store.specs.declared.item.Item.{Item}
 use Rattle.version_store.specs.HeldChanges.{is_open_at, last_place, later_place}
 use Rattle.version_store.specs.Items.{held_change, held_changes, released_item, lowered}
 use Rattle.version_store.specs.OpenChanges.{AreBelow, AreLinked, Reach, is_open_item}
-use Rattle.version_store.proofs.OpenLemmas.{get-none, same-some, get-set_same, get-set_other, open-session}
+use Rattle.version_store.proofs.OpenLemmas.{get-none, get-set_same, get-set_other, open-session}
 
 -- ---- a walk that changes the open items of a session
 
@@ -66,7 +67,7 @@ walked-step f session first old items end next x y skips walked here some is_y i
     by reach k z ge at (inr le) (inl gt) = get-set_other items (end - 1) k y (λ (e : k ≡ end - 1). let none_is : ⊥ = omega arith in none_is) ∙ walked.done k z (omega arith) at
     by reach k z ge at (inr le) (inr ge2) =
         let same : k ≡ end - 1 = omega arith in
-        let is_x : x ≡ z = same-some x z (sym here.at ∙ ap (slice_get old) (sym same) ∙ at) in
+        let is_x : x ≡ z = same_some x z (sym here.at ∙ ap (slice_get old) (sym same) ∙ at) in
         ap (slice_get (set items (end - 1) y)) same ∙ get-set_same items (end - 1) y (omega (arith, walked.count, walked.within)) ∙ ap (λ (w : Item). Some w) (is_y ∙ ap f is_x)
 
 map-from : (f : Item → Item) (old items : List Item) → length items ≡ length old → ((k : ℕ) (x : Item) → slice_get old k ≡ Some x → slice_get items k ≡ Some (f x)) → items ≡ map f old
@@ -74,7 +75,7 @@ map-from f [] [] count each = refl
 map-from f [] (y ∷ items) count each = absurd (omega arith)
 map-from f (x ∷ old) [] count each = absurd (omega arith)
 map-from f (x ∷ old) (y ∷ items) count each =
-    ap (λ (z : Item). z ∷ items) (same-some y (f x) (each 0 x refl)) ∙ ap (λ (l : List Item). f x ∷ l) (map-from f old items (omega arith) (λ (k : ℕ) (z : Item) (at : slice_get old k ≡ Some z). each (suc k) z at))
+    ap (λ (z : Item). z ∷ items) (same_some y (f x) (each 0 x refl)) ∙ ap (λ (l : List Item). f x ∷ l) (map-from f old items (omega arith) (λ (k : ℕ) (z : Item) (at : slice_get old k ≡ Some z). each (suc k) z at))
 
 -- a walk that stops where the change does nothing more
 pub walked-stop : (f : Item → Item) (session : ℕ) (old items : List Item) (end : ℕ) → Walked f session old items end → ((k : ℕ) (x : Item) → k < end → slice_get old k ≡ Some x → f x ≡ x) → items ≡ map f old
@@ -139,7 +140,7 @@ sought-step session level first items end next x sought here some fails is_next 
     by reach k y ge at (inr le) (inl gt) = sought.none k y (omega arith) at
     by reach k y ge at (inr le) (inr le2) =
         let same : k ≡ end - 1 = omega arith in
-        ap (λ (z : Item). is_open_at session level (held_change z [])) (same-some y x (sym at ∙ ap (slice_get items) same ∙ here.at)) ∙ fails
+        ap (λ (z : Item). is_open_at session level (held_change z [])) (same_some y x (sym at ∙ ap (slice_get items) same ∙ here.at)) ∙ fails
 
 -- the last place of a held change whose item passes
 pub last-none : (session level : ℕ) (items : List Item) (rows : List (List ℕ)) → ((k : ℕ) (x : Item) → slice_get items k ≡ Some x → is_open_at session level (held_change x []) ≡ false) → last_place (is_open_at session level) (held_changes items rows) ≡ None
@@ -155,7 +156,7 @@ last-found session level [] rows place x same at passes none = absurd (get-none 
 last-found session level (y ∷ items) [] place x same at passes none = absurd (omega arith)
 last-found session level (y ∷ items) (row ∷ rows) zero x same at passes none =
     ap (later_place (is_open_at session level (held_change y row))) (last-none session level items rows (λ (k : ℕ) (z : Item) (z_at : slice_get items k ≡ Some z). none (suc k) z (omega arith) z_at))
-    ∙ ap (λ (b : Bool). later_place b None) (ap (λ (z : Item). is_open_at session level (held_change z [])) (same-some y x at) ∙ passes)
+    ∙ ap (λ (b : Bool). later_place b None) (ap (λ (z : Item). is_open_at session level (held_change z [])) (same_some y x at) ∙ passes)
 last-found session level (y ∷ items) (row ∷ rows) (suc place) x same at passes none =
     ap (later_place (is_open_at session level (held_change y row)))
     (last-found session level items rows place x (omega arith) at passes (λ (k : ℕ) (z : Item) (lt : place < k) (z_at : slice_get items k ≡ Some z). none (suc k) z (omega arith) z_at))
@@ -180,7 +181,7 @@ last-passes session level (y ∷ items) [] place x same at e = absurd (omega ari
 last-passes session level (y ∷ items) (row ∷ rows) place x same at e = by place (last_place (is_open_at session level) (held_changes items rows)) refl at e (λ (k : ℕ) (z : slice_get items k ≡ Some x) (q : last_place (is_open_at session level) (held_changes items rows) ≡ Some k). last-passes session level items rows k x (omega arith) z q)
   where
     first : (b : Bool) (place : ℕ) → is_open_at session level (held_change y []) ≡ b → slice_get (y ∷ items) place ≡ Some x → later_place b None ≡ Some place → is_open_at session level (held_change x []) ≡ true
-    first true zero h at e = ap (λ (z : Item). is_open_at session level (held_change z [])) (sym (same-some y x at)) ∙ h
+    first true zero h at e = ap (λ (z : Item). is_open_at session level (held_change z [])) (sym (same_some y x at)) ∙ h
     first true (suc place) h at e = cc
     first false place h at e = cc
 

@@ -8,11 +8,12 @@ use Rattle.std.specs.declared.cmp.Ordering.TheVariants.{Less, Equal, Greater}
 use Rattle.std.specs.Ordering.{is_eq, is_lt, nat_cmp}
 use Rattle.std.specs.FinMap.Entries.{below_all, by_order, is_sorted}
 use Rattle.std.proofs.lemmas.List.Sums.{sum_by-cons}
+use Rattle.std.proofs.lemmas.Bool.{and_from, eqb-true}
 use Rattle.common_lemmas.proofs.Options.{same_some}
 use Rattle.common_lemmas.proofs.Orders.{is_equal}
-use Rattle.common_lemmas.proofs.Booleans.{T_first, T_second}
+use Rattle.common_lemmas.proofs.Booleans.{T_first, T_second, and_left, and_right}
+use Rattle.common_lemmas.proofs.Numbers.{self_equal}
 use Rattle.column_set.specs.RecordValues.{RecordFields, lookup_by_number, put_by_number}
-use Rattle.record_changes.proofs.Tests.{and_both, and_left, and_right, same_number, self_equal}
 use Rattle.version_sums.specs.EscrowNumbers.{ColumnsRise}
 
 -- ---- tests
@@ -29,7 +30,7 @@ itself : (c : ℕ) → nat_cmp c c ≡ Equal
 itself c = is_equal (nat_cmp c c) (unsigned_tied c c ∙ self_equal c)
 
 same : (c k : ℕ) → nat_cmp c k ≡ Equal → c ≡ k
-same c k e = same_number c k (sym (unsigned_tied c k) ∙ ap is_eq e)
+same c k e = eqb-true c k (sym (unsigned_tied c k) ∙ ap is_eq e)
 
 -- ---- what is found
 
@@ -91,5 +92,5 @@ sum_put f c v w h fields rise e = at_found (λ one other. sum_by f one ≡ sum_b
 -- each field has what the new values have too
 pub all_put : (p : ℕ × List (List ℕ) → Bool) (c : ℕ) (v w : List (List ℕ)) → p (c, v) ≡ true → (fields : RecordFields) → ColumnsRise fields → lookup_by_number c fields ≡ Some w → list_all p fields ≡ true → list_all p (put_by_number c v fields) ≡ true
 all_put p c v w h fields rise e = at_found (λ one other. list_all p other ≡ true → list_all p one ≡ true) c v w
-    (λ rest all. and_both (p (c, v)) (list_all p rest) h (and_right (p (c, w)) (list_all p rest) all))
-    (λ field one other step all. and_both (p field) (list_all p one) (and_left (p field) (list_all p other) all) (step (and_right (p field) (list_all p other) all))) fields rise e
+    (λ rest all. and_from (p (c, v)) (list_all p rest) h (and_right (p (c, w)) (list_all p rest) all))
+    (λ field one other step all. and_from (p field) (list_all p one) (and_left (p field) (list_all p other) all) (step (and_right (p field) (list_all p other) all))) fields rise e

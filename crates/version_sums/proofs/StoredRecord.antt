@@ -2,16 +2,16 @@
 use Rattle.std.proofs.Common.{◌≡◌, ℕ, Bool, true, false, ◌&&◌, cond, List, [], ◌∷◌, ◌++◌, Option, Some, None, refl, sym, ap, ◌∙◌}
 use Rattle.std.specs.Prelude.{ℤ, filter, flat_map, fold, is_some, option_map}
 use Rattle.std.specs.List.{AllByRecursion}
+use Rattle.common_lemmas.proofs.Lists.{all_weaker}
+use Rattle.common_lemmas.proofs.Booleans.{impossible}
 use Rattle.column_set.specs.declared.changes.Change.{Change}
 use Rattle.column_set.specs.declared.changes.Change.TheVariants.{Put, Drop, Hold, Add}
 use Rattle.column_set.specs.RecordValues.{RecordFields}
 use Rattle.database_state.specs.State.{DatabaseState, PastChange, transaction_of}
 use Rattle.database_state.specs.View.{newest, view}
 use Rattle.record_changes.specs.Records.{Records, after_item, is_change_of, record_after, records_after_items, records_of}
-use Rattle.record_changes.proofs.Tests.{impossible}
 use Rattle.version_history.specs.History.{IsHistory}
 use Rattle.version_history.specs.Readers.{found_record, hides, is_rewrite, is_unseen, until}
-use Rattle.version_history.proofs.Lists.{all_weaker}
 use Rattle.version_history.proofs.Viewing.{found_in}
 use Rattle.version_sums.specs.EscrowSums.{sums_by, sums_where, unseen_sums, with_sums}
 

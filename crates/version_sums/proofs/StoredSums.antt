@@ -9,12 +9,13 @@ use Rattle.std.proofs.lemmas.Int.{of_z-to_z}
 use Rattle.std.proofs.lemmas.Nat.{from_le_bytes-to_le_bytes_4}
 use Rattle.std.proofs.Math.Facts.{Fits-of_z}
 use Rattle.std.proofs.Math.Nat.{mod-eq_of_lt}
+use Rattle.std.proofs.lemmas.Bool.{eqb-true}
+use Rattle.common_lemmas.proofs.Numbers.{self_equal}
 use Rattle.column_set.specs.RecordValues.{RecordFields, lookup_by_number, values_of}
 use Rattle.database_state.specs.Changes.{escrow_bytes, escrow_sum, with_sum}
 use Rattle.database_state.specs.State.{DatabaseState, PastChange, transaction_of}
 use Rattle.database_state.specs.View.{newest, view}
 use Rattle.record_changes.specs.Records.{Records, records_of}
-use Rattle.record_changes.proofs.Tests.{same_number, self_equal}
 use Rattle.version_history.specs.History.{IsHistory}
 use Rattle.version_history.specs.Readers.{found_record}
 use Rattle.version_sums.specs.EscrowSums.{amounts_to, escrow_value, seen_value, unseen_sums, with_sums, without_amount}
@@ -29,7 +30,7 @@ values_seen values c d a =
     ∙ elim (d == c) as (λ b. unwrap_or (cond b (Some (escrow_sum (escrow_bytes values c) a ∷ [])) (lookup_by_number d values)) [] ≡ cond b (escrow_sum (escrow_bytes values c) a ∷ []) (values_of values d)) [ true ↦ refl | false ↦ refl ]
 
 turned : (c d : ℕ) → (d == c) ≡ (c == d)
-turned c d = by (d == c) (c == d) (λ e. ap (λ n. c == n) (same_number d c e) ∙ self_equal c) (λ e. ap (λ n. d == n) (same_number c d e) ∙ self_equal d)
+turned c d = by (d == c) (c == d) (λ e. ap (λ n. c == n) (eqb-true d c e) ∙ self_equal c) (λ e. ap (λ n. d == n) (eqb-true c d e) ∙ self_equal d)
   where
     by : (a b : Bool) → (a ≡ true → b ≡ true) → (b ≡ true → a ≡ true) → a ≡ b
     by true b f g = sym (f refl)
@@ -62,7 +63,7 @@ one_sum values c d a =
     ap (λ found. from_le_bytes w32 (unwrap_or (slice_get found 0) (0 ∷ 0 ∷ 0 ∷ 0 ∷ [])) % 2 ^ 32) (values_seen values c d a ∙ ap (λ b. cond b (escrow_sum (escrow_bytes values c) a ∷ []) (values_of values d)) (turned c d))
     ∙ elim (c == d) as (λ b. (c == d) ≡ b → from_le_bytes w32 (unwrap_or (slice_get (cond b (escrow_sum (escrow_bytes values c) a ∷ []) (values_of values d)) 0) (0 ∷ 0 ∷ 0 ∷ 0 ∷ [])) % 2 ^ 32
     ≡ cond b (plus (number_in values d) a) (number_in values d)) [
-      | true ↦ λ e. number_of_sum (escrow_bytes values c) a ∙ ap (λ (k : ℕ). plus (number_in values k) a) (same_number c d e)
+      | true ↦ λ e. number_of_sum (escrow_bytes values c) a ∙ ap (λ (k : ℕ). plus (number_in values k) a) (eqb-true c d e)
       | false ↦ λ e. refl
     ] refl
 

@@ -8,8 +8,11 @@ use Rattle.column_set.specs.RecordValues.{RecordFields, put_by_number}
 use Rattle.database_state.specs.Changes.{changed_table, changed_bookmark, escrow_bytes, is_sum, with_sum}
 use Rattle.database_state.specs.State.{PastChange}
 use Rattle.std.proofs.lemmas.Int.{of_z-to_z}
+use Rattle.std.proofs.lemmas.Bool.{and_from}
+use Rattle.common_lemmas.proofs.Numbers.{self_equal}
+use Rattle.common_lemmas.proofs.Booleans.{impossible}
 use Rattle.record_changes.specs.Records.{Records, record_after, records_after_items}
-use Rattle.record_changes.proofs.Tests.{and_both, equal_bytes, impossible, self_equal}
+use Rattle.record_changes.proofs.Tests.{equal_bytes}
 use Rattle.version_history.specs.Readers.{is_standing}
 use Rattle.version_history.proofs.Undoing.{IsLastOf, made_last}
 use Rattle.version_sums.specs.EscrowSums.{escrow_value, seen_value, sums_by, with_sums, without_amount}
@@ -29,7 +32,7 @@ pub undone_sum : (base : Records) (front : List PastChange) (item : PastChange) 
     ≡ option_map (λ values. with_sums values (sums_by item.change)) (records_after_items is_standing base (front ++ rest) (changed_table item.change) (changed_bookmark item.change))
 undone_sum base front item rest live sum last =
     ap (λ (r : Records). r (changed_table item.change) (changed_bookmark item.change)) (made_last base front item rest live last)
-    ∙ ap (λ b. cond b (record_after item.change without) without) (and_both _ _ (self_equal (changed_table item.change)) (equal_bytes (changed_bookmark item.change) (changed_bookmark item.change) refl))
+    ∙ ap (λ b. cond b (record_after item.change without) without) (and_from _ _ (self_equal (changed_table item.change)) (equal_bytes (changed_bookmark item.change) (changed_bookmark item.change) refl))
     ∙ made item.change sum without
   where
     without : Option RecordFields

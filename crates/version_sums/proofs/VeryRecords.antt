@@ -11,11 +11,13 @@ use Rattle.std.proofs.Math.Facts.{to_z-neg}
 use Rattle.std.proofs.Math.Nat.{mod-eq_of_lt}
 use Rattle.std.proofs.lemmas.Int.{to_z_pos}
 use Rattle.std.proofs.lemmas.Nat.{from_le_bytes-to_le_bytes_4, le_bytes_4}
+use Rattle.std.proofs.lemmas.Bool.{and_from, eqb-true}
+use Rattle.common_lemmas.proofs.Booleans.{and_left, and_right, impossible}
+use Rattle.common_lemmas.proofs.Numbers.{self_equal}
 use Rattle.jet_base.specs.declared.words.ColType.TheVariants.{Long}
 use Rattle.jet_base.specs.ColumnType.{from_little_endian, from_twos_complement, number_of}
 use Rattle.column_set.specs.RecordValues.{RecordFields, lookup_by_number, put_by_number, values_of}
 use Rattle.database_state.specs.Changes.{escrow_bytes, escrow_sum, with_sum}
-use Rattle.record_changes.proofs.Tests.{and_both, and_left, and_right, impossible, same_number, self_equal}
 use Rattle.version_sums.specs.EscrowNumbers.{ColumnsRise, holds_number, is_number, is_one_number}
 use Rattle.version_sums.specs.EscrowSums.{escrow_value}
 use Rattle.version_sums.proofs.Puts.{put_again, put_found}
@@ -31,7 +33,7 @@ small_byte n = let le : n % 256 < 256 = omega arith in below (n % 256) le
     below m le = grind (arith, nat_tests)
 
 pub number_written : (n : ℕ) → is_number (to_le_bytes w32 n) ≡ true
-number_written n = and_both _ _ (small_byte n) (and_both _ _ (small_byte (n / 256)) (and_both _ _ (small_byte (n / 65536)) (and_both _ _ (small_byte (n / 16777216)) refl)))
+number_written n = and_from _ _ (small_byte n) (and_from _ _ (small_byte (n / 256)) (and_from _ _ (small_byte (n / 65536)) (and_from _ _ (small_byte (n / 16777216)) refl)))
 
 byte_small : (bytes : List ℕ) → list_all (λ b. nat_lt b 256) bytes ≡ true → (i : ℕ) → get_or bytes i 0 < 256
 byte_small [] h i = nothing
@@ -45,13 +47,13 @@ byte_small (b ∷ bytes) h zero = below b (and_left _ _ h)
 byte_small (b ∷ bytes) h (suc i) = byte_small bytes (and_right (nat_lt b 256) _ h) i
 
 pub number_read : (bytes : List ℕ) → is_number bytes ≡ true → to_le_bytes w32 (from_le_bytes w32 bytes) ≡ bytes
-number_read bytes h = le_bytes_4 bytes (from_le_bytes w32 bytes) (same_number (length bytes) 4 (and_left _ _ h)) (byte_small bytes (and_right (length bytes == 4) _ h)) refl
+number_read bytes h = le_bytes_4 bytes (from_le_bytes w32 bytes) (eqb-true (length bytes) 4 (and_left _ _ h)) (byte_small bytes (and_right (length bytes == 4) _ h)) refl
 
 four_bytes : (a b c d : ℕ) → a < 256 → b < 256 → c < 256 → d < 256 → a + b * 256 + c * 65536 + d * 16777216 < 4294967296
 four_bytes a b c d f g h k = omega arith
 
 pub number_below : (bytes : List ℕ) → is_number bytes ≡ true → from_le_bytes w32 bytes < 2 ^ 32
-number_below bytes h = at bytes (same_number (length bytes) 4 (and_left _ _ h)) (byte_small bytes (and_right (length bytes == 4) _ h))
+number_below bytes h = at bytes (eqb-true (length bytes) 4 (and_left _ _ h)) (byte_small bytes (and_right (length bytes == 4) _ h))
   where
     at : (bytes : List ℕ) → length bytes ≡ 4 → ((i : ℕ) → get_or bytes i 0 < 256) → from_le_bytes w32 bytes < 2 ^ 32
     at [] l s = absurd (omega arith)
@@ -127,7 +129,7 @@ low_first (a ∷ b ∷ c ∷ d ∷ e ∷ bytes) l = absurd (omega arith)
 pub read_as_long : (values : RecordFields) (column : ℕ) → holds_number values column ≡ true → number_of Long (escrow_bytes values column) ≡ escrow_value values column
 read_as_long values column h =
     let one = one_value values column h in
-    ap (λ (n : ℕ). from_twos_complement 32 n) (low_first (escrow_bytes values column) (same_number (length (escrow_bytes values column)) 4 (and_left _ _ one.1)))
+    ap (λ (n : ℕ). from_twos_complement 32 n) (low_first (escrow_bytes values column) (eqb-true (length (escrow_bytes values column)) 4 (and_left _ _ one.1)))
     ∙ signed_number (from_le_bytes w32 (escrow_bytes values column)) (number_below (escrow_bytes values column) one.1)
 
 -- ---- there and back

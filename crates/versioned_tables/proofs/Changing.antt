@@ -1,6 +1,7 @@
 -- What entries make of versioned tables.
 use Rattle.std.proofs.Common.{◌≡◌, ℕ, ◌+◌, Bool, true, false, not, ◌&&◌, cond, List, [], ◌∷◌, ◌++◌, map, Option, Some, None, refl, sym, ap, ◌∙◌}
 use Rattle.std.specs.Prelude.{drop, filter, fold, is_some, nat_lt, if◌then◌else◌}
+use Rattle.common_lemmas.proofs.Booleans.{and_right, impossible}
 use Rattle.column_set.specs.declared.changes.Change.{Change}
 use Rattle.column_set.specs.declared.changes.Change.TheVariants.{Put, Drop, Hold, Add}
 use Rattle.index_derive.specs.declared.log.Entry.{Entry}
@@ -15,7 +16,6 @@ use Rattle.database_state.specs.Step.{state_after}
 use Rattle.database_state.specs.Lawful.{has_number, is_lawful, is_lawful_at}
 use Rattle.record_changes.specs.Records.{Records, after_item, records_of, records_after, records_after_items}
 use Rattle.record_changes.proofs.Projecting.{projected}
-use Rattle.record_changes.proofs.Tests.{and_right, impossible}
 use Rattle.version_history.specs.History.{IsHistory, without_rows}
 use Rattle.version_history.specs.KeptSteps.{new_change as new_kept, committed_own, lowered_own, with_next_number}
 use Rattle.version_history.specs.Readers.{is_standing}

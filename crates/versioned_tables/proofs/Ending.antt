@@ -1,9 +1,9 @@
 -- Ends of levels and transactions leave what is newest.
 use Rattle.std.proofs.Common.{◌≡◌, ℕ, ◌-◌, Bool, true, false, not, ◌&&◌, cond, List, [], ◌∷◌, ◌++◌, map, filter, refl, sym, ap, subst, ◌∙◌}
 use Rattle.std.specs.Prelude.{◌==◌, fold}
+use Rattle.common_lemmas.proofs.Booleans.{and_left, impossible}
 use Rattle.database_state.specs.State.{PastChange, Status, uncommitted, committed, undone, is_open, is_undone, is_open_change_of}
 use Rattle.record_changes.specs.Records.{Records, after_item, records_after, records_after_items}
-use Rattle.record_changes.proofs.Tests.{and_left, impossible}
 use Rattle.version_history.specs.KeptSteps.{committed_own, lowered_own}
 use Rattle.version_history.specs.Readers.{is_standing}
 use Rattle.versioned_tables.specs.HeldRecords.{HeldRecord, is_open_of, released_change, committed_change}

@@ -1,13 +1,13 @@
 -- What held changes hide of a reader is what the kept ones do.
 use Rattle.std.proofs.Common.{◌≡◌, ℕ, Bool, true, false, not, ◌&&◌, ◌||◌, cond, List, [], ◌∷◌, Option, Some, None, refl, ap, ◌∙◌}
 use Rattle.std.specs.Prelude.{◌==◌, bytes_eq, find}
+use Rattle.common_lemmas.proofs.Booleans.{and_left, and_right}
 use Rattle.column_set.specs.declared.changes.Change.{Change}
 use Rattle.column_set.specs.declared.changes.Change.TheVariants.{Put, Drop, Hold, Add}
 use Rattle.column_set.specs.RecordValues.{RecordFields}
 use Rattle.database_state.specs.State.{PastChange, Transaction, Status, uncommitted, committed, undone, is_open, is_undone}
 use Rattle.database_state.specs.Conflicts.{is_after_begin}
 use Rattle.record_changes.specs.Records.{is_change_of}
-use Rattle.record_changes.proofs.Tests.{and_left, and_right}
 use Rattle.version_history.specs.Readers.{is_unseen as is_unseen_change, hides as hides_record, is_rewrite as rewrites, was_committed_status, found_record, before_or as found_before}
 use Rattle.version_store.specs.declared.calls.Reader.{Reader}
 use Rattle.version_store.specs.HeldChanges.{kind_of, is_rewrite, is_after, is_unseen_status}

@@ -2,11 +2,11 @@
 use Rattle.std.proofs.Common.{◌≡◌, ℕ, suc, ◌<◌, ◌≤◌, Bool, true, false, cond, ◌⊎◌, inl, inr, List, [], ◌∷◌, length, Option, Some, None, filter, find, refl, sym, ap, ◌∙◌, arith}
 use Rattle.std.specs.List.{AllByRecursion, last_or, list_all}
 use Rattle.common_lemmas.proofs.Options.{none_some, same_some}
+use Rattle.common_lemmas.proofs.Booleans.{and_left, and_right, impossible}
+use Rattle.common_lemmas.proofs.Lists.{all_filter, filter_none}
 use Rattle.index_derive.specs.declared.entries.Place.{Place}
 use Rattle.index_derive.specs.declared.entries.Place.TheVariants.{On}
 use Rattle.cursor_nav.specs.Places.{Pair, are_sorted, entry_after, entry_before, is_beyond, is_short_of, pair_lt}
-use Rattle.versioned_tables.proofs.Lists.{all_filter, filter_none}
-use Rattle.record_changes.proofs.Tests.{and_left, and_right, impossible}
 use Rattle.versioned_tables.proofs.Order.{beyond_more, lt_trans, not_back, not_itself, short_more}
 
 -- ---- members

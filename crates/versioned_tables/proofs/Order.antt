@@ -6,12 +6,15 @@ use Rattle.std.specs.Ordering.{nat_cmp, is_eq, is_le, is_lt, ordering_reverse, o
 use Rattle.std.specs.Cmp.{IsTotalOrder, on_total, then_total}
 use Rattle.std.specs.Cmp.Lexicographic.{slice_cmp, nat_list_cmp_total, texts_ties}
 use Rattle.std.proofs.lemmas.Map.Lookups.{exact_bytes}
-use Rattle.common_lemmas.proofs.Orders.{less_then}
+use Rattle.std.proofs.lemmas.Bool.{false_from_ne_true}
+use Rattle.common_lemmas.proofs.Orders.{is_less, less_then}
+use Rattle.common_lemmas.proofs.Booleans.{and_left, impossible}
+use Rattle.common_lemmas.proofs.Numbers.{same_bytes}
 use Rattle.index_derive.specs.declared.entries.Place.{Place}
 use Rattle.index_derive.specs.declared.entries.Place.TheVariants.{Before, After, On, Gap}
 use Rattle.column_set.specs.RecordValues.{bytes_le, bytes_lt}
 use Rattle.cursor_nav.specs.Places.{Pair, is_beyond, is_short_of, pair_lt}
-use Rattle.record_changes.proofs.Tests.{and_left, equal_bytes, impossible, refuted, same_bytes}
+use Rattle.record_changes.proofs.Tests.{equal_bytes}
 
 -- ---- entries
 
@@ -26,11 +29,6 @@ pair_lt-is x y =
     ap (λ e. bytes_lt x.0 y.0 || (e && bytes_lt x.1 y.1)) (texts_ties x.0 y.0)
     ∙ less_then (slice_cmp nat_cmp x.0 y.0) (slice_cmp nat_cmp x.1 y.1)
 
-pub is_less : (r : Ordering) → is_lt r ≡ true → r ≡ Less
-is_less Less h = refl
-is_less Equal h = impossible h
-is_less Greater h = impossible h
-
 less_of : (x y : Pair) → pair_lt x y ≡ true → pair_cmp x y ≡ Less
 less_of x y h = is_less (pair_cmp x y) (sym (pair_lt-is x y) ∙ h)
 
@@ -41,7 +39,7 @@ pub not_back : (x y : Pair) → pair_lt x y ≡ true → pair_lt y x ≡ false
 not_back x y h = pair_lt-is y x ∙ ap is_lt (pairs_total.antisymm y x ∙ ap ordering_reverse (less_of x y h))
 
 pub not_itself : (x : Pair) → pair_lt x x ≡ false
-not_itself x = refuted (pair_lt x x) (λ h. impossible (sym (not_back x x h) ∙ h))
+not_itself x = false_from_ne_true (pair_lt x x) (λ h. impossible (sym (not_back x x h) ∙ h))
 
 -- ---- keys
 

@@ -5,6 +5,7 @@ use Rattle.std.specs.List.{AllByRecursion}
 use Rattle.std.specs.Ordering.{nat_cmp, is_lt}
 use Rattle.std.specs.Cmp.Lexicographic.{slice_cmp}
 use Rattle.std.specs.FinMap.Entries.{below_all, is_sorted}
+use Rattle.common_lemmas.proofs.Lists.{all_append, all_filter}
 use Rattle.column_set.specs.RecordValues.{RecordFields, with_values}
 use Rattle.index_derive.specs.declared.log.Entry.{Entry}
 use Rattle.index_derive.specs.declared.log.EntryKind.{EntryKind}
@@ -15,7 +16,6 @@ use Rattle.database_state.specs.Table.{Table, Rows, with_table}
 use Rattle.database_state.specs.State.{DatabaseState, LiveSession, Transaction, undone, open_changes_of, levels}
 use Rattle.database_state.specs.SchemaChanges.{tables_after_step, with_column, without_column, with_index, without_index}
 use Rattle.database_state.specs.Step.{insert_session, at_levels, with_levels, with_transaction, with_changes_at, is_at_level, innermost_undone, applied, state_after}
-use Rattle.version_history.proofs.Lists.{all_append, all_filter}
 use Rattle.versioned_tables.specs.Holding.{RowsRise, AllRise, RecordsRise, SnapshotRises}
 use Rattle.versioned_tables.proofs.Rising.{all_tables_rise}
 

@@ -2,6 +2,8 @@
 use Rattle.std.proofs.Common.{◌≡◌, ℕ, Bool, true, false, not, cond, List, [], ◌∷◌, ◌++◌, map, filter, Option, Some, None, refl, sym, ap, ◌∙◌}
 use Rattle.std.specs.Prelude.{◌==◌, fold, option_map, is_none}
 use Rattle.std.specs.List.{AllByRecursion}
+use Rattle.std.proofs.lemmas.Bool.{eqb-true}
+use Rattle.common_lemmas.proofs.Booleans.{and_left, and_right, impossible}
 use Rattle.index_derive.specs.declared.log.Entry.{Entry}
 use Rattle.index_derive.specs.declared.log.EntryKind.TheVariants as entry
 use Rattle.index_derive.specs.declared.schema_calls.SchemaStep.{SchemaStep}
@@ -12,7 +14,6 @@ use Rattle.database_state.specs.SchemaChanges.{new_table, tables_after_step, wit
 use Rattle.database_state.specs.Step.{state_after}
 use Rattle.database_state.specs.Lawful.{has_number, is_lawful, is_live}
 use Rattle.record_changes.specs.Records.{Records, after_item, records_after_items, records_of}
-use Rattle.record_changes.proofs.Tests.{and_left, and_right, impossible, same_number}
 use Rattle.version_history.specs.History.{IsHistory, IsOpenIn, IsPlaced, IsPlacedBy, without_rows}
 use Rattle.version_history.specs.Readers.{is_standing, was_committed, was_committed_status}
 use Rattle.version_history.proofs.LawfulEntries.{all_outside, keeps_lawful}
@@ -88,9 +89,9 @@ found_filter gone (t ∷ tables) id = by (t.id == gone) (t.id == id) refl refl (
     by true true e f rest = rest ∙ ap (λ c. cond c None (table_with_id tables id)) here ∙ sym (ap (λ c. cond c None (Some t)) here)
       where
         here : (id == gone) ≡ true
-        here = ap (λ n. n == gone) (sym (same_number t.id id f)) ∙ e
+        here = ap (λ n. n == gone) (sym (eqb-true t.id id f)) ∙ e
     by true false e f rest = rest
-    by false true e f rest = ap (λ c. cond c (Some t) (table_with_id left id)) f ∙ sym (ap (λ c. cond c None (Some t)) (ap (λ n. n == gone) (sym (same_number t.id id f)) ∙ e))
+    by false true e f rest = ap (λ c. cond c (Some t) (table_with_id left id)) f ∙ sym (ap (λ c. cond c None (Some t)) (ap (λ n. n == gone) (sym (eqb-true t.id id f)) ∙ e))
     by false false e f rest = ap (λ c. cond c (Some t) (table_with_id left id)) f ∙ rest
 
 abbrev changed_at : ℕ → (Table → Table) → Table → Table

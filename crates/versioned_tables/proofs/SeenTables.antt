@@ -1,9 +1,9 @@
 -- A record among the tables that a reader sees.
 use Rattle.std.proofs.Common.{◌≡◌, ℕ, Bool, true, false, cond, List, [], ◌∷◌, Option, Some, None, map, option_map, refl, ap, ◌∙◌}
 use Rattle.std.specs.Prelude.{◌==◌, is_some}
+use Rattle.common_lemmas.proofs.Booleans.{impossible}
 use Rattle.database_state.specs.Table.{Table, record_in, row_at, rows_of, table_with_id}
 use Rattle.record_changes.proofs.Projecting.{found_id}
-use Rattle.record_changes.proofs.Tests.{impossible}
 use Rattle.version_store.specs.declared.calls.Reader.{Reader}
 use Rattle.versioned_tables.specs.HeldRecords.{HeldRecord, seen_record}
 use Rattle.versioned_tables.specs.VersionedTables.{VersionedTables, seen_table, seen_tables}

@@ -7,12 +7,12 @@ use Rattle.std.specs.declared.cmp.Ordering.TheVariants.{Less, Equal, Greater}
 use Rattle.std.specs.Ordering.{is_lt, nat_cmp, ordering_then}
 use Rattle.std.specs.Cmp.Lexicographic.{slice_cmp}
 use Rattle.std.specs.FinMap.Entries.{below_all, is_sorted}
+use Rattle.common_lemmas.proofs.Lists.{all_weaker}
 use Rattle.cursor_nav.specs.Places.{are_sorted, pair_lt}
 use Rattle.index_derive.specs.Entries.{own_order}
 use Rattle.database_state.specs.Table.{Rows}
 use Rattle.database_state.specs.State.{DatabaseState}
 use Rattle.derived_index.proofs.PairOrder.{pair_lt-is}
-use Rattle.version_history.proofs.Lists.{all_weaker}
 use Rattle.version_keys.specs.TableOrder.{HasTablesInOrder}
 use Rattle.versioned_tables.specs.Holding.{AllRise, RowsRise}
 

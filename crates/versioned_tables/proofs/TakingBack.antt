@@ -3,6 +3,9 @@ use Rattle.std.proofs.Common.{◌≡◌, ℕ, Bool, true, false, not, ◌&&◌, 
 use Rattle.std.specs.Prelude.{neg_ℤ, ◌==◌, bytes_eq, fold, is_some, option_map, IfSome}
 use Rattle.std.specs.List.{AllByRecursion}
 use Rattle.std.proofs.lemmas.Bool.Decides.{nat_tests}
+use Rattle.std.proofs.lemmas.Bool.{and_from, eqb-true}
+use Rattle.common_lemmas.proofs.Booleans.{and_left, and_right, impossible}
+use Rattle.common_lemmas.proofs.Numbers.{same_bytes, self_equal}
 use Rattle.jet_base.specs.Ids.{table_id}
 use Rattle.column_set.specs.declared.changes.Change.{Change}
 use Rattle.column_set.specs.declared.changes.Change.TheVariants.{Put, Drop, Hold, Add}
@@ -13,7 +16,7 @@ use Rattle.database_state.specs.State.{PastChange, undone}
 use Rattle.database_state.specs.Conflicts.{collide}
 use Rattle.record_changes.specs.Records.{Records, IsThere, after_item, is_change_of, record_after, records_after, records_after_items, records_of}
 use Rattle.record_changes.proofs.Projecting.{projected}
-use Rattle.record_changes.proofs.Tests.{and_both, and_left, and_right, equal_bytes, impossible, same_bytes, same_number, self_equal}
+use Rattle.record_changes.proofs.Tests.{equal_bytes}
 use Rattle.version_history.specs.History.{EachTwo, HasBefores, without_rows}
 use Rattle.version_history.specs.KeptSteps.{undone_where}
 use Rattle.version_history.specs.Readers.{is_standing, is_rewrite as rewrites}
@@ -81,7 +84,7 @@ at_itself change = ap (λ b. b && bytes_eq (changed_bookmark change) (changed_bo
 at_its_record : (change : Change) (P : ℕ → List ℕ → Type 0) (table : ℕ) (bookmark : List ℕ) → is_change_of table bookmark change ≡ true → P (changed_table change) (changed_bookmark change) → P table bookmark
 at_its_record change P table bookmark e p =
     subst (λ k. P table k) (same_bytes (changed_bookmark change) bookmark (and_right (changed_table change == table) _ e))
-    (subst (λ n. P n (changed_bookmark change)) (same_number (changed_table change) table (and_left _ _ e)) p)
+    (subst (λ n. P n (changed_bookmark change)) (eqb-true (changed_table change) table (and_left _ _ e)) p)
 
 rewritten : (change : Change) (held before : Option RecordFields) (records : Records) → held ≡ before → records_after records (inverse_of (kind_of change) (changed_table change) (changed_bookmark change) held) ≡ restored change held records
     → records_after records (inverse_of (kind_of change) (changed_table change) (changed_bookmark change) held) ≡ restored change before records
@@ -114,7 +117,7 @@ apart_from item later e none = by (is_change_of (changed_table item) (changed_bo
     by : (x : Bool) → is_change_of (changed_table item) (changed_bookmark item) later ≡ x → x ≡ false
     by false f = refl
     by true f =
-        sym (ap (λ b. b && not (is_sum item && is_sum later)) (and_both _ _ (turned (changed_table later) (changed_table item) (and_left _ _ f))
+        sym (ap (λ b. b && not (is_sum item && is_sum later)) (and_from _ _ (turned (changed_table later) (changed_table item) (and_left _ _ f))
         (equal_bytes (changed_bookmark item) (changed_bookmark later) (sym (same_bytes (changed_bookmark later) (changed_bookmark item) (and_right (changed_table later == changed_table item) _ f)))))
         ∙ ap (λ b. not (b && is_sum later)) none)
         ∙ e

@@ -1,6 +1,7 @@
 -- What the held changes tell of key conflicts.
 use Rattle.std.proofs.Common.{◌≡◌, ℕ, true, false, not, ◌&&◌, ◌||◌, cond, List, [], ◌∷◌, Option, Some, refl, sym, ap, ◌∙◌}
 use Rattle.std.specs.Prelude.{◌==◌, bytes_eq, find}
+use Rattle.common_lemmas.proofs.Booleans.{and_left, and_right}
 use Rattle.index_derive.specs.declared.rules.IndexRule.{IndexRule}
 use Rattle.index_derive.specs.declared.rules.Schema.{Schema}
 use Rattle.database_state.specs.Changes.{changed_table, changed_bookmark}
@@ -8,7 +9,6 @@ use Rattle.database_state.specs.State.{DatabaseState, PastChange, Transaction, i
 use Rattle.database_state.specs.View.{newest}
 use Rattle.database_state.specs.Conflicts.{is_concurrent as is_concurrent_change, has_key_conflict as has_key_conflict_in, yields_key}
 use Rattle.record_changes.specs.Records.{Records, is_change_of, records_of}
-use Rattle.record_changes.proofs.Tests.{and_left, and_right}
 use Rattle.version_history.specs.History.{IsHistory}
 use Rattle.version_history.specs.Readers.{before_or as kept_before, is_rewrite as rewrites}
 use Rattle.version_keys.specs.KeySums.{HasKeyBefores, SeesNoSum}

@@ -1,5 +1,6 @@
 -- Entries that leave the tables and the changes as they are.
 use Rattle.std.proofs.Common.{◌≡◌, ℕ, true, List, map, refl, sym, ap, ◌∙◌}
+use Rattle.common_lemmas.proofs.Booleans.{impossible}
 use Rattle.index_derive.specs.declared.log.Entry.{Entry}
 use Rattle.index_derive.specs.declared.log.EntryKind.{EntryKind}
 use Rattle.index_derive.specs.declared.log.EntryKind.TheVariants as entry
@@ -8,7 +9,6 @@ use Rattle.database_state.specs.Step.{state_after}
 use Rattle.database_state.specs.Lawful.{is_lawful}
 use Rattle.database_state.specs.View.{newest}
 use Rattle.record_changes.specs.Records.{Records, records_of}
-use Rattle.record_changes.proofs.Tests.{impossible}
 use Rattle.version_history.specs.History.{IsHistory, without_rows}
 use Rattle.version_history.proofs.LawfulEntries.{keeps_lawful}
 use Rattle.versioned_tables.specs.VersionedTables.{VersionedTables, leaves_tables}

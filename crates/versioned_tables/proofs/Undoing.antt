@@ -3,6 +3,9 @@ use Rattle.std.proofs.Common.{◌≡◌, ℕ, ◌+◌, ◌-◌, ◌≤◌, Bool,
 use Rattle.std.specs.Prelude.{◌==◌, nat_lt}
 use Rattle.std.specs.List.{AllByRecursion}
 use Rattle.std.proofs.lemmas.Bool.Decides.{nat_tests}
+use Rattle.std.proofs.lemmas.Bool.{eqb-true}
+use Rattle.common_lemmas.proofs.Booleans.{and_left, and_right, impossible}
+use Rattle.common_lemmas.proofs.Lists.{all_each, all_weaker}
 use Rattle.index_derive.specs.declared.log.Entry.{Entry}
 use Rattle.index_derive.specs.declared.log.EntryKind.{EntryKind}
 use Rattle.index_derive.specs.declared.log.EntryKind.TheVariants as entry
@@ -11,14 +14,12 @@ use Rattle.database_state.specs.Changes.{changed_table}
 use Rattle.database_state.specs.Step.{every_change, innermost_undone, is_at_level, state_after, with_changes_at, with_levels, with_transaction}
 use Rattle.database_state.specs.Lawful.{is_lawful}
 use Rattle.record_changes.specs.Records.{IsThere, Records, records_after_items, records_of}
-use Rattle.record_changes.proofs.Tests.{and_left, and_right, impossible, same_number}
 use Rattle.version_history.specs.History.{EachTwo, IsHistory, IsOpenIn, IsPlaced, IsPlacedBy, LevelsRise, without_rows}
 use Rattle.version_history.specs.KeptSteps.{is_own_open, undone_where}
 use Rattle.version_history.specs.Readers.{is_standing}
 use Rattle.version_history.proofs.Befores.{GoesApart}
 use Rattle.version_history.proofs.Keeping.{goes_apart}
 use Rattle.version_history.proofs.LawfulEntries.{keeps_lawful}
-use Rattle.version_history.proofs.Lists.{all_true, all_weaker}
 use Rattle.version_history.proofs.SeenRecords.{are_there, newest_records}
 use Rattle.version_history.proofs.Viewing.{same_there}
 use Rattle.versioned_tables.specs.HeldRecords.{HeldRecord, is_open_at, is_open_of}
@@ -45,7 +46,7 @@ own_stands session test item e = by item.status (and_left _ _ (and_left _ _ e))
 
 all_goes : (base : Records) (dropped kept : List PastChange) (state : DatabaseState) → IsHistory base dropped kept state → (session : ℕ) → EachTwo (GoesApart (is_own_open session every_change)) kept
 all_goes base dropped kept state h session =
-    goes_apart state.number state.tables (transaction_of state) base kept session every_change (λ item. Unit {0}) (all_true (λ item. Unit {0}) (λ item. tt) kept) (λ p q e own placed each rise less. refl) h.keeps
+    goes_apart state.number state.tables (transaction_of state) base kept session every_change (λ item. Unit {0}) (all_each (λ item. Unit {0}) (λ item. tt) kept) (λ p q e own placed each rise less. refl) h.keeps
 
 open_in : (number : ℕ) (transactions : ℕ → Option Transaction) (q : PastChange) (s : Status) → is_open s ≡ true → IsPlacedBy number transactions q s → IsOpenIn q (transactions q.session)
 open_in number transactions q uncommitted e placed = placed
@@ -62,15 +63,15 @@ between a b c le e up = grind (arith, nat_tests)
 -- what stands behind an open change of the innermost level, of its session, is of this level too
 level_goes : (base : Records) (dropped kept : List PastChange) (state : DatabaseState) → IsHistory base dropped kept state → (session : ℕ) → EachTwo (GoesApart (is_own_open session (is_at_level (levels state session)))) kept
 level_goes base dropped kept state h session =
-    goes_apart state.number state.tables (transaction_of state) base kept session (is_at_level (levels state session)) (λ item. Unit {0}) (all_true (λ item. Unit {0}) (λ item. tt) kept)
+    goes_apart state.number state.tables (transaction_of state) base kept session (is_at_level (levels state session)) (λ item. Unit {0}) (all_each (λ item. Unit {0}) (λ item. tt) kept)
     (λ p q e own placed each rise less. suffix p q e own placed rise) h.keeps
   where
     suffix : (p q : PastChange) → is_own_open session (is_at_level (levels state session)) p ≡ true → is_open_change_of session q ≡ true → IsPlaced state.number state.tables (transaction_of state) q → LevelsRise p q → (q.level == levels state session) ≡ true
     suffix p q e own placed rise =
         let own_p : is_open_change_of session p ≡ true = and_left _ _ e in
-        let of_p : p.session ≡ session = same_number p.session session (and_right (is_open p.status) _ own_p) in
-        let of_q : q.session ≡ session = same_number q.session session (and_right (is_open q.status) _ own) in
-        let low : p.level ≡ levels state session = same_number p.level (levels state session) (and_right (is_open_change_of session p) _ e) in
+        let of_p : p.session ≡ session = eqb-true p.session session (and_right (is_open p.status) _ own_p) in
+        let of_q : q.session ≡ session = eqb-true q.session session (and_right (is_open q.status) _ own) in
+        let low : p.level ≡ levels state session = eqb-true p.level (levels state session) (and_right (is_open_change_of session p) _ e) in
         let le = rise (and_left _ _ own_p) (and_left _ _ own) (of_p ∙ sym of_q) in
         let inside : IsOpenIn q (transaction_of state session) = subst (λ (k : ℕ). IsOpenIn q (transaction_of state k)) of_q (open_in state.number (transaction_of state) q q.status (and_left _ _ own) placed.2) in
         between p.level q.level (levels state session) le low (at_most q (transaction_of state session) inside)

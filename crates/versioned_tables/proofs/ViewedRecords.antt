@@ -3,6 +3,8 @@ use Rattle.std.proofs.Common.{◌≡◌, ℕ, ◌+◌, ◌-◌, ◌^◌, ◌%◌
 use Rattle.std.specs.Prelude.{ℤ, pos, negsuc, neg_ℤ, ◌==◌, filter, flat_map, fold, is_some, map, option_map, FitsSigned, IfSome}
 use Rattle.std.specs.Int.{w32, cast_signed, cast_unsigned, from_le_bytes}
 use Rattle.std.specs.List.{AllByRecursion}
+use Rattle.std.proofs.lemmas.Bool.{eqb-true}
+use Rattle.common_lemmas.proofs.Booleans.{and_left, and_right, impossible}
 use Rattle.column_set.specs.declared.changes.Change.{Change}
 use Rattle.column_set.specs.declared.changes.Change.TheVariants.{Put, Drop, Hold, Add}
 use Rattle.column_set.specs.RecordValues.{RecordFields, values_of}
@@ -14,7 +16,6 @@ use Rattle.database_state.specs.State.{DatabaseState, PastChange, Transaction, t
 use Rattle.database_state.specs.View.{newest, view}
 use Rattle.record_changes.specs.Records.{Records, is_change_of, records_of}
 use Rattle.record_changes.proofs.Sums.{sums_commute}
-use Rattle.record_changes.proofs.Tests.{and_left, and_right, impossible, same_number}
 use Rattle.version_history.specs.Readers.{hides as hides_record, is_unseen as is_unseen_change, until}
 use Rattle.version_history.proofs.Viewing.{same_there}
 use Rattle.version_sums.specs.EscrowNumbers.{ColumnsRise, holds_number}
@@ -73,7 +74,7 @@ are_added tables id found e test bookmark [] h = tt
 are_added tables id found e test bookmark (item ∷ items) h =
     elim (mine item) as (λ b. mine item ≡ b → AreAdded (schema_of found) (flat_map (λ x. sums_by_change x.change) (cond b (item ∷ filter mine items) (filter mine items)))) [
       | true ↦ λ hit. added_by (schema_of found) item.change
-          (subst (λ o. IfSome o (λ t. AddsToEscrow (schema_of t) item.change)) (ap (table_with_id tables) (same_number (changed_table item.change) id (and_left _ _ (and_right (test item) _ hit))) ∙ e) h.0)
+          (subst (λ o. IfSome o (λ t. AddsToEscrow (schema_of t) item.change)) (ap (table_with_id tables) (eqb-true (changed_table item.change) id (and_left _ _ (and_right (test item) _ hit))) ∙ e) h.0)
           (flat_map (λ x. sums_by_change x.change) (filter mine items)) (are_added tables id found e test bookmark items h.1)
       | false ↦ λ miss. are_added tables id found e test bookmark items h.1
     ] refl

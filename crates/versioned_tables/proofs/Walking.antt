@@ -5,8 +5,9 @@ use Rattle.std.specs.List.{list_all, list_any}
 use Rattle.std.specs.Ordering.{nat_cmp, is_lt}
 use Rattle.std.specs.Cmp.Lexicographic.{slice_cmp}
 use Rattle.std.specs.FinMap.Entries.{below_all}
-use Rattle.std.proofs.lemmas.Bool.{or_left, or_right}
-use Rattle.common_lemmas.proofs.Booleans.{T_first, T_second, is_true}
+use Rattle.std.proofs.lemmas.Bool.{and_from, or_left, or_right}
+use Rattle.common_lemmas.proofs.Booleans.{T_first, T_second, and_left, and_right, impossible, is_true}
+use Rattle.common_lemmas.proofs.Numbers.{same_bytes}
 use Rattle.column_set.specs.RecordValues.{RecordFields, lookup_by_key}
 use Rattle.cursor_nav.specs.Places.{Pair, are_sorted, pair_lt}
 use Rattle.derived_index.specs.KeptEntries.{has_entry}
@@ -16,7 +17,6 @@ use Rattle.index_derive.specs.Entries.{derive, own_order}
 use Rattle.database_state.specs.Conflicts.{yields_key}
 use Rattle.database_state.specs.State.{Status, uncommitted, committed, undone, is_undone}
 use Rattle.database_state.specs.Table.{Rows, row_at}
-use Rattle.record_changes.proofs.Tests.{and_both, and_left, and_right, impossible, same_bytes}
 use Rattle.version_store.specs.declared.calls.Reader.{Reader}
 use Rattle.version_store.specs.HeldChanges.{is_rewrite, is_unseen_status}
 use Rattle.versioned_tables.specs.HeldRecords.{HeldRecord, before_or, hides, is_change_at, is_standing_rewrite, seen_record}
@@ -30,11 +30,11 @@ use Rattle.versioned_tables.proofs.SeenRows.{seen_at}
 
 below_is : (key : List ℕ) (rows : Rows) → T (below_all (slice_cmp nat_cmp) key rows) → list_all (pair_lt (key, key)) (own_order rows) ≡ true
 below_is key [] h = refl
-below_is key (row ∷ rows) h = and_both _ _ (or_left _ _ (is_true (is_lt (slice_cmp nat_cmp key row.0)) (T_first _ _ h))) (below_is key rows (T_second (is_lt (slice_cmp nat_cmp key row.0)) _ h))
+below_is key (row ∷ rows) h = and_from _ _ (or_left _ _ (is_true (is_lt (slice_cmp nat_cmp key row.0)) (T_first _ _ h))) (below_is key rows (T_second (is_lt (slice_cmp nat_cmp key row.0)) _ h))
 
 pub order_is : (rows : Rows) → RowsRise rows → are_sorted (own_order rows) ≡ true
 order_is [] h = refl
-order_is (row ∷ rows) h = and_both _ _ (below_is row.0 rows (T_first _ _ h)) (order_is rows (T_second (below_all (slice_cmp nat_cmp) row.0 rows) _ h))
+order_is (row ∷ rows) h = and_from _ _ (below_is row.0 rows (T_first _ _ h)) (order_is rows (T_second (below_all (slice_cmp nat_cmp) row.0 rows) _ h))
 
 -- ---- what is seen is a variant
 
@@ -59,7 +59,7 @@ seen_is_variant reader table rule schema key bookmark newest (h ∷ held) e =
     by true hit rest g =
         let touched : (is_change_at table bookmark h && is_rewrite h.kind) ≡ true = and_left _ _ hit in
         let live = unseen_stands reader h.session h.status (and_right (is_change_at table bookmark h && is_rewrite h.kind) _ hit) in
-        or_right (yields_key rule schema key newest) _ (or_left (is_standing_rewrite table bookmark h && yields_key rule schema key h.before) _ (and_both _ _ (and_both _ _ touched live) g))
+        or_right (yields_key rule schema key newest) _ (or_left (is_standing_rewrite table bookmark h && yields_key rule schema key h.before) _ (and_from _ _ (and_from _ _ touched live) g))
     by false miss rest g = later (yields_key rule schema key newest) (is_standing_rewrite table bookmark h && yields_key rule schema key h.before) _ (rest g)
 
 -- ---- the entries that are shown

@@ -1,6 +1,6 @@
 -- Keys that are not cut compare column by column, and none begins another.
 use Rattle.std.proofs.Common.{◌≡◌, ℕ, Bool, true, false, List, [], ◌∷◌, ◌++◌, length, map, Option, Some, None, refl, sym, ap, ◌∙◌, true≢false}
-use Rattle.std.proofs.lemmas.Bool.{ltb-false}
+use Rattle.std.proofs.lemmas.Bool.{and_parts, ltb-false}
 use Rattle.std.proofs.lemmas.List.{take_all, append-nil}
 use Rattle.std.specs.declared.cmp.Ordering.{Ordering}
 use Rattle.std.specs.declared.cmp.Ordering.TheVariants.{Less, Equal, Greater}
@@ -11,7 +11,7 @@ use Rattle.jet_base.specs.declared.words.ColType.{ColType}
 use Rattle.key_normal.specs.KeyBytes.{KeyColumn, ascending_bytes, in_direction, segment_bytes, key_bytes, cut_key, is_cut}
 use Rattle.key_normal.specs.KeyOrder.{ascending_order, segment_order, key_order, is_value, are_values}
 use Rattle.key_normal.proofs.Comparing.Aligned.{AreBytes, aligned, aligned-append, aligned-longer, aligned-turned, slice_cmp-aligned}
-use Rattle.key_normal.proofs.Comparing.Segments.{both, value-bytes, aligned-values, bytes-ascending, bytes-null}
+use Rattle.key_normal.proofs.Comparing.Segments.{value-bytes, aligned-values, bytes-ascending, bytes-null}
 
 -- a value of the type, or NULL
 abbrev IsValueOrNull : ColType → Option (List ℕ) → Type 0
@@ -48,7 +48,7 @@ segment kind true h x y p q =
 
 first-of : (column : KeyColumn) (columns : List KeyColumn) (x : Option (List ℕ)) (xs : List (Option (List ℕ))) → are_values (column ∷ columns) (x ∷ xs) ≡ true → IsValueOrNull column.kind x × (are_values columns xs ≡ true)
 first-of column columns None xs e = (tt, e)
-first-of column columns (Some x) xs e = both (is_value column.kind x) (are_values columns xs) e
+first-of column columns (Some x) xs e = and_parts (is_value column.kind x) (are_values columns xs) e
 
 joined : (o p : Ordering) → partial_ordering_then (Some o) (Some p) ≡ Some (ordering_then o p)
 joined Less p = refl

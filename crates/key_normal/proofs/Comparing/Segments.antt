@@ -1,6 +1,6 @@
 -- The segments of a column compare as its values and NULL do.
-use Rattle.std.proofs.Common.{◌≡◌, ℕ, zero, suc, ◌-◌, ◌<◌, ◌≤◌, Bool, true, false, cond, ◌&&◌, nat_lt, nat_le, nat_eq, lit<, List, [], ◌∷◌, ◌++◌, length, reverse, take, drop, replicate, Some, None, pos, refl, sym, ap, subst, ◌∙◌, arith, inl, inr, true≢false}
-use Rattle.std.proofs.lemmas.Bool.{cases_lt, ltb-true, eqb-true}
+use Rattle.std.proofs.Common.{◌≡◌, ℕ, zero, suc, ◌-◌, ◌<◌, ◌≤◌, Bool, true, false, cond, ◌&&◌, nat_lt, nat_le, nat_eq, lit<, List, [], ◌∷◌, ◌++◌, length, reverse, take, drop, replicate, Some, None, pos, refl, sym, ap, subst, ◌∙◌, arith, inl, inr}
+use Rattle.std.proofs.lemmas.Bool.{cases_lt, ltb-true, eqb-true, and_parts}
 use Rattle.std.proofs.lemmas.List.{length-reverse, reverse-append, length-drop}
 use Rattle.std.specs.List.{list_all}
 use Rattle.std.specs.Ordering.{nat_cmp, int_cmp}
@@ -18,19 +18,15 @@ use Rattle.key_normal.proofs.Comparing.Numbers.{cmp-reverse, cmp-signed, int-pos
 
 -- ---- what a value of a type is
 
-pub both : (a b : Bool) → (a && b) ≡ true → (a ≡ true) × (b ≡ true)
-both true b e = (refl, e)
-both false b e = absurd (true≢false (sym e))
-
 are-bytes : (xs : List ℕ) → list_all (λ byte. nat_lt byte 256) xs ≡ true → AreBytes xs
 are-bytes [] e = tt
-are-bytes (x ∷ xs) e = let parts = both (nat_lt x 256) (list_all (λ byte. nat_lt byte 256) xs) e in (ltb-true x 256 parts.0, are-bytes xs parts.1)
+are-bytes (x ∷ xs) e = let parts = and_parts (nat_lt x 256) (list_all (λ byte. nat_lt byte 256) xs) e in (ltb-true x 256 parts.0, are-bytes xs parts.1)
 
 pub value-bytes : (kind : ColType) (xs : List ℕ) → is_value kind xs ≡ true → AreBytes xs
-value-bytes kind xs e = are-bytes xs (both (width_fits kind (length xs)) (list_all (λ byte. nat_lt byte 256) xs) e).1
+value-bytes kind xs e = are-bytes xs (and_parts (width_fits kind (length xs)) (list_all (λ byte. nat_lt byte 256) xs) e).1
 
 width : (kind : ColType) (xs : List ℕ) → is_value kind xs ≡ true → width_fits kind (length xs) ≡ true
-width kind xs e = (both (width_fits kind (length xs)) (list_all (λ byte. nat_lt byte 256) xs) e).0
+width kind xs e = (and_parts (width_fits kind (length xs)) (list_all (λ byte. nat_lt byte 256) xs) e).0
 
 -- ---- numbers
 

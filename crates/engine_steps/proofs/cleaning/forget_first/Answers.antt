@@ -1,6 +1,7 @@
 use Rattle.std.proofs.Common.{◌≡◌, ℕ, ◌-◌, ◌&&◌, true, List, refl, sym, ap, subst, ◌∙◌}
 use Rattle.std.specs.Prelude.{drop, is_some, nat_lt}
-use Rattle.record_changes.proofs.Tests.{and_left, and_right, and_second}
+use Rattle.common_lemmas.proofs.Booleans.{and_left, and_right}
+use Rattle.record_changes.proofs.Tests.{and_second}
 use Rattle.versioned_tables.specs.HeldRecords.{HeldRecord}
 use Rattle.versioned_tables.specs.VersionedTables.{without_oldest}
 use Rattle.stored_variants.specs.StoredVersions.{StoredVersions, next_to_forget}

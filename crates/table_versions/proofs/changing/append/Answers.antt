@@ -1,4 +1,4 @@
-use Rattle.record_changes.proofs.Tests.{impossible}
+use Rattle.common_lemmas.proofs.Booleans.{impossible}
 use Rattle.table_versions.proofs.changing.append.Goals as goal
 
 pub unreachable-requires : goal.unreachable-requires

@@ -2,10 +2,11 @@
 use Rattle.std.proofs.Common.{◌≡◌, ◌+◌, ◌&&◌, ℕ, List, length, not, slice_index, bytes_eq, subst, sym}
 use Rattle.std.specs.Prelude.{All}
 use Rattle.std.proofs.lemmas.List.Elements.{All-filter}
+use Rattle.common_lemmas.proofs.Results.{either_way}
 use Rattle.cursor_nav.specs.Places.{Pair}
 use Rattle.index_derive.specs.Entries.{insert_entry}
 use Rattle.index_tree.specs.IndexTrees.{entries_of}
-use Rattle.tests_trees.proofs.EntryLemmas.{either_way, insert_all}
+use Rattle.tests_trees.proofs.EntryLemmas.{insert_all}
 use Rattle.tests_trees.proofs.indexes.change_one.Goals as goal
 
 IsSized : Pair → Type 0

@@ -1,5 +1,5 @@
 use Rattle.std.proofs.Common.{◌≡◌, ◌+◌, ◌≤◌, ℕ, List, length, ap, arith}
-use Rattle.record_changes.proofs.Tests.{impossible}
+use Rattle.common_lemmas.proofs.Booleans.{impossible}
 use Rattle.variant_trees.proofs.rewriting.copy_row.Goals as goal
 
 within : (n m : ℕ) → n ≡ 0 → m ≤ 1700 → n + m ≤ 1700

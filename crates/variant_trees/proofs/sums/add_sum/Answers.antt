@@ -2,11 +2,11 @@ use Rattle.std.proofs.Common.{rules, map, sym, ap, subst, ◌∙◌}
 use Rattle.std.specs.Prelude.{ℤ, FitsSigned, IsSomeAnd}
 use Rattle.std.specs.Int.{w32, cast_unsigned}
 use Rattle.std.proofs.lemmas.Int.{to_z-of_z}
+use Rattle.common_lemmas.proofs.Booleans.{impossible}
 use Rattle.column_set.specs.declared.changes.Change.{Change}
 use Rattle.column_set.specs.declared.changes.Change.TheVariants.{Add}
 use Rattle.database_state.specs.Changes.{changed_table, is_sum, tables_after}
 use Rattle.database_state.specs.Table.{schema_of, table_with_id}
-use Rattle.record_changes.proofs.Tests.{impossible}
 use Rattle.version_store.specs.HeldChanges.{kind_of}
 use Rattle.stored_variants.specs.VersionsKept.{AddsToEscrow}
 use Rattle.stored_variants.specs.VersionsView.{with_newest_by}

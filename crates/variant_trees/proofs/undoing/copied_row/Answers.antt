@@ -1,6 +1,6 @@
 use Rattle.std.proofs.Common.{◌≡◌, ◌+◌, ◌≤◌, ℕ, List, Option, length, sym, ap, subst, ◌∙◌, arith}
 use Rattle.std.specs.Prelude.{IfSome, option_and_then, option_copied}
-use Rattle.record_changes.proofs.Tests.{impossible}
+use Rattle.common_lemmas.proofs.Booleans.{impossible}
 use Rattle.table_trees.specs.StoredTables.{table_nodes}
 use Rattle.stored_variants.specs.RecordRows.{row_in_node}
 use Rattle.variant_trees.proofs.UndoneThere.{short_row}

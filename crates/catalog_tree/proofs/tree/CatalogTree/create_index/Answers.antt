@@ -1,10 +1,11 @@
 use Rattle.std.proofs.Common.{◌≡◌, ap, ◌∙◌}
+use Rattle.common_lemmas.proofs.Results.{OnOk-then}
 use Rattle.index_derive.specs.declared.schema_calls.SchemaStep.TheVariants as step
 use Rattle.jet_catalog.specs.Catalog.{catalog_after}
 use Rattle.catalog_record.specs.Buffers.{text_of}
 use Rattle.catalog_changes.specs.CatalogSteps.{item_of_index}
 use Rattle.catalog_changes.proofs.StepNodes.{here, index_made}
-use Rattle.catalog_tree.proofs.Keeping.{absent_now, added_now, index_is, index_through, on_ok}
+use Rattle.catalog_tree.proofs.Keeping.{absent_now, added_now, index_is, index_through}
 use Rattle.catalog_tree.proofs.tree.CatalogTree.create_index.Goals as goal
 
 pub add-requires-clause-absent : goal.add-requires-clause-absent
@@ -19,7 +20,7 @@ add-requires-clause-absent c =
     (index_made roots catalog c.args.table c.args.rule.now x.t x.there (index_through roots catalog c.args.table c.args.root c.args.rule.now holds.writable x)).absent
 
 pub returns-clause-ok : goal.returns-clause-ok
-returns-clause-ok c = on_ok c.add.result (λ b roots catalog holds x.
+returns-clause-ok c = OnOk-then c.add.result (λ b roots catalog holds x.
     let it = item_of_index roots x.t c.args.rule.now in
     let node : c.write_index.new.self ≡ text_of it = c.write_index.ensures ∙ ap text_of (index_is roots x.t c.args.table c.args.root c.args.rule.now (here roots catalog c.args.table.0 x.t x.there holds.writable).is x.root_is) in
     let through = index_through roots catalog c.args.table c.args.root c.args.rule.now holds.writable x in

@@ -1,6 +1,7 @@
 -- What each kind of place asks of the tree.
 use Rattle.std.proofs.Common.{true, not, find, sym, ap, ◌∙◌}
 use Rattle.std.proofs.lemmas.List.{append-nil}
+use Rattle.common_lemmas.proofs.Finding.{find_nothing}
 use Rattle.btree_inplace.specs.Trees.{nodes_of}
 use Rattle.index_derive.specs.declared.entries.Place.{Place}
 use Rattle.index_derive.specs.declared.entries.Place.TheVariants.{On}
@@ -8,7 +9,7 @@ use Rattle.cursor_nav.specs.Places.{entry_after, pair_lt}
 use Rattle.index_tree.specs.Entries.{IsShort}
 use Rattle.index_tree.specs.IndexTrees.{entries_of}
 use Rattle.index_tree.proofs.Cutting.{after_gap}
-use Rattle.index_tree.proofs.Lists.{find_all, find_nothing}
+use Rattle.index_tree.proofs.Lists.{find_all}
 use Rattle.index_tree.proofs.NodeEntries.{node_from}
 use Rattle.index_tree.proofs.index.IndexTree.after.Goals as goal
 

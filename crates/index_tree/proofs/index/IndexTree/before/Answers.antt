@@ -1,6 +1,7 @@
 -- What each kind of place asks of the tree.
 use Rattle.std.proofs.Common.{true, None, filter, sym, ap, ◌∙◌}
 use Rattle.std.specs.List.{last_or}
+use Rattle.common_lemmas.proofs.Finding.{last_nothing}
 use Rattle.btree_inplace.specs.Trees.{nodes_of}
 use Rattle.index_derive.specs.declared.entries.Place.{Place}
 use Rattle.index_derive.specs.declared.entries.Place.TheVariants.{On}
@@ -8,7 +9,7 @@ use Rattle.cursor_nav.specs.Places.{entry_before, pair_lt}
 use Rattle.index_tree.specs.Entries.{IsShort}
 use Rattle.index_tree.specs.IndexTrees.{entries_of}
 use Rattle.index_tree.proofs.Cutting.{before_gap}
-use Rattle.index_tree.proofs.Lists.{last_all, last_nothing}
+use Rattle.index_tree.proofs.Lists.{last_all}
 use Rattle.index_tree.proofs.NodeEntries.{node_upto}
 use Rattle.index_tree.proofs.index.IndexTree.before.Goals as goal
 

@@ -2,6 +2,7 @@
 use Rattle.std.proofs.Common.{◌≡◌, ◌<◌, List, ℕ, find, ap, ◌∙◌, arith}
 use Rattle.std.specs.Prelude.{All, OnOk}
 use Rattle.std.proofs.lemmas.List.Elements.{All-from_get_or}
+use Rattle.common_lemmas.proofs.Results.{OnOk-then, either_way}
 use Rattle.btree_inplace.specs.Changes.{inserted}
 use Rattle.btree_inplace.specs.Order.{has_key}
 use Rattle.btree_inplace.specs.Trees.{nodes_of}
@@ -9,7 +10,7 @@ use Rattle.index_derive.specs.Entries.{insert_entry}
 use Rattle.cursor_nav.specs.Places.{Pair}
 use Rattle.index_tree.specs.Entries.{IsShort, node_of_entry}
 use Rattle.index_tree.specs.IndexTrees.{IsIndexTree, entries_of}
-use Rattle.index_tree.proofs.Changing.{absent_node, either_way, insert_apart, insert_short, insert_sorted, inserted_nodes, on_ok}
+use Rattle.index_tree.proofs.Changing.{absent_node, insert_apart, insert_short, insert_sorted, inserted_nodes}
 use Rattle.index_tree.proofs.NodeEntries.{holds_entries}
 use Rattle.index_tree.proofs.index.IndexTree.insert.Goals as goal
 use Rattle.index_tree.proofs.index.IndexTree.insert.Goals.{After-insert}
@@ -31,7 +32,7 @@ held c =
     let short : IsShort e = record { key = c.requires.key; bookmark = c.requires.bookmark; bytes = bytes } in
     let node : record { key = c.as_slice.result.now; extent = 2; «data» = c.as_slice-2.result.now } ≡ node_of_entry e =
     (λ i. record { key = (c.as_slice.ensures.value ∙ c.joined-node_key.ensures) i; extent = 2; «data» = (c.as_slice-2.ensures ∙ c.write_u16.ensures) i }) in
-    on_ok c.insert.result
+    OnOk-then c.insert.result
     (λ (h : nodes_of c.insert.new.space c.insert.new.self ≡ inserted nodes (record { key = c.as_slice.result.now; extent = 2; «data» = c.as_slice-2.result.now })).
     holds_entries c.insert.new.space (record { tree = c.insert.new.self }) (insert_entry e es) c.insert.ensures.tree
     (h ∙ (λ i. inserted (c.requires.index.nodes i) (node i)) ∙ inserted_nodes es e c.requires.apart)
@@ -46,4 +47,4 @@ returns-clause-index c =
     (held c) c.insert.ensures.err
 
 pub returns-clause-ok : goal.returns-clause-ok
-returns-clause-ok c = on_ok c.insert.result (λ h. h.1) (held c)
+returns-clause-ok c = OnOk-then c.insert.result (λ h. h.1) (held c)

@@ -1,8 +1,9 @@
 use Rattle.std.proofs.Common.{◌≡◌, ◌≤◌, ◌<◌, subst, length, arith, sym, ◌∙◌}
 use Rattle.std.specs.Prelude.{bytes_eq}
 use Rattle.std.proofs.lemmas.Slice.Eq.{bytes_eq-Decides}
+use Rattle.std.proofs.lemmas.Bool.{not-false}
 use Rattle.long_value.specs.Values.{chunk_count}
-use Rattle.long_value.proofs.Comparing.{all_same, more_same, not_not, past_all}
+use Rattle.long_value.proofs.Comparing.{all_same, more_same, past_all}
 use Rattle.long_value.proofs.Held.{held_long, within_chunk}
 use Rattle.long_value.proofs.values.LongValues.equals.Goals as goal
 
@@ -27,7 +28,7 @@ pub loop-k-preserved : goal.loop-k-preserved
 loop-k-preserved c = record {
   same = λ value holds.
       more_same value.bytes c.args.bytes.now c.chunk.result.now c.chunk_of.result.now c.loop-k.k (c.loop-k.invariant.same value holds) (c.chunk.ensures value holds) c.chunk_of.ensures.chunk
-      ((bytes_eq-Decides c.chunk.result.now c.chunk_of.result.now).0 (not_not (bytes_eq c.chunk.result.now c.chunk_of.result.now) (sym c.ne.ensures ∙ c.if-ne.false)));
+      ((bytes_eq-Decides c.chunk.result.now c.chunk_of.result.now).0 (not-false (bytes_eq c.chunk.result.now c.chunk_of.result.now) (sym c.ne.ensures ∙ c.if-ne.false)));
 }
 
 pub returns : goal.returns

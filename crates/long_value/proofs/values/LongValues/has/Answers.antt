@@ -1,12 +1,13 @@
 -- The head tells whether the value is there.
 use Rattle.std.proofs.Common.{◌≡◌, ap, sym, refl, ◌∙◌, find}
 use Rattle.std.specs.Prelude.{is_some}
+use Rattle.common_lemmas.proofs.Options.{is_some-map, none_there}
 use Rattle.page_image.specs.Page.{Node}
 use Rattle.btree_inplace.specs.Order.{get_in, has_key}
 use Rattle.btree_inplace.specs.Trees.{nodes_of}
 use Rattle.long_value.specs.Values.{Values, chunk_key, value_of}
 use Rattle.long_value.specs.Stores.{HasValues, id_bytes}
-use Rattle.long_value.proofs.Held.{copied_some, is_there, mapped_some, none_there, value_there_is}
+use Rattle.long_value.proofs.Held.{copied_some, is_there, value_there_is}
 use Rattle.long_value.proofs.values.LongValues.has.Goals as goal
 
 told : (c : goal.After-is_some) (values : Values) → HasValues c.args.space.now c.args.self.now values → c.is_some.result ≡ is_some (value_of (id_bytes c.args.id) values)
@@ -15,7 +16,7 @@ told c values has =
     let key = chunk_key (id_bytes c.args.id) 0 in
     c.is_some.ensures ∙ sym (copied_some c.get.result) ∙ ap is_some c.get.ensures
     ∙ ap (λ k. is_some (get_in nodes k)) (c.as_slice.ensures ∙ c.chunk_key.ensures)
-    ∙ mapped_some (λ (n : Node). n.data) (find (has_key key) nodes)
+    ∙ is_some-map (λ (n : Node). n.data) (find (has_key key) nodes)
     ∙ ap (λ l. is_some (find (has_key key) l)) has.nodes
     ∙ is_there (id_bytes c.args.id) values refl has.whole
 

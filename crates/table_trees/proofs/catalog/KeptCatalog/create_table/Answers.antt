@@ -1,8 +1,9 @@
 -- The tree is made first where there is none, and then does it.
+use Rattle.common_lemmas.proofs.Results.{OnOk-then}
 use Rattle.index_derive.specs.declared.schema_calls.SchemaStep.TheVariants as step
 use Rattle.jet_catalog.specs.Catalog.{catalog_after}
 use Rattle.table_trees.proofs.Catalogs.{becomes_then, follows_then, holds_still, holds_tree, tree_follows, tree_same}
-use Rattle.table_trees.proofs.Outcomes.{on_err, on_ok}
+use Rattle.table_trees.proofs.Outcomes.{on_err}
 use Rattle.table_trees.proofs.catalog.KeptCatalog.create_table.Goals as goal
 
 pub make-requires : goal.make-requires
@@ -13,7 +14,7 @@ create_table-requires c = let r = c.requires in (r.0, r.1, holds_tree c.make.new
 
 pub returns-in-Some-clause-ok : goal.returns-in-Some-clause-ok
 returns-in-Some-clause-ok c =
-    on_ok c.create_table.result
+    OnOk-then c.create_table.result
     (λ f roots catalog holds takes.
     let now = holds_still c.make.ensures.becomes holds in
     follows_then c.make.ensures.becomes

@@ -1,13 +1,13 @@
 -- What each kind of place asks of the tree.
 use Rattle.std.proofs.Common.{◌≡◌, Bool, true, false, option_map, refl, sym, ap, ◌∙◌}
 use Rattle.std.specs.Ordering.{is_lt}
+use Rattle.common_lemmas.proofs.Finding.{find_nothing}
 use Rattle.index_derive.specs.declared.entries.Place.{Place}
 use Rattle.index_derive.specs.declared.entries.Place.TheVariants.{Before, On, Gap}
 use Rattle.btree_inplace.specs.Order.{at_or_after_in, after_in, is_from, is_above, key_and_data}
 use Rattle.table_trees.specs.NodeTrees.{nodes_in}
 use Rattle.table_trees.specs.StoredNodes.{node_after}
 use Rattle.table_trees.proofs.BookmarkOrder.{order, beyond_from, beyond_above, beyond_gap_above, beyond_gap_below}
-use Rattle.table_trees.proofs.Finding.{find_nothing}
 use Rattle.table_trees.proofs.NodeChanges.{after_is}
 use Rattle.table_trees.proofs.nodes.NodeTree.after.Goals as goal
 

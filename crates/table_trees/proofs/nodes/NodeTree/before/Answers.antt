@@ -1,13 +1,13 @@
 -- What each kind of place asks of the tree.
 use Rattle.std.proofs.Common.{◌≡◌, Bool, true, false, option_map, refl, sym, ap, ◌∙◌}
 use Rattle.std.specs.Ordering.{is_gt}
+use Rattle.common_lemmas.proofs.Finding.{last_nothing}
 use Rattle.index_derive.specs.declared.entries.Place.{Place}
 use Rattle.index_derive.specs.declared.entries.Place.TheVariants.{After, On, Gap}
 use Rattle.btree_inplace.specs.Order.{at_or_before_in, before_in, is_upto, is_under, key_and_data}
 use Rattle.table_trees.specs.NodeTrees.{nodes_in}
 use Rattle.table_trees.specs.StoredNodes.{node_before}
 use Rattle.table_trees.proofs.BookmarkOrder.{order, short_upto, short_under}
-use Rattle.table_trees.proofs.Finding.{last_nothing}
 use Rattle.table_trees.proofs.NodeChanges.{before_is}
 use Rattle.table_trees.proofs.nodes.NodeTree.before.Goals as goal
 

@@ -1,5 +1,6 @@
 -- The tree keeps another number of bytes for one node.
 use Rattle.std.proofs.Common.{◌≤◌, length, find, refl, ap, ◌∙◌, arith}
+use Rattle.common_lemmas.proofs.Results.{OnOk-then}
 use Rattle.page_image.specs.Page.{Node}
 use Rattle.btree_inplace.specs.Changes.{with_extent_at}
 use Rattle.btree_inplace.specs.Order.{has_key}
@@ -7,7 +8,7 @@ use Rattle.cursor_nav.specs.Places.{are_sorted}
 use Rattle.table_trees.specs.NodeTrees.{nodes_in}
 use Rattle.table_trees.specs.StoredNodes.{IsShortNode}
 use Rattle.table_trees.proofs.NodeChanges.{become, changed-entries, changed_short, found_and, key_is_short, some_of}
-use Rattle.table_trees.proofs.Outcomes.{on_err, on_ok}
+use Rattle.table_trees.proofs.Outcomes.{on_err}
 use Rattle.table_trees.proofs.nodes.NodeTree.widen.Goals as goal
 
 pub widen-requires-clause-small : goal.widen-requires-clause-small
@@ -21,7 +22,7 @@ returns-clause-ok c =
     let nodes = nodes_in c.args.space.now c.args.self.now in
     let key = c.args.bookmark.now in
     let change : Node → Node = λ (n : Node). record n { extent = c.args.extent } in
-    on_ok c.widen.result
+    OnOk-then c.widen.result
     (λ has. become c.tree_pages_are_own.ensures c.args.space.now c.args.self.now c.widen.new.space (record { tree = c.widen.new.self }) (with_extent_at nodes key c.args.extent) c.requires.tree.tree c.widen.ensures.tree has c.widen.ensures.pages
     (ap are_sorted (changed-entries change key nodes (λ n. refl)) ∙ c.requires.tree.in_order)
     (changed_short IsShortNode change key nodes

@@ -1,6 +1,7 @@
 -- The tree of the index takes the entry, and the other trees stay.
 use Rattle.std.proofs.Common.{List, refl, sym, ap, subst, ◌∙◌, arith, true≢false}
 use Rattle.std.specs.Vec.{with_item}
+use Rattle.common_lemmas.proofs.Results.{OnOk-then}
 use Rattle.cursor_nav.specs.Places.{Pair}
 use Rattle.derived_index.specs.KeptEntries.{has_entry}
 use Rattle.index_derive.specs.Entries.{insert_entry}
@@ -9,7 +10,7 @@ use Rattle.table_trees.specs.StoredTables.{is_index, part_of}
 use Rattle.table_trees.specs.TableParts.{stored_index, stored_table}
 use Rattle.table_trees.specs.declared.table.Table.{Table}
 use Rattle.table_trees.proofs.IndexChanges.{Changes, entries_change, entries_same, found_entries, found_index, is_numbered}
-use Rattle.table_trees.proofs.Outcomes.{on_err, on_ok}
+use Rattle.table_trees.proofs.Outcomes.{on_err}
 use Rattle.table_trees.proofs.Places.{none_shown, place_of, within_of}
 use Rattle.table_trees.proofs.TableChanges.{HasIndexes, TreesStay}
 use Rattle.table_trees.proofs.table.Table.insert_entry.Goals as goal
@@ -43,7 +44,7 @@ returns-in-Some-clause-ok c =
     let others : HasIndexes c.args.self.now is is.indexes.items = record { table = refl; nodes = refl; long_values = refl; items_are = refl } in
     let stay : TreesStay = record { nodes = c.trees_stay.ensures.nodes; long_values = c.trees_stay.ensures.long_values; indexes = c.trees_stay.ensures.indexes } in
     let listed = found_entries c.args.space.now c.args.self.now c.args.index.0 c.in-Some.i c.index_mut-named.result.now c.requires.table place in
-    on_ok c.insert.result
+    OnOk-then c.insert.result
     (λ has. entries_change stay c.trees_stay.ensures.own c.args.space.now c.args.self.now c.insert.new.space c.args.index.0 c.in-Some.i c.index_mut-named.result.now c.insert.new.self is (insert_entry (c.args.key.now, c.args.bookmark.now) (part_of (is_index c.args.index.0) (λ x. x.1) (stored_table c.args.space.now c.args.self.now).indexes)) change others
     (has ∙ ap (insert_entry (c.args.key.now, c.args.bookmark.now)) (sym listed)))
     c.insert.ensures.ok

@@ -1,10 +1,11 @@
 -- The named table has one index more, and all other trees stay.
 use Rattle.std.proofs.Common.{List, [], ◌∷◌, ◌++◌, refl, sym, ap, ◌∙◌, arith, true≢false}
 use Rattle.std.specs.List.{list_any}
+use Rattle.common_lemmas.proofs.Results.{OnOk-then, either_way}
 use Rattle.table_trees.specs.StoredTables.{StoredIndex, is_index, put_indexes}
 use Rattle.table_trees.specs.StoredTrees.{with_index_root}
 use Rattle.table_trees.specs.TableParts.{stored_table}
-use Rattle.table_trees.proofs.Outcomes.{either_way, on_err, on_ok}
+use Rattle.table_trees.proofs.Outcomes.{on_err}
 use Rattle.table_trees.proofs.Places.{place_of, within_of}
 use Rattle.table_trees.proofs.StoreChanges.{catalog_same, found_indexes, found_table, index_shown, is_named, kept, no_table, shown_same, tables_same}
 use Rattle.table_trees.proofs.trees.TableTrees.add_index.Goals as goal
@@ -27,7 +28,7 @@ invariant_of-self c =
 
 pub returns-in-Some-clause-ok : goal.returns-in-Some-clause-ok
 returns-in-Some-clause-ok c =
-    on_ok c.add_index.result
+    OnOk-then c.add_index.result
     (λ b. tables_same (index_shown (record { tables = c.tables_stay.ensures.tables; catalog = c.tables_stay.ensures.catalog }) c.self.inside.space c.self.inside.tables.items c.add_index.new.space c.args.table.0 c.in-Some.i c.index_mut-named.result.now c.add_index.new.self (λ (l : List StoredIndex). l ++ (c.args.index.0, []) ∷ []) (with_index_root c.args.index.0 b.0) c.args.self.now c.self.invariant (place_of (is_named c.args.table.0) c.self.inside.tables.items c.as_slice.result.now c.in-Some.i c.index_mut-named.result.now c.as_slice.ensures.value c.in-Some.ensures c.index_mut-named.ensures.value) c.self.view_is b.1))
     c.add_index.ensures.ok
 
@@ -42,7 +43,7 @@ returns-in-None-clause-ok c = absurd (true≢false (sym c.requires.there ∙ no_
 
 pub returns-in-Some-clause-rooted : goal.returns-in-Some-clause-rooted
 returns-in-Some-clause-rooted c =
-    on_ok c.add_index.result
+    OnOk-then c.add_index.result
     (λ b. (b.0, catalog_same (index_shown (record { tables = c.tables_stay.ensures.tables; catalog = c.tables_stay.ensures.catalog }) c.self.inside.space c.self.inside.tables.items c.add_index.new.space c.args.table.0 c.in-Some.i c.index_mut-named.result.now c.add_index.new.self (λ (l : List StoredIndex). l ++ (c.args.index.0, []) ∷ []) (with_index_root c.args.index.0 b.0) c.args.self.now c.self.invariant (place_of (is_named c.args.table.0) c.self.inside.tables.items c.as_slice.result.now c.in-Some.i c.index_mut-named.result.now c.as_slice.ensures.value c.in-Some.ensures c.index_mut-named.ensures.value) c.self.view_is b.1)))
     c.add_index.ensures.ok
 

@@ -1,12 +1,13 @@
 -- One index of the named table takes the entry, and all other trees stay.
 use Rattle.std.proofs.Common.{List, refl, sym, ap, subst, ◌∙◌, arith, true≢false}
 use Rattle.std.specs.List.{list_any}
+use Rattle.common_lemmas.proofs.Results.{OnOk-then, either_way}
 use Rattle.derived_index.specs.KeptEntries.{has_entry}
 use Rattle.index_derive.specs.Entries.{insert_entry}
 use Rattle.index_tree.specs.Entries.{IsApartFromAll}
 use Rattle.table_trees.specs.StoredTables.{StoredIndex, changed_where, is_index, part_of, put_entries, put_indexes}
 use Rattle.table_trees.specs.TableParts.{stored_table}
-use Rattle.table_trees.proofs.Outcomes.{either_way, on_err, on_ok}
+use Rattle.table_trees.proofs.Outcomes.{on_err}
 use Rattle.table_trees.proofs.Places.{place_of, within_of}
 use Rattle.table_trees.proofs.StoreChanges.{catalog_same, found_indexes, found_table, indexes_shown, is_named, kept, no_indexes, shown_same, tables_same}
 use Rattle.table_trees.proofs.trees.TableTrees.insert_entry.Goals as goal
@@ -35,7 +36,7 @@ invariant_of-self c =
 
 pub returns-in-Some-clause-ok : goal.returns-in-Some-clause-ok
 returns-in-Some-clause-ok c =
-    on_ok c.insert_entry.result
+    OnOk-then c.insert_entry.result
     (λ b. tables_same (indexes_shown (record { tables = c.tables_stay.ensures.tables; catalog = c.tables_stay.ensures.catalog }) c.self.inside.space c.self.inside.tables.items c.insert_entry.new.space c.args.table.0 c.in-Some.i c.index_mut-named.result.now c.insert_entry.new.self (λ (l : List StoredIndex). changed_where (is_index c.args.index.0) (put_entries (insert_entry (c.args.key.now, c.args.bookmark.now) (part_of (is_index c.args.index.0) (λ x. x.1) l))) l) c.args.self.now c.self.invariant (place_of (is_named c.args.table.0) c.self.inside.tables.items c.as_slice.result.now c.in-Some.i c.index_mut-named.result.now c.as_slice.ensures.value c.in-Some.ensures c.index_mut-named.ensures.value) c.self.view_is b))
     c.insert_entry.ensures.ok
 

@@ -1,11 +1,12 @@
 -- The nodes of the named table take one more where its bookmark is not there, and all other trees stay.
 use Rattle.std.proofs.Common.{◌≡◌, None, List, subst, sym, ap, ◌∙◌, arith, true≢false}
 use Rattle.std.specs.Prelude.{IfOk, OnErr}
+use Rattle.common_lemmas.proofs.Results.{OnOk-then, either_way}
 use Rattle.page_image.specs.Page.{Node}
 use Rattle.btree_inplace.specs.Changes.{inserted_if_absent}
 use Rattle.btree_inplace.specs.Order.{extent_in}
 use Rattle.table_trees.specs.NodeTrees.{nodes_in}
-use Rattle.table_trees.proofs.Outcomes.{either_way, on_err, on_ok}
+use Rattle.table_trees.proofs.Outcomes.{on_err}
 use Rattle.table_trees.proofs.Places.{place_of, within_of}
 use Rattle.table_trees.proofs.StoreChanges.{catalog_same, found_nodes, found_table, is_named, no_table, nodes_kept, nodes_same, nodes_shown, tables_same}
 use Rattle.table_trees.proofs.trees.TableTrees.insert_if_absent.Goals as goal
@@ -25,7 +26,7 @@ invariant_of-self c =
 
 pub returns-in-Some-clause-ok : goal.returns-in-Some-clause-ok
 returns-in-Some-clause-ok c =
-    on_ok c.insert_if_absent.result
+    OnOk-then c.insert_if_absent.result
     (λ b. tables_same (nodes_shown (record { tables = c.tables_stay.ensures.tables; catalog = c.tables_stay.ensures.catalog }) (record { nodes = c.tables_stay.ensures.nodes; long_values = c.tables_stay.ensures.long_values; indexes = c.tables_stay.ensures.indexes }) c.self.inside.space c.self.inside.tables.items c.insert_if_absent.new.space c.args.table.0 c.in-Some.i c.index_mut-named.result.now c.insert_if_absent.new.self (λ (l : List Node). inserted_if_absent l (record { key = c.args.bookmark.now; extent = c.args.extent; «data» = c.args.row.now })) c.args.self.now c.self.invariant (place_of (is_named c.args.table.0) c.self.inside.tables.items c.as_slice.result.now c.in-Some.i c.index_mut-named.result.now c.as_slice.ensures.value c.in-Some.ensures c.index_mut-named.ensures.value) c.self.view_is b))
     c.insert_if_absent.ensures.ok
 

@@ -1,11 +1,12 @@
 -- The catalog has the node, with the roots of trees that stand, and all tables stay.
 use Rattle.std.proofs.Common.{map, sym, ap, ◌∙◌, arith, true≢false}
+use Rattle.common_lemmas.proofs.Results.{OnOk-then, either_way}
 use Rattle.catalog_grammar.specs.Catalogs.{TableRoots}
 use Rattle.table_trees.specs.StoredTrees.{StoredCatalog, roots_by_number}
 use Rattle.table_trees.specs.TableParts.{tree_roots}
 use Rattle.table_trees.proofs.KeptSteps.{catalog_beside, holds_shown, roots_found, shows_after, stands_beside, tables_beside}
 use Rattle.table_trees.proofs.NewItems.{takes_table}
-use Rattle.table_trees.proofs.Outcomes.{either_way, on_err, on_ok}
+use Rattle.table_trees.proofs.Outcomes.{on_err}
 use Rattle.table_trees.proofs.Places.{within_of}
 use Rattle.table_trees.proofs.StoreChanges.{catalog_same, is_named, no_table}
 use Rattle.table_trees.proofs.trees.TableTrees.keep_table.Goals as goal
@@ -25,7 +26,7 @@ invariant_of-self c =
 
 pub returns-in-Some-clause-ok : goal.returns-in-Some-clause-ok
 returns-in-Some-clause-ok c =
-    on_ok c.create_table.result
+    OnOk-then c.create_table.result
     (λ f catalog shows new. shows_after c.self.inside.tables.items (f (roots_by_number (map tree_roots c.self.inside.tables.items)) catalog (holds_shown c.self.inside.space c.self.inside.catalog c.self.inside.tables.items c.args.self.now catalog c.self.invariant c.self.view_is shows) (takes_table (roots_by_number (map tree_roots c.self.inside.tables.items)) catalog c.args.table c.args.name.now c.root-records.result c.root-long_values.result new (omega arith) (omega arith) (omega arith) (ap (λ (t : TableRoots). t.records) (roots_found c.self.inside.tables.items c.as_slice.result.now c.args.table.0 c.in-Some.i c.index-named.result.now c.as_slice.ensures.value c.in-Some.ensures c.index-named.ensures) ∙ sym c.root-records.ensures) (ap (λ (t : TableRoots). t.long_values) (roots_found c.self.inside.tables.items c.as_slice.result.now c.args.table.0 c.in-Some.i c.index-named.result.now c.as_slice.ensures.value c.in-Some.ensures c.index-named.ensures) ∙ sym c.root-long_values.ensures))))
     c.create_table.ensures.ok
 

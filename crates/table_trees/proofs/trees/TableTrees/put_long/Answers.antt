@@ -1,10 +1,11 @@
 -- The long values of the named table take one more, and all other trees stay.
 use Rattle.std.proofs.Common.{sym, ap, ◌∙◌, arith, true≢false}
+use Rattle.common_lemmas.proofs.Results.{OnOk-then, either_way}
 use Rattle.long_value.specs.Stores.{id_bytes}
 use Rattle.long_value.specs.Values.{Values, put_value, value_of}
 use Rattle.table_trees.proofs.Places.{place_of, within_of}
 use Rattle.table_trees.specs.LongTrees.{long_values_in}
-use Rattle.table_trees.proofs.Outcomes.{either_way, on_err, on_ok}
+use Rattle.table_trees.proofs.Outcomes.{on_err}
 use Rattle.table_trees.proofs.StoreChanges.{catalog_same, found_long, found_table, is_named, long_kept, long_same, long_shown, no_table, tables_same}
 use Rattle.table_trees.proofs.trees.TableTrees.put_long.Goals as goal
 
@@ -26,7 +27,7 @@ invariant_of-self c =
 
 pub returns-in-Some-clause-ok : goal.returns-in-Some-clause-ok
 returns-in-Some-clause-ok c =
-    on_ok c.put.result
+    OnOk-then c.put.result
     (λ b. tables_same (long_shown (record { tables = c.tables_stay.ensures.tables; catalog = c.tables_stay.ensures.catalog }) (record { nodes = c.tables_stay.ensures.nodes; long_values = c.tables_stay.ensures.long_values; indexes = c.tables_stay.ensures.indexes }) c.self.inside.space c.self.inside.tables.items c.put.new.space c.args.table.0 c.in-Some.i c.index_mut-named.result.now c.put.new.self (λ (l : Values). put_value (id_bytes c.args.id) (record { count = 1; bytes = c.args.bytes.now }) l) c.args.self.now c.self.invariant (place_of (is_named c.args.table.0) c.self.inside.tables.items c.as_slice.result.now c.in-Some.i c.index_mut-named.result.now c.as_slice.ensures.value c.in-Some.ensures c.index_mut-named.ensures.value) c.self.view_is b))
     c.put.ensures.ok
 

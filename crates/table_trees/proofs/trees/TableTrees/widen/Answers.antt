@@ -1,11 +1,12 @@
 -- One node of the named table has another extent, and all other trees stay.
 use Rattle.std.proofs.Common.{List, ◌≤◌, length, subst, arith}
 use Rattle.std.specs.Prelude.{IsSomeAnd}
+use Rattle.common_lemmas.proofs.Results.{OnOk-then, either_way}
 use Rattle.page_image.specs.Page.{Node}
 use Rattle.btree_inplace.specs.Changes.{with_extent_at}
 use Rattle.btree_inplace.specs.Order.{get_in}
 use Rattle.table_trees.specs.NodeTrees.{nodes_in}
-use Rattle.table_trees.proofs.Outcomes.{either_way, on_err, on_ok}
+use Rattle.table_trees.proofs.Outcomes.{on_err}
 use Rattle.table_trees.proofs.Places.{place_of, within_of}
 use Rattle.table_trees.proofs.StoreChanges.{catalog_same, found_nodes, found_table, is_named, no_nodes, nodes_kept, nodes_same, nodes_shown, tables_same}
 use Rattle.table_trees.proofs.trees.TableTrees.widen.Goals as goal
@@ -28,7 +29,7 @@ invariant_of-self c =
 
 pub returns-in-Some-clause-ok : goal.returns-in-Some-clause-ok
 returns-in-Some-clause-ok c =
-    on_ok c.widen.result
+    OnOk-then c.widen.result
     (λ b. tables_same (nodes_shown (record { tables = c.tables_stay.ensures.tables; catalog = c.tables_stay.ensures.catalog }) (record { nodes = c.tables_stay.ensures.nodes; long_values = c.tables_stay.ensures.long_values; indexes = c.tables_stay.ensures.indexes }) c.self.inside.space c.self.inside.tables.items c.widen.new.space c.args.table.0 c.in-Some.i c.index_mut-named.result.now c.widen.new.self (λ (l : List Node). with_extent_at l c.args.bookmark.now c.args.extent) c.args.self.now c.self.invariant (place_of (is_named c.args.table.0) c.self.inside.tables.items c.as_slice.result.now c.in-Some.i c.index_mut-named.result.now c.as_slice.ensures.value c.in-Some.ensures c.index_mut-named.ensures.value) c.self.view_is b))
     c.widen.ensures.ok
 

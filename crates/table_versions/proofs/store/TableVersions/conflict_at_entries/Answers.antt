@@ -1,14 +1,14 @@
 use Rattle.std.proofs.Common.{ℕ, Bool, false, not, List, Option, sym, ap, subst, ◌∙◌, bytes_eq}
 use Rattle.std.specs.Prelude.{◌<◌, IfSome}
+use Rattle.std.proofs.lemmas.Bool.{not-false, not-true}
 use Rattle.cursor_nav.specs.Places.{Pair, entry_after}
 use Rattle.index_derive.specs.declared.entries.Place.TheVariants.{Gap}
-use Rattle.record_changes.proofs.Tests.{not_true}
 use Rattle.table_trees.specs.StoredTables.{index_entries}
 use Rattle.versioned_tables.proofs.Neighbours.{fewer_left, left_from}
 use Rattle.table_versions.proofs.EntriesShown.{IsShortPair, short_pairs}
 use Rattle.table_versions.proofs.NodesShown.{parts_of}
 use Rattle.table_versions.proofs.StoredConflicts.{OfRecord, conflict_in_tree, rule_in_store}
-use Rattle.table_versions.proofs.WithKey.{KeyWalk, not_false, walk_begins, walk_ends, walk_finds, walk_goes_on, walk_passes}
+use Rattle.table_versions.proofs.WithKey.{KeyWalk, walk_begins, walk_ends, walk_finds, walk_goes_on, walk_passes}
 use Rattle.table_versions.proofs.store.TableVersions.conflict_at_entries.Goals as goal
 
 pub loop-found-init : goal.loop-found-init
@@ -26,7 +26,7 @@ returns-then-ne c =
     let test : List ℕ → Bool = OfRecord c.args.reader c.args.self.now c.args.table.0 c.args.rule.now c.args.schema.now c.args.key.now in
     let entry : Pair = (c.in-Some.found_key.now, c.in-Some.bookmark.now) in
     sym (walk_passes test c.args.key.now entries entry (subst (λ (o : Option Pair). KeyWalk test c.args.key.now entries o) (ap parts_of c.in-Some.is) c.loop-found.invariant.0)
-    (not_true (bytes_eq entry.0 c.args.key.now) (ap (λ (k : List ℕ). not (bytes_eq entry.0 k)) (sym c.as_bytes.ensures.value) ∙ sym c.ne.ensures ∙ c.if-ne.true)))
+    (not-true (bytes_eq entry.0 c.args.key.now) (ap (λ (k : List ℕ). not (bytes_eq entry.0 k)) (sym c.as_bytes.ensures.value) ∙ sym c.ne.ensures ∙ c.if-ne.true)))
     ∙ conflict_in_tree c.args.reader c.args.key.now c.self.inside.newest_put c.self.inside.catalog c.self.inside.trees.tables c.self.inside.versions c.self.invariant.kept c.args.self.now c.self.view_is c.args.table.0 c.args.schema.now c.requires.named c.args.rule.now c.requires.rule c.requires.secondary
 
 pub conflict_under-requires-clause-legal : goal.conflict_under-requires-clause-legal
@@ -43,7 +43,7 @@ returns-then-conflict_under c =
     let test : List ℕ → Bool = OfRecord c.args.reader c.args.self.now c.args.table.0 c.args.rule.now c.args.schema.now c.args.key.now in
     let entry : Pair = (c.in-Some.found_key.now, c.in-Some.bookmark.now) in
     sym (walk_finds test c.args.key.now entries entry (subst (λ (o : Option Pair). KeyWalk test c.args.key.now entries o) (ap parts_of c.in-Some.is) c.loop-found.invariant.0)
-    (not_false (bytes_eq entry.0 c.args.key.now) (ap (λ (k : List ℕ). not (bytes_eq entry.0 k)) (sym c.as_bytes.ensures.value) ∙ sym c.ne.ensures ∙ c.if-ne.false))
+    (not-false (bytes_eq entry.0 c.args.key.now) (ap (λ (k : List ℕ). not (bytes_eq entry.0 k)) (sym c.as_bytes.ensures.value) ∙ sym c.ne.ensures ∙ c.if-ne.false))
     (sym c.conflict_under.ensures ∙ c.if-conflict_under.true))
     ∙ conflict_in_tree c.args.reader c.args.key.now c.self.inside.newest_put c.self.inside.catalog c.self.inside.trees.tables c.self.inside.versions c.self.invariant.kept c.args.self.now c.self.view_is c.args.table.0 c.args.schema.now c.requires.named c.args.rule.now c.requires.rule c.requires.secondary
 

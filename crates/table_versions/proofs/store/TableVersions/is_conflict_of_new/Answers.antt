@@ -1,9 +1,9 @@
 use Rattle.std.proofs.Common.{Bool, not, ◌&&◌, Option, sym, ap, ◌∙◌}
 use Rattle.column_set.specs.RecordValues.{RecordFields}
 use Rattle.database_state.specs.Conflicts.{yields_key}
-use Rattle.record_changes.proofs.Tests.{and_false}
 use Rattle.table_versions.specs.KeyConflicts.{replaced_seen}
 use Rattle.std.specs.Prelude.{option_copied}
+use Rattle.common_lemmas.proofs.Booleans.{and_false}
 use Rattle.table_versions.proofs.PrimaryKeys.{and_true}
 use Rattle.table_versions.proofs.store.TableVersions.is_conflict_of_new.Goals as goal
 

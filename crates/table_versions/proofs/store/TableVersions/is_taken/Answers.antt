@@ -1,10 +1,10 @@
 use Rattle.std.proofs.Common.{ℕ, Bool, false, not, List, Option, sym, ap, subst, ◌∙◌, bytes_eq}
 use Rattle.std.specs.Prelude.{◌<◌, option_copied}
+use Rattle.std.proofs.lemmas.Bool.{not-true}
 use Rattle.cursor_nav.specs.Places.{Pair, entry_after, found_pair}
 use Rattle.database_state.specs.Puts.{is_replaced}
 use Rattle.index_derive.specs.declared.entries.IndexEntry.{IndexEntry}
 use Rattle.index_derive.specs.declared.entries.Place.TheVariants.{Gap}
-use Rattle.record_changes.proofs.Tests.{not_true}
 use Rattle.stored_variants.specs.StoredVersions.{seen_entries}
 use Rattle.versioned_tables.proofs.Neighbours.{fewer_left, left_from}
 use Rattle.table_versions.proofs.WithKey.{KeyWalk, walk_begins, walk_goes_on, walk_passes}
@@ -23,7 +23,7 @@ returns-then-ne c =
     let test : List ℕ → Bool = λ bookmark. not (is_replaced (option_copied c.args.own) bookmark) in
     let entry : Pair = (c.in-Some.entry.key, c.in-Some.entry.bookmark) in
     sym (walk_passes test c.args.key.now entries entry (subst (λ (o : Option IndexEntry). KeyWalk test c.args.key.now entries (found_pair o)) c.in-Some.is c.loop-found.invariant)
-    (not_true (bytes_eq entry.0 c.args.key.now) (sym c.ne.ensures ∙ c.if-ne.true)))
+    (not-true (bytes_eq entry.0 c.args.key.now) (sym c.ne.ensures ∙ c.if-ne.true)))
 
 pub loop-found-smaller : goal.loop-found-smaller
 loop-found-smaller c =

@@ -1,12 +1,13 @@
 use Rattle.std.proofs.Common.{◌≡◌, Bool, List, Option, Some, None, filter, refl, sym, ap, subst, ◌∙◌}
 use Rattle.std.specs.Prelude.{◌<◌}
+use Rattle.common_lemmas.proofs.Options.{none_there}
 use Rattle.cursor_nav.specs.Places.{Pair, entry_before}
 use Rattle.index_derive.specs.declared.entries.Place.TheVariants.{On}
 use Rattle.table_trees.specs.StoredTables.{index_entries}
 use Rattle.stored_variants.specs.StoredVersions.{seen_entries}
 use Rattle.table_versions.specs.Walks.{is_shown}
 use Rattle.versioned_tables.proofs.Neighbours.{fewer_left_to, left_to, shown_to}
-use Rattle.table_versions.proofs.EntriesShown.{StandsOn, none_here, passed_over, shown_is_it, short_pairs, stands_before, untouched_is_shown}
+use Rattle.table_versions.proofs.EntriesShown.{StandsOn, passed_over, shown_is_it, short_pairs, stands_before, untouched_is_shown}
 use Rattle.table_versions.proofs.NodesShown.{parts_of}
 use Rattle.table_versions.proofs.ShownEntries.{seen_of_stored}
 use Rattle.table_versions.proofs.StoredRules.{legal_in_store}
@@ -33,7 +34,7 @@ returns-then-is_none c =
       entry =
           sym (stands.shown ∙ shown_is_it test entry (entry_before (On entry.0 entry.1) (filter test entries))
           (untouched_is_shown c.args.reader entry.0 entry.1 c.args.index.0 c.self.inside.newest_put c.self.inside.catalog c.self.inside.trees.tables c.self.inside.versions c.self.invariant.kept c.args.self.now c.self.view_is c.args.table.0 c.args.schema.now c.requires.named c.args.rule.now c.requires.rule
-          stands.there (sym c.newest_change.ensures.place ∙ none_here c.newest_change.result c.if-is_none.ensures)))
+          stands.there (sym c.newest_change.ensures.place ∙ none_there c.newest_change.result c.if-is_none.ensures)))
           ∙ ap (entry_before c.args.place.now) (sym seen);
       short = stands.short;
     }

@@ -2,6 +2,7 @@
 use Rattle.std.proofs.Common.{◌≡◌, ℕ, ◌+◌, ◌-◌, ◌<◌, List, [], map, length, get_or, take, sym, ap, subst, ◌∙◌, arith}
 use Rattle.std.specs.Prelude.{slice_get}
 use Rattle.std.proofs.lemmas.List.{get_or-map, length-map}
+use Rattle.common_lemmas.proofs.Options.{same_some}
 use Rattle.version_store.specs.declared.item.Item.{Item}
 use Rattle.version_store.specs.Chained.{Walk, latest}
 use Rattle.version_store.specs.HeldChanges.{HeldChange, is_record, last_place}
@@ -9,7 +10,6 @@ use Rattle.version_store.specs.Items.{held_change, item_slot}
 use Rattle.version_store.specs.Kept.{held}
 use Rattle.version_store.specs.Slots.{slot_of}
 use Rattle.version_store.proofs.HeldLemmas.{held_slot, held-item, length-held, slots-held}
-use Rattle.version_store.proofs.OpenLemmas.{same-some}
 use Rattle.version_store.proofs.RecordLemmas.{record-slot}
 use Rattle.version_store.proofs.WalkLemmas.{last-before, place-below, walk-falls, walk-step}
 use Rattle.version_store.proofs.versions.Versions.older_change.Goals as goal
@@ -53,7 +53,7 @@ returns-clause-place c h at =
     let b = behind a.items.items a.chains place c.before-from.result x c.self.invariant.keeps.are_slots within c.index-item.ensures c.before-from.ensures in
     let are : a.chains ≡ map held_slot (held a) = c.self.invariant.keeps.are_slots ∙ slots-held a.items.items a.rows.pieces c.self.invariant.keeps.are_rows in
     let is : held_change x (get_or a.rows.pieces place []) ≡ h =
-    same-some (held_change x (get_or a.rows.pieces place [])) h (sym (held-item a.items.items a.rows.pieces place x c.self.invariant.keeps.are_rows within c.index-item.ensures) ∙ ap (λ (l : List HeldChange). slice_get l place) c.self.view_is ∙ at) in
+    same_some (held_change x (get_or a.rows.pieces place [])) h (sym (held-item a.items.items a.rows.pieces place x c.self.invariant.keeps.are_rows within c.index-item.ensures) ∙ ap (λ (l : List HeldChange). slice_get l place) c.self.view_is ∙ at) in
     c.newest_touching.ensures.place a.rows.pieces c.self.invariant.keeps.are_rows
     ∙ ap (λ (m : List ℕ). last_place (is_record x.table.0 m) (take c.before-from.result (held a))) c.as_bytes.ensures
     ∙ last-before (is_record x.table.0 x.bookmark) (item_slot x) (held a) a.chains (place + 1) c.before-from.result (record-slot x.table.0 x.bookmark) are b.walk (omega arith) b.next
