@@ -12,7 +12,6 @@ use Rattle.long_rows.proofs.Kept.{and_four}
 use Rattle.long_rows.proofs.WithoutColumn.{any_with}
 use Rattle.std.specs.List.{flat_map, list_any}
 use Rattle.common_lemmas.proofs.Booleans.{by_test}
-use Rattle.common_lemmas.proofs.Numbers.{same_bytes}
 use Rattle.column_set.specs.declared.rows.RowValue.{RowValue}
 use Rattle.column_set.specs.declared.rows.RowValue.TheVariants.{Here, Apart}
 use Rattle.column_set.specs.Rows.{value_bytes}

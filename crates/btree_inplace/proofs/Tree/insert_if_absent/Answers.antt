@@ -53,8 +53,8 @@ taken_in c =
 -- the tree after the leaf took the node
 taken : (c : After-insert)
     → let new = set c.args.space.now c.leaf-page.result (Some c.insert.new.self) in
-      let n : Node = record { key = c.args.key.now; extent = c.args.extent; «data» = c.args.data.now } in
-      IsTree new c.args.self.now × (nodes_of new c.args.self.now ≡ inserted (nodes_of c.args.space.now c.args.self.now) n) × Exchanges c.args.space.now new (pages_of c.args.space.now c.args.self.now) (pages_of new c.args.self.now)
+    let n : Node = record { key = c.args.key.now; extent = c.args.extent; «data» = c.args.data.now } in
+    IsTree new c.args.self.now × (nodes_of new c.args.self.now ≡ inserted (nodes_of c.args.space.now c.args.self.now) n) × Exchanges c.args.space.now new (pages_of c.args.space.now c.args.self.now) (pages_of new c.args.self.now)
 taken c =
     let frames = c.args.space.now in
     let key = c.args.key.now in
