@@ -125,7 +125,7 @@ fn compare_key(rt: &impl Abort, alloc: Global, tables: &TableVersions, model: &M
 pub fn pages_of(trees: &TableTrees) -> (usize, usize) {
     let space = trees.space();
     let taken = (0..space.len())
-        .filter(|page| space.is_taken((*page % 65_536) as u32))
+        .filter(|page| space.is_taken(*page as u32))
         .count();
     (space.len(), taken)
 }
