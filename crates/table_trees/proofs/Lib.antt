@@ -16,3 +16,4 @@ pub mod NewItems
 pub mod KeptSteps
 pub mod OtherRoots
 pub mod AfterChanges
+pub mod RootsOfTables

@@ -8,3 +8,4 @@ pub mod LongTrees
 pub mod KeptCatalogs
 pub mod TableParts
 pub mod TreesView
+pub mod TreesInSpace

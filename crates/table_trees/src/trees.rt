@@ -13,6 +13,7 @@ ghost use Rattle.long_value.specs.Stores.{id_bytes, read_upto};
 ghost use Rattle.long_value.specs.Values.{AreLong, put_value, with_reference, without_reference};
 ghost use Rattle.table_trees.specs.StoredNodes.{IsShortNode, bookmark_entries, node_after, node_before};
 ghost use Rattle.table_trees.specs.StoredTables.{has_index, has_table, index_entries, long_value_of, new_table, table_long_values, table_nodes, with_entries, with_long_values, with_new_index, with_nodes, without_index, without_table};
+ghost use Rattle.table_trees.specs.TreesInSpace.{AreRootsOfTables};
 ghost use Rattle.table_trees.specs.StoredTrees.{with_root_of, with_table_roots, without_root_of, without_table_roots};
 ghost use Rattle.catalog_grammar.specs.Catalogs.{catalog_nodes};
 
@@ -73,6 +74,14 @@ impl TableTrees {
             catalog: KeptCatalog::new(),
             tables: Vec::new(alloc),
         }
+    }
+
+    /// The space of all trees. Under the root pages that the catalog's nodes are to have stand the trees of the tables. Each page
+    /// that is taken is one of a tree, and the others are free: so it tells how many pages there are, and which are free.
+    pub fn space(&self) -> &Space
+        ensures { AreRootsOfTables result.now self.now.catalog.roots self.now.tables }
+    {
+        &self.space
     }
 
     /// Whether a table is there.

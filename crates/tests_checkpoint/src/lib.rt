@@ -3,9 +3,10 @@
 
 #[cfg(test)]
 mod checkpoints;
-#[cfg(test)]
 mod images;
 #[cfg(test)]
 mod readings;
 #[cfg(test)]
 mod reopening;
+
+pub use images::image_of;

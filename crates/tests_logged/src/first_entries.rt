@@ -9,9 +9,7 @@ ghost use Rattle.engine_versions.specs.EngineState.{empty_engine};
 ghost use Rattle.engine_versions.specs.HoldsState.{HoldsState};
 
 use engine_core::Engine;
-use engine_versions::{
-    a_lawful_step_makes_the_next_state, an_empty_engine_holds_the_empty_state,
-};
+use engine_versions::{a_lawful_step_makes_the_next_state, an_empty_engine_holds_the_empty_state};
 use index_derive::{Entry, EntryKind, Step};
 use jet_base::Session;
 use logged_engine::{LoggedEngine, has_label};

@@ -1,19 +1,17 @@
 -- The table of these tests takes each record of one value.
 use Rattle.std.proofs.Common.{◌≡◌, ℕ, ◌+◌, ◌<◌, ◌≤◌, Bool, true, false, not, cond, ◌&&◌, ◌||◌, List, [], ◌∷◌, length, Option, Some, None, refl, sym, ap, subst, ◌∙◌, arith}
-use Rattle.std.specs.Prelude.{◌==◌, nat_le, nat_lt, is_some, option_map, unwrap_or, IsSomeAnd, IsTrue, MatchOption}
+use Rattle.std.specs.Prelude.{◌==◌, nat_le, nat_lt, is_some, option_map, unwrap_or, IsSomeAnd, MatchOption}
 use Rattle.std.specs.List.{list_all}
 use Rattle.std.proofs.lemmas.Bool.Decides.{nat_tests}
 use Rattle.jet_base.specs.declared.words.ColType.{ColType}
 use Rattle.jet_base.specs.declared.words.ColType.TheVariants.{LongBinary}
 use Rattle.column_set.specs.declared.columns.Column.{Column}
-use Rattle.column_set.specs.RecordValues.{RecordFields, column_of_id, has_value, is_kept_column, record_fits, record_size, size_of_length, value_fits, values_fit}
-use Rattle.column_set.specs.Rows.{largest_row}
+use Rattle.column_set.specs.RecordValues.{RecordFields, column_of_id, has_value, is_kept_column, size_of_length, value_fits, values_fit}
 use Rattle.database_state.specs.Lawful.{is_indexable}
 use Rattle.database_state.specs.Table.{Table, primary_first, primary_rule}
 use Rattle.index_derive.specs.declared.rules.IndexRule.{IndexRule}
-use Rattle.index_derive.specs.Entries.{is_escrow_column, primary_key}
+use Rattle.index_derive.specs.Entries.{primary_key}
 use Rattle.jet_catalog.specs.Catalog.{without_rows}
-use Rattle.long_rows.specs.KeptRows.{are_values}
 use Rattle.record_changes.proofs.Tests.{and_left, and_right, impossible}
 use Rattle.tests_rows.specs.OneColumn.{IsPlain, TakesOneValue, one_value}
 
@@ -67,7 +65,7 @@ room n = by (nat_lt 255 n) refl
     by true e = omega arith
     by false e = grind (arith, nat_tests)
 
-size : (n : ℕ) → n ≤ 255 → 2 + ((5 + n + 0) + 0) ≤ 1700
+size : (n : ℕ) → n ≤ 255 → 2 + (0 + (0 + (5 + n))) ≤ 1700
 size n h = omega (arith, h)
 
 -- ---- the table

@@ -121,6 +121,15 @@ fn compare_key(rt: &impl Abort, alloc: Global, tables: &TableVersions, model: &M
     }
 }
 
+/// How many pages the trees have, and how many of them are taken.
+pub fn pages_of(trees: &TableTrees) -> (usize, usize) {
+    let space = trees.space();
+    let taken = (0..space.len())
+        .filter(|page| space.is_taken(*page as u32))
+        .count();
+    (space.len(), taken)
+}
+
 /// Compares all of it.
 pub fn compare(rt: &impl Abort, alloc: Global, tables: &TableVersions, model: &Model) {
     assert!(rt; tables.held() == model.held());

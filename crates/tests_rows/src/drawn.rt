@@ -1,6 +1,6 @@
 //! Steps that are drawn: what three sessions do with a few records, in an order that nobody chose.
 
-use crate::comparing::KEYS;
+use crate::comparing::{KEYS, pages_of};
 use crate::model::Transaction;
 use crate::sessions::{Act, Both};
 use std::process::Abort;
@@ -87,6 +87,7 @@ fn end(rt: &impl Abort, both: &mut Both) {
 #[test]
 fn drawn_steps_are_those_of_the_model(rt: HostRuntime) {
     let mut both = Both::new(&rt, rt.alloc());
+    let (_, standing) = pages_of(both.tables.trees());
     let mut seed: u32 = 7;
     for _ in 0..STEPS {
         seed = seed.wrapping_mul(1_103_515_245).wrapping_add(12_345);
@@ -94,4 +95,7 @@ fn drawn_steps_are_those_of_the_model(rt: HostRuntime) {
     }
     end(&rt, &mut both);
     assert!(&rt; both.tables.held() == 0);
+    // All pages are free but those that stood before the first record.
+    let (pages, taken) = pages_of(both.tables.trees());
+    assert!(&rt; taken == standing && pages > taken);
 }

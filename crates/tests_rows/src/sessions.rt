@@ -1,6 +1,6 @@
 //! Three sessions over one record with a long value, step by step.
 
-use crate::comparing::compare;
+use crate::comparing::{compare, pages_of};
 use crate::model::{Model, Transaction};
 use crate::tables::{drop_record, forget_oldest, meets_conflict, new_tables, put_record};
 use jet_base::Session;
@@ -284,6 +284,8 @@ static GONE: &[Act] = &[
 
 #[test]
 fn the_last_reference_takes_the_value_with_it(rt: HostRuntime) {
+    let empty = Both::new(&rt, rt.alloc());
+    let (_, standing) = pages_of(empty.tables.trees());
     let mut both = record_and_reader(&rt, rt.alloc());
     take(&rt, &mut both, 2, COPIES);
     take(&rt, &mut both, 3, GONE);
@@ -291,5 +293,7 @@ fn the_last_reference_takes_the_value_with_it(rt: HostRuntime) {
     take(&rt, &mut both, 1, AFTER);
     compare_count(&rt, &both, 2, 0);
     compare_count(&rt, &both, 7, 0);
-    assert!(&rt; both.tables.held() == 0);
+    // All pages are free but those that stand in tables without a record.
+    let (pages, taken) = pages_of(both.tables.trees());
+    assert!(&rt; both.tables.held() == 0 && taken == standing && pages > taken);
 }

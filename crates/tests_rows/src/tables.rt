@@ -1,11 +1,11 @@
 //! The tables under test: one table with one column, whose values may be long, and no index.
 
-ghost use Rattle.std.specs.Prelude.{◌≡◌, List, ℕ, [], ◌∷◌, length, not, IsTrue, IsSomeAnd, option_copied};
+ghost use Rattle.std.specs.Prelude.{◌≡◌, length, not, IsTrue, IsSomeAnd, option_copied};
 ghost use Rattle.std.specs.List.{list_all};
 ghost use Rattle.column_set.specs.declared.changes.Change.TheVariants.{Drop, Put};
 ghost use Rattle.column_set.specs.RecordValues.{is_kept_column};
 ghost use Rattle.database_state.specs.Table.{table_with_id};
-ghost use Rattle.index_derive.specs.declared.schema_calls.SchemaStep.TheVariants.{AddColumn, CreateTable};
+ghost use Rattle.index_derive.specs.declared.schema_calls.SchemaStep.TheVariants.{CreateTable};
 ghost use Rattle.jet_base.specs.Ids.{table_id};
 ghost use Rattle.jet_base.specs.declared.words.ColType.TheVariants.{LongBinary};
 ghost use Rattle.stored_variants.specs.SchemaSteps.{after_step};
@@ -79,7 +79,7 @@ fn are_free(columns: &[Column]) -> bool
 
 /// Whether a column is there whose values may be long.
 fn is_long(column: Option<&Column>) -> bool
-    ensures { IsTrue result → IsSomeAnd (option_copied column) (λ c. c.kind ≡ LongBinary) }
+    ensures { IsTrue result → IsSomeAnd (option_copied column.entry) (λ c. c.kind ≡ LongBinary) }
 {
     match column {
         Some(column) => match column.kind {
