@@ -6,7 +6,7 @@ ghost use Rattle.page_image.specs.Page.{HasRisingKeys, IsInsertPlace, IsPage, Pa
 use crate::offsets::{MAX_NODES, copy_offsets, insert_offset, move_offsets, remove_offset};
 use crate::spelling::{
     HEAD_BYTES, NODE_HEAD_BYTES, PAGE_BYTES, finish, insert_node, number_at, remove_bytes,
-    replace_data, resize_zeros,
+    replace_data, resize_zeros, sealed,
 };
 use byteorder::{ByteOrder, LittleEndian};
 use std::cmp::Ordering;
@@ -26,6 +26,7 @@ pub struct Full;
 /// A page of 4,096 bytes, seen as its number, its kind and its nodes in rising key order.
 #[derive(Drop)]
 pub struct Page {
+    // The page as it is stored but for its checksum, which no change of it makes.
     bytes: [u8; 4096],
     // Where each node begins, so that a search reaches any node at once.
     offsets: [u16; 677],
@@ -55,7 +56,6 @@ impl Page {
         let offsets = [0; MAX_NODES];
         let mut bytes = [0; PAGE_BYTES];
         write_head(&mut bytes, number, kind);
-        finish(&mut bytes, 0);
         Page {
             bytes,
             offsets,
@@ -77,7 +77,7 @@ impl Page {
         for _ in 0..number_at(&bytes, 14) {
             page.take_over(&bytes)?;
         }
-        if page.bytes == bytes {
+        if sealed(&page.bytes) == bytes {
             Ok(page)
         } else {
             Err(BadPage)
@@ -125,11 +125,11 @@ impl Page {
         self.count
     }
 
-    /// The page as it is stored.
-    pub fn bytes(&self) -> &[u8; 4096]
-        ensures { result.now ≡ page_bytes self.now }
+    /// The page as it is stored. Its checksum is made here, and goes over the whole page.
+    pub fn bytes(&self) -> [u8; 4096]
+        ensures { result ≡ page_bytes self.now }
     {
-        &self.bytes
+        sealed(&self.bytes)
     }
 
     /// The page's number.

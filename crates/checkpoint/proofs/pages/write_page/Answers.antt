@@ -42,7 +42,7 @@ pub returns-in-Ok-clause-held : goal.returns-in-Ok-clause-held
 returns-in-Ok-clause-held g c tells says =
     let own = subst (λ o. MatchOption o (Unit {0}) (λ (p : PageContents). p.number ≡ c.args.number)) c.in-Some.is c.requires.own in
     subst (λ o. SlotSays (g.V.Volume.seen c.write_at.new.self).database c.args.number c.unused_slot-slot.result o) (sym c.in-Some.is)
-    (written_holds (g.V.Volume.seen c.args.volume.now).database (g.V.Volume.seen c.write_at.new.self).database c.args.number c.unused_slot-slot.result c.slot_start.result c.bytes_of-bytes.result.now c.in-Some.page
+    (written_holds (g.V.Volume.seen c.args.volume.now).database (g.V.Volume.seen c.write_at.new.self).database c.args.number c.unused_slot-slot.result c.slot_start.result c.bytes_of-bytes.result c.in-Some.page
     c.unused_slot-slot.ensures.within c.slot_start.ensures c.bytes_of-bytes.ensures.whole c.bytes_of-bytes.ensures.value c.bytes_of-bytes.ensures.is_page own
     (ap (λ i. i.database) (c.in-Ok.ensures.written tells)))
 
