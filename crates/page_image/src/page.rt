@@ -4,6 +4,7 @@ ghost use Rattle.std.specs.Prelude.{◌≡◌, ℕ, ◌+◌, ◌<◌, ◌≤◌,
 ghost use Rattle.page_image.specs.Page.{HasRisingKeys, IsInsertPlace, IsPage, PageContents, node_area, node_at, node_size, page_bytes, page_head, page_size, with_data, with_extent};
 
 use crate::offsets::{MAX_NODES, copy_offsets, insert_offset, move_offsets, remove_offset};
+use crate::order::{compare, front};
 use crate::spelling::{
     HEAD_BYTES, NODE_HEAD_BYTES, PAGE_BYTES, finish, insert_node, number_at, remove_bytes,
     replace_data, resize_zeros, sealed,
@@ -191,10 +192,11 @@ impl Page {
     pub fn find(&self, key: &[u8]) -> Result<usize, usize>
         ensures { MatchResult result (λ i. (i < length self.now.nodes) × ((node_at self.now.nodes i).key ≡ key.now)) (λ i. IsInsertPlace self.now.nodes key.now i) }
     {
+        let key_front = front(key);
         let (mut low, mut high) = (0, self.count);
         while low < high {
             let middle = low + (high - low) / 2;
-            match self.key(middle).cmp(key) {
+            match compare(self.key(middle), key, key_front) {
                 Ordering::Less => low = middle + 1,
                 Ordering::Greater => high = middle,
                 Ordering::Equal => return Ok(middle),
