@@ -1,5 +1,5 @@
 -- The fronts of keys, and the order of the keys.
-use Rattle.std.proofs.Common.{◌≡◌, ℕ, zero, suc, ◌+◌, ◌*◌, ◌^◌, ◌<◌, ◌≤◌, ◌⊎◌, inl, inr, List, [], ◌∷◌, length, drop, get_or, refl, sym, ap, ◌∙◌, arith}
+use Rattle.std.proofs.Common.{◌≡◌, ℕ, zero, suc, ◌+◌, ◌*◌, ◌^◌, ◌<◌, ◌≤◌, ◌⊎◌, inl, inr, min, List, [], ◌∷◌, length, drop, get_or, refl, sym, ap, ◌∙◌, arith}
 use Rattle.std.proofs.Math.Nat.{add-mul, mul-le-mul_right}
 use Rattle.std.proofs.lemmas.Bool.{cases_lt}
 use Rattle.std.proofs.lemmas.Cmp.{nat_list_cmp_total}
@@ -7,6 +7,7 @@ use Rattle.std.specs.Ordering.{nat_cmp, ordering_reverse, ordering_then}
 use Rattle.std.specs.declared.cmp.Ordering.{Ordering}
 use Rattle.std.specs.declared.cmp.Ordering.TheVariants.{Less, Equal, Greater}
 use Rattle.std.specs.Cmp.{nat_cmp_is}
+use Rattle.std.specs.Int.{w64, from_be_bytes}
 use Rattle.std.specs.Cmp.Lexicographic.{slice_cmp}
 use Rattle.byteorder.specs.Endian.{big_from, big_number}
 use Rattle.byteorder.specs.Numbers.{big_from-cons, big_from-lt}
@@ -114,3 +115,15 @@ lengths_by_front (suc n) (x ∷ xs) (y ∷ ys) bytes bytes' short e =
     ap (λ (r : Ordering). ordering_then r (slice_cmp nat_cmp xs ys)) (equal x y same.first)
     ∙ lengths_by_front n xs ys (λ k. bytes (suc k)) (λ k. bytes' (suc k)) shorter same.rest
     ∙ sym (nat_cmp-suc (length xs) (length ys))
+
+either_short : (m n : ℕ) → min m n < 8 → (m < 8) ⊎ (n < 8)
+either_short m n h = elim (cases_lt m 8) [ inl short ↦ inl short | inr long ↦ inr (omega arith) ]
+
+-- keys with the same front, one of them shorter than it
+pub short_by_front : (a b : List ℕ) → AreBytes a → AreBytes b → min (length a) (length b) < 8 → big_number 8 a ≡ big_number 8 b → slice_cmp nat_cmp a b ≡ nat_cmp (length a) (length b)
+short_by_front a b bytes bytes' short e = lengths_by_front 8 a b bytes bytes' (either_short (length a) (length b) short) e
+
+-- ---- the front of a key, byte by byte
+
+pub front_of_bytes : (key : List ℕ) (a b c d e f g h : ℕ) → a ≡ get_or key 0 0 → b ≡ get_or key 1 0 → c ≡ get_or key 2 0 → d ≡ get_or key 3 0 → e ≡ get_or key 4 0 → f ≡ get_or key 5 0 → g ≡ get_or key 6 0 → h ≡ get_or key 7 0 → from_be_bytes w64 (a ∷ b ∷ c ∷ d ∷ e ∷ f ∷ g ∷ h ∷ []) ≡ big_number 8 key
+front_of_bytes key a b c d e f g h at0 at1 at2 at3 at4 at5 at6 at7 = omega (arith, at0, at1, at2, at3, at4, at5, at6, at7)

@@ -39,7 +39,7 @@ pub fn compare(own: &[u8], key: &[u8], key_front: u64) -> Ordering
         Ordering::Less
     } else if key_front < own_front {
         Ordering::Greater
-    } else if own.len() < FRONT_BYTES || key.len() < FRONT_BYTES {
+    } else if own.len().min(key.len()) < FRONT_BYTES {
         own.len().cmp(&key.len())
     } else {
         own[FRONT_BYTES..].cmp(&key[FRONT_BYTES..])
