@@ -46,7 +46,7 @@ fn has_same_bytes(standing: &Standing, number: usize, page: &Page) -> bool
     }
     match &standing.pages[number] {
         None => false,
-        Some(old) => old.bytes() == page.bytes(),
+        Some(old) => old.has_same_bytes(page),
     }
 }
 
@@ -88,12 +88,13 @@ fn write_page<V: Volume>(
     let Some(page) = page else {
         return Ok(FREE);
     };
-    let bytes = bytes_of(page);
+    let _nodes = page.len();
     let used = used_slot(standing, number);
     if used < FREE && has_same_bytes(standing, number, page) {
         return Ok(used);
     }
     let slot = unused_slot(used);
+    let bytes = bytes_of(page);
     match volume.write_at(File::Database, slot_start(number, slot), &bytes) {
         Ok(()) => Ok(slot),
         Err(Failed) => Err(Failed),

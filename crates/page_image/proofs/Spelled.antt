@@ -1,6 +1,7 @@
 -- A page's bytes after an edit of its nodes.
-use Rattle.std.proofs.Common.{◌≡◌, ℕ, suc, ◌+◌, ◌-◌, ◌<◌, ◌≤◌, List, [], ◌∷◌, ◌++◌, length, take, drop, replicate, set, slice_range, refl, sym, ap, ◌∙◌, subst, arith, append_assoc, length-append, add-one}
-use Rattle.std.specs.Prelude.{sum_by, insert, remove}
+use Rattle.std.proofs.Common.{◌≡◌, Bool, ℕ, suc, ◌+◌, ◌-◌, ◌<◌, ◌≤◌, List, [], ◌∷◌, ◌++◌, length, take, drop, replicate, set, slice_range, refl, sym, ap, ◌∙◌, subst, arith, append_assoc, length-append, add-one}
+use Rattle.std.specs.Prelude.{◌↔◌, IsTrue, bytes_eq, sum_by, insert, remove}
+use Rattle.std.proofs.lemmas.Slice.Eq.{bytes_eq-Decides}
 use Rattle.std.specs.List.{flat_map}
 use Rattle.std.proofs.lemmas.List.{take_at, drop_at, drop-drop, drop-take, length-take-le, drop-append-le, take-append-drop, drop-replicate, drop_all, length-take, length-drop, drop_more, set_split, length-replicate, replicate-append-replicate}
 use Rattle.std.proofs.lemmas.List.Concat.{flat_map-append}
@@ -9,7 +10,7 @@ use Rattle.page_image.specs.Page.{Node, PageContents, IsPage, no_node, node_at, 
 use Rattle.std.proofs.lemmas.List.Elements.{All-take, All-drop}
 use Rattle.std.proofs.lemmas.List.Sums.{sum_by-append, sum_by_more}
 use Rattle.common_lemmas.proofs.Edits.{sum-insert, sum-remove, sum-set}
-use Rattle.page_image.proofs.Nodes.{IsSmall, small_nodes, length-nodes, length-node_bytes}
+use Rattle.page_image.proofs.Nodes.{IsSmall, drop-page_bytes, small_nodes, length-nodes, length-node_bytes}
 
 -- the front of bytes that are a page's but for the checksum
 pub record IsFront (front : List ℕ) (p : PageContents) : Type 0 where
@@ -63,6 +64,17 @@ recounted p q bytes count number kind whole edited all =
 pub with_checksum : (p : PageContents) (bytes sealed : List ℕ) → drop 8 bytes ≡ page_body p → sealed ≡ little_bytes 8 (xor_of_words 511 (drop 8 bytes)) ++ drop 8 bytes → sealed ≡ page_bytes p
 unfolding page_bytes page_body page_front
 with_checksum p bytes sealed body is = is ∙ ap (λ (x : List ℕ). little_bytes 8 (xor_of_words 511 x) ++ x) body
+
+by_body : (p : PageContents) → page_bytes p ≡ little_bytes 8 (xor_of_words 511 (page_body p)) ++ page_body p
+unfolding page_bytes page_body page_front
+by_body p = refl
+
+-- Pages have the same bytes where those behind the checksum are the same.
+pub same_pages : (p q : PageContents) (xs ys : List ℕ) (r : Bool) → drop 8 xs ≡ page_body p → drop 8 ys ≡ page_body q → r ≡ bytes_eq (drop 8 xs) (drop 8 ys) → IsTrue r ↔ (page_bytes p ≡ page_bytes q)
+same_pages p q xs ys r own other is = (
+  λ t. by_body p ∙ ap (λ (x : List ℕ). little_bytes 8 (xor_of_words 511 x) ++ x) (sym own ∙ (bytes_eq-Decides (drop 8 xs) (drop 8 ys)).0 (sym is ∙ t) ∙ other) ∙ sym (by_body q),
+  λ e. is ∙ (bytes_eq-Decides (drop 8 xs) (drop 8 ys)).1 (own ∙ sym (drop-page_bytes p) ∙ ap (drop 8) e ∙ drop-page_bytes q ∙ sym other),
+)
 
 -- a list that is taken apart at two places, with another part put in at the first
 pub put_in : (a y z new bytes : List ℕ) (at end size : ℕ) → bytes ≡ a ++ (y ++ z) → length a ≡ at → at + length y ≡ end → take at bytes ++ (new ++ (slice_range bytes at end ++ drop (end + size) bytes)) ≡ a ++ (new ++ (y ++ drop size z))

@@ -6,8 +6,8 @@ ghost use Rattle.page_image.specs.Page.{HasRisingKeys, IsInsertPlace, IsPage, Pa
 use crate::offsets::{MAX_NODES, copy_offsets, insert_offset, move_offsets, remove_offset};
 use crate::order::{compare, front};
 use crate::spelling::{
-    HEAD_BYTES, NODE_HEAD_BYTES, PAGE_BYTES, finish, insert_node, number_at, remove_bytes,
-    replace_data, resize_zeros, sealed,
+    CHECKSUM_BYTES, HEAD_BYTES, NODE_HEAD_BYTES, PAGE_BYTES, finish, insert_node, number_at,
+    remove_bytes, replace_data, resize_zeros, sealed,
 };
 use byteorder::{ByteOrder, LittleEndian};
 use std::cmp::Ordering;
@@ -131,6 +131,13 @@ impl Page {
         ensures { result ≡ page_bytes self.now }
     {
         sealed(&self.bytes)
+    }
+
+    /// Whether another page has the same bytes. No checksum is made for it.
+    pub fn has_same_bytes(&self, other: &Page) -> bool
+        ensures { IsTrue result ↔ (page_bytes self.now ≡ page_bytes other.now) }
+    {
+        self.bytes[CHECKSUM_BYTES..] == other.bytes[CHECKSUM_BYTES..]
     }
 
     /// The page's number.

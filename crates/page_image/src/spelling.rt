@@ -9,6 +9,9 @@ use byteorder::{ByteOrder, LittleEndian};
 /// The bytes of a page.
 pub const PAGE_BYTES: usize = 4096;
 
+/// The bytes of the checksum, the first ones.
+pub const CHECKSUM_BYTES: usize = 8;
+
 /// The bytes before the first node.
 pub const HEAD_BYTES: usize = 32;
 
