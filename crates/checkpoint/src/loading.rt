@@ -159,7 +159,7 @@ fn copy_of(page: &Page) -> Option<Page>
     ensures { result ≡ Some page.now }
 {
     let _nodes = page.len();
-    Page::check(*page.bytes()).ok()
+    Page::check(page.bytes()).ok()
 }
 
 /// A copy of what stands at a place of the list of pages.

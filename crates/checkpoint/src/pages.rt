@@ -46,7 +46,7 @@ fn has_same_bytes(standing: &Standing, number: usize, page: &Page) -> bool
     }
     match &standing.pages[number] {
         None => false,
-        Some(old) => old.bytes() == page.bytes(),
+        Some(old) => old.has_same_bytes(page),
     }
 }
 
@@ -59,14 +59,13 @@ fn unused_slot(slot: u8) -> u8
 }
 
 /// The bytes of a page, as they are stored.
-fn bytes_of(page: &Page) -> &[u8]
-    ensures value { result.now ≡ page_bytes page.now }
-    ensures whole { length result.now ≡ 4096 }
+fn bytes_of(page: &Page) -> [u8; 4096]
+    ensures value { result ≡ page_bytes page.now }
+    ensures whole { length result ≡ 4096 }
     ensures is_page { IsPage page.now }
 {
     let _nodes = page.len();
-    let bytes = page.bytes();
-    bytes
+    page.bytes()
 }
 
 /// Writes a page into the slot that is not in use, where it is dirty. Answers the slot that it is in.
@@ -89,13 +88,14 @@ fn write_page<V: Volume>(
     let Some(page) = page else {
         return Ok(FREE);
     };
-    let bytes = bytes_of(page);
+    let _nodes = page.len();
     let used = used_slot(standing, number);
     if used < FREE && has_same_bytes(standing, number, page) {
         return Ok(used);
     }
     let slot = unused_slot(used);
-    match volume.write_at(File::Database, slot_start(number, slot), bytes) {
+    let bytes = bytes_of(page);
+    match volume.write_at(File::Database, slot_start(number, slot), &bytes) {
         Ok(()) => Ok(slot),
         Err(Failed) => Err(Failed),
     }

@@ -23,7 +23,7 @@ use std::cmp::Ordering;
 
 /// The entries of an index, each a key with a bookmark. The key of no entry begins the key of another.
 /// Every call is lent the space that has the index's pages, and leaves all pages of other trees as they
-/// are. None but `new` and `insert` takes memory.
+/// are. None but `new`, `insert` and `insert_if_absent` takes memory.
 #[derive(Drop)]
 pub struct IndexTree {
     tree: Tree,

@@ -11,19 +11,19 @@ use Rattle.std.proofs.lemmas.Bool.{cases_lt, cases_eq}
 use Rattle.std.specs.Cmp.Lexicographic.{pointwise}
 use Rattle.byteorder.specs.Numbers.{little_number-reads_back}
 use Rattle.byteorder.specs.Endian.{little_number}
-use Rattle.page_image.specs.Page.{Node, PageContents, IsPage, IsInsertPlace, IsBelow, DataFits, with_extent, no_node, node_at, node_bytes, node_size, node_area, page_size, page_front, page_head, page_bytes}
+use Rattle.page_image.specs.Page.{Node, PageContents, IsPage, IsInsertPlace, IsBelow, DataFits, with_extent, no_node, node_at, node_bytes, node_size, node_area, page_size, page_front, page_head, page_body, page_bytes}
 use Rattle.page_image.specs.Reading.{contents_of}
 use Rattle.page_image.specs.Shown.{Shows}
-use Rattle.page_image.proofs.Nodes.{contents_of-page_bytes, few_nodes, HasNode, has_node}
+use Rattle.page_image.proofs.Nodes.{contents_of-body, drop-page_bytes, few_nodes, HasNode, has_node}
 use Rattle.common_lemmas.proofs.Edits.{AllPairs-take, AllPairs-drop, sum-insert, sum-take-insert, take-insert, sum-remove, sum-take-remove, take-remove, sum-set, sum-take-set, sum-take-le, All-insert, All-remove, AllPairs-insert, AllPairs-set}
-use Rattle.page_image.proofs.Spelled.{inserted_bytes, removed_bytes, replaced_bytes, drop-page_front}
+use Rattle.page_image.proofs.Spelled.{IsFront, front_of, has_front, headed, inserted_bytes, is_front, removed_bytes, replaced_bytes}
 
 pub few : (p : PageContents) → IsPage p → length p.nodes ≤ 677
 few p page = omega (arith, few_nodes p.nodes, page.size)
 
 -- What bytes show is what they read as.
 pub shown : (bytes offsets : List ℕ) (count end : ℕ) (p : PageContents) → Shows bytes offsets count end p → contents_of bytes ≡ p
-shown bytes offsets count end p s = ap contents_of s.spelled ∙ contents_of-page_bytes p s.page (omega (arith, few p s.page))
+shown bytes offsets count end p s = contents_of-body p bytes s.page (omega (arith, few p s.page)) s.spelled
 
 pub again : (bytes offsets : List ℕ) (count end : ℕ) (p : PageContents) → Shows bytes offsets count end p → Shows bytes offsets count end (contents_of bytes)
 again bytes offsets count end p s = subst (λ (q : PageContents). Shows bytes offsets count end q) (sym (shown bytes offsets count end p s)) s
@@ -34,7 +34,7 @@ opened bytes offsets count end p view s = subst (λ (q : PageContents). Shows by
 
 -- What `finish` promises of bytes.
 abbrev pub Finishes : List ℕ → List ℕ → ℕ → Type 0
-Finishes old new count = (p q : PageContents) → q.number ≡ p.number → q.kind ≡ p.kind → count ≡ length q.nodes → drop 8 old ≡ page_head p ++ node_area q.nodes → new ≡ page_bytes q
+Finishes old new count = (p q : PageContents) → q.number ≡ p.number → q.kind ≡ p.kind → count ≡ length q.nodes → drop 8 old ≡ page_head p ++ node_area q.nodes → drop 8 new ≡ page_body q
 
 pub is_page-insert : (p : PageContents) (i : ℕ) (n : Node) → IsPage p → IsInsertPlace p.nodes n.key i → DataFits n → page_size p.nodes + node_size n ≤ 4096 → IsPage (record p { nodes = insert p.nodes i n })
 is_page-insert p i n page place fits room = record {
@@ -70,7 +70,7 @@ pub shows-insert : (old offsets : List ℕ) (count end : ℕ) (p : PageContents)
 shows-insert old offsets count end p i n edited new placed at size s place fits size_is room at_is edited_is finished below here above = record {
   page = is_page-insert p i n s.page place fits (omega (arith, s.ended));
   spelled = finished p (record p { nodes = insert p.nodes i n }) refl refl (omega (arith, s.counted, length-insert p.nodes i n place.within))
-      (drop-page_front p (insert p.nodes i n) edited (inserted_bytes p i n old edited at end size s.page s.spelled at_is s.ended size_is edited_is));
+      (headed (front_of old p) p (insert p.nodes i n) edited (is_front old p s.spelled) (inserted_bytes (front_of old p) p i n old edited at end size (is_front old p s.spelled).long s.page (has_front old p s.spelled) at_is s.ended size_is edited_is));
   counted = omega (arith, s.counted, length-insert p.nodes i n place.within);
   ended = omega (arith, s.ended, sum-insert node_size p.nodes i n);
   placed = offsets-insert p.nodes i n offsets placed count at size place.within s.counted size_is at_is s.placed below here above;
@@ -115,7 +115,7 @@ pub shows-remove : (old offsets : List ℕ) (count end : ℕ) (p : PageContents)
 shows-remove old offsets count end p i edited new placed at size s h size_is at_is edited_is finished below above = record {
   page = is_page-remove p i s.page h;
   spelled = finished p (record p { nodes = remove p.nodes i }) refl refl (omega (arith, s.counted, length-remove p.nodes i h))
-      (drop-page_front p (remove p.nodes i) edited (removed_bytes p i old edited at end size s.page h s.spelled at_is s.ended size_is edited_is));
+      (headed (front_of old p) p (remove p.nodes i) edited (is_front old p s.spelled) (removed_bytes (front_of old p) p i old edited at end size (is_front old p s.spelled).long s.page h (has_front old p s.spelled) at_is s.ended size_is edited_is));
   counted = omega (arith, s.counted, length-remove p.nodes i h);
   ended = omega (arith, s.ended, sum-remove node_size p.nodes i no_node h);
   placed = offsets-remove p.nodes i offsets placed count size h s.counted size_is s.placed below above;
@@ -138,7 +138,7 @@ shows-replace old offsets count end p i n written new at size s h key extent fit
     record {
       page = is_page-set p i n s.page h key fits (omega (arith, room, s.page.size));
       spelled = finished p (record p { nodes = set p.nodes i n }) refl refl (s.counted ∙ sym (length-set p.nodes i n))
-          (drop-page_front p (set p.nodes i n) (take at old ++ (written ++ drop size (drop at old))) (replaced_bytes p i n old written at size s.page h s.spelled at_is size_is same written_is));
+          (headed (front_of old p) p (set p.nodes i n) (take at old ++ (written ++ drop size (drop at old))) (is_front old p s.spelled) (replaced_bytes (front_of old p) p i n old written at size (is_front old p s.spelled).long s.page h (has_front old p s.spelled) at_is size_is same written_is));
       counted = s.counted ∙ sym (length-set p.nodes i n);
       ended = s.ended ∙ sym room;
       placed = λ k within. elim (cases_lt i k) [
@@ -147,13 +147,13 @@ shows-replace old offsets count end p i n written new at size s h key extent fit
       ];
     }
 
-pub shows-extent : (old offsets : List ℕ) (count end : ℕ) (p : PageContents) (i extent : ℕ) (edited new placed : List ℕ) (was : ℕ) → Shows old offsets count end p → i < length p.nodes → length (node_at p.nodes i).data ≤ extent → page_size (with_extent p.nodes i extent) ≤ 4096 → was ≡ (node_at p.nodes i).extent → edited ≡ page_front p ++ node_area (with_extent p.nodes i extent) → Finishes edited new count → ((k : ℕ) → k < i + 1 → get_or placed k 0 ≡ get_or offsets k 0) → ((k : ℕ) → i + 1 ≤ k → k < count → get_or placed k 0 + was ≡ get_or offsets k 0 + extent) → Shows new placed count (end - was + extent) (record p { nodes = with_extent p.nodes i extent })
+pub shows-extent : (old offsets : List ℕ) (count end : ℕ) (p : PageContents) (i extent : ℕ) (edited new placed : List ℕ) (was : ℕ) → Shows old offsets count end p → i < length p.nodes → length (node_at p.nodes i).data ≤ extent → page_size (with_extent p.nodes i extent) ≤ 4096 → was ≡ (node_at p.nodes i).extent → edited ≡ front_of old p ++ node_area (with_extent p.nodes i extent) → Finishes edited new count → ((k : ℕ) → k < i + 1 → get_or placed k 0 ≡ get_or offsets k 0) → ((k : ℕ) → i + 1 ≤ k → k < count → get_or placed k 0 + was ≡ get_or offsets k 0 + extent) → Shows new placed count (end - was + extent) (record p { nodes = with_extent p.nodes i extent })
 shows-extent old offsets count end p i extent edited new placed was s h fits room was_is edited_is finished below above =
     let n : Node = record (node_at p.nodes i) { extent = extent } in
     let sums = sum-set node_size p.nodes i n no_node h in
     record {
       page = is_page-set p i n s.page h refl fits room;
-      spelled = finished p (record p { nodes = set p.nodes i n }) refl refl (s.counted ∙ sym (length-set p.nodes i n)) (drop-page_front p (set p.nodes i n) edited edited_is);
+      spelled = finished p (record p { nodes = set p.nodes i n }) refl refl (s.counted ∙ sym (length-set p.nodes i n)) (headed (front_of old p) p (set p.nodes i n) edited (is_front old p s.spelled) edited_is);
       counted = s.counted ∙ sym (length-set p.nodes i n);
       ended = omega (arith, s.ended, sums, was_is, get_or-le-sum_by node_size p.nodes i no_node h);
       placed = λ k within. elim (cases_lt i k) [
@@ -163,7 +163,7 @@ shows-extent old offsets count end p i extent edited new placed was s h fits roo
     }
 
 -- the first nodes of a page, and the last ones
-pub shows-take : (old offsets : List ℕ) (count end : ℕ) (p : PageContents) (i : ℕ) (edited new : List ℕ) (start : ℕ) → Shows old offsets count end p → i ≤ length p.nodes → start ≡ page_size (take i p.nodes) → edited ≡ page_front p ++ node_area (take i p.nodes) → Finishes edited new i → Shows new offsets i start (record p { nodes = take i p.nodes })
+pub shows-take : (old offsets : List ℕ) (count end : ℕ) (p : PageContents) (i : ℕ) (edited new : List ℕ) (start : ℕ) → Shows old offsets count end p → i ≤ length p.nodes → start ≡ page_size (take i p.nodes) → edited ≡ front_of old p ++ node_area (take i p.nodes) → Finishes edited new i → Shows new offsets i start (record p { nodes = take i p.nodes })
 shows-take old offsets count end p i edited new start s h start_is edited_is finished = record {
   page = record {
     number = s.page.number;
@@ -172,13 +172,13 @@ shows-take old offsets count end p i edited new start s h start_is edited_is fin
     fits = All-take DataFits i p.nodes s.page.fits;
     size = omega (arith, s.page.size, sum_by-take-le node_size p.nodes i);
   };
-  spelled = finished p (record p { nodes = take i p.nodes }) refl refl (sym (length-take-le i p.nodes h)) (drop-page_front p (take i p.nodes) edited edited_is);
+  spelled = finished p (record p { nodes = take i p.nodes }) refl refl (sym (length-take-le i p.nodes h)) (headed (front_of old p) p (take i p.nodes) edited (is_front old p s.spelled) edited_is);
   counted = sym (length-take-le i p.nodes h);
   ended = start_is;
   placed = λ k within. s.placed k (omega (arith, s.counted)) ∙ ap page_size (sym (take-take k i p.nodes (omega arith)));
 }
 
-pub shows-drop : (old offsets other others : List ℕ) (count end count' end' : ℕ) (p q : PageContents) (i : ℕ) (edited new placed : List ℕ) (start : ℕ) → Shows old offsets count end p → Shows other others count' end' q → i ≤ length p.nodes → start ≡ page_size (take i p.nodes) → edited ≡ page_front q ++ node_area (drop i p.nodes) → Finishes edited new (count - i) → ((k : ℕ) → k < count - i → get_or placed k 0 ≡ get_or offsets (i + k) 0 - (start - 32)) → Shows new placed (count - i) (32 + (end - start)) (record q { nodes = drop i p.nodes })
+pub shows-drop : (old offsets other others : List ℕ) (count end count' end' : ℕ) (p q : PageContents) (i : ℕ) (edited new placed : List ℕ) (start : ℕ) → Shows old offsets count end p → Shows other others count' end' q → i ≤ length p.nodes → start ≡ page_size (take i p.nodes) → edited ≡ front_of other q ++ node_area (drop i p.nodes) → Finishes edited new (count - i) → ((k : ℕ) → k < count - i → get_or placed k 0 ≡ get_or offsets (i + k) 0 - (start - 32)) → Shows new placed (count - i) (32 + (end - start)) (record q { nodes = drop i p.nodes })
 shows-drop old offsets other others count end count' end' p q i edited new placed start s t h start_is edited_is finished moved =
     let sums : sum_by node_size (take i p.nodes) + sum_by node_size (drop i p.nodes) ≡ sum_by node_size p.nodes = sym (sum_by-append node_size (take i p.nodes) (drop i p.nodes)) ∙ ap (sum_by node_size) (take-append-drop i p.nodes) in
     let counted : count - i ≡ length (drop i p.nodes) = omega (arith, s.counted, length-drop i p.nodes) in
@@ -190,7 +190,7 @@ shows-drop old offsets other others count end count' end' p q i edited new place
         fits = All-drop DataFits i p.nodes s.page.fits;
         size = omega (arith, s.page.size);
       };
-      spelled = finished q (record q { nodes = drop i p.nodes }) refl refl counted (drop-page_front q (drop i p.nodes) edited edited_is);
+      spelled = finished q (record q { nodes = drop i p.nodes }) refl refl counted (headed (front_of other q) q (drop i p.nodes) edited (is_front other q t.spelled) edited_is);
       counted = counted;
       ended = omega (arith, s.ended);
       placed = λ k within.
@@ -200,7 +200,7 @@ shows-drop old offsets other others count end count' end' p q i edited new place
 
 -- While the first k nodes of a page are taken over, the next one stands where these end.
 pub next_node : (old offsets : List ℕ) (count end : ℕ) (q : PageContents) (bytes : List ℕ) (p : PageContents) (k : ℕ) → Shows old offsets count end q → IsPage p → bytes ≡ page_bytes p → q ≡ record p { nodes = take k p.nodes } → k < length p.nodes → HasNode bytes end (node_at p.nodes k)
-next_node old offsets count end q bytes p k s page spelled taken h = has_node p k bytes end page h spelled (s.ended ∙ ap (λ (r : PageContents). page_size r.nodes) taken)
+next_node old offsets count end q bytes p k s page spelled taken h = has_node p k bytes end page h (ap (drop 8) spelled ∙ drop-page_bytes p) (s.ended ∙ ap (λ (r : PageContents). page_size r.nodes) taken)
 
 pub key_read : (bytes : List ℕ) (at : ℕ) (n : Node) (key : ℕ) → HasNode bytes at n → key ≡ little_number 2 (drop at bytes) → take (at + 6 + key - (at + 6)) (drop (at + 6) bytes) ≡ n.key
 key_read bytes at n key node key_is =

@@ -1,3 +1,4 @@
+pub mod Fronts
 pub mod Keys
 pub mod Kept
 pub mod Nodes

@@ -2,13 +2,13 @@
 use Rattle.std.proofs.Common.{◌≡◌, ℕ, ◌+◌, ◌-◌, ◌*◌, ◌<◌, ◌≤◌, List, [], ◌∷◌, ◌++◌, length, take, drop, replicate, get_or, refl, sym, ap, ◌∙◌, arith, append_assoc, length-append}
 use Rattle.std.specs.List.{flat_map, All}
 use Rattle.std.specs.Prelude.{sum_by}
-use Rattle.std.proofs.lemmas.List.{length-replicate, drop_more, take_at, drop_at, drop-drop, take-append-drop}
+use Rattle.std.proofs.lemmas.List.{get_or-drop, length-replicate, drop_more, take_at, drop_at, drop-drop, take-append-drop}
 use Rattle.std.proofs.lemmas.List.Concat.{flat_map-append}
 use Rattle.std.proofs.lemmas.List.Elements.{All-head, All-tail, All-take}
 use Rattle.std.proofs.lemmas.List.Sums.{sum_by-cons, get_or-le-sum_by, sum_by_more_le}
 use Rattle.byteorder.specs.Endian.{little_bytes, little_number}
 use Rattle.byteorder.specs.Numbers.{little_number-reads_back}
-use Rattle.page_image.specs.Page.{Node, PageContents, IsPage, no_node, node_at, node_bytes, node_size, page_size, page_head, page_front, page_bytes}
+use Rattle.page_image.specs.Page.{Node, PageContents, IsPage, no_node, node_at, node_bytes, node_size, page_size, page_head, page_body, page_front, page_bytes}
 use Rattle.page_image.specs.Reading.{front_node, front_size, nodes_in, contents_of}
 
 -- the parts of a node's bytes, one behind the other
@@ -98,6 +98,37 @@ contents_of-page_bytes p page few =
     let nodes = nodes_in-bytes p.nodes (replicate (4096 - page_size p.nodes) 0) (small_nodes p page) in
     rw (number, count, nodes) refl
 
+-- ---- bytes that are a page's but for the checksum
+
+pub drop-page_bytes : (p : PageContents) → drop 8 (page_bytes p) ≡ page_body p
+unfolding page_bytes page_front page_body
+drop-page_bytes p = refl
+
+-- lists that are the same behind their first eight places
+pub same_behind : (xs ys : List ℕ) (at : ℕ) → drop 8 xs ≡ drop 8 ys → 8 ≤ at → drop at xs ≡ drop at ys
+same_behind xs ys at e h =
+    let place : 8 + (at - 8) ≡ at = omega arith in
+    ap (λ (k : ℕ). drop k xs) (sym place) ∙ sym (drop-drop (at - 8) 8 xs) ∙ ap (drop (at - 8)) e ∙ drop-drop (at - 8) 8 ys ∙ ap (λ (k : ℕ). drop k ys) place
+
+same_kind : (xs ys : List ℕ) → drop 8 xs ≡ drop 8 ys → get_or xs 12 0 ≡ get_or ys 12 0
+same_kind xs ys e = sym (get_or-drop 8 xs 4 0) ∙ ap (λ (x : List ℕ). get_or x 4 0) e ∙ get_or-drop 8 ys 4 0
+
+same_contents : (xs ys : List ℕ) → drop 8 xs ≡ drop 8 ys → contents_of xs ≡ contents_of ys
+unfolding contents_of
+same_contents xs ys e =
+    let kind = same_kind xs ys e in
+    let count = same_behind xs ys 14 e (omega arith) in
+    let nodes = same_behind xs ys 32 e (omega arith) in
+    λ i. record {
+      number = little_number 4 (e i);
+      kind = kind i;
+      nodes = nodes_in (little_number 2 (count i)) (nodes i);
+    }
+
+-- they read as the page
+pub contents_of-body : (p : PageContents) (bytes : List ℕ) → IsPage p → length p.nodes < 65536 → drop 8 bytes ≡ page_body p → contents_of bytes ≡ p
+contents_of-body p bytes page few body = same_contents bytes (page_bytes p) (body ∙ sym (drop-page_bytes p)) ∙ contents_of-page_bytes p page few
+
 -- each node takes six bytes at least
 pub few_nodes : (ns : List Node) → 6 * length ns ≤ sum_by node_size ns
 few_nodes [] = omega arith
@@ -113,8 +144,8 @@ drop-nodes ns rest i small =
     ∙ drop_at (flat_map node_bytes (take i ns)) (flat_map node_bytes (drop i ns) ++ rest) _ far
 
 -- a page from its node i on
-pub drop-page_bytes : (p : PageContents) (i : ℕ) → IsPage p → drop (page_size (take i p.nodes)) (page_bytes p) ≡ flat_map node_bytes (drop i p.nodes) ++ replicate (4096 - page_size p.nodes) 0
-drop-page_bytes p i page =
+pub drop-page_nodes : (p : PageContents) (i : ℕ) → IsPage p → drop (page_size (take i p.nodes)) (page_bytes p) ≡ flat_map node_bytes (drop i p.nodes) ++ replicate (4096 - page_size p.nodes) 0
+drop-page_nodes p i page =
     sym (drop-drop (sum_by node_size (take i p.nodes)) 32 (page_bytes p))
     ∙ ap (drop (sum_by node_size (take i p.nodes))) (drop-head p)
     ∙ drop-nodes p.nodes (replicate (4096 - page_size p.nodes) 0) i (small_nodes p page)
@@ -125,7 +156,7 @@ behind p i = flat_map node_bytes (drop (i + 1) p.nodes) ++ replicate (4096 - pag
 
 pub page_bytes-at : (p : PageContents) (i : ℕ) → IsPage p → i < length p.nodes → drop (page_size (take i p.nodes)) (page_bytes p) ≡ node_bytes (node_at p.nodes i) ++ behind p i
 page_bytes-at p i page h =
-    drop-page_bytes p i page
+    drop-page_nodes p i page
     ∙ ap (λ (x : List Node). flat_map node_bytes x ++ replicate (4096 - page_size p.nodes) 0) (drop_more p.nodes i no_node h)
     ∙ append_assoc (node_bytes (node_at p.nodes i)) (flat_map node_bytes (drop (i + 1) p.nodes)) (replicate (4096 - page_size p.nodes) 0)
 
@@ -139,12 +170,12 @@ pub record HasNode (bytes : List ℕ) (at : ℕ) (n : Node) : Type 0 where
   pub fits : length n.data ≤ n.extent
   pub within : at + node_size n ≤ 4096
 
-pub has_node : (p : PageContents) (i : ℕ) (bytes : List ℕ) (at : ℕ) → IsPage p → i < length p.nodes → bytes ≡ page_bytes p → at ≡ page_size (take i p.nodes) → HasNode bytes at (node_at p.nodes i)
+pub has_node : (p : PageContents) (i : ℕ) (bytes : List ℕ) (at : ℕ) → IsPage p → i < length p.nodes → drop 8 bytes ≡ page_body p → at ≡ page_size (take i p.nodes) → HasNode bytes at (node_at p.nodes i)
 has_node p i bytes at page h spelled at_is =
     let n = node_at p.nodes i in
     let rest = behind p i in
     let zeros = replicate {A = ℕ} (n.extent - length n.data) 0 in
-    let here : drop at bytes ≡ node_bytes n ++ rest = ap (drop at) spelled ∙ ap (λ k. drop k (page_bytes p)) at_is ∙ page_bytes-at p i page h in
+    let here : drop at bytes ≡ node_bytes n ++ rest = same_behind bytes (page_bytes p) at (spelled ∙ sym (drop-page_bytes p)) (omega (arith, at_is)) ∙ ap (λ k. drop k (page_bytes p)) at_is ∙ page_bytes-at p i page h in
     let small = small_nodes p page i no_node h in
     let further : (k : ℕ) → drop (at + k) bytes ≡ drop k (node_bytes n ++ rest) = λ k. sym (drop-drop k at bytes) ∙ ap (drop k) here in
     let body : drop 6 (node_bytes n ++ rest) ≡ n.key ++ (n.data ++ (zeros ++ rest)) = ap (drop 6) (node_bytes-parts n rest) in
@@ -161,9 +192,9 @@ has_node p i bytes at page h spelled at_is =
     }
 
 -- the bytes of a node, cut out of its page
-pub node_slice : (p : PageContents) (i : ℕ) (bytes : List ℕ) (at size : ℕ) → IsPage p → i < length p.nodes → bytes ≡ page_bytes p → at ≡ page_size (take i p.nodes) → size ≡ node_size (node_at p.nodes i) → take size (drop at bytes) ≡ node_bytes (node_at p.nodes i)
+pub node_slice : (p : PageContents) (i : ℕ) (bytes : List ℕ) (at size : ℕ) → IsPage p → i < length p.nodes → drop 8 bytes ≡ page_body p → at ≡ page_size (take i p.nodes) → size ≡ node_size (node_at p.nodes i) → take size (drop at bytes) ≡ node_bytes (node_at p.nodes i)
 node_slice p i bytes at size page h spelled at_is size_is =
-    let here : drop at bytes ≡ node_bytes (node_at p.nodes i) ++ behind p i = ap (drop at) spelled ∙ ap (λ k. drop k (page_bytes p)) at_is ∙ page_bytes-at p i page h in
+    let here : drop at bytes ≡ node_bytes (node_at p.nodes i) ++ behind p i = same_behind bytes (page_bytes p) at (spelled ∙ sym (drop-page_bytes p)) (omega (arith, at_is)) ∙ ap (λ k. drop k (page_bytes p)) at_is ∙ page_bytes-at p i page h in
     ap (take size) here ∙ take_at (node_bytes (node_at p.nodes i)) (behind p i) size (length-node_bytes (node_at p.nodes i) (small_nodes p page i no_node h).fits ∙ sym size_is)
 
 -- a node's bytes with other data

@@ -3,6 +3,7 @@
 
 mod laws;
 mod offsets;
+mod order;
 mod page;
 mod spelling;
 

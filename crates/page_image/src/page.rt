@@ -4,9 +4,10 @@ ghost use Rattle.std.specs.Prelude.{◌≡◌, ℕ, ◌+◌, ◌<◌, ◌≤◌,
 ghost use Rattle.page_image.specs.Page.{HasRisingKeys, IsInsertPlace, IsPage, PageContents, node_area, node_at, node_size, page_bytes, page_head, page_size, with_data, with_extent};
 
 use crate::offsets::{MAX_NODES, copy_offsets, insert_offset, move_offsets, remove_offset};
+use crate::order::{compare, front};
 use crate::spelling::{
-    HEAD_BYTES, NODE_HEAD_BYTES, PAGE_BYTES, finish, insert_node, number_at, remove_bytes,
-    replace_data, resize_zeros,
+    CHECKSUM_BYTES, HEAD_BYTES, NODE_HEAD_BYTES, PAGE_BYTES, finish, insert_node, number_at,
+    remove_bytes, replace_data, resize_zeros, sealed,
 };
 use byteorder::{ByteOrder, LittleEndian};
 use std::cmp::Ordering;
@@ -26,6 +27,7 @@ pub struct Full;
 /// A page of 4,096 bytes, seen as its number, its kind and its nodes in rising key order.
 #[derive(Drop)]
 pub struct Page {
+    // The page as it is stored but for its checksum, which no change of it makes.
     bytes: [u8; 4096],
     // Where each node begins, so that a search reaches any node at once.
     offsets: [u16; 677],
@@ -55,7 +57,6 @@ impl Page {
         let offsets = [0; MAX_NODES];
         let mut bytes = [0; PAGE_BYTES];
         write_head(&mut bytes, number, kind);
-        finish(&mut bytes, 0);
         Page {
             bytes,
             offsets,
@@ -77,7 +78,7 @@ impl Page {
         for _ in 0..number_at(&bytes, 14) {
             page.take_over(&bytes)?;
         }
-        if page.bytes == bytes {
+        if sealed(&page.bytes) == bytes {
             Ok(page)
         } else {
             Err(BadPage)
@@ -125,11 +126,18 @@ impl Page {
         self.count
     }
 
-    /// The page as it is stored.
-    pub fn bytes(&self) -> &[u8; 4096]
-        ensures { result.now ≡ page_bytes self.now }
+    /// The page as it is stored. Its checksum is made here, and goes over the whole page.
+    pub fn bytes(&self) -> [u8; 4096]
+        ensures { result ≡ page_bytes self.now }
     {
-        &self.bytes
+        sealed(&self.bytes)
+    }
+
+    /// Whether another page has the same bytes. No checksum is made for it.
+    pub fn has_same_bytes(&self, other: &Page) -> bool
+        ensures { IsTrue result ↔ (page_bytes self.now ≡ page_bytes other.now) }
+    {
+        self.bytes[CHECKSUM_BYTES..] == other.bytes[CHECKSUM_BYTES..]
     }
 
     /// The page's number.
@@ -191,10 +199,11 @@ impl Page {
     pub fn find(&self, key: &[u8]) -> Result<usize, usize>
         ensures { MatchResult result (λ i. (i < length self.now.nodes) × ((node_at self.now.nodes i).key ≡ key.now)) (λ i. IsInsertPlace self.now.nodes key.now i) }
     {
+        let key_front = front(key);
         let (mut low, mut high) = (0, self.count);
         while low < high {
             let middle = low + (high - low) / 2;
-            match self.key(middle).cmp(key) {
+            match compare(self.key(middle), key, key_front) {
                 Ordering::Less => low = middle + 1,
                 Ordering::Greater => high = middle,
                 Ordering::Equal => return Ok(middle),

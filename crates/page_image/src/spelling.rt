@@ -2,12 +2,15 @@
 
 ghost use Rattle.std.specs.Prelude.{◌≡◌, ℕ, List, ◌+◌, ◌-◌, ◌<◌, ◌≤◌, ◌++◌, length, take, drop, replicate, slice_range};
 ghost use Rattle.byteorder.specs.Endian.{little_bytes, little_number};
-ghost use Rattle.page_image.specs.Page.{Node, PageContents, node_area, node_bytes, page_bytes, page_head, xor_of_words};
+ghost use Rattle.page_image.specs.Page.{Node, PageContents, node_area, node_bytes, page_body, page_head, xor_of_words};
 
 use byteorder::{ByteOrder, LittleEndian};
 
 /// The bytes of a page.
 pub const PAGE_BYTES: usize = 4096;
+
+/// The bytes of the checksum, the first ones.
+pub const CHECKSUM_BYTES: usize = 8;
 
 /// The bytes before the first node.
 pub const HEAD_BYTES: usize = 32;
@@ -29,12 +32,14 @@ fn checksum(bytes: &[u8; 4096]) -> u64
     sum
 }
 
-/// Writes the checksum of the other words into the first one.
-fn seal(bytes: &mut [u8; 4096])
-    ensures { bytes.new ≡ little_bytes 8 (xor_of_words 511 (drop 8 bytes.old)) ++ drop 8 bytes.old }
+/// A copy of the bytes with the checksum of the other words in the first one.
+pub fn sealed(bytes: &[u8; 4096]) -> [u8; 4096]
+    ensures { result ≡ little_bytes 8 (xor_of_words 511 (drop 8 bytes.now)) ++ drop 8 bytes.now }
 {
     let sum = checksum(bytes);
-    LittleEndian::write_u64(bytes, sum);
+    let mut sealed = *bytes;
+    LittleEndian::write_u64(&mut sealed, sum);
+    sealed
 }
 
 /// The number in the two bytes at a place.
@@ -46,13 +51,12 @@ pub fn number_at(bytes: &[u8; 4096], at: usize) -> usize
     LittleEndian::read_u16(&bytes[at..]) as usize
 }
 
-/// Writes the count of nodes and then the checksum, after which the bytes are a page's again.
+/// Writes the count of nodes, after which the bytes behind the checksum are a page's again.
 pub fn finish(bytes: &mut [u8; 4096], count: usize)
     requires { count < 65536 }
-    ensures { (p q : PageContents) → q.number ≡ p.number → q.kind ≡ p.kind → count ≡ length q.nodes → drop 8 bytes.old ≡ page_head p ++ node_area q.nodes → bytes.new ≡ page_bytes q }
+    ensures { (p q : PageContents) → q.number ≡ p.number → q.kind ≡ p.kind → count ≡ length q.nodes → drop 8 bytes.old ≡ page_head p ++ node_area q.nodes → drop 8 bytes.new ≡ page_body q }
 {
     set_count(bytes, count as u16);
-    seal(bytes);
 }
 
 /// Writes the count of nodes.

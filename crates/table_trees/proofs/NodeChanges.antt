@@ -1,6 +1,6 @@
 -- The nodes of a table: what is found among them, and that changes keep them in order and short.
-use Rattle.std.proofs.Common.{◌≡◌, ℕ, ◌≤◌, length, Bool, true, false, ◌&&◌, if◌then◌else◌, reverse, List, [], ◌∷◌, map, filter, find, Option, Some, None, option_map, refl, sym, ap, subst, ◌∙◌, true≢false, T}
-use Rattle.std.specs.Prelude.{All, IfSome, IsSome, IsSomeAnd, bytes_eq, is_some}
+use Rattle.std.proofs.Common.{◌≡◌, ℕ, ◌≤◌, length, Bool, true, false, ◌&&◌, if◌then◌else◌, reverse, List, [], ◌∷◌, map, filter, find, Option, Some, None, option_map, Result, Ok, Err, refl, sym, ap, subst, ◌∙◌, true≢false, T}
+use Rattle.std.specs.Prelude.{All, IfOk, IfSome, IsSome, IsSomeAnd, OnOk, bytes_eq, is_some}
 use Rattle.std.specs.List.{last_or, list_all}
 use Rattle.std.proofs.lemmas.List.Elements.{All-cons, All-head, All-tail}
 use Rattle.std.proofs.lemmas.Map.Text.{is_eq-slice_cmp}
@@ -17,7 +17,7 @@ use Rattle.common_lemmas.proofs.Finding.{find_map, find_reverse, last_map}
 use Rattle.page_image.specs.Page.{Node}
 use Rattle.page_space.specs.Frames.{Frames}
 use Rattle.btree_inplace.specs.Changes.{inserted, inserted_if_absent, without_key}
-use Rattle.btree_inplace.specs.Order.{has_key, key_and_data}
+use Rattle.btree_inplace.specs.Order.{extent_in, has_key, key_and_data}
 use Rattle.btree_inplace.specs.Trees.{Exchanges, IsTree, nodes_of, pages_of}
 use Rattle.btree_inplace.specs.declared.Tree.{Tree}
 use Rattle.column_set.specs.RecordValues.{put_by_key}
@@ -215,6 +215,19 @@ become own old was new is list before after has e sorted short root = record {
   pages = rearranged old new (pages_of old was.tree) (pages_of new is.tree) e (own old was.tree before) (own new is.tree after);
   root = root;
 }
+
+-- where the key is there, the nodes stay
+stays_where_there : (nodes : List Node) (node : Node) → IsSome (extent_in nodes node.key) → inserted_if_absent nodes node ≡ nodes
+stays_where_there nodes node some = by (find (has_key node.key) nodes) some
+  where
+    by : (o : Option Node) → IsSome (option_map (λ (n : Node). n.extent) o) → (if is_some o then nodes else inserted nodes node) ≡ nodes
+    by None h = absurd h
+    by (Some n) h = refl
+
+pub where_there : {E R : Type 0} (P : List Node → Type 0) (r : Result (Option ℕ) E) (nodes : List Node) (node : Node) → (P nodes → R) → IfOk r (λ there. there ≡ extent_in nodes node.key) → OnOk r (P (inserted_if_absent nodes node))
+    → IfOk r (λ there. IsSome there → R)
+where_there P (Ok there) nodes node same is has = λ some. same (subst P (stays_where_there nodes node (subst IsSome is some)) has)
+where_there P (Err fault) nodes node same is has = tt
 
 pub some_of : {X Y : Type 0} (f : X → Y) (P : Y → Type 0) (o : Option X) → IsSomeAnd (option_map f o) P → IsSome o
 some_of f P None h = absurd h

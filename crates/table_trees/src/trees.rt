@@ -188,6 +188,7 @@ impl TableTrees {
         requires small { extent ≤ 1700 }
         ensures there { IfOk result (λ there. there ≡ extent_in (table_nodes self.old.tables table.0) bookmark.now) }
         ensures ok { OnOk result (self.new.tables ≡ with_nodes table.0 (inserted_if_absent (table_nodes self.old.tables table.0) (record { key = bookmark.now; extent = extent; «data» = row.now })) self.old.tables) }
+        ensures same { IfOk result (λ there. IsSome there → self.new.tables ≡ self.old.tables) }
         ensures err { OnErr result (self.new.tables ≡ self.old.tables) }
         ensures absent { OnErr result (extent_in (table_nodes self.old.tables table.0) bookmark.now ≡ None) }
         ensures catalog { self.new.catalog ≡ self.old.catalog }

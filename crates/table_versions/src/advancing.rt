@@ -166,5 +166,11 @@ fn stand_on(place: &mut Place, key: &[u8], bookmark: &[u8])
     requires bookmark { length bookmark.now ≤ 255 }
     ensures { place.new ≡ On key.now bookmark.now }
 {
-    *place = Place::On(Key::from_slice(key), Key::from_slice(bookmark));
+    match place {
+        Place::On(own, beside) => {
+            own.set(key);
+            beside.set(bookmark);
+        }
+        _ => *place = Place::On(Key::from_slice(key), Key::from_slice(bookmark)),
+    }
 }

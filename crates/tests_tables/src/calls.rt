@@ -23,6 +23,18 @@ fn one_table(alloc: Global) -> Result<TableTrees, OutOfMemory>
     Ok(tables)
 }
 
+/// Puts a node under a bookmark that has none, or says how many bytes are kept for the row that is there.
+fn put(tables: &mut TableTrees, bookmark: &[u8], row: &[u8], extent: usize) -> Option<usize> {
+    let fits = row.len() <= extent && extent <= 1_700;
+    if !fits || bookmark.is_empty() || bookmark.len() > 255 || !tables.has_table(TABLE) {
+        return None;
+    }
+    match tables.insert_if_absent(TABLE, bookmark, row, extent) {
+        Ok(there) => there,
+        Err(_) => None,
+    }
+}
+
 /// Keeps another number of bytes for a row that is there, and says whether it did.
 fn widen(tables: &mut TableTrees, bookmark: &[u8], extent: usize) -> bool {
     match tables.get(TABLE, bookmark) {
@@ -87,6 +99,17 @@ fn nodes_come_change_and_go(rt: HostRuntime) -> Result<(), Fail> {
     compare(&rt, &tables, b"a", b"longer");
     assert!(&rt; remove(&mut tables, b"a"));
     assert!(&rt; !remove(&mut tables, b"a"));
+    Ok(())
+}
+
+#[test]
+fn what_is_there_is_not_put_again(rt: HostRuntime) -> Result<(), Fail> {
+    let mut tables = one_table(rt.alloc())?;
+    let is_new = tables.insert_entry_if_absent(TABLE, INDEX, b"key", b"a")?;
+    assert!(&rt; is_new && tables.has_key(TABLE, INDEX, b"key"));
+    assert!(&rt; put(&mut tables, b"a", b"row", 4).is_none());
+    assert!(&rt; put(&mut tables, b"a", b"other", 8) == Some(4));
+    compare(&rt, &tables, b"a", b"row");
     Ok(())
 }
 

@@ -164,6 +164,9 @@ fn change_one(space: &mut Space, index: &mut IndexTree, number: usize, puts: boo
 {
     let (key, bookmark) = (key_of(number / 4), bookmark_of(number));
     let (key, bookmark) = (key.as_bytes(), bookmark.as_bytes());
+    if puts && number % 2 == 1 {
+        return matches!(index.insert_if_absent(space, key, bookmark), Ok(true));
+    }
     if index.has(space, key, bookmark) {
         if puts {
             return false;

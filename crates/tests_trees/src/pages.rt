@@ -44,7 +44,7 @@ fn a_page_is_spelled_so(rt: HostRuntime) {
         Ok(_) => assert!(rt; false),
         Err(place) => assert!(rt; page.insert(place, b"ab", b"xyz", 5).is_ok()),
     }
-    assert!(rt; *page.bytes() == spelled());
+    assert!(rt; page.bytes() == spelled());
 }
 
 #[test]

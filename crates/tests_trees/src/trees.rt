@@ -53,7 +53,7 @@ fn data_of(alloc: Global, kept: Kept) -> Vec<u8> {
     data
 }
 
-/// Puts a node in, unless the key is there, and says whether it did.
+/// Puts a node in, unless the key is there, by one of the two calls, and says whether it did.
 fn put(space: &mut Space, tree: &mut Tree, key: &[u8], data: &[u8], extent: usize) -> bool
     requires { IsTree space.old tree.old }
     ensures tree { IsTree space.new tree.new }
@@ -62,19 +62,27 @@ fn put(space: &mut Space, tree: &mut Tree, key: &[u8], data: &[u8], extent: usiz
     if key.len() > 755 || data.len() > extent || extent > 1_200 {
         return false;
     }
+    if extent % 2 == 1 {
+        return matches!(tree.insert_if_absent(space, key, data, extent), Ok(None));
+    }
     if tree.get(space, key).is_some() {
         return false;
     }
     tree.insert(space, key, data, extent).is_ok()
 }
 
-/// Gives a key that is there another extent and other data, and says whether it did.
+/// Gives a key that is there, and is not put again, another extent and other data, and says whether it did.
 fn rewrite(space: &mut Space, tree: &mut Tree, key: &[u8], data: &[u8], extent: usize) -> bool
     requires { IsTree space.old tree.old }
     ensures { IsTree space.new tree.new }
 {
     if key.len() > 755 || data.len() > extent || extent > 1_200 {
         return false;
+    }
+    let kept = tree.extent(space, key);
+    match tree.insert_if_absent(space, key, b"", 0) {
+        Ok(there) if there == kept => {}
+        _ => return false,
     }
     match tree.get(space, key) {
         Some(old) if old.len() <= extent => {}

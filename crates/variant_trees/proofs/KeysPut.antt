@@ -15,9 +15,9 @@ use Rattle.derived_index.specs.KeptEntries.{has_entry}
 use Rattle.index_derive.specs.declared.rules.IndexRule.{IndexRule}
 use Rattle.index_derive.specs.declared.rules.Schema.{Schema}
 use Rattle.index_derive.specs.Entries.{entries, entry_le, insert_entry, is_legal, key_list, keys_or_none, KeyRefusal}
-use Rattle.index_tree.specs.Entries.{IsApart, IsApartFromAll}
+use Rattle.index_tree.specs.Entries.{IsApart, IsApartFromAll, insert_entry_if_absent}
 use Rattle.record_changes.proofs.Tests.{equal_bytes}
-use Rattle.table_trees.specs.StoredTables.{StoredTable, has_index, index_entries, table_indexes, with_entries}
+use Rattle.table_trees.specs.StoredTables.{StoredIndex, StoredTable, has_index, index_entries, is_index, part_of, table_indexes, with_entries}
 use Rattle.stored_variants.specs.PutRecords.{HasKeysOf, Keys, record_keys, rule_keys}
 use Rattle.variant_trees.specs.GoneKeys.{index_numbers}
 use Rattle.variant_trees.specs.PutStages.{AreKeysOfRecords, CanTake, HasKeys, IsKeyOfRecord, MayHaveKeys, one_key, some_keys}
@@ -51,25 +51,20 @@ and_false true b = refl
 and_false false true = refl
 and_false false false = refl
 
--- one that is there already
-pub has_it : (trees : List StoredTable) (table index : ℕ) (key bookmark : List ℕ) → has_entry key bookmark (index_entries trees table index) ≡ true → HasKeys table bookmark (one_key index key) trees trees
-has_it trees table index key bookmark there = record {
-  others = entries_stay table trees;
-  entries = λ i k own. by i k own (bytes_eq own bookmark && one_key index key i k) refl;
-}
+-- one that is put where it is not there
+found_if_absent : (e : Pair) (key own : List ℕ) (es : List Pair) → has_entry key own (insert_entry_if_absent e es) ≡ ((bytes_eq e.0 key && bytes_eq e.1 own) || has_entry key own es)
+found_if_absent e key own es = by (has_entry e.0 e.1 es) refl
   where
-    by : (i : ℕ) (k own : List ℕ) (b : Bool) → (bytes_eq own bookmark && one_key index key i k) ≡ b → has_entry k own (index_entries trees table i) ≡ (has_entry k own (index_entries trees table i) || b)
-    by i k own false e = or_false _
-    by i k own true e =
-        let which = and_right (bytes_eq own bookmark) _ e in
-        let is : has_entry k own (index_entries trees table i) ≡ true =
-        (λ j. has_entry (same_bytes k key (and_right (index == i) _ which) j) (same_bytes own bookmark (and_left (bytes_eq own bookmark) _ e) j)
-        (index_entries trees table (sym (eqb-true index i (and_left (index == i) _ which)) j))) ∙ there in
-        is ∙ ap (λ b. b || true) (sym is)
+    found : (b : Bool) → (bytes_eq e.0 key && bytes_eq e.1 own) ≡ b → has_entry e.0 e.1 es ≡ true → has_entry key own es ≡ (b || has_entry key own es)
+    found false t there = refl
+    found true t there = (λ i. has_entry (sym (same_bytes e.0 key (and_left (bytes_eq e.0 key) _ t)) i) (sym (same_bytes e.1 own (and_right (bytes_eq e.0 key) _ t)) i) es) ∙ there
 
--- and one that was not
+    by : (b : Bool) → has_entry e.0 e.1 es ≡ b → has_entry key own (cond b es (insert_entry e es)) ≡ ((bytes_eq e.0 key && bytes_eq e.1 own) || has_entry key own es)
+    by true there = found (bytes_eq e.0 key && bytes_eq e.1 own) refl there
+    by false there = found_inserted e key own es
+
 pub has_put : IndexLaws → EntryLaws → (trees : List StoredTable) (table index : ℕ) (key bookmark : List ℕ) → has_index trees table index ≡ true
-    → HasKeys table bookmark (one_key index key) trees (with_entries table index (insert_entry (key, bookmark) (index_entries trees table index)) trees)
+    → HasKeys table bookmark (one_key index key) trees (with_entries table index (insert_entry_if_absent (key, bookmark) (index_entries trees table index)) trees)
 has_put laws entry_laws trees table index key bookmark there = record {
   others = entries_changed laws trees table index _ there;
   entries = λ i k own. by i k own (index == i) refl;
@@ -92,12 +87,12 @@ has_put laws entry_laws trees table index key bookmark there = record {
         no h = cc
 
     by : (i : ℕ) (k own : List ℕ) (b : Bool) → (index == i) ≡ b
-        → has_entry k own (index_entries (with_entries table index (insert_entry (key, bookmark) (index_entries trees table index)) trees) table i)
+        → has_entry k own (index_entries (with_entries table index (insert_entry_if_absent (key, bookmark) (index_entries trees table index)) trees) table i)
         ≡ (has_entry k own (index_entries trees table i) || (bytes_eq own bookmark && (b && bytes_eq k key)))
     by i k own true e =
-        (λ j. has_entry k own (index_entries (with_entries table index (insert_entry (key, bookmark) (index_entries trees table index)) trees) table (sym (eqb-true index i e) j)))
+        (λ j. has_entry k own (index_entries (with_entries table index (insert_entry_if_absent (key, bookmark) (index_entries trees table index)) trees) table (sym (eqb-true index i e) j)))
         ∙ ap (has_entry k own) (entry_laws.named trees table index _ there)
-        ∙ found_inserted (key, bookmark) k own (index_entries trees table index)
+        ∙ found_if_absent (key, bookmark) k own (index_entries trees table index)
         ∙ (λ j. (bytes_turned key k j && bytes_turned bookmark own j) || has_entry k own (index_entries trees table index))
         ∙ moved (bytes_eq k key) (bytes_eq own bookmark) (has_entry k own (index_entries trees table index))
         ∙ (λ j. has_entry k own (index_entries trees table (eqb-true index i e j)) || (bytes_eq own bookmark && bytes_eq k key))
@@ -259,6 +254,18 @@ index_stays table index old new same =
 pub taken_rules : (schema : Schema) (values : RecordFields) (table : ℕ) (trees : List StoredTable) (rules : List IndexRule) → AllByRecursion (CanTake schema values table trees) rules → AllByRecursion (HasKeysOf schema values) rules
 taken_rules schema values table trees [] all = tt
 taken_rules schema values table trees (r ∷ rules) all = (all.0.keys, taken_rules schema values table trees rules all.1)
+
+-- rules of a table whose indexes stay
+pub rules_stay : (schema : Schema) (values : RecordFields) (table : ℕ) (old new : List StoredTable) → table_indexes new table ≡ table_indexes old table → (rules : List IndexRule) → AllByRecursion (CanTake schema values table old) rules → AllByRecursion (CanTake schema values table new) rules
+rules_stay schema values table old new same [] all = tt
+rules_stay schema values table old new same (r ∷ rules) all = (
+  record {
+    keys = all.0.keys;
+    there = λ second. ap (list_any (is_index r.id.0)) same ∙ all.0.there second;
+    derived = λ second. subst (AreKeysOfRecords r schema) (ap (λ (indexes : List StoredIndex). part_of (is_index r.id.0) (λ x. x.1) indexes) (sym same)) (all.0.derived second);
+  },
+  rules_stay schema values table old new same rules all.1,
+)
 
 pub front_rules : {X : Type 0} (P : X → Type 0) (xs : List X) (n : ℕ) → AllByRecursion P xs → AllByRecursion P (take n xs)
 front_rules P [] zero all = tt

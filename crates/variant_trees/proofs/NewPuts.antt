@@ -1,10 +1,11 @@
 -- A put whose row stands in a new node.
 use Rattle.std.proofs.Common.{◌≡◌, ℕ, Bool, true, false, ◌&&◌, ◌||◌, cond, List, [], Option, Some, None, find, length, map, option_map, refl, sym, ap, subst, ◌∙◌}
-use Rattle.std.specs.Prelude.{◌==◌, bytes_eq, is_none, is_some}
+use Rattle.std.specs.Prelude.{◌==◌, bytes_eq, if◌then◌else◌, is_none, is_some}
+use Rattle.std.specs.Option.{option_and_then}
 use Rattle.std.proofs.lemmas.Bool.{eqb-true}
 use Rattle.common_lemmas.proofs.Numbers.{same_bytes, self_equal}
 use Rattle.common_lemmas.proofs.Booleans.{impossible}
-use Rattle.btree_inplace.specs.Changes.{inserted, with_data_at}
+use Rattle.btree_inplace.specs.Changes.{inserted, inserted_if_absent, with_data_at}
 use Rattle.btree_inplace.specs.Order.{extent_in, get_in, has_key}
 use Rattle.derived_index.specs.KeptEntries.{has_entry}
 use Rattle.kept_rows.specs.ValuesChanged.{HasLongValues}
@@ -15,6 +16,7 @@ use Rattle.record_changes.proofs.Tests.{equal_bytes}
 use Rattle.table_trees.specs.StoredNodes.{put_data}
 use Rattle.table_trees.specs.StoredTables.{StoredIndex, StoredTable, has_table, index_entries, is_index, part_of, table_long_values, table_nodes, with_nodes}
 use Rattle.stored_variants.specs.PutRecords.{Keys}
+use Rattle.stored_variants.specs.RecordRows.{row_in_node, row_under}
 use Rattle.variant_trees.specs.PutStages.{HasKeys, HasNewRow, IsHalfPut, IsNewPut, IsPut, IsWidened, MayHaveKeys, is_place, node_at_least}
 use Rattle.variant_trees.proofs.HalfPuts.{values_given}
 use Rattle.variant_trees.proofs.KeysPut.{may_have}
@@ -22,7 +24,7 @@ use Rattle.variant_trees.proofs.RoomMade.{NodeLaws, data_of, extent_of, found_th
 
 -- ---- the node
 
-pub row_in_new : NodeLaws → (trees : List StoredTable) (table : ℕ) (bookmark row : List ℕ) → has_table trees table ≡ true → get_in (table_nodes trees table) bookmark ≡ None
+row_in_new : NodeLaws → (trees : List StoredTable) (table : ℕ) (bookmark row : List ℕ) → has_table trees table ≡ true → get_in (table_nodes trees table) bookmark ≡ None
     → HasNewRow table bookmark row trees (with_nodes table (inserted (table_nodes trees table) (record { key = bookmark; extent = length row; «data» = row })) trees)
 row_in_new laws trees table bookmark row there absent = record {
   numbers = same_table_numbers table (inserted (table_nodes trees table) node) trees;
@@ -62,6 +64,36 @@ row_in_new laws trees table bookmark row there absent = record {
     wide other own true true e f = subst (λ (o : Option ℕ). IsWidened o (Some (length row))) (sym (no_extent (find (has_key own) (table_nodes trees other)) (none other own e f))) tt
     wide other own true false e f = subst (λ (n : ℕ). IsWidened (extent_in (table_nodes trees other) own) (extent_in (table_nodes trees n) own)) (sym (eqb-true table other e)) (no_less (extent_in (table_nodes trees other) own))
     wide other own false b e f = no_less (extent_in (table_nodes trees other) own)
+
+-- a node without an extent is none
+no_data : (o : Option Node) → extent_of o ≡ None → data_of o ≡ None
+no_data None e = refl
+no_data (Some n) e = absurd (no n.extent e)
+  where
+    no : (k : ℕ) → Some k ≡ None → ⊥
+    no k h = cc
+
+pub no_row : (nodes : List Node) (bookmark : List ℕ) → extent_in nodes bookmark ≡ None → get_in nodes bookmark ≡ None
+no_row nodes bookmark e = no_data (find (has_key bookmark) nodes) e
+
+pub no_row_under : (nodes : List Node) (bookmark : List ℕ) → extent_in nodes bookmark ≡ None → row_under nodes bookmark ≡ None
+no_row_under nodes bookmark e = ap (option_and_then row_in_node) (no_row nodes bookmark e)
+
+pub row_if_absent : NodeLaws → (trees : List StoredTable) (table : ℕ) (bookmark row : List ℕ) → has_table trees table ≡ true → extent_in (table_nodes trees table) bookmark ≡ None
+    → HasNewRow table bookmark row trees (with_nodes table (inserted_if_absent (table_nodes trees table) (record { key = bookmark; extent = length row; «data» = row })) trees)
+row_if_absent laws trees table bookmark row there none =
+    subst (λ (nodes : List Node). HasNewRow table bookmark row trees (with_nodes table nodes trees)) (by (find (has_key bookmark) (table_nodes trees table)) none)
+    (row_in_new laws trees table bookmark row there (no_row (table_nodes trees table) bookmark none))
+  where
+    node : Node
+    node = record { key = bookmark; extent = length row; «data» = row }
+
+    by : (o : Option Node) → extent_of o ≡ None → inserted (table_nodes trees table) node ≡ (if is_some o then table_nodes trees table else inserted (table_nodes trees table) node)
+    by None e = refl
+    by (Some n) e = absurd (no n.extent e)
+      where
+        no : (k : ℕ) → Some k ≡ None → ⊥
+        no k h = cc
 
 -- ---- the keys
 

@@ -1,6 +1,6 @@
 //! What a put brings into the trees of its table, and how it is taken back.
 
-ghost use Rattle.std.specs.Prelude.{◌≡◌, ℕ, ◌≤◌, ◌<◌, ◌++◌, ◌∷◌, [], List, length, true, false, not, is_none, is_some, Some, None, map, option_copied, option_map, unwrap_or, IfOk, IfSome, IsErrOf, IsTrue, OnErr, OnOk};
+ghost use Rattle.std.specs.Prelude.{◌≡◌, ℕ, ◌≤◌, ◌<◌, ◌++◌, ◌∷◌, [], List, length, true, false, not, is_none, is_some, Some, None, map, option_copied, option_map, unwrap_or, IfOk, IfSome, IsErrOf, IsSome, IsTrue, OnErr, OnOk};
 ghost use Rattle.std.specs.List.{AllByRecursion};
 ghost use Rattle.btree_inplace.specs.Order.{extent_in, get_in};
 ghost use Rattle.column_set.specs.RecordValues.{record_fits};
@@ -121,35 +121,36 @@ fn put_key(
     indexes_after_a_change();
     entries_after_a_change();
     let key = key.as_bytes();
-    if trees.has_entry(table, index, key, bookmark) {
-        Ok(())
-    } else {
-        trees.insert_entry(table, index, key, bookmark)
+    match trees.insert_entry_if_absent(table, index, key, bookmark) {
+        Ok(_) => Ok(()),
+        Err(error) => Err(error),
     }
 }
 
 // ---- nodes
 
-// Puts a node with a row under a bookmark that has none.
+// Puts a node with a row under a bookmark that has none. Where it has one, all stays, and it answers how many bytes are kept
+// for its row.
 fn insert_row(
     trees: &mut TableTrees,
     table: TableId,
     bookmark: &[u8],
     row: &[u8],
-) -> Result<(), OutOfMemory>
+) -> Result<Option<usize>, OutOfMemory>
     requires there { has_table trees.old.tables table.0 ≡ true }
-    requires absent { get_in (table_nodes trees.old.tables table.0) bookmark.now ≡ None }
     requires some { 0 < length bookmark.now }
     requires short { length bookmark.now ≤ 255 }
     requires small { length row.now ≤ 1700 }
-    ensures ok { OnOk result (HasNewRow table.0 bookmark.now row.now trees.old.tables trees.new.tables) }
+    ensures node { IfOk result (λ there. there ≡ extent_in (table_nodes trees.old.tables table.0) bookmark.now) }
+    ensures new { IfOk result (λ there. there ≡ None → HasNewRow table.0 bookmark.now row.now trees.old.tables trees.new.tables) }
+    ensures same { IfOk result (λ there. IsSome there → trees.new.tables ≡ trees.old.tables) }
     ensures err { OnErr result (trees.new.tables ≡ trees.old.tables) }
     ensures catalog { trees.new.catalog ≡ trees.old.catalog }
 {
     nodes_after_a_change();
     nodes_by_bookmark();
-    match trees.insert(table, bookmark, row, row.len()) {
-        Ok(()) => Ok(()),
+    match trees.insert_if_absent(table, bookmark, row, row.len()) {
+        Ok(there) => Ok(there),
         Err(error) => Err(error),
     }
 }
@@ -297,14 +298,9 @@ pub fn put_record(
         Err(_) => return Err(VersionFault::OutOfMemory),
     };
     let bytes = row.as_slice();
-    match trees.extent(table, bookmark) {
-        None => put_new(
-            alloc, trees, versions, by, change, table, schema, bookmark, values, bytes,
-        ),
-        Some(extent) => put_over(
-            alloc, trees, versions, by, change, table, schema, bookmark, values, bytes, extent,
-        ),
-    }
+    put_row(
+        alloc, trees, versions, by, change, table, schema, bookmark, values, bytes,
+    )
 }
 
 // The row that a put makes of a record.
@@ -396,8 +392,8 @@ fn row_before<'a>(
     }
 }
 
-// A put under a bookmark that has no node: the row is put with its node.
-fn put_new(
+// Puts a row of a record: with its node under a bookmark that has none, or in the place of the row that is there.
+fn put_row(
     alloc: Global,
     trees: &mut TableTrees,
     versions: &mut Versions,
@@ -419,20 +415,28 @@ fn put_new(
     requires some { 0 < length bookmark.now }
     requires short { length bookmark.now ≤ 255 }
     requires small { length row.now ≤ 1700 }
-    requires absent { get_in (table_nodes trees.old.tables table.0) bookmark.now ≡ None }
+    requires newest { IfSome (row_under (table_nodes trees.old.tables table.0) bookmark.now) (IsRecordRow (table_long_values trees.old.tables table.0)) }
     requires rows { AreRows (table_long_values trees.old.tables) versions.old }
-    requires keys { HasVariantKeys None (held_from (table_long_values trees.old.tables) 0 versions.old) schema.now table.0 bookmark.now trees.old.tables }
-    requires room { has_room by change.now None versions.old ≡ true }
+    requires keys { HasVariantKeys (option_map (record_of (table_long_values trees.old.tables table.0)) (row_under (table_nodes trees.old.tables table.0) bookmark.now)) (held_from (table_long_values trees.old.tables) 0 versions.old) schema.now table.0 bookmark.now trees.old.tables }
+    requires room { has_room by change.now (row_under (table_nodes trees.old.tables table.0) bookmark.now) versions.old ≡ true }
     ensures fault { IsErrOf result fault.OverSpan → ⊥ }
     ensures put { OnOk result (IsPut table.0 bookmark.now row.now (given_values (row_in row.now) values.now) (record_keys schema.now.indexes schema.now values.now) trees.old.tables trees.new.tables) }
-    ensures held { OnOk result (versions.new ≡ versions.old ++ new_change by change.now None ∷ []) }
+    ensures held { OnOk result (versions.new ≡ versions.old ++ new_change by change.now (row_under (table_nodes trees.old.tables table.0) bookmark.now) ∷ []) }
     ensures same { OnErr result (IsSame table.0 schema.now trees.old.tables trees.new.tables) }
     ensures unheld { OnErr result (versions.new ≡ versions.old) }
     ensures catalog { trees.new.catalog ≡ trees.old.catalog }
 {
-    match insert_row(trees, table, bookmark, row) {
-        Ok(()) => {}
+    let there = match insert_row(trees, table, bookmark, row) {
+        Ok(there) => there,
         Err(_) => return Err(VersionFault::OutOfMemory),
+    };
+    match there {
+        None => {}
+        Some(extent) => {
+            return put_over(
+                alloc, trees, versions, by, change, table, schema, bookmark, values, row, extent,
+            );
+        }
     }
     match put_keys(alloc, trees, table, schema, bookmark, values) {
         Ok(()) => {}

@@ -42,7 +42,7 @@ pub returns-in-Ok-clause-held : goal.returns-in-Ok-clause-held
 returns-in-Ok-clause-held g c tells says =
     let own = subst (λ o. MatchOption o (Unit {0}) (λ (p : PageContents). p.number ≡ c.args.number)) c.in-Some.is c.requires.own in
     subst (λ o. SlotSays (g.V.Volume.seen c.write_at.new.self).database c.args.number c.unused_slot-slot.result o) (sym c.in-Some.is)
-    (written_holds (g.V.Volume.seen c.args.volume.now).database (g.V.Volume.seen c.write_at.new.self).database c.args.number c.unused_slot-slot.result c.slot_start.result c.bytes_of-bytes.result.now c.in-Some.page
+    (written_holds (g.V.Volume.seen c.args.volume.now).database (g.V.Volume.seen c.write_at.new.self).database c.args.number c.unused_slot-slot.result c.slot_start.result c.bytes_of-bytes.result c.in-Some.page
     c.unused_slot-slot.ensures.within c.slot_start.ensures c.bytes_of-bytes.ensures.whole c.bytes_of-bytes.ensures.value c.bytes_of-bytes.ensures.is_page own
     (ap (λ i. i.database) (c.in-Ok.ensures.written tells)))
 
@@ -52,7 +52,7 @@ returns-then-has_same_bytes-clause-held g c tells says =
     let at_used = subst (λ k. SlotSays (g.V.Volume.seen c.args.volume.now).database c.args.number k (slice_index_or c.args.standing.now.pages.items c.args.number None)) (sym c.used_slot-used.ensures) says in
     subst (λ o. SlotSays (g.V.Volume.seen c.args.volume.now).database c.args.number c.used_slot-used.result o) (sym c.in-Some.is)
     (kept_says (g.V.Volume.seen c.args.volume.now).database c.args.number c.used_slot-used.result (slice_index_or c.args.standing.now.pages.items c.args.number None) c.in-Some.page
-    (c.has_same_bytes.ensures.0 c.if-has_same_bytes.true) c.bytes_of-bytes.ensures.is_page own at_used)
+    (c.has_same_bytes.ensures.0 c.if-has_same_bytes.true) c.len-_nodes.ensures.page own at_used)
 
 pub returns-in_default-clause-clean : goal.returns-in_default-clause-clean
 returns-in_default-clause-clean g c =

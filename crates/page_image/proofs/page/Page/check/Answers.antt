@@ -1,7 +1,8 @@
 -- The bytes of a page pass each test.
-use Rattle.std.proofs.Common.{◌≡◌, inl, inr, Ok, is_ok, nat_eq, sym, ap, ◌∙◌, arith}
+use Rattle.std.proofs.Common.{◌≡◌, inl, inr, Ok, is_ok, nat_eq, sym, subst, ap, ◌∙◌, arith}
 use Rattle.std.specs.Cmp.Lexicographic.{pointwise}
-use Rattle.page_image.specs.Page.{page_bytes}
+use Rattle.page_image.specs.Page.{IsPage, page_bytes}
+use Rattle.page_image.proofs.Spelled.{with_checksum}
 use Rattle.page_image.proofs.Kept.{all_taken, count_read, pointwise-same, kind_read, never, number_read, same_head}
 use Rattle.page_image.proofs.page.Page.check.Goals as goal
 
@@ -28,5 +29,5 @@ returns-then-eq-clause-only c p page spelled = ap Ok (all_taken c.loop.page p c.
 pub returns-else-eq-clause-only : goal.returns-else-eq-clause-only
 returns-else-eq-clause-only c p page spelled =
     let whole = all_taken c.loop.page p c.loop.counter (c.loop.invariant p page spelled) (omega (arith, c.number_at-end.ensures.value, count_read p c.args.bytes page spelled)) in
-    let same : c.page.inside.bytes ≡ c.args.bytes = c.page.invariant.spelled ∙ ap page_bytes (c.page.view_is ∙ whole) ∙ sym spelled in
+    let same : c.sealed.result ≡ c.args.bytes = with_checksum _ c.page.inside.bytes c.sealed.result c.page.invariant.spelled c.sealed.ensures ∙ ap page_bytes (c.page.view_is ∙ whole) ∙ sym spelled in
     absurd (never (sym c.if-eq.false ∙ c.eq.ensures ∙ ap (λ x. pointwise nat_eq x c.args.bytes) same ∙ pointwise-same c.args.bytes))

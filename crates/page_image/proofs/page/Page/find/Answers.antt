@@ -9,7 +9,7 @@ use Rattle.page_image.proofs.page.Page.find.Goals as goal
 pub loop-low-preserved-in-Less : goal.loop-low-preserved-in-Less
 loop-low-preserved-in-Less c =
     let rising : HasRisingKeys c.args.self.now.nodes = subst (λ (p : PageContents). HasRisingKeys p.nodes) c.self.view_is c.self.invariant.page.rising in
-    let here = ap (λ k. slice_cmp nat_cmp k c.args.key.now) (sym c.key.ensures) ∙ sym c.cmp.ensures ∙ c.in-Less.is in
+    let here = ap (λ k. slice_cmp nat_cmp k c.args.key.now) (sym c.key.ensures) ∙ sym c.compare.ensures ∙ c.in-Less.is in
     record {
       order = omega arith;
       within = c.loop-low.invariant.within;
@@ -20,7 +20,7 @@ loop-low-preserved-in-Less c =
 pub loop-low-preserved : goal.loop-low-preserved
 loop-low-preserved c =
     let rising : HasRisingKeys c.args.self.now.nodes = subst (λ (p : PageContents). HasRisingKeys p.nodes) c.self.view_is c.self.invariant.page.rising in
-    let here = IsBelow-from_greater (node_at c.args.self.now.nodes (c.loop-low.low + (c.loop-low.high - c.loop-low.low) / 2)).key c.args.key.now (ap (λ k. slice_cmp nat_cmp k c.args.key.now) (sym c.key.ensures) ∙ sym c.cmp.ensures ∙ c.in-Greater.is) in
+    let here = IsBelow-from_greater (node_at c.args.self.now.nodes (c.loop-low.low + (c.loop-low.high - c.loop-low.low) / 2)).key c.args.key.now (ap (λ k. slice_cmp nat_cmp k c.args.key.now) (sym c.key.ensures) ∙ sym c.compare.ensures ∙ c.in-Greater.is) in
     record {
       order = omega arith;
       within = omega (arith, c.loop-low.invariant.within);
@@ -30,4 +30,4 @@ loop-low-preserved c =
 
 pub returns-in-Equal : goal.returns-in-Equal
 returns-in-Equal c =
-    (omega (arith, c.loop-low.invariant.within), same_key (node_at c.args.self.now.nodes (c.loop-low.low + (c.loop-low.high - c.loop-low.low) / 2)).key c.args.key.now (ap (λ k. slice_cmp nat_cmp k c.args.key.now) (sym c.key.ensures) ∙ sym c.cmp.ensures ∙ c.in-Equal.is))
+    (omega (arith, c.loop-low.invariant.within), same_key (node_at c.args.self.now.nodes (c.loop-low.low + (c.loop-low.high - c.loop-low.low) / 2)).key c.args.key.now (ap (λ k. slice_cmp nat_cmp k c.args.key.now) (sym c.key.ensures) ∙ sym c.compare.ensures ∙ c.in-Equal.is))

@@ -5,7 +5,7 @@ use Rattle.std.proofs.lemmas.List.Sums.{sum_by-take-le}
 use Rattle.page_image.specs.Page.{node_size, page_size}
 use Rattle.page_image.specs.Shown.{Shows}
 use Rattle.common_lemmas.proofs.Edits.{sum-take-le}
-use Rattle.page_image.proofs.Spelled.{kept_bytes, moved_bytes}
+use Rattle.page_image.proofs.Spelled.{front_of, has_front, is_front, kept_bytes, moved_bytes}
 use Rattle.page_image.proofs.Kept.{again, few, opened, shown, shows-drop, shows-take}
 use Rattle.page_image.proofs.page.Page.move_tail.Goals as goal
 
@@ -31,7 +31,7 @@ shows_kept c =
     let long : length (take size (drop start c.self.inside.bytes)) ≡ size = omega (arith, page.page.size, c.self.told.0, length-take size (drop start c.self.inside.bytes), length-drop start c.self.inside.bytes) in
     let filled : c.fill.new.self ≡ replicate size 0 = c.fill.ensures.after (λ y e. e) ∙ ap (λ k. replicate k 0) long in
     shows-take c.self.inside.bytes c.self.inside.offsets c.self.inside.count c.self.inside.end c.args.self.now c.args.at _ c.finish-2.new.bytes start
-    page c.requires.place c.offset-start.ensures.value (kept_bytes c.args.self.now c.args.at c.self.inside.bytes c.fill.new.self start size page.page page.spelled c.offset-start.ensures.value order filled) c.finish-2.ensures
+    page c.requires.place c.offset-start.ensures.value (kept_bytes (front_of c.self.inside.bytes c.args.self.now) c.args.self.now c.args.at c.self.inside.bytes c.fill.new.self start size (is_front c.self.inside.bytes c.args.self.now page.spelled).long page.page (has_front c.self.inside.bytes c.args.self.now page.spelled) c.offset-start.ensures.value order filled) c.finish-2.ensures
 
 shows_moved : (c : goal.After-finish-2) → Shows c.finish.new.bytes c.copy_offsets.new.to (c.self.inside.count - c.args.at) (32 + (c.self.inside.end - c.offset-start.result)) (record c.args.to.now { nodes = drop c.args.at c.args.self.now.nodes })
 shows_moved c =
@@ -40,7 +40,8 @@ shows_moved c =
     let start = c.offset-start.result in
     let size = c.self.inside.end - start in
     let order : start + size ≡ page_size c.args.self.now.nodes = omega (arith, page.ended, c.offset-start.ensures.value, sum_by-take-le node_size c.args.self.now.nodes c.args.at) in
-    let edited = moved_bytes c.args.self.now c.args.to.now c.args.at c.self.inside.bytes c.to.inside.bytes c.copy_from_slice.new.self start size (32 + size - 32) page.page c.requires.empty page.spelled other.spelled c.offset-start.ensures.value order (omega arith) c.copy_from_slice.ensures.after in
+    let edited = moved_bytes (front_of c.self.inside.bytes c.args.self.now) (front_of c.to.inside.bytes c.args.to.now) c.args.self.now c.args.to.now c.args.at c.self.inside.bytes c.to.inside.bytes c.copy_from_slice.new.self start size (32 + size - 32)
+    (is_front c.self.inside.bytes c.args.self.now page.spelled).long (is_front c.to.inside.bytes c.args.to.now other.spelled).long page.page c.requires.empty (has_front c.self.inside.bytes c.args.self.now page.spelled) (has_front c.to.inside.bytes c.args.to.now other.spelled) c.offset-start.ensures.value order (omega arith) c.copy_from_slice.ensures.after in
     shows-drop c.self.inside.bytes c.self.inside.offsets c.to.inside.bytes c.to.inside.offsets c.self.inside.count c.self.inside.end c.to.inside.count c.to.inside.end c.args.self.now c.args.to.now c.args.at _ c.finish.new.bytes c.copy_offsets.new.to start
     page other c.requires.place c.offset-start.ensures.value edited c.finish.ensures c.copy_offsets.ensures
 

@@ -5,8 +5,9 @@ use Rattle.common_lemmas.proofs.Results.{OnOk-then, either_way}
 use Rattle.page_image.specs.Page.{Node}
 use Rattle.btree_inplace.specs.Changes.{inserted_if_absent}
 use Rattle.btree_inplace.specs.Order.{extent_in}
-use Rattle.table_trees.specs.NodeTrees.{nodes_in}
+use Rattle.table_trees.specs.NodeTrees.{NodesBecome, nodes_in}
 use Rattle.table_trees.proofs.Outcomes.{on_err}
+use Rattle.table_trees.proofs.NodeChanges.{where_there}
 use Rattle.table_trees.proofs.Places.{place_of, within_of}
 use Rattle.table_trees.proofs.StoreChanges.{catalog_same, found_nodes, found_table, is_named, no_table, nodes_kept, nodes_same, nodes_shown, tables_same}
 use Rattle.table_trees.proofs.trees.TableTrees.insert_if_absent.Goals as goal
@@ -58,3 +59,9 @@ returns-in-Some-clause-absent c =
 
 pub returns-in-None-clause-there : goal.returns-in-None-clause-there
 returns-in-None-clause-there c = absurd (true≢false (sym c.requires.there ∙ no_table c.self.inside.space c.self.inside.catalog c.self.inside.tables.items c.as_slice.result.now c.args.table.0 c.args.self.now c.as_slice.ensures.value c.in-None.ensures c.self.view_is))
+
+pub returns-in-Some-clause-same : goal.returns-in-Some-clause-same
+returns-in-Some-clause-same c =
+    where_there (NodesBecome c.self.inside.space c.index_mut-named.result.now.nodes c.insert_if_absent.new.space c.insert_if_absent.new.self) c.insert_if_absent.result (nodes_in c.self.inside.space c.index_mut-named.result.now.nodes) (record { key = c.args.bookmark.now; extent = c.args.extent; «data» = c.args.row.now })
+    (λ b. tables_same (nodes_same (record { tables = c.tables_stay.ensures.tables; catalog = c.tables_stay.ensures.catalog }) (record { nodes = c.tables_stay.ensures.nodes; long_values = c.tables_stay.ensures.long_values; indexes = c.tables_stay.ensures.indexes }) c.self.inside.space c.self.inside.tables.items c.insert_if_absent.new.space c.args.table.0 c.in-Some.i c.index_mut-named.result.now c.insert_if_absent.new.self c.args.self.now c.self.invariant (place_of (is_named c.args.table.0) c.self.inside.tables.items c.as_slice.result.now c.in-Some.i c.index_mut-named.result.now c.as_slice.ensures.value c.in-Some.ensures c.index_mut-named.ensures.value) c.self.view_is b))
+    c.insert_if_absent.ensures.there c.insert_if_absent.ensures.ok
