@@ -6,7 +6,7 @@ ghost use Rattle.page_image.specs.Page.{HasRisingKeys, IsInsertPlace, IsPage, Pa
 use crate::offsets::{MAX_NODES, copy_offsets, insert_offset, move_offsets, remove_offset};
 use crate::order::{compare, front};
 use crate::spelling::{
-    CHECKSUM_BYTES, HEAD_BYTES, NODE_HEAD_BYTES, PAGE_BYTES, finish, insert_node, number_at,
+    HEAD_BYTES, NODE_HEAD_BYTES, PAGE_BYTES, finish, has_same_words, insert_node, number_at,
     remove_bytes, replace_data, resize_zeros, sealed,
 };
 use byteorder::{ByteOrder, LittleEndian};
@@ -137,7 +137,7 @@ impl Page {
     pub fn has_same_bytes(&self, other: &Page) -> bool
         ensures { IsTrue result ↔ (page_bytes self.now ≡ page_bytes other.now) }
     {
-        self.bytes[CHECKSUM_BYTES..] == other.bytes[CHECKSUM_BYTES..]
+        has_same_words(&self.bytes, &other.bytes)
     }
 
     /// The page's number.

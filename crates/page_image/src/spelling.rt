@@ -1,6 +1,6 @@
 //! The bytes of a page: its checksum, its head and its nodes.
 
-ghost use Rattle.std.specs.Prelude.{◌≡◌, ℕ, List, ◌+◌, ◌-◌, ◌<◌, ◌≤◌, ◌++◌, length, take, drop, replicate, slice_range};
+ghost use Rattle.std.specs.Prelude.{◌≡◌, ℕ, List, ◌+◌, ◌-◌, ◌<◌, ◌≤◌, ◌++◌, bytes_eq, length, take, drop, replicate, slice_range};
 ghost use Rattle.byteorder.specs.Endian.{little_bytes, little_number};
 ghost use Rattle.page_image.specs.Page.{Node, PageContents, node_area, node_bytes, page_body, page_head, xor_of_words};
 
@@ -40,6 +40,15 @@ pub fn sealed(bytes: &[u8; 4096]) -> [u8; 4096]
     let mut sealed = *bytes;
     LittleEndian::write_u64(&mut sealed, sum);
     sealed
+}
+
+/// Whether all words behind the first one are the same.
+pub fn has_same_words(own: &[u8; 4096], other: &[u8; 4096]) -> bool
+    ensures { result ≡ bytes_eq (drop 8 own.now) (drop 8 other.now) }
+{
+    let own = &own[CHECKSUM_BYTES..];
+    let other = &other[CHECKSUM_BYTES..];
+    own == other
 }
 
 /// The number in the two bytes at a place.

@@ -18,15 +18,15 @@ returns-then-key_front-own_front c =
     let higher : big_number 8 c.args.key.now < big_number 8 c.args.own.now = omega (arith, c.if-key_front-own_front.true, c.front-own_front.ensures, c.requires) in
     sym (above_by_front 8 c.args.own.now c.args.key.now own key higher)
 
-pub returns-then-min-FRONT_BYTES : goal.returns-then-min-FRONT_BYTES
-returns-then-min-FRONT_BYTES c =
+pub returns-then-min-lt-FRONT_BYTES : goal.returns-then-min-lt-FRONT_BYTES
+returns-then-min-lt-FRONT_BYTES c =
     let own : AreBytes c.args.own.now = λ k. omega (arith, c.type_inv.own k) in
     let key : AreBytes c.args.key.now = λ k. omega (arith, c.type_inv.key k) in
     let same : big_number 8 c.args.own.now ≡ big_number 8 c.args.key.now = omega (arith, c.if-own_front-key_front.false, c.if-key_front-own_front.false, c.front-own_front.ensures, c.requires) in
     c.cmp.ensures ∙ sym (short_by_front c.args.own.now c.args.key.now own key (omega arith) same)
 
-pub returns-else-min-FRONT_BYTES : goal.returns-else-min-FRONT_BYTES
-returns-else-min-FRONT_BYTES c =
+pub returns-else-min-lt-FRONT_BYTES : goal.returns-else-min-lt-FRONT_BYTES
+returns-else-min-lt-FRONT_BYTES c =
     let own : AreBytes c.args.own.now = λ k. omega (arith, c.type_inv.own k) in
     let key : AreBytes c.args.key.now = λ k. omega (arith, c.type_inv.key k) in
     let same : big_number 8 c.args.own.now ≡ big_number 8 c.args.key.now = omega (arith, c.if-own_front-key_front.false, c.if-key_front-own_front.false, c.front-own_front.ensures, c.requires) in

@@ -1,6 +1,7 @@
 -- The bytes of a page pass each test.
 use Rattle.std.proofs.Common.{◌≡◌, inl, inr, Ok, is_ok, nat_eq, sym, subst, ap, ◌∙◌, arith}
 use Rattle.std.specs.Cmp.Lexicographic.{pointwise}
+use Rattle.std.proofs.lemmas.Slice.Eq.{bytes_eq-Decides}
 use Rattle.page_image.specs.Page.{IsPage, page_bytes}
 use Rattle.page_image.proofs.Spelled.{with_checksum}
 use Rattle.page_image.proofs.Kept.{all_taken, count_read, pointwise-same, kind_read, never, number_read, same_head}
@@ -25,6 +26,11 @@ loop-preserved c p page spelled = (c.take_over.ensures p c.loop.counter page spe
 
 pub returns-then-eq-clause-only : goal.returns-then-eq-clause-only
 returns-then-eq-clause-only c p page spelled = ap Ok (all_taken c.loop.page p c.loop.counter (c.loop.invariant p page spelled) (omega (arith, c.number_at-end.ensures.value, count_read p c.args.bytes page spelled)))
+
+pub returns-then-eq-clause-found : goal.returns-then-eq-clause-found
+returns-then-eq-clause-found c =
+    let spelled : c.sealed.result ≡ page_bytes c.loop.page = with_checksum _ c.page.inside.bytes c.sealed.result c.page.invariant.spelled c.sealed.ensures ∙ ap page_bytes c.page.view_is in
+    (subst IsPage c.page.view_is c.page.invariant.page, sym ((bytes_eq-Decides c.sealed.result c.args.bytes).0 (sym c.eq.ensures ∙ c.if-eq.true)) ∙ spelled)
 
 pub returns-else-eq-clause-only : goal.returns-else-eq-clause-only
 returns-else-eq-clause-only c p page spelled =
