@@ -3,7 +3,7 @@ use Rattle.std.proofs.Common.{◌≡◌, Bool, ℕ, suc, ◌+◌, ◌-◌, ◌<�
 use Rattle.std.specs.Prelude.{◌↔◌, IsTrue, bytes_eq, sum_by, insert, remove}
 use Rattle.std.proofs.lemmas.Slice.Eq.{bytes_eq-Decides}
 use Rattle.std.specs.List.{flat_map}
-use Rattle.std.proofs.lemmas.List.{take_at, drop_at, drop-drop, drop-take, length-take-le, drop-append-le, take-append-drop, drop-replicate, drop_all, length-take, length-drop, drop_more, set_split, length-replicate, replicate-append-replicate}
+use Rattle.std.proofs.lemmas.List.{take_at, drop_at, drop-drop, drop-take, length-take-le, drop-append-le, take-append-drop, drop-replicate, drop_all, take_all, length-take, length-drop, drop_more, set_split, length-replicate, replicate-append-replicate}
 use Rattle.std.proofs.lemmas.List.Concat.{flat_map-append}
 use Rattle.byteorder.specs.Endian.{little_bytes}
 use Rattle.page_image.specs.Page.{Node, PageContents, IsPage, no_node, node_at, node_bytes, node_size, with_extent, page_size, page_head, page_body, page_front, node_area, page_bytes, xor_of_words}
@@ -64,6 +64,10 @@ recounted p q bytes count number kind whole edited all =
 pub with_checksum : (p : PageContents) (bytes sealed : List ℕ) → drop 8 bytes ≡ page_body p → sealed ≡ little_bytes 8 (xor_of_words 511 (drop 8 bytes)) ++ drop 8 bytes → sealed ≡ page_bytes p
 unfolding page_bytes page_body page_front
 with_checksum p bytes sealed body is = is ∙ ap (λ (x : List ℕ). little_bytes 8 (xor_of_words 511 x) ++ x) body
+
+-- as many bytes behind the first eight as there are
+pub all_behind : (xs : List ℕ) (n : ℕ) → length xs ≤ 8 + n → take n (drop 8 xs) ≡ drop 8 xs
+all_behind xs n h = take_all n (drop 8 xs) (omega (arith, length-drop 8 xs))
 
 by_body : (p : PageContents) → page_bytes p ≡ little_bytes 8 (xor_of_words 511 (page_body p)) ++ page_body p
 unfolding page_bytes page_body page_front
