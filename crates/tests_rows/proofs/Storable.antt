@@ -3,6 +3,7 @@ use Rattle.std.proofs.Common.{◌≡◌, ℕ, ◌+◌, ◌<◌, ◌≤◌, Bool,
 use Rattle.std.specs.Prelude.{◌==◌, nat_le, nat_lt, is_some, option_map, unwrap_or, IsSomeAnd, MatchOption}
 use Rattle.std.specs.List.{list_all}
 use Rattle.std.proofs.lemmas.Bool.Decides.{nat_tests}
+use Rattle.common_lemmas.proofs.Booleans.{and_left, and_right, impossible}
 use Rattle.jet_base.specs.declared.words.ColType.{ColType}
 use Rattle.jet_base.specs.declared.words.ColType.TheVariants.{LongBinary}
 use Rattle.column_set.specs.declared.columns.Column.{Column}
@@ -12,7 +13,6 @@ use Rattle.database_state.specs.Table.{Table, primary_first, primary_rule}
 use Rattle.index_derive.specs.declared.rules.IndexRule.{IndexRule}
 use Rattle.index_derive.specs.Entries.{primary_key}
 use Rattle.jet_catalog.specs.Catalog.{without_rows}
-use Rattle.record_changes.proofs.Tests.{and_left, and_right, impossible}
 use Rattle.tests_rows.specs.OneColumn.{IsPlain, TakesOneValue, one_value}
 
 at_most : (n m : ℕ) → n ≤ m → nat_le n m ≡ true
