@@ -52,7 +52,7 @@ returns-then-has_same_bytes-clause-held g c tells says =
     let at_used = subst (λ k. SlotSays (g.V.Volume.seen c.args.volume.now).database c.args.number k (slice_index_or c.args.standing.now.pages.items c.args.number None)) (sym c.used_slot-used.ensures) says in
     subst (λ o. SlotSays (g.V.Volume.seen c.args.volume.now).database c.args.number c.used_slot-used.result o) (sym c.in-Some.is)
     (kept_says (g.V.Volume.seen c.args.volume.now).database c.args.number c.used_slot-used.result (slice_index_or c.args.standing.now.pages.items c.args.number None) c.in-Some.page
-    (c.has_same_bytes.ensures.0 c.if-has_same_bytes.true) c.len-_nodes.ensures.page own at_used)
+    (c.has_same_bytes.ensures.0 c.if-has_same_bytes.true) c.len-nodes.ensures.page own at_used)
 
 pub returns-in_default-clause-clean : goal.returns-in_default-clause-clean
 returns-in_default-clause-clean g c =

@@ -25,5 +25,5 @@ returns-clause-store c =
     let put : OnOk c.put_value.result (Becomes c.args.space.now c.args.self.now.tree c.put_value.new.space c.put_value.new.tree (with_value (id_bytes c.args.id) (record { count = 1; bytes = c.args.bytes.now }) nodes)) = c.put_value.ensures.ok in
     let not : OnErr c.put_value.result (Becomes c.args.space.now c.args.self.now.tree c.put_value.new.space c.put_value.new.tree nodes) = c.put_value.ensures.err in
     either c.put_value.result
-    (OnOk-then {Q = IsLongStore c.put_value.new.space (record { tree = c.put_value.new.tree })} c.put_value.result (λ b. (put_value (id_bytes c.args.id) (record { count = 1; bytes = c.args.bytes.now }) absent.0, put_made c.args.space.now c.put_value.new.space c.args.self.now c.put_value.new.tree c.args.id c.args.bytes.now absent.0 absent c.requires.long c.requires.short b absent.1)) put)
+    (OnOk-then {D = IsLongStore c.put_value.new.space (record { tree = c.put_value.new.tree })} c.put_value.result (λ b. (put_value (id_bytes c.args.id) (record { count = 1; bytes = c.args.bytes.now }) absent.0, put_made c.args.space.now c.put_value.new.space c.args.self.now c.put_value.new.tree c.args.id c.args.bytes.now absent.0 absent c.requires.long c.requires.short b absent.1)) put)
     (err_then {Q = IsLongStore c.put_value.new.space (record { tree = c.put_value.new.tree })} c.put_value.result (λ b. (absent.0, put_not c.args.space.now c.put_value.new.space c.args.self.now c.put_value.new.tree absent.0 b absent.1)) not)
