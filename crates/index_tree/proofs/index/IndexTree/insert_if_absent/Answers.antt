@@ -1,5 +1,5 @@
 -- The tree takes the node of the entry where it does not have it.
-use Rattle.std.proofs.Common.{◌≡◌, ◌<◌, ◌++◌, List, ℕ, Option, None, Some, not, true, false, find, sym, ap, ◌∙◌, arith}
+use Rattle.std.proofs.Common.{◌≡◌, ◌<◌, ◌++◌, List, ℕ, Option, None, Some, not, true, false, find, refl, sym, ap, ◌∙◌, arith}
 use Rattle.std.specs.Prelude.{All, is_some}
 use Rattle.std.specs.Option.{option_map}
 use Rattle.std.proofs.lemmas.List.Elements.{All-from_get_or}
