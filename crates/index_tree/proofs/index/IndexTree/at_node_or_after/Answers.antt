@@ -1,5 +1,5 @@
 -- The tree's first node from there on.
-use Rattle.std.proofs.Common.{find, ap, ◌∙◌}
+use Rattle.std.proofs.Common.{List, ℕ, find, ap, ◌∙◌}
 use Rattle.btree_inplace.specs.Order.{is_from}
 use Rattle.btree_inplace.specs.Trees.{nodes_of}
 use Rattle.index_tree.specs.Entries.{IsShort, is_at_or_after}

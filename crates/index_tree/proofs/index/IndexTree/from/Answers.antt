@@ -46,15 +46,15 @@ returns-in-Less c =
     ∙ found_from (own.0 ++ gap_bookmark true) pair es
     (cuts_front c.args.key.now pair.1 es own c.requires.index.apart c.requires.index.short (found (goal.at.returns-in-Less c).In-Some) (sym c.cmp.ensures ∙ c.in-Less.is))
 
-pub returns-in-Equal : goal.returns-in-Equal
-returns-in-Equal c =
+pub returns-else-size-eq0 : goal.returns-else-size-eq0
+returns-else-size-eq0 c =
     let es = entries_of c.args.space.now c.args.self.now in
     let pair : Pair = (c.args.key.now, c.args.bookmark.now ++ c.args.behind.now) in
     let own : Pair = (c.in-Some.own.now, c.in-Some.field-0-1.now) in
     c.at_node_or_after-in-Equal.ensures
     ∙ ap (λ (k : List ℕ). find (is_at_or_after k) es) (append_assoc c.args.key.now c.args.bookmark.now c.args.behind.now)
     ∙ found_from (c.args.key.now ++ pair.1) pair es
-    (cuts_at c.args.key.now pair.1 es own c.requires.index.apart (found (goal.at.returns-in-Equal c).In-Some) (sym c.cmp.ensures ∙ c.in-Equal.is))
+    (cuts_at c.args.key.now pair.1 es own c.requires.index.apart (found (goal.at.returns-else-size-eq0 c).In-Some) (sym c.cmp.ensures ∙ c.in-Equal.is))
 
 pub returns-then-size-eq0 : goal.returns-then-size-eq0
 returns-then-size-eq0 c =

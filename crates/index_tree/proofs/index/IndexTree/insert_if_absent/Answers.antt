@@ -1,5 +1,5 @@
 -- The tree takes the node of the entry where it does not have it.
-use Rattle.std.proofs.Common.{◌≡◌, ◌<◌, ◌++◌, List, ℕ, Option, None, Some, not, true, false, find, sym, ap, ◌∙◌, arith}
+use Rattle.std.proofs.Common.{◌≡◌, ◌<◌, ◌++◌, List, ℕ, Option, None, Some, not, true, false, find, refl, sym, ap, ◌∙◌, arith}
 use Rattle.std.specs.Prelude.{All, is_some}
 use Rattle.std.specs.Option.{option_map}
 use Rattle.std.proofs.lemmas.List.Elements.{All-from_get_or}
@@ -57,7 +57,7 @@ returns-in-Ok-None-clause-ok c = (put (goal.at.returns-in-Ok-None-clause-ok c).A
 
 pub returns-in-Ok-None-clause-put : goal.returns-in-Ok-None-clause-put
 returns-in-Ok-None-clause-put c =
-    ap not (sym (found_none (find (has_key c.as_slice.result.now) (nodes_of c.args.space.now c.args.self.now.tree)) c.in-Ok-None.ensures.there)
+    ap not (sym (found_none (find (has_key c.as_slice.result.now) (nodes_of c.args.space.now c.args.self.now.tree)) (sym c.in-Ok-None.field-0-is ∙ c.in-Ok-None.ensures.there))
     ∙ there (goal.at.returns-in-Ok-None-clause-put c).After-insert_if_absent)
 
 pub returns-in-Ok-Some-clause-index : goal.returns-in-Ok-Some-clause-index
@@ -68,7 +68,7 @@ returns-in-Ok-Some-clause-ok c = (put (goal.at.returns-in-Ok-Some-clause-ok c).A
 
 pub returns-in-Ok-Some-clause-put : goal.returns-in-Ok-Some-clause-put
 returns-in-Ok-Some-clause-put c =
-    ap not (sym (found_some (find (has_key c.as_slice.result.now) (nodes_of c.args.space.now c.args.self.now.tree)) c.in-Ok-Some.field-0-0 c.in-Ok-Some.ensures.there)
+    ap not (sym (found_some (find (has_key c.as_slice.result.now) (nodes_of c.args.space.now c.args.self.now.tree)) c.in-Ok-Some.field-0-0 (sym c.in-Ok-Some.field-0-is ∙ c.in-Ok-Some.ensures.there))
     ∙ there (goal.at.returns-in-Ok-Some-clause-put c).After-insert_if_absent)
 
 kept : (c : After-insert_if_absent) → nodes_of c.insert_if_absent.new.space c.insert_if_absent.new.self ≡ nodes_of c.args.space.now c.args.self.now.tree
