@@ -221,7 +221,7 @@ stays_where_there : (nodes : List Node) (node : Node) → IsSome (extent_in node
 stays_where_there nodes node some = by (find (has_key node.key) nodes) some
   where
     by : (o : Option Node) → IsSome (option_map (λ (n : Node). n.extent) o) → (if is_some o then nodes else inserted nodes node) ≡ nodes
-    by None h = absurd h
+    by None h = absurd (true≢false (sym h))
     by (Some n) h = refl
 
 pub where_there : {E R : Type 0} (P : List Node → Type 0) (r : Result (Option ℕ) E) (nodes : List Node) (node : Node) → (P nodes → R) → IfOk r (λ there. there ≡ extent_in nodes node.key) → OnOk r (P (inserted_if_absent nodes node))

@@ -71,18 +71,28 @@ fn put(space: &mut Space, tree: &mut Tree, key: &[u8], data: &[u8], extent: usiz
     tree.insert(space, key, data, extent).is_ok()
 }
 
-/// Gives a key that is there, and is not put again, another extent and other data, and says whether it did.
+/// Whether a key that is there is not put again, and the bytes kept for its data are told.
+fn stays(space: &mut Space, tree: &mut Tree, key: &[u8]) -> bool
+    requires { IsTree space.old tree.old }
+    ensures { IsTree space.new tree.new }
+{
+    if key.len() > 755 {
+        return false;
+    }
+    let kept = tree.extent(space, key);
+    match tree.insert_if_absent(space, key, b"", 0) {
+        Ok(there) => there == kept,
+        Err(_) => false,
+    }
+}
+
+/// Gives a key that is there another extent and other data, and says whether it did.
 fn rewrite(space: &mut Space, tree: &mut Tree, key: &[u8], data: &[u8], extent: usize) -> bool
     requires { IsTree space.old tree.old }
     ensures { IsTree space.new tree.new }
 {
     if key.len() > 755 || data.len() > extent || extent > 1_200 {
         return false;
-    }
-    let kept = tree.extent(space, key);
-    match tree.insert_if_absent(space, key, b"", 0) {
-        Ok(there) if there == kept => {}
-        _ => return false,
     }
     match tree.get(space, key) {
         Some(old) if old.len() <= extent => {}
@@ -137,7 +147,7 @@ fn change(
         if take(space, tree, &key) {
             list[number] = None;
         }
-    } else if rewrite(space, tree, &key, &data, extent) {
+    } else if stays(space, tree, &key) && rewrite(space, tree, &key, &data, extent) {
         list[number] = Some(kept);
     }
 }

@@ -1,4 +1,4 @@
-use Rattle.std.proofs.Common.{◌≡◌, ℕ, List, [], ◌∷◌, ◌++◌, Option, None, option_map, sym, ap, subst, ◌∙◌}
+use Rattle.std.proofs.Common.{◌≡◌, ℕ, List, [], ◌∷◌, ◌++◌, Option, None, option_map, refl, sym, ap, subst, ◌∙◌}
 use Rattle.std.specs.Prelude.{IfSome, IsSome, OnErr, OnOk}
 use Rattle.std.specs.List.{AllByRecursion}
 use Rattle.btree_inplace.specs.Order.{extent_in}
@@ -20,47 +20,47 @@ use Rattle.variant_trees.proofs.putting.put_row.Goals as goal
 -- ---- a node that is there
 
 pub put_over-requires-clause-there : goal.put_over-requires-clause-there
-put_over-requires-clause-there c = ap (λ (trees : List StoredTable). has_table trees c.args.table.0) (c.in-Ok.ensures.same (subst IsSome (sym c.in-Some.is) tt)) ∙ c.requires.there
+put_over-requires-clause-there c = ap (λ (trees : List StoredTable). has_table trees c.args.table.0) (c.in-Ok.ensures.same (subst IsSome (sym c.in-Some.is) refl)) ∙ c.requires.there
 
 pub put_over-requires-clause-rules : goal.put_over-requires-clause-rules
 put_over-requires-clause-rules c =
-    subst (λ (trees : List StoredTable). AllByRecursion (CanTake c.args.schema.now c.args.values.now c.args.table.0 trees) c.args.schema.now.indexes) (sym (c.in-Ok.ensures.same (subst IsSome (sym c.in-Some.is) tt))) c.requires.rules
+    subst (λ (trees : List StoredTable). AllByRecursion (CanTake c.args.schema.now c.args.values.now c.args.table.0 trees) c.args.schema.now.indexes) (sym (c.in-Ok.ensures.same (subst IsSome (sym c.in-Some.is) refl))) c.requires.rules
 
 pub put_over-requires-clause-may : goal.put_over-requires-clause-may
 put_over-requires-clause-may c =
-    subst (λ (trees : List StoredTable). AllByRecursion (MayTake (table_long_values trees c.args.table.0)) (given_values (row_in c.args.row.now) c.args.values.now)) (sym (c.in-Ok.ensures.same (subst IsSome (sym c.in-Some.is) tt))) c.requires.may
+    subst (λ (trees : List StoredTable). AllByRecursion (MayTake (table_long_values trees c.args.table.0)) (given_values (row_in c.args.row.now) c.args.values.now)) (sym (c.in-Ok.ensures.same (subst IsSome (sym c.in-Some.is) refl))) c.requires.may
 
 pub put_over-requires-clause-node : goal.put_over-requires-clause-node
 put_over-requires-clause-node c =
-    ap (λ (trees : List StoredTable). extent_in (table_nodes trees c.args.table.0) c.args.bookmark.now) (c.in-Ok.ensures.same (subst IsSome (sym c.in-Some.is) tt)) ∙ sym c.in-Ok.ensures.node ∙ c.in-Some.is
+    ap (λ (trees : List StoredTable). extent_in (table_nodes trees c.args.table.0) c.args.bookmark.now) (c.in-Ok.ensures.same (subst IsSome (sym c.in-Some.is) refl)) ∙ sym c.in-Ok.ensures.node ∙ c.in-Some.is
 
 pub put_over-requires-clause-newest : goal.put_over-requires-clause-newest
 put_over-requires-clause-newest c =
-    subst (λ (trees : List StoredTable). IfSome (row_under (table_nodes trees c.args.table.0) c.args.bookmark.now) (IsRecordRow (table_long_values trees c.args.table.0))) (sym (c.in-Ok.ensures.same (subst IsSome (sym c.in-Some.is) tt))) c.requires.newest
+    subst (λ (trees : List StoredTable). IfSome (row_under (table_nodes trees c.args.table.0) c.args.bookmark.now) (IsRecordRow (table_long_values trees c.args.table.0))) (sym (c.in-Ok.ensures.same (subst IsSome (sym c.in-Some.is) refl))) c.requires.newest
 
 pub put_over-requires-clause-rows : goal.put_over-requires-clause-rows
 put_over-requires-clause-rows c =
-    subst (λ (trees : List StoredTable). AreRows (table_long_values trees) c.args.versions.now) (sym (c.in-Ok.ensures.same (subst IsSome (sym c.in-Some.is) tt))) c.requires.rows
+    subst (λ (trees : List StoredTable). AreRows (table_long_values trees) c.args.versions.now) (sym (c.in-Ok.ensures.same (subst IsSome (sym c.in-Some.is) refl))) c.requires.rows
 
 pub put_over-requires-clause-keys : goal.put_over-requires-clause-keys
 put_over-requires-clause-keys c =
-    subst (λ (trees : List StoredTable). HasVariantKeys (option_map (record_of (table_long_values trees c.args.table.0)) (row_under (table_nodes trees c.args.table.0) c.args.bookmark.now)) (held_from (table_long_values trees) 0 c.args.versions.now) c.args.schema.now c.args.table.0 c.args.bookmark.now trees) (sym (c.in-Ok.ensures.same (subst IsSome (sym c.in-Some.is) tt))) c.requires.keys
+    subst (λ (trees : List StoredTable). HasVariantKeys (option_map (record_of (table_long_values trees c.args.table.0)) (row_under (table_nodes trees c.args.table.0) c.args.bookmark.now)) (held_from (table_long_values trees) 0 c.args.versions.now) c.args.schema.now c.args.table.0 c.args.bookmark.now trees) (sym (c.in-Ok.ensures.same (subst IsSome (sym c.in-Some.is) refl))) c.requires.keys
 
 pub put_over-requires-clause-room : goal.put_over-requires-clause-room
 put_over-requires-clause-room c =
-    ap (λ (trees : List StoredTable). has_room c.args.by c.args.change.now (row_under (table_nodes trees c.args.table.0) c.args.bookmark.now) c.args.versions.now) (c.in-Ok.ensures.same (subst IsSome (sym c.in-Some.is) tt)) ∙ c.requires.room
+    ap (λ (trees : List StoredTable). has_room c.args.by c.args.change.now (row_under (table_nodes trees c.args.table.0) c.args.bookmark.now) c.args.versions.now) (c.in-Ok.ensures.same (subst IsSome (sym c.in-Some.is) refl)) ∙ c.requires.room
 
 pub returns-in-Some-clause-put : goal.returns-in-Some-clause-put
 returns-in-Some-clause-put c =
-    subst (λ (trees : List StoredTable). OnOk c.put_over.result (IsPut c.args.table.0 c.args.bookmark.now c.args.row.now (given_values (row_in c.args.row.now) c.args.values.now) (record_keys c.args.schema.now.indexes c.args.schema.now c.args.values.now) trees c.put_over.new.trees.tables)) (c.in-Ok.ensures.same (subst IsSome (sym c.in-Some.is) tt)) c.put_over.ensures.put
+    subst (λ (trees : List StoredTable). OnOk c.put_over.result (IsPut c.args.table.0 c.args.bookmark.now c.args.row.now (given_values (row_in c.args.row.now) c.args.values.now) (record_keys c.args.schema.now.indexes c.args.schema.now c.args.values.now) trees c.put_over.new.trees.tables)) (c.in-Ok.ensures.same (subst IsSome (sym c.in-Some.is) refl)) c.put_over.ensures.put
 
 pub returns-in-Some-clause-held : goal.returns-in-Some-clause-held
 returns-in-Some-clause-held c =
-    subst (λ (trees : List StoredTable). OnOk c.put_over.result (c.put_over.new.versions ≡ c.args.versions.now ++ new_change c.args.by c.args.change.now (row_under (table_nodes trees c.args.table.0) c.args.bookmark.now) ∷ [])) (c.in-Ok.ensures.same (subst IsSome (sym c.in-Some.is) tt)) c.put_over.ensures.held
+    subst (λ (trees : List StoredTable). OnOk c.put_over.result (c.put_over.new.versions ≡ c.args.versions.now ++ new_change c.args.by c.args.change.now (row_under (table_nodes trees c.args.table.0) c.args.bookmark.now) ∷ [])) (c.in-Ok.ensures.same (subst IsSome (sym c.in-Some.is) refl)) c.put_over.ensures.held
 
 pub returns-in-Some-clause-same : goal.returns-in-Some-clause-same
 returns-in-Some-clause-same c =
-    subst (λ (trees : List StoredTable). OnErr c.put_over.result (IsSame c.args.table.0 c.args.schema.now trees c.put_over.new.trees.tables)) (c.in-Ok.ensures.same (subst IsSome (sym c.in-Some.is) tt)) c.put_over.ensures.same
+    subst (λ (trees : List StoredTable). OnErr c.put_over.result (IsSame c.args.table.0 c.args.schema.now trees c.put_over.new.trees.tables)) (c.in-Ok.ensures.same (subst IsSome (sym c.in-Some.is) refl)) c.put_over.ensures.same
 
 -- ---- a node that is put
 
