@@ -3,8 +3,6 @@ use Rattle.std.proofs.Common.{◌≡◌, ℕ, suc, ◌+◌, ◌-◌, ◌*◌, �
 use Rattle.std.specs.Prelude.{◌==◌, ◌&&◌, nat_le}
 use Rattle.std.specs.Char.{is_ascii_digit}
 use Rattle.std.specs.List.{list_all, onto_first}
-use Rattle.std.specs.Str.{bytes_eq}
-use Rattle.std.proofs.lemmas.Slice.Eq.{bytes_eq-Decides}
 use Rattle.std.proofs.Math.Seq.{take-length}
 use Rattle.std.proofs.lemmas.List.{length-drop}
 use Rattle.std.proofs.lemmas.Bool.{and_parts}
@@ -65,12 +63,11 @@ word_before_space (x ∷ text) (y ∷ word) ok inside space same =
 
 -- the same, as the code has it: the slices before and behind the space
 pub word_and_space : (text word rest : List ℕ) (end : ℕ) → list_all (λ b. not (b == 32)) word ≡ true → end ≡ length word → end < length text → get_or text end 0 ≡ 32
-    → bytes_eq (take end text) word ≡ true → rest ≡ take (length text - (end + 1)) (drop (end + 1) text) → words_of text ≡ word ∷ words_of rest
+    → take (length word) text ≡ word → rest ≡ take (length text - (end + 1)) (drop (end + 1) text) → words_of text ≡ word ∷ words_of rest
 word_and_space text word rest end ok long inside space same is =
     let space_at : get_or text (length word) 0 ≡ 32 = subst (λ k. get_or text k 0 ≡ 32) long space in
-    let before : take (length word) text ≡ word = subst (λ k. take k text ≡ word) long ((bytes_eq-Decides (take end text) word).0 same) in
     let next : end + 1 ≡ suc (length word) = omega (arith, long) in
-    word_before_space text word ok (omega (arith, long, inside)) space_at before
+    word_before_space text word ok (omega (arith, long, inside)) space_at same
     ∙ ap (λ (k : ℕ). word ∷ words_of (drop k text)) (sym next)
     ∙ ap (λ (xs : List ℕ). word ∷ words_of xs) (sym (is ∙ tail_slice (end + 1) text))
 

@@ -1,11 +1,9 @@
 //! The first word of a text, where its end need not be searched.
 
-ghost use Rattle.std.specs.Prelude.{◌≡◌, ◌==◌, ◌<◌, ◌-◌, ◌∷◌, [], not, Some, IfSome, IsTrue};
+ghost use Rattle.std.specs.Prelude.{◌≡◌, ◌==◌, ◌<◌, ◌≤◌, ◌-◌, ◌∷◌, [], length, not, take, Some, IfSome, IsTrue};
 ghost use Rattle.std.specs.List.{list_all};
 ghost use Rattle.std.specs.Option.{option_copied};
 ghost use Rattle.script_words.specs.Words.{label_of, parts_left, words_of};
-
-use script_words::texts::is_word;
 
 /// Whether a byte is a digit from 1 to 9, and so a label.
 #[tactic(auto, using(crate::proofs::FirstWords::digits))]
@@ -33,6 +31,22 @@ pub fn leading_digit(text: &[u8]) -> Option<(u8, Option<&[u8]>)>
     }
 }
 
+/// Whether a text begins with a word.
+///
+/// It stands where it is used, so that the bytes of a literal are compared without a loop.
+#[inline(always)]
+fn begins_with(text: &[u8], word: &[u8]) -> bool
+    requires { length word.now ≤ length text.now }
+    ensures { IsTrue result → take (length word.now) text.now ≡ word.now }
+{
+    for i in 0..word.len() {
+        if text[i] != word[i] {
+            return false;
+        }
+    }
+    true
+}
+
 /// The text behind a word and the space that ends it, where it begins with them.
 #[tactic(auto, using(crate::proofs::FirstWords::behind_words))]
 #[inline(always)]
@@ -47,7 +61,7 @@ pub fn behind_word<'a>(text: &'a [u8], word: &[u8]) -> Option<&'a [u8]>
     if text[end] != b' ' {
         return None;
     }
-    if !is_word(&text[..end], word) {
+    if !begins_with(text, word) {
         return None;
     }
     Some(&text[end + 1..])
