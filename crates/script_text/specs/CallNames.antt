@@ -7,6 +7,7 @@ use Rattle.script_text.specs.declared.call_names.CursorCall.{CursorCall}
 use Rattle.script_text.specs.declared.call_names.CursorCall.TheVariants as cursor_name
 use Rattle.script_text.specs.declared.call_names.CallName.{CallName}
 use Rattle.script_text.specs.declared.call_names.CallName.TheVariants as name
+use Rattle.script_words.specs.Words.{◌>>=◌}
 use Rattle.script_text.specs.Calls.{bare_call, only_cursor, cursor_call, table_call, part_call, commit_call, rollback_call, add_column_call, create_index_call, open_table_call, set_current_index_call, make_key_call, move_call, seek_call, set_index_range_call, count_call, goto_bookmark_call, prepare_update_call, set_column_call, retrieve_column_call, escrow_update_call}
 
 -- the reading of a cursor's call, behind the label of the cursor
@@ -53,3 +54,7 @@ cursor_read_by (Some name) cursor words = cursor_reading name cursor words
 abbrev pub read_by : Option CallName → List (List ℕ) → Option Request
 read_by None words = None
 read_by (Some name) words = reading name words
+
+-- a call that is read, if there is one, with the session that makes it
+abbrev pub said_by : ℕ → Option Request → Option (ℕ × Request)
+said_by session reading = reading >>= λ request. Some (session, request)

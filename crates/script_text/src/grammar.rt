@@ -25,7 +25,7 @@ use script_words::{Parts, Refusal};
 use std::alloc::Global;
 
 /// A call of a cursor.
-fn call_of_cursor(
+pub fn call_of_cursor(
     alloc: Global,
     call: CursorCall,
     cursor: CursorId,

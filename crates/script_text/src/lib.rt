@@ -6,10 +6,12 @@ mod call_names;
 mod calls;
 mod choices;
 mod flags;
+mod frequent;
 mod grammar;
 mod index_words;
 mod kept;
 mod laws;
+mod leading;
 mod line;
 mod script;
 

@@ -1,0 +1,6 @@
+use Rattle.std.proofs.Common.{◌≡◌, take}
+use Rattle.script_text.proofs.leading.begins_with.Given as goal
+
+-- the bytes so far are the same
+abbrev pub invariant-loop-i : goal.invariant-loop-i
+invariant-loop-i l = take l.i l.text ≡ take l.i l.word
