@@ -59,12 +59,14 @@ pub fn end_process<S: Source, K: Sink>(
 
 /// Runs the program over the words of a runtime and over its standard streams, and answers what the process ends with.
 ///
-/// A `main` has nothing to do but to call it and to return its answer.
+/// A `main` has nothing to do but to call it and to return its answer. The status is that of an ending: 0, 1, 2, 5, 6 or 7.
 pub fn run_process<R: Env + AllocGlobal, I: Read + Drop, O: Write + Drop>(
     rt: &R,
     input: I,
     output: O,
-) -> ExitCode {
+) -> ExitCode
+    ensures { (ending : Ending) × (exit_status result ≡ status_of ending) }
+{
     let mut script = StdSource::new(input);
     let mut out = StdSink::new(output);
     match read_words(rt) {

@@ -1,6 +1,6 @@
 //! Sums of escrow columns.
 
-ghost use Rattle.std.specs.Prelude.{◌≡◌, ℤ, neg_ℤ, List, map, true, false, IfSome, IsSomeAnd};
+ghost use Rattle.std.specs.Prelude.{◌≡◌, ℤ, neg_ℤ, List, map, true, false, None, IfSome, IsSomeAnd};
 ghost use Rattle.std.specs.Int.{w32, cast_unsigned};
 ghost use Rattle.column_set.specs.declared.changes.Change.TheVariants.{Add};
 ghost use Rattle.database_state.specs.Changes.{changed_bookmark, changed_table, is_sum, tables_after};
@@ -30,6 +30,7 @@ pub fn add_sum(trees: &mut TableTrees, change: &Change)
     ensures counts { (tables : List Table) (held : List HeldChange) → IsSomeAnd (table_with_id tables (changed_table change.now)) (λ t. AddsToEscrow (schema_of t) (kind_of change.now)) → AreKept tables trees.old.tables held → AreCounted trees.old.tables held → AreCounted trees.new.tables held }
     ensures values { KeepsValues trees.old.tables trees.new.tables }
     ensures other { is_sum change.now ≡ false → trees.new.tables ≡ trees.old.tables }
+    ensures absent { row_under (table_nodes trees.old.tables (changed_table change.now)) (changed_bookmark change.now) ≡ None → trees.new.tables ≡ trees.old.tables }
     ensures catalog { trees.new.catalog ≡ trees.old.catalog }
 {
     match change {
@@ -73,6 +74,7 @@ pub(crate) fn add_in_place(
         → (amount : ℤ) → cast_unsigned w32 amount ≡ addend → map (with_newest trees.new.tables) tables ≡ tables_after (map (with_newest trees.old.tables) tables) (Add table bookmark.now column amount) }
     ensures counts { (tables : List Table) (held : List HeldChange) → IsSomeAnd (table_with_id tables table.0) (λ t. is_escrow_column (schema_of t) column.0 ≡ true) → AreKept tables trees.old.tables held → AreCounted trees.old.tables held → AreCounted trees.new.tables held }
     ensures values { KeepsValues trees.old.tables trees.new.tables }
+    ensures absent { row_under (table_nodes trees.old.tables table.0) bookmark.now ≡ None → trees.new.tables ≡ trees.old.tables }
     ensures catalog { trees.new.catalog ≡ trees.old.catalog }
 {
     rows_are_read_back();
