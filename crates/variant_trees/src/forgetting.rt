@@ -1,7 +1,8 @@
 //! What goes with the oldest held change.
 
-ghost use Rattle.std.specs.Prelude.{◌≡◌, ◌<◌, List, Some, length};
+ghost use Rattle.std.specs.Prelude.{◌≡◌, ◌<◌, List, Some, false, length, slice_get};
 ghost use Rattle.database_state.specs.Table.{Table};
+ghost use Rattle.version_store.specs.HeldChanges.{HeldChange, is_standing};
 ghost use Rattle.variant_trees.specs.LeftVariants.{HasSchema, IsForgotten, first_table};
 ghost use Rattle.stored_variants.specs.CountedValues.{AreCounted};
 ghost use Rattle.stored_variants.specs.VersionsKept.{AreKept};
@@ -26,6 +27,7 @@ pub fn forget_oldest(catalog: &Catalog, trees: &mut TableTrees, versions: &Versi
     requires counts { AreCounted trees.old.tables versions.now }
     requires some { 0 < length versions.now }
     ensures forgotten { IsForgotten catalog.now.tables trees.old.tables trees.new.tables versions.now }
+    ensures same { (h : HeldChange) → slice_get versions.now 0 ≡ Some h → is_standing h ≡ false → trees.new.tables ≡ trees.old.tables }
     ensures catalog { trees.new.catalog ≡ trees.old.catalog }
 {
     match versions.oldest_table() {
@@ -40,6 +42,7 @@ fn forget_of(catalog: &Catalog, trees: &mut TableTrees, versions: &Versions, tab
     requires counts { AreCounted trees.old.tables versions.now }
     requires first { first_table versions.now ≡ Some table.0 }
     ensures forgotten { IsForgotten catalog.now.tables trees.old.tables trees.new.tables versions.now }
+    ensures same { (h : HeldChange) → slice_get versions.now 0 ≡ Some h → is_standing h ≡ false → trees.new.tables ≡ trees.old.tables }
     ensures catalog { trees.new.catalog ≡ trees.old.catalog }
 {
     let _ = catalog.tables();
@@ -55,6 +58,7 @@ fn forget_in(trees: &mut TableTrees, versions: &Versions, table: TableId, schema
     requires first { first_table versions.now ≡ Some table.0 }
     requires counts { AreCounted trees.old.tables versions.now }
     ensures forgotten { (tables : List Table) → HasSchema tables table.0 schema.now → AreKept tables trees.old.tables versions.now → IsForgotten tables trees.old.tables trees.new.tables versions.now }
+    ensures same { (h : HeldChange) → slice_get versions.now 0 ≡ Some h → is_standing h ≡ false → trees.new.tables ≡ trees.old.tables }
     ensures catalog { trees.new.catalog ≡ trees.old.catalog }
 {
     references_after_a_change();

@@ -4,6 +4,7 @@ ghost use Rattle.std.specs.Prelude.{◌≡◌, ◌<◌, ℕ, true, false, List, 
 ghost use Rattle.database_state.specs.Table.{Table};
 ghost use Rattle.table_trees.specs.StoredTables.{table_long_values, table_nodes};
 ghost use Rattle.version_store.specs.HeldChanges.{HeldChange, is_rewrite};
+ghost use Rattle.version_store.specs.declared.calls.ChangeKind.TheVariants as kind;
 ghost use Rattle.variant_trees.specs.GoneKeys.{AreRows, KeepsValues};
 ghost use Rattle.variant_trees.specs.LeftVariants.{HasSchema};
 ghost use Rattle.stored_variants.specs.CountedValues.{newest_rows};
@@ -39,6 +40,7 @@ pub fn put_back(
 )
     requires { (held : List HeldChange) × ((h : HeldChange) × WasOpen catalog.now.tables trees.old.tables versions.now place table.0 held h) }
     ensures back { (held : List HeldChange) (h : HeldChange) → WasOpen catalog.now.tables trees.old.tables versions.now place table.0 held h → IsBack catalog.now.tables trees.old.tables trees.new.tables versions.now h }
+    ensures lock { (h : HeldChange) → slice_get versions.now place ≡ Some h → h.kind ≡ kind.Hold → trees.new.tables ≡ trees.old.tables }
     ensures catalog { trees.new.catalog ≡ trees.old.catalog }
 {
     let what = versions.kind_at(place);
@@ -60,6 +62,7 @@ fn take_sum_out(
     requires within { place < length versions.now }
     requires newest { (bookmark : List ℕ) → IfSome (row_under (table_nodes trees.old.tables table.0) bookmark) (IsRecordRow (table_long_values trees.old.tables table.0)) }
     ensures back { (tables : List Table) (held : List HeldChange) (h : HeldChange) → WasOpen tables trees.old.tables versions.now place table.0 held h → h.kind ≡ what → is_rewrite h.kind ≡ false → IsBack tables trees.old.tables trees.new.tables versions.now h }
+    ensures lock { what ≡ kind.Hold → trees.new.tables ≡ trees.old.tables }
     ensures catalog { trees.new.catalog ≡ trees.old.catalog }
 {
     match what {
