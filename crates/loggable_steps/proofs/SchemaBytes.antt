@@ -74,7 +74,7 @@ there_by : {X : Type 0} (o : Option X) → is_none o ≡ false → is_some o ≡
 there_by None e = sym e
 there_by (Some x) e = refl
 
-table_there : (state : DatabaseState) (session : ℕ) (made : SchemaStep) → is_none (schema_refusal state session made) ≡ true → makes_table made ≡ false → is_some (step_table state.tables made) ≡ true
+pub table_there : (state : DatabaseState) (session : ℕ) (made : SchemaStep) → is_none (schema_refusal state session made) ≡ true → makes_table made ≡ false → is_some (step_table state.tables made) ≡ true
 unfolding schema_refusal
 table_there state session made free other =
     let refused = unrefused
