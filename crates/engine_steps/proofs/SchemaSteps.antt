@@ -6,7 +6,6 @@ use Rattle.std.proofs.lemmas.Bool.Decides.{nat_tests}
 use Rattle.std.proofs.lemmas.Bool.{eqb-true, leb-true, not-false}
 use Rattle.jet_base.specs.declared.ids.ColumnId.{ColumnId}
 use Rattle.jet_base.specs.declared.ids.TableId.{TableId}
-use Rattle.jet_base.specs.declared.replies.Jet.TheVariants as jet
 use Rattle.column_set.specs.declared.columns.Column.{Column}
 use Rattle.index_derive.specs.declared.log.EntryKind.TheVariants as entry
 use Rattle.index_derive.specs.declared.rules.IndexRule.{IndexRule}
@@ -14,15 +13,14 @@ use Rattle.index_derive.specs.declared.schema_calls.SchemaStep.{SchemaStep}
 use Rattle.index_derive.specs.declared.schema_calls.SchemaStep.TheVariants as step
 use Rattle.index_derive.specs.Entries.{column_is_used}
 use Rattle.database_state.specs.Table.{Table, primary_first, table_with_id}
-use Rattle.database_state.specs.State.{DatabaseState, levels}
-use Rattle.database_state.specs.SchemaChanges.{greatest_order, has_column, is_in_use, least_free_id, makes_table, new_table, next_column_id, next_index_id, rule_columns, schema_refusal, step_refusals, step_table}
+use Rattle.database_state.specs.State.{DatabaseState}
+use Rattle.database_state.specs.SchemaChanges.{greatest_order, has_column, least_free_id, new_table, next_column_id, next_index_id, rule_columns, step_refusals}
 use Rattle.database_state.specs.Lawful.{is_name}
 use Rattle.record_changes.proofs.Tests.{and_second}
 use Rattle.version_keys.proofs.FreeKeys.{in_any_order}
 use Rattle.version_keys.proofs.IndexNumbers.{all_primary_first, none_of}
-use Rattle.version_keys.proofs.SchemaKeys.{IsNewIndex, at_found, new_index, unrefused}
+use Rattle.version_keys.proofs.SchemaKeys.{IsNewIndex, at_found, new_index}
 use Rattle.common_lemmas.proofs.Found.{found_passes, of_found}
-use Rattle.common_lemmas.proofs.Options.{some_there}
 use Rattle.common_lemmas.proofs.Booleans.{and_left, and_right, impossible}
 use Rattle.built_calls.specs.BuiltTables.{is_unnumbered_column, makes_built}
 use Rattle.built_calls.proofs.BuiltColumns.{kept_is_sum}
@@ -36,7 +34,7 @@ use Rattle.stored_variants.specs.VersionsKept.{only_secondary, secondary_rule}
 use Rattle.log_grammar.specs.EntryBytes.{column_fits, index_fits, schema_fits}
 use Rattle.loggable_steps.specs.Loggable.{schema_fits_types}
 use Rattle.loggable_steps.proofs.ChangeBytes.{IsAsked, columns_of}
-use Rattle.loggable_steps.proofs.SchemaBytes.{schema_spelled}
+use Rattle.loggable_steps.proofs.SchemaBytes.{schema_spelled, table_there}
 use Rattle.version_keys.proofs.BookmarkKeys.{HasOneEntry}
 use Rattle.engine_steps.proofs.NewColumns.{column_is_new, next_is_some}
 use Rattle.engine_steps.specs.Steps.{MayCome, entry_by}
@@ -67,14 +65,6 @@ no_records (x ∷ xs) h = impossible (sym h ∙ some (length xs))
 some_or : {X : Type 0} (o : Option X) (P : X → Type 0) → is_some o ≡ true → ((x : X) → o ≡ Some x → P x) → IsSomeAnd o P
 some_or None P there f = impossible there
 some_or (Some x) P there f = f x refl
-
-table_there : (state : DatabaseState) (session : ℕ) (made : SchemaStep) → is_none (schema_refusal state session made) ≡ true → makes_table made ≡ false → is_some (step_table state.tables made) ≡ true
-unfolding schema_refusal
-table_there state session made free other =
-    let refused = unrefused
-    ((not (levels state session == 0), jet.InTransaction) ∷ (not (makes_table made) && is_none (step_table state.tables made), jet.ObjectNotFound) ∷ (is_in_use state session (step_table state.tables made), jet.TableInUse)
-    ∷ step_refusals state (unwrap_or (step_table state.tables made) (new_table 0 [])) made) free in
-    some_there (step_table state.tables made) (and_second (not (makes_table made)) (is_none (step_table state.tables made)) (ap not other) refused.1.0)
 
 -- ---- each step
 

@@ -3,8 +3,8 @@ use Rattle.std.proofs.Common.{◌≡◌, ℕ, ◌+◌, ◌<◌, ◌≤◌, Bool,
 use Rattle.std.specs.Prelude.{◌==◌, ◌^◌, nat_le, nat_lt, bytes_eq, is_some, option_map, unwrap_or, T, IfSome, IsSomeAnd, IsTrue, MatchOption}
 use Rattle.std.specs.Ordering.{nat_cmp}
 use Rattle.std.specs.FinMap.Entries.{is_sorted}
-use Rattle.std.specs.List.{AllByRecursion, list_all}
-use Rattle.std.proofs.lemmas.Bool.{eqb-true, leb-true, not-true}
+use Rattle.std.specs.List.{list_all}
+use Rattle.std.proofs.lemmas.Bool.{leb-true}
 use Rattle.jet_base.specs.ColumnType.{big_endian}
 use Rattle.column_set.specs.declared.changes.Change.{Change}
 use Rattle.column_set.specs.declared.changes.Change.TheVariants.{Put, Drop, Hold, Add}
@@ -19,25 +19,19 @@ use Rattle.database_state.specs.Table.{Rows, Table, primary_rule, record_in, row
 use Rattle.database_state.specs.State.{DatabaseState, Transaction, levels, levels_of, transaction_of}
 use Rattle.database_state.specs.Conflicts.{has_write_conflict}
 use Rattle.database_state.specs.View.{newest, view}
-use Rattle.database_state.specs.Lawful.{has_free_keys, is_bookmark_of, is_copied_in, is_indexable, is_lawful_at, is_lawful_change, is_lawful_put, keeps_escrow}
+use Rattle.database_state.specs.Lawful.{has_free_keys, is_bookmark_of, is_copied_in, is_indexable, is_lawful_change, is_lawful_put, keeps_escrow}
 use Rattle.record_changes.specs.Records.{records_of}
 use Rattle.long_rows.specs.KeptRows.{are_values}
 use Rattle.session_local.specs.WellFormed.{stands_in}
 use Rattle.version_history.proofs.Unhindered.{finds_newest}
-use Rattle.version_keys.specs.UniqueKeys.{HasUniqueIndexes, IsSoundIndex, IsUniqueIndex}
-use Rattle.version_keys.proofs.IndexNumbers.{all_primary_first}
 use Rattle.version_keys.proofs.EscrowSums.{unseen_now}
 use Rattle.version_records.specs.Bookmarks.{is_bookmark}
 use Rattle.version_records.specs.RecordNumbers.{HoldsNumbers as HoldsNumbersUnder}
 use Rattle.version_records.proofs.EntryNumbers.{entry_number-own}
 use Rattle.version_records.proofs.EscrowRecords.{numbers_seen, put_numbers}
-use Rattle.common_lemmas.proofs.Found.{found_passes, of_found}
+use Rattle.common_lemmas.proofs.Found.{found_passes}
 use Rattle.common_lemmas.proofs.Booleans.{and_left, and_right, impossible}
-use Rattle.common_lemmas.proofs.Lists.{all_weaker}
-use Rattle.common_lemmas.proofs.Numbers.{same_bytes}
 use Rattle.version_records.proofs.Standing.{bookmarks_seen}
-use Rattle.lawful_answers.specs.ColumnNumbers.{are_in_range, has_own_numbers, is_given_number}
-use Rattle.lawful_answers.proofs.TableTests.{all_found}
 use Rattle.engine_versions.specs.EngineState.{EngineState}
 use Rattle.engine_versions.specs.HoldsState.{HoldsState}
 use Rattle.stored_variants.specs.PutRecords.{IsStorable}
@@ -46,26 +40,15 @@ use Rattle.engine_steps.specs.Changing.{CanChange, IsFormed}
 use Rattle.engine_steps.specs.Steps.{MayCome, entry_by}
 use Rattle.engine_steps.proofs.Fitting.{lawful_by_kind}
 use Rattle.engine_steps.proofs.PrimaryKeys.{IsLegalKey, key_short, key_some, legal_key}
-use Rattle.engine_steps.proofs.RowValues.{AreNumbered, each_kept}
+use Rattle.engine_steps.proofs.RowValues.{each_kept}
+use Rattle.loggable_steps.proofs.Bookmarks.{legal_primary}
+use Rattle.loggable_steps.proofs.ChangeBytes.{allowed, columns_of}
 
 -- ---- a table of the state
 
 -- the primary index of a table is legal
-legal_primary : (engine : EngineState) (state : DatabaseState) (h : HoldsState engine state) (id : ℕ) (table : Table) → table_with_id state.tables id ≡ Some table → (rule : IndexRule) → primary_rule (schema_of table) ≡ Some rule → IsLegalKey rule
-legal_primary engine state h id table found rule e =
-    let sound : AllByRecursion (IsSoundIndex table) (schema_of table).indexes =
-    all_primary_first (IsSoundIndex table) table.indexes
-    (all_weaker (λ r. IsSoundIndex table r × IsUniqueIndex (transaction_of state) h.base h.kept table r) (IsSoundIndex table) (λ r both. both.0) table.indexes
-    (subst (λ (o : Option Table). IfSome o (HasUniqueIndexes (transaction_of state) h.base h.kept)) found (h.reached.unique.tables id))) in
-    let primary : rule.flags.primary ≡ true = found_passes (λ r. r.flags.primary) (schema_of table).indexes rule e in
-    legal_key rule (schema_of table) ((of_found (IsSoundIndex table) (λ r. r.flags.primary) (schema_of table).indexes rule e sound).2 primary).1 primary
-
-columns_of : (engine : EngineState) (state : DatabaseState) → HoldsState engine state → (id : ℕ) (table : Table) → table_with_id state.tables id ≡ Some table → AreNumbered table.greatest table.columns
-columns_of engine state h id table found =
-    let own : has_own_numbers table ≡ true = subst (λ (o : Option Table). IfSome o (λ t. has_own_numbers t ≡ true)) found (all_found has_own_numbers state.tables h.reached.columns id) in
-    let given = list_all (is_given_number table.greatest) table.columns in
-    let both : (are_in_range table.greatest && given) ≡ true = and_left (are_in_range table.greatest && given) _ own in
-    record { range = and_left (are_in_range table.greatest) given both; given = and_right (are_in_range table.greatest) given both }
+legal_key_of : (engine : EngineState) (state : DatabaseState) (h : HoldsState engine state) (id : ℕ) (table : Table) → table_with_id state.tables id ≡ Some table → (rule : IndexRule) → primary_rule (schema_of table) ≡ Some rule → IsLegalKey rule
+legal_key_of engine state h id table found rule e = let is = legal_primary h.base h.dropped h.kept state h.reached id table found rule e in legal_key rule (schema_of table) is.legal is.primary
 
 -- ---- a bookmark
 
@@ -174,13 +157,13 @@ put_storable engine state h session id table bookmark copied values found is law
     let with_small : (fits && whole && small) ≡ true = and_left (fits && whole && small) indexed with_index in
     let fit : fits ≡ true = and_left fits whole (and_left (fits && whole) small with_small) in
     let few : record_size values ≤ 1700 = leb-true (record_size values) 1700 (and_right (fits && whole) small with_small) in
-    let each = each_kept table.greatest table.columns values (columns_of engine state h id table found) (and_left (list_all (stands_in table.columns) values) (list_all (λ column. not (is_kept_column column) || has_value values column.id.0) table.columns) fit) in
+    let each = each_kept table.greatest table.columns values (columns_of h.base h.dropped h.kept state h.reached id table found) (and_left (list_all (stands_in table.columns) values) (list_all (λ column. not (is_kept_column column) || has_value values column.id.0) table.columns) fit) in
     record {
       columns = fit;
       numbers = put_holds engine state h session id table bookmark copied values (ap (table_with_id state.tables) same ∙ found) is lawful;
       indexable = and_right (fits && whole && small) indexed with_index;
       own =
-          bookmark_own (state.number + 1) (schema_of table) rows bookmark values (primary_rule (schema_of table)) (legal_primary engine state h id table found)
+          bookmark_own (state.number + 1) (schema_of table) rows bookmark values (primary_rule (schema_of table)) (legal_key_of engine state h id table found)
           (λ none there. seen_eight engine state h session id table found bookmark none (ap (λ (n : ℕ). is_some (record_in (view state session) n bookmark)) (sym same) ∙ there))
           (and_right (fits && whole && small && indexed && free) own with_own);
       formed = is;
@@ -226,19 +209,6 @@ TellsNewest = (engine : EngineState) (state : DatabaseState) → HoldsState engi
 pub record ChangeLaws : Type 0 where
   pub schema : TellsSchema
   pub newest : TellsNewest
-
--- what a lawful change is
-record Allowed (state : DatabaseState) (session id : ℕ) (change : Change) : Type 0 where
-  table : Table
-  found : table_with_id state.tables id ≡ Some table
-  is : is_lawful_at state session (Some table) change ≡ true
-
-allowed : (state : DatabaseState) (session id : ℕ) (change : Change) → is_lawful_at state session (table_with_id state.tables id) change ≡ true → Allowed state session id change
-allowed state session id change h = by (table_with_id state.tables id) refl h
-  where
-    by : (o : Option Table) → table_with_id state.tables id ≡ o → is_lawful_at state session o change ≡ true → Allowed state session id change
-    by None e f = impossible f
-    by (Some t) e f = record { table = t; found = e; is = f }
 
 -- a change comes inside a transaction
 in_transaction : (o : Option Transaction) → nat_lt 0 (levels_of o) ≡ true → is_some o ≡ true

@@ -16,14 +16,13 @@ use Rattle.database_state.specs.Lawful.{is_lawful, is_live as is_live_in}
 use Rattle.session_local.specs.Local.{LocalState}
 use Rattle.version_history.specs.History.{EachTwo, LabelsRise}
 use Rattle.version_history.proofs.LawfulEntries.{outside}
-use Rattle.version_records.specs.RecordNumbers.{HasItsType}
 use Rattle.version_cleanup.specs.declared.live.Transaction.{Transaction}
 use Rattle.version_cleanup.specs.LiveSessions.{LiveState, began, ended, live_state, with_session, without_snapshot}
-use Rattle.built_calls.specs.BuiltTables.{makes_built}
 use Rattle.engine_versions.specs.EngineState.{EngineState, HasRoomForEnds}
 use Rattle.engine_versions.specs.EngineSteps.{cleaned_for, effect_on, engine_after, step_cleans}
 use Rattle.engine_versions.specs.HoldsState.{HoldsAllInStep, HoldsState}
 use Rattle.engine_versions.proofs.Cleans.{CleanHolds, clean_for_holds}
+use Rattle.engine_versions.proofs.Room.{EntryHolds}
 use Rattle.engine_steps.specs.Steps.{MayCome, MayTake, begin_taken_back, entry_by}
 use Rattle.engine_steps.proofs.Fitting.{lawful_by_kind}
 
@@ -81,10 +80,7 @@ begin_back engine session kind may =
 
 -- ---- each entry in its turn
 
--- the laws that lawful entries make the next state, and leave room for all ends
-abbrev pub EntryHolds : Type 0
-EntryHolds = (engine : EngineState) (state : DatabaseState) (made : Entry) → HoldsState engine state → is_lawful state made ≡ true → makes_built made.kind ≡ true → HasItsType made.kind → HoldsState (engine_after engine made) (state_after state made)
-
+-- the law that a lawful entry leaves room for all ends
 abbrev pub EntryHasRoom : Type 0
 EntryHasRoom = (engine : EngineState) (state : DatabaseState) (made : Entry) → HoldsState engine state → is_lawful state made ≡ true → HasRoomForEnds engine → HasRoomForEnds (engine_after engine made)
 

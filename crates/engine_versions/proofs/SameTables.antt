@@ -1,12 +1,13 @@
 -- Lists of tables with the same definitions and the same tables under each id.
 use Rattle.std.proofs.Common.{◌≡◌, ℕ, Bool, true, false, cond, List, [], ◌∷◌, map, Option, Some, None, refl, sym, ap, subst, ◌∙◌}
-use Rattle.std.specs.Prelude.{◌==◌, option_map, bytes_eq}
+use Rattle.std.specs.Prelude.{option_map, bytes_eq}
 use Rattle.std.specs.List.{AllByRecursion}
 use Rattle.common_lemmas.proofs.Options.{same_some}
 use Rattle.database_state.specs.Table.{Table, schema_of, table_named, table_with_id}
 use Rattle.version_history.specs.History.{EachTwo, without_rows}
 use Rattle.version_keys.specs.TableOrder.{IdsRise}
 use Rattle.version_keys.proofs.OrderedTables.{found_each}
+use Rattle.versioned_tables.proofs.Rising.{found_without}
 
 -- ---- rising ids
 
@@ -68,15 +69,6 @@ same_tables one other e rise same = same_in one other one other same e (found_ea
 
 -- ---- found tables without their records
 
-pub numbered_bare : (tables : List Table) (id : ℕ) → table_with_id (map without_rows tables) id ≡ option_map without_rows (table_with_id tables id)
-numbered_bare [] id = refl
-numbered_bare (t ∷ tables) id = by (t.id == id) (numbered_bare tables id)
-  where
-    by : (b : Bool) → table_with_id (map without_rows tables) id ≡ option_map without_rows (table_with_id tables id)
-        → cond b (Some (without_rows t)) (table_with_id (map without_rows tables) id) ≡ option_map without_rows (cond b (Some t) (table_with_id tables id))
-    by true rest = refl
-    by false rest = rest
-
 pub named_bare : (tables : List Table) (name : List ℕ) → table_named (map without_rows tables) name ≡ option_map without_rows (table_named tables name)
 named_bare [] name = refl
 named_bare (t ∷ tables) name = by (bytes_eq t.name name) (named_bare tables name)
@@ -87,7 +79,7 @@ named_bare (t ∷ tables) name = by (bytes_eq t.name name) (named_bare tables na
     by false rest = rest
 
 pub numbered_alike : (one other : List Table) → map without_rows one ≡ map without_rows other → (id : ℕ) → option_map without_rows (table_with_id one id) ≡ option_map without_rows (table_with_id other id)
-numbered_alike one other e id = sym (numbered_bare one id) ∙ ap (λ tables. table_with_id tables id) e ∙ numbered_bare other id
+numbered_alike one other e id = sym (found_without one id) ∙ ap (λ tables. table_with_id tables id) e ∙ found_without other id
 
 pub named_alike : (one other : List Table) → map without_rows one ≡ map without_rows other → (name : List ℕ) → option_map without_rows (table_named one name) ≡ option_map without_rows (table_named other name)
 named_alike one other e name = sym (named_bare one name) ∙ ap (λ tables. table_named tables name) e ∙ named_bare other name

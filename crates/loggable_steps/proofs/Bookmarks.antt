@@ -63,7 +63,7 @@ legal_rule rule schema legal = by (nat_le 1 (length rule.segments)) (nat_le (len
         }
 
 -- the keys of a primary index have 255 bytes at most
-primary_most : (rule : IndexRule) (schema : Schema) → IsLegalRule rule schema → rule.flags.primary ≡ true → rule.key_most ≡ 255
+pub primary_most : (rule : IndexRule) (schema : Schema) → IsLegalRule rule schema → rule.flags.primary ≡ true → rule.key_most ≡ 255
 primary_most rule schema legal primary =
     let is : is_legal_primary rule schema ≡ true = sym (ap (λ b. not b || is_legal_primary rule schema) primary) ∙ legal.primary in
     eqb-true rule.key_most 255
@@ -74,14 +74,14 @@ primary_most rule schema legal primary =
 above : (n : ℕ) → 0 < suc n
 above n = omega arith
 
-front_some : (most : ℕ) (xs : List ℕ) → 0 < length xs → 0 < length (take (suc most) xs)
+pub front_some : (most : ℕ) (xs : List ℕ) → 0 < length xs → 0 < length (take (suc most) xs)
 front_some most [] h = absurd (none h)
   where
     none : 0 < 0 → ⊥
     none h = omega (arith, h)
 front_some most (x ∷ xs) h = above (length (take most xs))
 
-front_short : (most : ℕ) (xs : List ℕ) → length (take most xs) ≤ most
+pub front_short : (most : ℕ) (xs : List ℕ) → length (take most xs) ≤ most
 front_short zero xs = none
   where
     none : 0 ≤ 0
@@ -102,7 +102,7 @@ segment_some kind None descending high rest = above (length rest)
 segment_some kind (Some []) descending high rest = above (length rest)
 segment_some kind (Some (byte ∷ bytes)) descending high rest = above (length (map (in_direction descending) (value_bytes kind (byte ∷ bytes)) ++ rest))
 
-whole_some : (segments : List Segment) (high : Bool) (schema : Schema) (fields : RecordFields) → nat_le 1 (length segments) ≡ true
+pub whole_some : (segments : List Segment) (high : Bool) (schema : Schema) (fields : RecordFields) → nat_le 1 (length segments) ≡ true
     → 0 < length (key_bytes (map (λ segment. record { kind = type_of_column schema segment.column.0; descending = segment.descending }) segments) high (map (λ column. first_or_null (values_of fields column)) (map (λ segment. segment.column.0) segments)))
 whole_some [] high schema fields h = impossible h
 whole_some (s ∷ segments) high schema fields h =

@@ -105,13 +105,13 @@ add_spelled table bookmark column amount low marked numbered fits = record {
 -- ---- the table of a change
 
 -- what a lawful change is
-record Allowed (state : DatabaseState) (session id : ℕ) (change : Change) : Type 0 where
-  table : Table
-  found : table_with_id state.tables id ≡ Some table
-  is : is_lawful_at state session (Some table) change ≡ true
-  same : table.id ≡ id
+pub record Allowed (state : DatabaseState) (session id : ℕ) (change : Change) : Type 0 where
+  pub table : Table
+  pub found : table_with_id state.tables id ≡ Some table
+  pub is : is_lawful_at state session (Some table) change ≡ true
+  pub same : table.id ≡ id
 
-allowed : (state : DatabaseState) (session id : ℕ) (change : Change) → is_lawful_at state session (table_with_id state.tables id) change ≡ true → Allowed state session id change
+pub allowed : (state : DatabaseState) (session id : ℕ) (change : Change) → is_lawful_at state session (table_with_id state.tables id) change ≡ true → Allowed state session id change
 allowed state session id change h = by (table_with_id state.tables id) refl h
   where
     by : (o : Option Table) → table_with_id state.tables id ≡ o → is_lawful_at state session o change ≡ true → Allowed state session id change

@@ -4,7 +4,7 @@ use Rattle.std.specs.List.{AllByRecursion}
 use Rattle.std.proofs.lemmas.Bool.{and_from, and_parts}
 use Rattle.index_derive.specs.declared.log.Entry.{Entry}
 use Rattle.database_state.specs.State.{DatabaseState}
-use Rattle.database_state.specs.Step.{state_after, state_after_all}
+use Rattle.database_state.specs.Step.{state_after}
 use Rattle.version_records.specs.RecordNumbers.{HasItsType}
 use Rattle.lawful_answers.specs.EntryTypes.{AreOfTheirTypes}
 use Rattle.lawful_answers.specs.LawfulSteps.{AreLawful}
@@ -12,6 +12,7 @@ use Rattle.built_calls.specs.BuiltTables.{AllMakeBuilt, makes_built}
 use Rattle.engine_versions.specs.EngineState.{EngineState}
 use Rattle.engine_versions.specs.EngineSteps.{engine_after_all}
 use Rattle.engine_versions.specs.HoldsState.{HoldsState}
+use Rattle.engine_versions.proofs.Cleans.{EntriesHold}
 use Rattle.log_grammar.specs.EntryBytes.{BeginsWithNone, IsCut, has_spelling}
 use Rattle.log_grammar.specs.EntryStreams.{Holds, HoldsFirst, stream_bytes, stream_fits}
 use Rattle.entry_log.specs.LogState.{KeptStream}
@@ -76,10 +77,7 @@ front_first laws opening entries engine stream log whole front behind cut read r
 
 -- ---- they are a log of their own
 
-abbrev pub ManyHold : Type 0
-ManyHold = (engine : EngineState) (state : DatabaseState) (entries : List Entry) → HoldsState engine state → AreLawful state entries → AllMakeBuilt entries → AreOfTheirTypes entries → HoldsState (engine_after_all engine entries) (state_after_all state entries)
-
-first_logged : ManyHold → (opening : DatabaseState) (entries : List Entry) (engine : EngineState) (stream : KeptStream) → HasLogged opening entries engine stream → (read others : List Entry) → entries ≡ read ++ others
+first_logged : EntriesHold → (opening : DatabaseState) (entries : List Entry) (engine : EngineState) (stream : KeptStream) → HasLogged opening entries engine stream → (read others : List Entry) → entries ≡ read ++ others
     → (first : EngineState) → HoldsState first opening → HasLogged opening read (engine_after_all first read) (whole_stream read)
 first_logged many opening entries engine stream log read others split first h =
     let lawful : AreLawful opening read = lawful_first opening read others (subst (AreLawful opening) split log.lawful) in
@@ -94,7 +92,7 @@ first_logged many opening entries engine stream log read others split first h =
       holds = many first opening read h lawful built typed;
     }
 
-pub front_replayed : FrontLaws → ManyHold → (opening : DatabaseState) (entries : List Entry) (engine : EngineState) (stream : KeptStream) → HasLogged opening entries engine stream → stream.from ≡ 0 → (front behind : List ℕ) → stream.bytes ≡ front ++ behind
+pub front_replayed : FrontLaws → EntriesHold → (opening : DatabaseState) (entries : List Entry) (engine : EngineState) (stream : KeptStream) → HasLogged opening entries engine stream → stream.from ≡ 0 → (front behind : List ℕ) → stream.bytes ≡ front ++ behind
     → (read : List Entry) (rest : List ℕ) → Holds front read rest → (first : EngineState) → HoldsState first opening → HasLogged opening read (engine_after_all first read) (whole_stream read)
 front_replayed laws many opening entries engine stream log whole front behind cut read rest holds first h =
     let is = front_first laws opening entries engine stream log whole front behind cut read rest holds in

@@ -42,7 +42,7 @@ bit_within [] h = cc
 bit_within (x ∷ []) h = refl
 bit_within (x ∷ y ∷ value) h = let no = neither (x == 0) (x == 1) in cc
 
-value_within : (type : ColType) (value : List ℕ) → value_fits type value ≡ true → is_within value ≡ true
+pub value_within : (type : ColType) (value : List ℕ) → value_fits type value ≡ true → is_within value ≡ true
 value_within kind.Bit value h = bit_within value h
 value_within kind.UnsignedByte value h = fixed_within 1 (length value) refl h
 value_within kind.Short value h = fixed_within 2 (length value) refl h
@@ -57,7 +57,7 @@ value_within kind.Text value h = short_within (length value) h
 value_within kind.LongBinary value h = h
 value_within kind.LongText value h = h
 
-values_within : (type : ColType) (values : List (List ℕ)) → list_all (value_fits type) values ≡ true → list_all is_within values ≡ true
+pub values_within : (type : ColType) (values : List (List ℕ)) → list_all (value_fits type) values ≡ true → list_all is_within values ≡ true
 values_within type [] h = refl
 values_within type (value ∷ values) h =
     let both = and_parts (value_fits type value) (list_all (value_fits type) values) h in

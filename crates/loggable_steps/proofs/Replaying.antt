@@ -17,6 +17,8 @@ use Rattle.built_calls.specs.BuiltTables.{AllMakeBuilt, makes_built}
 use Rattle.engine_versions.specs.EngineState.{EngineState}
 use Rattle.engine_versions.specs.EngineSteps.{engine_after, engine_after_step}
 use Rattle.engine_versions.specs.HoldsState.{HoldsState}
+use Rattle.engine_versions.proofs.Answering.{StepHolds}
+use Rattle.engine_versions.proofs.Room.{EntryHolds}
 use Rattle.log_grammar.specs.EntryBytes.{BeginsWithNone, entry_bytes, has_spelling}
 use Rattle.log_grammar.specs.EntryStreams.{Holds, stream_bytes, stream_fits}
 use Rattle.entry_log.specs.LogState.{IsKeptOf, KeptStream, appended, empty_stream, stream_end, trimmed_to}
@@ -39,13 +41,10 @@ spelled-append (x ∷ xs) ys h g = let both = and_parts (has_spelling x) (stream
 
 -- ---- states that one engine holds take the same entries
 
-abbrev pub NextHolds : Type 0
-NextHolds = (engine : EngineState) (state : DatabaseState) (made : Entry) → HoldsState engine state → is_lawful state made ≡ true → makes_built made.kind ≡ true → HasItsType made.kind → HoldsState (engine_after engine made) (state_after state made)
-
 abbrev pub TakeTheSame : Type 0
 TakeTheSame = (engine : EngineState) (one other : DatabaseState) → HoldsState engine one → HoldsState engine other → (made : Entry) → is_lawful one made ≡ is_lawful other made
 
-lawful_alike : NextHolds → TakeTheSame → (engine : EngineState) (one other : DatabaseState) → HoldsState engine one → HoldsState engine other → (entries : List Entry) → AllMakeBuilt entries → AreOfTheirTypes entries → AreLawful one entries → AreLawful other entries
+lawful_alike : EntryHolds → TakeTheSame → (engine : EngineState) (one other : DatabaseState) → HoldsState engine one → HoldsState engine other → (entries : List Entry) → AllMakeBuilt entries → AreOfTheirTypes entries → AreLawful one entries → AreLawful other entries
 lawful_alike next same engine one other h g [] built typed lawful = tt
 lawful_alike next same engine one other h g (made ∷ entries) built typed lawful =
     let first : is_lawful other made ≡ true = sym (same engine one other h g made) ∙ lawful.0 in (
@@ -58,17 +57,13 @@ lawful_alike next same engine one other h g (made ∷ entries) built typed lawfu
 pub first_logged : IsKeptOf [] empty_stream → (opening : DatabaseState) (engine : EngineState) → HoldsState engine opening → HasLogged opening [] engine empty_stream
 first_logged none opening engine h = record { lawful = tt; built = tt; typed = tt; spelled = refl; kept = none; holds = h }
 
-abbrev pub StepHolds : Type 0
-StepHolds = (engine : EngineState) (state : DatabaseState) (step : Step) → HoldsState engine state → AreLawful state (entries_of_step (Some step)) → AllMakeBuilt (entries_of_step (Some step)) → AreOfTheirTypes (entries_of_step (Some step))
-    → HoldsState (engine_after_step engine step) (state_after_all state (entries_of_step (Some step)))
-
 abbrev pub KeptGoesOn : Type 0
 KeptGoesOn = (whole bytes : List ℕ) (stream : KeptStream) → IsKeptOf whole stream → IsKeptOf (whole ++ bytes) (appended bytes stream)
 
 abbrev pub AllSpelled : Type 0
 AllSpelled = (step : Step) → is_loggable (made_by step) ≡ true → stream_fits (entries_of_step (Some step)) ≡ true
 
-pub step_logged : NextHolds → TakeTheSame → StepHolds → KeptGoesOn → AllSpelled → (opening : DatabaseState) (entries : List Entry) (engine : EngineState) (stream : KeptStream) → HasLogged opening entries engine stream
+pub step_logged : EntryHolds → TakeTheSame → StepHolds → KeptGoesOn → AllSpelled → (opening : DatabaseState) (entries : List Entry) (engine : EngineState) (stream : KeptStream) → HasLogged opening entries engine stream
     → (state : DatabaseState) (step : Step) → HoldsState engine state → AreLawful state (entries_of_step (Some step)) → AllMakeBuilt (entries_of_step (Some step)) → AreOfTheirTypes (entries_of_step (Some step)) → is_loggable (made_by step) ≡ true
     → HasLogged opening (entries ++ entries_of_step (Some step)) (engine_after_step engine step) (appended (stream_bytes (entries_of_step (Some step))) stream)
 step_logged next same steps goes_on all opening entries engine stream log state step h lawful built typed loggable =

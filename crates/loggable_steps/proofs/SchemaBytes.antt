@@ -72,7 +72,7 @@ index_most index few few_conditions name =
 
 -- ---- the table of a step
 
-table_there : (state : DatabaseState) (session : ℕ) (made : SchemaStep) → is_none (schema_refusal state session made) ≡ true → makes_table made ≡ false → is_some (step_table state.tables made) ≡ true
+pub table_there : (state : DatabaseState) (session : ℕ) (made : SchemaStep) → is_none (schema_refusal state session made) ≡ true → makes_table made ≡ false → is_some (step_table state.tables made) ≡ true
 unfolding schema_refusal
 table_there state session made free other =
     let refused = unrefused

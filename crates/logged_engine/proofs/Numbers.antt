@@ -12,11 +12,10 @@ use Rattle.index_derive.specs.Steps.{entries_of_step}
 use Rattle.database_state.specs.State.{DatabaseState}
 use Rattle.database_state.specs.Lawful.{has_number, is_lawful, is_lawful_kind, log_limit}
 use Rattle.lawful_answers.specs.LawfulSteps.{AreLawful}
-use Rattle.lawful_answers.specs.EntryTypes.{AreOfTheirTypes}
-use Rattle.built_calls.specs.BuiltTables.{AllMakeBuilt}
 use Rattle.engine_versions.specs.EngineState.{EngineState, HasRoomForEnds, ends_in}
 use Rattle.engine_versions.specs.EngineSteps.{cleaned_for, engine_after_step}
 use Rattle.engine_versions.specs.HoldsState.{HoldsState}
+use Rattle.engine_versions.proofs.Answering.{StepHasRoom}
 use Rattle.engine_steps.specs.Steps.{MayTake}
 use Rattle.logged_engine.specs.Bounds.{IsBounded}
 use Rattle.logged_engine.specs.Ends.{begun_bytes, end_bytes, ended_bytes, ends_something}
@@ -90,9 +89,6 @@ fresh_room engine state made h e none =
 step_fresh : (engine : EngineState) (state : DatabaseState) (step : Step) → HoldsState engine state → AreLawful state (entries_of_step (Some step)) → engine.sessions ≡ [] → HasRoomForEnds engine
 step_fresh engine state (One made) h lawful none = fresh_room engine state made h lawful.0 none
 step_fresh engine state (Alone made) h lawful none = fresh_room engine state (record { session = made.session; kind = entry.Begin }) h lawful.0 none
-
-abbrev pub StepHasRoom : Type 0
-StepHasRoom = (engine : EngineState) (state : DatabaseState) (step : Step) → HoldsState engine state → AreLawful state (entries_of_step (Some step)) → AllMakeBuilt (entries_of_step (Some step)) → AreOfTheirTypes (entries_of_step (Some step)) → HasRoomForEnds engine → HasRoomForEnds (engine_after_step engine step)
 
 pub room_now : (opening : ℕ) (engine : EngineState) (step : Step) → IsBounded opening engine → MayTake engine step → HasRoomForEnds engine
 room_now opening engine step (inl room) may = room

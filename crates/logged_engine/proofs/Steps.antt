@@ -8,29 +8,20 @@ use Rattle.index_derive.specs.Steps.{entries_of_step}
 use Rattle.database_state.specs.State.{DatabaseState}
 use Rattle.database_state.specs.Step.{state_after}
 use Rattle.database_state.specs.Lawful.{is_lawful}
-use Rattle.version_records.specs.RecordNumbers.{HasItsType}
 use Rattle.version_cleanup.specs.LiveSessions.{LiveState}
 use Rattle.lawful_answers.specs.EntryTypes.{AreOfTheirTypes}
 use Rattle.lawful_answers.specs.LawfulSteps.{AreLawful}
-use Rattle.built_calls.specs.BuiltTables.{AllMakeBuilt, makes_built}
-use Rattle.engine_versions.specs.EngineState.{EngineState, cleaned}
+use Rattle.built_calls.specs.BuiltTables.{AllMakeBuilt}
+use Rattle.engine_versions.specs.EngineState.{EngineState}
 use Rattle.engine_versions.specs.EngineSteps.{cleaned_for, cleans_first, engine_after, engine_after_step}
 use Rattle.engine_versions.specs.HoldsState.{HoldsState}
+use Rattle.engine_versions.proofs.Cleans.{CleanHolds, clean_for_holds}
+use Rattle.engine_versions.proofs.Room.{EntryHolds}
 use Rattle.loggable_steps.specs.Loggable.{made_by}
 use Rattle.logged_engine.specs.Ends.{Follows, begun_bytes, end_bytes, ended_bytes}
 use Rattle.engine_versions.proofs.SessionTotals.{rise_told}
 use Rattle.logged_engine.proofs.Ends.{entry_keeps, kind_of}
 use Rattle.logged_engine.proofs.Follows.{between, kind_follows}
-
-abbrev pub EntryHolds : Type 0
-EntryHolds = (engine : EngineState) (state : DatabaseState) (made : Entry) → HoldsState engine state → is_lawful state made ≡ true → makes_built made.kind ≡ true → HasItsType made.kind → HoldsState (engine_after engine made) (state_after state made)
-
-abbrev pub CleanHolds : Type 0
-CleanHolds = (engine : EngineState) (state : DatabaseState) → HoldsState engine state → HoldsState (cleaned engine) state
-
-clean_for_holds : CleanHolds → (b : Bool) (engine : EngineState) (state : DatabaseState) → HoldsState engine state → HoldsState (cleaned_for b engine) state
-clean_for_holds cleans true engine state h = cleans engine state h
-clean_for_holds cleans false engine state h = h
 
 pub same_sessions : (b : Bool) (engine : EngineState) → end_bytes (cleaned_for b engine).sessions ≡ end_bytes engine.sessions
 same_sessions true engine = refl
