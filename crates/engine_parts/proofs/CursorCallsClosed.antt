@@ -21,7 +21,7 @@ use Rattle.engine_versions.specs.EngineState.{EngineState}
 use Rattle.engine_versions.specs.HoldsState.{asked_of}
 use Rattle.engine_parts.specs.Deciding.{Decides, IsDecision}
 use Rattle.engine_parts.proofs.CursorCallsShown.{at_if}
-use Rattle.engine_parts.proofs.Refusing.{stepped_with, one_by, answer-begun, answer-is, copied_none}
+use Rattle.engine_versions.proofs.Decisions.{stepped_with, one_by, answer-begun, answer-is, copied_none}
 
 -- the session was begun, and has the cursor
 pub close_table-shared : (side : SessionSide) (cursor : CursorId) → is_answered_locally side.state (call.CloseTable cursor) ≡ false → (side.state.begun ≡ true) × (is_none (cursor_labelled side.state cursor.0) ≡ false)

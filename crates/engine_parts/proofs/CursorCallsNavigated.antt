@@ -22,7 +22,7 @@ use Rattle.engine_versions.specs.EngineState.{EngineState}
 use Rattle.engine_versions.specs.HoldsState.{HoldsState, asked_of}
 use Rattle.engine_parts.specs.Deciding.{Decides, is_navigation}
 use Rattle.engine_parts.specs.Reading.{entries_for, has_shown, records_for}
-use Rattle.engine_parts.proofs.Refusing.{refused_with, answer-is}
+use Rattle.engine_versions.proofs.Decisions.{refused_with, answer-is}
 use Rattle.engine_parts.proofs.CursorCallsShown.{ReadsRecords, at_if, has_read}
 use Rattle.engine_parts.proofs.CursorNavigates.{Sees, with_cursor-found, navigates}
 

@@ -30,9 +30,9 @@ use Rattle.session_local.specs.Deciding.{decided_in}
 use Rattle.lawful_answers.specs.LawfulSteps.{HasLawfulStep}
 use Rattle.engine_versions.specs.EngineState.{EngineState}
 use Rattle.engine_versions.specs.HoldsState.{HoldsState, asked_of}
+use Rattle.engine_versions.proofs.SameTables.{named_alike}
 use Rattle.engine_parts.specs.Deciding.{Decides, IsDecision}
-use Rattle.engine_parts.proofs.ReadsView.{plain_named}
-use Rattle.engine_parts.proofs.Refusing.{refused_with, answer-is, copied_none}
+use Rattle.engine_versions.proofs.Decisions.{refused_with, answer-is, copied_none}
 
 -- ---- what is asked of the session's own state
 
@@ -56,8 +56,7 @@ open_table-is asked cursor name full shared is =
 -- ---- the table
 
 named : (engine : EngineState) (state : DatabaseState) (name : List ℕ) → HoldsState engine state → option_map without_rows (table_named engine.store.tables name) ≡ option_map without_rows (table_named state.tables name)
-named engine state name h =
-    sym (plain_named engine.store.tables name) ∙ ap (λ (tables : List Table). table_named tables name) h.holds.defined ∙ plain_named state.tables name
+named engine state name h = named_alike engine.store.tables state.tables h.holds.defined name
 
 unnamed : (found : Option Table) → None ≡ option_map without_rows found → found ≡ None
 unnamed None e = refl

@@ -18,7 +18,7 @@ use Rattle.session_local.specs.SessionSide.{SessionSide}
 use Rattle.session_local.specs.Answer.{Answered, Nothing, answered_by}
 use Rattle.session_local.specs.Local.{LocalState, OpenCursor, cursor_labelled, place_key, place_bookmark}
 use Rattle.session_local.specs.Outcome.{Asked, Outcome, said, unless, on_cursor, rows_seen, current_refusals}
-use Rattle.session_local.specs.Calls.{answer, answer_begun}
+use Rattle.session_local.specs.Calls.{answer}
 use Rattle.session_local.specs.CursorCalls.{whole, retrieve_key, get_bookmark}
 use Rattle.session_local.specs.LocalCalls.{is_answered_locally}
 use Rattle.session_local.specs.Finishing.{finished}
@@ -28,17 +28,13 @@ use Rattle.engine_versions.specs.EngineState.{EngineState}
 use Rattle.engine_versions.specs.HoldsState.{HoldsState, asked_of}
 use Rattle.engine_parts.specs.Deciding.{Decides}
 use Rattle.engine_parts.specs.Reading.{CurrentEntry, entry_at, record_for, records_for, shown_for}
-use Rattle.engine_parts.proofs.Refusing.{answer-is}
+use Rattle.engine_versions.proofs.Decisions.{answer-is}
 
 -- ---- a call that is decided on the shared state
 
 pub at_if : (b : Bool) (found : Option OpenCursor) → elim b [ true ↦ is_none found | false ↦ true ] ≡ false → (b ≡ true) × (is_none found ≡ false)
 at_if true found e = (refl, e)
 at_if false found e = absurd (cc)
-
-pub answer-begun : (asked : Asked) (request : Request) → asked.local.begun ≡ true → answer asked request ≡ answer_begun asked request
-unfolding answer
-answer-begun asked request begun = rw begun refl
 
 -- ---- the entry at a place
 

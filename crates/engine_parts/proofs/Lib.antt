@@ -2,7 +2,6 @@ pub mod RowSums
 pub mod ReadsView
 pub mod Views
 pub mod Found
-pub mod Refusing
 pub mod CursorCallsShown
 pub mod CursorNavigates
 pub mod CursorCallsNavigated

@@ -1,12 +1,12 @@
 -- What a session reads of a state that the engine holds.
-use Rattle.std.proofs.Common.{◌≡◌, ℕ, ◌≤◌, Bool, true, false, cond, List, [], ◌∷◌, Option, Some, None, map, option_map, unwrap_or, refl, sym, ap, subst, ◌∙◌}
-use Rattle.std.specs.Prelude.{ℤ, ◌==◌, bytes_eq, IfSome, IsTrue, is_some}
+use Rattle.std.proofs.Common.{◌≡◌, ℕ, ◌≤◌, true, List, Option, Some, None, option_map, unwrap_or, refl, sym, ap, subst, ◌∙◌}
+use Rattle.std.specs.Prelude.{ℤ, ◌==◌, IfSome, IsTrue, is_some}
 use Rattle.std.specs.List.{AllByRecursion}
 use Rattle.column_set.specs.RecordValues.{RecordFields, record_fits, record_size}
 use Rattle.common_lemmas.proofs.Found.{of_found}
 use Rattle.common_lemmas.proofs.Booleans.{impossible}
 use Rattle.database_state.specs.State.{DatabaseState, PastChange, transaction_of}
-use Rattle.database_state.specs.Table.{Table, index_entries, record_in, row_at, rows_of, schema_of, table_named, table_with_id}
+use Rattle.database_state.specs.Table.{Table, index_entries, record_in, row_at, rows_of, schema_of, table_with_id}
 use Rattle.database_state.specs.View.{view}
 use Rattle.index_derive.specs.declared.rules.Schema.{Schema}
 use Rattle.record_changes.specs.Records.{Records, records_of}
@@ -24,16 +24,18 @@ use Rattle.version_cleanup.specs.Cleaning.{reader_in}
 use Rattle.versioned_tables.proofs.HeldSums.{same_sums}
 use Rattle.versioned_tables.proofs.SeenTables.{seen_at_id}
 use Rattle.versioned_tables.proofs.ViewedRecords.{AreAdded, unseen_added}
-use Rattle.versioned_tables.specs.HeldRecords.{HeldRecord, seen_record}
+use Rattle.versioned_tables.specs.HeldRecords.{HeldRecord}
 use Rattle.versioned_tables.specs.HeldSums.{unseen_sums}
 use Rattle.versioned_tables.specs.VersionedTables.{VersionedTables, seen_table, seen_tables}
 use Rattle.versioned_tables.specs.Holding.{Holds, begin_of}
 use Rattle.stored_variants.specs.StoredVersions.{entries_in}
+use Rattle.table_versions.specs.Shown.{FindsShown, ShowsEntries}
 use Rattle.session_local.specs.Agreement.{HasSchemaOf}
 use Rattle.session_local.specs.Local.{LocalState, OpenCursor, cursor_labelled}
 use Rattle.agreeing_sessions.specs.InStep.{IsInStep}
 use Rattle.engine_versions.specs.EngineState.{EngineState}
 use Rattle.engine_versions.specs.HoldsState.{HoldsState}
+use Rattle.engine_versions.proofs.SameTables.{numbered_alike}
 use Rattle.engine_versions.proofs.Telling.{begin_told}
 use Rattle.engine_parts.specs.Reading.{IsRowOf, entries_for, record_for, shown_for, unseen_amounts}
 use Rattle.engine_parts.proofs.RowSums.{row_of}
@@ -41,12 +43,6 @@ use Rattle.engine_parts.proofs.RowSums.{row_of}
 -- ---- what it is shown
 
 -- the laws that it rests on
-abbrev pub ShowsEntries : Type 0
-ShowsEntries =
-    (base : Records) (dropped kept : List PastChange) (store : VersionedTables) (state : DatabaseState) → Holds base dropped kept store state
-    → (reader : Reader) → reader.begin ≡ begin_of (transaction_of state reader.session.0) → (table : ℕ) (schema : Schema) → AllByRecursion (λ rule. SeesNoSum rule table kept) schema.indexes → (index : ℕ)
-    → index_entries schema (rows_of (table_with_id (seen_tables reader store) table)) index ≡ index_entries schema (rows_of (table_with_id (view state reader.session.0) table)) index
-
 abbrev pub ViewsRecords : Type 0
 ViewsRecords =
     (engine : EngineState) (state : DatabaseState) → HoldsState engine state → (session table : ℕ) (bookmark : List ℕ)
@@ -58,11 +54,6 @@ ShowsSums =
     → (reader : Reader) → reader.begin ≡ begin_of (transaction_of state reader.session.0) → (table : ℕ) (bookmark : List ℕ)
     → record_in (seen_tables reader store) table bookmark ≡ option_map (λ values. with_sums values (unseen_sums table bookmark reader store.held)) (record_in (view state reader.session.0) table bookmark)
 
-abbrev pub FindsShown : Type 0
-FindsShown =
-    (reader : Reader) (store : VersionedTables) (table : ℕ) (bookmark : List ℕ) → is_some (table_with_id store.tables table) ≡ true
-    → record_in (seen_tables reader store) table bookmark ≡ seen_record table bookmark reader (record_in store.tables table bookmark) store.held
-
 -- every record that a session sees has something under its bookmark
 abbrev pub SeesEach : (ℕ → Schema → List ℕ → RecordFields → Type 0) → Type 0
 SeesEach P =
@@ -73,28 +64,6 @@ abbrev pub SeesStored : Type 0
 SeesStored =
     (base : Records) (dropped kept : List PastChange) (state : DatabaseState) → IsHistory base dropped kept state → HasEscrowNumbers base kept state → EachRecordHas IsStored base kept state → (session id : ℕ)
     → IfSome (table_with_id state.tables id) (λ table. (bookmark : List ℕ) → IfSome (records_of (view state session) id bookmark) (IsStored state.number (schema_of table) bookmark))
-
-plain_at_id : (tables : List Table) (id : ℕ) → table_with_id (map without_rows tables) id ≡ option_map without_rows (table_with_id tables id)
-plain_at_id [] id = refl
-plain_at_id (t ∷ tables) id = by (t.id == id) (plain_at_id tables id)
-  where
-    by : (b : Bool) → table_with_id (map without_rows tables) id ≡ option_map without_rows (table_with_id tables id)
-        → cond b (Some (without_rows t)) (table_with_id (map without_rows tables) id) ≡ option_map without_rows (cond b (Some t) (table_with_id tables id))
-    by true rest = refl
-    by false rest = rest
-
-pub plain_named : (tables : List Table) (name : List ℕ) → table_named (map without_rows tables) name ≡ option_map without_rows (table_named tables name)
-plain_named [] name = refl
-plain_named (t ∷ tables) name = by (bytes_eq t.name name) (plain_named tables name)
-  where
-    by : (b : Bool) → table_named (map without_rows tables) name ≡ option_map without_rows (table_named tables name)
-        → cond b (Some (without_rows t)) (table_named (map without_rows tables) name) ≡ option_map without_rows (cond b (Some t) (table_named tables name))
-    by true rest = refl
-    by false rest = rest
-
--- the stored table is defined as the committed one
-same_definition : (stored committed : List Table) (id : ℕ) → map without_rows stored ≡ map without_rows committed → option_map without_rows (table_with_id stored id) ≡ option_map without_rows (table_with_id committed id)
-same_definition stored committed id same = sym (plain_at_id stored id) ∙ ap (λ (tables : List Table). table_with_id tables id) same ∙ plain_at_id committed id
 
 -- ---- the cursor's table
 
@@ -139,7 +108,7 @@ entries_read shows engine state session local label c h step found index =
     let seen = seen_at_id reader engine.store.held engine.store.tables id in
     let has = schema_at state session local label c step found in
     ap (entries_in index) seen
-    ∙ entries_at c reader engine.store.held (table_with_id engine.store.tables id) (table_with_id state.tables id) index (same_definition engine.store.tables state.tables id h.holds.defined) has
+    ∙ entries_at c reader engine.store.held (table_with_id engine.store.tables id) (table_with_id state.tables id) index (numbered_alike engine.store.tables state.tables h.holds.defined id) has
     ∙ ap (λ (o : Option Table). index_entries c.schema (rows_of o) index) (sym seen)
     ∙ shows h.base h.dropped h.kept engine.store state h.holds reader (begin_told engine state h session) id c.schema
     (unseen_at state.tables h.kept c (table_with_id state.tables id) refl has (unseen_now h.base h.kept state h.reached.sums id)) index
@@ -210,7 +179,7 @@ row_read laws engine state session local label c h step found bookmark row seen 
     has = schema_at state session local label c step found
 
     there : is_some (table_with_id engine.store.tables id) ≡ true
-    there = stored_there c (table_with_id engine.store.tables id) (table_with_id state.tables id) (same_definition engine.store.tables state.tables id h.holds.defined) has
+    there = stored_there c (table_with_id engine.store.tables id) (table_with_id state.tables id) (numbered_alike engine.store.tables state.tables h.holds.defined id) has
 
     as_one : (one other : RecordFields) → Some one ≡ Some other → one ≡ other
     as_one one other e = ap (λ (o : Option RecordFields). unwrap_or o one) e

@@ -6,11 +6,7 @@ use Rattle.session_local.specs.declared.decision.Decision.{Decision}
 use Rattle.session_local.specs.declared.reply.Reply.{Reply}
 use Rattle.session_local.specs.declared.request.Request.{Request}
 use Rattle.session_local.specs.declared.request.Request.TheVariants as call
-use Rattle.session_local.specs.Answer.{answered_by}
-use Rattle.session_local.specs.Calls.{answer}
-use Rattle.session_local.specs.Deciding.{decided_in, CopiedFits}
-use Rattle.session_local.specs.Finishing.{finished}
-use Rattle.session_local.specs.Outcome.{Asked}
+use Rattle.session_local.specs.Deciding.{CopiedFits}
 use Rattle.session_local.specs.Run.{flushes_step}
 use Rattle.session_local.specs.SessionSide.{SessionSide}
 use Rattle.session_local.specs.Showing.{names_within}
@@ -18,6 +14,7 @@ use Rattle.session_local.specs.WellFormed.{IsWellFormed}
 use Rattle.lawful_answers.specs.LawfulSteps.{AreLawful}
 use Rattle.agreeing_sessions.specs.InStep.{IsInStep}
 use Rattle.version_cleanup.specs.LiveSessions.{is_live}
+pub use Rattle.engine_versions.specs.Answers.{IsAnswer}
 use Rattle.engine_versions.specs.EngineState.{EngineState}
 use Rattle.engine_versions.specs.HoldsState.{HoldsState, HoldsInStep, asked_of}
 
@@ -47,13 +44,6 @@ is_navigation label _ = false
 -- a reply alone, after which all is as it was
 abbrev pub only_reply : Reply → Decision
 only_reply reply = record { step = None; reply = reply; table = None; copied = None; buffers = None; flush = false }
-
--- The decision is the answer to the call: its reply, its step, and what is left of the session's own state once it is
--- finished.
-pub record IsAnswer (asked : Asked) (request : Request) (new : SessionSide) (decision : Decision) : Type 0 where
-  pub reply : answered_by decision.reply new.reply ≡ (answer asked request).answered
-  pub step : decision.step ≡ (answer asked request).step
-  pub local : finished new.state request (decided_in decision) ≡ (answer asked request).local
 
 -- the same in every state that the engine holds, and with which the session is in step
 abbrev pub Decides : EngineState → SessionSide → Request → SessionSide → Decision → Type 0

@@ -15,3 +15,4 @@ pub mod Preparing
 pub mod Answering
 pub mod NoneOpen
 pub mod SessionTotals
+pub mod Decisions

@@ -1,3 +1,4 @@
 pub mod EngineState
 pub mod EngineSteps
 pub mod HoldsState
+pub mod Answers

@@ -46,7 +46,8 @@ use Rattle.record_decisions.specs.Preparing.{values_seen}
 use Rattle.decision_lemmas.proofs.Chains.{unless-passed, unless-refused}
 use Rattle.record_decisions.proofs.LocksAndDeletes.{at_if, change-told, changed_by, current-told, outside-told, step_of_change-told}
 use Rattle.record_decisions.proofs.PreparedCopies.{SeesRows, seen_at, values-told}
-use Rattle.decision_lemmas.proofs.Refusing.{AnswersLawfully, asked_by, answer-begun, answer-is, answer-refused, copied_none, lawful-step, refused_with}
+use Rattle.engine_versions.proofs.Decisions.{answer-begun, answer-is, answer-refused, copied_none, refused_with}
+use Rattle.decision_lemmas.proofs.Refusing.{AnswersLawfully, asked_by, lawful-step}
 
 -- ---- the answer
 

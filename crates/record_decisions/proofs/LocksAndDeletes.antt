@@ -38,7 +38,8 @@ use Rattle.engine_versions.specs.HoldsState.{HoldsState}
 use Rattle.engine_parts.specs.Deciding.{Decides}
 use Rattle.record_decisions.specs.Changing.{SeesRecords, TellsConflicts, TellsRoom, change_in, current_in, delete_in, is_outside_in, lock_in, own_in, room_in, shown_for, step_by}
 use Rattle.decision_lemmas.proofs.Chains.{unless-refused, unless-passed}
-use Rattle.decision_lemmas.proofs.Refusing.{asked_by, refused_with, stepped_with, answer-begun, answer-is, answer-refused}
+use Rattle.engine_versions.proofs.Decisions.{refused_with, stepped_with, answer-begun, answer-is, answer-refused}
+use Rattle.decision_lemmas.proofs.Refusing.{asked_by}
 use Rattle.decision_lemmas.proofs.Told.{levels-told}
 
 -- ---- a call that is decided on the shared state

@@ -45,7 +45,8 @@ use Rattle.record_decisions.specs.Preparing.{HasFormedRecords, IsCopied, IsCopie
 use Rattle.decision_lemmas.proofs.Chains.{unless-refused, unless-passed}
 use Rattle.record_decisions.proofs.LocksAndDeletes.{at_if, change-told, changed_by, current-told, outside-told, step_of_change-told}
 use Rattle.record_decisions.proofs.SeenRecords.{sums_formed}
-use Rattle.decision_lemmas.proofs.Refusing.{asked_by, answer-begun, answer-is, answer-refused, refused_with}
+use Rattle.engine_versions.proofs.Decisions.{answer-begun, answer-is, answer-refused, refused_with}
+use Rattle.decision_lemmas.proofs.Refusing.{asked_by}
 
 -- ---- a record that is copied
 

@@ -38,7 +38,8 @@ use Rattle.engine_parts.specs.Deciding.{Decides, IsDecision}
 use Rattle.record_decisions.specs.Changing.{SeesRecords, TellsRoom, is_outside_in, shown_for, step_by}
 use Rattle.record_decisions.specs.Updating.{IsMade, IsMadeOf, TellsKeys, bookmark_by, copied_by, keys_in, new_bookmark, number_of_change, put_by, update_in}
 use Rattle.decision_lemmas.proofs.Chains.{unless-refused, unless-passed}
-use Rattle.decision_lemmas.proofs.Refusing.{AnswersLawfully, asked_by, refused_with, answer-begun, answer-is, answer-refused, copied_none, lawful-step}
+use Rattle.engine_versions.proofs.Decisions.{refused_with, answer-begun, answer-is, answer-refused, copied_none}
+use Rattle.decision_lemmas.proofs.Refusing.{AnswersLawfully, asked_by, lawful-step}
 use Rattle.record_decisions.proofs.LocksAndDeletes.{at_if, changed_by, flushes-change, outside-told, room_told, step_of_change-told}
 
 pub update-shared : (side : SessionSide) (cursor : CursorId) → is_answered_locally side.state (call.Update cursor) ≡ false → (side.state.begun ≡ true) × (is_none (cursor_labelled side.state cursor.0) ≡ false)

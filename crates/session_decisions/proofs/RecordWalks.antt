@@ -15,11 +15,12 @@ use Rattle.cursor_nav.specs.Places.{Pair, are_sorted, entry_after, pair_lt}
 use Rattle.database_state.specs.Table.{Rows, Table, entries_of_rule, index_entries, record_in, row_at, rows_of, rule_with_id, schema_of, table_with_id}
 use Rattle.record_changes.proofs.Tests.{equal_bytes}
 use Rattle.stored_variants.specs.StoredVersions.{entries_in}
+use Rattle.table_versions.specs.Shown.{FindsShown}
 use Rattle.versioned_tables.proofs.Order.{not_back, not_itself}
 use Rattle.versioned_tables.proofs.SeenTables.{seen_at_id}
 use Rattle.version_store.specs.declared.calls.Reader.{Reader}
 use Rattle.versioned_tables.specs.HeldRecords.{seen_record}
-use Rattle.versioned_tables.specs.VersionedTables.{VersionedTables, seen_table, seen_tables}
+use Rattle.versioned_tables.specs.VersionedTables.{VersionedTables, seen_table}
 use Rattle.session_decisions.specs.CreatingIndexes.{rows_shown}
 
 -- ---- the order of the records
@@ -132,12 +133,6 @@ found_at (x ∷ front) row rest h =
 
     apart : row.0 ≡ x.0 → ⊥
     apart e = impossible (sym (not_itself (x.0, x.0)) ∙ ap (λ (k : List ℕ). pair_lt (x.0, x.0) (k, k)) (sym e) ∙ below)
-
--- the law that it rests on
-abbrev pub FindsShown : Type 0
-FindsShown =
-    (reader : Reader) (store : VersionedTables) (table : ℕ) (bookmark : List ℕ) → is_some (table_with_id store.tables table) ≡ true
-    → record_in (seen_tables reader store) table bookmark ≡ seen_record table bookmark reader (record_in store.tables table bookmark) store.held
 
 some_table : (reader : Reader) (store : VersionedTables) (table : ℕ) (done : Rows) (row : List ℕ × RecordFields) (rest : Rows) → rows_shown reader store table ≡ done ++ row ∷ rest → is_some (table_with_id store.tables table) ≡ true
 some_table reader store table done row rest e = by (table_with_id store.tables table) (sym (ap rows_of (seen_at_id reader store.held store.tables table)) ∙ e)

@@ -48,7 +48,8 @@ use Rattle.engine_versions.specs.EngineState.{EngineState, has_table_open}
 use Rattle.engine_versions.specs.HoldsState.{HoldsState}
 use Rattle.engine_parts.specs.Deciding.{Decides, IsDecision}
 use Rattle.session_decisions.specs.SchemaRequests.{catalog_in, decided_in, engine_table, has_rows_in, is_missing, is_used, makes_new, is_schema_request, rows_for, sessions_in}
-use Rattle.decision_lemmas.proofs.Refusing.{AnswersLawfully, asked_by, refused_with, stepped_with, one_by, answer-begun, answer-is, answer-refused, decision-stepped}
+use Rattle.engine_versions.proofs.Decisions.{refused_with, stepped_with, one_by, answer-begun, answer-is, answer-refused}
+use Rattle.decision_lemmas.proofs.Refusing.{AnswersLawfully, asked_by, decision-stepped}
 use Rattle.decision_lemmas.proofs.Told.{levels-told}
 
 -- ---- the laws that they rest on

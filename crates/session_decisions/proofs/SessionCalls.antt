@@ -16,7 +16,8 @@ use Rattle.version_cleanup.specs.LiveSessions.{levels_in}
 use Rattle.engine_versions.specs.EngineState.{EngineState}
 use Rattle.engine_versions.specs.HoldsState.{HoldsState}
 use Rattle.engine_parts.specs.Deciding.{Decides}
-use Rattle.decision_lemmas.proofs.Refusing.{asked_by, refused_with, stepped_with, one_by, answer-begun, answer-not_begun, answer-is, answer-refused}
+use Rattle.engine_versions.proofs.Decisions.{refused_with, stepped_with, one_by, answer-begun, answer-not_begun, answer-is, answer-refused}
+use Rattle.decision_lemmas.proofs.Refusing.{asked_by}
 use Rattle.decision_lemmas.proofs.Told.{levels-told, sessions-told}
 
 -- ---- BeginSession

@@ -9,7 +9,7 @@ use Rattle.cursor_nav.specs.Places.{Pair}
 use Rattle.database_state.specs.Conflicts.{has_key_conflict as has_key_conflict_in, yields_key}
 use Rattle.database_state.specs.Puts.{is_replaced, is_taken, new_keys, replaced_record}
 use Rattle.database_state.specs.State.{DatabaseState, PastChange, transaction_of}
-use Rattle.database_state.specs.Table.{Table, index_entries, record_in, row_at, rows_of, schema_of, table_with_id}
+use Rattle.database_state.specs.Table.{Table, index_entries, row_at, rows_of, schema_of, table_with_id}
 use Rattle.database_state.specs.View.{view}
 use Rattle.index_derive.specs.declared.rules.IndexRule.{IndexRule}
 use Rattle.index_derive.specs.declared.rules.Schema.{Schema}
@@ -20,33 +20,23 @@ use Rattle.version_history.specs.History.{without_rows}
 use Rattle.version_history.proofs.Viewing.{same_there}
 use Rattle.version_keys.specs.KeySums.{HasKeyBefores, SeesNoSum}
 use Rattle.version_store.specs.declared.calls.Reader.{Reader}
-use Rattle.versioned_tables.specs.HeldRecords.{has_key_conflict, seen_record}
+use Rattle.versioned_tables.specs.HeldRecords.{has_key_conflict}
 use Rattle.versioned_tables.specs.Holding.{Holds, begin_of}
 use Rattle.versioned_tables.specs.VersionedTables.{VersionedTables, seen_tables}
 use Rattle.versioned_tables.proofs.HeldSums.{keys_shown}
 use Rattle.versioned_tables.proofs.Rising.{found_without}
 use Rattle.versioned_tables.proofs.Views.{seen_defined, view_defined}
 use Rattle.table_versions.specs.KeyConflicts.{has_conflict_over, replaced_seen, unique_refusals}
+use Rattle.table_versions.specs.Shown.{FindsShown, ShowsEntries}
 use Rattle.stored_variants.specs.StoredVersions.{entries_in}
 
--- the laws that it rests on
+-- the law that it rests on
 abbrev pub TellsConflicts : Type 0
 TellsConflicts =
     (base : Records) (dropped kept : List PastChange) (store : VersionedTables) (state : DatabaseState) → Holds base dropped kept store state
     → (reader : Reader) → reader.begin ≡ begin_of (transaction_of state reader.session.0) → (table : ℕ) (schema : Schema) (rule : IndexRule)
     → SeesNoSum rule table kept → HasKeyBefores rule schema table base kept → (key : List ℕ)
     → has_key_conflict reader (records_of store.tables) table rule schema key store.held ≡ has_key_conflict_in state reader.session.0 table schema rule key
-
-abbrev pub ShowsEntries : Type 0
-ShowsEntries =
-    (base : Records) (dropped kept : List PastChange) (store : VersionedTables) (state : DatabaseState) → Holds base dropped kept store state
-    → (reader : Reader) → reader.begin ≡ begin_of (transaction_of state reader.session.0) → (table : ℕ) (schema : Schema) → AllByRecursion (λ rule. SeesNoSum rule table kept) schema.indexes → (index : ℕ)
-    → index_entries schema (rows_of (table_with_id (seen_tables reader store) table)) index ≡ index_entries schema (rows_of (table_with_id (view state reader.session.0) table)) index
-
-abbrev pub FindsShown : Type 0
-FindsShown =
-    (reader : Reader) (store : VersionedTables) (table : ℕ) (bookmark : List ℕ) → is_some (table_with_id store.tables table) ≡ true
-    → record_in (seen_tables reader store) table bookmark ≡ seen_record table bookmark reader (record_in store.tables table bookmark) store.held
 
 -- ---- the table that is shown
 

@@ -35,10 +35,11 @@ use Rattle.stored_variants.specs.StoredVersions.{StoredVersions, entries_in, see
 use Rattle.stored_variants.specs.VersionsView.{with_newest, stored_versions, with_newest_by}
 use Rattle.stored_variants.specs.VersionsKept.{AreKept, AreKeptWith, IsKeptChange, IsKeptTable, IsRowUnder, only_secondary}
 use Rattle.stored_variants.proofs.NodeRecords.{record_at}
-use Rattle.table_versions.proofs.OwnOrder.{order_is, seen_is_variant, seen_rise}
+use Rattle.table_versions.proofs.OwnOrder.{order_is, seen_is_variant}
 use Rattle.stored_variants.proofs.RisingRows.{rows_rise}
 use Rattle.table_versions.proofs.SeenRecords.{hidden_of, hidden_stands, record_seen, seen_is}
 use Rattle.versioned_tables.proofs.SeenTables.{seen_at_id}
+use Rattle.versioned_tables.proofs.Rising.{seen_rise}
 use Rattle.stored_variants.proofs.Tables.{found_number, table_at}
 use Rattle.long_value.specs.Values.{Values}
 

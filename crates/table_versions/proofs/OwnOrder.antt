@@ -1,10 +1,10 @@
 -- The order of the bookmarks of the records that a reader sees, by the nodes.
-use Rattle.std.proofs.Common.{◌≡◌, ℕ, Bool, true, false, not, ◌&&◌, ◌||◌, cond, List, [], ◌∷◌, Option, Some, None, filter, find, option_map, refl, sym, ap, ◌∙◌}
+use Rattle.std.proofs.Common.{◌≡◌, ℕ, Bool, true, false, ◌&&◌, ◌||◌, cond, List, [], ◌∷◌, Option, Some, filter, find, option_map, refl, sym, ap, ◌∙◌}
 use Rattle.std.specs.Prelude.{T, bytes_eq, is_some}
 use Rattle.std.specs.List.{list_all}
 use Rattle.std.specs.Ordering.{eq_by_cmp, nat_cmp, is_lt}
-use Rattle.std.specs.Cmp.Lexicographic.{slice_cmp, nat_list_cmp_total, texts_ties}
-use Rattle.std.specs.FinMap.Entries.{below_all, is_sorted-put, is_sorted-where_key}
+use Rattle.std.specs.Cmp.Lexicographic.{slice_cmp, texts_ties}
+use Rattle.std.specs.FinMap.Entries.{below_all}
 use Rattle.std.proofs.lemmas.Bool.{and_from, or_left, or_right}
 use Rattle.common_lemmas.proofs.Booleans.{T_first, T_second, and_left, and_right, is_true}
 use Rattle.common_lemmas.proofs.Numbers.{bytes_turned, same_bytes}
@@ -19,9 +19,10 @@ use Rattle.table_trees.specs.StoredNodes.{bookmark_entries}
 use Rattle.version_store.specs.declared.calls.Reader.{Reader}
 use Rattle.version_store.specs.HeldChanges.{is_rewrite}
 use Rattle.versioned_tables.specs.HeldRecords.{HeldRecord, before_or, hides, is_change_at, is_standing_rewrite, seen_record}
-use Rattle.versioned_tables.specs.VersionedTables.{hides_in, rows_with, seen_rows}
+use Rattle.versioned_tables.specs.VersionedTables.{seen_rows}
 use Rattle.versioned_tables.specs.Variants.{has_variant}
 use Rattle.versioned_tables.specs.Holding.{RowsRise}
+use Rattle.versioned_tables.proofs.Rising.{seen_rise}
 use Rattle.stored_variants.specs.RecordRows.{rows_of_nodes}
 use Rattle.table_versions.proofs.SeenRecords.{unseen_stands}
 use Rattle.stored_variants.proofs.RisingRows.{rows_rise}
@@ -37,19 +38,6 @@ below_all_is key (row ∷ rows) h =
 pub order_is : (rows : Rows) → RowsRise rows → are_sorted (own_order rows) ≡ true
 order_is [] h = refl
 order_is (row ∷ rows) h = and_from _ _ (below_all_is row.0 rows (T_first _ _ h)) (order_is rows (T_second (below_all (slice_cmp nat_cmp) row.0 rows) _ h))
-
--- what is taken back leaves the order
-with_rises : (rows : Rows) (bookmark : List ℕ) (values : Option RecordFields) → RowsRise rows → RowsRise (rows_with rows bookmark values)
-with_rises rows bookmark None h = is_sorted-where_key (slice_cmp nat_cmp) (λ key. not (bytes_eq key bookmark)) rows h
-with_rises rows bookmark (Some values) h = is_sorted-put (slice_cmp nat_cmp) nat_list_cmp_total bookmark values rows h
-
-pub seen_rise : (table : ℕ) (reader : Reader) (held : List HeldRecord) (rows : Rows) → RowsRise rows → RowsRise (seen_rows table reader held rows)
-seen_rise table reader [] rows h = h
-seen_rise table reader (change ∷ held) rows h = by (hides_in table reader change) (seen_rise table reader held rows h)
-  where
-    by : (b : Bool) → RowsRise (seen_rows table reader held rows) → RowsRise (cond b (rows_with (seen_rows table reader held rows) change.bookmark change.before) (seen_rows table reader held rows))
-    by true later = with_rises (seen_rows table reader held rows) change.bookmark change.before later
-    by false later = later
 
 -- ---- a record that is seen has a node
 

@@ -18,7 +18,7 @@ use Rattle.versioned_tables.specs.VersionedTables.{VersionedTables, seen_rows, s
 use Rattle.versioned_tables.proofs.SeenTables.{seen_at_id}
 use Rattle.table_versions.specs.KeyConflicts.{is_taken_for}
 use Rattle.stored_variants.specs.StoredVersions.{entries_in}
-use Rattle.table_versions.proofs.AskedOfTheState.{FindsShown}
+use Rattle.table_versions.specs.Shown.{FindsShown}
 
 taken_rows : (own : Option (List ℕ)) (key : List ℕ) (rows : Rows) → list_any (λ (entry : Pair). bytes_eq entry.0 key && not (is_replaced own entry.1)) (own_order rows) ≡ (is_some (row_at rows key) && not (is_replaced own key))
 taken_rows own key [] = refl

@@ -1,3 +1,4 @@
 pub mod Walks
 pub mod KeyConflicts
 pub mod SeenRows
+pub mod Shown

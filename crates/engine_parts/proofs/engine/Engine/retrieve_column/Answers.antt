@@ -12,7 +12,7 @@ use Rattle.session_local.specs.Local.{OpenCursor}
 use Rattle.engine_versions.specs.EngineState.{EngineState}
 use Rattle.session_local.specs.declared.request.Request.TheVariants as call
 use Rattle.engine_parts.specs.Deciding.{Decides, only_reply}
-use Rattle.engine_parts.proofs.Refusing.{refused_with}
+use Rattle.engine_versions.proofs.Decisions.{refused_with}
 use Rattle.engine_parts.specs.Reading.{IsRowAt, fields_at, shown_for}
 use Rattle.engine_parts.specs.Retrieving.{IsRecordAt}
 use Rattle.engine_parts.proofs.Retrieved.{retrieve-shared, retrieve-refused, retrieve-no_column, retrieve-shown, readable_at, row_read_at, column_at}

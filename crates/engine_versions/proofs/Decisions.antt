@@ -1,4 +1,4 @@
--- What decides a call: a refusal leaves all as it was, and a step is decided by its outcome.
+-- How a decision answers a call: refusals, steps, and the answer by whether the session was begun.
 use Rattle.std.proofs.Common.{◌≡◌, ℕ, Bool, true, false, List, Option, Some, None, refl, sym, ap, ◌∙◌}
 use Rattle.jet_base.specs.declared.replies.Jet.{Jet}
 use Rattle.jet_base.specs.declared.replies.Jet.TheVariants as jet
@@ -18,8 +18,7 @@ use Rattle.session_local.specs.Preparing.{FitsCursor}
 use Rattle.session_local.specs.Calls.{answer, answer_begun, answer_not_begun}
 use Rattle.session_local.specs.Finishing.{finished}
 use Rattle.session_local.specs.Deciding.{decided_in, CopiedFits}
-use Rattle.engine_versions.specs.EngineState.{EngineState}
-use Rattle.engine_parts.specs.Deciding.{IsAnswer, IsDecision}
+use Rattle.engine_versions.specs.Answers.{IsAnswer}
 
 -- ---- decisions
 
@@ -78,14 +77,3 @@ fits_none (Some c) = tt
 pub copied_none : (local : LocalState) (request : Request) → CopiedFits local request None
 copied_none local (call.PrepareUpdate cursor how) = fits_none (cursor_labelled local cursor.0)
 copied_none local _ = tt
-
-pub decision-refused : (engine : EngineState) (side : SessionSide) (request : Request) (reply : Jet) → IsDecision engine side request side (refused_with reply)
-decision-refused engine side request reply = record {
-  session = refl;
-  still = λ _. refl;
-  room = refl;
-  named = refl;
-  fits = copied_none side.state request;
-  flush = refl;
-  lawful = λ state held step. tt;
-}
