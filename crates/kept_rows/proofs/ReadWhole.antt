@@ -1,6 +1,6 @@
 -- The values of a row that is read with its long values.
 use Rattle.std.proofs.Common.{◌≡◌, ℕ, zero, suc, ◌<◌, ◌≤◌, ◌^◌, min, Bool, true, cond, ◌&&◌, if◌then◌else◌, Option, Some, None, List, [], ◌∷◌, length, map, take, inl, inr, refl, sym, ap, subst, ◌∙◌, arith, true≢false}
-use Rattle.std.specs.Prelude.{IsSome, IsSomeAnd, nat_lt, slice_get, slice_index_or, unwrap_or}
+use Rattle.std.specs.Prelude.{IfSome, IsSome, IsSomeAnd, MatchOption, nat_lt, slice_get, slice_index_or, unwrap_or}
 use Rattle.std.specs.List.{list_all}
 use Rattle.std.specs.Ordering.{eq_by_cmp, nat_cmp}
 use Rattle.std.specs.FinMap.Entries.{is_sorted}
@@ -123,6 +123,10 @@ pub first_front : (size : ℕ) (o : Option LongValue) (bytes x : List ℕ) → h
 first_front size None bytes x e is read = absurd (true≢false (sym e))
 first_front size (Some value) bytes x e is read = subst (IsFront bytes) (sym is) (front bytes value.bytes read)
 
+pub first_bytes : (size : ℕ) (o : Option LongValue) (bytes x : List ℕ) → has_length size o ≡ true → x ≡ bytes_of_value o → IsSomeAnd o (λ value. bytes ≡ take 1024 value.bytes) → bytes ≡ take 1024 x
+first_bytes size None bytes x e is read = absurd (true≢false (sym e))
+first_bytes size (Some value) bytes x e is read = read ∙ ap (take 1024) (sym is)
+
 -- ---- the record that is seen
 
 pub count_seen : (values : Values) (row : RowFields) (seen : RecordFields) (column count : ℕ) → seen ≡ record_in values row → count ≡ length (values_of (here_fields row) column) → count ≡ length (values_of seen column)
@@ -178,6 +182,11 @@ whole_front bytes x short (inr both) =
     let same : length bytes ≡ min (length bytes) (length x) = ap length both.1 ∙ length-take (length bytes) x in
     absurd (omega (arith, long, same, short))
 
+short_here : (row : RowFields) (column at : ℕ) → is_row row ≡ true → None ≡ apart_at row column at → length (slice_index_or (values_of (here_fields row) column) at []) ≤ 255
+short_here row column at formed none =
+    let fits = fits_column row column (and_right (is_sorted nat_cmp row) (list_all field_fits_row row) (and_left (is_well_formed row) (nat_lt (length (values_in_order row)) (2 ^ 16)) formed)) in
+    subst (λ (l : List (List ℕ)). length (slice_index_or l at []) ≤ 255) (sym (look_map bytes_here column row)) (short_place (row_values_of row column) at fits (sym none))
+
 -- the value under the sequence is this one
 abbrev pub IsValueAt : List (List ℕ) → ℕ → List ℕ → Type 0
 IsValueAt all at bytes = (at < length all) × (bytes ≡ slice_index_or all at [])
@@ -185,6 +194,17 @@ IsValueAt all at bytes = (at < length all) × (bytes ≡ slice_index_or all at [
 pub here_seen : (values : Values) (row : RowFields) (seen : RecordFields) (column at : ℕ) (bytes : List ℕ) → seen ≡ record_in values row → is_row row ≡ true → None ≡ apart_at row column at
     → (at < length (values_of (here_fields row) column)) × IsFront bytes (slice_index_or (values_of (here_fields row) column) at []) → IsValueAt (values_of seen column) at bytes
 here_seen values row seen column at bytes is formed none found =
-    let fits = fits_column row column (and_right (is_sorted nat_cmp row) (list_all field_fits_row row) (and_left (is_well_formed row) (nat_lt (length (values_in_order row)) (2 ^ 16)) formed)) in
-    let short : length (slice_index_or (values_of (here_fields row) column) at []) ≤ 255 = subst (λ (l : List (List ℕ)). length (slice_index_or l at []) ≤ 255) (sym (look_map bytes_here column row)) (short_place (row_values_of row column) at fits (sym none)) in
+    let short = short_here row column at formed none in
     as_seen (λ (n : ℕ) (x : List ℕ). (at < n) × (bytes ≡ x)) values row seen column at is none (found.0, whole_front bytes (slice_index_or (values_of (here_fields row) column) at []) short found.1)
+
+-- so it is its own first bytes
+pub here_front : (values : Values) (row : RowFields) (seen : RecordFields) (column at : ℕ) (bytes : List ℕ) → seen ≡ record_in values row → is_row row ≡ true → None ≡ apart_at row column at
+    → (at < length (values_of (here_fields row) column)) × IsFront bytes (slice_index_or (values_of (here_fields row) column) at []) → bytes ≡ take 1024 (slice_index_or (values_of seen column) at [])
+here_front values row seen column at bytes is formed none found =
+    let short = short_here row column at formed none in
+    let long : length bytes ≡ length (slice_index_or (values_of (here_fields row) column) at []) = ap length (whole_front bytes (slice_index_or (values_of (here_fields row) column) at []) short found.1) in
+    sym (take_all 1024 bytes (omega (arith, short, long))) ∙ ap (take 1024) (here_seen values row seen column at bytes is formed none found).1
+
+pub front_of_some : {X : Type 0} (A : Type 0) (P Q : X → Type 0) → ((x : X) → P x → Q x) → (o : Option X) → MatchOption o A P → IfSome o Q
+front_of_some A P Q f None m = tt
+front_of_some A P Q f (Some x) m = f x m

@@ -1,6 +1,7 @@
 //! Rows that are read with their long values.
 
-ghost use Rattle.std.specs.Prelude.{◌≡◌, ◌<◌, ◌≤◌, [], length, min, slice_index_or, IsTrue, MatchOption};
+ghost use Rattle.std.specs.Prelude.{◌≡◌, ◌<◌, ◌≤◌, [], length, min, slice_index_or, take, IfSome, IsTrue, MatchOption};
+ghost use Rattle.column_set.specs.Reading.{IsFront};
 ghost use Rattle.column_set.specs.RecordValues.{values_of};
 ghost use Rattle.column_set.specs.Rows.{IsRowBytes};
 ghost use Rattle.column_set.specs.RowReading.{row_in};
@@ -91,7 +92,11 @@ impl<'a> Values for ShownRow<'a> {
         self.row.count(column)
     }
 
-    fn value(&self, column: ColumnId, at: usize) -> Option<&[u8]> {
+    fn value(&self, column: ColumnId, at: usize) -> Option<&[u8]>
+        ensures found { MatchOption result (length (values_of self.now column.0) ≤ at) (λ bytes. (at < length (values_of self.now column.0)) × IsFront bytes.now (slice_index_or (values_of self.now column.0) at [])) }
+        // Of a long value just the first 1,024 bytes, and any other value whole.
+        ensures front { IfSome result (λ bytes. bytes.now ≡ take 1024 (slice_index_or (values_of self.now column.0) at [])) }
+    {
         match self.row.apart(column, at) {
             Some((entry, place, _)) => {
                 Some(self.trees.first_part(self.table, LongId { entry, place }))
