@@ -28,7 +28,7 @@ use Rattle.engine_versions.specs.EngineState.{EngineState}
 use Rattle.engine_versions.specs.HoldsState.{HoldsState, asked_of}
 use Rattle.engine_parts.specs.Deciding.{Decides}
 use Rattle.engine_parts.specs.Reading.{CurrentEntry, entry_at, record_for, records_for, shown_for}
-use Rattle.engine_versions.proofs.Decisions.{answer-is}
+use Rattle.engine_versions.proofs.Decisions.{answer-begun, answer-is}
 
 -- ---- a call that is decided on the shared state
 

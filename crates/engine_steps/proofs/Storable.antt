@@ -31,6 +31,7 @@ use Rattle.version_records.proofs.EntryNumbers.{entry_number-own}
 use Rattle.version_records.proofs.EscrowRecords.{numbers_seen, put_numbers}
 use Rattle.common_lemmas.proofs.Found.{found_passes}
 use Rattle.common_lemmas.proofs.Booleans.{and_left, and_right, impossible}
+use Rattle.common_lemmas.proofs.Numbers.{same_bytes}
 use Rattle.version_records.proofs.Standing.{bookmarks_seen}
 use Rattle.engine_versions.specs.EngineState.{EngineState}
 use Rattle.engine_versions.specs.HoldsState.{HoldsState}
