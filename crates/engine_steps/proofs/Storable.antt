@@ -4,7 +4,7 @@ use Rattle.std.specs.Prelude.{◌==◌, ◌^◌, nat_le, nat_lt, bytes_eq, is_so
 use Rattle.std.specs.Ordering.{nat_cmp}
 use Rattle.std.specs.FinMap.Entries.{is_sorted}
 use Rattle.std.specs.List.{list_all}
-use Rattle.std.proofs.lemmas.Bool.{leb-true}
+use Rattle.std.proofs.lemmas.Bool.{eqb-true, leb-true, not-true}
 use Rattle.jet_base.specs.ColumnType.{big_endian}
 use Rattle.column_set.specs.declared.changes.Change.{Change}
 use Rattle.column_set.specs.declared.changes.Change.TheVariants.{Put, Drop, Hold, Add}
