@@ -288,7 +288,7 @@ fn value_read(
     };
     let mut bytes = vec![in alloc; 0; size]?;
     row.read(column, at, bytes.as_mut_slice());
-    Octets::new(bytes)
+    Ok(Octets::new(bytes)?)
 }
 
 // The decision that the update is prepared.
