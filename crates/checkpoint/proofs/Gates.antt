@@ -1,10 +1,11 @@
 -- What a crash leaves of a file whose gate is being written.
 use Rattle.std.proofs.Common.{◌≡◌, ◌⊎◌, inl, inr, ⊎_elim, ℕ, ◌≤◌, min, List, [], ◌∷◌, length, get_or, take, false, eqb, leb, refl, sym, ◌∙◌, ap, subst, arith}
 use Rattle.std.proofs.lemmas.Bool.{and_left, and_right, cases_eq, lt-leb, ne_eqb}
-use Rattle.std.proofs.lemmas.List.{take_min, get_or-take}
+use Rattle.std.proofs.lemmas.List.{get_or-take}
 use Rattle.jet_volume.specs.declared.files.File.{File}
 use Rattle.jet_volume.specs.Image.{Image, file_bytes}
 use Rattle.jet_volume.specs.Crash.{Torn, TornFile, CrashLeaves, CrashFollows, Elapses}
+use Rattle.jet_volume.specs.TornLaws.{unwritten_torn}
 use Rattle.checkpoint.specs.Opening.{has_open_gate}
 use Rattle.checkpoint.specs.Steps.{EachFollows, ClosesGate}
 use Rattle.checkpoint.proofs.Follows.{follows_none, follows_call, follows_quiet, follows_more}
@@ -32,11 +33,8 @@ gate_read n into bytes one read is =
     let first : take 1 into ≡ take 1 bytes = subst (λ k. take k into ≡ take k bytes) one read in
     sym (get_or-take 1 bytes 0 0 (omega arith)) ∙ ap (λ (l : List ℕ). get_or l 0 0) (sym first) ∙ get_or-take 1 into 0 0 (omega arith) ∙ is
 
-torn_none : (at n : ℕ) (bytes : List ℕ) → Torn at n bytes bytes
-torn_none at n bytes = record { before = take_min at bytes; after = refl; no_shorter = omega arith; no_longer = omega arith }
-
 pub file_torn_none : (file : File) (at n : ℕ) (image : Image) → TornFile file at n image image
-file_torn_none file at n image = record { torn = torn_none at n (file_bytes file image); others = refl }
+file_torn_none file at n image = record { torn = unwritten_torn at n (file_bytes file image); others = refl }
 
 pub closes_none : (file : File) (image : Image) → ClosesGate file image image
 closes_none file image = record { others = refl; gate = inl refl }

@@ -1,10 +1,11 @@
 -- Slots of a database file: a write into one of them spares the others.
-use Rattle.std.proofs.Common.{◌≡◌, ◌≢◌, ◌⊎◌, inl, inr, ⊎_elim, ℕ, ◌+◌, ◌-◌, ◌<◌, ◌≤◌, min, List, ◌++◌, Option, Some, None, length, get_or, take, drop, refl, sym, ◌∙◌, ap, subst, arith, rules, length-take, length-append, append_assoc, replicate}
+use Rattle.std.proofs.Common.{◌≡◌, ◌≢◌, ◌⊎◌, inl, inr, ⊎_elim, ℕ, ◌+◌, ◌-◌, ◌<◌, ◌≤◌, min, List, ◌++◌, Option, Some, None, length, get_or, take, drop, refl, sym, ◌∙◌, ap, subst, arith, append_assoc, replicate}
 use Rattle.std.proofs.lemmas.Bool.{cases_lt, cases_eq}
-use Rattle.std.proofs.lemmas.List.{take-take, drop-drop, drop-take, take_at, drop_at, places, length-replicate}
+use Rattle.std.proofs.lemmas.List.{take-take, drop-drop, drop-take, take_at, drop_at}
 use Rattle.jet_volume.specs.declared.files.File.TheVariants.{Database}
 use Rattle.jet_volume.specs.Image.{Image}
 use Rattle.jet_volume.specs.Crash.{Torn, TornFile, written, padded}
+use Rattle.jet_volume.specs.TornLaws.{length-padded}
 use Rattle.page_image.specs.Page.{PageContents, IsPage}
 use Rattle.checkpoint.specs.Opening.{slot_start, SlotSays, HoldsPage}
 use Rattle.checkpoint.specs.Steps.{SparesAllBut, SparesSlots, HasSameBytes, other_slot}
@@ -95,9 +96,6 @@ says_beside q t a b p s (Some page) spares other says = record {
   own_number = says.own_number;
 }
 
-length-padded : (at : ℕ) (bytes : List ℕ) → length (padded at bytes) ≡ at
-length-padded at bytes = omega (arith, length-append (take at bytes) (replicate (at - length bytes) 0), length-take at bytes, length-replicate {A = ℕ} (at - length bytes) 0)
-
 -- bytes that were written stand where they were written
 pub slot_of-written : (at : ℕ) (piece bytes : List ℕ) → length piece ≡ 4096 → take 4096 (drop at (written at piece bytes)) ≡ piece
 slot_of-written at piece bytes long =
@@ -105,9 +103,6 @@ slot_of-written at piece bytes long =
     ap (λ (l : List ℕ). take 4096 (drop at l)) (append_assoc (padded at bytes) piece rest)
     ∙ ap (λ (l : List ℕ). take 4096 l) (drop_at (padded at bytes) (piece ++ rest) at (length-padded at bytes))
     ∙ take_at piece rest 4096 long
-
-pub length-written : (at : ℕ) (piece bytes : List ℕ) → at + length piece ≤ length (written at piece bytes)
-length-written at piece bytes = search (rules, places)
 
 -- two writes into one slot
 pub spares_then : (q t : ℕ) (a b c : Image) → SparesAllBut q t a b → SparesAllBut q t b c → SparesAllBut q t a c

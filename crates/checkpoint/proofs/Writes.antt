@@ -7,7 +7,8 @@ use Rattle.page_image.specs.Page.{PageContents, IsPage, page_bytes}
 use Rattle.checkpoint.specs.Opening.{slot_start, HoldsPage}
 use Rattle.checkpoint.specs.Steps.{EachFollows, SparesAllBut, SparesSlots, other_slot}
 use Rattle.checkpoint.proofs.Follows.{follows_none, follows_call, follows_more}
-use Rattle.checkpoint.proofs.Regions.{torn_spares, spares_all, spares_slots, spares_more, slot_of-written, length-written, spares_then}
+use Rattle.jet_volume.specs.TornLaws.{length-written}
+use Rattle.checkpoint.proofs.Regions.{torn_spares, spares_all, spares_slots, spares_more, slot_of-written, spares_then}
 
 -- a write of a page spares all slots but one
 pub page_torn : (number slot wanted at n : ℕ) (a b : Image) → slot < 2 → slot ≡ wanted → at ≡ slot_start number slot → n ≡ 4096 → TornFile Database at n a b → SparesAllBut number wanted a b

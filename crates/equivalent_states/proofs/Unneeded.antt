@@ -1,5 +1,5 @@
 -- The changes that are not needed.
-use Rattle.std.proofs.Common.{◌≡◌, ℕ, ◌<◌, Bool, true, false, ◌||◌, cond, List, [], ◌∷◌, ◌++◌, Option, Some, None, refl, sym, ap, subst, ◌∙◌, arith}
+use Rattle.std.proofs.Common.{◌≡◌, ℕ, ◌<◌, Bool, true, false, ◌||◌, cond, List, [], ◌∷◌, Option, Some, None, refl, sym, ap, subst, ◌∙◌, arith}
 use Rattle.std.specs.Prelude.{map, IfSome}
 use Rattle.std.specs.List.{AllByRecursion, list_any}
 use Rattle.std.proofs.lemmas.Bool.Decides.{nat_tests}
@@ -11,6 +11,7 @@ use Rattle.database_state.specs.Equivalence.{AreEquivalent, essential_change}
 use Rattle.record_changes.specs.Records.{Records}
 use Rattle.version_history.specs.History.{EachTwo, IsHistory, IsPassed, IsPassedBy, LabelsRise}
 use Rattle.version_history.proofs.Labels.{are_labelled}
+use Rattle.version_history.proofs.Span.{skipped}
 
 pub passed_unneeded : (number : ℕ) (transactions : ℕ → Option Transaction) (sessions : List LiveSession) → AllByRecursion (λ s. transactions s.label ≡ s.transaction) sessions
     → (item : PastChange) → IsPassed number transactions item → is_needed sessions item ≡ false
@@ -31,10 +32,6 @@ passed_unneeded number transactions sessions labels item h = by item.status h
     by uncommitted h = absurd h
     by (committed at) h = none sessions labels at h.1
     by undone h = refl
-
-skipped : (sessions : List LiveSession) (dropped kept : List PastChange) → AllByRecursion (λ item. is_needed sessions item ≡ false) dropped → from_oldest_needed sessions (dropped ++ kept) ≡ from_oldest_needed sessions kept
-skipped sessions [] kept h = refl
-skipped sessions (item ∷ dropped) kept h = ap (λ b. cond b (item ∷ dropped ++ kept) (from_oldest_needed sessions (dropped ++ kept))) h.0 ∙ skipped sessions dropped kept h.1
 
 pub needed_kept : (base : Records) (dropped kept : List PastChange) (state : DatabaseState) → IsHistory base dropped kept state → EachTwo LabelsRise state.sessions
     → from_oldest_needed state.sessions state.past ≡ from_oldest_needed state.sessions kept

@@ -12,7 +12,8 @@ use Rattle.jet_volume.specs.Crash.{Torn, TornFile, written, IsSettled, CrashLeav
 use Rattle.jet_volume.specs.Record.{undone, Reaches, MayHold, changes_of, settled_bytes, MayLeave, before_call, LeftAt}
 use Rattle.jet_volume.specs.RecordLaws.{left_now}
 use Rattle.jet_volume.specs.Memory.{mem_seen, mem_calls, mem_moment, mem_left_at}
-use Rattle.jet_volume.proofs.Bytes.{undoes, unwritten_torn, written_torn}
+use Rattle.jet_volume.specs.TornLaws.{unwritten_torn, written_torn}
+use Rattle.jet_volume.proofs.Bytes.{undoes}
 use Rattle.jet_volume.proofs.FileLemmas.{same_or_other, is_file_itself, file_bytes-with_file, file_bytes-with_other, with_file-with_file, with_file-file_bytes, same_image}
 
 -- no moment is later than the last call

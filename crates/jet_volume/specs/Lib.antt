@@ -1,5 +1,6 @@
 pub mod Image
 pub mod Crash
+pub mod TornLaws
 pub mod Moments
 pub mod Record
 pub mod RecordLaws

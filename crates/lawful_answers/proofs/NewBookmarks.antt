@@ -25,6 +25,7 @@ use Rattle.version_history.proofs.EndEntries.{no_conflict}
 use Rattle.version_history.proofs.Lists.{all_both}
 use Rattle.version_keys.proofs.BookmarkKeys.{HasOneEntry}
 use Rattle.version_keys.proofs.EscrowSums.{unseen_now}
+use Rattle.version_keys.proofs.FreeKeys.{unfiltered}
 use Rattle.version_records.specs.Bookmarks.{StandsUnder, TouchesRecord, is_bookmark, is_entry_number}
 use Rattle.version_records.specs.EachRecord.{HasBoth}
 use Rattle.version_records.proofs.EachRecord.{AtChange}
@@ -43,13 +44,6 @@ use Rattle.lawful_answers.specs.LawfulSteps.{IsReached}
 use Rattle.lawful_answers.proofs.ChangeSteps.{IsAtTable}
 use Rattle.lawful_answers.proofs.Locks.{none_meets}
 use Rattle.lawful_answers.proofs.PutSteps.{IsFreeIn}
-
-unfiltered : {X : Type 0} (P : X → Type 0) (p : X → Bool) (xs : List X) → AllByRecursion P (filter p xs) → AllByRecursion (λ x. p x ≡ true → P x) xs
-unfiltered P p [] h = tt
-unfiltered P p (x ∷ xs) h = elim (p x) as (λ b. AllByRecursion P (cond b (x ∷ filter p xs) (filter p xs)) → (b ≡ true → P x) × AllByRecursion (λ x. p x ≡ true → P x) xs) [
-  | true ↦ λ g. ((λ f. g.0), unfiltered P p xs g.1)
-  | false ↦ λ g. ((λ f. impossible f), unfiltered P p xs g)
-] h
 
 not_any : (p : List ℕ → Bool) (key : List ℕ) (keys : List (List ℕ)) → list_any (bytes_eq key) keys ≡ true → list_any p keys ≡ false → p key ≡ false
 not_any p key [] h k = impossible h

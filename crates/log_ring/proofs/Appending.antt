@@ -9,7 +9,8 @@ use Rattle.log_ring.specs.Blocks.{slot_start, address, behind_gate, behind, next
 use Rattle.log_ring.specs.Gates.{is_barred, barred, needs_zero, closed, IsClosed, BarringLeaves, ClosingLeaves, ReadyingLeaves, sealed, begun, staged, appended, place_for}
 use Rattle.log_ring.specs.Ready.{IsReady}
 use Rattle.log_ring.specs.Appends.{BeginningLeaves, AppendingLeaves}
-use Rattle.log_ring.proofs.Windows.{written_torn, piece-written, length-written}
+use Rattle.jet_volume.specs.TornLaws.{length-written, written_torn}
+use Rattle.log_ring.proofs.Windows.{piece-written}
 use Rattle.log_ring.proofs.GateLemmas.{barred_already, barred_anew, closed_already, closed_anew}
 use Rattle.log_ring.proofs.Slots.{next_slot, other_slot, slots_apart}
 use Rattle.log_ring.proofs.Barring.{apart, closed_stays, needy, not_needy, written_closed, shut_barred, barred_stays}

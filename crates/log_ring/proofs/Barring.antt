@@ -8,7 +8,8 @@ use Rattle.jet_volume.specs.Crash.{Torn, written}
 use Rattle.jet_volume.specs.declared.files.LogStart.{LogStart}
 use Rattle.log_ring.specs.Blocks.{slot_start, address, slot_rest, is_of, block_at, open_payload}
 use Rattle.log_ring.specs.Gates.{is_number, bars, is_barred, needs_zero, IsClosed}
-use Rattle.log_ring.proofs.Windows.{part_before, rest_behind, take-drop-take, piece-written, length-written}
+use Rattle.jet_volume.specs.TornLaws.{length-written}
+use Rattle.log_ring.proofs.Windows.{part_before, rest_behind, take-drop-take, piece-written}
 use Rattle.log_ring.proofs.Opened.{opened, closed_gate}
 use Rattle.log_ring.proofs.Paths.{open_in_file}
 use Rattle.log_ring.proofs.Slots.{rest_after, rest_before, slots_apart}

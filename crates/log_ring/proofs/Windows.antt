@@ -1,27 +1,7 @@
 -- What a torn write leaves of the bytes before it and behind it.
-use Rattle.std.proofs.Common.{◌≡◌, ℕ, ◌+◌, ◌-◌, ◌≤◌, min, max, List, ◌++◌, length, take, drop, replicate, refl, sym, ◌∙◌, ap, arith, rules, length-append, length-take, length-drop}
-use Rattle.std.proofs.lemmas.List.{length-replicate, same_lists, places, take_min, drop-drop}
-use Rattle.jet_volume.specs.Crash.{Torn, padded, written}
-
-pub length-padded : (at : ℕ) (bytes : List ℕ) → length (padded at bytes) ≡ at
-length-padded at bytes = omega (arith, length-append (take at bytes) (replicate (at - length bytes) 0), length-take at bytes, length-replicate {A = ℕ} (at - length bytes) 0)
-
-pub length-written : (at : ℕ) (piece bytes : List ℕ) → length (written at piece bytes) ≡ max (length bytes) (at + length piece)
-length-written at piece bytes =
-    omega (arith, length-append (padded at bytes ++ piece) (drop (at + length piece) bytes), length-append (padded at bytes) piece, length-padded at bytes, length-drop (at + length piece) bytes)
-
--- a whole write is one that may have come in part
-pub written_torn : (at : ℕ) (piece bytes : List ℕ) → Torn at (length piece) bytes (written at piece bytes)
-written_torn at piece bytes = record {
-  before = same_lists _ _ (search (rules, places)) (λ k d h. grind (arith, places));
-  after = same_lists _ _ (search (rules, places)) (λ k d h. grind (arith, places));
-  no_shorter = omega (arith, length-written at piece bytes);
-  no_longer = omega (arith, length-written at piece bytes);
-}
-
--- so is one that has not come
-pub unwritten_torn : (at n : ℕ) (bytes : List ℕ) → Torn at n bytes bytes
-unwritten_torn at n bytes = record { before = take_min at bytes; after = refl; no_shorter = omega arith; no_longer = omega arith }
+use Rattle.std.proofs.Common.{◌≡◌, ℕ, ◌+◌, ◌-◌, ◌≤◌, min, List, length, take, drop, replicate, sym, ◌∙◌, ap, arith, rules}
+use Rattle.std.proofs.lemmas.List.{same_lists, places, take_min, drop-drop}
+use Rattle.jet_volume.specs.Crash.{Torn, written}
 
 -- the piece stands where it was written
 pub piece-written : (at : ℕ) (piece bytes : List ℕ) → take (length piece) (drop at (written at piece bytes)) ≡ piece

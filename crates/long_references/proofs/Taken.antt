@@ -24,10 +24,10 @@ pub record ValueLaws : Type 0 where
   pub less : (values : Values) (id : List ℕ) (value : LongValue) → value_of id values ≡ Some value → value_of id (without_reference id values) ≡ (if value.count == 1 then None else Some (record value { count = value.count - 1 }))
   pub less_beside : (values : Values) (id other : List ℕ) → other ≢ id → value_of other (without_reference id values) ≡ value_of other values
 
-abbrev counted : Option LongValue → ℕ
-counted o = unwrap_or (option_map (λ (value : LongValue). value.count) o) 0
+abbrev pub count_in : Option LongValue → ℕ
+count_in o = unwrap_or (option_map (λ (value : LongValue). value.count) o) 0
 
-unequal : (a b : List ℕ) → bytes_eq a b ≡ false → a ≢ b
+pub unequal : (a b : List ℕ) → bytes_eq a b ≡ false → a ≢ b
 unequal a b f e = true≢false (sym (itself a) ∙ ap (bytes_eq a) e ∙ f)
 
 some_is : {X : Type 0} (o : Option X) → is_some o ≡ true → (x : X) × (o ≡ Some x)
@@ -39,7 +39,7 @@ some_is (Some x) e = (x, refl)
 abbrev new_value : List ℕ → LongValue
 new_value bytes = record { count = 1; bytes = bytes }
 
-shared : (values : Values) (given : List ℕ × List ℕ) → is_some (value_of given.0 values) ≡ true → with_taken values given ≡ with_reference given.0 values
+pub shared : (values : Values) (given : List ℕ × List ℕ) → is_some (value_of given.0 values) ≡ true → with_taken values given ≡ with_reference given.0 values
 shared values given t = rw t refl
 
 placed : (values : Values) (given : List ℕ × List ℕ) → is_some (value_of given.0 values) ≡ false → with_taken values given ≡ put_value given.0 (new_value given.1) values
@@ -56,12 +56,12 @@ own_taken laws values given =
     by_test (is_some (value_of given.0 values))
     (λ t.
     let found = some_is (value_of given.0 values) t in
-    let now : count_of given.0 (with_taken values given) ≡ suc found.0.count = ap (count_of given.0) (shared values given t) ∙ ap counted (laws.more values given.0 found.0 found.1) in
-    let was : count_of given.0 values ≡ found.0.count = ap counted found.1 in
+    let now : count_of given.0 (with_taken values given) ≡ suc found.0.count = ap (count_of given.0) (shared values given t) ∙ ap count_in (laws.more values given.0 found.0 found.1) in
+    let was : count_of given.0 values ≡ found.0.count = ap count_in found.1 in
     omega (arith, now, was))
     (λ f.
-    let now : count_of given.0 (with_taken values given) ≡ 1 = ap (count_of given.0) (placed values given f) ∙ ap counted (laws.put values given.0 (new_value given.1)) in
-    let was : count_of given.0 values ≡ 0 = ap counted (none_there (value_of given.0 values) f) in
+    let now : count_of given.0 (with_taken values given) ≡ 1 = ap (count_of given.0) (placed values given f) ∙ ap count_in (laws.put values given.0 (new_value given.1)) in
+    let was : count_of given.0 values ≡ 0 = ap count_in (none_there (value_of given.0 values) f) in
     omega (arith, now, was))
 
 pub taken_all : ValueLaws → (id : List ℕ) (given : List (List ℕ × List ℕ)) (values : Values) → count_of id (with_all_taken given values) ≡ count_of id values + times_among id (map (λ one. one.0) given)
@@ -74,7 +74,7 @@ taken_all laws id (one ∷ given) values =
     let now : count_of id (with_taken values one) ≡ count_of id values + 1 = subst (λ k. count_of k (with_taken values one) ≡ count_of k values + 1) (sym same) (own_taken laws values one) in
     omega (arith, rest, now, among-yes id one.0 (map (λ one. one.0) given) t))
     (λ f.
-    let now : count_of id (with_taken values one) ≡ count_of id values = ap counted (other_taken laws values one id (unequal id one.0 f)) in
+    let now : count_of id (with_taken values one) ≡ count_of id values = ap count_in (other_taken laws values one id (unequal id one.0 f)) in
     omega (arith, rest, now, among-no id one.0 (map (λ one. one.0) given) f))
 
 -- ---- one reference less
@@ -84,22 +84,22 @@ own_released laws values id some =
     by_test (is_some (value_of id values))
     (λ t.
     let found = some_is (value_of id values) t in
-    let was : count_of id values ≡ found.0.count = ap counted found.1 in
-    let now : count_of id (without_reference id values) ≡ counted (if found.0.count == 1 then None else Some (record found.0 { count = found.0.count - 1 })) = ap counted (laws.less values id found.0 found.1) in
+    let was : count_of id values ≡ found.0.count = ap count_in found.1 in
+    let now : count_of id (without_reference id values) ≡ count_in (if found.0.count == 1 then None else Some (record found.0 { count = found.0.count - 1 })) = ap count_in (laws.less values id found.0 found.1) in
     by_test (found.0.count == 1)
     (λ one.
-    let last : counted (if found.0.count == 1 then None else Some (record found.0 { count = found.0.count - 1 })) ≡ 0 = ap (λ (b : Bool). counted (if b then None else Some (record found.0 { count = found.0.count - 1 }))) one in
+    let last : count_in (if found.0.count == 1 then None else Some (record found.0 { count = found.0.count - 1 })) ≡ 0 = ap (λ (b : Bool). count_in (if b then None else Some (record found.0 { count = found.0.count - 1 }))) one in
     let is : found.0.count ≡ 1 = eqb-true found.0.count 1 one in
     omega (arith, was, now, last, is))
     (λ more.
-    let less : counted (if found.0.count == 1 then None else Some (record found.0 { count = found.0.count - 1 })) ≡ found.0.count - 1 = ap (λ (b : Bool). counted (if b then None else Some (record found.0 { count = found.0.count - 1 }))) more in
+    let less : count_in (if found.0.count == 1 then None else Some (record found.0 { count = found.0.count - 1 })) ≡ found.0.count - 1 = ap (λ (b : Bool). count_in (if b then None else Some (record found.0 { count = found.0.count - 1 }))) more in
     omega (arith, was, now, less, some)))
     (λ f.
-    let was : count_of id values ≡ 0 = ap counted (none_there (value_of id values) f) in
+    let was : count_of id values ≡ 0 = ap count_in (none_there (value_of id values) f) in
     absurd (omega (arith, was, some)))
 
 other_released : ValueLaws → (values : Values) (x id : List ℕ) → id ≢ x → count_of id (without_reference x values) ≡ count_of id values
-other_released laws values x id n = ap counted (laws.less_beside values x id n)
+other_released laws values x id n = ap count_in (laws.less_beside values x id n)
 
 one_released : ValueLaws → (values : Values) (x id : List ℕ) (ids : List (List ℕ)) → 0 < count_of x values → count_of id (without_reference x values) + times_among id (x ∷ ids) ≡ count_of id values + times_among id ids
 one_released laws values x id ids some =
@@ -163,9 +163,9 @@ referred values rows held id long has =
     by_test (is_some (value_of id values))
     (λ t.
     let found = some_is (value_of id values) t in
-    let was : count_of id values ≡ found.0.count = ap counted found.1 in
+    let was : count_of id values ≡ found.0.count = ap count_in found.1 in
     t ∙ sym (lt-ltb 0 (reference_count id rows held) (omega (arith, was, has id, some_counted id found.0 values long.whole found.1))))
     (λ f.
-    let was : count_of id values ≡ 0 = ap counted (none_there (value_of id values) f) in
+    let was : count_of id values ≡ 0 = ap count_in (none_there (value_of id values) f) in
     let none : reference_count id rows held ≡ 0 = omega (arith, was, has id) in
     f ∙ ap (nat_lt 0) (sym none))

@@ -49,7 +49,7 @@ total id rows = sum_by (row_references id) rows
 total-cons : (id : List ℕ) (row : List ℕ × RowFields) (rows : NewestRows) → total id (row ∷ rows) ≡ references id (Some row.1) + total id rows
 total-cons id row rows = sum_by-cons (row_references id) row rows
 
-found_first : (key : List ℕ) (row : List ℕ × RowFields) (rows : NewestRows) → is_eq (slice_cmp nat_cmp key row.0) ≡ true → lookup_by_key key (row ∷ rows) ≡ Some row.1
+pub found_first : (key : List ℕ) (row : List ℕ × RowFields) (rows : NewestRows) → is_eq (slice_cmp nat_cmp key row.0) ≡ true → lookup_by_key key (row ∷ rows) ≡ Some row.1
 found_first key row rows t = rw t refl
 
 found_later : (key : List ℕ) (row : List ℕ × RowFields) (rows : NewestRows) → is_eq (slice_cmp nat_cmp key row.0) ≡ false → lookup_by_key key (row ∷ rows) ≡ lookup_by_key key rows

@@ -7,15 +7,14 @@ use Rattle.std.specs.FinMap.Entries.{is_sorted, same_entries}
 use Rattle.common_lemmas.proofs.Booleans.{by_test}
 use Rattle.common_lemmas.proofs.Numbers.{same_bytes}
 use Rattle.column_set.specs.Rows.{RowFields}
-use Rattle.long_value.specs.Values.{AreLong, LongValue, Values, order, value_of, with_reference, without_reference}
+use Rattle.long_value.specs.Values.{AreLong, LongValue, Values, order, value_of, without_reference}
 use Rattle.long_references.specs.RowReferences.{identifiers, times_among}
 use Rattle.long_references.specs.ReferenceCounts.{with_all_released, with_all_taken, with_taken}
-use Rattle.long_references.proofs.Taken.{ValueLaws}
+use Rattle.long_references.proofs.Taken.{ValueLaws, shared, unequal}
 use Rattle.long_references.proofs.Totals.{among-no, among-yes, holds, refers_once, some_among}
 use Rattle.long_rows.proofs.Given.{among, any_named}
 use Rattle.long_rows.proofs.InUse.{by_option, no_value, own_back, sorted_less, sorted_taken, tie_is_same}
 use Rattle.long_rows.proofs.Reading.{taken_beside, taken_new}
-use Rattle.long_rows.proofs.Steps.{unequal}
 
 abbrev names_of : List (List ℕ × List ℕ) → List (List ℕ)
 names_of given = map (λ one. one.0) given
@@ -34,10 +33,7 @@ all_taken_beside laws (one ∷ given) values k none =
     (λ f. all_taken_beside laws given (with_taken values one) k (second_false (bytes_eq k one.0) (among k given) none) ∙ taken_beside laws values one k (unequal k one.0 f))
 
 taken_more : ValueLaws → (values : Values) (k bytes : List ℕ) (value : LongValue) → value_of k values ≡ Some value → value_of k (with_taken values (k, bytes)) ≡ Some (record value { count = suc value.count })
-taken_more laws values k bytes value some = ap (value_of k) (shared (ap is_some some)) ∙ laws.more values k value some
-  where
-    shared : is_some (value_of k values) ≡ true → with_taken values (k, bytes) ≡ with_reference k values
-    shared t = rw t refl
+taken_more laws values k bytes value some = ap (value_of k) (shared values (k, bytes) (ap is_some some)) ∙ laws.more values k value some
 
 same_taken : ValueLaws → (one other : Values) (k bytes : List ℕ) → value_of k one ≡ value_of k other → value_of k (with_taken one (k, bytes)) ≡ value_of k (with_taken other (k, bytes))
 same_taken laws one other k bytes same =

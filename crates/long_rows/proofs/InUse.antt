@@ -15,18 +15,14 @@ use Rattle.column_set.specs.Rows.{RowFields}
 use Rattle.long_value.specs.Values.{AreLong, LongValue, Values, order, put_value, released, value_of, with_reference, without_reference, without_value}
 use Rattle.long_references.specs.RowReferences.{identifiers, references, removed_identifiers}
 use Rattle.long_references.specs.ReferenceCounts.{AreRows, HasCounts, NamesNoOther, NewestRows, RowBefore, as_undone, count_of, identifiers_before, references_before, with_all_released, with_row, with_taken}
-use Rattle.long_references.proofs.Taken.{ValueLaws, cleaned_counts, some_counted, undone_counts}
+use Rattle.long_references.proofs.Taken.{ValueLaws, cleaned_counts, count_in, some_counted, undone_counts, shared, unequal}
 use Rattle.long_references.proofs.Removed.{rewritten_counts}
-use Rattle.long_references.proofs.Totals.{holds, row_references}
+use Rattle.long_references.proofs.Totals.{holds, row_references, found_first}
 use Rattle.long_rows.specs.WholeRows.{StandsFor}
 use Rattle.long_rows.specs.RowsInUse.{IsInUse, newest, before}
 use Rattle.long_rows.proofs.Keeping.{Keeps, bytes_in, still_stands}
-use Rattle.long_rows.proofs.Steps.{unequal}
 
 -- ---- a value that a row in use names is there
-
-found_first : (key : List ℕ) (row : List ℕ × RowFields) (rows : NewestRows) → is_eq (slice_cmp nat_cmp key row.0) ≡ true → lookup_by_key key (row ∷ rows) ≡ Some row.1
-found_first key row rows t = rw t refl
 
 found_later : (key : List ℕ) (row : List ℕ × RowFields) (rows : NewestRows) → is_eq (slice_cmp nat_cmp key row.0) ≡ false → lookup_by_key key (row ∷ rows) ≡ lookup_by_key key rows
 found_later key row rows f = rw f refl
@@ -56,10 +52,7 @@ counted values rows held row id has (before earlier later change e stands is) lt
     let sum = has id in
     omega (arith, all, sum, lt)
 
-abbrev counted_as : Option LongValue → ℕ
-counted_as o = unwrap_or (option_map (λ (value : LongValue). value.count) o) 0
-
-pub is_there : (o : Option LongValue) → 0 < counted_as o → is_some o ≡ true
+pub is_there : (o : Option LongValue) → 0 < count_in o → is_some o ≡ true
 is_there None lt = absurd (omega (arith, lt))
 is_there (Some value) lt = refl
 
@@ -107,7 +100,7 @@ keeps_released laws [] values k some = λ found is. ap bytes_in is
 keeps_released laws (x ∷ ids) values k some = λ found is.
     elim (keeps_or_gone laws values x k found is) as (λ _. bytes_in (value_of k (with_all_released ids (without_reference x values))) ≡ Some found.bytes) [
       | inl gone ↦
-          let none : counted_as (value_of k (with_all_released ids (without_reference x values))) ≡ 0 = ap counted_as (gone_all laws ids (without_reference x values) k gone) in
+          let none : count_in (value_of k (with_all_released ids (without_reference x values))) ≡ 0 = ap count_in (gone_all laws ids (without_reference x values) k gone) in
           absurd (omega (arith, none, some))
       | inr kept ↦
           let was = some_is (value_of k (without_reference x values)) found.bytes kept in
@@ -159,9 +152,6 @@ one_more_less value some =
     let back : suc n - 1 ≡ n = omega arith in
     ap (λ (b : Bool). if b then None else Some (record value { count = suc n - 1 })) not_last ∙ ap (λ (m : ℕ). Some (record value { count = m })) back
 
-shared : (values : Values) (id bytes : List ℕ) → is_some (value_of id values) ≡ true → with_taken values (id, bytes) ≡ with_reference id values
-shared values id bytes t = rw t refl
-
 placed : (values : Values) (id bytes : List ℕ) → is_some (value_of id values) ≡ false → with_taken values (id, bytes) ≡ put_value id (record { count = 1; bytes = bytes }) values
 placed values id bytes f = rw f refl
 
@@ -176,7 +166,7 @@ sorted_more values id sorted =
 pub sorted_taken : (values : Values) (id bytes : List ℕ) → T (is_sorted order values) → T (is_sorted order (with_taken values (id, bytes)))
 sorted_taken values id bytes sorted =
     by_test (is_some (value_of id values))
-    (λ t. subst (λ (v : Values). T (is_sorted order v)) (sym (shared values id bytes t)) (sorted_more values id sorted))
+    (λ t. subst (λ (v : Values). T (is_sorted order v)) (sym (shared values (id, bytes) t)) (sorted_more values id sorted))
     (λ f. subst (λ (v : Values). T (is_sorted order v)) (sym (placed values id bytes f)) (is_sorted-put order nat_list_cmp_total id (record { count = 1; bytes = bytes }) values sorted))
 
 pub own_back : ValueLaws → (values : Values) (id bytes : List ℕ) → AreLong values → value_of id (without_reference id (with_taken values (id, bytes))) ≡ value_of id values
@@ -186,14 +176,14 @@ own_back laws values id bytes long =
     let now : value_of id (with_taken values (id, bytes)) ≡ Some (record { count = 1; bytes = bytes }) = ap (value_of id) (placed values id bytes (ap is_some none)) ∙ laws.put values id (record { count = 1; bytes = bytes }) in
     laws.less (with_taken values (id, bytes)) id (record { count = 1; bytes = bytes }) now ∙ sym none)
     (λ value some.
-    let now : value_of id (with_taken values (id, bytes)) ≡ Some (record value { count = suc value.count }) = ap (value_of id) (shared values id bytes (ap is_some some)) ∙ laws.more values id value some in
+    let now : value_of id (with_taken values (id, bytes)) ≡ Some (record value { count = suc value.count }) = ap (value_of id) (shared values (id, bytes) (ap is_some some)) ∙ laws.more values id value some in
     laws.less (with_taken values (id, bytes)) id (record value { count = suc value.count }) now ∙ one_more_less value (some_counted id value values long.whole some) ∙ sym some)
 
 other_back : ValueLaws → (values : Values) (id bytes k : List ℕ) → k ≢ id → value_of k (without_reference id (with_taken values (id, bytes))) ≡ value_of k values
 other_back laws values id bytes k n =
     laws.less_beside (with_taken values (id, bytes)) id k n
     ∙ by_test (is_some (value_of id values))
-    (λ t. ap (value_of k) (shared values id bytes t) ∙ laws.more_beside values id k n)
+    (λ t. ap (value_of k) (shared values (id, bytes) t) ∙ laws.more_beside values id k n)
     (λ f. ap (value_of k) (placed values id bytes f) ∙ laws.beside values id k (record { count = 1; bytes = bytes }) n)
 
 pub tie_is_same : (x y : List ℕ) → order x y ≡ Equal → x ≡ y

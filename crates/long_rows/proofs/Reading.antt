@@ -8,10 +8,10 @@ use Rattle.column_set.specs.declared.rows.RowValue.{RowValue}
 use Rattle.column_set.specs.declared.rows.RowValue.TheVariants.{Here, Apart}
 use Rattle.column_set.specs.RecordValues.{RecordFields}
 use Rattle.column_set.specs.Rows.{record_values_in_order, values_in_order}
-use Rattle.long_value.specs.Values.{LongValue, Values, put_value, value_of, with_reference}
+use Rattle.long_value.specs.Values.{LongValue, Values, put_value, value_of}
 use Rattle.long_references.specs.RowReferences.{identifier}
 use Rattle.long_references.specs.ReferenceCounts.{with_all_taken, with_taken}
-use Rattle.long_references.proofs.Taken.{ValueLaws}
+use Rattle.long_references.proofs.Taken.{ValueLaws, shared}
 use Rattle.long_rows.specs.WholeRows.{is_there, is_whole, record_in, whole_value}
 use Rattle.long_rows.specs.KeptRows.{Found, given_by, kept_fields, kept_value, kept_values, next_place, place_after}
 use Rattle.long_rows.proofs.Keeping.{Keeps, bytes_in, kept_one}
@@ -20,9 +20,6 @@ use Rattle.long_rows.proofs.Kept.{AreKept, IsNew, IsShared, fields_kept}
 use Rattle.long_rows.proofs.Given.{IdLaw, IsFresh, added, among, differ_by_value, next_bound, not_given, other_place, there}
 
 -- ---- a value that is taken
-
-shared : (values : Values) (given : List ℕ × List ℕ) → is_some (value_of given.0 values) ≡ true → with_taken values given ≡ with_reference given.0 values
-shared values given t = rw t refl
 
 placed : (values : Values) (given : List ℕ × List ℕ) → is_some (value_of given.0 values) ≡ false → with_taken values given ≡ put_value given.0 (record { count = 1; bytes = given.1 }) values
 placed values given t = rw t refl

@@ -1,5 +1,5 @@
 -- Values keep their bytes as references come and go.
-use Rattle.std.proofs.Common.{◌≡◌, ◌≢◌, ℕ, ◌-◌, ◌<◌, ◌==◌, Bool, true, false, if◌then◌else◌, Option, Some, None, List, [], ◌∷◌, refl, sym, ap, subst, ◌∙◌, arith, true≢false}
+use Rattle.std.proofs.Common.{◌≡◌, ◌≢◌, ℕ, ◌-◌, ◌<◌, ◌==◌, Bool, true, false, if◌then◌else◌, Option, Some, None, List, [], ◌∷◌, refl, sym, ap, subst, ◌∙◌, arith}
 use Rattle.std.specs.Prelude.{bytes_eq, is_some}
 use Rattle.std.proofs.lemmas.Bool.{eqb-true}
 use Rattle.common_lemmas.proofs.Options.{none_there}
@@ -10,13 +10,9 @@ use Rattle.column_set.specs.Rows.{RowFields}
 use Rattle.long_value.specs.Values.{LongValue, Values, put_value, value_of, with_reference, without_reference}
 use Rattle.long_references.specs.RowReferences.{references}
 use Rattle.long_references.specs.ReferenceCounts.{with_all_taken, with_taken}
-use Rattle.long_references.proofs.Taken.{ValueLaws}
-use Rattle.long_references.proofs.Totals.{itself}
+use Rattle.long_references.proofs.Taken.{ValueLaws, shared, unequal}
 use Rattle.long_rows.specs.WholeRows.{StandsFor}
 use Rattle.long_rows.proofs.Keeping.{Keeps, bytes_in, still_stands}
-
-pub unequal : (a b : List ℕ) → bytes_eq a b ≡ false → a ≢ b
-unequal a b f e = true≢false (sym (itself a) ∙ ap (bytes_eq a) e ∙ f)
 
 not_there : {X : Type 0} (o : Option X) (x : X) → o ≡ None → o ≡ Some x → ⊥
 not_there o x none some = absurd cc
@@ -54,12 +50,9 @@ keeps_other laws values id k n found is = ap bytes_in (laws.less_beside values i
 pub keeps_taken : ValueLaws → (values : Values) (one : List ℕ × List ℕ) (k : List ℕ) → Keeps values (with_taken values one) k
 keeps_taken laws values one k =
     by_test (is_some (value_of one.0 values))
-    (λ t. subst (λ (v : Values). Keeps values v k) (sym (shared t)) (keeps_more laws values one.0 k))
+    (λ t. subst (λ (v : Values). Keeps values v k) (sym (shared values one t)) (keeps_more laws values one.0 k))
     (λ f. subst (λ (v : Values). Keeps values v k) (sym (placed f)) (keeps_put laws values one.0 (record { count = 1; bytes = one.1 }) k (none_there (value_of one.0 values) f)))
   where
-    shared : is_some (value_of one.0 values) ≡ true → with_taken values one ≡ with_reference one.0 values
-    shared t = rw t refl
-
     placed : is_some (value_of one.0 values) ≡ false → with_taken values one ≡ put_value one.0 (record { count = 1; bytes = one.1 }) values
     placed f = rw f refl
 

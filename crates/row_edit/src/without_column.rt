@@ -12,7 +12,7 @@ use column_set::MAX_ROW_SIZE;
 use jet_base::ColumnId;
 
 /// The bytes before the first value: the count of the values.
-const COUNT_BYTES: usize = 2;
+pub const COUNT_BYTES: usize = 2;
 
 /// The bytes of a value before its own: its column, its form and the count of the bytes that follow.
 const VALUE_HEAD_BYTES: usize = 5;

@@ -75,7 +75,7 @@ own_rows_are nodes sorted = is_true (is_sorted (slice_cmp nat_cmp) (newest_rows 
 
 -- ---- other nodes
 
-equal_keys : (x y : List ℕ) → slice_cmp nat_cmp x y ≡ Equal → x ≡ y
+pub equal_keys : (x y : List ℕ) → slice_cmp nat_cmp x y ≡ Equal → x ≡ y
 equal_keys x y e = same_bytes x y (texts_ties x y ∙ ap is_eq e)
 
 -- nodes with the same rows under all bookmarks have the same newest rows

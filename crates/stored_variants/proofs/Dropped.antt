@@ -9,6 +9,7 @@ use Rattle.table_trees.specs.StoredNodes.{put_data, IsShortNode}
 use Rattle.table_trees.specs.StoredTables.{StoredTable, has_table, is_table, put_nodes, table_indexes, table_long_values, table_nodes, with_nodes}
 use Rattle.stored_variants.specs.RecordRows.{row_in_node, row_under, record_of, rows_of_nodes, with_record}
 use Rattle.stored_variants.specs.VersionsKept.{needed_trees, tree_numbers}
+use Rattle.stored_variants.proofs.Tables.{others}
 use Rattle.std.specs.Cmp.Lexicographic.{texts_ties}
 use Rattle.std.proofs.lemmas.List.Elements.{All-head, All-tail}
 use Rattle.std.proofs.lemmas.Bool.{eqb-true}
@@ -101,10 +102,6 @@ same_numbers id nodes (x ∷ trees) = λ i. same (is_table id x) i ∷ same_numb
 abbrev first_number : List (ℕ × List ℕ) → ℕ
 first_number [] = 0
 first_number (x ∷ xs) = x.0
-
-abbrev others : List (ℕ × List ℕ) → List (ℕ × List ℕ)
-others [] = []
-others (x ∷ xs) = xs
 
 abbrev is_empty : List (ℕ × List ℕ) → Bool
 is_empty [] = true

@@ -2,11 +2,9 @@
 use Rattle.std.proofs.Common.{◌≡◌, ℕ, ◌≤◌, length, Bool, true, false, cond, List, [], ◌∷◌, Option, Some, None, map, option_map, refl, sym, ap, subst, ◌∙◌}
 use Rattle.std.specs.Prelude.{IfSome, IsSomeAnd, IsTrue}
 use Rattle.std.specs.List.{AllByRecursion}
-use Rattle.std.specs.Ordering.{is_eq, nat_cmp}
-use Rattle.std.specs.Cmp.Lexicographic.{nat_list_cmp_total, slice_cmp, texts_ties}
-use Rattle.std.specs.declared.cmp.Ordering.TheVariants.{Equal}
+use Rattle.std.specs.Ordering.{nat_cmp}
+use Rattle.std.specs.Cmp.Lexicographic.{nat_list_cmp_total, slice_cmp}
 use Rattle.std.specs.FinMap.Entries.{same_entries}
-use Rattle.common_lemmas.proofs.Numbers.{same_bytes}
 use Rattle.btree_inplace.specs.Order.{extent_in}
 use Rattle.column_set.specs.RecordValues.{RecordFields, record_fits}
 use Rattle.column_set.specs.RowReading.{row_in}
@@ -27,6 +25,7 @@ use Rattle.stored_variants.specs.VersionsKept.{AreKeptWith, HoldsNumbers, IsBook
 use Rattle.stored_variants.specs.VersionsView.{with_newest_by}
 use Rattle.stored_variants.proofs.NodeRecords.{record_at}
 use Rattle.stored_variants.proofs.RisingRows.{rows_rise}
+use Rattle.stored_variants.proofs.CountedRows.{equal_keys}
 
 -- a row stands for the same record, and can be read whole still
 pub record StaysSame (old new : Values) (row : List ℕ) : Type 0 where
@@ -59,9 +58,6 @@ same_of old new None same = refl
 same_of old new (Some row) same = ap (λ (fields : RecordFields). Some fields) same.shown
 
 -- ---- nodes
-
-equal_keys : (x y : List ℕ) → slice_cmp nat_cmp x y ≡ Equal → x ≡ y
-equal_keys x y e = same_bytes x y (texts_ties x y ∙ ap is_eq e)
 
 pub same_rows_of : (old new : Values) (nodes : List Node) → are_sorted (bookmark_entries nodes) ≡ true → ((own : List ℕ) → IfSome (row_under nodes own) (StaysSame old new)) → rows_of_nodes new nodes ≡ rows_of_nodes old nodes
 same_rows_of old new nodes sorted same =

@@ -63,7 +63,7 @@ abbrev first_number : List (ℕ × List ℕ) → ℕ
 first_number [] = 0
 first_number (x ∷ xs) = x.0
 
-abbrev others : List (ℕ × List ℕ) → List (ℕ × List ℕ)
+abbrev pub others : List (ℕ × List ℕ) → List (ℕ × List ℕ)
 others [] = []
 others (x ∷ xs) = xs
 

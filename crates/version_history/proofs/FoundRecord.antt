@@ -30,7 +30,7 @@ fold-at (item ∷ items) t b r s e =
     fold-at items t b (after_item r item) (after_item s item)
     (ap (λ (x : Option RecordFields). cond (is_change_of t b item.change) (record_after item.change x) x) e)
 
-no_sum : (c : Change) → is_rewrite c ≡ true → is_sum c ≡ false
+pub no_sum : (c : Change) → is_rewrite c ≡ true → is_sum c ≡ false
 no_sum (Put t b copied values) h = refl
 no_sum (Drop t b) h = refl
 no_sum (Hold t b) h = refl

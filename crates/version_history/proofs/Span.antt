@@ -29,7 +29,7 @@ passed_unneeded state labels item h = by item.status h
     by (committed at) h = none state.sessions labels at h.1
     by undone h = refl
 
-skipped : (sessions : List LiveSession) (dropped kept : List PastChange) → AllByRecursion (λ item. is_needed sessions item ≡ false) dropped → from_oldest_needed sessions (dropped ++ kept) ≡ from_oldest_needed sessions kept
+pub skipped : (sessions : List LiveSession) (dropped kept : List PastChange) → AllByRecursion (λ item. is_needed sessions item ≡ false) dropped → from_oldest_needed sessions (dropped ++ kept) ≡ from_oldest_needed sessions kept
 skipped sessions [] kept h = refl
 skipped sessions (item ∷ dropped) kept h = ap (λ b. cond b (item ∷ dropped ++ kept) (from_oldest_needed sessions (dropped ++ kept))) h.0 ∙ skipped sessions dropped kept h.1
 

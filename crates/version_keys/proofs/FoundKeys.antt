@@ -19,6 +19,7 @@ use Rattle.version_history.specs.History.{IsHistory}
 use Rattle.version_history.specs.Readers.{found_record, hides, is_rewrite, is_unseen, until}
 use Rattle.version_history.proofs.Lists.{all_both, all_until}
 use Rattle.version_history.proofs.Viewing.{found_in}
+use Rattle.version_sums.proofs.StoredRecord.{unhidden}
 use Rattle.version_keys.specs.KeySums.{HasSameKeys, SeesNoSum, adds_to_index}
 use Rattle.version_keys.specs.Variants.{HasNoSums}
 use Rattle.version_keys.proofs.KeySums.{left_alone}
@@ -31,10 +32,6 @@ held (Hold t b) h g r = refl
 held (Add t b c a) h g r = impossible (sym g)
 
 -- ---- what a session finds
-
-unhidden : (test : PastChange → Bool) (items : List PastChange) → AllByRecursion (λ q. test q ≡ false) (until test items)
-unhidden test [] = tt
-unhidden test (x ∷ xs) = elim (test x) as (λ b. test x ≡ b → AllByRecursion (λ q. test q ≡ false) (cond b [] (x ∷ until test xs))) [ true ↦ λ e. tt | false ↦ λ e. (e, unhidden test xs) ] refl
 
 locks_only : (test : PastChange → Bool) (t : ℕ) (b : List ℕ) (items : List PastChange) → AllByRecursion (λ q. (test q ≡ true → is_change_of t b q.change ≡ true → is_rewrite q.change ≡ false) × is_sum q.change ≡ false) items → (base : Records)
     → records_after_items test base items t b ≡ base t b

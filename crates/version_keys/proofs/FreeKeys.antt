@@ -48,7 +48,7 @@ rules_pass test p (x ∷ xs) h = elim (p x) as (λ b. p x ≡ b → list_all tes
   | false ↦ λ e g. ((λ f. impossible f), rules_pass test p xs g)
 ] refl h
 
-unfiltered : {X : Type 0} (P : X → Type 0) (p : X → Bool) (xs : List X) → AllByRecursion P (filter p xs) → AllByRecursion (λ x. p x ≡ true → P x) xs
+pub unfiltered : {X : Type 0} (P : X → Type 0) (p : X → Bool) (xs : List X) → AllByRecursion P (filter p xs) → AllByRecursion (λ x. p x ≡ true → P x) xs
 unfiltered P p [] h = tt
 unfiltered P p (x ∷ xs) h = elim (p x) as (λ b. AllByRecursion P (cond b (x ∷ filter p xs) (filter p xs)) → (b ≡ true → P x) × AllByRecursion (λ x. p x ≡ true → P x) xs) [
   | true ↦ λ g. ((λ f. g.0), unfiltered P p xs g.1)

@@ -19,9 +19,10 @@ use Rattle.version_history.specs.History.{HasBefores, IsHistory, IsPlaced}
 use Rattle.version_history.specs.Readers.{before_or, is_rewrite, is_standing}
 use Rattle.version_history.proofs.Concurrent.{key_conflict_kept}
 use Rattle.version_history.proofs.SeenRecords.{newest_records}
+use Rattle.version_history.proofs.FoundRecord.{no_sum}
 use Rattle.version_keys.specs.KeySums.{HasKeyBefores, HasSameKeys, SeesNoSum}
 use Rattle.version_keys.specs.Variants.{is_key_held, is_standing_rewrite, next_variant}
-use Rattle.version_keys.proofs.KeySums.{after_same, keys_stay, no_sum}
+use Rattle.version_keys.proofs.KeySums.{after_same, keys_stay}
 
 -- ---- variants
 

@@ -58,12 +58,6 @@ after_same rule schema (Drop t b) h r s same = λ key. refl
 after_same rule schema (Hold t b) h r s same = same
 after_same rule schema (Add t b c a) h r s same = λ key. sum_keeps rule schema (Add t b c a) h refl r key ∙ same key ∙ sym (sum_keeps rule schema (Add t b c a) h refl s key)
 
-pub no_sum : (c : Change) → is_rewrite c ≡ true → is_sum c ≡ false
-no_sum (Put t b copied values) h = refl
-no_sum (Drop t b) h = refl
-no_sum (Hold t b) h = refl
-no_sum (Add t b c a) h = sym h
-
 -- ---- all records
 
 pub item_same : (rule : IndexRule) (schema : Schema) (r s : Records) (item : PastChange) (table : ℕ) (bookmark : List ℕ) → (changed_table item.change ≡ table → adds_to_index rule item.change ≡ false)

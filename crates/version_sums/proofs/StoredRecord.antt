@@ -45,7 +45,7 @@ sums_made test t b (q ∷ items) h base =
     mine : PastChange → Bool
     mine item = test item && is_change_of t b item.change
 
-unhidden : (test : PastChange → Bool) (items : List PastChange) → AllByRecursion (λ q. test q ≡ false) (until test items)
+pub unhidden : (test : PastChange → Bool) (items : List PastChange) → AllByRecursion (λ q. test q ≡ false) (until test items)
 unhidden test [] = tt
 unhidden test (x ∷ xs) = elim (test x) as (λ b. test x ≡ b → AllByRecursion (λ q. test q ≡ false) (cond b [] (x ∷ until test xs))) [ true ↦ λ e. tt | false ↦ λ e. (e, unhidden test xs) ] refl
 

@@ -6,7 +6,6 @@ use Rattle.common_lemmas.proofs.Finding.{find_none}
 use Rattle.common_lemmas.proofs.Booleans.{and_left, and_right, impossible}
 use Rattle.common_lemmas.proofs.Numbers.{self_equal}
 use Rattle.column_set.specs.declared.changes.Change.{Change}
-use Rattle.column_set.specs.declared.changes.Change.TheVariants.{Put, Drop, Hold, Add}
 use Rattle.database_state.specs.Changes.{changed_bookmark, changed_table, is_sum}
 use Rattle.database_state.specs.State.{DatabaseState, PastChange, Transaction, transaction_of}
 use Rattle.database_state.specs.View.{newest}
@@ -19,12 +18,7 @@ use Rattle.version_history.specs.Readers.{before_or, found_record, hides, is_rew
 use Rattle.version_history.proofs.EndEntries.{free_of}
 use Rattle.version_history.proofs.Lists.{all_both}
 use Rattle.version_history.proofs.Unhindered.{seen_unless}
-
-no_sum : (c : Change) → is_rewrite c ≡ true → is_sum c ≡ false
-no_sum (Put t b copied values) h = refl
-no_sum (Drop t b) h = refl
-no_sum (Hold t b) h = refl
-no_sum (Add t b c a) h = sym h
+use Rattle.version_history.proofs.FoundRecord.{no_sum}
 
 -- a put or a drop of the change's record collides with it
 rewrite_collides : (p change : Change) → is_change_of (changed_table change) (changed_bookmark change) p ≡ true → is_rewrite p ≡ true → collide p change ≡ true

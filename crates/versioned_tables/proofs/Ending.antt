@@ -1,11 +1,12 @@
 -- Ends of levels and transactions leave what is newest.
-use Rattle.std.proofs.Common.{◌≡◌, ℕ, ◌-◌, Bool, true, false, not, ◌&&◌, cond, List, [], ◌∷◌, ◌++◌, map, filter, refl, sym, ap, subst, ◌∙◌}
+use Rattle.std.proofs.Common.{◌≡◌, ℕ, ◌-◌, Bool, true, false, ◌&&◌, cond, List, [], ◌∷◌, ◌++◌, map, filter, refl, sym, ap, subst, ◌∙◌}
 use Rattle.std.specs.Prelude.{◌==◌, fold}
-use Rattle.common_lemmas.proofs.Booleans.{and_left, impossible}
-use Rattle.database_state.specs.State.{PastChange, Status, uncommitted, committed, undone, is_open, is_undone, is_open_change_of}
+use Rattle.common_lemmas.proofs.Booleans.{and_left}
+use Rattle.database_state.specs.State.{PastChange, committed, is_open, is_open_change_of}
 use Rattle.record_changes.specs.Records.{Records, after_item, records_after, records_after_items}
 use Rattle.version_history.specs.KeptSteps.{committed_own, lowered_own}
 use Rattle.version_history.specs.Readers.{is_standing}
+use Rattle.version_history.proofs.Keeping.{open_live}
 use Rattle.versioned_tables.specs.HeldRecords.{HeldRecord, is_open_of, released_change, committed_change}
 use Rattle.versioned_tables.specs.Holding.{Matches, AllMatch}
 
@@ -14,17 +15,12 @@ use Rattle.versioned_tables.specs.Holding.{Matches, AllMatch}
 pub same_open : (item : PastChange) (h : HeldRecord) → Matches item h → (session : ℕ) → is_open_of session h ≡ is_open_change_of session item
 same_open item h m session = λ i. is_open (m.status i) && (m.session i == session)
 
-stands : (s : Status) → is_open s ≡ true → not (is_undone s) ≡ true
-stands uncommitted e = refl
-stands (committed n) e = refl
-stands undone e = impossible e
-
 one_committed : (session number : ℕ) (item : PastChange) (h : HeldRecord) → Matches item h → Matches (committed_own session number item) (committed_change session number h)
 one_committed session number item h m =
     subst (λ b. Matches (committed_own session number item) (cond b (record h { status = committed number }) h)) (sym (same_open item h m session)) (by (is_open_change_of session item) refl)
   where
     by : (b : Bool) → is_open_change_of session item ≡ b → Matches (cond b (record item { status = committed number }) item) (cond b (record h { status = committed number }) h)
-    by true e = record { number = m.number; session = m.session; level = m.level; kind = m.kind; table = m.table; bookmark = m.bookmark; status = refl; before = λ live rewrite. m.before (stands item.status (and_left _ _ e)) rewrite; cost = m.cost }
+    by true e = record { number = m.number; session = m.session; level = m.level; kind = m.kind; table = m.table; bookmark = m.bookmark; status = refl; before = λ live rewrite. m.before (open_live item.status (and_left _ _ e)) rewrite; cost = m.cost }
     by false e = m
 
 pub all_committed_match : (session number : ℕ) (items : List PastChange) (held : List HeldRecord) → AllMatch items held → AllMatch (map (committed_own session number) items) (map (committed_change session number) held)
@@ -71,7 +67,7 @@ pub committed_stands : (session number : ℕ) (item : PastChange) → is_standin
 committed_stands session number item = by (is_open_change_of session item) refl
   where
     by : (b : Bool) → is_open_change_of session item ≡ b → is_standing (cond b (record item { status = committed number }) item) ≡ is_standing item
-    by true e = sym (stands item.status (and_left _ _ e))
+    by true e = sym (open_live item.status (and_left _ _ e))
     by false e = refl
 
 pub committed_change_is : (session number : ℕ) (item : PastChange) → (committed_own session number item).change ≡ item.change

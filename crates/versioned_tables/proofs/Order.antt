@@ -2,32 +2,21 @@
 use Rattle.std.proofs.Common.{◌≡◌, ℕ, Bool, true, false, ◌&&◌, ◌||◌, ◌⊎◌, inl, inr, List, refl, sym, ap, subst, ◌∙◌, bytes_eq}
 use Rattle.std.specs.declared.cmp.Ordering.{Ordering}
 use Rattle.std.specs.declared.cmp.Ordering.TheVariants.{Less, Equal, Greater}
-use Rattle.std.specs.Ordering.{nat_cmp, is_eq, is_le, is_lt, ordering_reverse, ordering_then}
-use Rattle.std.specs.Cmp.{IsTotalOrder, on_total, then_total}
+use Rattle.std.specs.Ordering.{nat_cmp, is_eq, is_le, is_lt, ordering_reverse}
 use Rattle.std.specs.Cmp.Lexicographic.{slice_cmp, nat_list_cmp_total, texts_ties}
 use Rattle.std.proofs.lemmas.Map.Lookups.{exact_bytes}
 use Rattle.std.proofs.lemmas.Bool.{false_from_ne_true}
-use Rattle.common_lemmas.proofs.Orders.{is_less, less_then}
+use Rattle.common_lemmas.proofs.Orders.{is_less}
 use Rattle.common_lemmas.proofs.Booleans.{and_left, impossible}
 use Rattle.common_lemmas.proofs.Numbers.{same_bytes}
 use Rattle.index_derive.specs.declared.entries.Place.{Place}
 use Rattle.index_derive.specs.declared.entries.Place.TheVariants.{Before, After, On, Gap}
 use Rattle.column_set.specs.RecordValues.{bytes_le, bytes_lt}
 use Rattle.cursor_nav.specs.Places.{Pair, is_beyond, is_short_of, pair_lt}
+use Rattle.derived_index.proofs.PairOrder.{pair_cmp, pair_lt-is, pairs_total}
 use Rattle.record_changes.proofs.Tests.{equal_bytes}
 
 -- ---- entries
-
-abbrev pair_cmp : Pair → Pair → Ordering
-pair_cmp x y = ordering_then (slice_cmp nat_cmp x.0 y.0) (slice_cmp nat_cmp x.1 y.1)
-
-pairs_total : IsTotalOrder pair_cmp
-pairs_total = then_total (on_total (λ p. p.0) nat_list_cmp_total) (on_total (λ p. p.1) nat_list_cmp_total)
-
-pair_lt-is : (x y : Pair) → pair_lt x y ≡ is_lt (pair_cmp x y)
-pair_lt-is x y =
-    ap (λ e. bytes_lt x.0 y.0 || (e && bytes_lt x.1 y.1)) (texts_ties x.0 y.0)
-    ∙ less_then (slice_cmp nat_cmp x.0 y.0) (slice_cmp nat_cmp x.1 y.1)
 
 less_of : (x y : Pair) → pair_lt x y ≡ true → pair_cmp x y ≡ Less
 less_of x y h = is_less (pair_cmp x y) (sym (pair_lt-is x y) ∙ h)

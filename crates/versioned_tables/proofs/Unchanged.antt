@@ -15,10 +15,10 @@ use Rattle.versioned_tables.specs.VersionedTables.{VersionedTables, leaves_table
 use Rattle.versioned_tables.specs.Holding.{Holds}
 use Rattle.versioned_tables.proofs.RisingSteps.{step_keeps_order}
 
-abbrev by_session : ℕ → EntryKind → Entry
-by_session session kind = record { session = record { 0 = session }; kind = kind }
+abbrev pub entry_by : ℕ → EntryKind → Entry
+entry_by session kind = record { session = record { 0 = session }; kind = kind }
 
-same_newest : (state : DatabaseState) (session : ℕ) (kind : EntryKind) → leaves_tables kind ≡ true → newest (state_after state (by_session session kind)) ≡ newest state
+same_newest : (state : DatabaseState) (session : ℕ) (kind : EntryKind) → leaves_tables kind ≡ true → newest (state_after state (entry_by session kind)) ≡ newest state
 unfolding newest state_after
 same_newest state session entry.Enter e = refl
 same_newest state session entry.Leave e = impossible e
@@ -33,7 +33,7 @@ same_newest state session entry.UndoAll e = impossible e
 same_newest state session entry.Commit e = impossible e
 same_newest state session (entry.Schema made) e = impossible e
 
-same_tables : (state : DatabaseState) (session : ℕ) (kind : EntryKind) → leaves_tables kind ≡ true → (state_after state (by_session session kind)).tables ≡ state.tables
+same_tables : (state : DatabaseState) (session : ℕ) (kind : EntryKind) → leaves_tables kind ≡ true → (state_after state (entry_by session kind)).tables ≡ state.tables
 unfolding state_after
 same_tables state session entry.Enter e = refl
 same_tables state session entry.Leave e = impossible e
@@ -48,14 +48,14 @@ same_tables state session entry.UndoAll e = impossible e
 same_tables state session entry.Commit e = impossible e
 same_tables state session (entry.Schema made) e = impossible e
 
-same_history : (base : Records) (dropped kept : List PastChange) (state : DatabaseState) (session : ℕ) (kind : EntryKind) → leaves_tables kind ≡ true → IsHistory base dropped kept state → is_lawful state (by_session session kind) ≡ true
-    → IsHistory base dropped kept (state_after state (by_session session kind))
-same_history base dropped kept state session entry.Enter e h lawful = keeps_lawful base dropped kept state (by_session session entry.Enter) h lawful
+same_history : (base : Records) (dropped kept : List PastChange) (state : DatabaseState) (session : ℕ) (kind : EntryKind) → leaves_tables kind ≡ true → IsHistory base dropped kept state → is_lawful state (entry_by session kind) ≡ true
+    → IsHistory base dropped kept (state_after state (entry_by session kind))
+same_history base dropped kept state session entry.Enter e h lawful = keeps_lawful base dropped kept state (entry_by session entry.Enter) h lawful
 same_history base dropped kept state session entry.Leave e h lawful = impossible e
-same_history base dropped kept state session (entry.Open table) e h lawful = keeps_lawful base dropped kept state (by_session session (entry.Open table)) h lawful
-same_history base dropped kept state session (entry.Shut table) e h lawful = keeps_lawful base dropped kept state (by_session session (entry.Shut table)) h lawful
-same_history base dropped kept state session entry.Begin e h lawful = keeps_lawful base dropped kept state (by_session session entry.Begin) h lawful
-same_history base dropped kept state session entry.Save e h lawful = keeps_lawful base dropped kept state (by_session session entry.Save) h lawful
+same_history base dropped kept state session (entry.Open table) e h lawful = keeps_lawful base dropped kept state (entry_by session (entry.Open table)) h lawful
+same_history base dropped kept state session (entry.Shut table) e h lawful = keeps_lawful base dropped kept state (entry_by session (entry.Shut table)) h lawful
+same_history base dropped kept state session entry.Begin e h lawful = keeps_lawful base dropped kept state (entry_by session entry.Begin) h lawful
+same_history base dropped kept state session entry.Save e h lawful = keeps_lawful base dropped kept state (entry_by session entry.Save) h lawful
 same_history base dropped kept state session (entry.Change change) e h lawful = impossible e
 same_history base dropped kept state session entry.Release e h lawful = impossible e
 same_history base dropped kept state session entry.Undo e h lawful = impossible e
@@ -63,11 +63,11 @@ same_history base dropped kept state session entry.UndoAll e h lawful = impossib
 same_history base dropped kept state session entry.Commit e h lawful = impossible e
 same_history base dropped kept state session (entry.Schema made) e h lawful = impossible e
 
-pub unchanged_holds : (base : Records) (dropped kept : List PastChange) (store : VersionedTables) (state : DatabaseState) (session : ℕ) (kind : EntryKind) → leaves_tables kind ≡ true → Holds base dropped kept store state → is_lawful state (by_session session kind) ≡ true
-    → Holds base dropped kept store (state_after state (by_session session kind))
+pub unchanged_holds : (base : Records) (dropped kept : List PastChange) (store : VersionedTables) (state : DatabaseState) (session : ℕ) (kind : EntryKind) → leaves_tables kind ≡ true → Holds base dropped kept store state → is_lawful state (entry_by session kind) ≡ true
+    → Holds base dropped kept store (state_after state (entry_by session kind))
 unchanged_holds base dropped kept store state session kind e h lawful = record {
   history = same_history base dropped kept state session kind e h.history lawful;
-  rise = step_keeps_order state (by_session session kind) h.rise;
+  rise = step_keeps_order state (entry_by session kind) h.rise;
   defined = h.defined ∙ ap (map without_rows) (sym (same_tables state session kind e));
   newest = h.newest ∙ ap records_of (sym (same_newest state session kind e));
   in_order = h.in_order;

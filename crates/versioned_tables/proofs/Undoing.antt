@@ -30,9 +30,7 @@ use Rattle.versioned_tables.proofs.Ending.{same_open}
 use Rattle.versioned_tables.proofs.RisingSteps.{step_keeps_order}
 use Rattle.versioned_tables.proofs.ExactSums.{Numbers, any, first_numbers, numbers_back, plain_back}
 use Rattle.versioned_tables.proofs.TakingBack.{SameTest, all_undone_match, taken_defined, taken_records, taken_rise}
-
-abbrev by_session : ℕ → EntryKind → Entry
-by_session session kind = record { session = record { 0 = session }; kind = kind }
+use Rattle.versioned_tables.proofs.Unchanged.{entry_by}
 
 -- ---- what goes
 
@@ -129,35 +127,35 @@ innermost_tables session state = by (nat_lt 1 (levels state session))
     by true = refl
     by false = refl
 
-undo_tables : (state : DatabaseState) (session : ℕ) → (state_after state (by_session session entry.Undo)).tables ≡ state.tables
+undo_tables : (state : DatabaseState) (session : ℕ) → (state_after state (entry_by session entry.Undo)).tables ≡ state.tables
 unfolding state_after
 undo_tables state session = innermost_tables session (record state { number = state.number + 1 })
 
-pub undone_holds : (base : Records) (dropped kept : List PastChange) (store : VersionedTables) (state : DatabaseState) (session : ℕ) → Holds base dropped kept store state → CanBeTakenBack base kept state → is_lawful state (by_session session entry.Undo) ≡ true
-    → Holds base dropped (map (undone_where (is_own_open session (is_at_level (levels state session)))) kept) (with_changes_undone (is_open_at session (levels state session)) store) (state_after state (by_session session entry.Undo))
+pub undone_holds : (base : Records) (dropped kept : List PastChange) (store : VersionedTables) (state : DatabaseState) (session : ℕ) → Holds base dropped kept store state → CanBeTakenBack base kept state → is_lawful state (entry_by session entry.Undo) ≡ true
+    → Holds base dropped (map (undone_where (is_own_open session (is_at_level (levels state session)))) kept) (with_changes_undone (is_open_at session (levels state session)) store) (state_after state (entry_by session entry.Undo))
 undone_holds base dropped kept store state session h can lawful =
-    undoing base dropped kept store state (state_after state (by_session session entry.Undo)) (is_own_open session (is_at_level (levels state session))) (is_open_at session (levels state session)) h can
+    undoing base dropped kept store state (state_after state (entry_by session entry.Undo)) (is_own_open session (is_at_level (levels state session))) (is_open_at session (levels state session)) h can
     (level_test session (levels state session)) (own_stands session (is_at_level (levels state session))) (level_goes base dropped kept state h.history session)
-    (keeps_lawful base dropped kept state (by_session session entry.Undo) h.history lawful) (undo_tables state session) (by_session session entry.Undo) refl
+    (keeps_lawful base dropped kept state (entry_by session entry.Undo) h.history lawful) (undo_tables state session) (entry_by session entry.Undo) refl
 
-all_undone_tables : (state : DatabaseState) (session : ℕ) → (state_after state (by_session session entry.UndoAll)).tables ≡ state.tables
+all_undone_tables : (state : DatabaseState) (session : ℕ) → (state_after state (entry_by session entry.UndoAll)).tables ≡ state.tables
 unfolding state_after
 all_undone_tables state session = refl
 
-pub all_undone_holds : (base : Records) (dropped kept : List PastChange) (store : VersionedTables) (state : DatabaseState) (session : ℕ) → Holds base dropped kept store state → CanBeTakenBack base kept state → is_lawful state (by_session session entry.UndoAll) ≡ true
-    → Holds base dropped (map (undone_where (is_own_open session every_change)) kept) (with_changes_undone (is_open_of session) store) (state_after state (by_session session entry.UndoAll))
+pub all_undone_holds : (base : Records) (dropped kept : List PastChange) (store : VersionedTables) (state : DatabaseState) (session : ℕ) → Holds base dropped kept store state → CanBeTakenBack base kept state → is_lawful state (entry_by session entry.UndoAll) ≡ true
+    → Holds base dropped (map (undone_where (is_own_open session every_change)) kept) (with_changes_undone (is_open_of session) store) (state_after state (entry_by session entry.UndoAll))
 all_undone_holds base dropped kept store state session h can lawful =
-    undoing base dropped kept store state (state_after state (by_session session entry.UndoAll)) (is_own_open session every_change) (is_open_of session) h can
+    undoing base dropped kept store state (state_after state (entry_by session entry.UndoAll)) (is_own_open session every_change) (is_open_of session) h can
     (all_test session) (own_stands session every_change) (all_goes base dropped kept state h.history session)
-    (keeps_lawful base dropped kept state (by_session session entry.UndoAll) h.history lawful) (all_undone_tables state session) (by_session session entry.UndoAll) refl
+    (keeps_lawful base dropped kept state (entry_by session entry.UndoAll) h.history lawful) (all_undone_tables state session) (entry_by session entry.UndoAll) refl
 
-left_tables : (state : DatabaseState) (session : ℕ) → (state_after state (by_session session entry.Leave)).tables ≡ state.tables
+left_tables : (state : DatabaseState) (session : ℕ) → (state_after state (entry_by session entry.Leave)).tables ≡ state.tables
 unfolding state_after
 left_tables state session = refl
 
-pub left_holds : (base : Records) (dropped kept : List PastChange) (store : VersionedTables) (state : DatabaseState) (session : ℕ) → Holds base dropped kept store state → CanBeTakenBack base kept state → is_lawful state (by_session session entry.Leave) ≡ true
-    → Holds base dropped (map (undone_where (is_own_open session every_change)) kept) (with_changes_undone (is_open_of session) store) (state_after state (by_session session entry.Leave))
+pub left_holds : (base : Records) (dropped kept : List PastChange) (store : VersionedTables) (state : DatabaseState) (session : ℕ) → Holds base dropped kept store state → CanBeTakenBack base kept state → is_lawful state (entry_by session entry.Leave) ≡ true
+    → Holds base dropped (map (undone_where (is_own_open session every_change)) kept) (with_changes_undone (is_open_of session) store) (state_after state (entry_by session entry.Leave))
 left_holds base dropped kept store state session h can lawful =
-    undoing base dropped kept store state (state_after state (by_session session entry.Leave)) (is_own_open session every_change) (is_open_of session) h can
+    undoing base dropped kept store state (state_after state (entry_by session entry.Leave)) (is_own_open session every_change) (is_open_of session) h can
     (all_test session) (own_stands session every_change) (all_goes base dropped kept state h.history session)
-    (keeps_lawful base dropped kept state (by_session session entry.Leave) h.history lawful) (left_tables state session) (by_session session entry.Leave) refl
+    (keeps_lawful base dropped kept state (entry_by session entry.Leave) h.history lawful) (left_tables state session) (entry_by session entry.Leave) refl

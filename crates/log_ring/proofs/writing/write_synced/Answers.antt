@@ -2,7 +2,7 @@ use Rattle.std.proofs.Common.{◌≡◌, ℕ, List, length, ◌∙◌, ap}
 use Rattle.jet_volume.specs.Image.{Image}
 use Rattle.jet_volume.specs.Crash.{Torn, written}
 use Rattle.std.proofs.lemmas.Result.{on_ok_weaker}
-use Rattle.log_ring.proofs.Windows.{unwritten_torn}
+use Rattle.jet_volume.specs.TornLaws.{unwritten_torn}
 use Rattle.log_ring.proofs.Steps.{log_written, log_looked}
 use Rattle.log_ring.proofs.writing.write_synced.Goals as goal
 
