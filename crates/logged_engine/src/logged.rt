@@ -7,7 +7,7 @@ ghost use Rattle.session_local.specs.LocalCalls.{is_answered_locally};
 ghost use Rattle.session_local.specs.Run.{takes_no_memory};
 ghost use Rattle.built_calls.specs.BuiltCalls.{is_built_request};
 ghost use Rattle.engine_versions.specs.EngineState.{HasRoomForEnds, cleaned, engine_of};
-ghost use Rattle.engine_versions.specs.EngineSteps.{engine_after_step};
+ghost use Rattle.engine_versions.specs.EngineSteps.{engine_after_step, step_cleans};
 ghost use Rattle.engine_versions.specs.HoldsState.{HoldsState};
 ghost use Rattle.engine_parts.specs.Deciding.{Decides, IsBeside, IsDecision};
 ghost use Rattle.engine_steps.specs.Cleans.{CanGo, without_oldest_held};
@@ -156,8 +156,9 @@ impl LoggedEngine {
 
     /// Makes a step that was decided in this state, or that is lawful in a replay, as `engine_core::apply` does, and writes its
     /// entries behind the log, each once. Its session has a label, 1 to 99, so that each of them can be written, by less than
-    /// 134,217,728 bytes. After want of memory no byte of the log has changed, and the engine is as it was, but that a clean may
-    /// stand. What ends something takes no memory: the room for its entry is kept from its begin on.
+    /// 134,217,728 bytes. After want of memory no byte of the log has changed, and the engine is as it was, but that the clean may
+    /// stand which comes before a change of a record and a schema step. What ends something takes no memory: the room for its
+    /// entry is kept from its begin on.
     pub fn apply(&mut self, step: &Step) -> Result<(), OutOfMemory>
         requires lawful { MayTake self.old.engine step.now }
         requires room { HasRoomForEnds self.old.engine }
@@ -165,6 +166,7 @@ impl LoggedEngine {
         ensures engine { OnOk result (self.new.engine ≡ engine_after_step self.old.engine step.now) }
         ensures stream { OnOk result (self.new.stream ≡ appended (stream_bytes (entries_of_step (Some step.now))) self.old.stream) }
         ensures cleaned { OnErr result (MayBeCleaned self.old.engine self.new.engine) }
+        ensures same { OnErr result (step_cleans step.now ≡ false → self.new.engine ≡ self.old.engine) }
         ensures kept { OnErr result (self.new.stream ≡ self.old.stream) }
         ensures memory { OnErr result (logged_step_may_lack_memory step.now ≡ true) }
         ensures loggable { is_loggable (made_by step.now) ≡ true }
@@ -224,6 +226,7 @@ fn make(
     ensures stream { OnOk result (log.new.stream ≡ appended (stream_bytes (entries_of_step (Some step.now))) log.old.stream) }
     ensures ends { OnOk result (ends ≤ log.new.room) }
     ensures cleaned { OnErr result (MayBeCleaned engine.old engine.new) }
+    ensures same { OnErr result (step_cleans step.now ≡ false → engine.new ≡ engine.old) }
     ensures kept { OnErr result (log.new.stream ≡ log.old.stream) }
     ensures grows { OnErr result (log.old.room ≤ log.new.room) }
     ensures memory { OnErr result (MayLackMemory step.now (length (stream_bytes (entries_of_step (Some step.now))) + ends) log.old.room) }

@@ -75,7 +75,7 @@ impl SessionEngine {
         self.serve_call(session, request)
     }
 
-    /// The bytes that the last reply to the session names: the front of its reply buffer.
+    /// The session's reply buffer, a front of which the last reply to the session names.
     pub fn reply(&self, session: Session) -> &[u8]
         ensures bytes { result.now ≡ reply_of self.now session }
         ensures short { length (reply_of self.now session) ≤ 1048576 }
