@@ -17,8 +17,8 @@ use thiserror::Error;
 /// How far from a guess the second look is that goes on from it.
 const NEAR: usize = 3;
 
-/// A page of fewer nodes is halved from the start.
-const FEW: usize = 8;
+/// A page of fewer nodes has no two keys that a guess can go by.
+const FEW: usize = 3;
 
 /// Numbers below it, times 1,024 places, are below 2^64.
 const EXACT: u64 = 1 << 54;
