@@ -16,7 +16,7 @@ use Rattle.page_image.specs.Reading.{contents_of}
 use Rattle.page_image.specs.Shown.{Shows}
 use Rattle.page_image.proofs.Nodes.{contents_of-body, drop-page_bytes, few_nodes, HasNode, has_node}
 use Rattle.common_lemmas.proofs.Edits.{AllPairs-take, AllPairs-drop, sum-insert, sum-take-insert, take-insert, sum-remove, sum-take-remove, take-remove, sum-set, sum-take-set, sum-take-le, All-insert, All-remove, AllPairs-insert, AllPairs-set}
-use Rattle.page_image.proofs.Spelled.{IsFront, front_of, has_front, headed, inserted_bytes, is_front, removed_bytes, replaced_bytes}
+use Rattle.page_image.proofs.Spelled.{front_of, has_front, headed, inserted_bytes, is_front, removed_bytes, replaced_bytes}
 
 pub few : (p : PageContents) → IsPage p → length p.nodes ≤ 677
 few p page = omega (arith, few_nodes p.nodes, page.size)

@@ -14,6 +14,15 @@ use std::cmp::Ordering;
 use std::marker::Model;
 use thiserror::Error;
 
+/// How far from a guess the second look is that goes on from it.
+const NEAR: usize = 3;
+
+/// A page of fewer nodes has no two keys that a guess can go by.
+const FEW: usize = 3;
+
+/// Numbers below it, times 1,024 places, are below 2^64.
+const EXACT: u64 = 1 << 54;
+
 /// The bytes are no page.
 #[derive(Debug, Drop, Error)]
 #[error("the bytes are no page")]
@@ -201,15 +210,45 @@ impl Page {
     {
         let key_front = front(key);
         let (mut low, mut high) = (0, self.count);
+        let mut probe = self.guess(key_front);
+        let mut reach = 0;
         while low < high {
-            let middle = low + (high - low) / 2;
-            match compare(self.key(middle), key, key_front) {
-                Ordering::Less => low = middle + 1,
-                Ordering::Greater => high = middle,
-                Ordering::Equal => return Ok(middle),
+            let near = reach;
+            reach = wider(near);
+            match compare(self.key(probe), key, key_front) {
+                Ordering::Less => {
+                    low = probe + 1;
+                    probe = low + near.min((high - low) / 2);
+                }
+                Ordering::Greater => {
+                    high = probe;
+                    probe = high - (near + 1).min(high - low - (high - low) / 2);
+                }
+                Ordering::Equal => return Ok(probe),
             }
         }
         Err(low)
+    }
+
+    /// Where a key stands if the fronts of the keys rise evenly from the second one on, since the first one of an inner page
+    /// is empty. A key with the front of the last one, or a higher one, is behind all others as rising keys are.
+    fn guess(&self, key_front: u64) -> usize
+        ensures { 0 < length self.now.nodes → result < length self.now.nodes }
+    {
+        let count = self.len();
+        if count < FEW {
+            return count / 2;
+        }
+        let last = count - 1;
+        let high = front(self.key(last));
+        if key_front >= high {
+            return last;
+        }
+        let low = front(self.key(1));
+        if key_front <= low {
+            return 0;
+        }
+        1 + share(key_front - low, high - low, last - 1)
     }
 
     /// Where a node begins, or, for the place behind the last one, where the nodes end.
@@ -333,6 +372,29 @@ impl Page {
         self.end -= size;
         finish(&mut self.bytes, self.count);
     }
+}
+
+/// How far the look after the next one may go on: no step at first, then a few, then half of what is left.
+fn wider(reach: usize) -> usize
+    ensures { result ≤ 677 }
+{
+    if reach == 0 { NEAR } else { MAX_NODES }
+}
+
+/// Which place of so many it is, if a part of a whole is gone.
+fn share(part: u64, whole: u64, places: usize) -> usize
+    requires part { part ≤ whole }
+    requires some { 0 < whole }
+    requires few { places < 1024 }
+    ensures { result ≤ places }
+{
+    let places = places as u64;
+    let place = if whole < EXACT {
+        part * places / whole
+    } else {
+        (part >> 10) * places / (whole >> 10)
+    };
+    place.min(places) as usize
 }
 
 /// Writes the number and the kind into bytes of zeros.
