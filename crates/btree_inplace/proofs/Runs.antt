@@ -1,16 +1,15 @@
 -- The nodes of a leaf are a run of the nodes of its tree, which rise.
-use Rattle.std.proofs.Common.{◌≡◌, ℕ, zero, suc, ◌+◌, ◌-◌, ◌<◌, ◌≤◌, inl, inr, Some, List, [], ◌∷◌, ◌++◌, length, take, drop, get_or, refl, sym, ap, subst, ◌∙◌, arith}
-use Rattle.std.specs.Prelude.{find, reverse, All}
+use Rattle.std.proofs.Common.{◌≡◌, ℕ, zero, suc, ◌+◌, ◌-◌, ◌<◌, inl, inr, Some, List, [], ◌∷◌, ◌++◌, length, take, drop, get_or, sym, ap, subst, ◌∙◌, arith}
+use Rattle.std.specs.Prelude.{All}
 use Rattle.std.specs.List.{flat_map}
 use Rattle.std.proofs.lemmas.Bool.{cases_eq}
 use Rattle.std.proofs.lemmas.Cmp.{nat_list_cmp_total}
 use Rattle.std.proofs.lemmas.List.{append-nil, append_assoc, get_or-append-add, get_or_append_left, get_or_default, length-append}
-use Rattle.std.proofs.lemmas.List.Elements.{All-append, All-head, All-tail}
+use Rattle.std.proofs.lemmas.List.Elements.{All-append}
 use Rattle.std.proofs.lemmas.List.Kept.{AllPairs-cons}
 use Rattle.page_image.specs.Page.{Node, no_node, node_at, IsBelow, HasRisingKeys}
 use Rattle.page_space.specs.Frames.{Frames}
 use Rattle.btree_inplace.specs.Neighbors.{HasNodeAt}
-use Rattle.btree_inplace.specs.Order.{has_key, is_above, is_under}
 use Rattle.btree_inplace.specs.Shape.{IsBetween, IsSubtree, child_of, entries, page_in}
 use Rattle.btree_inplace.proofs.Before.{under_found}
 use Rattle.btree_inplace.proofs.Below.{All-flat_map, IsBelow-upto, above_found, flat_map-around, found_at}

@@ -31,6 +31,7 @@ pub struct Tree {
     root: u32,
     // How many inner pages stand above each leaf.
     depth: u32,
+    // Where the last search ended: a guess.
     last: LastPlaces,
 }
 

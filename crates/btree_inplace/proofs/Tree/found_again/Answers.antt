@@ -1,11 +1,10 @@
 -- Each step goes to a child, whichever it is, and the key tells at the leaf.
-use Rattle.std.proofs.Common.{◌≡◌, ◌+◌, ◌-◌, ◌<◌, ◌≤◌, ℕ, Some, List, suc, length, sym, ap, subst, ◌∙◌, arith}
+use Rattle.std.proofs.Common.{◌≡◌, ◌+◌, ◌-◌, ◌<◌, ℕ, Some, List, suc, length, sym, ap, subst, ◌∙◌, arith}
 use Rattle.std.specs.Prelude.{Option, unwrap_or}
 use Rattle.std.proofs.lemmas.Slice.Eq.{bytes_eq-Decides}
 use Rattle.byteorder.specs.Endian.{little_number}
 use Rattle.page_image.specs.Page.{PageContents, no_node, node_at}
 use Rattle.page_space.specs.Frames.{Frames, empty_page, page_at}
-use Rattle.btree_inplace.specs.Neighbors.{HasNodeAt}
 use Rattle.btree_inplace.specs.Shape.{IsInner, IsSubtree, child_of, entries, page_in}
 use Rattle.btree_inplace.specs.Trees.{nodes_of}
 use Rattle.btree_inplace.proofs.Runs.{IsRun, rising_below, run_child, run_has, run_itself}

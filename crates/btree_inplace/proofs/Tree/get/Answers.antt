@@ -1,5 +1,5 @@
 -- The node that the last places lead to is the tree's.
-use Rattle.std.proofs.Common.{◌≡◌, Some, sym, ap, ◌∙◌}
+use Rattle.std.proofs.Common.{Some, sym, ap, ◌∙◌}
 use Rattle.std.specs.Option.{option_map}
 use Rattle.page_image.specs.Page.{Node}
 use Rattle.btree_inplace.proofs.Tree.get.Goals as goal
