@@ -12,6 +12,7 @@ pub mod Leaves
 pub mod Parts
 pub mod Raising
 pub mod Removing
+pub mod Runs
 pub mod Splits
 pub mod Splitting
 pub mod Staying

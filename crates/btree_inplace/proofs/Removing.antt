@@ -244,7 +244,7 @@ unlinks_emptied key depth old between new page i below u one has =
     }
 
 -- a tree whose last node went
-pub tree_emptied : (old between : Frames) (tree : Tree) (key : List ℕ) (p : PageContents) → Emptied key tree.depth old between tree.root → p ≡ record { number = tree.root; kind = 1; nodes = [] } → IsPage p → AlteredTree (λ ns. without_key ns key) old tree (set between tree.root (Some p)) (record { root = tree.root; depth = 0 })
+pub tree_emptied : (old between : Frames) (tree : Tree) (key : List ℕ) (p : PageContents) → Emptied key tree.depth old between tree.root → p ≡ record { number = tree.root; kind = 1; nodes = [] } → IsPage p → AlteredTree (λ ns. without_key ns key) old tree (set between tree.root (Some p)) (record { root = tree.root; depth = 0; last = tree.last })
 tree_emptied old between tree key p e value ok =
     let new = set between tree.root (Some p) in
     let at : page_at new tree.root ≡ Some p = wrote between tree.root p e.taken in

@@ -1,9 +1,10 @@
 -- A look-up's path with the nearest subtree beside it, which has the node that the path's leaf may lack.
-use Rattle.std.specs.Prelude.{◌≡◌, ℕ, ◌<◌, ◌≤◌, Bool, true, Option, Some, None, List, length, find, reverse}
+use Rattle.std.specs.Prelude.{◌≡◌, ℕ, ◌+◌, ◌-◌, ◌<◌, ◌≤◌, Bool, true, Option, Some, None, List, length, find, reverse}
 use Rattle.std.specs.Option.{MatchOption, option_or}
 use Rattle.std.specs.Prelude.{⊤}
 use Rattle.page_image.specs.Page.{Node, node_at}
 use Rattle.page_space.specs.Frames.{Frames}
+use Rattle.btree_inplace.specs.Order.{has_key, is_above, is_under}
 use Rattle.btree_inplace.specs.Shape.{IsSubtree, entries}
 
 -- a subtree, by its page and its depth, that has a node
@@ -36,3 +37,10 @@ pub record IsFirstPlace (test : Node → Bool) (nodes : List Node) (i : ℕ) : T
 -- the place of the last node that passes, where one does
 abbrev pub IsLastPlace : (Node → Bool) → List Node → Option ℕ → Type 0
 IsLastPlace test nodes place = MatchOption place (find test (reverse nodes) ≡ None) (λ i. (i < length nodes) × (find test (reverse nodes) ≡ Some (node_at nodes i)))
+
+-- A part of the nodes has the one with the key at place i, and its neighbors in the part are its neighbors.
+pub record HasNodeAt (nodes : List Node) (key : List ℕ) (part : List Node) (i : ℕ) : Type 0 where
+  pub within : i < length part
+  pub found : find (has_key key) nodes ≡ Some (node_at part i)
+  pub after : i + 1 < length part → find (is_above key) nodes ≡ Some (node_at part (i + 1))
+  pub before : 0 < i → find (is_under key) (reverse nodes) ≡ Some (node_at part (i - 1))

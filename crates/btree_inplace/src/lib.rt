@@ -15,8 +15,10 @@ ghost use Rattle.btree_inplace.specs.Trees.{AreApart, Exchanges, IsTree, nodes_o
 mod discard;
 mod insert;
 mod neighbors;
+mod places;
 mod remove;
 
+use crate::places::LastPlaces;
 use btree_node::child;
 use byteorder::{ByteOrder, LittleEndian};
 use jet_base::OutOfMemory;
@@ -29,6 +31,8 @@ pub struct Tree {
     root: u32,
     // How many inner pages stand above each leaf.
     depth: u32,
+    // Where the last search ended: a guess.
+    last: LastPlaces,
 }
 
 impl Tree {
@@ -40,7 +44,11 @@ impl Tree {
         ensures err { OnErr result (space.new ≡ space.old) }
     {
         let root = space.take()?;
-        Ok(Tree { root, depth: 0 })
+        Ok(Tree {
+            root,
+            depth: 0,
+            last: LastPlaces::new(),
+        })
     }
 
     /// The number of the root page. It stays the same while the tree stands, however many nodes it has:
@@ -56,9 +64,23 @@ impl Tree {
         requires { IsTree space.now self.now }
         ensures { option_copied result ≡ get_in (nodes_of space.now self.now) key.now }
     {
+        match self.found_again(space, key) {
+            Some((leaf, i)) => Some(leaf.data(i)),
+            None => self.search(space, key),
+        }
+    }
+
+    /// `get` by a search from the root.
+    fn search<'a>(&self, space: &'a Space, key: &[u8]) -> Option<&'a [u8]>
+        requires { IsTree space.now self.now }
+        ensures { option_copied result ≡ get_in (nodes_of space.now self.now) key.now }
+    {
         let leaf = space.page(self.leaf(space, key));
         match leaf.find(key) {
-            Ok(i) => Some(leaf.data(i)),
+            Ok(i) => {
+                self.last.note_in_leaf(i, key);
+                Some(leaf.data(i))
+            }
             Err(_) => None,
         }
     }
@@ -93,7 +115,7 @@ impl Tree {
         }
     }
 
-    /// The leaf that a key belongs to.
+    /// The leaf that a key belongs to. The places of the way there are noted.
     fn leaf(&self, space: &Space, key: &[u8]) -> u32
         requires { IsTree space.now self.now }
         ensures leaf { IsSubtree zero space.now result }
@@ -102,9 +124,11 @@ impl Tree {
         ensures lifts { (change : List Node → List Node) (new : Frames) → IsLocal change key.now → StayBut space.now new result → Changed change key.now zero space.now new result → Changed change key.now self.now.depth space.now new self.now.root }
     {
         let mut page = self.root;
-        for _ in 0..self.depth {
+        for level in 0..self.depth {
             let inner = space.page(page);
-            page = LittleEndian::read_u32(inner.data(child(inner, key)));
+            let i = child(inner, key);
+            self.last.note(self.depth - 1 - level, i);
+            page = LittleEndian::read_u32(inner.data(i));
         }
         page
     }

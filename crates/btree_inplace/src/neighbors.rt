@@ -8,6 +8,7 @@ ghost use Rattle.btree_inplace.specs.Shape.{IsSubtree, entries, page_in};
 ghost use Rattle.btree_inplace.specs.Neighbors.{IsFirstPlace, IsLastPlace, IsNeighbor, first_of, found_left, found_right, last_of};
 
 use crate::Tree;
+use crate::places::LastPlaces;
 use btree_node::child;
 use byteorder::{ByteOrder, LittleEndian};
 use page_image::Page;
@@ -23,7 +24,7 @@ impl Tree {
     {
         let (page, next) = self.right_path(space, key);
         let leaf = space.page(page);
-        node_or_next(space, leaf, place_from(leaf, key), next)
+        node_or_next(space, leaf, place_from(leaf, key), next, &self.last)
     }
 
     /// The first node whose key is above a key, if there is one: its key and data.
@@ -31,9 +32,20 @@ impl Tree {
         requires { IsTree space.now self.now }
         ensures { option_map (λ found. (found.0.now, found.1.now)) result ≡ after_in (nodes_of space.now self.now) key.now }
     {
+        match self.found_with_next(space, key) {
+            Some((_, next)) => Some(next),
+            None => self.search_after(space, key),
+        }
+    }
+
+    /// `after` by a search from the root.
+    fn search_after<'a>(&self, space: &'a Space, key: &[u8]) -> Option<(&'a [u8], &'a [u8])>
+        requires { IsTree space.now self.now }
+        ensures { option_map (λ found. (found.0.now, found.1.now)) result ≡ after_in (nodes_of space.now self.now) key.now }
+    {
         let (page, next) = self.right_path(space, key);
         let leaf = space.page(page);
-        node_or_next(space, leaf, place_above(leaf, key), next)
+        node_or_next(space, leaf, place_above(leaf, key), next, &self.last)
     }
 
     /// The last node whose key is not above a key, if there is one: its key and data.
@@ -43,7 +55,7 @@ impl Tree {
     {
         let (page, next) = self.left_path(space, key);
         let leaf = space.page(page);
-        node_or_previous(space, leaf, place_upto(leaf, key), next)
+        node_or_previous(space, leaf, place_upto(leaf, key), next, &self.last)
     }
 
     /// The last node whose key is below a key, if there is one: its key and data.
@@ -51,9 +63,20 @@ impl Tree {
         requires { IsTree space.now self.now }
         ensures { option_map (λ found. (found.0.now, found.1.now)) result ≡ before_in (nodes_of space.now self.now) key.now }
     {
+        match self.found_with_previous(space, key) {
+            Some((_, previous)) => Some(previous),
+            None => self.search_before(space, key),
+        }
+    }
+
+    /// `before` by a search from the root.
+    fn search_before<'a>(&self, space: &'a Space, key: &[u8]) -> Option<(&'a [u8], &'a [u8])>
+        requires { IsTree space.now self.now }
+        ensures { option_map (λ found. (found.0.now, found.1.now)) result ≡ before_in (nodes_of space.now self.now) key.now }
+    {
         let (page, next) = self.left_path(space, key);
         let leaf = space.page(page);
-        node_or_previous(space, leaf, place_under(leaf, key), next)
+        node_or_previous(space, leaf, place_under(leaf, key), next, &self.last)
     }
 
     /// The data of the node with a key, if there is one, and the first node whose key is above that key, as `get` and
@@ -67,12 +90,31 @@ impl Tree {
         ensures data { option_copied result.0 ≡ get_in (nodes_of space.now self.now) key.now }
         ensures after { option_map (λ found. (found.0.now, found.1.now)) result.1 ≡ after_in (nodes_of space.now self.now) key.now }
     {
+        match self.found_with_next(space, key) {
+            Some((data, next)) => (Some(data), Some(next)),
+            None => self.search_with_after(space, key),
+        }
+    }
+
+    /// The same by a search from the root.
+    fn search_with_after<'a>(
+        &self,
+        space: &'a Space,
+        key: &[u8],
+    ) -> (Option<&'a [u8]>, Option<(&'a [u8], &'a [u8])>)
+        requires { IsTree space.now self.now }
+        ensures data { option_copied result.0 ≡ get_in (nodes_of space.now self.now) key.now }
+        ensures after { option_map (λ found. (found.0.now, found.1.now)) result.1 ≡ after_in (nodes_of space.now self.now) key.now }
+    {
         let (page, next) = self.right_path(space, key);
         let leaf = space.page(page);
         let _ = leaf.len();
         match leaf.find(key) {
-            Ok(i) => (Some(leaf.data(i)), node_or_next(space, leaf, i + 1, next)),
-            Err(i) => (None, node_or_next(space, leaf, i, next)),
+            Ok(i) => (
+                Some(leaf.data(i)),
+                node_or_next(space, leaf, i + 1, next, &self.last),
+            ),
+            Err(i) => (None, node_or_next(space, leaf, i, next, &self.last)),
         }
     }
 
@@ -87,15 +129,34 @@ impl Tree {
         ensures data { option_copied result.0 ≡ get_in (nodes_of space.now self.now) key.now }
         ensures before { option_map (λ found. (found.0.now, found.1.now)) result.1 ≡ before_in (nodes_of space.now self.now) key.now }
     {
+        match self.found_with_previous(space, key) {
+            Some((data, previous)) => (Some(data), Some(previous)),
+            None => self.search_with_before(space, key),
+        }
+    }
+
+    /// The same by a search from the root.
+    fn search_with_before<'a>(
+        &self,
+        space: &'a Space,
+        key: &[u8],
+    ) -> (Option<&'a [u8]>, Option<(&'a [u8], &'a [u8])>)
+        requires { IsTree space.now self.now }
+        ensures data { option_copied result.0 ≡ get_in (nodes_of space.now self.now) key.now }
+        ensures before { option_map (λ found. (found.0.now, found.1.now)) result.1 ≡ before_in (nodes_of space.now self.now) key.now }
+    {
         let (page, next) = self.left_path(space, key);
         let leaf = space.page(page);
         let _ = leaf.len();
         match leaf.find(key) {
             Ok(i) => (
                 Some(leaf.data(i)),
-                node_or_previous(space, leaf, i.checked_sub(1), next),
+                node_or_previous(space, leaf, i.checked_sub(1), next, &self.last),
             ),
-            Err(i) => (None, node_or_previous(space, leaf, i.checked_sub(1), next)),
+            Err(i) => (
+                None,
+                node_or_previous(space, leaf, i.checked_sub(1), next, &self.last),
+            ),
         }
     }
 
@@ -126,7 +187,7 @@ impl Tree {
         let mut page = self.root;
         let mut next = None;
         for level in 0..self.depth {
-            (page, next) = step_right(space, page, self.depth - 1 - level, key, next);
+            (page, next) = step_right(space, page, self.depth - 1 - level, key, next, &self.last);
         }
         (page, next)
     }
@@ -142,7 +203,7 @@ impl Tree {
         let mut page = self.root;
         let mut next = None;
         for level in 0..self.depth {
-            (page, next) = step_left(space, page, self.depth - 1 - level, key, next);
+            (page, next) = step_left(space, page, self.depth - 1 - level, key, next, &self.last);
         }
         (page, next)
     }
@@ -154,12 +215,15 @@ fn node_or_next<'a>(
     leaf: &'a Page,
     i: usize,
     next: Option<(u32, u32)>,
+    last: &LastPlaces,
 ) -> Option<(&'a [u8], &'a [u8])>
     requires { IsNeighbor space.now next }
     ensures { (test : Node → Bool) → IsFirstPlace test leaf.now.nodes i → option_map (λ found. (found.0.now, found.1.now)) result ≡ option_map key_and_data (option_or (find test leaf.now.nodes) (first_of space.now next)) }
 {
     if i < leaf.len() {
-        return Some((leaf.key(i), leaf.data(i)));
+        let key = leaf.key(i);
+        last.note_in_leaf(i, key);
+        return Some((key, leaf.data(i)));
     }
     match next {
         Some((page, depth)) => first_below(space, page, depth),
@@ -173,13 +237,16 @@ fn node_or_previous<'a>(
     leaf: &'a Page,
     place: Option<usize>,
     next: Option<(u32, u32)>,
+    last: &LastPlaces,
 ) -> Option<(&'a [u8], &'a [u8])>
     requires next { IsNeighbor space.now next }
     requires place { (test : Node → Bool) × IsLastPlace test leaf.now.nodes place }
     ensures { (test : Node → Bool) → IsLastPlace test leaf.now.nodes place → option_map (λ found. (found.0.now, found.1.now)) result ≡ option_map key_and_data (option_or (find test (reverse leaf.now.nodes)) (last_of space.now next)) }
 {
     if let Some(i) = place {
-        return Some((leaf.key(i), leaf.data(i)));
+        let key = leaf.key(i);
+        last.note_in_leaf(i, key);
+        return Some((key, leaf.data(i)));
     }
     match next {
         Some((page, depth)) => last_below(space, page, depth),
@@ -227,6 +294,7 @@ fn step_right(
     depth: u32,
     key: &[u8],
     next: Option<(u32, u32)>,
+    last: &LastPlaces,
 ) -> (u32, Option<(u32, u32)>)
     requires tree { IsSubtree (suc depth) space.now page }
     requires next { IsNeighbor space.now next }
@@ -238,6 +306,7 @@ fn step_right(
     let inner = space.page(page);
     let count = inner.len();
     let i = child(inner, key);
+    last.note(depth, i);
     let below = LittleEndian::read_u32(inner.data(i));
     if i + 1 < count {
         return (
@@ -278,6 +347,7 @@ fn step_left(
     depth: u32,
     key: &[u8],
     next: Option<(u32, u32)>,
+    last: &LastPlaces,
 ) -> (u32, Option<(u32, u32)>)
     requires tree { IsSubtree (suc depth) space.now page }
     requires next { IsNeighbor space.now next }
@@ -288,6 +358,7 @@ fn step_left(
 {
     let inner = space.page(page);
     let i = child(inner, key);
+    last.note(depth, i);
     let below = LittleEndian::read_u32(inner.data(i));
     if i > 0 {
         return (

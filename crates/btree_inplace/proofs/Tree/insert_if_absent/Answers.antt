@@ -1,11 +1,11 @@
 -- The leaf that the key belongs to has the node, or takes the new one where it has room.
-use Rattle.std.proofs.Common.{◌≡◌, ◌≢◌, ◌+◌, ◌≤◌, ◌<◌, ℕ, List, Option, Some, None, length, set, sym, ap, subst, ◌∙◌, arith}
+use Rattle.std.proofs.Common.{◌≡◌, ◌+◌, ◌≤◌, Option, Some, None, length, set, sym, ap, subst, ◌∙◌, arith}
 use Rattle.std.specs.Prelude.{find, insert, if◌then◌else◌, is_some, unwrap_or}
 use Rattle.std.specs.Option.{option_map}
-use Rattle.page_image.specs.Page.{Node, PageContents, IsInsertPlace, IsPage, HasRisingKeys, node_at, page_size}
+use Rattle.page_image.specs.Page.{Node, PageContents, IsInsertPlace, HasRisingKeys, page_size}
 use Rattle.page_space.specs.Frames.{empty_page}
 use Rattle.btree_inplace.specs.Changes.{inserted, inserted_if_absent}
-use Rattle.btree_inplace.specs.Order.{extent_in, has_key}
+use Rattle.btree_inplace.specs.Order.{has_key}
 use Rattle.btree_inplace.specs.Shape.{page_in}
 use Rattle.btree_inplace.specs.Trees.{Exchanges, IsTree, nodes_of, pages_of}
 use Rattle.btree_inplace.proofs.Below.{found_at, not_found}

@@ -19,7 +19,7 @@ returns-in_err-number-clause-same c =
     subst (λ (f : Frames). AlteredTree (λ nodes. nodes) c.args.space.now c.args.self.now f c.args.self.now) (sym c.in_err-number.ensures.err) (tree_none c.args.space.now c.args.self.now c.requires.tree)
 
 -- the tree with a page more, and the room of its root
-made : (c : goal.After-self-1) → AlteredTree (λ nodes. nodes) c.args.space.now c.args.self.now (set (set c.take.new.self c.args.self.now.root (Some c.root_above.result)) c.in_ok-number.number (Some c.move_tail.new.to)) (record { root = c.args.self.now.root; depth = c.args.self.now.depth + 1 }) × (page_size (page_in (set (set c.take.new.self c.args.self.now.root (Some c.root_above.result)) c.in_ok-number.number (Some c.move_tail.new.to)) c.args.self.now.root).nodes + room_at (c.args.self.now.depth + 1) c.args.need ≤ 4096)
+made : (c : goal.After-self-1) → AlteredTree (λ nodes. nodes) c.args.space.now c.args.self.now (set (set c.take.new.self c.args.self.now.root (Some c.root_above.result)) c.in_ok-number.number (Some c.move_tail.new.to)) (record { root = c.args.self.now.root; depth = c.args.self.now.depth + 1; last = c.args.self.now.last }) × (page_size (page_in (set (set c.take.new.self c.args.self.now.root (Some c.root_above.result)) c.in_ok-number.number (Some c.move_tail.new.to)) c.args.self.now.root).nodes + room_at (c.args.self.now.depth + 1) c.args.need ≤ 4096)
 made c =
     let old = c.args.space.now in
     let tree = c.args.self.now in

@@ -8,7 +8,7 @@ use Rattle.btree_inplace.proofs.Tree.remove.Goals as goal
 
 pub returns-then-remove_below-clause-pages : goal.returns-then-remove_below-clause-pages
 returns-then-remove_below-clause-pages c =
-    altered_exchanges (λ nodes. without_key nodes c.args.key.now) c.args.space.now (set c.remove_below.new.space c.args.self.now.root (Some c.empty.result)) c.args.self.now (record { root = c.args.self.now.root; depth = 0 })
+    altered_exchanges (λ nodes. without_key nodes c.args.key.now) c.args.space.now (set c.remove_below.new.space c.args.self.now.root (Some c.empty.result)) c.args.self.now (record { root = c.args.self.now.root; depth = 0; last = c.args.self.now.last })
     (tree_emptied c.args.space.now c.remove_below.new.space c.args.self.now c.args.key.now c.empty.result (c.if-remove_below.ensures.emptied refl) c.empty.ensures.value c.empty.ensures.page)
 
 -- the tree without the node

@@ -8,7 +8,7 @@ use Rattle.btree_inplace.specs.Order.{is_under, key_and_data}
 use Rattle.btree_inplace.specs.Neighbors.{last_of}
 use Rattle.btree_inplace.specs.Shape.{page_in}
 use Rattle.btree_inplace.proofs.Before.{is_under-passes}
-use Rattle.btree_inplace.proofs.Tree.before.Goals as goal
+use Rattle.btree_inplace.proofs.Tree.search_before.Goals as goal
 
 pub returns : goal.returns
 returns c =

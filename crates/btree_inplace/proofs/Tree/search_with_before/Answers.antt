@@ -9,7 +9,7 @@ use Rattle.btree_inplace.specs.Neighbors.{last_of}
 use Rattle.btree_inplace.specs.Shape.{page_in}
 use Rattle.btree_inplace.proofs.Below.{found_at, not_found}
 use Rattle.btree_inplace.proofs.Before.{is_under-passes, place_before, place_below}
-use Rattle.btree_inplace.proofs.Tree.get_and_before.Goals as goal
+use Rattle.btree_inplace.proofs.Tree.search_with_before.Goals as goal
 
 pub node_or_previous-requires-clause-place : goal.node_or_previous-requires-clause-place
 node_or_previous-requires-clause-place c =

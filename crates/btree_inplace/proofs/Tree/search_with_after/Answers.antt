@@ -8,7 +8,7 @@ use Rattle.btree_inplace.specs.Order.{has_key, is_above, key_and_data}
 use Rattle.btree_inplace.specs.Neighbors.{first_of}
 use Rattle.btree_inplace.specs.Shape.{page_in}
 use Rattle.btree_inplace.proofs.Below.{found_at, is_above-passes, not_found, place_at, place_behind}
-use Rattle.btree_inplace.proofs.Tree.get_and_after.Goals as goal
+use Rattle.btree_inplace.proofs.Tree.search_with_after.Goals as goal
 
 pub returns-in-Ok-clause-data : goal.returns-in-Ok-clause-data
 returns-in-Ok-clause-data c =

@@ -8,7 +8,7 @@ use Rattle.btree_inplace.specs.Order.{is_above, key_and_data}
 use Rattle.btree_inplace.specs.Neighbors.{first_of}
 use Rattle.btree_inplace.specs.Shape.{page_in}
 use Rattle.btree_inplace.proofs.Below.{is_above-passes}
-use Rattle.btree_inplace.proofs.Tree.after.Goals as goal
+use Rattle.btree_inplace.proofs.Tree.search_after.Goals as goal
 
 pub returns : goal.returns
 returns c =
