@@ -33,14 +33,14 @@ impl Model for FieldList {
 }
 
 impl FieldList {
-    /// The list without a column. It takes no memory.
-    pub(crate) fn new(alloc: Global) -> FieldList
-        ensures { result ≡ [] }
+    /// The list without a column, with room for this many.
+    pub(crate) fn with_room(alloc: Global, columns: usize) -> Result<FieldList, OutOfMemory>
+        ensures { IfOk result (λ made. made ≡ []) }
     {
-        FieldList {
-            fields: Vec::new(alloc),
+        Ok(FieldList {
+            fields: Vec::with_capacity(alloc, columns)?,
             size: COUNT_SIZE,
-        }
+        })
     }
 
     /// The values of the column, none where it is NULL. The record with them is the record itself.

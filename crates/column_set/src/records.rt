@@ -13,12 +13,17 @@ use std::alloc::Global;
 use std::marker::Model;
 use std::sync::Arc;
 
+// How many columns a record of a table that is not known makes room for.
+const FEW_COLUMNS: usize = 4;
+
 /// A record: for each column that has a value, by rising number, its values in their order.
 ///
 /// A column without a value, which is NULL, does not stand in it. Copies share their values until one of them changes.
 #[derive(Debug, Drop)]
 pub struct Record {
     alloc: Global,
+    // How many columns its first value makes room for.
+    room: usize,
     // None where no column ever had a value.
     shared: Option<Arc<FieldList>>,
 }
@@ -38,8 +43,16 @@ impl Record {
     pub fn new(alloc: Global) -> Record
         ensures { result ≡ [] }
     {
+        Record::with_room(alloc, FEW_COLUMNS)
+    }
+
+    /// The record without a value, whose first value takes the room for this many columns at once. It takes no memory.
+    pub fn with_room(alloc: Global, columns: usize) -> Record
+        ensures { result ≡ [] }
+    {
         Record {
             alloc,
+            room: columns,
             shared: None,
         }
     }
@@ -52,6 +65,7 @@ impl Record {
             Some(shared) => match shared.clone() {
                 Ok(shared) => Ok(Record {
                     alloc: self.alloc,
+                    room: self.room,
                     shared: Some(shared),
                 }),
                 Err(_) => Err(OutOfMemory),
@@ -192,7 +206,7 @@ impl Record {
         requires { self.old ≡ [] }
         ensures { self.new ≡ (if is_ok result then with_values self.old column.0 (value ∷ []) else self.old) }
     {
-        let mut fields = FieldList::new(self.alloc);
+        let mut fields = FieldList::with_room(self.alloc, self.room)?;
         match fields.set_only_value(column, value) {
             Ok(()) => match Arc::new(self.alloc, fields) {
                 Ok(shared) => {

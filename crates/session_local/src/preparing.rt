@@ -58,7 +58,7 @@ impl OpenCursor {
 fn with_sums_at_zero(alloc: Global, columns: &[Column]) -> Result<Record, OutOfMemory>
     ensures { IfOk result (λ made. made ≡ with_sums_at_zero columns.now []) }
 {
-    let mut values = Record::new(alloc);
+    let mut values = Record::with_room(alloc, columns.len());
     for column in columns {
         if column.escrow {
             let zero = Octets::from_slice(alloc, &[0; 4])?;
