@@ -1,5 +1,5 @@
 -- A page has few nodes, and a key above the last one is above all.
-use Rattle.std.proofs.Common.{◌≤◌, ◌+◌, ◌-◌, length, sym, ap, ◌∙◌, arith}
+use Rattle.std.proofs.Common.{◌≤◌, ◌-◌, sym, ap, ◌∙◌, arith}
 use Rattle.std.specs.Ordering.{nat_cmp}
 use Rattle.std.specs.Cmp.Lexicographic.{slice_cmp}
 use Rattle.page_image.proofs.Fronts.{front_not_lower}
