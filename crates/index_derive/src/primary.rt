@@ -30,8 +30,7 @@ pub fn primary_key<R: Values>(rule: &IndexRule, schema: &Schema, record: &R) -> 
             nulls_high: rule.flags.sortnullshigh,
         });
     }
-    let (key, _) = maker.done();
-    key
+    maker.finish()
 }
 
 /// A record has exactly one entry in a primary index, or is refused there: no column of its key has several values,

@@ -18,7 +18,7 @@ pub const LONGEST_KEY: usize = 255;
 /// Keys are ordered as byte strings.
 #[derive(Debug, Drop)]
 pub struct Key {
-    bytes: ArrayVec<u8, LONGEST_KEY>,
+    pub(crate) bytes: ArrayVec<u8, LONGEST_KEY>,
 }
 
 impl Model for Key {

@@ -88,6 +88,13 @@ impl KeyMaker {
         (Key::from_slice(self.bytes.as_slice()), self.lost)
     }
 
+    /// The key alone, of a maker that is done with. Its bytes are not copied out.
+    pub fn finish(self) -> Key
+        ensures { result ≡ self.bytes }
+    {
+        Key { bytes: self.bytes }
+    }
+
     #[tactic(auto, using(crate::proofs::Making::segment_of_value, crate::proofs::Making::unchanged))]
     fn add_value(&mut self, kind: ColType, value: &[u8], descending: bool)
         ensures { self.new ≡ with_bytes self.old (segment_bytes kind (Some value.now) descending false) }

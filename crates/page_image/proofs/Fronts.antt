@@ -1,7 +1,9 @@
 -- The fronts of keys, and the order of the keys.
-use Rattle.std.proofs.Common.{◌≡◌, ℕ, zero, suc, ◌+◌, ◌*◌, ◌^◌, ◌<◌, ◌≤◌, ◌⊎◌, inl, inr, min, List, [], ◌∷◌, length, drop, get_or, refl, sym, ap, ◌∙◌, arith}
+use Rattle.std.proofs.Common.{◌≡◌, ℕ, zero, suc, ◌+◌, ◌*◌, ◌^◌, ◌<◌, ◌≤◌, ◌⊎◌, inl, inr, false, true, min, List, [], ◌∷◌, length, drop, get_or, refl, sym, ap, ◌∙◌, arith}
 use Rattle.std.proofs.Math.Nat.{add-mul, mul-le-mul_right}
+use Rattle.std.specs.Prelude.{nat_lt}
 use Rattle.std.proofs.lemmas.Bool.{cases_lt}
+use Rattle.std.proofs.lemmas.Bool.Decides.{nat_tests}
 use Rattle.std.proofs.lemmas.Cmp.{nat_list_cmp_total}
 use Rattle.std.specs.Ordering.{nat_cmp, ordering_reverse, ordering_then}
 use Rattle.std.specs.declared.cmp.Ordering.{Ordering}
@@ -127,3 +129,11 @@ short_by_front a b bytes bytes' short e = lengths_by_front 8 a b bytes bytes' (e
 
 pub front_of_bytes : (key : List ℕ) (a b c d e f g h : ℕ) → a ≡ get_or key 0 0 → b ≡ get_or key 1 0 → c ≡ get_or key 2 0 → d ≡ get_or key 3 0 → e ≡ get_or key 4 0 → f ≡ get_or key 5 0 → g ≡ get_or key 6 0 → h ≡ get_or key 7 0 → from_be_bytes w64 (a ∷ b ∷ c ∷ d ∷ e ∷ f ∷ g ∷ h ∷ []) ≡ big_number 8 key
 front_of_bytes key a b c d e f g h at0 at1 at2 at3 at4 at5 at6 at7 = omega (arith, at0, at1, at2, at3, at4, at5, at6, at7)
+
+-- ---- which of two fronts is lower
+
+pub lower_front : (x y : ℕ) → nat_lt x y ≡ true → x < y
+lower_front x y h = grind (arith, nat_tests)
+
+pub front_not_lower : (x y : ℕ) → nat_lt x y ≡ false → y ≤ x
+front_not_lower x y h = grind (arith, nat_tests)

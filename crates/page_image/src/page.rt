@@ -1,10 +1,11 @@
 //! A page in memory.
 
-ghost use Rattle.std.specs.Prelude.{◌≡◌, ℕ, ◌+◌, ◌<◌, ◌≤◌, ◌⊎◌, ◌↔◌, [], ◌++◌, length, drop, take, replicate, insert, remove, slice_set, IfOk, IsOk, IsTrue, MatchResult, OnErr, OnOk};
+ghost use Rattle.std.specs.Prelude.{◌≡◌, ℕ, ◌+◌, ◌<◌, ◌≤◌, ◌⊎◌, ◌↔◌, [], ◌++◌, length, drop, take, replicate, insert, remove, slice_set, None, IfOk, IfSome, IsOk, IsTrue, MatchResult, OnErr, OnOk};
+ghost use Rattle.byteorder.specs.Endian.{big_number};
 ghost use Rattle.page_image.specs.Page.{HasRisingKeys, IsInsertPlace, IsPage, PageContents, node_area, node_at, node_size, page_bytes, page_head, page_size, with_data, with_extent};
 
 use crate::offsets::{MAX_NODES, copy_offsets, insert_offset, move_offsets, remove_offset};
-use crate::order::{compare, front};
+use crate::order::{compare, front, is_lower};
 use crate::spelling::{
     HEAD_BYTES, NODE_HEAD_BYTES, PAGE_BYTES, finish, has_same_words, insert_node, number_at,
     remove_bytes, replace_data, resize_zeros, sealed,
@@ -210,7 +211,9 @@ impl Page {
     {
         let key_front = front(key);
         let (mut low, mut high) = (0, self.count);
-        let mut probe = self.guess(key_front);
+        let Some(mut probe) = self.guess(key, key_front) else {
+            return Err(high);
+        };
         let mut reach = 0;
         while low < high {
             let near = reach;
@@ -231,24 +234,27 @@ impl Page {
     }
 
     /// Where a key stands if the fronts of the keys rise evenly from the second one on, since the first one of an inner page
-    /// is empty. A key with the front of the last one, or a higher one, is behind all others as rising keys are.
-    fn guess(&self, key_front: u64) -> usize
-        ensures { 0 < length self.now.nodes → result < length self.now.nodes }
+    /// is empty. None: the front of the last key is lower, so that the key is behind all others, as rising keys are.
+    fn guess(&self, key: &[u8], key_front: u64) -> Option<usize>
+        requires { key_front ≡ big_number 8 key.now }
+        ensures place { IfSome result (λ i. 0 < length self.now.nodes → i < length self.now.nodes) }
+        ensures behind { result ≡ None → IsInsertPlace self.now.nodes key.now (length self.now.nodes) }
     {
         let count = self.len();
         if count < FEW {
-            return count / 2;
+            return Some(count / 2);
         }
         let last = count - 1;
-        let high = front(self.key(last));
-        if key_front >= high {
-            return last;
+        let highest = self.key(last);
+        let high = front(highest);
+        if is_lower(highest, high, key, key_front) {
+            return None;
         }
         let low = front(self.key(1));
         if key_front <= low {
-            return 0;
+            return Some(0);
         }
-        1 + share(key_front - low, high - low, last - 1)
+        Some(1 + share(key_front - low, high - low, last - 1))
     }
 
     /// Where a node begins, or, for the place behind the last one, where the nodes end.

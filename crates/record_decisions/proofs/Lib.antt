@@ -7,5 +7,6 @@ pub mod PutSteps
 pub mod Updates
 pub mod CopiedValues
 pub mod SeenRecords
+pub mod OwnKeys
 pub mod PreparedCopies
 pub mod EscrowUpdates

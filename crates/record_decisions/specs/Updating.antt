@@ -1,5 +1,5 @@
 -- Why the engine refuses an update, and what it puts, by what it holds.
-use Rattle.std.specs.Prelude.{◌≡◌, ℕ, ◌+◌, ◌≤◌, false, true, List, [], ◌∷◌, ◌++◌, filter, length, slice_get, Option, Some, None, Result, Ok, Err, IsSomeAnd, is_some, nat_lt, if◌then◌else◌}
+use Rattle.std.specs.Prelude.{◌≡◌, ℕ, ◌+◌, ◌≤◌, false, true, List, [], ◌∷◌, ◌++◌, filter, length, slice_get, Option, Some, None, Result, Ok, Err, IsSomeAnd, is_some, nat_lt, option_map, if◌then◌else◌}
 use Rattle.std.specs.List.{flat_map}
 use Rattle.jet_base.specs.declared.replies.Jet.{Jet}
 use Rattle.jet_base.specs.declared.replies.Jet.TheVariants as jet
@@ -34,6 +34,10 @@ number_of_change engine session = engine.number + (if is_outside_in engine sessi
 abbrev pub new_bookmark : ℕ → Schema → RecordFields → Option IndexRule → List ℕ
 new_bookmark number schema values None = big_endian 8 number
 new_bookmark number schema values (Some rule) = primary_key rule schema values
+
+-- the key of a record in the primary index, where its table has one
+abbrev pub own_key : Schema → RecordFields → Option (List ℕ)
+own_key schema values = option_map (λ rule. primary_key rule schema values) (primary_rule schema)
 
 -- a replace keeps the bookmark of its record
 abbrev pub bookmark_by : EngineState → ℕ → Schema → PreparedFor → RecordFields → List ℕ

@@ -1,16 +1,17 @@
 //! What a prepared update puts.
 
-ghost use Rattle.std.specs.Prelude.{◌≡◌, false, IfOk, is_some, nat_le};
+ghost use Rattle.std.specs.Prelude.{◌≡◌, false, IfOk, is_some, nat_le, option_copied, unwrap_or};
+ghost use Rattle.jet_base.specs.ColumnType.{big_endian};
 ghost use Rattle.database_state.specs.Lawful.{log_limit};
-ghost use Rattle.database_state.specs.Table.{primary_rule};
 ghost use Rattle.session_local.specs.Preparing.{for_of, update_of};
 ghost use Rattle.record_decisions.specs.Changing.{shown_for};
-ghost use Rattle.record_decisions.specs.Updating.{HasLegalRules, bookmark_by, copied_by, new_bookmark, number_of_change, put_by};
+ghost use Rattle.record_decisions.specs.Updating.{bookmark_by, copied_by, number_of_change, own_key, put_by};
 
-use column_set::{Bookmark, Change, Record};
+use column_set::{Bookmark, Change};
 use engine_parts::Engine;
-use index_derive::{Schema, primary_key};
+use index_derive::Schema;
 use jet_base::{OutOfMemory, Session, TableId};
+use key_normal::Key;
 use session_local::{OpenCursor, Prepared, Purpose};
 use std::alloc::Global;
 
@@ -20,13 +21,14 @@ pub(crate) fn put_by(
     session: Session,
     found: &OpenCursor,
     prepared: &Prepared,
+    key: Option<&Key>,
 ) -> Result<Change, OutOfMemory>
-    requires rules { HasLegalRules found.now.schema }
+    requires key { option_copied key ≡ own_key found.now.schema prepared.now.buffer.fields }
     requires space { nat_le log_limit engine.now.number ≡ false }
     ensures { IfOk result (λ made. made ≡ put_by engine.now session.0 found.now (update_of prepared.now)) }
 {
     let table = found.cursor().table();
-    let bookmark = match bookmark_by(engine, session, found.schema(), prepared) {
+    let bookmark = match bookmark_by(engine, session, found.schema(), prepared, key) {
         Ok(bookmark) => bookmark,
         Err(fault) => return Err(fault),
     };
@@ -51,35 +53,27 @@ fn bookmark_by(
     session: Session,
     schema: &Schema,
     prepared: &Prepared,
+    key: Option<&Key>,
 ) -> Result<Bookmark, OutOfMemory>
-    requires rules { HasLegalRules schema.now }
+    requires key { option_copied key ≡ own_key schema.now prepared.now.buffer.fields }
     requires space { nat_le log_limit engine.now.number ≡ false }
     ensures { IfOk result (λ bookmark. bookmark ≡ bookmark_by engine.now session.0 schema.now (for_of prepared.now.purpose) prepared.now.buffer.fields) }
 {
     match &prepared.purpose {
         Purpose::Insert(_) => {
             let number = number_of_change(engine, session);
-            new_bookmark(engine.alloc, number, schema, prepared.buffer.values())
+            new_bookmark(engine.alloc, number, key)
         }
         Purpose::Replace(bookmark) => bookmark.copy(),
     }
 }
 
-// The bookmark of a new record, which the entry of this number inserts.
-fn new_bookmark(
-    alloc: Global,
-    number: u64,
-    schema: &Schema,
-    values: &Record,
-) -> Result<Bookmark, OutOfMemory>
-    requires rules { HasLegalRules schema.now }
-    ensures { IfOk result (λ bookmark. bookmark ≡ new_bookmark number schema.now values.now (primary_rule schema.now)) }
+// The bookmark of a new record, which the entry of this number inserts: its key in the primary index, if there is one.
+fn new_bookmark(alloc: Global, number: u64, key: Option<&Key>) -> Result<Bookmark, OutOfMemory>
+    ensures { IfOk result (λ bookmark. bookmark ≡ unwrap_or (option_copied key.entry) (big_endian 8 number)) }
 {
-    match schema.primary_rule() {
-        Some(rule) => {
-            let key = primary_key(rule, schema, values);
-            Bookmark::from_slice(alloc, key.as_bytes())
-        }
+    match key {
+        Some(key) => Bookmark::from_slice(alloc, key.as_bytes()),
         None => Bookmark::from_slice(alloc, &number.to_be_bytes()),
     }
 }

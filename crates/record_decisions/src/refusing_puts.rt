@@ -1,20 +1,25 @@
 //! Why a prepared update may not be put, before its room is asked for.
 
-ghost use Rattle.std.specs.Prelude.{◌≡◌, ◌≤◌, true, None, IfOk, option_copied};
+ghost use Rattle.std.specs.Prelude.{◌≡◌, ◌≤◌, true, None, Some, IfOk, IsOk, IsSomeAnd, option_copied};
 ghost use Rattle.column_set.specs.RecordValues.{is_missing_a_value};
-ghost use Rattle.index_derive.specs.Entries.{is_legal, is_unique};
+ghost use Rattle.index_derive.specs.Entries.{entries, is_legal, is_unique};
 ghost use Rattle.database_state.specs.Puts.{null_refusals};
 ghost use Rattle.database_state.specs.Refusals.{first_refusal};
+ghost use Rattle.database_state.specs.Table.{primary_rule, rule_with_id, schema_of, table_with_id};
 ghost use Rattle.session_local.specs.Preparing.{for_of, update_of};
 ghost use Rattle.session_local.specs.RecordCalls.{is_primary_changed, replaced_by};
-ghost use Rattle.record_decisions.specs.Updating.{HasLegalRules, IsSchemaOf, entry_refusals, keys_in, record_in, values_in};
+ghost use Rattle.table_versions.specs.KeyConflicts.{unique_refusals};
+ghost use Rattle.record_decisions.specs.Updating.{HasLegalRules, IsSchemaOf, entry_refusals, keys_in, own_key, record_in, values_in};
 
 use column_set::Record;
 use engine_parts::Engine;
 use index_derive::{DeriveFault, IndexRule, Schema, derive, primary_key};
 use jet_base::{Jet, OutOfMemory, Session, TableId};
+use key_normal::Key;
 use session_local::{OpenCursor, Prepared, Purpose};
 use std::alloc::Global;
+use table_versions::TableVersions;
+use version_store::Reader;
 
 /// Why the record may not be put, before its room is asked for.
 pub(crate) fn record_refusal(
@@ -22,15 +27,17 @@ pub(crate) fn record_refusal(
     session: Session,
     found: &OpenCursor,
     prepared: &Prepared,
+    key: Option<&Key>,
 ) -> Result<Option<Jet>, OutOfMemory>
     requires named { IsSchemaOf engine.now found.now.cursor.table found.now.schema }
     requires rules { HasLegalRules found.now.schema }
+    requires key { option_copied key ≡ own_key found.now.schema prepared.now.buffer.fields }
     ensures { IfOk result (λ refusal. refusal ≡ first_refusal (record_in engine.now session.0 found.now (update_of prepared.now))) }
 {
     let table = found.cursor().table();
     let schema = found.schema();
     match values_refusal(engine.alloc, schema, prepared) {
-        Ok(None) => Ok(keys_refusal(engine, session, table, schema, prepared)),
+        Ok(None) => Ok(keys_refusal(engine, session, table, schema, prepared, key)),
         Ok(Some(refusal)) => Ok(Some(refusal)),
         Err(fault) => Err(fault),
     }
@@ -124,10 +131,12 @@ fn keys_refusal(
     table: TableId,
     schema: &Schema,
     prepared: &Prepared,
+    key: Option<&Key>,
 ) -> Option<Jet>
     requires named { IsSchemaOf engine.now table.0 schema.now }
     requires rules { HasLegalRules schema.now }
     requires taken { first_refusal (null_refusals schema.now prepared.now.buffer.fields) ≡ None }
+    requires key { option_copied key ≡ own_key schema.now prepared.now.buffer.fields }
     ensures { result ≡ first_refusal (keys_in engine.now session.0 table.0 schema.now (replaced_by (for_of prepared.now.purpose)) prepared.now.buffer.fields) }
 {
     let values = prepared.buffer.values();
@@ -136,12 +145,53 @@ fn keys_refusal(
     let tables = engine.tables();
     for rule in schema.indexes.as_slice() {
         if is_unique(rule)
-            && let Some(refusal) = tables.key_refusal(reader, table, schema, rule, own, values)
+            && let Some(refusal) = unique_refusal(
+                tables, reader, table, schema, rule, own, values, key,
+            )
         {
             return Some(refusal);
         }
     }
     None
+}
+
+// The same of one unique index. The key in the primary one is not made again.
+fn unique_refusal(
+    tables: &TableVersions,
+    reader: Reader,
+    table: TableId,
+    schema: &Schema,
+    rule: &IndexRule,
+    own: Option<&[u8]>,
+    values: &Record,
+    key: Option<&Key>,
+) -> Option<Jet>
+    requires named { IsSomeAnd (table_with_id tables.now.store.tables table.0) (λ t. schema.now ≡ schema_of t) }
+    requires rule { rule_with_id schema.now rule.now.id.0 ≡ Some rule.now }
+    requires rules { HasLegalRules schema.now }
+    requires taken { IsOk (entries rule.now schema.now values.now) }
+    requires key { option_copied key ≡ own_key schema.now values.now }
+    ensures { result ≡ first_refusal (unique_refusals reader tables.now.store table.0 schema.now rule.now (option_copied own.entry) values.now) }
+{
+    if let Some(key) = key
+        && is_primary_rule(schema, rule)
+    {
+        tables.primary_refusal(reader, table, schema, rule, own, key)
+    } else {
+        tables.key_refusal(reader, table, schema, rule, own, values)
+    }
+}
+
+// Whether the index is the primary one, whose key is the bookmark of a new record.
+fn is_primary_rule(schema: &Schema, rule: &IndexRule) -> bool
+    requires rule { rule_with_id schema.now rule.now.id.0 ≡ Some rule.now }
+    requires rules { HasLegalRules schema.now }
+    ensures { result ≡ true → primary_rule schema.now ≡ Some rule.now }
+{
+    match schema.primary_rule() {
+        Some(primary) => primary.id.0 == rule.id.0,
+        None => false,
+    }
 }
 
 // Whether no two records may have an equal key.

@@ -1,6 +1,6 @@
 //! Update: what a prepared update puts, or why it may not.
 
-ghost use Rattle.std.specs.Prelude.{◌≡◌, ◌≤◌, false, length, None, IfOk, IfSome, IsSome, IsTrue, OnErr, nat_le};
+ghost use Rattle.std.specs.Prelude.{◌≡◌, ◌≤◌, false, length, None, IfOk, IfSome, IsSome, IsTrue, OnErr, nat_le, option_copied};
 ghost use Rattle.database_state.specs.Changes.{changed_bookmark};
 ghost use Rattle.database_state.specs.Lawful.{log_limit};
 ghost use Rattle.session_local.specs.declared.request.Request.TheVariants as call;
@@ -11,7 +11,7 @@ ghost use Rattle.session_local.specs.LocalCalls.{is_answered_locally};
 ghost use Rattle.session_local.specs.Preparing.{update_of};
 ghost use Rattle.session_local.specs.Showing.{names_within};
 ghost use Rattle.engine_parts.specs.Deciding.{Decides, IsBeside, IsDecision};
-ghost use Rattle.record_decisions.specs.Updating.{HasLegalRules, IsMade, IsMadeOf, IsSchemaOf, put_by, span_in, update_in};
+ghost use Rattle.record_decisions.specs.Updating.{HasLegalRules, IsMade, IsMadeOf, IsSchemaOf, own_key, put_by, span_in, update_in};
 
 use crate::changing::{change_step, lacks_room};
 use crate::laws::{changes_are_refused_alike, sessions_see_their_records};
@@ -22,8 +22,9 @@ use crate::update_laws::{
 };
 use column_set::Change;
 use engine_parts::{Engine, refused};
-use index_derive::Step;
+use index_derive::{Step, primary_key};
 use jet_base::{CursorId, Jet, OutOfMemory, Session};
+use key_normal::Key;
 use lawful_answers::the_step_of_an_update_is_lawful;
 use session_local::{Decision, Local, OpenCursor, Prepared, Reply, Value};
 
@@ -75,7 +76,7 @@ fn made_put(
     }
 }
 
-// What is put by a prepared update, or why nothing is.
+// What is put by a prepared update, or why nothing is. The record's key in the primary index is made once.
 fn put_or_refusal(
     engine: &Engine,
     session: Session,
@@ -86,13 +87,36 @@ fn put_or_refusal(
     requires rules { HasLegalRules found.now.schema }
     ensures { IfOk result (IsMade (update_in engine.now session.0 found.now (update_of prepared.now)) (put_by engine.now session.0 found.now (update_of prepared.now))) }
 {
-    match record_refusal(engine, session, found, prepared) {
+    let schema = found.schema();
+    match schema.primary_rule() {
+        Some(rule) => {
+            let key = primary_key(rule, schema, prepared.buffer.values());
+            put_or_refusal_by(engine, session, found, prepared, Some(&key))
+        }
+        None => put_or_refusal_by(engine, session, found, prepared, None),
+    }
+}
+
+// The same, with the key.
+fn put_or_refusal_by(
+    engine: &Engine,
+    session: Session,
+    found: &OpenCursor,
+    prepared: &Prepared,
+    key: Option<&Key>,
+) -> Result<Result<Change, Jet>, OutOfMemory>
+    requires named { IsSchemaOf engine.now found.now.cursor.table found.now.schema }
+    requires rules { HasLegalRules found.now.schema }
+    requires key { option_copied key ≡ own_key found.now.schema prepared.now.buffer.fields }
+    ensures { IfOk result (IsMade (update_in engine.now session.0 found.now (update_of prepared.now)) (put_by engine.now session.0 found.now (update_of prepared.now))) }
+{
+    match record_refusal(engine, session, found, prepared, key) {
         Ok(Some(refusal)) => Ok(Err(refusal)),
         Ok(None) => {
             if engine.is_full() {
                 Ok(Err(Jet::LogSequenceEnd))
             } else {
-                put_with_room(engine, session, found, prepared)
+                put_with_room(engine, session, found, prepared, key)
             }
         }
         Err(fault) => Err(fault),
@@ -105,12 +129,13 @@ fn put_with_room(
     session: Session,
     found: &OpenCursor,
     prepared: &Prepared,
+    key: Option<&Key>,
 ) -> Result<Result<Change, Jet>, OutOfMemory>
-    requires rules { HasLegalRules found.now.schema }
+    requires key { option_copied key ≡ own_key found.now.schema prepared.now.buffer.fields }
     requires space { nat_le log_limit engine.now.number ≡ false }
     ensures { IfOk result (IsMade (span_in engine.now (put_by engine.now session.0 found.now (update_of prepared.now))) (put_by engine.now session.0 found.now (update_of prepared.now))) }
 {
-    match put_by(engine, session, found, prepared) {
+    match put_by(engine, session, found, prepared, key) {
         Ok(put) => {
             if lacks_room(engine, session, &put) {
                 Ok(Err(Jet::VersionStoreOutOfMemory))

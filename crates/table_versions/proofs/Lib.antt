@@ -1,6 +1,7 @@
 pub mod SeenRecords
 pub mod Told
 pub mod FormedRecords
+pub mod OwnKeys
 pub mod OwnOrder
 pub mod ShownEntries
 pub mod SeenOrder

@@ -11,7 +11,7 @@ ghost use Rattle.database_state.specs.State.{DatabaseState, PastChange, transact
 ghost use Rattle.database_state.specs.Table.{Table, rule_with_id, schema_of, table_with_id};
 ghost use Rattle.database_state.specs.View.{view};
 ghost use Rattle.index_derive.specs.declared.rules.IndexRule.{IndexRule};
-ghost use Rattle.index_derive.specs.Entries.{entries, is_legal, key_list};
+ghost use Rattle.index_derive.specs.Entries.{entries, is_legal, key_list, primary_key};
 ghost use Rattle.record_changes.specs.Records.{Records};
 ghost use Rattle.version_keys.specs.KeySums.{HasKeyBefores, SeesNoSum};
 ghost use Rattle.version_store.specs.declared.calls.Reader.{Reader};
@@ -54,7 +54,7 @@ impl TableVersions {
     {
         self.rules_are_legal();
         if rule.flags.primary {
-            self.primary_refusal(reader, table, schema, rule, own, record)
+            self.refusal_of_own_key(reader, table, schema, rule, own, record)
         } else if self.has_conflict_over_new(reader, table, schema, rule, own, record) {
             Some(Jet::WriteConflict)
         } else if self.has_taken_key(reader, table, schema, rule, own, record) {
@@ -65,7 +65,7 @@ impl TableVersions {
     }
 
     // The same for the primary index, where the record has one key, which is made once.
-    fn primary_refusal<R: Values>(
+    fn refusal_of_own_key<R: Values>(
         &self,
         reader: Reader,
         table: TableId,
@@ -76,17 +76,36 @@ impl TableVersions {
     ) -> Option<Jet>
         requires named { IsSomeAnd (table_with_id self.now.store.tables table.0) (λ t. schema.now ≡ schema_of t) }
         requires rule { rule_with_id schema.now rule.now.id.0 ≡ Some rule.now }
-        requires legal { is_legal rule.now schema.now ≡ true }
         requires short { rule.now.key_most ≤ 255 }
         requires primary { rule.now.flags.primary ≡ true }
         requires taken { IsOk (entries rule.now schema.now (R.fields «record».now)) }
         ensures { result ≡ first_refusal (unique_refusals reader self.now.store table.0 schema.now rule.now (option_copied own.entry) (R.fields «record».now)) }
     {
-        a_primary_index_has_one_entry();
         let key = primary_key(rule, schema, record);
-        if self.is_conflict_of_new(reader, table, schema, rule, own, &key) {
+        self.primary_refusal(reader, table, schema, rule, own, &key)
+    }
+
+    /// What `key_refusal` answers for the primary index of a record that has the key, its only one there. The key is not made
+    /// again. It takes no memory.
+    pub fn primary_refusal(
+        &self,
+        reader: Reader,
+        table: TableId,
+        schema: &Schema,
+        rule: &IndexRule,
+        own: Option<&[u8]>,
+        key: &Key,
+    ) -> Option<Jet>
+        requires named { IsSomeAnd (table_with_id self.now.store.tables table.0) (λ t. schema.now ≡ schema_of t) }
+        requires rule { rule_with_id schema.now rule.now.id.0 ≡ Some rule.now }
+        requires primary { rule.now.flags.primary ≡ true }
+        ensures { (values : RecordFields) → IsOk (entries rule.now schema.now values) → key.now ≡ primary_key rule.now schema.now values → result ≡ first_refusal (unique_refusals reader self.now.store table.0 schema.now rule.now (option_copied own.entry) values) }
+    {
+        self.rules_are_legal();
+        a_primary_index_has_one_entry();
+        if self.is_conflict_of_new(reader, table, schema, rule, own, key) {
             Some(Jet::WriteConflict)
-        } else if self.has_other(reader, table, schema, rule, own, &key) {
+        } else if self.has_other(reader, table, schema, rule, own, key) {
             Some(Jet::KeyDuplicate)
         } else {
             None

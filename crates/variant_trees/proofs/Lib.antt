@@ -33,6 +33,7 @@ pub mod LostColumns
 pub mod RoomMade
 pub mod HalfPuts
 pub mod NewPuts
+pub mod NothingTaken
 pub mod TakenValues
 pub mod PutRows
 pub mod RowsSummed

@@ -22,7 +22,7 @@ ghost use Rattle.stored_variants.specs.RecordRows.{IsRecordRow, record_of, row_u
 use crate::gone::Gone;
 use crate::keys::take_keys;
 use crate::nodes::row_in_node;
-use column_set::{Change, Record, rows_are_read_back};
+use column_set::{Change, Record, encode_record, is_all_here, rows_are_read_back};
 use derived_index::derived_keys_are_apart;
 use index_derive::derive::entries;
 use index_derive::{IndexRule, Schema};
@@ -30,7 +30,8 @@ use jet_base::{IndexId, OutOfMemory, TableId};
 use kept_rows::{Sources, keep_row, release_row, take_row};
 use key_normal::Key;
 use long_rows::{
-    form_of_a_kept_row, kept_rows_stand_for_their_records, values_that_are_given_back,
+    form_of_a_kept_row, kept_rows_stand_for_their_records, rows_without_long_values,
+    values_that_are_given_back,
 };
 use long_value::{references_after_a_change, values_after_a_change};
 use std::alloc::Global;
@@ -303,7 +304,7 @@ pub fn put_record(
     )
 }
 
-// The row that a put makes of a record.
+// The row that a put makes of a record. A record without a long value shares none: the row before is not looked up then.
 fn row_to_put(
     alloc: Global,
     trees: &TableTrees,
@@ -319,6 +320,13 @@ fn row_to_put(
     ensures row { IfOk result (λ bytes. bytes.items ≡ row_bytes (kept_row (put_found number trees.now.tables table.0 bookmark.now (option_copied copied.entry)) values.now)) }
     ensures small { IfOk result (λ bytes. length bytes.items ≤ largest_row) }
 {
+    rows_without_long_values();
+    if is_all_here(values) {
+        return match encode_record(alloc, values) {
+            Ok(row) => Ok(row),
+            Err(_) => Err(OutOfMemory),
+        };
+    }
     let sources = Sources {
         trees,
         table,
@@ -361,7 +369,7 @@ fn take_and_hold(
     values_after_a_change();
     values_that_are_given_back();
     trees.long_values_are_whole();
-    match take_row(trees, table, row, values) {
+    match take_long_values(trees, table, row, values) {
         Ok(()) => {}
         Err(fault) => return Err(fault),
     }
@@ -371,6 +379,28 @@ fn take_and_hold(
             release_row(trees, table, row);
             Err(OutOfMemory)
         }
+    }
+}
+
+// Takes the long values that a row of a record names. A record without one has none: its row is not looked through.
+fn take_long_values(
+    trees: &mut TableTrees,
+    table: TableId,
+    row: &[u8],
+    values: &Record,
+) -> Result<(), OutOfMemory>
+    requires there { has_table trees.old.tables table.0 ≡ true }
+    requires row { IsRowBytes row.now }
+    requires form { IsTrue (is_row_of (row_in row.now) values.now) }
+    requires may { AllByRecursion (MayTake (table_long_values trees.old.tables table.0)) (given_values (row_in row.now) values.now) }
+    ensures ok { OnOk result (HasLongValues table.0 (with_all_taken (given_values (row_in row.now) values.now) (table_long_values trees.old.tables table.0)) trees.old.tables trees.new.tables) }
+    ensures err { OnErr result (HasLongValues table.0 (table_long_values trees.old.tables table.0) trees.old.tables trees.new.tables) }
+    ensures catalog { trees.new.catalog ≡ trees.old.catalog }
+{
+    if is_all_here(values) {
+        Ok(())
+    } else {
+        take_row(trees, table, row, values)
     }
 }
 

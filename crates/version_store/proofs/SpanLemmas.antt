@@ -1,5 +1,5 @@
 -- Sums of costs.
-use Rattle.std.proofs.Common.{◌≡◌, ℕ, zero, suc, ◌+◌, ◌<◌, Bool, true, false, List, [], ◌∷◌, ◌++◌, Option, Some, map, length, get_or, drop, refl, sym, ap, ◌∙◌, arith, add-one, drop-cons}
+use Rattle.std.proofs.Common.{◌≡◌, ℕ, zero, suc, ◌+◌, ◌<◌, ◌≤◌, Bool, true, false, List, [], ◌∷◌, ◌++◌, Option, Some, map, length, get_or, drop, refl, sym, ap, ◌∙◌, arith, add-one, drop-cons}
 use Rattle.std.specs.Prelude.{sum_by, if◌then◌else◌}
 use Rattle.std.proofs.lemmas.List.Sums.{sum_by-cons, sum_by_push}
 use Rattle.version_store.specs.HeldChanges.{HeldChange, cost_of, from_oldest_kept, is_kept, undone_at}
@@ -58,3 +58,14 @@ oldest-skipped oldest changes at d within is = ap (from_oldest_kept oldest) (dro
 
 pub oldest-kept : (oldest : Option ℕ) (changes : List HeldChange) (at : ℕ) (d : HeldChange) → at < length changes → is_kept oldest (get_or changes at d) ≡ true → from_oldest_kept oldest (drop at changes) ≡ drop at changes
 oldest-kept oldest changes at d within is = ap (from_oldest_kept oldest) (drop-cons changes at d within) ∙ from-kept oldest (get_or changes at d) (drop (suc at) changes) is ∙ sym (drop-cons changes at d within)
+
+either : (b : Bool) (total : ℕ) (all some : List HeldChange) → sum_by cost_of all ≤ total → sum_by cost_of some ≤ total → sum_by cost_of (if b then all else some) ≤ total
+either true total all some whole part = whole
+either false total all some whole part = part
+
+-- from no change on the costs are more than those of all that were ever pushed
+pub span-within : (total : ℕ) (spents : List ℕ) (oldest : Option ℕ) (changes : List HeldChange) → AreSpent total spents changes → sum_by cost_of (from_oldest_kept oldest changes) ≤ total
+span-within total [] oldest [] are = omega arith
+span-within total [] oldest (h ∷ changes) are = absurd are
+span-within total (s ∷ spents) oldest [] are = omega arith
+span-within total (s ∷ spents) oldest (h ∷ changes) are = either (is_kept oldest h) total (h ∷ changes) (from_oldest_kept oldest changes) (omega (arith, are.0)) (span-within total spents oldest changes are.1)

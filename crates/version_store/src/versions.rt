@@ -1,6 +1,6 @@
 //! The held changes, and the calls on them.
 
-ghost use Rattle.std.specs.Prelude.{◌≡◌, ℕ, ◌≤◌, ◌<◌, ◌↔◌, ◌==◌, true, false, Option, Some, None, [], ◌∷◌, ◌++◌, length, map, take, drop, find, slice_get, option_copied, option_map, unwrap_or, IfSome, IsErrOf, OnOk, OnErr};
+ghost use Rattle.std.specs.Prelude.{◌≡◌, ℕ, ◌≤◌, ◌<◌, ◌↔◌, ◌==◌, true, false, Option, Some, None, [], ◌∷◌, ◌++◌, length, map, take, drop, find, nat_le, slice_get, option_copied, option_map, unwrap_or, IfSome, IsErrOf, OnOk, OnErr};
 ghost use Rattle.version_store.specs.declared.fault.VersionFault.TheVariants as fault;
 ghost use Rattle.version_store.specs.Answers.{change_at};
 ghost use Rattle.version_store.specs.HeldChanges.{HeldChange, is_concurrent, is_kept, is_record, is_standing, is_standing_rewrite, new_change, has_conflict, has_room, span as the_span, seen_row, shown, hides, conflicts, last_place, is_open_at, newest_undone, released_change, committed_change};
@@ -88,8 +88,18 @@ impl Versions {
         ensures { result ≡ has_room by change.now (option_copied before.entry) self.now }
     {
         let cost = cost_of(change, before);
-        let span = self.span(by.oldest);
-        cost <= by.limit && span <= by.limit - cost
+        cost <= by.limit && self.is_span_within(by.oldest, by.limit - cost)
+    }
+
+    // Whether the costs from the oldest kept change to the newest are at most so much, which all changes ever pushed may be.
+    fn is_span_within(&self, oldest: Option<u64>, most: u64) -> bool
+        ensures { result ≡ nat_le (the_span oldest self.now) most }
+    {
+        if self.total <= most {
+            true
+        } else {
+            self.span(oldest) <= most
+        }
     }
 
     // The costs from the oldest kept change to the newest.

@@ -9,4 +9,4 @@ loop-segment-preserved g c =
     c.loop-segment-test.true (get_or_default segments c.loop-segment.segment-index _ _ c.loop-segment-test.true) c.kind_of.ensures c.value_at.ensures c.loop-segment.invariant c.add.ensures
 
 pub returns : goal.returns
-returns g c = key_made c.args.rule.now c.args.schema.now (g.R.Values.fields c.args.record.now) _ c.loop-segment.segment-index c.loop-segment.maker _ c.as_slice-segment-items.ensures c.loop-segment-test.false c.loop-segment.invariant c.done-key.ensures.key
+returns g c = key_made c.args.rule.now c.args.schema.now (g.R.Values.fields c.args.record.now) _ c.loop-segment.segment-index c.loop-segment.maker _ c.as_slice-segment-items.ensures c.loop-segment-test.false c.loop-segment.invariant c.finish.ensures

@@ -8,16 +8,19 @@ use Rattle.database_state.specs.Refusals.{Refusals, first_refusal}
 use Rattle.session_local.specs.Preparing.{for_of}
 use Rattle.session_local.specs.RecordCalls.{replaced_by}
 use Rattle.stored_variants.specs.StoredVersions.{StoredVersions}
-use Rattle.record_decisions.specs.Updating.{rule_refusals}
+use Rattle.record_decisions.specs.Updating.{own_key, rule_refusals}
 use Rattle.record_decisions.proofs.IndexRefusals.{rule-taken, unique-told}
 use Rattle.record_decisions.proofs.RuleByRule.{asked_where, filter-asked, passed-all, placed, refused-at}
 use Rattle.record_decisions.proofs.refusing_puts.keys_refusal.Goals as goal
 
-pub key_refusal-requires-clause-taken : goal.key_refusal-requires-clause-taken
-key_refusal-requires-clause-taken c =
+pub unique_refusal-requires-clause-taken : goal.unique_refusal-requires-clause-taken
+unique_refusal-requires-clause-taken c =
     subst (λ (values : RecordFields). IsOk (entries c.rule-item.result c.args.schema.now values)) (sym c.values-values.ensures)
     (rule-taken c.args.schema.now c.args.prepared.now.buffer.fields c.loop-rule.rule-index c.rule-item.result c.requires.taken
     (placed c.as_slice-rule-items.result.now _ c.loop-rule.rule-index c.rule-item.result c.as_slice-rule-items.ensures c.loop-rule-test.true c.rule-item.is))
+
+pub unique_refusal-requires-clause-key : goal.unique_refusal-requires-clause-key
+unique_refusal-requires-clause-key c = c.requires.key ∙ ap (own_key c.args.schema.now) (sym c.values-values.ensures)
 
 pub returns-in-loop-rule : goal.returns-in-loop-rule
 returns-in-loop-rule c =

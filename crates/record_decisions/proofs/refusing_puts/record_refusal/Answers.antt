@@ -1,7 +1,8 @@
 use Rattle.std.proofs.Common.{sym, ap, subst, ◌∙◌}
 use Rattle.cursor_nav.specs.Navigation.{CursorState}
+use Rattle.index_derive.specs.declared.rules.Schema.{Schema}
 use Rattle.session_local.specs.Preparing.{update_of}
-use Rattle.record_decisions.specs.Updating.{HasLegalRules}
+use Rattle.record_decisions.specs.Updating.{HasLegalRules, own_key}
 use Rattle.record_decisions.proofs.PutSteps.{keys-asked, values-refused, values-taken}
 use Rattle.record_decisions.proofs.refusing_puts.record_refusal.Goals as goal
 
@@ -10,6 +11,9 @@ values_refusal-requires c = record { rules = subst HasLegalRules (sym c.schema-s
 
 pub keys_refusal-requires-clause-rules : goal.keys_refusal-requires-clause-rules
 keys_refusal-requires-clause-rules c = subst HasLegalRules (sym c.schema-schema.ensures) c.requires.rules
+
+pub keys_refusal-requires-clause-key : goal.keys_refusal-requires-clause-key
+keys_refusal-requires-clause-key c = c.requires.key ∙ ap (λ (s : Schema). own_key s c.args.prepared.now.buffer.fields) (sym c.schema-schema.ensures)
 
 pub keys_refusal-requires-clause-taken : goal.keys_refusal-requires-clause-taken
 keys_refusal-requires-clause-taken c = values-taken c.schema-schema.result.now (update_of c.args.prepared.now) (rw c.in-Ok-None.field-0-is at c.in-Ok-None.ensures)

@@ -20,7 +20,7 @@ returns-in-Ok-push-clause-held c =
     (c.row_before.ensures.row ∙ ap (λ (nodes : List Node). row_if (not c.args.is_new) (row_under nodes c.args.bookmark.now)) (c.in-Ok.ensures.ok.nodes c.args.table.0))
 
 pub release_row-requires-clause-table : goal.release_row-requires-clause-table
-release_row-requires-clause-table c = table_stays c.args.table.0 c.args.trees.now.tables c.take_row.new.trees.tables c.in-Ok.ensures.ok.numbers ∙ c.requires.there
+release_row-requires-clause-table c = table_stays c.args.table.0 c.args.trees.now.tables c.take_long_values.new.trees.tables c.in-Ok.ensures.ok.numbers ∙ c.requires.there
 
 pub release_row-requires-clause-there : goal.release_row-requires-clause-there
 release_row-requires-clause-there c = λ id some.
@@ -37,5 +37,5 @@ release_row-requires-clause-there c = λ id some.
 
 pub returns-in-Err-push-clause-err : goal.returns-in-Err-push-clause-err
 returns-in-Err-push-clause-err c =
-    all_given_back c.values_that_are_given_back.ensures.all c.args.table.0 (given_values (row_in c.args.row.now) c.args.values.now) (row_in c.args.row.now) c.args.trees.now.tables c.take_row.new.trees.tables c.release_row.new.trees.tables
+    all_given_back c.values_that_are_given_back.ensures.all c.args.table.0 (given_values (row_in c.args.row.now) c.args.values.now) (row_in c.args.row.now) c.args.trees.now.tables c.take_long_values.new.trees.tables c.release_row.new.trees.tables
     (c.long_values_are_whole.ensures c.args.table.0) c.requires.names c.in-Ok.ensures.ok c.release_row.ensures.tables

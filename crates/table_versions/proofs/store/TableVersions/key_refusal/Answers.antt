@@ -12,8 +12,5 @@ has_taken_key-requires-clause-legal g c = (c.rules_are_legal.ensures.legal c.arg
 pub has_taken_key-requires-clause-short : goal.has_taken_key-requires-clause-short
 has_taken_key-requires-clause-short g c = (c.rules_are_legal.ensures.legal c.args.table.0 c.args.schema.now c.requires.named c.args.rule.now c.requires.rule).1
 
-pub primary_refusal-requires-clause-legal : goal.primary_refusal-requires-clause-legal
-primary_refusal-requires-clause-legal g c = (c.rules_are_legal.ensures.legal c.args.table.0 c.args.schema.now c.requires.named c.args.rule.now c.requires.rule).0
-
-pub primary_refusal-requires-clause-short : goal.primary_refusal-requires-clause-short
-primary_refusal-requires-clause-short g c = (c.rules_are_legal.ensures.legal c.args.table.0 c.args.schema.now c.requires.named c.args.rule.now c.requires.rule).1
+pub refusal_of_own_key-requires-clause-short : goal.refusal_of_own_key-requires-clause-short
+refusal_of_own_key-requires-clause-short g c = (c.rules_are_legal.ensures.legal c.args.table.0 c.args.schema.now c.requires.named c.args.rule.now c.requires.rule).1
