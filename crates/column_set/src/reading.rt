@@ -1,7 +1,8 @@
 //! Reading the values of a row in place.
 
 ghost use Rattle.std.specs.Int.{w16, w32, w64};
-ghost use Rattle.column_set.specs.RowReading.{apart_at, body_at, here_at, next_at, number_at, value_at};
+ghost use Rattle.column_set.specs.NumberReading.{number_at};
+ghost use Rattle.column_set.specs.RowReading.{apart_at, body_at, here_at, next_at, value_at};
 ghost use Rattle.column_set.specs.RowSeen.{Sees, seen};
 
 use crate::encoding::{APART, APART_BYTES, HERE};

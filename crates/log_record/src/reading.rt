@@ -2,7 +2,8 @@
 
 ghost use Rattle.std.specs.Prelude.{◌≡◌, ◌<◌, ◌^◌, Some, None, MatchOption, true, false};
 ghost use Rattle.std.specs.Int.{w16, w32};
-ghost use Rattle.log_grammar.specs.EntryReading.{bookmark_at, byte_at, bytes_at, copied_after, copied_at, flag_at, flagged_at, name_at, number_at};
+ghost use Rattle.column_set.specs.NumberReading.{number_at};
+ghost use Rattle.log_grammar.specs.EntryReading.{bookmark_at, byte_at, bytes_at, copied_after, copied_at, flag_at, flagged_at, name_at};
 ghost use Rattle.log_record.specs.EntrySeen.{Gives};
 
 use crate::fault::EntryFault;

@@ -8,6 +8,7 @@ use Rattle.std.proofs.lemmas.Int.{of_z-to_z}
 use Rattle.std.proofs.lemmas.List.{append-nil, length-append}
 use Rattle.jet_base.specs.Ids.{column_id, index_id, session_id, table_id}
 use Rattle.column_set.specs.declared.changes.Change.TheVariants as change
+use Rattle.column_set.specs.NumberReading.{number_at, IsBytes}
 use Rattle.index_derive.specs.declared.log.Entry.{Entry}
 use Rattle.index_derive.specs.declared.log.EntryKind.{EntryKind}
 use Rattle.index_derive.specs.declared.log.EntryKind.TheVariants as kind
@@ -15,7 +16,6 @@ use Rattle.index_derive.specs.declared.schema_calls.SchemaStep.{SchemaStep}
 use Rattle.index_derive.specs.declared.schema_calls.SchemaStep.TheVariants as schema
 use Rattle.log_grammar.specs.EntryBytes.{IsCut, amount_fits, bookmark_bytes, bookmark_fits, column_bytes, column_fits, copied_bytes, copied_fits, entry_rest, entry_tag, has_spelling, index_bytes, index_fits, kind_bytes, kind_fits, name_bytes, name_fits, record_bytes, record_fits, schema_bytes, schema_fits, schema_kind}
 use Rattle.log_record_cut.specs.EntryCuts.{after, end_cut, within, rest_cut, front_cut}
-use Rattle.log_grammar.specs.EntryReading.{number_at}
 use Rattle.log_record_cut.proofs.CutChanges.{CopiedThen, Number16, Number32, Nothing}
 use Rattle.log_record_cut.proofs.CutEntries.{IsCutRest, IsRest, cut_by_length, cut_from_length}
 use Rattle.log_record_cut.proofs.CutFields.{BookmarkThen}
@@ -27,7 +27,7 @@ use Rattle.log_record_cut.proofs.CutSchemas.{ColumnSpelled, IndexSpelled, NameSp
 use Rattle.log_record_cut.proofs.CutShort.{short_is_cut}
 use Rattle.log_record_cut.proofs.CutSteps.{Decides, Where, too_short}
 use Rattle.log_grammar.proofs.KindLaws.{amount_is, amount_small}
-use Rattle.log_grammar.proofs.Laws.{IsBytes, laws32}
+use Rattle.log_grammar.proofs.Laws.{laws32}
 
 -- ---- numbers at the end
 

@@ -2,8 +2,8 @@
 
 ghost use Rattle.std.specs.Prelude.{◌≡◌, ◌<◌, ◌≤◌, ℕ, Bool, List, length, MatchOption};
 ghost use Rattle.std.specs.Int.{w16, w32};
+ghost use Rattle.column_set.specs.NumberReading.{number_at};
 ghost use Rattle.log_record_cut.specs.EntryCuts.{bookmark_cut, byte_cut, bytes_cut, number_cut, small_cut, within};
-ghost use Rattle.log_grammar.specs.EntryReading.{number_at};
 ghost use Rattle.log_record_cut.specs.Passing.{Found, Passes};
 
 /// The number in the first two bytes, and the bytes behind them, where they are there.
