@@ -17,6 +17,7 @@ use Rattle.log_grammar.specs.EntryReading.{both, changed, tested, byte_at, bookm
 use Rattle.log_grammar.proofs.EntryLaws.{case_of, schema_take, schema_again}
 use Rattle.log_grammar.proofs.FieldLaws.{bookmark_laws, copied_laws, record_laws}
 use Rattle.log_grammar.proofs.Laws.{Laws, both_laws, tested_laws, laws16, laws32, byte_laws}
+use Rattle.log_grammar.proofs.Fits.{amount_small}
 
 -- ---- amounts
 
@@ -26,10 +27,6 @@ fits_signed (negsuc n) h = record { sfits = ltb-true _ _ h }
 
 amount_again : (amount : ℤ) → amount_fits amount ≡ true → cast_signed w32 (cast_unsigned w32 amount) ≡ amount
 amount_again amount h = to_z-of_z w32 amount (fits_signed amount h)
-
-pub amount_small : (amount : ℤ) → amount_fits amount ≡ true → cast_unsigned w32 amount < 2 ^ 32
-amount_small (pos n) h = let lt : n < 2 ^ 31 = ltb-true _ _ h in omega arith
-amount_small (negsuc n) h = let lt : n < 2 ^ 31 = ltb-true _ _ h in omega arith
 
 pub amount_is : (n : ℕ) → n < 2 ^ 32 → amount_fits (cast_signed w32 n) ≡ true
 amount_is n lt =
