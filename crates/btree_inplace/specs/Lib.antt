@@ -4,3 +4,4 @@ pub mod Neighbors
 pub mod Order
 pub mod Shape
 pub mod Trees
+pub mod ExchangeLaws

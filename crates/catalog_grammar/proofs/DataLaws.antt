@@ -4,13 +4,14 @@ use Rattle.std.specs.Int.{w16, w32, to_le_bytes}
 use Rattle.std.specs.List.{flat_map, list_all}
 use Rattle.std.proofs.lemmas.Bool.{and_parts, and_from, eqb-true, eq-eqb, lt-ltb}
 use Rattle.jet_base.specs.Ids.{index_id, table_id}
+use Rattle.column_set.specs.NumberReading.{number_at}
 use Rattle.index_derive.specs.declared.rules.Condition.{Condition}
 use Rattle.index_derive.specs.declared.rules.IndexFlags.{IndexFlags}
 use Rattle.index_derive.specs.declared.rules.IndexRule.{IndexRule}
 use Rattle.index_derive.specs.declared.rules.Segment.{Segment}
 use Rattle.database_state.specs.Table.{GreatestColumns}
 use Rattle.log_grammar.specs.EntryBytes.{condition_bytes, condition_fits, index_fits, index_flags, name_bytes, name_fits, segment_bytes, segment_fits}
-use Rattle.log_grammar.specs.EntryReading.{both, number_at, name_at, segments_at, conditions_at}
+use Rattle.log_grammar.specs.EntryReading.{both, name_at, segments_at, conditions_at}
 use Rattle.log_grammar.proofs.FieldLaws.{name_laws}
 use Rattle.log_grammar.proofs.Fits.{index_parts}
 use Rattle.log_grammar.proofs.Laws.{Laws, both_laws, changed_laws, laws16, laws32}

@@ -4,11 +4,12 @@ use Rattle.std.specs.Int.{w16, w32, to_be_bytes, to_le_bytes}
 use Rattle.std.proofs.lemmas.Bool.{and_parts, and_from, eqb-true, eq-eqb}
 use Rattle.std.proofs.lemmas.List.{append-nil, nil_from_length}
 use Rattle.jet_base.specs.Ids.{table_id}
+use Rattle.column_set.specs.NumberReading.{◌>>=◌, number_at, IsBytes, bind_some, passed_some, some_is}
 use Rattle.index_derive.specs.declared.rules.IndexRule.{IndexRule}
 use Rattle.log_grammar.specs.EntryBytes.{column_bytes, column_fits, index_fits}
-use Rattle.log_grammar.specs.EntryReading.{◌>>=◌, changed, number_at, column_at}
+use Rattle.log_grammar.specs.EntryReading.{changed, column_at}
 use Rattle.log_grammar.proofs.EntryLaws.{case_of}
-use Rattle.log_grammar.proofs.Laws.{IsBytes, bind_some, passed_some, some_is, Laws, laws32}
+use Rattle.log_grammar.proofs.Laws.{Laws, laws32}
 use Rattle.log_grammar.proofs.SchemaLaws.{column_laws}
 use Rattle.catalog_grammar.specs.CatalogBytes.{Tells, catalog_key, index_data, item_data, item_fits, item_id, item_key, item_kind, item_table, table_data, table_fits}
 use Rattle.catalog_grammar.specs.CatalogReading.{item_at, item_of, key_at, rooted_index_at, table_at, whole}

@@ -4,8 +4,9 @@ use Rattle.std.specs.Int.{Width, w16, w32, byte_len, from_be_bytes, to_be_bytes}
 use Rattle.std.proofs.lemmas.Bool.{ltb-true, ltb-false, le-ltb, lt-ltb}
 use Rattle.std.proofs.lemmas.List.{take_at, drop_at, take-append-drop, length-append, length-take}
 use Rattle.std.proofs.lemmas.Nat.{be_bytes_2, be_bytes_4, from_be_bytes-to_be_bytes_2, from_be_bytes-to_be_bytes_4}
+use Rattle.column_set.specs.NumberReading.{IsBytes, IsBytes-drop, IsBytes-take, guard_some, Takes}
 use Rattle.log_grammar.specs.EntryReading.{both, byte_at}
-use Rattle.log_grammar.proofs.Laws.{IsBytes, IsBytes-drop, IsBytes-take, guard_some, Takes, Laws, both_laws, byte_laws}
+use Rattle.log_grammar.proofs.Laws.{Laws, both_laws, byte_laws}
 use Rattle.catalog_grammar.specs.CatalogReading.{high_number_at, key_at}
 
 record IsHigh (w : Width) (limit : ℕ) : Type 0 where

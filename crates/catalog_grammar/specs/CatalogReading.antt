@@ -2,12 +2,13 @@
 use Rattle.std.specs.Prelude.{ℕ, ◌&&◌, ◌==◌, cond, List, length, take, drop, nat_lt, Option, Some, None}
 use Rattle.std.specs.Int.{Width, w16, w32, byte_len, from_be_bytes}
 use Rattle.jet_base.specs.Ids.{table_id}
+use Rattle.column_set.specs.NumberReading.{◌>>=◌, number_at}
 use Rattle.index_derive.specs.declared.rules.Condition.{Condition}
 use Rattle.index_derive.specs.declared.rules.IndexFlags.{IndexFlags}
 use Rattle.index_derive.specs.declared.rules.IndexRule.{IndexRule}
 use Rattle.index_derive.specs.declared.rules.Segment.{Segment}
 use Rattle.database_state.specs.Table.{GreatestColumns}
-use Rattle.log_grammar.specs.EntryReading.{◌>>=◌, both, changed, tested, number_at, byte_at, column_at, conditions_at, flags_of, index_of, name_at, segments_at}
+use Rattle.log_grammar.specs.EntryReading.{both, changed, tested, byte_at, column_at, conditions_at, flags_of, index_of, name_at, segments_at}
 use Rattle.catalog_grammar.specs.declared.items.CatalogItem.{CatalogItem}
 use Rattle.catalog_grammar.specs.declared.items.CatalogItem.TheVariants as item
 use Rattle.catalog_grammar.specs.declared.items.TableItem.{TableItem}

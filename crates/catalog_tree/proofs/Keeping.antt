@@ -33,7 +33,7 @@ use Rattle.catalog_changes.proofs.TakenBack.{TakenBack}
 use Rattle.catalog_tree.specs.CatalogTrees.{CatalogBecomes, nodes_in, own_pages}
 use Rattle.catalog_tree.specs.CatalogsKept.{HoldsCatalog, HoldsStep, TakesColumn, TakesIndex, TakesTable}
 use Rattle.catalog_tree.specs.declared.tree.CatalogTree.{CatalogTree}
-use Rattle.catalog_tree.proofs.Exchanging.{exchanges_then}
+use Rattle.btree_inplace.specs.ExchangeLaws.{exchanges_then}
 
 pub becomes_as : (old : Frames) (was : CatalogTree) (new : Frames) (is : CatalogTree) (list list' : List Node) → list ≡ list' → CatalogBecomes old was new is list → CatalogBecomes old was new is list'
 becomes_as old was new is list list' e b = record { tree = b.tree; nodes = b.nodes ∙ e; pages = b.pages; root = b.root }

@@ -1,3 +1,2 @@
-pub mod Exchanging
 pub mod Keeping
 pub mod TableParts

@@ -1,10 +1,10 @@
 -- Checking values one after the other, as a loop does.
-use Rattle.std.proofs.Common.{◌≡◌, ℕ, suc, ◌-◌, ◌+◌, ◌≤◌, ◌<◌, Bool, true, false, cond, ltb, List, ◌∷◌, length, eqb, Option, Some, None, refl, sym, ap, ◌∙◌, arith}
+use Rattle.std.proofs.Common.{◌≡◌, ℕ, suc, ◌-◌, ◌+◌, ◌≤◌, ◌<◌, Bool, true, false, cond, List, ◌∷◌, length, eqb, Option, Some, None, refl, sym, ap, ◌∙◌, arith}
 use Rattle.std.specs.Prelude.{◌↔◌, IsTrue}
 use Rattle.column_set.specs.declared.rows.RowValue.{RowValue}
 use Rattle.column_set.specs.Rows.{IsRowBytes}
-use Rattle.column_set.specs.RowReading.{◌>>=◌, next_at, values_at, read_values, grouped, is_read, takes_all}
-use Rattle.column_set.proofs.RowFieldValues.{IsBytes}
+use Rattle.column_set.specs.NumberReading.{◌>>=◌, IsBytes}
+use Rattle.column_set.specs.RowReading.{next_at, values_at, read_values, grouped, is_read, takes_all}
 use Rattle.column_set.proofs.Spelling.{read_spelled, row_from_values, read_row_again}
 
 same_end : (value : ℕ × RowValue) (read : Option (List (ℕ × RowValue) × List ℕ)) → takes_all (read >>= λ x. Some (value ∷ x.0, x.1)) ≡ takes_all read

@@ -2,7 +2,8 @@
 use Rattle.std.proofs.Common.{◌≡◌, ℕ, suc, ◌-◌, ◌+◌, ◌≤◌, ◌<◌, List, [], ◌∷◌, ◌++◌, Option, Some, None, refl, sym, ap, ◌∙◌, append_assoc, arith}
 use Rattle.std.proofs.lemmas.List.{append-nil}
 use Rattle.column_set.specs.declared.rows.RowValue.{RowValue}
-use Rattle.column_set.specs.RowReading.{◌>>=◌, next_at, values_at}
+use Rattle.column_set.specs.NumberReading.{◌>>=◌}
+use Rattle.column_set.specs.RowReading.{next_at, values_at}
 
 -- what was read before, and what is still read
 abbrev pub with_front : List (ℕ × RowValue) → Option (List (ℕ × RowValue) × List ℕ) → Option (List (ℕ × RowValue) × List ℕ)

@@ -11,10 +11,11 @@ use Rattle.column_set.specs.declared.row_fault.RowFault.{RowFault}
 use Rattle.column_set.specs.declared.row_fault.RowFault.TheVariants.{RecordTooBig, BadRecord, OutOfMemory}
 use Rattle.column_set.specs.RowSeen.{Gives}
 use Rattle.column_set.specs.Rows.{IsRowBytes, RowFields, values_in_order, value_bytes, row_bytes, row_size, is_row, is_well_formed, value_fits_row}
-use Rattle.column_set.specs.RowReading.{◌>>=◌, number_at, value_at, next_at, values_at, read_values, read_row, row_in, grouped, are_in_order, size_of_values}
+use Rattle.column_set.specs.NumberReading.{◌>>=◌, number_at, IsBytes, bind_some, guard_some, passed_some, some_is, Takes, Takes-then, wide16, number_takes, number_again}
+use Rattle.column_set.specs.RowReading.{value_at, next_at, values_at, read_values, read_row, row_in, grouped, are_in_order, size_of_values}
 use Rattle.column_set.proofs.Grouping.{in_order_parts, in_order_from, values_in_order-grouped, grouped-values_in_order, is_well_formed-grouped, values_are_in_order}
 use Rattle.column_set.proofs.Sizes.{few_from_size, is_row-from, is_row-parts}
-use Rattle.column_set.proofs.RowFieldValues.{IsBytes, bind_some, guard_some, passed_some, some_is, Takes, Takes-then, wide16, number_takes, number_again, TakesValue, value_takes, value_again}
+use Rattle.column_set.proofs.RowFieldValues.{TakesValue, value_takes, value_again}
 
 pub next_takes : (least : ℕ) (bytes : List ℕ) (x : (ℕ × RowValue) × List ℕ) → IsBytes bytes → next_at least bytes ≡ Some x → TakesValue bytes x.0 x.1 × (least ≤ x.0.0)
 unfolding next_at

@@ -2,6 +2,7 @@ pub mod Reading
 pub mod Record
 pub mod RecordPlaces
 pub mod RecordValues
+pub mod NumberReading
 pub mod RowReading
 pub mod RowSeen
 pub mod Rows

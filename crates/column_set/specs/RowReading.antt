@@ -1,9 +1,10 @@
 -- Reading a row's bytes from left to right.
 use Rattle.std.specs.Prelude.{ℕ, zero, suc, Bool, true, false, ◌&&◌, ◌||◌, ◌==◌, cond, List, [], ◌∷◌, length, take, drop, nat_le, nat_lt, Option, Some, None, unwrap_or, ◌^◌, ◌+◌, sum_by, map, filter}
-use Rattle.std.specs.Int.{Width, w16, w32, w64, byte_len, from_le_bytes}
+use Rattle.std.specs.Int.{w16, w32, w64}
 use Rattle.column_set.specs.declared.rows.RowValue.{RowValue}
 use Rattle.column_set.specs.declared.rows.RowValue.TheVariants.{Here, Apart}
 use Rattle.column_set.specs.Rows.{RowFields, room_in_row, value_fits_row}
+use Rattle.column_set.specs.NumberReading.{◌>>=◌, number_at}
 
 -- ---- values with their columns, and the row that they make
 
@@ -23,15 +24,6 @@ are_in_order least [] = true
 are_in_order least (value ∷ values) = nat_le least value.0 && nat_lt value.0 (2 ^ 16) && value_fits_row value.1 && are_in_order value.0 values
 
 -- ---- reading
-
-infixl 10 ◌>>=◌
-abbrev pub ◌>>=◌ : {A B : Type 0} → Option A → (A → Option B) → Option B
-(Some x) >>= f = f x
-None >>= f = None
-
--- a field is a value and the bytes after it
-abbrev pub number_at : Width → List ℕ → Option (ℕ × List ℕ)
-number_at w bytes = cond (nat_lt (length bytes) (byte_len w)) None (Some (from_le_bytes w (take (byte_len w) bytes), drop (byte_len w) bytes))
 
 abbrev pub form_at : List ℕ → Option (ℕ × List ℕ)
 form_at [] = None

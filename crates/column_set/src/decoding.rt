@@ -5,9 +5,9 @@ ghost use Rattle.column_set.specs.Rows.{IsRowBytes, RowFields, is_row, row_bytes
 ghost use Rattle.column_set.specs.RowReading.{read_row, read_values, values_at};
 ghost use Rattle.column_set.specs.RowSeen.{Gives, seen};
 
-use crate::encoding::VALUE_HEAD_BYTES;
 use crate::reading::{ValueRef, next, u16_at};
 use crate::row_fault::RowFault;
+use crate::row_format::VALUE_HEAD_BYTES;
 use crate::rows::{Row, RowValue};
 use jet_base::{Items, Octets};
 use std::alloc::Global;

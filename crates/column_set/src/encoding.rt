@@ -6,23 +6,9 @@ ghost use Rattle.column_set.specs.Rows.{is_row, largest_row, room_in_row, row_by
 ghost use Rattle.column_set.specs.RowReading.{are_in_order, size_of_values};
 
 use crate::row_fault::RowFault;
+use crate::row_format::{APART, APART_BYTES, HERE, MAX_ROW_SIZE, VALUE_HEAD_BYTES};
 use crate::rows::{Row, RowValue};
 use std::alloc::{AllocError, Global};
-
-/// The most bytes that a row has.
-pub const MAX_ROW_SIZE: usize = 1700;
-
-/// The bytes of a value before its own: its column, its form and the count of the bytes that follow.
-pub const VALUE_HEAD_BYTES: usize = 5;
-
-/// The form of a value that stands in its row.
-pub const HERE: u8 = 0;
-
-/// The form of a value that is kept apart.
-pub const APART: u8 = 1;
-
-/// The bytes that a value kept apart has in its row.
-pub const APART_BYTES: u16 = 16;
 
 /// The bytes of a value that stand in its row.
 fn room(value: &RowValue) -> usize
@@ -70,7 +56,7 @@ fn put_head(bytes: &mut Vec<u8>, column: u16, form: u8, count: u16) -> Result<()
 }
 
 /// Writes a value that stands in its row, with its column.
-pub(crate) fn put_here(bytes: &mut Vec<u8>, column: u16, here: &[u8]) -> Result<(), AllocError>
+fn put_here(bytes: &mut Vec<u8>, column: u16, here: &[u8]) -> Result<(), AllocError>
     requires { length here.now ≤ 255 }
     ensures { OnOk result (bytes.new.items ≡ bytes.old.items ++ value_bytes (column, RowValue.Here here.now)) }
 {

@@ -1,28 +1,20 @@
 //! The values that a record has in one column.
 
-ghost use Rattle.std.specs.Prelude.{◌≡◌, ◌+◌, ◌-◌, ◌^◌, ◌<◌, [], ◌∷◌, ◌++◌, length, min, remove, slice_set, IfOk, if◌then◌else◌, is_ok};
+ghost use Rattle.std.specs.Prelude.{◌≡◌, ◌+◌, ◌-◌, ◌^◌, ◌<◌, [], ◌∷◌, ◌++◌, length, min, remove, slice_set, sum_by, IfOk, if◌then◌else◌, is_ok};
 ghost use Rattle.column_set.specs.RecordValues.{size_of_length, size_of_values};
 
+use crate::row_format::{APART_BYTES, LONGEST_HERE, VALUE_HEAD_BYTES};
 use jet_base::{ColumnId, Octets, OutOfMemory};
 use std::alloc::{AllocError, Global};
 use std::marker::Model;
 use std::slice;
 
-/// What a value takes in its row beside its bytes, in bytes: its column, its sequence and its length.
-pub const VALUE_HEADER: usize = 5;
-
-// The room of a value that is kept apart from its row.
-const NAME_SIZE: usize = 16;
-
-// The longest value that is kept in its row.
-pub(crate) const LONGEST_KEPT: usize = 255;
-
 /// The room of a value of so many bytes in its row.
 pub fn size_of_length(length: usize) -> usize
     ensures { result ≡ size_of_length length }
 {
-    if length > LONGEST_KEPT {
-        NAME_SIZE
+    if length > LONGEST_HERE {
+        APART_BYTES as usize
     } else {
         length
     }
@@ -34,7 +26,7 @@ pub fn size_of_values(values: &[Octets]) -> usize
 {
     let mut total: usize = 0;
     for value in values {
-        total = total.saturating_add(VALUE_HEADER + size_of_length(value.as_bytes().len()));
+        total = total.saturating_add(VALUE_HEAD_BYTES + size_of_length(value.as_bytes().len()));
     }
     total
 }
@@ -43,7 +35,7 @@ pub fn size_of_values(values: &[Octets]) -> usize
 pub(crate) fn size_of_value(value: &Octets) -> usize
     ensures { result ≡ size_of_values (value.now ∷ []) }
 {
-    VALUE_HEADER + size_of_length(value.as_bytes().len())
+    VALUE_HEAD_BYTES + size_of_length(value.as_bytes().len())
 }
 
 // The values of a column: one, as most columns have, or any number of them.
@@ -147,6 +139,18 @@ impl Field {
             }
         }
     }
+}
+
+/// How many values the fields have.
+pub fn count_of_values(fields: &[Field]) -> usize
+    requires { sum_by (λ field. length field.1) fields.now < 2 ^ 16 }
+    ensures { result ≡ sum_by (λ field. length field.1) fields.now }
+{
+    let mut count = 0;
+    for field in fields {
+        count += field.values().len();
+    }
+    count
 }
 
 // A copy of the first value, and the second one.

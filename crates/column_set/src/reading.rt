@@ -1,13 +1,12 @@
 //! Reading the values of a row in place.
 
+ghost use Rattle.std.specs.Prelude.{◌<◌, ◌≤◌, length, MatchOption};
 ghost use Rattle.std.specs.Int.{w16, w32, w64};
-ghost use Rattle.column_set.specs.RowReading.{apart_at, body_at, here_at, next_at, number_at, value_at};
+ghost use Rattle.column_set.specs.NumberReading.{number_at};
+ghost use Rattle.column_set.specs.RowReading.{apart_at, body_at, here_at, next_at, value_at};
 ghost use Rattle.column_set.specs.RowSeen.{Sees, seen};
 
-use crate::encoding::{APART, APART_BYTES, HERE};
-
-/// The most bytes of a value that stands in its row.
-const MOST_HERE: usize = 255;
+use crate::row_format::{APART, APART_BYTES, HERE, LONGEST_HERE};
 
 /// The least bytes of a value that is kept apart.
 const LEAST_APART: u32 = 256;
@@ -38,8 +37,10 @@ pub fn u16_at(bytes: &[u8]) -> Option<(u16, &[u8])>
     Some((u16::from_le_bytes([front[0], front[1]]), rest))
 }
 
-fn u32_at(bytes: &[u8]) -> Option<(u32, &[u8])>
-    ensures { Sees (λ x. (x.0, x.1.now)) result (number_at w32 bytes.now) }
+/// The number in the first four bytes, and the bytes behind them.
+pub fn u32_at(bytes: &[u8]) -> Option<(u32, &[u8])>
+    ensures short { MatchOption result (length bytes.now < 4) (λ x. 4 ≤ length bytes.now) }
+    ensures read { Sees (λ x. (x.0, x.1.now)) result (number_at w32 bytes.now) }
 {
     if bytes.len() < 4 {
         return None;
@@ -67,7 +68,7 @@ fn u64_at(bytes: &[u8]) -> Option<(u64, &[u8])>
 fn here(bytes: &[u8], count: usize) -> Option<(ValueRef<'_>, &[u8])>
     ensures { Sees (λ x. (seen x.0, x.1.now)) result (here_at count bytes.now) }
 {
-    if count > MOST_HERE || bytes.len() < count {
+    if count > LONGEST_HERE || bytes.len() < count {
         return None;
     }
     let (value, rest) = bytes.split_at(count);

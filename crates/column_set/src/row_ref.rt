@@ -8,12 +8,10 @@ ghost use Rattle.column_set.specs.RowReading.{are_in_order, of_column, row_in};
 ghost use Rattle.column_set.specs.RowSeen.{Sees, seen};
 
 use crate::reading::{ValueRef, value};
+use crate::row_format::COUNT_BYTES;
 use crate::values::Values;
 use jet_base::ColumnId;
 use std::marker::Model;
-
-/// The bytes before the first value: the count of the values.
-const COUNT_BYTES: usize = 2;
 
 /// A row that is read in place, without memory.
 ///

@@ -19,7 +19,7 @@ use Rattle.session_local.specs.Outcome.{Asked, Outcome, refused, navigated, unle
 use Rattle.session_local.specs.Calls.{answer}
 use Rattle.session_local.specs.CursorCalls.{index_chosen_by, set_current_index, move_cursor, seek_key, set_index_range, gone_to as gone_to_seen, goto_bookmark}
 use Rattle.session_local.specs.Navigating.{EntriesOf, RecordsOf, set_to_rule, navigated_by}
-use Rattle.engine_parts.proofs.Found.{labelled}
+use Rattle.session_local.specs.FoundLaws.{labelled}
 use Rattle.engine_parts.specs.Deciding.{is_navigation}
 use Rattle.engine_versions.proofs.Decisions.{answer-begun}
 

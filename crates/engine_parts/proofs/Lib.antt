@@ -1,7 +1,6 @@
 pub mod RowSums
 pub mod ReadsView
 pub mod Views
-pub mod Found
 pub mod CursorCallsShown
 pub mod CursorNavigates
 pub mod CursorCallsNavigated

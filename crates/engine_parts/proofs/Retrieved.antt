@@ -40,7 +40,7 @@ use Rattle.engine_parts.proofs.Views.{is_none-map}
 use Rattle.engine_parts.proofs.CursorCallsShown.{ReadsRecords}
 use Rattle.common_lemmas.proofs.Found.{all_found}
 use Rattle.common_lemmas.proofs.Booleans.{and_left, and_right, impossible}
-use Rattle.engine_parts.proofs.Found.{by_number}
+use Rattle.session_local.specs.FoundLaws.{by_number}
 use Rattle.engine_versions.proofs.Decisions.{refused_with, answer-is, answer-refused}
 use Rattle.engine_parts.proofs.Retrieving.{readable}
 

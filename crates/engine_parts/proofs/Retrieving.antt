@@ -22,7 +22,7 @@ use Rattle.session_local.specs.Showing.{IsRead, value_answered}
 use Rattle.session_local.specs.SessionSide.{are_distinct}
 use Rattle.session_local.specs.WellFormed.{number_of_column}
 use Rattle.engine_parts.specs.Retrieving.{AreReadable}
-use Rattle.engine_parts.proofs.Found.{by_number, values_of-counted, values_of-fit}
+use Rattle.session_local.specs.FoundLaws.{by_number, values_of-counted, values_of-fit}
 
 -- ---- the values of a column are readable
 

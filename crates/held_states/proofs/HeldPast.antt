@@ -4,7 +4,7 @@ use Rattle.std.specs.Prelude.{◌==◌, is_some, map, neg_ℤ, option_map, unwra
 use Rattle.std.specs.List.{AllByRecursion}
 use Rattle.std.proofs.lemmas.Bool.{eqb-true}
 use Rattle.common_lemmas.proofs.Booleans.{and_left, and_right, impossible}
-use Rattle.common_lemmas.proofs.Numbers.{same_bytes, self_equal}
+use Rattle.common_lemmas.proofs.Numbers.{same_bytes}
 use Rattle.column_set.specs.declared.changes.Change.{Change}
 use Rattle.column_set.specs.declared.changes.Change.TheVariants.{Put, Drop, Hold, Add}
 use Rattle.column_set.specs.declared.columns.Column.{Column}
@@ -16,7 +16,6 @@ use Rattle.database_state.specs.VersionStore.{cost_of}
 use Rattle.database_state.specs.Equivalence.{columns_of, essential_change, without_record, without_sums}
 use Rattle.record_changes.specs.Records.{Records, after_item, is_change_of, record_after, records_after_items}
 use Rattle.record_changes.proofs.Folds.{folded-cons}
-use Rattle.record_changes.proofs.Tests.{equal_bytes}
 use Rattle.version_history.specs.History.{HasBefores}
 use Rattle.version_history.specs.Readers.{is_rewrite, is_standing}
 use Rattle.version_history.proofs.Keeping.{some_map}
@@ -29,7 +28,7 @@ use Rattle.version_store.specs.declared.calls.ChangeKind.TheVariants as kind
 use Rattle.version_store.specs.HeldChanges.{kind_of, is_rewrite as rewrites}
 use Rattle.versioned_tables.specs.HeldRecords.{HeldRecord}
 use Rattle.versioned_tables.specs.Holding.{AllMatch, Matches}
-use Rattle.versioned_tables.proofs.TakingBack.{GoesBack, TakesBack}
+use Rattle.versioned_tables.proofs.TakingBack.{GoesBack, TakesBack, at_itself}
 use Rattle.equivalent_states.proofs.Essential.{forgotten, summed}
 use Rattle.lawful_answers.specs.UncopiedPast.{AreUncopied, IsUncopied}
 
@@ -69,9 +68,6 @@ lock_leaves (Put table bookmark copied values) h g seen = cc
 lock_leaves (Drop table bookmark) h g seen = cc
 lock_leaves (Hold table bookmark) h g seen = refl
 lock_leaves (Add table bookmark column amount) h g seen = cc
-
-own_record : (change : Change) → is_change_of (changed_table change) (changed_bookmark change) change ≡ true
-own_record change = ap (λ b. b && bytes_eq (changed_bookmark change) (changed_bookmark change)) (self_equal (changed_table change)) ∙ equal_bytes (changed_bookmark change) (changed_bookmark change) refl
 
 -- ---- two changes of one held change
 
@@ -190,7 +186,7 @@ change_same x y one p q base other after =
   where
     own : (z : PastChange) (records : Records) → after_item records z (changed_table z.change) (changed_bookmark z.change) ≡ record_after z.change (records (changed_table z.change) (changed_bookmark z.change))
     own z records =
-        ap (λ b. cond b (record_after z.change (records (changed_table z.change) (changed_bookmark z.change))) (records (changed_table z.change) (changed_bookmark z.change))) (own_record z.change)
+        ap (λ b. cond b (record_after z.change (records (changed_table z.change) (changed_bookmark z.change))) (records (changed_table z.change) (changed_bookmark z.change))) (at_itself z.change)
 
     made : record_after x.change (base (changed_table x.change) (changed_bookmark x.change)) ≡ record_after y.change (other (changed_table y.change) (changed_bookmark y.change))
     made = sym (own x base) ∙ (λ i. after i (one.table i) (one.bookmark i)) ∙ own y other
@@ -226,9 +222,9 @@ sum_before_same P Q x y same sum takes takes_too base other first first_too afte
     own = sum_told (P (changed_table x.change) (changed_bookmark x.change)) (Q (changed_table x.change) (changed_bookmark x.change)) x.change sum takes.1
         (subst (λ (c : Change). GoesBack (Q (changed_table c) (changed_bookmark c)) c) (sym same) takes_too.1)
         (base (changed_table x.change) (changed_bookmark x.change)) (other (changed_table x.change) (changed_bookmark x.change)) (first (changed_table x.change) (changed_bookmark x.change)) (first_too (changed_table x.change) (changed_bookmark x.change))
-        (sym (ap (λ b. cond b (record_after x.change (base (changed_table x.change) (changed_bookmark x.change))) (base (changed_table x.change) (changed_bookmark x.change))) (own_record x.change))
+        (sym (ap (λ b. cond b (record_after x.change (base (changed_table x.change) (changed_bookmark x.change))) (base (changed_table x.change) (changed_bookmark x.change))) (at_itself x.change))
         ∙ at (changed_table x.change) (changed_bookmark x.change)
-        ∙ ap (λ b. cond b (record_after x.change (other (changed_table x.change) (changed_bookmark x.change))) (other (changed_table x.change) (changed_bookmark x.change))) (own_record x.change))
+        ∙ ap (λ b. cond b (record_after x.change (other (changed_table x.change) (changed_bookmark x.change))) (other (changed_table x.change) (changed_bookmark x.change))) (at_itself x.change))
 
     by : (table : ℕ) (bookmark : List ℕ) (b : Bool) → is_change_of table bookmark x.change ≡ b → base table bookmark ≡ other table bookmark
     by table bookmark true e =

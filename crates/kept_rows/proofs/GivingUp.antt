@@ -7,11 +7,11 @@ use Rattle.column_set.specs.declared.rows.RowValue.{RowValue}
 use Rattle.column_set.specs.declared.rows.RowValue.TheVariants.{Here, Apart}
 use Rattle.column_set.specs.Rows.{value_bytes}
 use Rattle.long_value.specs.Values.{LongValue, Values, value_of, without_reference}
-use Rattle.long_references.specs.RowReferences.{identifier, named_by, not_among, times_among, with_identifier}
+use Rattle.long_references.specs.RowReferences.{identifier, named_by, not_among, times_among}
 use Rattle.long_references.specs.ReferenceCounts.{with_all_released}
 use Rattle.long_references.proofs.Taken.{ValueLaws}
 use Rattle.long_references.proofs.Totals.{among-no}
-use Rattle.long_rows.proofs.Named.{more_named, own_named}
+use Rattle.long_rows.proofs.Named.{added as named_new, more_named, own_named, there as named_before}
 use Rattle.row_edit.specs.OtherValues.{MayStand, StandIn}
 use Rattle.long_value.specs.Stores.{id_bytes}
 use Rattle.long_value.specs.declared.values.LongId.{LongId}
@@ -39,12 +39,6 @@ left_in kept id ids f = rw f refl
 pub none_kept : (ids : List (List ℕ)) → not_among [] ids ≡ ids
 none_kept [] = refl
 none_kept (id ∷ ids) = ap (λ (l : List (List ℕ)). id ∷ l) (none_kept ids)
-
-named_before : (id : List ℕ) (ids : List (List ℕ)) → list_any (bytes_eq id) ids ≡ true → with_identifier id ids ≡ ids
-named_before id ids t = rw t refl
-
-named_new : (id : List ℕ) (ids : List (List ℕ)) → list_any (bytes_eq id) ids ≡ false → with_identifier id ids ≡ id ∷ ids
-named_new id ids f = rw f refl
 
 -- all values but those that are kept are given up where the first one is, and then the others
 pub first_then_others : (kept : List (List ℕ)) (x : ℕ × RowValue) (xs : List (ℕ × RowValue)) (values : Values)

@@ -11,16 +11,11 @@ ghost use Rattle.long_references.specs.RowReferences.{named_by};
 ghost use Rattle.row_edit.specs.OtherValues.{MayStand, StandIn};
 ghost use Rattle.kept_rows.specs.NamedValues.{is_name, name_of};
 
+use column_set::row_format::{APART, VALUE_HEAD_BYTES};
 use long_value::{LongId, identifiers_differ};
-
-/// The bytes of a value before its own: its column, its form and the count of the bytes that follow.
-const VALUE_HEAD_BYTES: usize = 5;
 
 /// Where the form of a value stands among its bytes.
 const FORM_AT: usize = 2;
-
-/// The form of a value that is kept apart.
-pub const APART: u8 = 1;
 
 /// The bytes of a value that is kept apart, those of its head among them.
 const APART_VALUE_BYTES: usize = 21;

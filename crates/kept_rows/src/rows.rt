@@ -13,12 +13,10 @@ ghost use Rattle.kept_rows.specs.ValuesChanged.{HasLongValues};
 
 use crate::releasing::release_values;
 use crate::taking::take_values;
+use column_set::row_format::COUNT_BYTES;
 use column_set::{Record, rows_are_read_back};
 use jet_base::{OutOfMemory, TableId};
 use table_trees::TableTrees;
-
-/// The bytes before the first value of a row: the count of its values.
-const COUNT_BYTES: usize = 2;
 
 /// Gives up one reference to each long value of a table that a row names, however often it does. A value that has no other
 /// reference is gone then. It takes no memory.

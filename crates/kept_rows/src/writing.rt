@@ -10,22 +10,13 @@ ghost use Rattle.column_set.specs.Rows.{largest_row, row_bytes, value_bytes, val
 ghost use Rattle.long_rows.specs.KeptRows.{are_values, kept_fields, kept_row, kept_value, kept_values, next_place, place_after};
 ghost use Rattle.kept_rows.specs.Sources.{HasRows, found_in};
 
-use crate::named::APART;
 use crate::sharing::Sources;
-use column_set::{Field, MAX_ROW_SIZE, Record, RowFault, size_of_a_row};
+use column_set::row_format::{APART, APART_BYTES, HERE, LONGEST_HERE, MAX_ROW_SIZE};
+use column_set::{Field, Record, RowFault, count_of_values, size_of_a_row};
 use jet_base::{ColumnId, Octets};
 use long_rows::form_of_a_kept_row;
 use long_value::LongId;
 use std::alloc::{AllocError, Global};
-
-/// The longest value that stands in its row, in bytes.
-const LONGEST_HERE: usize = 255;
-
-/// The form of a value that stands in its row.
-const HERE: u8 = 0;
-
-/// The bytes that a value kept apart has in its row, behind its head.
-const APART_BYTES: u16 = 16;
 
 /// Writes a value's column, its form and the count of the bytes that follow.
 fn put_head(bytes: &mut Vec<u8>, column: u16, form: u8, count: u16) -> Result<(), AllocError>
@@ -166,18 +157,6 @@ fn put_fields(
         }
         None => Ok(()),
     }
-}
-
-/// How many values the fields have.
-fn count_of_values(fields: &[Field]) -> usize
-    requires { sum_by (λ field. length field.1) fields.now < 2 ^ 16 }
-    ensures { result ≡ sum_by (λ field. length field.1) fields.now }
-{
-    let mut count = 0;
-    for field in fields {
-        count += field.values().len();
-    }
-    count
 }
 
 /// The bytes of the row that a put makes of a record. A value of at most 255 bytes stands in the row. A longer one, of at most

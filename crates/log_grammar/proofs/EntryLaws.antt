@@ -3,12 +3,13 @@ use Rattle.std.proofs.Common.{◌≡◌, ℕ, ◌^◌, Bool, true, false, cond, 
 use Rattle.std.specs.Int.{w16, w32, to_le_bytes}
 use Rattle.std.proofs.lemmas.Bool.{and_parts, and_from, eqb-true, eq-eqb}
 use Rattle.jet_base.specs.Ids.{column_id, index_id, table_id}
+use Rattle.column_set.specs.NumberReading.{◌>>=◌, number_at, IsBytes, bind_some, some_is, Takes, Takes-then}
 use Rattle.index_derive.specs.declared.schema_calls.SchemaStep.{SchemaStep}
 use Rattle.index_derive.specs.declared.schema_calls.SchemaStep.TheVariants as schema
 use Rattle.log_grammar.specs.EntryBytes.{column_bytes, column_fits, index_bytes, index_fits, name_bytes, name_fits, schema_bytes, schema_fits, schema_kind}
-use Rattle.log_grammar.specs.EntryReading.{◌>>=◌, changed, number_at, byte_at, name_at, column_at, index_at, step_at, schema_at}
+use Rattle.log_grammar.specs.EntryReading.{changed, byte_at, name_at, column_at, index_at, step_at, schema_at}
 use Rattle.log_grammar.proofs.FieldLaws.{name_laws}
-use Rattle.log_grammar.proofs.Laws.{IsBytes, bind_some, some_is, Takes, Takes-then, laws16, laws32, byte_laws}
+use Rattle.log_grammar.proofs.Laws.{laws16, laws32, byte_laws}
 use Rattle.log_grammar.proofs.SchemaLaws.{column_laws, index_laws}
 
 -- one of several numbers

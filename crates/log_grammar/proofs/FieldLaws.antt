@@ -7,10 +7,11 @@ use Rattle.std.proofs.lemmas.List.Concat.{flat_map-cons}
 use Rattle.column_set.specs.Record.{is_record}
 use Rattle.column_set.specs.RecordValues.{RecordFields}
 use Rattle.column_set.specs.Rows.{record_values_in_order}
+use Rattle.column_set.specs.NumberReading.{◌>>=◌, number_at, IsBytes, bind_some, some_is, Takes, Takes-then}
 use Rattle.log_grammar.specs.EntryBytes.{bool_byte, bookmark_bytes, bookmark_fits, copied_bytes, copied_fits, name_bytes, name_fits, record_bytes, record_fits, value_bytes, value_fits, values_bytes}
-use Rattle.log_grammar.specs.EntryReading.{◌>>=◌, both, changed, tested, number_at, byte_at, bytes_at, bookmark_at, name_at, flag_of, flag_at, flagged_at, copied_after, copied_at, value_at, next_at, values_at, grouped, record_at}
+use Rattle.log_grammar.specs.EntryReading.{both, changed, tested, byte_at, bytes_at, bookmark_at, name_at, flag_of, flag_at, flagged_at, copied_after, copied_at, value_at, next_at, values_at, grouped, record_at}
 use Rattle.log_grammar.proofs.Grouping.{do_not_fall, in_order-grouped, grouped-in_order, is_record-grouped, values_in_order}
-use Rattle.log_grammar.proofs.Laws.{IsBytes, bind_some, some_is, Takes, Takes-then, Laws, both_laws, changed_laws, tested_laws, laws16, laws32, byte_laws, bytes_laws}
+use Rattle.log_grammar.proofs.Laws.{Laws, both_laws, changed_laws, tested_laws, laws16, laws32, byte_laws, bytes_laws}
 use Rattle.log_grammar.proofs.Values.{record_parts}
 
 -- ---- bookmarks and names

@@ -57,7 +57,7 @@ index_parts index h =
 
 -- ---- amounts
 
-amount_small : (amount : ℤ) → amount_fits amount ≡ true → cast_unsigned w32 amount < 2 ^ 32
+pub amount_small : (amount : ℤ) → amount_fits amount ≡ true → cast_unsigned w32 amount < 2 ^ 32
 amount_small (pos n) h = let lt : n < 2 ^ 31 = ltb-true _ _ h in omega arith
 amount_small (negsuc n) h = let lt : n < 2 ^ 31 = ltb-true _ _ h in omega arith
 

@@ -1,13 +1,14 @@
 -- The entry that bytes begin with.
-use Rattle.std.proofs.Common.{◌≡◌, ℕ, ◌+◌, ◌^◌, true, ltb, ◌&&◌, List, ◌++◌, length, take, drop, Option, Some, None, refl, sym, ap, subst, ◌∙◌, append_assoc, arith}
+use Rattle.std.proofs.Common.{◌≡◌, ℕ, ◌+◌, ◌^◌, true, ltb, ◌&&◌, List, ◌++◌, length, take, drop, Option, Some, refl, sym, ap, subst, ◌∙◌, append_assoc, arith}
 use Rattle.std.specs.Int.{w32, to_le_bytes}
 use Rattle.std.proofs.lemmas.Bool.{and_parts, and_from, eqb-true, eq-eqb}
 use Rattle.std.proofs.lemmas.List.{length-append}
+use Rattle.column_set.specs.NumberReading.{◌>>=◌, number_at, IsBytes, IsBytes-take, bind_some, guard_some, some_is, Takes-then}
 use Rattle.index_derive.specs.declared.log.Entry.{Entry}
 use Rattle.log_grammar.specs.EntryBytes.{BeginsWith, entry_bytes, entry_rest, has_spelling, kind_fits}
-use Rattle.log_grammar.specs.EntryReading.{◌>>=◌, bytes_at, number_at, rest_at, front_at}
+use Rattle.log_grammar.specs.EntryReading.{bytes_at, rest_at, front_at}
 use Rattle.log_grammar.proofs.KindLaws.{is_label, rest_again, rest_take}
-use Rattle.log_grammar.proofs.Laws.{IsBytes, IsBytes-take, bind_some, guard_some, some_is, Takes-then, bytes_laws, laws32}
+use Rattle.log_grammar.proofs.Laws.{bytes_laws, laws32}
 
 front_again : (entry : Entry) (rest : List ℕ) → has_spelling entry ≡ true → front_at (entry_bytes entry ++ rest) ≡ Some (entry, length (entry_bytes entry))
 unfolding front_at has_spelling entry_bytes

@@ -8,14 +8,16 @@ use Rattle.std.proofs.lemmas.List.{append-nil, nil_from_length}
 use Rattle.jet_base.specs.Ids.{column_id, session_id, table_id}
 use Rattle.column_set.specs.declared.changes.Change.TheVariants as change
 use Rattle.column_set.specs.RecordValues.{RecordFields}
+use Rattle.column_set.specs.NumberReading.{◌>>=◌, number_at, IsBytes, bind_some, passed_some, some_is, Takes, Takes-then}
 use Rattle.index_derive.specs.declared.log.Entry.{Entry}
 use Rattle.index_derive.specs.declared.log.EntryKind.{EntryKind}
 use Rattle.index_derive.specs.declared.log.EntryKind.TheVariants as kind
 use Rattle.log_grammar.specs.EntryBytes.{amount_fits, bookmark_bytes, bookmark_fits, copied_bytes, copied_fits, entry_rest, entry_tag, kind_bytes, kind_fits, record_bytes, record_fits}
-use Rattle.log_grammar.specs.EntryReading.{◌>>=◌, both, changed, tested, number_at, byte_at, bookmark_at, copied_at, record_at, schema_at, table_at, put_at, add_at, kind_at, rest_at}
+use Rattle.log_grammar.specs.EntryReading.{both, changed, tested, byte_at, bookmark_at, copied_at, record_at, schema_at, table_at, put_at, add_at, kind_at, rest_at}
 use Rattle.log_grammar.proofs.EntryLaws.{case_of, schema_take, schema_again}
 use Rattle.log_grammar.proofs.FieldLaws.{bookmark_laws, copied_laws, record_laws}
-use Rattle.log_grammar.proofs.Laws.{IsBytes, bind_some, some_is, passed_some, Takes, Takes-then, Laws, both_laws, tested_laws, laws16, laws32, byte_laws}
+use Rattle.log_grammar.proofs.Laws.{Laws, both_laws, tested_laws, laws16, laws32, byte_laws}
+use Rattle.log_grammar.proofs.Fits.{amount_small}
 
 -- ---- amounts
 
@@ -25,10 +27,6 @@ fits_signed (negsuc n) h = record { sfits = ltb-true _ _ h }
 
 amount_again : (amount : ℤ) → amount_fits amount ≡ true → cast_signed w32 (cast_unsigned w32 amount) ≡ amount
 amount_again amount h = to_z-of_z w32 amount (fits_signed amount h)
-
-pub amount_small : (amount : ℤ) → amount_fits amount ≡ true → cast_unsigned w32 amount < 2 ^ 32
-amount_small (pos n) h = let lt : n < 2 ^ 31 = ltb-true _ _ h in omega arith
-amount_small (negsuc n) h = let lt : n < 2 ^ 31 = ltb-true _ _ h in omega arith
 
 pub amount_is : (n : ℕ) → n < 2 ^ 32 → amount_fits (cast_signed w32 n) ≡ true
 amount_is n lt =

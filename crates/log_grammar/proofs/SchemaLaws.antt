@@ -8,15 +8,16 @@ use Rattle.jet_base.specs.Ids.{index_id}
 use Rattle.jet_base.specs.declared.words.ColType.{ColType}
 use Rattle.jet_base.specs.declared.words.ColType.TheVariants.{Bit, UnsignedByte, Short, UnsignedShort, Long, UnsignedLong, LongLong, Currency, Guid, Binary, Text, LongBinary, LongText}
 use Rattle.column_set.specs.declared.columns.Column.{Column}
+use Rattle.column_set.specs.NumberReading.{◌>>=◌, number_at, bind_some, some_is, Takes}
 use Rattle.index_derive.specs.declared.rules.Condition.{Condition}
 use Rattle.index_derive.specs.declared.rules.IndexFlags.{IndexFlags}
 use Rattle.index_derive.specs.declared.rules.IndexRule.{IndexRule}
 use Rattle.index_derive.specs.declared.rules.Segment.{Segment}
 use Rattle.log_grammar.specs.EntryBytes.{bool_byte, number_of_bits, type_number, column_flags, column_bytes, column_fits, index_flags, segment_bytes, segment_fits, condition_bytes, condition_fits, index_bytes, index_fits, name_bytes, name_fits}
-use Rattle.log_grammar.specs.EntryReading.{◌>>=◌, both, changed, tested, many_at, number_at, byte_at, name_at, flagged_at, type_of, type_at, bit, column_of, column_at, segment_of, segment_at, segments_at, condition_of, condition_at, conditions_at, flags_of, index_head_at, index_of, index_at}
+use Rattle.log_grammar.specs.EntryReading.{both, changed, tested, many_at, byte_at, name_at, flagged_at, type_of, type_at, bit, column_of, column_at, segment_of, segment_at, segments_at, condition_of, condition_at, conditions_at, flags_of, index_head_at, index_of, index_at}
 use Rattle.log_grammar.proofs.FieldLaws.{name_laws, flagged_laws}
 use Rattle.log_grammar.proofs.Fits.{index_parts}
-use Rattle.log_grammar.proofs.Laws.{bind_some, some_is, Takes, Laws, both_laws, changed_laws, tested_laws, many_laws, laws16, laws32, byte_laws}
+use Rattle.log_grammar.proofs.Laws.{Laws, both_laws, changed_laws, tested_laws, many_laws, laws16, laws32, byte_laws}
 
 -- ---- types
 

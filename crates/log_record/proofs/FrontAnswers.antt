@@ -1,6 +1,7 @@
 -- What a function that reads an entry answers.
 use Rattle.std.proofs.Common.{◌≡◌, ℕ, List, length, Option, Some, None, refl, sym, ◌∙◌}
 use Rattle.std.specs.Prelude.{Result, Ok, Err, IfOk, MatchResult}
+use Rattle.column_set.specs.NumberReading.{IsBytes, some_is}
 use Rattle.index_derive.specs.declared.log.Entry.{Entry}
 use Rattle.log_record.specs.declared.fault.EntryFault.{EntryFault}
 use Rattle.log_record.specs.declared.fault.EntryFault.TheVariants.{BadEntry, OutOfMemory}
@@ -8,7 +9,6 @@ use Rattle.log_grammar.specs.EntryBytes.{BeginsWith, entry_bytes}
 use Rattle.log_grammar.specs.EntryReading.{front_at}
 use Rattle.log_record.specs.EntrySeen.{Gives}
 use Rattle.log_grammar.proofs.FrontLaws.{begins, front_take}
-use Rattle.log_grammar.proofs.Laws.{IsBytes, some_is}
 
 pub found_front : (bytes : List ℕ) (r : Result (Entry × ℕ) EntryFault) → IsBytes bytes → Gives (λ x. x) r (front_at bytes) → IfOk r (λ x. BeginsWith bytes x.0 × (x.1 ≡ length (entry_bytes x.0)))
 found_front bytes (Ok x) is_bytes given = let t = front_take bytes x is_bytes given in ((t.rest, t.formed, t.spelled), t.size)

@@ -1,9 +1,10 @@
 -- Reading one after the other, as a loop does.
 use Rattle.std.proofs.Common.{◌≡◌, ℕ, suc, ◌-◌, ◌+◌, ◌≤◌, ◌<◌, List, [], ◌∷◌, ◌++◌, Option, Some, None, refl, sym, ap, ◌∙◌, append_assoc, arith}
 use Rattle.std.proofs.lemmas.List.{append-nil}
+use Rattle.column_set.specs.NumberReading.{◌>>=◌}
 use Rattle.log_record.specs.declared.fault.EntryFault.{EntryFault}
 use Rattle.log_record.specs.declared.fault.EntryFault.TheVariants.{BadEntry, OutOfMemory}
-use Rattle.log_grammar.specs.EntryReading.{◌>>=◌, many_at, next_at, values_at}
+use Rattle.log_grammar.specs.EntryReading.{many_at, next_at, values_at}
 use Rattle.log_record.specs.EntrySeen.{Fails}
 
 -- what was read before, and what is still read

@@ -14,9 +14,9 @@ use Rattle.std.proofs.lemmas.List.Folds.{list_all-append}
 use Rattle.column_set.specs.Record.{is_record}
 use Rattle.column_set.specs.RecordValues.{RecordFields, lookup_by_number, put_by_number, values_of, with_values}
 use Rattle.column_set.specs.Rows.{record_values_in_order}
-use Rattle.log_grammar.specs.EntryReading.{◌>>=◌, next_at, value_at}
+use Rattle.column_set.specs.NumberReading.{◌>>=◌, some_is}
+use Rattle.log_grammar.specs.EntryReading.{next_at, value_at}
 use Rattle.log_grammar.proofs.Grouping.{is_lt-nat_cmp}
-use Rattle.log_grammar.proofs.Laws.{some_is}
 use Rattle.log_grammar.proofs.Values.{of_column}
 
 cmp-above : (x y : ℕ) → y < x → nat_cmp x y ≡ Greater

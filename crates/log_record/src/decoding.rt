@@ -5,8 +5,9 @@ ghost use Rattle.std.specs.Int.{w16, w32};
 ghost use Rattle.jet_base.specs.Ids.{table_id};
 ghost use Rattle.column_set.specs.Rows.{record_values_in_order};
 ghost use Rattle.column_set.specs.declared.changes.Change.TheVariants as change;
+ghost use Rattle.column_set.specs.NumberReading.{number_at};
 ghost use Rattle.index_derive.specs.declared.log.EntryKind.TheVariants as kind;
-ghost use Rattle.log_grammar.specs.EntryReading.{add_at, changed, grouped, kind_at, next_at, number_at, put_at, record_at, rest_at, schema_at, table_at, value_at, values_at};
+ghost use Rattle.log_grammar.specs.EntryReading.{add_at, changed, grouped, kind_at, next_at, put_at, record_at, rest_at, schema_at, table_at, value_at, values_at};
 ghost use Rattle.log_record.specs.EntrySeen.{Gives};
 
 use crate::decoding_schema::schema_of;

@@ -1,6 +1,6 @@
 //! Writing entries.
 
-ghost use Rattle.std.specs.Prelude.{◌≡◌, ◌<◌, ◌≤◌, ◌^◌, ◌+◌, ◌++◌, length, map, sum_by, vec_len, IfOk, IsTrue};
+ghost use Rattle.std.specs.Prelude.{◌≡◌, ◌<◌, ◌≤◌, ◌^◌, ◌+◌, ◌++◌, length, map, vec_len, IfOk, IsTrue};
 ghost use Rattle.std.specs.Vec.{vec_capacity};
 ghost use Rattle.std.specs.Int.{w16, w32, cast_unsigned, to_le_bytes};
 ghost use Rattle.std.specs.List.{flat_map};
@@ -11,25 +11,13 @@ use crate::append::{append, append_byte};
 use crate::encoding_schema::put_schema;
 use crate::measuring::entry_size;
 use crate::put::{put_bookmark, put_copied, put_number, put_table, put_value};
-use column_set::{Change, Field, Record};
+use column_set::{Change, Record, count_of_values};
 use index_derive::{Entry, EntryKind};
 use jet_base::{Octets, OutOfMemory};
 use std::alloc::Global;
 
 /// The bytes that the length of an entry has.
 pub const LENGTH_BYTES: usize = 4;
-
-/// How many values the fields have.
-fn count_of_values(fields: &[Field]) -> usize
-    requires { sum_by (λ field. length field.1) fields.now < 2 ^ 16 }
-    ensures { result ≡ sum_by (λ field. length field.1) fields.now }
-{
-    let mut count = 0;
-    for field in fields {
-        count += field.values().len();
-    }
-    count
-}
 
 /// Writes the values of a column.
 fn put_values(bytes: &mut Vec<u8>, column: u16, values: &[Octets])

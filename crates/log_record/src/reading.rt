@@ -2,11 +2,12 @@
 
 ghost use Rattle.std.specs.Prelude.{◌≡◌, ◌<◌, ◌^◌, Some, None, MatchOption, true, false};
 ghost use Rattle.std.specs.Int.{w16, w32};
-ghost use Rattle.log_grammar.specs.EntryReading.{bookmark_at, byte_at, bytes_at, copied_after, copied_at, flag_at, flagged_at, name_at, number_at};
+ghost use Rattle.column_set.specs.NumberReading.{number_at};
+ghost use Rattle.log_grammar.specs.EntryReading.{bookmark_at, byte_at, bytes_at, copied_after, copied_at, flag_at, flagged_at, name_at};
 ghost use Rattle.log_record.specs.EntrySeen.{Gives};
 
 use crate::fault::EntryFault;
-use column_set::Bookmark;
+use column_set::{Bookmark, u16_at, u32_at};
 use jet_base::{LONGEST_NAME, Name};
 use std::alloc::Global;
 
@@ -24,23 +25,20 @@ pub fn u8_at(bytes: &[u8]) -> Result<(u8, &[u8]), EntryFault>
 pub fn read_u16(bytes: &[u8]) -> Result<(u16, &[u8]), EntryFault>
     ensures { Gives (λ x. (x.0, x.1.now)) result (number_at w16 bytes.now) }
 {
-    if bytes.len() < 2 {
-        return Err(EntryFault::BadEntry);
+    match u16_at(bytes) {
+        Some(found) => Ok(found),
+        None => Err(EntryFault::BadEntry),
     }
-    let (front, rest) = bytes.split_at(2);
-    Ok((u16::from_le_bytes([front[0], front[1]]), rest))
 }
 
 /// The number in the first four bytes, and the bytes behind them.
 pub fn read_u32(bytes: &[u8]) -> Result<(u32, &[u8]), EntryFault>
     ensures { Gives (λ x. (x.0, x.1.now)) result (number_at w32 bytes.now) }
 {
-    if bytes.len() < 4 {
-        return Err(EntryFault::BadEntry);
+    match u32_at(bytes) {
+        Some(found) => Ok(found),
+        None => Err(EntryFault::BadEntry),
     }
-    let (front, rest) = bytes.split_at(4);
-    let number = u32::from_le_bytes([front[0], front[1], front[2], front[3]]);
-    Ok((number, rest))
 }
 
 /// So many bytes, and those behind them.

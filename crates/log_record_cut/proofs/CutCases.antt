@@ -1,14 +1,14 @@
 -- Fields on which it depends what follows.
-use Rattle.std.proofs.Common.{◌≡◌, ℕ, zero, suc, ◌+◌, ◌-◌, ◌*◌, ◌^◌, ◌<◌, ◌≤◌, Bool, true, false, ltb, leb, eqb, ◌&&◌, cond, List, [], ◌∷◌, ◌++◌, length, take, drop, Option, Some, None, refl, sym, ap, subst, ◌∙◌, arith, inl, inr}
-use Rattle.std.specs.Int.{Width, w16, w32, byte_len, to_le_bytes, from_le_bytes}
-use Rattle.std.proofs.lemmas.Bool.{and_parts, and_from, eqb-true, eq-eqb, leb-true, le-leb, ltb-true, ltb-false, lt-ltb, le-ltb}
-use Rattle.std.proofs.lemmas.List.{length-append}
+use Rattle.std.proofs.Common.{◌≡◌, ℕ, zero, suc, ◌+◌, ◌-◌, ◌*◌, ◌^◌, ◌<◌, ◌≤◌, Bool, true, ltb, ◌&&◌, List, [], ◌∷◌, ◌++◌, length, take, drop, None, refl, sym, ap, subst, ◌∙◌, arith}
+use Rattle.std.specs.Int.{w16, to_le_bytes, from_le_bytes}
+use Rattle.std.proofs.lemmas.Bool.{ltb-true, lt-ltb}
 use Rattle.std.proofs.lemmas.Nat.{le_bytes_2, from_le_bytes-to_le_bytes_2}
+use Rattle.column_set.specs.NumberReading.{number_at, IsBytes}
 use Rattle.log_record_cut.specs.EntryCuts.{after, part16}
-use Rattle.log_grammar.specs.EntryReading.{byte_at, number_at}
-use Rattle.log_record_cut.proofs.CutLaws.{Completed, Ends, Then}
+use Rattle.log_grammar.specs.EntryReading.{byte_at}
+use Rattle.log_record_cut.proofs.CutLaws.{Completed, Then}
 use Rattle.log_record_cut.proofs.CutSteps.{Decides, IsFew, decides_field, no_bytes, too_short}
-use Rattle.log_grammar.proofs.Laws.{IsBytes, Laws, byte_laws, laws16}
+use Rattle.log_grammar.proofs.Laws.{byte_laws, laws16}
 
 -- ---- a byte
 

@@ -1,14 +1,14 @@
 -- Changes of records of which only a front stands there.
-use Rattle.std.proofs.Common.{◌≡◌, ℕ, zero, suc, ◌+◌, ◌-◌, ◌*◌, ◌^◌, ◌<◌, ◌≤◌, Bool, true, false, ltb, leb, eqb, ◌&&◌, cond, List, [], ◌∷◌, ◌++◌, length, Option, Some, None, refl, sym, ap, subst, ◌∙◌, arith, ◌⊎◌, inl, inr}
+use Rattle.std.proofs.Common.{◌≡◌, ℕ, zero, suc, ◌+◌, ◌-◌, ◌*◌, ◌^◌, ◌<◌, ◌≤◌, Bool, true, false, ltb, leb, eqb, ◌&&◌, cond, List, [], ◌∷◌, ◌++◌, refl, sym, ap, subst, ◌∙◌, arith, ◌⊎◌, inl, inr}
 use Rattle.std.specs.Prelude.{◌||◌}
-use Rattle.std.specs.Int.{Width, w16, w32, to_le_bytes}
-use Rattle.std.proofs.lemmas.Bool.{cases_Bool, cases_lt, and_parts, and_from, eqb-true, eq-eqb, leb-true, le-leb, ltb-true, ltb-false, lt-ltb, le-ltb, or_right}
-use Rattle.log_record_cut.specs.EntryCuts.{after, end_cut, bytes_cut, number_cut, part16, bookmark_cut, values_cut, record_none, record_low, record_cut, copied_bookmark_none, copied_after_cut, copied_none, copied_cut, put_none, put_cut, add_none, add_cut, drop_none, drop_cut}
-use Rattle.log_record_cut.proofs.CutLaws.{Completed, Ends, Then}
-use Rattle.log_record_cut.proofs.CutSteps.{Decides, IsFew, decides_end, decides_number16, decides_number32}
+use Rattle.std.specs.Int.{w16, w32, to_le_bytes}
+use Rattle.std.proofs.lemmas.Bool.{cases_Bool, cases_lt, and_parts, and_from, eqb-true, eq-eqb, leb-true, le-leb, or_right}
+use Rattle.log_record_cut.specs.EntryCuts.{end_cut, number_cut, bookmark_cut, values_cut, record_none, record_low, record_cut, copied_bookmark_none, copied_after_cut, copied_none, copied_cut, put_none, put_cut, add_none, add_cut, drop_none, drop_cut}
+use Rattle.log_record_cut.proofs.CutLaws.{Then}
+use Rattle.log_record_cut.proofs.CutSteps.{Decides, decides_end, decides_number16, decides_number32}
 use Rattle.log_record_cut.proofs.CutCases.{decides_case8, decides_case16}
-use Rattle.log_record_cut.proofs.CutFields.{BookmarkThen, SizeLeft, decides_bookmark}
-use Rattle.log_record_cut.proofs.CutValues.{Values, decides_values, few_values, many_values, none_left, not_zero}
+use Rattle.log_record_cut.proofs.CutFields.{BookmarkThen, decides_bookmark}
+use Rattle.log_record_cut.proofs.CutValues.{Values, decides_values, few_values, many_values}
 
 pub or_cases : (a b : Bool) → (a || b) ≡ true → (a ≡ true) ⊎ (b ≡ true)
 or_cases true b h = inl refl

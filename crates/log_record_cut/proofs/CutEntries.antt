@@ -3,10 +3,10 @@ use Rattle.std.proofs.Common.{◌≡◌, ℕ, suc, ◌+◌, ◌^◌, true, ltb, 
 use Rattle.std.specs.Int.{w32, to_le_bytes}
 use Rattle.std.proofs.lemmas.Bool.{and_parts}
 use Rattle.std.proofs.lemmas.List.{length-append}
+use Rattle.column_set.specs.NumberReading.{number_at, IsBytes, some_is}
 use Rattle.index_derive.specs.declared.log.Entry.{Entry}
 use Rattle.log_grammar.specs.EntryBytes.{IsCut, entry_bytes, entry_rest, has_spelling, kind_fits}
-use Rattle.log_grammar.specs.EntryReading.{number_at}
-use Rattle.log_grammar.proofs.Laws.{IsBytes, laws32, some_is}
+use Rattle.log_grammar.proofs.Laws.{laws32}
 use Rattle.log_record_cut.proofs.CutLaws.{Ends}
 
 -- the bytes are what stands behind the length of an entry

@@ -1,13 +1,11 @@
 -- Flags, bookmarks and other fields of which only a front stands there.
-use Rattle.std.proofs.Common.{◌≡◌, ℕ, zero, suc, ◌+◌, ◌-◌, ◌*◌, ◌^◌, ◌<◌, ◌≤◌, Bool, true, false, ltb, leb, eqb, ◌&&◌, cond, List, [], ◌∷◌, ◌++◌, length, take, drop, Option, Some, None, refl, sym, ap, subst, ◌∙◌, arith, inl, inr}
-use Rattle.std.specs.Int.{Width, w16, w32, to_le_bytes}
-use Rattle.std.proofs.lemmas.Bool.{and_parts, and_from, eqb-true, eq-eqb, leb-true, le-leb, ltb-true, ltb-false, lt-ltb, le-ltb}
-use Rattle.log_record_cut.specs.EntryCuts.{after, filled, bytes_cut, byte_cut, number_cut, part16, bookmark_size, bookmark_cut}
-use Rattle.log_grammar.specs.EntryReading.{byte_at, bytes_at, number_at}
-use Rattle.log_record_cut.proofs.CutLaws.{Completed, Ends, Then}
-use Rattle.log_record_cut.proofs.CutSteps.{Decides, IsFew, Where, FilledParts, decides_where, decides_bytes, filled_from, filled_parts, no_bytes}
+use Rattle.std.proofs.Common.{◌≡◌, ℕ, zero, suc, ◌+◌, ◌-◌, ◌*◌, ◌^◌, ◌<◌, ◌≤◌, Bool, true, ltb, leb, eqb, ◌&&◌, cond, List, [], ◌∷◌, ◌++◌, length, take, drop, Some, None, refl, sym, ap, subst, ◌∙◌, arith}
+use Rattle.std.specs.Int.{w16, to_le_bytes}
+use Rattle.std.proofs.lemmas.Bool.{and_parts, and_from, leb-true, le-leb, lt-ltb}
+use Rattle.log_record_cut.specs.EntryCuts.{after, filled, bytes_cut, byte_cut, bookmark_size, bookmark_cut}
+use Rattle.log_record_cut.proofs.CutLaws.{Then}
+use Rattle.log_record_cut.proofs.CutSteps.{Decides, Where, decides_where, decides_bytes, filled_from, filled_parts}
 use Rattle.log_record_cut.proofs.CutCases.{decides_case8, decides_case16}
-use Rattle.log_grammar.proofs.Laws.{IsBytes}
 
 -- a byte that passes
 abbrev pub ByteThen : (ℕ → Bool) → (List ℕ → Type 0) → List ℕ → Type 0

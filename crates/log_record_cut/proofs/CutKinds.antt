@@ -1,15 +1,15 @@
 -- What stands behind the length of an entry, where only a front of it is there.
-use Rattle.std.proofs.Common.{◌≡◌, ℕ, zero, suc, ◌+◌, ◌-◌, ◌*◌, ◌/◌, ◌^◌, ◌<◌, ◌≤◌, Bool, true, false, ltb, leb, eqb, ◌&&◌, cond, List, [], ◌∷◌, ◌++◌, length, Option, Some, None, refl, sym, ap, subst, ◌∙◌, arith, ◌⊎◌, inl, inr}
+use Rattle.std.proofs.Common.{◌≡◌, ℕ, ◌+◌, ◌-◌, ◌*◌, ◌/◌, ◌^◌, ◌<◌, ◌≤◌, Bool, true, false, ltb, leb, eqb, ◌&&◌, cond, List, [], ◌∷◌, ◌++◌, length, refl, sym, ap, ◌∙◌, arith, ◌⊎◌, inl, inr}
 use Rattle.std.specs.Prelude.{◌||◌}
-use Rattle.std.specs.Int.{Width, w16, w32, to_le_bytes}
-use Rattle.std.proofs.lemmas.Bool.{cases_Bool, cases_lt, and_parts, and_from, eqb-true, eq-eqb, leb-true, le-leb, ltb-true, ltb-false, lt-ltb, le-ltb, or_right, or_left}
+use Rattle.std.specs.Int.{w16, w32}
+use Rattle.std.proofs.lemmas.Bool.{cases_Bool, cases_lt, and_parts, eqb-true, eq-eqb, leb-true, le-leb, or_right, or_left}
 use Rattle.common_lemmas.proofs.Booleans.{impossible}
-use Rattle.log_record_cut.specs.EntryCuts.{after, end_cut, filled, byte_cut, number_cut, bookmark_cut, put_none, put_cut, add_none, add_cut, drop_none, drop_cut, copied_cut, name_none, name_cut, within, column_cut, segments_cut, small_cut, index_flags_cut, index_cut, step_cut, schema_none, schema_cut, kind_cut, rest_none, rest_cut}
-use Rattle.log_record_cut.proofs.CutLaws.{Completed, Ends, Then}
-use Rattle.log_record_cut.proofs.CutSteps.{Decides, IsFew, FilledParts, Where, decides_where, decides_end, decides_number16, decides_number32, filled_from, filled_parts}
+use Rattle.log_record_cut.specs.EntryCuts.{end_cut, byte_cut, number_cut, bookmark_cut, put_none, put_cut, add_none, add_cut, drop_none, drop_cut, copied_cut, name_cut, within, column_cut, segments_cut, small_cut, index_flags_cut, index_cut, step_cut, schema_none, schema_cut, kind_cut, rest_none, rest_cut}
+use Rattle.log_record_cut.proofs.CutLaws.{Then}
+use Rattle.log_record_cut.proofs.CutSteps.{Decides, FilledParts, Where, decides_where, decides_end, decides_number16, decides_number32, filled_from, filled_parts}
 use Rattle.log_record_cut.proofs.CutCases.{decides_case8}
-use Rattle.log_record_cut.proofs.CutFields.{BookmarkThen, ByteThen, decides_byte}
-use Rattle.log_record_cut.proofs.CutChanges.{CopiedThen, Number16, Number32, Nothing, decides_never, decides_put, decides_add, decides_drop, or_cases, not_equal}
+use Rattle.log_record_cut.proofs.CutFields.{BookmarkThen}
+use Rattle.log_record_cut.proofs.CutChanges.{CopiedThen, Number16, Number32, Nothing, decides_never, decides_put, decides_add, decides_drop, or_cases}
 use Rattle.log_record_cut.proofs.CutSchemas.{ColumnSpelled, IndexSpelled, NameSpelled, Small, decides_column, decides_index, decides_name, decides_small, within_is, within_from}
 
 -- ---- one of several numbers

@@ -1,8 +1,9 @@
 -- What a front of bytes may still become.
 use Rattle.std.proofs.Common.{◌≡◌, ℕ, ◌+◌, Bool, true, List, [], ◌∷◌, ◌++◌, length, Option, Some, None, refl, sym, ap, subst, ◌∙◌, append_assoc, ◌⊎◌, inl, inr}
 use Rattle.std.proofs.lemmas.List.{length-append}
+use Rattle.column_set.specs.NumberReading.{IsBytes, some_is}
 use Rattle.log_grammar.proofs.Streams.{fronts}
-use Rattle.log_grammar.proofs.Laws.{IsBytes, Laws, some_is}
+use Rattle.log_grammar.proofs.Laws.{Laws}
 
 -- the spelling of a value, and what stands behind it
 pub record Then {A : Type 0} (write : A → List ℕ) (fits : A → Bool) (Rest : A → List ℕ → Type 0) (bytes : List ℕ) : Type 0 where

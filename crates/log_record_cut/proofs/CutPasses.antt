@@ -1,5 +1,5 @@
 -- Fields that are passed over one behind the other.
-use Rattle.std.proofs.Common.{◌≡◌, ℕ, Bool, false, List, [], Option, Some, None, ◌∙◌}
+use Rattle.std.proofs.Common.{◌≡◌, ℕ, Bool, List, Option, Some, None, ◌∙◌}
 use Rattle.log_record_cut.specs.Passing.{Passes}
 
 -- what is passed over behind what was passed over

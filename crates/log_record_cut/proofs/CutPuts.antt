@@ -1,9 +1,8 @@
 -- Changes of records, field by field and as they are written.
-use Rattle.std.proofs.Common.{◌≡◌, ℕ, zero, suc, ◌+◌, ◌^◌, ◌<◌, ◌≤◌, Bool, true, false, ltb, leb, eqb, ◌&&◌, List, [], ◌∷◌, ◌++◌, length, Option, Some, None, refl, sym, ap, subst, ◌∙◌, append_assoc, arith}
-use Rattle.std.specs.Int.{w16, w32, to_le_bytes, cast_signed, cast_unsigned}
+use Rattle.std.proofs.Common.{◌≡◌, ℕ, zero, suc, ◌+◌, ◌^◌, ◌<◌, ◌≤◌, true, ltb, leb, ◌&&◌, List, [], ◌∷◌, ◌++◌, length, Option, Some, None, refl, sym, ap, subst, ◌∙◌, append_assoc, arith}
+use Rattle.std.specs.Int.{w16, w32, to_le_bytes}
 use Rattle.std.specs.List.{flat_map, list_all}
-use Rattle.std.proofs.lemmas.Bool.{and_parts, and_from, eqb-true, eq-eqb, leb-true, le-leb, ltb-true, lt-ltb}
-use Rattle.std.proofs.lemmas.List.{append-nil}
+use Rattle.std.proofs.lemmas.Bool.{and_parts, and_from, eqb-true, eq-eqb, lt-ltb}
 use Rattle.std.proofs.lemmas.List.Concat.{flat_map-cons}
 use Rattle.column_set.specs.Record.{is_record}
 use Rattle.column_set.specs.RecordValues.{RecordFields}
@@ -12,8 +11,7 @@ use Rattle.log_grammar.specs.EntryBytes.{bookmark_bytes, bookmark_fits, copied_b
 use Rattle.log_record_cut.specs.EntryCuts.{bookmark_size}
 use Rattle.log_grammar.specs.EntryReading.{grouped}
 use Rattle.log_record_cut.proofs.CutLaws.{Then}
-use Rattle.log_record_cut.proofs.CutSteps.{Where}
-use Rattle.log_record_cut.proofs.CutFields.{BookmarkThen, Text, bookmark_size_parts}
+use Rattle.log_record_cut.proofs.CutFields.{BookmarkThen, bookmark_size_parts}
 use Rattle.log_record_cut.proofs.CutValues.{Values}
 use Rattle.log_record_cut.proofs.CutChanges.{CopiedAfter, CopiedThen, RecordSpelled}
 use Rattle.log_grammar.proofs.Grouping.{do_not_fall, in_order-grouped, is_record-grouped, values_in_order}

@@ -1,9 +1,9 @@
 -- Names, columns and indexes, field by field and as they are written.
-use Rattle.std.proofs.Common.{◌≡◌, ℕ, zero, suc, ◌+◌, ◌-◌, ◌*◌, ◌/◌, ◌%◌, ◌^◌, ◌<◌, ◌≤◌, Bool, true, false, ltb, leb, eqb, ◌&&◌, List, [], ◌∷◌, ◌++◌, length, Option, Some, None, refl, sym, ap, subst, ◌∙◌, append-nil, append_assoc, arith}
+use Rattle.std.proofs.Common.{◌≡◌, ℕ, zero, suc, ◌+◌, ◌-◌, ◌*◌, ◌/◌, ◌%◌, ◌^◌, ◌<◌, ◌≤◌, Bool, true, false, ltb, eqb, ◌&&◌, List, [], ◌∷◌, ◌++◌, length, refl, sym, ap, subst, ◌∙◌, append-nil, append_assoc, arith}
 use Rattle.std.specs.Prelude.{not}
 use Rattle.std.specs.Int.{w16, w32, to_le_bytes}
 use Rattle.std.specs.List.{flat_map, list_all}
-use Rattle.std.proofs.lemmas.Bool.{and_parts, and_from, eqb-true, eq-eqb, leb-true, le-leb, ltb-true, lt-ltb}
+use Rattle.std.proofs.lemmas.Bool.{and_parts, and_from, eqb-true, eq-eqb, ltb-true, lt-ltb}
 use Rattle.std.proofs.lemmas.List.Concat.{flat_map-cons}
 use Rattle.jet_base.specs.Ids.{column_id, index_id}
 use Rattle.jet_base.specs.declared.words.ColType.{ColType}
@@ -16,13 +16,11 @@ use Rattle.index_derive.specs.declared.rules.Segment.{Segment}
 use Rattle.log_grammar.specs.EntryBytes.{bool_byte, number_of_bits, type_number, column_flags, column_bytes, column_fits, index_flags, segment_bytes, segment_fits, condition_bytes, condition_fits, index_bytes, index_fits, name_bytes, name_fits}
 use Rattle.log_record_cut.specs.EntryCuts.{name_size, within}
 use Rattle.log_record_cut.proofs.CutCases.{bytes_of_two}
-use Rattle.log_record_cut.proofs.CutChanges.{Number16, Number32}
+use Rattle.log_record_cut.proofs.CutChanges.{Number32}
 use Rattle.log_record_cut.proofs.CutFields.{ByteThen}
-use Rattle.log_record_cut.proofs.CutLaws.{Then}
 use Rattle.log_record_cut.proofs.CutSchemas.{ColumnSpelled, Counted, IndexSpelled, NameSpelled, Pairs, Small, within_is, within_from}
-use Rattle.log_record_cut.proofs.CutSteps.{Where}
 use Rattle.log_record_cut.proofs.CutValues.{spelled}
-use Rattle.log_grammar.proofs.Fits.{IndexParts, index_parts}
+use Rattle.log_grammar.proofs.Fits.{index_parts}
 
 -- ---- names
 

@@ -1,15 +1,14 @@
 -- Schema changes of which only a front stands there.
-use Rattle.std.proofs.Common.{◌≡◌, ℕ, zero, suc, ◌+◌, ◌-◌, ◌*◌, ◌/◌, ◌^◌, ◌<◌, ◌≤◌, Bool, true, false, ltb, leb, eqb, ◌&&◌, cond, List, [], ◌∷◌, ◌++◌, length, Option, Some, None, refl, sym, ap, subst, ◌∙◌, arith, ◌⊎◌, inl, inr}
+use Rattle.std.proofs.Common.{◌≡◌, ℕ, zero, suc, ◌+◌, ◌-◌, ◌*◌, ◌/◌, ◌^◌, ◌<◌, ◌≤◌, Bool, true, ltb, leb, ◌&&◌, List, [], ◌∷◌, ◌++◌, refl, sym, ap, ◌∙◌, arith, ◌⊎◌, inl, inr}
 use Rattle.std.specs.Prelude.{◌||◌}
-use Rattle.std.specs.Int.{Width, w16, w32, to_le_bytes}
-use Rattle.std.proofs.lemmas.Bool.{cases_Bool, cases_lt, and_parts, and_from, eqb-true, eq-eqb, leb-true, le-leb, ltb-true, ltb-false, lt-ltb, le-ltb, or_left}
-use Rattle.std.proofs.lemmas.List.{length-append}
-use Rattle.log_record_cut.specs.EntryCuts.{after, end_cut, filled, byte_cut, number_cut, bytes_cut, name_size, name_none, name_cut, within, column_cut, pairs_cut, conditions_none, conditions_cut, segments_none, segments_cut, small_cut, index_flags_cut, index_cut, step_cut, schema_none, schema_cut}
-use Rattle.log_record_cut.proofs.CutLaws.{Completed, Ends, Then}
-use Rattle.log_record_cut.proofs.CutSteps.{Decides, IsFew, Where, decides_bytes, decides_where, FilledParts, decides_end, decides_number16, decides_number32, filled_from, filled_parts}
+use Rattle.std.specs.Int.{w32}
+use Rattle.std.proofs.lemmas.Bool.{cases_lt, and_parts, and_from, eqb-true, leb-true, le-leb}
+use Rattle.log_record_cut.specs.EntryCuts.{end_cut, byte_cut, number_cut, bytes_cut, name_size, name_none, name_cut, within, column_cut, pairs_cut, conditions_none, conditions_cut, segments_none, segments_cut, small_cut, index_flags_cut, index_cut}
+use Rattle.log_record_cut.proofs.CutLaws.{Then}
+use Rattle.log_record_cut.proofs.CutSteps.{Decides, Where, decides_bytes, decides_where, decides_end, decides_number16, decides_number32, filled_from, filled_parts}
 use Rattle.log_record_cut.proofs.CutCases.{decides_case8}
 use Rattle.log_record_cut.proofs.CutFields.{ByteThen, Text, bytes_cut_none, decides_byte}
-use Rattle.log_record_cut.proofs.CutChanges.{Number16, Number32, Nothing, decides_never}
+use Rattle.log_record_cut.proofs.CutChanges.{Number16, Number32, Nothing}
 
 pub within_is : (lo hi n : ℕ) → within lo hi n ≡ true → (lo ≤ n) × (n ≤ hi)
 within_is lo hi n h = let p = and_parts (leb lo n) (leb n hi) h in (leb-true _ _ p.0, leb-true _ _ p.1)

@@ -6,10 +6,10 @@ use Rattle.std.proofs.lemmas.List.{length-append, length-replicate}
 use Rattle.std.proofs.lemmas.Nat.{le_bytes_4}
 use Rattle.jet_base.specs.Ids.{session_id, table_id}
 use Rattle.column_set.specs.declared.changes.Change.TheVariants as change
+use Rattle.column_set.specs.NumberReading.{IsBytes}
 use Rattle.index_derive.specs.declared.log.Entry.{Entry}
 use Rattle.index_derive.specs.declared.log.EntryKind.TheVariants as kind
 use Rattle.log_grammar.specs.EntryBytes.{IsCut, entry_bytes, entry_rest, has_spelling}
-use Rattle.log_grammar.proofs.Laws.{IsBytes}
 
 -- a put of one value of so many bytes
 unfoldable entry_of : ℕ → Entry

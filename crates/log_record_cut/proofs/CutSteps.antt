@@ -1,13 +1,14 @@
 -- A test of what bytes may become, field by field.
-use Rattle.std.proofs.Common.{◌≡◌, ℕ, zero, suc, ◌+◌, ◌-◌, ◌^◌, ◌<◌, ◌≤◌, Bool, true, false, ltb, leb, eqb, ◌&&◌, cond, List, [], ◌∷◌, ◌++◌, length, take, drop, replicate, Option, Some, None, refl, sym, ap, subst, ◌∙◌, arith, inl, inr}
-use Rattle.std.specs.Int.{Width, w16, w32, byte_len, to_le_bytes, from_le_bytes}
-use Rattle.std.proofs.lemmas.Bool.{cases_Bool, and_parts, and_from, eqb-true, eq-eqb, leb-true, le-leb, ltb-true, ltb-false, lt-ltb, le-ltb}
+use Rattle.std.proofs.Common.{◌≡◌, ℕ, zero, suc, ◌+◌, ◌-◌, ◌^◌, ◌<◌, ◌≤◌, Bool, true, ltb, leb, eqb, ◌&&◌, cond, List, [], ◌∷◌, ◌++◌, length, take, drop, replicate, Option, Some, None, refl, sym, ap, ◌∙◌, arith, inl, inr}
+use Rattle.std.specs.Int.{w16, w32, to_le_bytes, from_le_bytes}
+use Rattle.std.proofs.lemmas.Bool.{cases_Bool, and_parts, and_from, eqb-true, eq-eqb, leb-true, le-leb, ltb-true, lt-ltb}
 use Rattle.std.proofs.lemmas.List.{length-append, length-replicate}
 use Rattle.std.proofs.lemmas.Nat.{le_bytes_2, le_bytes_4}
+use Rattle.column_set.specs.NumberReading.{number_at, IsBytes}
 use Rattle.log_record_cut.specs.EntryCuts.{after, end_cut, filled, bytes_cut, number_cut}
-use Rattle.log_grammar.specs.EntryReading.{byte_at, bytes_at, number_at}
+use Rattle.log_grammar.specs.EntryReading.{bytes_at}
 use Rattle.log_record_cut.proofs.CutLaws.{Completed, Ends, Then, cut_ends, ends_cut, ends_read, read_ends}
-use Rattle.log_grammar.proofs.Laws.{IsBytes, Laws, bytes_laws, byte_laws, laws16, laws32}
+use Rattle.log_grammar.proofs.Laws.{Laws, bytes_laws, laws16, laws32}
 
 -- as many bytes as an entry may miss
 abbrev pub IsFew : ℕ → Type 0

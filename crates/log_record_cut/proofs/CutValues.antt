@@ -1,16 +1,16 @@
 -- Records of which only a front stands there.
-use Rattle.std.proofs.Common.{◌≡◌, ℕ, zero, suc, ◌+◌, ◌-◌, ◌*◌, ◌^◌, ◌%◌, ◌/◌, ◌<◌, ◌≤◌, Bool, true, false, ltb, leb, eqb, ◌&&◌, cond, List, [], ◌∷◌, ◌++◌, length, take, drop, replicate, Option, Some, None, refl, sym, ap, subst, ◌∙◌, arith, ◌⊎◌, inl, inr}
-use Rattle.std.specs.Int.{Width, w16, w32, to_le_bytes, from_le_bytes}
-use Rattle.std.proofs.lemmas.Bool.{cases_Bool, and_parts, and_from, eqb-true, eq-eqb, leb-true, le-leb, ltb-true, ltb-false, lt-ltb, le-ltb}
+use Rattle.std.proofs.Common.{◌≡◌, ℕ, zero, suc, ◌+◌, ◌-◌, ◌*◌, ◌^◌, ◌%◌, ◌/◌, ◌<◌, ◌≤◌, Bool, true, false, ltb, leb, eqb, ◌&&◌, cond, List, [], ◌∷◌, ◌++◌, length, take, drop, None, refl, sym, ap, ◌∙◌, arith, ◌⊎◌, inl, inr}
+use Rattle.std.specs.Int.{w16, w32, to_le_bytes, from_le_bytes}
+use Rattle.std.proofs.lemmas.Bool.{cases_Bool, and_parts, and_from, eqb-true, eq-eqb, leb-true, le-leb, ltb-true, lt-ltb}
 use Rattle.std.proofs.lemmas.List.{length-append}
 use Rattle.std.proofs.lemmas.Nat.{le_bytes_4, from_le_bytes-to_le_bytes_4}
-use Rattle.log_record_cut.specs.EntryCuts.{after, end_cut, filled, bytes_cut, number_cut, part16, size_part, values_cut, record_none, record_low, record_cut}
-use Rattle.log_grammar.specs.EntryReading.{byte_at, bytes_at, number_at}
-use Rattle.log_record_cut.proofs.CutLaws.{Completed, Ends, Then}
+use Rattle.column_set.specs.NumberReading.{number_at, IsBytes}
+use Rattle.log_record_cut.specs.EntryCuts.{after, filled, bytes_cut, size_part, values_cut}
+use Rattle.log_record_cut.proofs.CutLaws.{Completed, Then}
 use Rattle.log_record_cut.proofs.CutSteps.{Decides, IsFew, Where, decides_end, decides_field, decides_where, decides_bytes, filled_from, filled_parts, no_bytes, too_short}
 use Rattle.log_record_cut.proofs.CutCases.{decides_case16}
 use Rattle.log_record_cut.proofs.CutFields.{Text, bytes_cut_none}
-use Rattle.log_grammar.proofs.Laws.{IsBytes, laws32}
+use Rattle.log_grammar.proofs.Laws.{laws32}
 
 -- ---- the length of a value
 

@@ -1,33 +1,34 @@
 -- Entries field by field and as they are written, and which bytes are a front of one.
-use Rattle.std.proofs.Common.{◌≡◌, ℕ, zero, suc, ◌+◌, ◌-◌, ◌^◌, ◌<◌, ◌≤◌, Bool, true, false, ltb, leb, eqb, ◌&&◌, cond, List, [], ◌∷◌, ◌++◌, length, take, drop, Option, Some, None, refl, sym, ap, subst, ◌∙◌, append_assoc, arith, ◌⊎◌, inl, inr}
+use Rattle.std.proofs.Common.{◌≡◌, ℕ, zero, suc, ◌+◌, ◌-◌, ◌^◌, ◌<◌, ◌≤◌, Bool, true, false, ltb, leb, eqb, ◌&&◌, List, [], ◌∷◌, ◌++◌, length, take, drop, Option, Some, None, refl, sym, ap, subst, ◌∙◌, arith, ◌⊎◌}
 use Rattle.std.specs.Prelude.{not}
 use Rattle.std.specs.Int.{w16, w32, to_le_bytes, from_le_bytes, cast_signed, cast_unsigned}
 use Rattle.std.specs.List.{list_all}
-use Rattle.std.proofs.lemmas.Bool.{cases_Bool, and_parts, and_from, eqb-true, eq-eqb, leb-true, le-leb, ltb-true, ltb-false, lt-ltb}
+use Rattle.std.proofs.lemmas.Bool.{and_parts, and_from, leb-true, ltb-true, lt-ltb}
 use Rattle.std.proofs.lemmas.Int.{of_z-to_z}
 use Rattle.std.proofs.lemmas.List.{append-nil, length-append}
 use Rattle.jet_base.specs.Ids.{column_id, index_id, session_id, table_id}
 use Rattle.column_set.specs.declared.changes.Change.TheVariants as change
+use Rattle.column_set.specs.NumberReading.{number_at, IsBytes}
 use Rattle.index_derive.specs.declared.log.Entry.{Entry}
 use Rattle.index_derive.specs.declared.log.EntryKind.{EntryKind}
 use Rattle.index_derive.specs.declared.log.EntryKind.TheVariants as kind
 use Rattle.index_derive.specs.declared.schema_calls.SchemaStep.{SchemaStep}
 use Rattle.index_derive.specs.declared.schema_calls.SchemaStep.TheVariants as schema
 use Rattle.log_grammar.specs.EntryBytes.{IsCut, amount_fits, bookmark_bytes, bookmark_fits, column_bytes, column_fits, copied_bytes, copied_fits, entry_rest, entry_tag, has_spelling, index_bytes, index_fits, kind_bytes, kind_fits, name_bytes, name_fits, record_bytes, record_fits, schema_bytes, schema_fits, schema_kind}
-use Rattle.log_record_cut.specs.EntryCuts.{after, end_cut, within, rest_cut, front_cut}
-use Rattle.log_grammar.specs.EntryReading.{number_at}
+use Rattle.log_record_cut.specs.EntryCuts.{after, within, rest_cut, front_cut}
 use Rattle.log_record_cut.proofs.CutChanges.{CopiedThen, Number16, Number32, Nothing}
-use Rattle.log_record_cut.proofs.CutEntries.{IsCutRest, IsRest, cut_by_length, cut_from_length}
+use Rattle.log_record_cut.proofs.CutEntries.{IsRest, cut_by_length, cut_from_length}
 use Rattle.log_record_cut.proofs.CutFields.{BookmarkThen}
-use Rattle.log_record_cut.proofs.CutKinds.{Case, here, other, KindSpelled, RestSpelled, SchemaSpelled, StepSpelled, decides_rest}
-use Rattle.log_record_cut.proofs.CutLaws.{Ends, Then}
+use Rattle.log_record_cut.proofs.CutKinds.{here, other, KindSpelled, RestSpelled, SchemaSpelled, StepSpelled, decides_rest}
+use Rattle.log_record_cut.proofs.CutLaws.{Ends}
 use Rattle.log_record_cut.proofs.CutPuts.{Bookmark, bookmark_of, bookmark_then, copied_of, copied_then}
 use Rattle.log_record_cut.proofs.CutRules.{column_from, column_then, index_from, index_then, name_of, name_then, small_of, small_then}
-use Rattle.log_record_cut.proofs.CutSchemas.{ColumnSpelled, IndexSpelled, NameSpelled, Small, within_is, within_from}
+use Rattle.log_record_cut.proofs.CutSchemas.{ColumnSpelled, IndexSpelled, NameSpelled, within_is, within_from}
 use Rattle.log_record_cut.proofs.CutShort.{short_is_cut}
-use Rattle.log_record_cut.proofs.CutSteps.{Decides, Where, too_short}
-use Rattle.log_grammar.proofs.KindLaws.{amount_is, amount_small}
-use Rattle.log_grammar.proofs.Laws.{IsBytes, laws32}
+use Rattle.log_record_cut.proofs.CutSteps.{too_short}
+use Rattle.log_grammar.proofs.KindLaws.{amount_is}
+use Rattle.log_grammar.proofs.Laws.{laws32}
+use Rattle.log_grammar.proofs.Fits.{amount_small}
 
 -- ---- numbers at the end
 

@@ -1,7 +1,8 @@
 -- Whether bytes, with so many more behind them, may be an entry.
-use Rattle.std.specs.Prelude.{ℕ, zero, suc, ◌+◌, ◌-◌, ◌*◌, ◌^◌, ◌%◌, Bool, true, false, ◌&&◌, ◌||◌, ◌==◌, cond, List, [], ◌∷◌, length, take, drop, nat_le, nat_lt, Option, Some, None}
+use Rattle.std.specs.Prelude.{ℕ, zero, suc, ◌+◌, ◌-◌, ◌*◌, ◌^◌, ◌%◌, Bool, true, false, ◌&&◌, ◌||◌, ◌==◌, cond, List, [], ◌∷◌, length, nat_le, nat_lt, Option, Some, None}
 use Rattle.std.specs.Int.{Width, w16, w32, byte_len, from_le_bytes}
-use Rattle.log_grammar.specs.EntryReading.{byte_at, bytes_at, number_at}
+use Rattle.column_set.specs.NumberReading.{number_at}
+use Rattle.log_grammar.specs.EntryReading.{byte_at, bytes_at}
 
 -- what is answered behind a field that is there, or else for the part of it that is
 abbrev pub after : {A : Type 0} → Option (A × List ℕ) → (A → List ℕ → ℕ → Bool) → ℕ → Bool → Bool

@@ -1,11 +1,6 @@
 -- What a function that passes over a field answers.
 use Rattle.std.specs.Prelude.{◌≡◌, ℕ, Bool, false, List, Option, Some, None, Result, Ok, Err}
 
--- what a function found, seen by view, is what reading gives
-abbrev pub Found : {X Y : Type 0} → (X → Y) → Option X → Option Y → Type 0
-Found view None read = read ≡ None
-Found view (Some x) read = read ≡ Some (view x)
-
 -- the test of what follows holds behind what a function passed over, and never where it passed nothing
 abbrev pub Passes : {X : Type 0} → (X → List ℕ × ℕ) → Option X → ((List ℕ → ℕ → Bool) → Bool) → Type 0
 Passes view None test = (rest : List ℕ → ℕ → Bool) → test rest ≡ false

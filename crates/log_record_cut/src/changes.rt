@@ -4,7 +4,7 @@ ghost use Rattle.std.specs.Prelude.{◌≡◌, ◌<◌, ◌^◌, ℕ, Bool, List
 ghost use Rattle.std.specs.Int.{w16, w32};
 ghost use Rattle.log_record_cut.specs.EntryCuts.{add_cut, add_none, bookmark_cut, copied_after_cut, copied_bookmark_none, copied_cut, drop_cut, drop_none, end_cut, number_cut, put_cut, put_none, record_cut, record_low, size_part, values_cut};
 
-use crate::fields::{skip, skip_bookmark, skip_u16, skip_u32, u16_in, u32_in};
+use crate::fields::{skip, skip_bookmark, skip_u16, skip_u32};
 
 /// Whether nothing is there and nothing is missing.
 pub fn may_end(bytes: &[u8], missing: usize) -> bool

@@ -1,34 +1,11 @@
 //! Passing over fields of which a part may be missing.
 
-ghost use Rattle.std.specs.Prelude.{◌≡◌, ◌<◌, ◌≤◌, ℕ, Bool, List, length, MatchOption};
+ghost use Rattle.std.specs.Prelude.{◌<◌, ℕ, Bool, length};
 ghost use Rattle.std.specs.Int.{w16, w32};
 ghost use Rattle.log_record_cut.specs.EntryCuts.{bookmark_cut, byte_cut, bytes_cut, number_cut, small_cut, within};
-ghost use Rattle.log_grammar.specs.EntryReading.{number_at};
-ghost use Rattle.log_record_cut.specs.Passing.{Found, Passes};
+ghost use Rattle.log_record_cut.specs.Passing.{Passes};
 
-/// The number in the first two bytes, and the bytes behind them, where they are there.
-pub fn u16_in(bytes: &[u8]) -> Option<(u16, &[u8])>
-    ensures { Found (λ x. (x.0, x.1.now)) result (number_at w16 bytes.now) }
-{
-    if bytes.len() < 2 {
-        return None;
-    }
-    let (front, rest) = bytes.split_at(2);
-    Some((u16::from_le_bytes([front[0], front[1]]), rest))
-}
-
-/// The number in the first four bytes, and the bytes behind them, where they are there.
-pub fn u32_in(bytes: &[u8]) -> Option<(u32, &[u8])>
-    ensures short { MatchOption result (length bytes.now < 4) (λ x. 4 ≤ length bytes.now) }
-    ensures read { Found (λ x. (x.0, x.1.now)) result (number_at w32 bytes.now) }
-{
-    if bytes.len() < 4 {
-        return None;
-    }
-    let (front, rest) = bytes.split_at(4);
-    let number = u32::from_le_bytes([front[0], front[1], front[2], front[3]]);
-    Some((number, rest))
-}
+use column_set::u16_at;
 
 /// Passes over so many bytes.
 pub fn skip(bytes: &[u8], missing: usize, size: usize) -> Option<(&[u8], usize)>
@@ -114,7 +91,7 @@ pub fn skip_bookmark(bytes: &[u8], missing: usize) -> Option<(&[u8], usize)>
     requires { 0 < length bytes.now }
     ensures { (none : ℕ → Bool) → Passes (λ x. (x.0.now, x.1)) result (λ rest. bookmark_cut none rest bytes.now missing) }
 {
-    let Some((size, rest)) = u16_in(bytes) else {
+    let Some((size, rest)) = u16_at(bytes) else {
         let low = bytes[0] as usize;
         if low < 1 || missing < 1 + low {
             return None;

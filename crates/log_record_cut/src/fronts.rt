@@ -6,9 +6,10 @@ ghost use Rattle.log_grammar.specs.EntryBytes.{IsCut};
 ghost use Rattle.log_record_cut.specs.EntryCuts.{end_cut, front_cut, kind_cut, rest_cut, small_cut};
 
 use crate::changes::{may_be_add, may_be_drop, may_be_lone_number, may_end};
-use crate::fields::{skip_small, u32_in};
+use crate::fields::skip_small;
 use crate::records::may_be_put;
 use crate::schemas::may_be_schema;
+use column_set::u32_at;
 
 /// Whether the fields of the tag may have the bytes.
 fn may_be_fields(bytes: &[u8], missing: usize, tag: u8) -> bool
@@ -50,7 +51,7 @@ fn may_be_rest(bytes: &[u8], missing: usize) -> bool
 fn is_front(bytes: &[u8]) -> bool
     ensures { result ≡ front_cut bytes.now }
 {
-    let Some((count, rest)) = u32_in(bytes) else {
+    let Some((count, rest)) = u32_at(bytes) else {
         return true;
     };
     let count = count as usize;

@@ -6,7 +6,8 @@ ghost use Rattle.log_record_cut.specs.EntryCuts.{bookmark_cut, copied_after_cut,
 ghost use Rattle.log_record_cut.specs.Passing.{Decided};
 
 use crate::changes::{may_be_size, may_end};
-use crate::fields::{skip, skip_bookmark, skip_u32, u16_in, u32_in};
+use crate::fields::{skip, skip_bookmark, skip_u32};
+use column_set::{u16_at, u32_at};
 
 /// Whether a front of a column that is not below `least` may be completed, with a value and so many values behind it.
 fn may_be_column(bytes: &[u8], missing: usize, least: u16, others: u16) -> bool
@@ -29,13 +30,13 @@ fn next_value(
 ) -> Result<(u16, &[u8], usize), bool>
     ensures { Decided (λ x. values_cut others x.0 x.1.now x.2) result (values_cut (suc others) least bytes.now missing) }
 {
-    let Some((column, rest)) = u16_in(bytes) else {
+    let Some((column, rest)) = u16_at(bytes) else {
         return Err(may_be_column(bytes, missing, least, others));
     };
     if column < least {
         return Err(false);
     }
-    let Some((size, rest)) = u32_in(rest) else {
+    let Some((size, rest)) = u32_at(rest) else {
         return Err(may_be_size(rest, missing, others));
     };
     let Some((rest, left)) = skip(rest, missing, size as usize) else {
@@ -87,7 +88,7 @@ fn may_be_count(bytes: &[u8], missing: usize) -> bool
 fn may_be_record(bytes: &[u8], missing: usize) -> bool
     ensures { result ≡ record_cut bytes.now missing }
 {
-    match u16_in(bytes) {
+    match u16_at(bytes) {
         Some((count, rest)) => may_be_values(rest, missing, count),
         None => may_be_count(bytes, missing),
     }

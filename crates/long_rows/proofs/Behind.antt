@@ -1,8 +1,6 @@
 -- No value that a put takes is of an entry behind its own.
-use Rattle.std.proofs.Common.{◌≡◌, ◌⊎◌, inl, inr, ℕ, ◌+◌, ◌<◌, ◌^◌, false, None, List, [], ◌∷◌, length, refl, sym, ap, subst, ◌∙◌, arith}
+use Rattle.std.proofs.Common.{◌≡◌, ◌⊎◌, inl, inr, ℕ, ◌+◌, ◌<◌, ◌^◌, false, None, List, [], ◌∷◌, length, refl, ◌∙◌, arith}
 use Rattle.std.specs.Prelude.{bytes_eq}
-use Rattle.std.proofs.lemmas.Bool.{or_from}
-use Rattle.common_lemmas.proofs.Booleans.{by_test}
 use Rattle.column_set.specs.declared.rows.RowValue.{RowValue}
 use Rattle.column_set.specs.declared.rows.RowValue.TheVariants.{Here, Apart}
 use Rattle.column_set.specs.RecordValues.{RecordFields}
@@ -11,9 +9,9 @@ use Rattle.long_value.specs.Values.{value_of}
 use Rattle.long_references.specs.RowReferences.{identifier}
 use Rattle.long_references.specs.ReferenceCounts.{with_all_taken}
 use Rattle.long_references.proofs.Taken.{ValueLaws}
-use Rattle.long_rows.specs.KeptRows.{Found, MayKeep, given_by, given_values, kept_row, with_given}
+use Rattle.long_rows.specs.KeptRows.{Found, MayKeep, given_by, given_values, kept_row}
 use Rattle.long_rows.proofs.Kept.{AreKept, IsNew, IsShared, fields_kept}
-use Rattle.long_rows.proofs.Given.{IdLaw, IsFresh, added, among, bytes_differ, differ_by_value, next_bound, there}
+use Rattle.long_rows.proofs.Given.{IdLaw, among, bytes_differ, differ_by_value, next_bound, not_with}
 use Rattle.long_rows.proofs.GivenBack.{all_taken_beside}
 use Rattle.long_rows.proofs.Formed.{few_values}
 use Rattle.long_rows.proofs.Stored.{SizeLaw, kept_size}
@@ -24,12 +22,6 @@ pub record IsBehind (found : Found) (number place : ℕ) : Type 0 where
   pub number_fits : number < 2 ^ 64
   pub place_fits : place < 2 ^ 32
   pub absent : value_of (identifier number place) found.values ≡ None
-
-not_with : (k id bytes : List ℕ) (given : List (List ℕ × List ℕ)) → bytes_eq k id ≡ false → among k given ≡ false → among k (with_given id bytes given) ≡ false
-not_with k id bytes given apart rest =
-    by_test (among id given)
-    (λ t. ap (among k) (there id bytes given t) ∙ rest)
-    (λ f. ap (among k) (added id bytes given f) ∙ or_from (bytes_eq k id) (among k given) apart rest)
 
 one_differs : IdLaw → (found : Found) → (number place at behind entry own : ℕ) (bytes : List ℕ) → IsBehind found number place → (IsShared found.values found.rows entry own bytes × (behind ≡ at)) ⊎ IsNew found at behind entry own → at < 2 ^ 32
     → bytes_eq (identifier number place) (identifier entry own) ≡ false

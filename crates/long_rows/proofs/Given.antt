@@ -46,7 +46,7 @@ added id bytes given f = rw f refl
 
 -- ---- a new value is not among those that come later
 
-not_with : (k id bytes : List ℕ) (given : List (List ℕ × List ℕ)) → bytes_eq k id ≡ false → among k given ≡ false → among k (with_given id bytes given) ≡ false
+pub not_with : (k id bytes : List ℕ) (given : List (List ℕ × List ℕ)) → bytes_eq k id ≡ false → among k given ≡ false → among k (with_given id bytes given) ≡ false
 not_with k id bytes given apart rest =
     by_test (among id given)
     (λ t. ap (among k) (there id bytes given t) ∙ rest)

@@ -20,18 +20,16 @@ use Rattle.long_references.proofs.Removed.{rewritten_counts}
 use Rattle.long_references.proofs.Totals.{holds, row_references, found_first}
 use Rattle.long_rows.specs.WholeRows.{StandsFor}
 use Rattle.long_rows.specs.RowsInUse.{IsInUse, newest, before}
-use Rattle.long_rows.proofs.Keeping.{Keeps, bytes_in, still_stands}
+use Rattle.long_rows.proofs.Keeping.{Keeps, bytes_in, still_stands, some_is}
+use Rattle.common_lemmas.proofs.Options.{none_some}
 
 -- ---- a value that a row in use names is there
 
 found_later : (key : List ℕ) (row : List ℕ × RowFields) (rows : NewestRows) → is_eq (slice_cmp nat_cmp key row.0) ≡ false → lookup_by_key key (row ∷ rows) ≡ lookup_by_key key rows
 found_later key row rows f = rw f refl
 
-none_some : {X : Type 0} (o : Option X) (x : X) → o ≡ None → o ≡ Some x → ⊥
-none_some o x none some = absurd cc
-
 newest_counts : (id key : List ℕ) (row : RowFields) (rows : NewestRows) → lookup_by_key key rows ≡ Some row → references id (Some row) ≤ sum_by (row_references id) rows
-newest_counts id key row [] e = absurd (none_some (lookup_by_key {X = RowFields} key []) row refl e)
+newest_counts id key row [] e = none_some row e
 newest_counts id key row (first ∷ rows) e =
     let all = sum_by-cons (row_references id) first rows in
     by_test (is_eq (slice_cmp nat_cmp key first.0))
@@ -90,10 +88,6 @@ keeps_or_gone laws values x k found is =
     let same : k ≡ x = same_bytes k x t in
     less_or_gone found (value_of k (without_reference x values)) (ap (λ (i : List ℕ). value_of k (without_reference i values)) (sym same) ∙ laws.less values k found is))
     (λ f. inr (ap bytes_in (laws.less_beside values x k (unequal k x f) ∙ is)))
-
-some_is : (o : Option LongValue) (bytes : List ℕ) → bytes_in o ≡ Some bytes → (value : LongValue) × (o ≡ Some value) × (Some value.bytes ≡ Some bytes)
-some_is None bytes e = absurd cc
-some_is (Some value) bytes e = (value, refl, e)
 
 pub keeps_released : ValueLaws → (ids : List (List ℕ)) (values : Values) (k : List ℕ) → 0 < count_of k (with_all_released ids values) → Keeps values (with_all_released ids values) k
 keeps_released laws [] values k some = λ found is. ap bytes_in is

@@ -16,6 +16,10 @@ use Rattle.long_rows.proofs.Named.{AllNamed, all_named}
 abbrev pub bytes_in : Option LongValue → Option (List ℕ)
 bytes_in value = option_map (λ (found : LongValue). found.bytes) value
 
+pub some_is : (o : Option LongValue) (bytes : List ℕ) → bytes_in o ≡ Some bytes → (value : LongValue) × (o ≡ Some value) × (Some value.bytes ≡ Some bytes)
+some_is None bytes e = absurd cc
+some_is (Some value) bytes e = (value, refl, e)
+
 -- a value that was there is there with the same bytes
 abbrev pub Keeps : Values → Values → List ℕ → Type 0
 Keeps old new id = (value : LongValue) → value_of id old ≡ Some value → bytes_in (value_of id new) ≡ Some value.bytes

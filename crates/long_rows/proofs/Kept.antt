@@ -16,6 +16,7 @@ use Rattle.long_value.specs.Values.{LongValue, Values, value_of}
 use Rattle.long_references.specs.RowReferences.{identifier}
 use Rattle.long_references.proofs.Totals.{itself}
 use Rattle.long_rows.specs.KeptRows.{Found, is_long, kept_fields, kept_value, kept_values, may_share, most_references, next_place, or_else, place_after, place_behind, shared, shared_in, shared_one, value_apart}
+use Rattle.common_lemmas.proofs.Options.{none_some}
 
 -- ---- one value
 
@@ -96,9 +97,6 @@ column_fits (field ∷ row) column fits =
 apart_in_range : (row : RowFields) (column at : ℕ) (there : ℕ × ℕ × ℕ) → is_row row ≡ true → apart_at row column at ≡ Some there → (there.0 < 2 ^ 64) × (there.1 < 2 ^ 32)
 apart_in_range row column at there is e = value_in_range (row_values_of row column) at there (column_fits row column (and_right (is_sorted nat_cmp row) (list_all field_fits_row row) (and_left (is_well_formed row) (nat_lt (length (values_in_order row)) (2 ^ 16)) is))) e
 
-none_some : {X : Type 0} (o : Option X) (x : X) → o ≡ None → o ≡ Some x → ⊥
-none_some o x none some = absurd cc
-
 may_share_is : (bytes : List ℕ) (o : Option LongValue) → may_share bytes o ≡ true → (value : LongValue) × (o ≡ Some value) × (value.bytes ≡ bytes) × (value.count < most_references)
 may_share_is bytes None e = absurd (true≢false (sym e))
 may_share_is bytes (Some value) e = (
@@ -115,7 +113,7 @@ shared_one_is values bytes (Some there) id e =
     (λ t.
     let same : (there.0, there.1) ≡ id = ap (λ (o : Option (ℕ × ℕ)). unwrap_or o (there.0, there.1)) (sym (yes t) ∙ e) in
     (there.2, ap (λ (i : ℕ × ℕ). Some (i.0, i.1, there.2)) same, subst (λ (i : ℕ × ℕ). may_share bytes (value_of (identifier i.0 i.1) values) ≡ true) same t))
-    (λ f. absurd (none_some (shared_one values bytes (Some there)) id (no f) e))
+    (λ f. none_some id (sym (no f) ∙ e))
   where
     yes : may_share bytes (value_of (identifier there.0 there.1) values) ≡ true → shared_one values bytes (Some there) ≡ Some (there.0, there.1)
     yes t = rw t refl
@@ -138,7 +136,7 @@ in_either P None second id e one other = other e
 in_either P (Some x) second id e one other = one e
 
 shared_in_is : (values : Values) (rows : List RowFields) (column at : ℕ) (bytes : List ℕ) (id : ℕ × ℕ) → shared_in values rows column at bytes ≡ Some id → IsShared values rows id.0 id.1 bytes
-shared_in_is values [] column at bytes id e = absurd (none_some (shared_in values [] column at bytes) id refl e)
+shared_in_is values [] column at bytes id e = none_some id e
 shared_in_is values (row ∷ rows) column at bytes id e =
     in_either (λ i. IsShared values (row ∷ rows) i.0 i.1 bytes) (shared_one values bytes (apart_at row column at)) (shared_in values rows column at bytes) id e
     (λ one. in_first values row rows column at bytes id one)

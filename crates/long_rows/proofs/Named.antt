@@ -14,10 +14,10 @@ AllNamed P [] = Unit {0}
 AllNamed P ((column, Here bytes) ∷ xs) = AllNamed P xs
 AllNamed P ((column, Apart entry place size) ∷ xs) = P (identifier entry place) × AllNamed P xs
 
-added : (id : List ℕ) (ids : List (List ℕ)) → list_any (bytes_eq id) ids ≡ false → with_identifier id ids ≡ id ∷ ids
+pub added : (id : List ℕ) (ids : List (List ℕ)) → list_any (bytes_eq id) ids ≡ false → with_identifier id ids ≡ id ∷ ids
 added id ids f = rw f refl
 
-there : (id : List ℕ) (ids : List (List ℕ)) → list_any (bytes_eq id) ids ≡ true → with_identifier id ids ≡ ids
+pub there : (id : List ℕ) (ids : List (List ℕ)) → list_any (bytes_eq id) ids ≡ true → with_identifier id ids ≡ ids
 there id ids t = rw t refl
 
 pub more_named : (k id : List ℕ) (ids : List (List ℕ)) → times_among k ids ≤ times_among k (with_identifier id ids)

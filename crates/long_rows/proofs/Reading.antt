@@ -1,5 +1,5 @@
 -- The row that a put makes is read back as its record once its values are taken.
-use Rattle.std.proofs.Common.{◌≡◌, ◌≢◌, ◌⊎◌, inl, inr, ℕ, suc, ◌+◌, ◌<◌, ◌≤◌, ◌^◌, true, false, Option, Some, None, List, [], ◌∷◌, ◌++◌, length, map, refl, sym, ap, subst, ◌∙◌, arith, true≢false}
+use Rattle.std.proofs.Common.{◌≡◌, ◌≢◌, ◌⊎◌, inl, inr, ℕ, suc, ◌+◌, ◌<◌, ◌≤◌, ◌^◌, true, false, Some, None, List, [], ◌∷◌, ◌++◌, length, map, refl, sym, ap, subst, ◌∙◌, arith, true≢false}
 use Rattle.std.specs.Prelude.{is_some}
 use Rattle.std.specs.List.{list_all}
 use Rattle.std.proofs.lemmas.Bool.{and_from, eq-eqb}
@@ -8,13 +8,13 @@ use Rattle.column_set.specs.declared.rows.RowValue.{RowValue}
 use Rattle.column_set.specs.declared.rows.RowValue.TheVariants.{Here, Apart}
 use Rattle.column_set.specs.RecordValues.{RecordFields}
 use Rattle.column_set.specs.Rows.{record_values_in_order, values_in_order}
-use Rattle.long_value.specs.Values.{LongValue, Values, put_value, value_of}
+use Rattle.long_value.specs.Values.{Values, put_value, value_of}
 use Rattle.long_references.specs.RowReferences.{identifier}
 use Rattle.long_references.specs.ReferenceCounts.{with_all_taken, with_taken}
 use Rattle.long_references.proofs.Taken.{ValueLaws, shared}
 use Rattle.long_rows.specs.WholeRows.{is_there, is_whole, record_in, whole_value}
 use Rattle.long_rows.specs.KeptRows.{Found, given_by, kept_fields, kept_value, kept_values, next_place, place_after}
-use Rattle.long_rows.proofs.Keeping.{Keeps, bytes_in, kept_one}
+use Rattle.long_rows.proofs.Keeping.{Keeps, bytes_in, kept_one, some_is}
 use Rattle.long_rows.proofs.Steps.{joined, keeps_all_taken, keeps_taken}
 use Rattle.long_rows.proofs.Kept.{AreKept, IsNew, IsShared, fields_kept}
 use Rattle.long_rows.proofs.Given.{IdLaw, IsFresh, added, among, differ_by_value, next_bound, not_given, other_place, there}
@@ -50,10 +50,6 @@ pub record IsAmid (found : Found) (at : ℕ) (values : Values) : Type 0 where
 head_read : (values : Values) (entry own size : ℕ) (bytes : List ℕ) → bytes_in (value_of (identifier entry own) values) ≡ Some bytes → size ≡ length bytes
     → (whole_value values (Apart entry own size) ≡ bytes) × (is_there values (Apart entry own size) ≡ true)
 head_read values entry own size bytes e same = kept_one size (record { count = 1; bytes = bytes }) (value_of (identifier entry own) values) e (eq-eqb size (length bytes) same)
-
-some_is : (o : Option LongValue) (bytes : List ℕ) → bytes_in o ≡ Some bytes → (value : LongValue) × (o ≡ Some value)
-some_is None bytes e = absurd cc
-some_is (Some value) bytes e = (value, refl)
 
 -- the row's value is read where its bytes are there before the rest is taken
 read_with : ValueLaws → (values : Values) (given : List (List ℕ × List ℕ)) (x : ℕ × RowValue) (entry own size : ℕ) (v : ℕ × List ℕ) (xs : List (ℕ × RowValue)) (vs : List (ℕ × List ℕ)) → x.1 ≡ Apart entry own size

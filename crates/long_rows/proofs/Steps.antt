@@ -1,8 +1,8 @@
 -- Values keep their bytes as references come and go.
-use Rattle.std.proofs.Common.{◌≡◌, ◌≢◌, ℕ, ◌-◌, ◌<◌, ◌==◌, Bool, true, false, if◌then◌else◌, Option, Some, None, List, [], ◌∷◌, refl, sym, ap, subst, ◌∙◌, arith}
+use Rattle.std.proofs.Common.{◌≡◌, ◌≢◌, ℕ, ◌-◌, ◌<◌, ◌==◌, Bool, false, if◌then◌else◌, Some, None, List, [], ◌∷◌, refl, sym, ap, subst, ◌∙◌, arith}
 use Rattle.std.specs.Prelude.{bytes_eq, is_some}
 use Rattle.std.proofs.lemmas.Bool.{eqb-true}
-use Rattle.common_lemmas.proofs.Options.{none_there}
+use Rattle.common_lemmas.proofs.Options.{none_there, none_some}
 use Rattle.common_lemmas.proofs.Booleans.{by_test}
 use Rattle.common_lemmas.proofs.Numbers.{same_bytes}
 use Rattle.column_set.specs.RecordValues.{RecordFields}
@@ -12,15 +12,12 @@ use Rattle.long_references.specs.RowReferences.{references}
 use Rattle.long_references.specs.ReferenceCounts.{with_all_taken, with_taken}
 use Rattle.long_references.proofs.Taken.{ValueLaws, shared, unequal}
 use Rattle.long_rows.specs.WholeRows.{StandsFor}
-use Rattle.long_rows.proofs.Keeping.{Keeps, bytes_in, still_stands}
-
-not_there : {X : Type 0} (o : Option X) (x : X) → o ≡ None → o ≡ Some x → ⊥
-not_there o x none some = absurd cc
+use Rattle.long_rows.proofs.Keeping.{Keeps, bytes_in, still_stands, some_is}
 
 pub keeps_put : ValueLaws → (values : Values) (id : List ℕ) (value : LongValue) (k : List ℕ) → value_of id values ≡ None → Keeps values (put_value id value values) k
 keeps_put laws values id value k none found is =
     by_test (bytes_eq k id)
-    (λ t. absurd (not_there (value_of id values) found none (ap (λ (i : List ℕ). value_of i values) (sym (same_bytes k id t)) ∙ is)))
+    (λ t. none_some found (sym none ∙ ap (λ (i : List ℕ). value_of i values) (sym (same_bytes k id t)) ∙ is))
     (λ f. ap bytes_in (laws.beside values id k value (unequal k id f) ∙ is))
 
 pub keeps_more : ValueLaws → (values : Values) (id k : List ℕ) → Keeps values (with_reference id values) k
@@ -56,13 +53,9 @@ keeps_taken laws values one k =
     placed : is_some (value_of one.0 values) ≡ false → with_taken values one ≡ put_value one.0 (record { count = 1; bytes = one.1 }) values
     placed f = rw f refl
 
-some_bytes : (o : Option LongValue) (bytes : List ℕ) → bytes_in o ≡ Some bytes → (value : LongValue) × (o ≡ Some value) × (Some value.bytes ≡ Some bytes)
-some_bytes None bytes e = absurd cc
-some_bytes (Some value) bytes e = (value, refl, e)
-
 pub joined : (a b c : Values) (k : List ℕ) → Keeps a b k → Keeps b c k → Keeps a c k
 joined a b c k first second found is =
-    let then_is = some_bytes (value_of k b) found.bytes (first found is) in
+    let then_is = some_is (value_of k b) found.bytes (first found is) in
     second then_is.0 then_is.1 ∙ then_is.2
 
 pub keeps_all_taken : ValueLaws → (given : List (List ℕ × List ℕ)) (values : Values) (k : List ℕ) → Keeps values (with_all_taken given values) k

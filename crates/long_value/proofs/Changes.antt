@@ -1,54 +1,12 @@
 -- Trees that change one after the other.
-use Rattle.std.proofs.Common.{◌≡◌, ℕ, suc, ◌⊎◌, ◌==◌, inl, inr, List, [], ◌∷◌, refl, sym, subst, ◌∙◌, true≢false, arith}
+use Rattle.std.proofs.Common.{◌≡◌, ℕ, inl, List, refl, sym, subst, ◌∙◌, arith}
 use Rattle.std.specs.Prelude.{Contains}
-use Rattle.std.proofs.lemmas.Bool.Decides.{Decides-eqb}
-use Rattle.std.proofs.lemmas.Map.Made.{Contains-tail}
-use Rattle.common_lemmas.proofs.Booleans.{by_test}
 use Rattle.page_image.specs.Page.{Node}
 use Rattle.page_space.specs.Frames.{Frames, page_at}
 use Rattle.btree_inplace.specs.Trees.{Exchanges, IsTree, nodes_of, pages_of}
+use Rattle.btree_inplace.specs.ExchangeLaws.{exchanges_then}
 use Rattle.btree_inplace.specs.declared.Tree.{Tree}
 use Rattle.long_value.specs.Stores.{Becomes}
-
--- ---- pages
-
-member : (xs : List ℕ) (p : ℕ) → Contains xs p ⊎ (¬ Contains xs p)
-member [] p = inr (λ c. absurd (omega (arith, c.1)))
-member (x ∷ xs) p =
-    by_test (x == p)
-    (λ t. inl (0, omega arith, (Decides-eqb x p).0 t))
-    (λ f. elim (member xs p) [
-      | inl c ↦ inl (suc c.0, omega (arith, c.1), c.2)
-      | inr n ↦ inr (λ c. n (Contains-tail x xs p (λ e. true≢false (sym ((Decides-eqb x p).1 e) ∙ f)) c))
-    ])
-
-pub exchanges_then : (a b c : Frames) (first second third : List ℕ) → Exchanges a b first second → Exchanges b c second third → Exchanges a c first third
-exchanges_then a b c first second third s t = record {
-  taken = λ p h. elim (member first p) [
-    | inl was ↦ inl was
-    | inr none ↦ inr (elim (member second p) [
-      | inl between ↦ elim (s.taken p between) [
-        | inl there ↦ absurd (none there)
-        | inr free ↦ free
-      ]
-      | inr not ↦ elim (t.taken p h) [
-        | inl there ↦ absurd (not there)
-        | inr free ↦ sym (s.others p none not) ∙ free
-      ]
-    ])
-  ];
-  given_back = λ p h none. elim (member second p) [
-    | inl between ↦ t.given_back p between none
-    | inr not ↦ t.others p not none ∙ s.given_back p h not
-  ];
-  others = λ p h none. elim (member second p) [
-    | inl between ↦ elim (s.taken p between) [
-      | inl there ↦ absurd (h there)
-      | inr free ↦ t.given_back p between none ∙ sym free
-    ]
-    | inr not ↦ t.others p not none ∙ s.others p h not
-  ];
-}
 
 pub exchanges_none : (frames : Frames) (pages : List ℕ) → Exchanges frames frames pages pages
 exchanges_none frames pages = record { taken = λ p h. inl h; given_back = λ p h not. absurd (not h); others = λ p h not. refl }

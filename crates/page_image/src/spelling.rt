@@ -22,7 +22,7 @@ pub const NODE_HEAD_BYTES: usize = 6;
 const CHECKED_WORDS: usize = 511;
 
 /// The exclusive or of the words behind the first one.
-fn checksum(bytes: &[u8; 4096]) -> u64
+fn checksum(bytes: &[u8; PAGE_BYTES]) -> u64
     ensures { result ≡ xor_of_words 511 (drop 8 bytes.now) }
 {
     let mut sum = 0;
@@ -33,7 +33,7 @@ fn checksum(bytes: &[u8; 4096]) -> u64
 }
 
 /// A copy of the bytes with the checksum of the other words in the first one.
-pub fn sealed(bytes: &[u8; 4096]) -> [u8; 4096]
+pub fn sealed(bytes: &[u8; PAGE_BYTES]) -> [u8; PAGE_BYTES]
     ensures { result ≡ little_bytes 8 (xor_of_words 511 (drop 8 bytes.now)) ++ drop 8 bytes.now }
 {
     let sum = checksum(bytes);
@@ -43,7 +43,7 @@ pub fn sealed(bytes: &[u8; 4096]) -> [u8; 4096]
 }
 
 /// Whether all words behind the first one are the same.
-pub fn has_same_words(own: &[u8; 4096], other: &[u8; 4096]) -> bool
+pub fn has_same_words(own: &[u8; PAGE_BYTES], other: &[u8; PAGE_BYTES]) -> bool
     ensures { result ≡ bytes_eq (drop 8 own.now) (drop 8 other.now) }
 {
     let own = &own[CHECKSUM_BYTES..];
@@ -52,7 +52,7 @@ pub fn has_same_words(own: &[u8; 4096], other: &[u8; 4096]) -> bool
 }
 
 /// The number in the two bytes at a place.
-pub fn number_at(bytes: &[u8; 4096], at: usize) -> usize
+pub fn number_at(bytes: &[u8; PAGE_BYTES], at: usize) -> usize
     requires { at + 2 ≤ 4096 }
     ensures value { result ≡ little_number 2 (drop at bytes.now) }
     ensures small { result < 65536 }
@@ -61,7 +61,7 @@ pub fn number_at(bytes: &[u8; 4096], at: usize) -> usize
 }
 
 /// Writes the count of nodes, after which the bytes behind the checksum are a page's again.
-pub fn finish(bytes: &mut [u8; 4096], count: usize)
+pub fn finish(bytes: &mut [u8; PAGE_BYTES], count: usize)
     requires { count < 65536 }
     ensures { (p q : PageContents) → q.number ≡ p.number → q.kind ≡ p.kind → count ≡ length q.nodes → drop 8 bytes.old ≡ page_head p ++ node_area q.nodes → drop 8 bytes.new ≡ page_body q }
 {
@@ -69,7 +69,7 @@ pub fn finish(bytes: &mut [u8; 4096], count: usize)
 }
 
 /// Writes the count of nodes.
-fn set_count(bytes: &mut [u8; 4096], count: u16)
+fn set_count(bytes: &mut [u8; PAGE_BYTES], count: u16)
     ensures { bytes.new ≡ take 14 bytes.old ++ (little_bytes 2 count ++ drop 16 bytes.old) }
 {
     LittleEndian::write_u16(&mut bytes[14..16], count);
@@ -104,7 +104,7 @@ fn write_node(node: &mut [u8], key: &[u8], data: &[u8], extent: usize)
 
 /// Writes a node at a place, and moves what stands from there to the end behind it.
 pub fn insert_node(
-    bytes: &mut [u8; 4096],
+    bytes: &mut [u8; PAGE_BYTES],
     at: usize,
     end: usize,
     key: &[u8],
@@ -122,7 +122,7 @@ pub fn insert_node(
 }
 
 /// Takes `size` bytes out at a place, and moves what stands behind them up to the end, with zeros behind it.
-pub fn remove_bytes(bytes: &mut [u8; 4096], at: usize, size: usize, end: usize)
+pub fn remove_bytes(bytes: &mut [u8; PAGE_BYTES], at: usize, size: usize, end: usize)
     requires order { at + size ≤ end }
     requires within { end ≤ 4096 }
     ensures { bytes.new ≡ take at bytes.old ++ (slice_range bytes.old (at + size) end ++ (replicate size 0 ++ drop end bytes.old)) }
@@ -146,7 +146,7 @@ pub fn replace_data(node: &mut [u8], key_length: usize, data: &[u8])
 }
 
 /// Puts zeros in at a place, and moves what stands from there to the end behind them.
-fn insert_zeros(bytes: &mut [u8; 4096], at: usize, size: usize, end: usize)
+fn insert_zeros(bytes: &mut [u8; PAGE_BYTES], at: usize, size: usize, end: usize)
     requires order { at ≤ end }
     requires room { end + size ≤ 4096 }
     ensures { bytes.new ≡ take at bytes.old ++ (replicate size 0 ++ (slice_range bytes.old at end ++ drop (end + size) bytes.old)) }
@@ -156,7 +156,7 @@ fn insert_zeros(bytes: &mut [u8; 4096], at: usize, size: usize, end: usize)
 }
 
 /// Makes `new` zeros of `old` ones at a place, and moves what stands behind them up to the end.
-pub fn resize_zeros(bytes: &mut [u8; 4096], at: usize, old: usize, new: usize, end: usize)
+pub fn resize_zeros(bytes: &mut [u8; PAGE_BYTES], at: usize, old: usize, new: usize, end: usize)
     requires order { at + old ≤ end }
     requires within { end ≤ 4096 }
     requires room { end + new ≤ 4096 + old }

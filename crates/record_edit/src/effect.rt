@@ -5,7 +5,8 @@ ghost use Rattle.column_set.specs.RecordValues.{size_of_values};
 ghost use Rattle.record_edit.specs.SetColumn.{values_after};
 ghost use Rattle.record_edit.specs.Effects.{values_by, IsEffectOn};
 
-use column_set::{VALUE_HEADER, size_of_length, size_of_values};
+use column_set::row_format::VALUE_HEAD_BYTES;
+use column_set::{size_of_length, size_of_values};
 use jet_base::Octets;
 
 /// What an edit does to the values of its column. Places are counted from 0.
@@ -63,7 +64,7 @@ impl Effect {
         requires { IsEffectOn (length values.now) self }
         ensures { (value : List ℕ) → length value ≡ added → result ≡ min (size_of_values (values_by self value values.now)) (2 ^ 64 - 1) }
     {
-        let room = VALUE_HEADER + size_of_length(added);
+        let room = VALUE_HEAD_BYTES + size_of_length(added);
         match self {
             Effect::Nothing => size_of_values(values),
             Effect::Clear => 0,

@@ -8,14 +8,8 @@ ghost use Rattle.column_set.specs.Rows.{IsRowBytes, RowFields, all_here, here_fi
 ghost use Rattle.row_edit.specs.OtherValues.{MayStand, StandIn, other_values};
 
 use arrayvec::ArrayVec;
-use column_set::MAX_ROW_SIZE;
+use column_set::row_format::{COUNT_BYTES, MAX_ROW_SIZE, VALUE_HEAD_BYTES};
 use jet_base::ColumnId;
-
-/// The bytes before the first value: the count of the values.
-pub const COUNT_BYTES: usize = 2;
-
-/// The bytes of a value before its own: its column, its form and the count of the bytes that follow.
-const VALUE_HEAD_BYTES: usize = 5;
 
 /// Writes a row without the values of a column, in the place of what the buffer held. The other values are copied as
 /// they stand. It takes no memory.

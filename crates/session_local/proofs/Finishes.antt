@@ -31,8 +31,9 @@ use Rattle.session_local.specs.SchemaCalls.{schema_changed}
 use Rattle.session_local.specs.CursorCalls.{whole, opened, close_table, current_entries, index_record_count, retrieve_key, get_bookmark}
 use Rattle.session_local.specs.RecordCalls.{bookmark_at, record_at, current, own_refusals, conflict_refusals, transaction_refusals, drop_at, hold_at, with_prepared, prepared_refusals, with_sums_at_zero, prepare_copy, prepare_replace, on_column, value_shown, column_shown, retrieve_column, retrieve_copy, bookmark_for, replaced_by, is_primary_changed, put_of, update_with, update, delete, get_lock, sum_in, escrow_update}
 use Rattle.session_local.specs.Finishing.{after_step, finished, decided_of, decided_by, is_finished, with_opened, with_copied, with_update_at, prepared_on}
+use Rattle.session_local.specs.FoundLaws.{labelled}
 use Rattle.session_local.proofs.Outcomes.{unless_refused-all, unless-all, on_cursor-all, on_prepared-all, on_column-all, unless-each}
-use Rattle.session_local.proofs.Labels.{labelled, cursor_labelled-with_cursor}
+use Rattle.session_local.proofs.Labels.{cursor_labelled-with_cursor}
 
 -- an outcome leaves what its decision is finished to
 abbrev Finishes : Asked → Request → Outcome → Type 0

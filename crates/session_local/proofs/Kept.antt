@@ -29,10 +29,11 @@ use Rattle.session_local.specs.Finishing.{Decided, after_step, begun_with, is_re
 use Rattle.session_local.specs.Navigating.{navigated_on}
 use Rattle.session_local.specs.Changing.{Changed, cursor_if, insert_prepared_at, update_cancelled_at, update_prepared_at, new_update, value_set_in, value_set_on, changed_by, changed_unless, changed_to, refused_by, local_after}
 use Rattle.session_local.specs.WellFormed.{number_of_column, is_sum, is_long_if_sum, has_short_keys, is_well_formed_schema, stands_in, is_well_formed_record, is_well_formed_update, is_well_formed_cursor, is_well_formed_table, is_well_formed_on, is_well_formed_copy, IsWellFormed}
+use Rattle.session_local.specs.FoundLaws.{by_number, values_of-fit}
 use Rattle.session_local.proofs.Fitting.{fits_if, value_fits-given_bytes, values_after-fit}
 use Rattle.common_lemmas.proofs.Found.{all_found}
 use Rattle.common_lemmas.proofs.Lists.{all_filtered}
-use Rattle.session_local.proofs.Records.{by_number, values_of-fit, stands-in, all_with_values, sums_at_zero-stand, sums_at_zero-small}
+use Rattle.session_local.proofs.Records.{stands-in, all_with_values, sums_at_zero-stand, sums_at_zero-small}
 
 -- ---- the parts of a schema
 

@@ -1,17 +1,7 @@
 -- Cursors by label.
 use Rattle.std.proofs.Common.{◌≡◌, ℕ, ◌==◌, true, false, cond, List, [], ◌∷◌, map, find, Some, refl, sym, subst, if◌then◌else◌}
-use Rattle.std.proofs.lemmas.Bool.{eqb-true}
 use Rattle.common_lemmas.proofs.Numbers.{self_equal}
 use Rattle.session_local.specs.Local.{LocalState, OpenCursor, cursor_labelled, with_cursor}
-
--- a cursor that is found by a label has it
-pub labelled : (label : ℕ) (cursors : List OpenCursor) (c : OpenCursor) → find (λ c. c.label == label) cursors ≡ Some c → c.label ≡ label
-labelled label [] c found = cc
-labelled label (x ∷ xs) c found =
-    elim (x.label == label) as (λ b. (x.label == label) ≡ b → cond b (Some x) (find (λ c. c.label == label) xs) ≡ Some c → c.label ≡ label) [
-      | true ↦ λ e h. let same : x ≡ c = cc in let n = eqb-true x.label label e in cc
-      | false ↦ λ e h. labelled label xs c h
-    ] refl found
 
 abbrev put_at : ℕ → OpenCursor → List OpenCursor → List OpenCursor
 put_at label new cursors = map (λ c. if c.label == label then new else c) cursors

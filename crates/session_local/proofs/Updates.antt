@@ -7,8 +7,8 @@ use Rattle.session_local.specs.SessionSide.{label_of, are_distinct}
 use Rattle.session_local.specs.Holding.{begun_with_cursors}
 use Rattle.session_local.specs.Finishing.{with_update_at}
 use Rattle.session_local.specs.Navigating.{navigated_on}
+use Rattle.session_local.specs.FoundLaws.{labelled}
 use Rattle.cursor_nav.specs.Navigation.{Navigated}
-use Rattle.session_local.proofs.Labels.{labelled}
 use Rattle.session_local.proofs.Distinct.{found-position, missing-position, set-position}
 
 pub prepared_at : (label : ℕ) (cursors : List OpenCursor) (at : ℕ) (c new : OpenCursor) (update : Option PreparedUpdate) → are_distinct (map label_of cursors) ≡ true → position (λ o. o.label == label) cursors ≡ Some at → c ≡ get_or cursors at c → new ≡ record c { prepared = update } → set cursors at new ≡ (with_update_at (begun_with_cursors cursors) label update).cursors

@@ -18,5 +18,6 @@ pub mod Holding
 pub mod Deciding
 pub mod Navigating
 pub mod WellFormed
+pub mod FoundLaws
 pub mod Changing
 pub mod Showing

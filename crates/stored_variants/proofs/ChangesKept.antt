@@ -1,5 +1,5 @@
 -- What is kept where held changes change without a record.
-use Rattle.std.proofs.Common.{◌≡◌, ℕ, Bool, false, ◌&&◌, ◌||◌, List, [], ◌∷◌, Option, Some, None, map, refl, sym, ap, ◌∙◌}
+use Rattle.std.proofs.Common.{◌≡◌, ℕ, Bool, false, ◌&&◌, ◌||◌, List, [], ◌∷◌, Option, Some, None, map, refl, sym, ap, ◌∙◌, true}
 use Rattle.std.specs.Prelude.{IfSome, is_some}
 use Rattle.std.specs.List.{AllByRecursion}
 use Rattle.column_set.specs.RecordValues.{RecordFields}
@@ -14,6 +14,14 @@ use Rattle.versioned_tables.specs.HeldRecords.{HeldRecord, is_standing_rewrite}
 use Rattle.versioned_tables.specs.Variants.{HoldsVariants}
 use Rattle.stored_variants.specs.RecordRows.{TableValues, some_before, held_record_in, rows_of_nodes}
 use Rattle.stored_variants.specs.VersionsKept.{AreKeptWith, IsKeptChange, IsKeptTable, secondary_rule}
+use Rattle.database_state.specs.State.{Status, committed, is_open, is_undone, uncommitted, undone}
+use Rattle.common_lemmas.proofs.Booleans.{impossible}
+
+-- an open change is not undone
+pub open_stands : (status : Status) → is_open status ≡ true → is_undone status ≡ false
+open_stands uncommitted e = refl
+open_stands (committed number) e = refl
+open_stands undone e = impossible e
 
 -- held changes with the same records before them, for every record
 abbrev pub SameVariants : List HeldRecord → List HeldRecord → Type 0

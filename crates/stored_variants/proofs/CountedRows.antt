@@ -2,12 +2,11 @@
 use Rattle.std.proofs.Common.{◌≡◌, ℕ, zero, suc, Bool, true, false, T, not, ◌&&◌, ◌||◌, inl, inr, cond, List, [], ◌∷◌, ◌++◌, Option, Some, None, find, filter, map, option_map, refl, sym, ap, subst, ◌∙◌}
 use Rattle.std.specs.Prelude.{◌==◌, bytes_eq, option_and_then, slice_get}
 use Rattle.std.specs.List.{AllByRecursion, list_all}
-use Rattle.std.specs.Ordering.{is_eq, nat_cmp}
+use Rattle.std.specs.Ordering.{nat_cmp}
 use Rattle.std.specs.Cmp.Lexicographic.{nat_list_cmp_total, slice_cmp, texts_ties}
-use Rattle.std.specs.declared.cmp.Ordering.TheVariants.{Equal}
 use Rattle.std.specs.FinMap.Entries.{below_all, find-put, find-where_key, is_sorted, is_sorted-put, is_sorted-where_key, same_entries}
-use Rattle.common_lemmas.proofs.Booleans.{and_left, and_right, impossible, is_true}
-use Rattle.common_lemmas.proofs.Numbers.{bytes_turned, same_bytes, self_equal}
+use Rattle.common_lemmas.proofs.Booleans.{and_left, and_right, is_true}
+use Rattle.common_lemmas.proofs.Numbers.{bytes_turned, self_equal}
 use Rattle.column_set.specs.RecordValues.{bytes_lt, lookup_by_key}
 use Rattle.column_set.specs.RowReading.{row_in}
 use Rattle.column_set.specs.Rows.{RowFields}
@@ -22,6 +21,8 @@ use Rattle.versioned_tables.proofs.Neighbours.{IsIn}
 use Rattle.stored_variants.specs.CountedValues.{newest_rows, row_before, rows_before, with_own_row}
 use Rattle.stored_variants.specs.RecordRows.{row_in_node, row_under}
 use Rattle.stored_variants.proofs.NodeRecords.{key_is, none_behind, same_test}
+use Rattle.stored_variants.proofs.RisingRows.{both, equal_keys, own_below}
+use Rattle.common_lemmas.proofs.Options.{same_some, none_some}
 
 -- ---- the row under a bookmark
 
@@ -45,15 +46,6 @@ own_row (n ∷ nodes) sorted bookmark =
 
 -- ---- they rise
 
-own_below : (a b : Bool) → (a || (b && a)) ≡ true → T a
-own_below true b h = tt
-own_below false true h = impossible h
-own_below false false h = impossible h
-
-both : (a b : Bool) → T a → T b → T (a && b)
-both true b p q = q
-both false b p q = p
-
 low_rows : (key : List ℕ) (nodes : List Node) → list_all (pair_lt (key, key)) (bookmark_entries nodes) ≡ true → T (below_all (slice_cmp nat_cmp) key (newest_rows nodes))
 low_rows key [] low = tt
 low_rows key (n ∷ nodes) low = by (row_in_node n.data) (low_rows key nodes (and_right (pair_lt (key, key) (n.key, n.key)) _ low))
@@ -74,9 +66,6 @@ pub own_rows_are : (nodes : List Node) → are_sorted (bookmark_entries nodes) �
 own_rows_are nodes sorted = is_true (is_sorted (slice_cmp nat_cmp) (newest_rows nodes)) (own_rows_rise nodes sorted)
 
 -- ---- other nodes
-
-pub equal_keys : (x y : List ℕ) → slice_cmp nat_cmp x y ≡ Equal → x ≡ y
-equal_keys x y e = same_bytes x y (texts_ties x y ∙ ap is_eq e)
 
 -- nodes with the same rows under all bookmarks have the same newest rows
 pub same_newest : (one other : List Node) → are_sorted (bookmark_entries one) ≡ true → are_sorted (bookmark_entries other) ≡ true → ((own : List ℕ) → row_under one own ≡ row_under other own) → newest_rows one ≡ newest_rows other
@@ -152,22 +141,16 @@ pub record AreUndone (table place : ℕ) (h : HeldChange) (held : List HeldChang
   pub was : rows_before table held ≡ earlier ++ row_before h ∷ later
   pub is : rows_before table (undone_at (Some place) held) ≡ earlier ++ as_undone (row_before h) ∷ later
 
-same_change : (x h : HeldChange) → Some x ≡ Some h → x ≡ h
-same_change x h e = cc
-
-no_change : {A : Type 0} (h : HeldChange) → None ≡ Some h → A
-no_change h e = cc
-
 pub own_undone : (table place : ℕ) (h : HeldChange) (held : List HeldChange) → (h.table == table) ≡ true → slice_get held place ≡ Some h → AreUndone table place h held
-own_undone table place h [] own at = no_change h at
+own_undone table place h [] own at = none_some h at
 own_undone table zero h (x ∷ held) own at = record {
   earlier = [];
   later = rows_before table held;
   was =
-      ap (λ (y : HeldChange). rows_before table (y ∷ held)) (same_change x h at)
+      ap (λ (y : HeldChange). rows_before table (y ∷ held)) (same_some x h at)
       ∙ ap (λ b. map row_before (cond b (h ∷ filter (λ (y : HeldChange). y.table == table) held) (filter (λ (y : HeldChange). y.table == table) held))) own;
   is =
-      ap (λ (y : HeldChange). rows_before table (with_status undone y ∷ held)) (same_change x h at)
+      ap (λ (y : HeldChange). rows_before table (with_status undone y ∷ held)) (same_some x h at)
       ∙ ap (λ b. map row_before (cond b (with_status undone h ∷ filter (λ (y : HeldChange). y.table == table) held) (filter (λ (y : HeldChange). y.table == table) held))) own;
 }
 own_undone table (suc place) h (x ∷ held) own at = by (x.table == table) refl (own_undone table place h held own at)
@@ -192,9 +175,9 @@ own_undone table (suc place) h (x ∷ held) own at = by (x.table == table) refl 
 
 -- those of another table stay
 pub others_undone : (table place : ℕ) (h : HeldChange) (held : List HeldChange) → (h.table == table) ≡ false → slice_get held place ≡ Some h → rows_before table (undone_at (Some place) held) ≡ rows_before table held
-others_undone table place h [] other at = no_change h at
+others_undone table place h [] other at = none_some h at
 others_undone table zero h (x ∷ held) other at =
-    let e : (x.table == table) ≡ false = ap (λ (y : HeldChange). y.table == table) (same_change x h at) ∙ other in
+    let e : (x.table == table) ≡ false = ap (λ (y : HeldChange). y.table == table) (same_some x h at) ∙ other in
     ap (λ b. map row_before (cond b (with_status undone x ∷ filter (λ (y : HeldChange). y.table == table) held) (filter (λ (y : HeldChange). y.table == table) held))) e
     ∙ sym (ap (λ b. map row_before (cond b (x ∷ filter (λ (y : HeldChange). y.table == table) held) (filter (λ (y : HeldChange). y.table == table) held))) e)
 others_undone table (suc place) h (x ∷ held) other at = by (x.table == table) (others_undone table place h held other at)

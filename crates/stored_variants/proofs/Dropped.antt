@@ -6,7 +6,7 @@ use Rattle.btree_inplace.specs.Order.{extent_in, get_in, has_key}
 use Rattle.database_state.specs.Table.{Table, table_with_id, without_row}
 use Rattle.page_image.specs.Page.{Node}
 use Rattle.table_trees.specs.StoredNodes.{put_data, IsShortNode}
-use Rattle.table_trees.specs.StoredTables.{StoredTable, has_table, is_table, put_nodes, table_indexes, table_long_values, table_nodes, with_nodes}
+use Rattle.table_trees.specs.StoredTables.{StoredTable, has_table, is_table, put_nodes, table_indexes, table_long_values, table_nodes, with_nodes, StoredIndex, index_entries, is_index, part_of}
 use Rattle.stored_variants.specs.RecordRows.{row_in_node, row_under, record_of, rows_of_nodes, with_record}
 use Rattle.stored_variants.specs.VersionsKept.{needed_trees, tree_numbers}
 use Rattle.stored_variants.proofs.Tables.{others}
@@ -24,6 +24,9 @@ pub record TreeLaws : Type 0 where
   pub indexes : (tables : List StoredTable) (table other : ℕ) (nodes : List Node) → table_indexes (with_nodes table nodes tables) other ≡ table_indexes tables other
   pub values : (tables : List StoredTable) (table other : ℕ) (nodes : List Node) → table_long_values (with_nodes table nodes tables) other ≡ table_long_values tables other
   pub replaced : (nodes : List Node) (key row bookmark : List ℕ) → find (has_key bookmark) (with_data_at nodes key row) ≡ option_map (λ (n : Node). if bytes_eq key bookmark then put_data row n else n) (find (has_key bookmark) nodes)
+
+pub same_index : (laws : TreeLaws) (trees : List StoredTable) (id : ℕ) (nodes : List Node) (other index : ℕ) → index_entries (with_nodes id nodes trees) other index ≡ index_entries trees other index
+same_index laws trees id nodes other index = ap (λ (indexes : List StoredIndex). part_of (is_index index) (λ x. x.1) indexes) (laws.indexes trees id other nodes)
 
 -- the trees with a node that has no byte
 abbrev pub emptied : List StoredTable → ℕ → List ℕ → List StoredTable

@@ -10,3 +10,4 @@ pub mod FoundRules
 pub mod Outcomes
 pub mod CountedRows
 pub mod SameRecords
+pub mod TakenRecords

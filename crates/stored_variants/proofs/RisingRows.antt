@@ -1,10 +1,10 @@
 -- The records of a table rise as its nodes do.
-use Rattle.std.proofs.Common.{◌≡◌, ℕ, Bool, true, false, ◌&&◌, ◌||◌, List, [], ◌∷◌, Option, Some, None}
+use Rattle.std.proofs.Common.{◌≡◌, ℕ, Bool, true, false, ◌&&◌, ◌||◌, List, [], ◌∷◌, Option, Some, None, ap, ◌∙◌}
 use Rattle.std.specs.Prelude.{T, bytes_eq}
 use Rattle.std.specs.List.{list_all}
-use Rattle.std.specs.Ordering.{nat_cmp}
-use Rattle.std.specs.Cmp.Lexicographic.{slice_cmp}
-use Rattle.std.specs.FinMap.Entries.{below_all}
+use Rattle.std.specs.Ordering.{nat_cmp, is_eq}
+use Rattle.std.specs.Cmp.Lexicographic.{slice_cmp, nat_list_cmp_total, texts_ties}
+use Rattle.std.specs.FinMap.Entries.{below_all, same_entries}
 use Rattle.common_lemmas.proofs.Booleans.{and_left, and_right, impossible}
 use Rattle.column_set.specs.RecordValues.{bytes_lt}
 use Rattle.cursor_nav.specs.Places.{are_sorted, pair_lt}
@@ -13,13 +13,16 @@ use Rattle.table_trees.specs.StoredNodes.{bookmark_entries}
 use Rattle.versioned_tables.specs.Holding.{RowsRise}
 use Rattle.stored_variants.specs.RecordRows.{row_in_node, rows_of_nodes, with_record}
 use Rattle.long_value.specs.Values.{Values}
+use Rattle.std.specs.declared.cmp.Ordering.TheVariants.{Equal}
+use Rattle.common_lemmas.proofs.Numbers.{same_bytes}
+use Rattle.database_state.specs.Table.{Rows, row_at}
 
-own_below : (a b : Bool) → (a || (b && a)) ≡ true → T a
+pub own_below : (a b : Bool) → (a || (b && a)) ≡ true → T a
 own_below true b h = tt
 own_below false true h = impossible h
 own_below false false h = impossible h
 
-both : (a b : Bool) → T a → T b → T (a && b)
+pub both : (a b : Bool) → T a → T b → T (a && b)
 both true b p q = q
 both false b p q = p
 
@@ -38,3 +41,11 @@ rows_rise longs (n ∷ nodes) sorted = by (row_in_node n.data) (rows_rise longs 
     by : (row : Option (List ℕ)) → RowsRise (rows_of_nodes longs nodes) → RowsRise (with_record longs n.key row (rows_of_nodes longs nodes))
     by None rest = rest
     by (Some row) rest = both _ _ (below_is longs n.key nodes (and_left _ _ sorted)) rest
+
+-- ---- rows by their bookmarks
+
+pub equal_keys : (x y : List ℕ) → slice_cmp nat_cmp x y ≡ Equal → x ≡ y
+equal_keys x y e = same_bytes x y (texts_ties x y ∙ ap is_eq e)
+
+pub same_rows : (a b : Rows) → RowsRise a → RowsRise b → ((own : List ℕ) → row_at a own ≡ row_at b own) → a ≡ b
+same_rows a b one other same = same_entries (slice_cmp nat_cmp) nat_list_cmp_total equal_keys a b one other same

@@ -2,9 +2,6 @@
 use Rattle.std.proofs.Common.{◌≡◌, ℕ, ◌≤◌, length, Bool, true, false, cond, List, [], ◌∷◌, Option, Some, None, map, option_map, refl, sym, ap, subst, ◌∙◌}
 use Rattle.std.specs.Prelude.{IfSome, IsSomeAnd, IsTrue}
 use Rattle.std.specs.List.{AllByRecursion}
-use Rattle.std.specs.Ordering.{nat_cmp}
-use Rattle.std.specs.Cmp.Lexicographic.{nat_list_cmp_total, slice_cmp}
-use Rattle.std.specs.FinMap.Entries.{same_entries}
 use Rattle.btree_inplace.specs.Order.{extent_in}
 use Rattle.column_set.specs.RecordValues.{RecordFields, record_fits}
 use Rattle.column_set.specs.RowReading.{row_in}
@@ -24,8 +21,7 @@ use Rattle.stored_variants.specs.RecordRows.{IsRecordRow, TableValues, held_reco
 use Rattle.stored_variants.specs.VersionsKept.{AreKeptWith, HoldsNumbers, IsBookmarkOf, IsKeptChange, IsKeptTable, IsRowUnder, secondary_rule, tree_numbers}
 use Rattle.stored_variants.specs.VersionsView.{with_newest_by}
 use Rattle.stored_variants.proofs.NodeRecords.{record_at}
-use Rattle.stored_variants.proofs.RisingRows.{rows_rise}
-use Rattle.stored_variants.proofs.CountedRows.{equal_keys}
+use Rattle.stored_variants.proofs.RisingRows.{rows_rise, same_rows}
 
 -- a row stands for the same record, and can be read whole still
 pub record StaysSame (old new : Values) (row : List ℕ) : Type 0 where
@@ -61,7 +57,7 @@ same_of old new (Some row) same = ap (λ (fields : RecordFields). Some fields) s
 
 pub same_rows_of : (old new : Values) (nodes : List Node) → are_sorted (bookmark_entries nodes) ≡ true → ((own : List ℕ) → IfSome (row_under nodes own) (StaysSame old new)) → rows_of_nodes new nodes ≡ rows_of_nodes old nodes
 same_rows_of old new nodes sorted same =
-    same_entries (slice_cmp nat_cmp) nat_list_cmp_total equal_keys (rows_of_nodes new nodes) (rows_of_nodes old nodes) (rows_rise new nodes sorted) (rows_rise old nodes sorted)
+    same_rows (rows_of_nodes new nodes) (rows_of_nodes old nodes) (rows_rise new nodes sorted) (rows_rise old nodes sorted)
     (λ own. record_at new nodes sorted own ∙ same_of old new (row_under nodes own) (same own) ∙ sym (record_at old nodes sorted own))
 
 abbrev pub AreInOrder : List StoredTable → Type 0

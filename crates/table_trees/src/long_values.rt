@@ -55,15 +55,6 @@ impl LongTree {
         self.store.count(space, id)
     }
 
-    /// How many bytes a value has.
-    pub fn length(&self, space: &Space, id: LongId) -> u32
-        requires tree { IsLongTree space.now self.now }
-        requires there { IsSome (value_of (id_bytes id) (long_values_in space.now self.now)) }
-        ensures { IsSomeAnd (value_of (id_bytes id) (long_values_in space.now self.now)) (λ value. result ≡ length value.bytes) }
-    {
-        self.store.length(space, id)
-    }
-
     /// The first bytes of a value, at most 1,024: a part of its page.
     pub fn first_part<'a>(&self, space: &'a Space, id: LongId) -> &'a [u8]
         requires tree { IsLongTree space.now self.now }

@@ -476,17 +476,6 @@ impl TableTrees {
         }
     }
 
-    /// How many bytes a long value of a table has.
-    pub fn long_length(&self, table: TableId, id: LongId) -> u32
-        requires { IsSome (long_value_of self.now.tables table.0 (id_bytes id)) }
-        ensures { IsSomeAnd (long_value_of self.now.tables table.0 (id_bytes id)) (λ value. result ≡ length value.bytes) }
-    {
-        match table_place(self.tables.as_slice(), table) {
-            Some(i) => self.tables[i].long_values.length(&self.space, id),
-            None => 0,
-        }
-    }
-
     /// The first bytes of a long value of a table, at most 1,024, as they lie in their page.
     pub fn first_part(&self, table: TableId, id: LongId) -> &[u8]
         requires { IsSome (long_value_of self.now.tables table.0 (id_bytes id)) }

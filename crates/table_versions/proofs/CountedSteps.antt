@@ -6,12 +6,10 @@ use Rattle.common_lemmas.proofs.Numbers.{self_equal}
 use Rattle.column_set.specs.RecordValues.{lookup_by_key}
 use Rattle.column_set.specs.RowReading.{row_in}
 use Rattle.column_set.specs.Rows.{RowFields}
-use Rattle.cursor_nav.specs.Places.{are_sorted}
 use Rattle.database_state.specs.State.{is_undone}
 use Rattle.long_references.specs.ReferenceCounts.{AreRows, HasCounts, NewestRows, RowBefore, reference_count, with_all_taken, with_change, with_row}
 use Rattle.long_references.specs.RowReferences.{identifiers}
 use Rattle.long_value.specs.Values.{Values}
-use Rattle.table_trees.specs.StoredNodes.{bookmark_entries}
 use Rattle.table_trees.specs.StoredTables.{StoredTable, table_long_values, table_nodes}
 use Rattle.version_store.specs.HeldChanges.{HeldChange}
 use Rattle.stored_variants.specs.CountedValues.{AreCounted, newest_rows, row_before, rows_before}
@@ -19,6 +17,7 @@ use Rattle.stored_variants.specs.RecordRows.{row_under}
 use Rattle.variant_trees.specs.GoneKeys.{KeepsValues}
 use Rattle.stored_variants.proofs.CountedRows.{newest_with, own_row, own_rows_are, same_newest}
 use Rattle.table_versions.proofs.CountedRows.{held_after, held_mapped, row_if_of}
+use Rattle.stored_variants.proofs.SameRecords.{AreInOrder}
 
 -- what the laws of counts say
 abbrev pub ChangeCounts : Type 0
@@ -28,9 +27,6 @@ ChangeCounts =
 
 abbrev pub HeldCounts : Type 0
 HeldCounts = (id bookmark : List ℕ) (rows : NewestRows) (held : List RowBefore) → reference_count id rows (held ++ record { bookmark = bookmark; row = None; is_undone = false } ∷ []) ≡ reference_count id rows held
-
-abbrev pub AreSorted : List StoredTable → Type 0
-AreSorted trees = (table : ℕ) → are_sorted (bookmark_entries (table_nodes trees table)) ≡ true
 
 -- the parts that a table's counts are of
 counts_as : (values other : Values) (rows others : NewestRows) (held changed : List RowBefore) → other ≡ values → others ≡ rows → changed ≡ held → HasCounts values rows held → HasCounts other others changed
@@ -55,7 +51,7 @@ pub record HoldsRow (table : ℕ) (bookmark : List ℕ) (trees : List StoredTabl
   pub before : h.before ≡ row_under (table_nodes trees table) bookmark
   pub stands : is_undone h.status ≡ false
 
-pub changed_counted : ChangeCounts → (table : ℕ) (bookmark : List ℕ) (row : Option (List ℕ)) (given : List (List ℕ × List ℕ)) (old new : List StoredTable) → ChangesRow table bookmark row given old new → AreSorted old → AreSorted new
+pub changed_counted : ChangeCounts → (table : ℕ) (bookmark : List ℕ) (row : Option (List ℕ)) (given : List (List ℕ × List ℕ)) (old new : List StoredTable) → ChangesRow table bookmark row given old new → AreInOrder old → AreInOrder new
     → (held : List HeldChange) (h : HeldChange) → HoldsRow table bookmark old h → AreCounted old held → AreCounted new (held ++ h ∷ [])
 changed_counted law table bookmark row given old new changes sorted sorted_then held h holds counted other = by (table == other) refl
   where
@@ -86,7 +82,7 @@ changed_counted law table bookmark row given old new changes sorted sorted_then 
 
 -- ---- what leaves rows and long values
 
-pub same_counted : (old new : List StoredTable) → KeepsValues old new → ((other : ℕ) (own : List ℕ) → row_under (table_nodes new other) own ≡ row_under (table_nodes old other) own) → AreSorted old → AreSorted new → (held : List HeldChange)
+pub same_counted : (old new : List StoredTable) → KeepsValues old new → ((other : ℕ) (own : List ℕ) → row_under (table_nodes new other) own ≡ row_under (table_nodes old other) own) → AreInOrder old → AreInOrder new → (held : List HeldChange)
     → AreCounted old held → AreCounted new held
 same_counted old new keeps same sorted sorted_then held counted other =
     counts_as (table_long_values old other) (table_long_values new other) (newest_rows (table_nodes old other)) (newest_rows (table_nodes new other)) (rows_before other held) (rows_before other held)

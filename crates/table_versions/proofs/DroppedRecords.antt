@@ -22,22 +22,21 @@ use Rattle.jet_catalog.specs.Catalog.{CatalogState}
 use Rattle.jet_base.specs.declared.ids.TableId.{TableId}
 use Rattle.page_image.specs.Page.{Node}
 use Rattle.table_trees.specs.StoredNodes.{IsShortNode, bookmark_entries}
-use Rattle.table_trees.specs.StoredTables.{table_long_values, StoredIndex, StoredTable, has_table, index_entries, is_index, part_of, table_nodes, with_nodes}
+use Rattle.table_trees.specs.StoredTables.{table_long_values, StoredTable, has_table, index_entries, table_nodes}
 use Rattle.version_store.specs.declared.calls.By.{By}
-use Rattle.version_store.specs.declared.calls.ChangeKind.{ChangeKind}
 use Rattle.version_store.specs.declared.calls.ChangeKind.TheVariants as kind
 use Rattle.version_store.specs.HeldChanges.{HeldChange, kind_of, new_change}
 use Rattle.versioned_tables.specs.HeldRecords.{HeldRecord, is_standing_rewrite, new_change as new_record}
 use Rattle.versioned_tables.specs.VersionedTables.{VersionedTables, with_change}
 use Rattle.versioned_tables.specs.Variants.{HoldsVariants}
-use Rattle.stored_variants.specs.RecordRows.{TableValues, IsRecordRow, held_record_in, record_of, row_in_node, row_under, rows_of_nodes, some_before}
+use Rattle.stored_variants.specs.RecordRows.{TableValues, IsRecordRow, held_record_in, record_of, row_in_node, row_under, rows_of_nodes}
 use Rattle.stored_variants.specs.StoredVersions.{StoredVersions}
 use Rattle.stored_variants.specs.VersionsView.{with_newest, stored_versions, with_newest_by}
 use Rattle.stored_variants.specs.VersionsKept.{AreKept, AreKeptWith, IsKeptChange, IsKeptTable, IsRowUnder, secondary_rule}
-use Rattle.stored_variants.proofs.Dropped.{TreeLaws, emptied, extent_at, has_trees, nodes_are, row_then, same_numbers, there_at, room_in, rows_emptied}
+use Rattle.stored_variants.proofs.Dropped.{TreeLaws, emptied, extent_at, has_trees, nodes_are, row_then, same_numbers, there_at, room_in, rows_emptied, same_index}
 use Rattle.stored_variants.specs.CountedValues.{AreCounted, HasNoValueBehind}
 use Rattle.table_versions.proofs.CountedSteps.{ChangeCounts, ChangesRow, changed_counted}
-use Rattle.table_versions.proofs.Held.{appended, no_sum}
+use Rattle.table_versions.proofs.Held.{appended, no_sum, is_drop, variants}
 use Rattle.table_versions.proofs.StepInStore.{IsStored, brings_none, entries_stay, same_values}
 use Rattle.stored_variants.proofs.NodeRecords.{record_at}
 use Rattle.table_versions.proofs.Span.{RowSizes, same_cost}
@@ -64,10 +63,6 @@ record_then longs laws trees id bookmark known other own =
     by : (b : Bool) → option_map (record_of (longs other)) (cond b None (row_under (table_nodes trees other) own)) ≡ cond b None (row_at (rows_of_nodes (longs other) (table_nodes trees other)) own)
     by true = refl
     by false = sym (record_at (longs other) (table_nodes trees other) (known.sorted other) own)
-
--- the variants of each record, as far as a test tells that passes no record that is not there
-abbrev pub variants : (Option RecordFields → Bool) → Option RecordFields → ℕ → List ℕ → List HeldRecord → Bool
-variants test newest table bookmark held = test newest || some_before test table bookmark held
 
 same_variants : (longs : TableValues) (laws : TreeLaws) (trees : List StoredTable) (by : By) (table : TableId) (bookmark : List ℕ) → Emptied laws trees table.0 bookmark → (held : List HeldChange) (test : Option RecordFields → Bool) → test None ≡ false → (other : ℕ) (own : List ℕ)
     → variants test (row_at (rows_of_nodes (longs other) (table_nodes (emptied trees table.0 bookmark) other)) own) other own (map (held_record_in longs) (held ++ dropped by table bookmark trees ∷ []))
@@ -119,9 +114,6 @@ same_variants longs laws trees by table bookmark known held test none other own 
 same_rows : (vals : Values) (table : Table) (own : List ℕ) (b : Bool) (row : Option (List ℕ)) → IfSome row (IsRowUnder vals table own) → IfSome (cond b None row) (IsRowUnder vals table own)
 same_rows vals table own true row is = tt
 same_rows vals table own false row is = is
-
-same_index : (laws : TreeLaws) (trees : List StoredTable) (id : ℕ) (nodes : List Node) (other index : ℕ) → index_entries (with_nodes id nodes trees) other index ≡ index_entries trees other index
-same_index laws trees id nodes other index = ap (λ (indexes : List StoredIndex). part_of (is_index index) (λ x. x.1) indexes) (laws.indexes trees id other nodes)
 
 dropped_table : (longs : TableValues) (laws : TreeLaws) (trees : List StoredTable) (by : By) (table : TableId) (bookmark : List ℕ) → Emptied laws trees table.0 bookmark → (held : List HeldChange) (t : Table)
     → IsKeptTable trees (longs t.id) (table_nodes trees t.id) (map (held_record_in longs) held) t
@@ -246,12 +238,6 @@ drop_shown longs sizes laws trees by table bookmark known tables held kept =
         ∙ ap (new_record by (Drop table bookmark)) (sym (newest_at longs trees tables kept.numbers known.sorted table.0 bookmark))
 
 -- ---- any change that is a drop
-
-abbrev is_drop : ChangeKind → Bool
-is_drop kind.Put = false
-is_drop kind.Drop = true
-is_drop kind.Hold = false
-is_drop (kind.Add column amount) = false
 
 -- what the trees and the held changes are after it, and what they show
 pub record IsDropped (longs : TableValues) (tables : List Table) (trees : List StoredTable) (held : List HeldChange) (by : By) (made : Change) : Type 0 where

@@ -10,14 +10,9 @@ use Rattle.version_store.specs.HeldChanges.{HeldChange, committed_change, is_ope
 use Rattle.versioned_tables.specs.HeldRecords.{committed_change as committed_record, is_change_at, is_standing_rewrite, released_change as released_record}
 use Rattle.stored_variants.specs.RecordRows.{TableValues, held_record_in, record_of}
 use Rattle.stored_variants.specs.VersionsKept.{IsKeptChange, is_standing}
-use Rattle.stored_variants.proofs.ChangesKept.{LeavesBefore}
+use Rattle.stored_variants.proofs.ChangesKept.{LeavesBefore, open_stands}
 use Rattle.stored_variants.specs.CountedValues.{row_before}
-
-turned : (a b : Bool) → (a && b) ≡ (b && a)
-turned true true = refl
-turned true false = refl
-turned false true = refl
-turned false false = refl
+use Rattle.std.proofs.Math.Bool.{and_comm}
 
 -- ---- a release
 
@@ -39,7 +34,7 @@ released_leaves longs session level h test table bookmark = by (is_open_at sessi
 pub released_same : (longs : TableValues) (session level : ℕ) (h : HeldChange) → held_record_in longs (released_change session level h) ≡ released_record session level (held_record_in longs h)
 released_same longs session level h =
     by (is_open_at session level h) refl
-    ∙ ap (λ b. cond (b && (h.level == level)) (record (held_record_in longs h) { level = h.level - 1 }) (held_record_in longs h)) (turned (h.session == session) (is_open h.status))
+    ∙ ap (λ b. cond (b && (h.level == level)) (record (held_record_in longs h) { level = h.level - 1 }) (held_record_in longs h)) (and_comm (h.session == session) (is_open h.status))
   where
     level_is : (h.level == level) ≡ true → level ≡ h.level
     level_is e = sym (eqb-true h.level level e)
@@ -57,16 +52,11 @@ released_row session level h = by (is_open_at session level h)
 
 -- ---- a commit
 
-open_stands : (s : Status) → is_open s ≡ true → not (is_undone s) ≡ true
-open_stands uncommitted e = refl
-open_stands (committed n) e = impossible e
-open_stands undone e = impossible e
-
 pub committed_kept : (longs : TableValues) (tables : List Table) (trees : List StoredTable) (session number : ℕ) (h : HeldChange) → IsKeptChange longs tables trees h → IsKeptChange longs tables trees (committed_change session number h)
 committed_kept longs tables trees session number h kept = by (is_open_of session h) refl
   where
     stood : is_open_of session h ≡ true → is_standing (with_status (committed number) h) ≡ true → is_standing h ≡ true
-    stood e standing = and_from (is_rewrite h.kind) (not (is_undone h.status)) (and_left _ _ standing) (open_stands h.status (and_right (h.session == session) _ e))
+    stood e standing = and_from (is_rewrite h.kind) (not (is_undone h.status)) (and_left _ _ standing) (ap not (open_stands h.status (and_right (h.session == session) _ e)))
 
     by : (b : Bool) → is_open_of session h ≡ b → IsKeptChange longs tables trees (cond b (with_status (committed number) h) h)
     by true e = record {
@@ -99,7 +89,7 @@ committed_leaves longs session number h test table bookmark = by (is_open_of ses
 pub committed_same : (longs : TableValues) (session number : ℕ) (h : HeldChange) → held_record_in longs (committed_change session number h) ≡ committed_record session number (held_record_in longs h)
 committed_same longs session number h =
     by (is_open_of session h) refl
-    ∙ ap (λ b. cond b (record (held_record_in longs h) { status = committed number }) (held_record_in longs h)) (turned (h.session == session) (is_open h.status))
+    ∙ ap (λ b. cond b (record (held_record_in longs h) { status = committed number }) (held_record_in longs h)) (and_comm (h.session == session) (is_open h.status))
   where
     by : (b : Bool) → is_open_of session h ≡ b → held_record_in longs (cond b (with_status (committed number) h) h) ≡ cond b (record (held_record_in longs h) { status = committed number }) (held_record_in longs h)
     by true e =

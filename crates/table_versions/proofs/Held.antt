@@ -13,15 +13,28 @@ use Rattle.version_store.specs.declared.calls.By.{By}
 use Rattle.version_store.specs.declared.calls.ChangeKind.{ChangeKind}
 use Rattle.version_store.specs.declared.calls.ChangeKind.TheVariants as kind
 use Rattle.version_store.specs.HeldChanges.{HeldChange, has_room as has_room_for_row, is_add, is_rewrite, kind_of, new_change}
-use Rattle.versioned_tables.specs.HeldRecords.{is_change_at, is_standing_rewrite, span as span_of_records}
+use Rattle.versioned_tables.specs.HeldRecords.{is_change_at, is_standing_rewrite, span as span_of_records, HeldRecord}
 use Rattle.versioned_tables.specs.VersionedTables.{VersionedTables, with_change}
-use Rattle.stored_variants.specs.RecordRows.{TableValues, held_record_in}
+use Rattle.stored_variants.specs.RecordRows.{TableValues, held_record_in, some_before}
 use Rattle.stored_variants.specs.StoredVersions.{has_room}
 use Rattle.stored_variants.specs.VersionsView.{with_newest_by}
 use Rattle.stored_variants.specs.VersionsKept.{AddsToEscrow, AreKeptWith, IsKeptChange}
 use Rattle.table_versions.proofs.Span.{same_span}
 use Rattle.stored_variants.proofs.Tables.{table_at, unchanged}
 use Rattle.stored_variants.proofs.ChangesKept.{SameVariants, changes_kept}
+use Rattle.column_set.specs.RecordValues.{RecordFields}
+
+-- ---- words
+
+-- the variants of each record, as far as a test tells that passes no record that is not there
+abbrev pub variants : (Option RecordFields → Bool) → Option RecordFields → ℕ → List ℕ → List HeldRecord → Bool
+variants test newest table bookmark held = test newest || some_before test table bookmark held
+
+abbrev pub is_drop : ChangeKind → Bool
+is_drop kind.Put = false
+is_drop kind.Drop = true
+is_drop kind.Hold = false
+is_drop (kind.Add column amount) = false
 
 -- ---- the lock, or the sum, is kept
 

@@ -10,12 +10,8 @@ use Rattle.version_store.specs.HeldChanges.{HeldChange, is_open_at, is_rewrite, 
 use Rattle.versioned_tables.specs.HeldRecords.{HeldRecord, as_undone, inverse, is_open_at as is_open_record, undone_change}
 use Rattle.versioned_tables.specs.VersionedTables.{last_undone, tables_with_last_back}
 use Rattle.stored_variants.specs.RecordRows.{TableValues, held_record_in, record_of}
-
-turned : (a b : Bool) → (a && b) ≡ (b && a)
-turned true true = refl
-turned true false = refl
-turned false true = refl
-turned false false = refl
+use Rattle.common_lemmas.proofs.Options.{same_some}
+use Rattle.std.proofs.Math.Bool.{and_comm}
 
 abbrev pub is_there : Option ℕ → Bool
 is_there None = false
@@ -23,7 +19,7 @@ is_there (Some place) = true
 
 -- the test of a record and that of a change are one
 pub same_level : (longs : TableValues) (session level : ℕ) (h : HeldChange) → is_open_record session level (held_record_in longs h) ≡ is_open_at session level h
-same_level longs session level h = ap (λ b. b && (h.level == level)) (turned (is_open h.status) (h.session == session))
+same_level longs session level h = ap (λ b. b && (h.level == level)) (and_comm (is_open h.status) (h.session == session))
 
 no_place : {A : Type 0} (n : ℕ) → None ≡ Some n → A
 no_place n e = cc
@@ -39,9 +35,6 @@ no_suc n e = cc
 
 same_pred : (m n : ℕ) → suc m ≡ suc n → m ≡ n
 same_pred m n e = cc
-
-same_change : (x y : HeldChange) → Some x ≡ Some y → x ≡ y
-same_change x y e = cc
 
 -- whether there is one
 pub any_last : (longs : TableValues) (test : HeldRecord → Bool) (p : HeldChange → Bool) → ((h : HeldChange) → test (held_record_in longs h) ≡ p h) → (held : List HeldChange) (o : Option ℕ) → last_place p held ≡ o → list_any test (map (held_record_in longs) held) ≡ is_there o
@@ -75,7 +68,7 @@ last_back longs test p same (x ∷ held) place h e at tables = by (last_place p 
     by None f true t zero e at rest =
         ap (λ c. cond c (tables_with_last_back test (map (held_record_in longs) held) tables) (cond (test (held_record_in longs x)) (tables_after tables (inverse (held_record_in longs x))) tables)) (any_last longs test p same held None f)
         ∙ ap (λ c. cond c (tables_after tables (inverse (held_record_in longs x))) tables) t
-        ∙ ap (λ (y : HeldChange). tables_after tables (inverse (held_record_in longs y))) (same_change x h at)
+        ∙ ap (λ (y : HeldChange). tables_after tables (inverse (held_record_in longs y))) (same_some x h at)
     by None f false t place e at rest = no_place place e
 
 -- an undone change holds no record

@@ -1,7 +1,7 @@
 -- The least entry of a record in an index that a reader sees.
-use Rattle.std.proofs.Common.{◌≡◌, ℕ, ◌≤◌, All, Bool, true, false, cond, List, [], ◌∷◌, length, Option, Some, None, Result, Ok, Err, find, map, option_map, refl, sym, ap, subst, ◌∙◌}
+use Rattle.std.proofs.Common.{◌≡◌, ℕ, ◌≤◌, All, Bool, true, false, cond, List, [], ◌∷◌, length, Option, Some, None, find, map, option_map, refl, sym, ap, subst, ◌∙◌}
 use Rattle.std.specs.Prelude.{◌==◌, bytes_eq, IfSome, IsOk, IsSomeAnd, is_none, is_some, unwrap_or}
-use Rattle.std.specs.List.{AllByRecursion, flat_map}
+use Rattle.std.specs.List.{AllByRecursion}
 use Rattle.std.specs.Ordering.{eq_by_cmp, nat_cmp}
 use Rattle.std.specs.Cmp.Lexicographic.{slice_cmp, texts_ties}
 use Rattle.std.proofs.lemmas.List.Elements.{All-head, All-tail}
@@ -11,15 +11,13 @@ use Rattle.btree_inplace.specs.Order.{get_in, has_key}
 use Rattle.column_set.specs.RecordValues.{RecordFields}
 use Rattle.cursor_nav.specs.Places.{Pair, are_sorted, least_entry_of}
 use Rattle.database_state.specs.Lawful.{is_indexable}
-use Rattle.database_state.specs.Puts.{is_cut_refusal, is_null_refusal}
-use Rattle.database_state.specs.Refusals.{Refusals, first_refusal}
+use Rattle.database_state.specs.Refusals.{first_refusal}
 use Rattle.database_state.specs.Table.{Rows, Table, entries_of_rule, index_entries, record_in, row_at, rows_of, rule_with_id, schema_of, table_with_id}
 use Rattle.derived_index.specs.KeptEntries.{entries_with}
 use Rattle.index_derive.specs.declared.rules.IndexRule.{IndexRule}
 use Rattle.index_derive.specs.declared.rules.Schema.{Schema}
 use Rattle.index_derive.specs.Derived.{next_in}
-use Rattle.index_derive.specs.Entries.{KeyRefusal, NullKeyDisallowed, KeyTruncated, derive, entries, key_list, own_order}
-use Rattle.jet_base.specs.declared.replies.Jet.TheVariants as jet
+use Rattle.index_derive.specs.Entries.{derive, entries, key_list, own_order}
 use Rattle.jet_catalog.specs.Catalog.{CatalogState}
 use Rattle.page_image.specs.Page.{Node}
 use Rattle.table_trees.specs.StoredNodes.{IsShortNode, bookmark_entries}
@@ -35,13 +33,16 @@ use Rattle.stored_variants.specs.StoredVersions.{StoredVersions, entries_in, see
 use Rattle.stored_variants.specs.VersionsView.{with_newest, stored_versions, with_newest_by}
 use Rattle.stored_variants.specs.VersionsKept.{AreKept, AreKeptWith, IsKeptChange, IsKeptTable, IsRowUnder, only_secondary}
 use Rattle.stored_variants.proofs.NodeRecords.{record_at}
-use Rattle.table_versions.proofs.OwnOrder.{order_is, seen_is_variant}
+use Rattle.table_versions.proofs.OwnOrder.{seen_is_variant}
 use Rattle.stored_variants.proofs.RisingRows.{rows_rise}
 use Rattle.table_versions.proofs.SeenRecords.{hidden_of, hidden_stands, record_seen, seen_is}
 use Rattle.versioned_tables.proofs.SeenTables.{seen_at_id}
 use Rattle.versioned_tables.proofs.Rising.{seen_rise}
 use Rattle.stored_variants.proofs.Tables.{found_number, table_at}
 use Rattle.long_value.specs.Values.{Values}
+use Rattle.stored_variants.proofs.TakenRecords.{record_taken, refusals_in}
+use Rattle.common_lemmas.proofs.Found.{of_found}
+use Rattle.versioned_tables.proofs.Walking.{order_is}
 
 -- ---- the entries of the records that a reader sees
 
@@ -245,23 +246,8 @@ is_seen latest catalog trees held kept sorted short now shows reader table schem
     (seen_of_table (table_long_values trees) catalog.tables trees held kept sorted short reader table schema bookmark values)
 
 -- a record that no index refuses has keys in each
-abbrev refusals_in : Schema → RecordFields → List IndexRule → Refusals
-refusals_in schema values rules = flat_map (λ rule. (is_null_refusal (entries rule schema values), jet.NullKeyDisallowed) ∷ (is_cut_refusal (entries rule schema values), jet.KeyTruncated) ∷ []) rules
-
 has_keys : (schema : Schema) (values : RecordFields) (index : ℕ) (rules : List IndexRule) (rule : IndexRule) → is_none (first_refusal (refusals_in schema values rules)) ≡ true → find (λ r. r.id.0 == index) rules ≡ Some rule → IsOk (entries rule schema values)
-has_keys schema values index [] rule unrefused found = impossible (ap (λ (o : Option IndexRule). is_some o) found)
-has_keys schema values index (r ∷ rules) rule unrefused found = by (entries r schema values) refl unrefused (has_keys schema values index rules rule)
-  where
-    here : (b : Bool) → IsOk (entries r schema values) → (find (λ r. r.id.0 == index) rules ≡ Some rule → IsOk (entries rule schema values)) → cond b (Some r) (find (λ r. r.id.0 == index) rules) ≡ Some rule → IsOk (entries rule schema values)
-    here true own rest e = subst (λ (x : IndexRule). IsOk (entries x schema values)) (ap (λ (o : Option IndexRule). unwrap_or o r) e) own
-    here false own rest e = rest e
-
-    by : (k : Result (List (List ℕ)) KeyRefusal) → entries r schema values ≡ k
-        → is_none (cond (is_null_refusal k) (Some jet.NullKeyDisallowed) (cond (is_cut_refusal k) (Some jet.KeyTruncated) (first_refusal (refusals_in schema values rules)))) ≡ true
-        → (is_none (first_refusal (refusals_in schema values rules)) ≡ true → find (λ r. r.id.0 == index) rules ≡ Some rule → IsOk (entries rule schema values)) → IsOk (entries rule schema values)
-    by (Ok keys) e left rest = here (r.id.0 == index) (subst IsOk (sym e) refl) (rest left) found
-    by (Err NullKeyDisallowed) e left rest = impossible left
-    by (Err KeyTruncated) e left rest = impossible left
+has_keys schema values index rules rule unrefused found = of_found (λ r. IsOk (entries r schema values)) (λ r. r.id.0 == index) rules rule found (record_taken schema values rules unrefused)
 
 secondary_keys : (schema : Schema) (values : RecordFields) (index : ℕ) (o : Option IndexRule) → ((r : IndexRule) → o ≡ Some r → IsOk (entries r schema values)) → (rule : IndexRule) → Some rule ≡ only_secondary o → IsOk (entries rule schema values)
 secondary_keys schema values index None all rule e = impossible (ap (λ (o : Option IndexRule). is_some o) (sym e))

@@ -1,16 +1,14 @@
 -- The order of the bookmarks of the records that a reader sees, by the nodes.
 use Rattle.std.proofs.Common.{◌≡◌, ℕ, Bool, true, false, ◌&&◌, ◌||◌, cond, List, [], ◌∷◌, Option, Some, filter, find, option_map, refl, sym, ap, ◌∙◌}
-use Rattle.std.specs.Prelude.{T, bytes_eq, is_some}
-use Rattle.std.specs.List.{list_all}
-use Rattle.std.specs.Ordering.{eq_by_cmp, nat_cmp, is_lt}
+use Rattle.std.specs.Prelude.{bytes_eq, is_some}
+use Rattle.std.specs.Ordering.{eq_by_cmp, nat_cmp}
 use Rattle.std.specs.Cmp.Lexicographic.{slice_cmp, texts_ties}
-use Rattle.std.specs.FinMap.Entries.{below_all}
 use Rattle.std.proofs.lemmas.Bool.{and_from, or_left, or_right}
-use Rattle.common_lemmas.proofs.Booleans.{T_first, T_second, and_left, and_right, is_true}
+use Rattle.common_lemmas.proofs.Booleans.{T_first, and_left, and_right}
 use Rattle.common_lemmas.proofs.Numbers.{bytes_turned, same_bytes}
 use Rattle.btree_inplace.specs.Order.{get_in, has_key}
 use Rattle.column_set.specs.RecordValues.{RecordFields}
-use Rattle.cursor_nav.specs.Places.{Pair, are_sorted, pair_lt}
+use Rattle.cursor_nav.specs.Places.{Pair, are_sorted}
 use Rattle.database_state.specs.Table.{Rows, row_at}
 use Rattle.derived_index.specs.KeptEntries.{has_entry}
 use Rattle.index_derive.specs.Entries.{own_order}
@@ -21,23 +19,12 @@ use Rattle.version_store.specs.HeldChanges.{is_rewrite}
 use Rattle.versioned_tables.specs.HeldRecords.{HeldRecord, before_or, hides, is_change_at, is_standing_rewrite, seen_record}
 use Rattle.versioned_tables.specs.VersionedTables.{seen_rows}
 use Rattle.versioned_tables.specs.Variants.{has_variant}
-use Rattle.versioned_tables.specs.Holding.{RowsRise}
 use Rattle.versioned_tables.proofs.Rising.{seen_rise}
 use Rattle.stored_variants.specs.RecordRows.{rows_of_nodes}
 use Rattle.table_versions.proofs.SeenRecords.{unseen_stands}
 use Rattle.stored_variants.proofs.RisingRows.{rows_rise}
 use Rattle.long_value.specs.Values.{Values}
-
--- ---- records in the order of their bookmarks
-
-below_all_is : (key : List ℕ) (rows : Rows) → T (below_all (slice_cmp nat_cmp) key rows) → list_all (pair_lt (key, key)) (own_order rows) ≡ true
-below_all_is key [] h = refl
-below_all_is key (row ∷ rows) h =
-    and_from _ _ (or_left _ _ (is_true (is_lt (slice_cmp nat_cmp key row.0)) (T_first _ _ h))) (below_all_is key rows (T_second (is_lt (slice_cmp nat_cmp key row.0)) _ h))
-
-pub order_is : (rows : Rows) → RowsRise rows → are_sorted (own_order rows) ≡ true
-order_is [] h = refl
-order_is (row ∷ rows) h = and_from _ _ (below_all_is row.0 rows (T_first _ _ h)) (order_is rows (T_second (below_all (slice_cmp nat_cmp) row.0 rows) _ h))
+use Rattle.versioned_tables.proofs.Walking.{order_is}
 
 -- ---- a record that is seen has a node
 

@@ -1,23 +1,19 @@
 -- What a put asks of the trees and of the held changes, in a store.
-use Rattle.std.proofs.Common.{◌≡◌, ℕ, Bool, true, false, not, ◌&&◌, ◌||◌, cond, List, [], ◌∷◌, filter, find, map, Option, Some, None, Result, Ok, Err, option_map, refl, sym, ap, subst, ◌∙◌}
-use Rattle.std.specs.Prelude.{◌==◌, IfSome, IsOk, is_none, unwrap_or}
-use Rattle.std.specs.List.{AllByRecursion, flat_map, list_any}
+use Rattle.std.proofs.Common.{◌≡◌, ℕ, Bool, true, false, not, ◌&&◌, ◌||◌, cond, List, [], ◌∷◌, filter, find, map, Option, Some, None, option_map, refl, sym, ap, subst, ◌∙◌}
+use Rattle.std.specs.Prelude.{◌==◌, IfSome, IsOk, unwrap_or}
+use Rattle.std.specs.List.{AllByRecursion, list_any}
 use Rattle.std.proofs.lemmas.Bool.{eqb-true}
 use Rattle.common_lemmas.proofs.Booleans.{and_left, and_right, impossible}
 use Rattle.common_lemmas.proofs.Lists.{all_append, all_filter}
 use Rattle.common_lemmas.proofs.Numbers.{self_equal}
-use Rattle.jet_base.specs.declared.replies.Jet.TheVariants as jet
 use Rattle.column_set.specs.RecordValues.{RecordFields, record_fits}
-use Rattle.column_set.specs.Refusals.{Refusals, first_refusal}
 use Rattle.cursor_nav.specs.Places.{are_sorted}
 use Rattle.database_state.specs.Conflicts.{yields_key}
 use Rattle.database_state.specs.Lawful.{is_indexable}
-use Rattle.database_state.specs.Puts.{is_cut_refusal, is_null_refusal}
 use Rattle.database_state.specs.Table.{Table, row_at, schema_of, table_with_id}
 use Rattle.derived_index.specs.KeptEntries.{has_entry}
 use Rattle.index_derive.specs.declared.rules.IndexRule.{IndexRule}
-use Rattle.index_derive.specs.declared.rules.Schema.{Schema}
-use Rattle.index_derive.specs.Entries.{KeyRefusal, NullKeyDisallowed, KeyTruncated, entries}
+use Rattle.index_derive.specs.Entries.{entries}
 use Rattle.page_image.specs.Page.{Node}
 use Rattle.table_trees.specs.StoredNodes.{bookmark_entries}
 use Rattle.table_trees.specs.StoredTables.{StoredIndex, StoredTable, index_entries, is_table, table_indexes, table_nodes}
@@ -34,29 +30,10 @@ use Rattle.stored_variants.proofs.NodeRecords.{record_at}
 use Rattle.table_versions.proofs.SeenRecords.{before_is_row}
 use Rattle.stored_variants.proofs.Tables.{found_number}
 use Rattle.long_value.specs.Values.{Values}
+use Rattle.stored_variants.proofs.TakenRecords.{record_taken}
+use Rattle.stored_variants.proofs.SameRecords.{AreInOrder}
 
 -- ---- indexes that take a record
-
-no_refusal : (r : Result (List (List ℕ)) KeyRefusal) → is_null_refusal r ≡ false → is_cut_refusal r ≡ false → IsOk r
-no_refusal (Ok keys) a b = refl
-no_refusal (Err NullKeyDisallowed) a b = impossible (sym a)
-no_refusal (Err KeyTruncated) a b = impossible (sym b)
-
-all_taken : (schema : Schema) (values : RecordFields) (rules : List IndexRule)
-    → is_none (first_refusal (flat_map (λ (rule : IndexRule). (is_null_refusal (entries rule schema values), jet.NullKeyDisallowed) ∷ (is_cut_refusal (entries rule schema values), jet.KeyTruncated) ∷ []) rules)) ≡ true
-    → AllByRecursion (λ rule. IsOk (entries rule schema values)) rules
-all_taken schema values [] e = tt
-all_taken schema values (rule ∷ rules) e = by (is_null_refusal (entries rule schema values)) (is_cut_refusal (entries rule schema values)) refl refl e (all_taken schema values rules)
-  where
-    rest : Refusals
-    rest = flat_map (λ (rule : IndexRule). (is_null_refusal (entries rule schema values), jet.NullKeyDisallowed) ∷ (is_cut_refusal (entries rule schema values), jet.KeyTruncated) ∷ []) rules
-
-    by : (a b : Bool) → is_null_refusal (entries rule schema values) ≡ a → is_cut_refusal (entries rule schema values) ≡ b
-        → is_none (cond a (Some jet.NullKeyDisallowed) (cond b (Some jet.KeyTruncated) (first_refusal rest))) ≡ true
-        → (is_none (first_refusal rest) ≡ true → AllByRecursion (λ r. IsOk (entries r schema values)) rules) → IsOk (entries rule schema values) × AllByRecursion (λ r. IsOk (entries r schema values)) rules
-    by true b f g e next = impossible e
-    by false true f g e next = impossible e
-    by false false f g e next = (no_refusal (entries rule schema values) f g, next e)
 
 all_have : (table : Table) (values : RecordFields) (rules : List IndexRule) → AllByRecursion (IsStoredRule table) rules → AllByRecursion (λ rule. IsOk (entries rule (schema_of table) values)) rules → AllByRecursion (HasKeysOf (schema_of table) values) rules
 all_have table values [] stored taken = tt
@@ -71,7 +48,7 @@ by_schema P table all =
 
 pub rules_take : (table : Table) (values : RecordFields) → AllByRecursion (IsStoredRule table) table.indexes → is_indexable (schema_of table) values ≡ true → AllByRecursion (HasKeysOf (schema_of table) values) (schema_of table).indexes
 rules_take table values stored taken =
-    all_have table values (schema_of table).indexes (by_schema (IsStoredRule table) table stored) (all_taken (schema_of table) values (schema_of table).indexes taken)
+    all_have table values (schema_of table).indexes (by_schema (IsStoredRule table) table stored) (record_taken (schema_of table) values (schema_of table).indexes taken)
 
 -- ---- the trees of a table
 
@@ -210,9 +187,6 @@ can_take_all longs trees t held values sorted fits kept numbers (r ∷ rules) ha
   can_take_all longs trees t held values sorted fits kept numbers rules has.1 tree.1,
 )
 
-abbrev pub AreSorted : List StoredTable → Type 0
-AreSorted trees = (table : ℕ) → are_sorted (bookmark_entries (table_nodes trees table)) ≡ true
-
 pub own_kept : (longs : TableValues) (tables : List Table) (trees : List StoredTable) (held : List HeldChange) → AreKeptWith longs tables trees held → (id : ℕ) (t : Table) → table_with_id tables id ≡ Some t → IsKeptTable trees (longs id) (table_nodes trees id) (map (held_record_in longs) held) t
 own_kept longs tables trees held kept id t found = subst (λ (o : Option Table). IfSome o (IsKeptTable trees (longs id) (table_nodes trees id) (map (held_record_in longs) held))) found (kept.each id)
 
@@ -231,7 +205,7 @@ variant_keys longs trees t held bookmark sorted kept index = by (secondary_rule 
     by None holds = tt
     by (Some rule) holds = λ key. holds key bookmark ∙ ap (λ newest. is_variant_key newest (map (held_record_in longs) held) rule (schema_of t) t.id key bookmark) (record_at (longs t.id) (table_nodes trees t.id) sorted bookmark)
 
-pub put_asks : (longs : TableValues) (tables : List Table) (trees : List StoredTable) (held : List HeldChange) → AreKeptWith longs tables trees held → AreSorted trees → (id : ℕ) (t : Table) → table_with_id tables id ≡ Some t → (bookmark : List ℕ) (values : RecordFields) → is_indexable (schema_of t) values ≡ true
+pub put_asks : (longs : TableValues) (tables : List Table) (trees : List StoredTable) (held : List HeldChange) → AreKeptWith longs tables trees held → AreInOrder trees → (id : ℕ) (t : Table) → table_with_id tables id ≡ Some t → (bookmark : List ℕ) (values : RecordFields) → is_indexable (schema_of t) values ≡ true
     → PutAsks longs tables trees held id t bookmark values
 put_asks longs tables trees held kept sorted id t found bookmark values indexable =
     subst (λ (n : ℕ). PutAsks longs tables trees held n t bookmark values) number (record {

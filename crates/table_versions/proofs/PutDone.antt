@@ -42,9 +42,10 @@ use Rattle.table_versions.proofs.StepInStore.{IsStored, brings_none, entries_sta
 use Rattle.table_versions.proofs.ValuesTaken.{Stays, StillStand, all_stays}
 use Rattle.table_versions.proofs.PutAsked.{PutAsks, are_rows, own_kept, put_asks, rules_take}
 use Rattle.stored_variants.proofs.Dropped.{has_trees}
-use Rattle.table_versions.proofs.PutKept.{AreSorted, IsNewRow, made_put, put_kept, put_shown, put_under, same_kept, same_tables}
+use Rattle.table_versions.proofs.PutKept.{IsNewRow, made_put, put_kept, put_shown, put_under, same_kept, same_tables}
 use Rattle.table_versions.proofs.Span.{RowSizes, same_room}
 use Rattle.stored_variants.proofs.Tables.{newest_at, newest_is_row, table_at}
+use Rattle.stored_variants.proofs.SameRecords.{AreInOrder}
 
 -- laws of the row that a put makes
 pub record PutLaws : Type 0 where
@@ -136,11 +137,11 @@ put_row found values = row_bytes (kept_row found values)
 abbrev pub put_given : Found → RecordFields → List (List ℕ × List ℕ)
 put_given found values = given_values (kept_row found values) values
 
-after_record : RowSizes → PutLaws → (latest : ℕ) (catalog : CatalogState) (trees : List StoredTable) (held : List HeldChange) → IsStored latest catalog trees held → AreSorted trees → ((table : ℕ) → All IsShortNode (table_nodes trees table))
+after_record : RowSizes → PutLaws → (latest : ℕ) (catalog : CatalogState) (trees : List StoredTable) (held : List HeldChange) → IsStored latest catalog trees held → AreInOrder trees → ((table : ℕ) → All IsShortNode (table_nodes trees table))
     → (now : StoredVersions) → stored_versions latest catalog trees held ≡ now → IsTrue (ids_rise 0 catalog.greatest_table catalog.tables)
     → (by : By) → latest < by.number → (table : TableId) (bookmark : List ℕ) (copied : Option (List ℕ)) (values : RecordFields) (t : Table) → table_with_id catalog.tables table.0 ≡ Some t → IsStorable t bookmark values
     → (row : Option (List ℕ)) → MayKeep (put_found by.number trees table.0 bookmark row) values
-    → (new_trees : List StoredTable) → IsPut table.0 bookmark (put_row (put_found by.number trees table.0 bookmark row) values) (put_given (put_found by.number trees table.0 bookmark row) values) (record_keys (schema_of t).indexes (schema_of t) values) trees new_trees → AreSorted new_trees
+    → (new_trees : List StoredTable) → IsPut table.0 bookmark (put_row (put_found by.number trees table.0 bookmark row) values) (put_given (put_found by.number trees table.0 bookmark row) values) (record_keys (schema_of t).indexes (schema_of t) values) trees new_trees → AreInOrder new_trees
     → (new_held : List HeldChange) → new_held ≡ held ++ made_put by table bookmark copied values trees ∷ []
     → IsAfterPut catalog new_trees new_held by (Put table bookmark copied values) now
 after_record sizes laws latest catalog trees held stored sorted short now shows rise by later table bookmark copied values t found is row may new_trees put sorted_then new_held held_are = record {
@@ -228,13 +229,13 @@ is_put kind.Drop = false
 is_put kind.Hold = false
 is_put (kind.Add column amount) = false
 
-pub after_put : RowSizes → PutLaws → (latest : ℕ) (catalog : CatalogState) (trees : List StoredTable) (held : List HeldChange) → IsStored latest catalog trees held → AreSorted trees → ((table : ℕ) → All IsShortNode (table_nodes trees table))
+pub after_put : RowSizes → PutLaws → (latest : ℕ) (catalog : CatalogState) (trees : List StoredTable) (held : List HeldChange) → IsStored latest catalog trees held → AreInOrder trees → ((table : ℕ) → All IsShortNode (table_nodes trees table))
     → (now : StoredVersions) → stored_versions latest catalog trees held ≡ now → IsTrue (ids_rise 0 catalog.greatest_table catalog.tables)
     → (by : By) → latest < by.number → (made : Change) → kind_of made ≡ kind.Put → (t : Table) → table_with_id catalog.tables (changed_table made) ≡ Some t → IsStorable t (changed_bookmark made) (put_values made)
     → (row : Option (List ℕ)) → MayKeep (put_found by.number trees (changed_table made) (changed_bookmark made) row) (put_values made)
     → (new_trees : List StoredTable)
     → IsPut (changed_table made) (changed_bookmark made) (put_row (put_found by.number trees (changed_table made) (changed_bookmark made) row) (put_values made)) (put_given (put_found by.number trees (changed_table made) (changed_bookmark made) row) (put_values made))
-    (record_keys (schema_of t).indexes (schema_of t) (put_values made)) trees new_trees → AreSorted new_trees
+    (record_keys (schema_of t).indexes (schema_of t) (put_values made)) trees new_trees → AreInOrder new_trees
     → (new_held : List HeldChange) → new_held ≡ held ++ new_change by made (row_under (table_nodes trees (changed_table made)) (changed_bookmark made)) ∷ []
     → IsAfterPut catalog new_trees new_held by made now
 after_put sizes laws latest catalog trees held stored sorted short now shows rise by later (Put table bookmark copied values) is t found storable row may new_trees put sorted_then new_held held_are =
@@ -248,8 +249,8 @@ pub record IsAfterNone (latest : ℕ) (catalog : CatalogState) (trees : List Sto
   pub stored : IsStored latest catalog trees held
   pub shown : stored_versions latest catalog trees held ≡ now
 
-pub after_none : (latest : ℕ) (catalog : CatalogState) (trees : List StoredTable) (held : List HeldChange) → IsStored latest catalog trees held → AreSorted trees → (now : StoredVersions) → stored_versions latest catalog trees held ≡ now → IsTrue (ids_rise 0 catalog.greatest_table catalog.tables)
-    → (table : ℕ) (t : Table) → table_with_id catalog.tables table ≡ Some t → (new_trees : List StoredTable) → IsSame table (schema_of t) trees new_trees → AreSorted new_trees → (new_held : List HeldChange) → new_held ≡ held → IsAfterNone latest catalog new_trees new_held now
+pub after_none : (latest : ℕ) (catalog : CatalogState) (trees : List StoredTable) (held : List HeldChange) → IsStored latest catalog trees held → AreInOrder trees → (now : StoredVersions) → stored_versions latest catalog trees held ≡ now → IsTrue (ids_rise 0 catalog.greatest_table catalog.tables)
+    → (table : ℕ) (t : Table) → table_with_id catalog.tables table ≡ Some t → (new_trees : List StoredTable) → IsSame table (schema_of t) trees new_trees → AreInOrder new_trees → (new_held : List HeldChange) → new_held ≡ held → IsAfterNone latest catalog new_trees new_held now
 after_none latest catalog trees held stored sorted now shows rise table t found new_trees same sorted_then new_held held_are = record {
   stored = record {
     kept =
@@ -283,7 +284,7 @@ pub record PutGiven (longs : TableValues) (tables : List Table) (trees : List St
   pub rows : AreRows longs held
   pub keys : HasVariantKeys (option_map (record_of (longs id)) (row_under (table_nodes trees id) bookmark)) (held_from longs 0 held) schema id bookmark trees
 
-pub asked_of_put : (longs : TableValues) (tables : List Table) (trees : List StoredTable) (held : List HeldChange) → AreKeptWith longs tables trees held → AreSorted trees → (id : ℕ) (t : Table) → table_with_id tables id ≡ Some t → (schema : Schema) → schema ≡ schema_of t
+pub asked_of_put : (longs : TableValues) (tables : List Table) (trees : List StoredTable) (held : List HeldChange) → AreKeptWith longs tables trees held → AreInOrder trees → (id : ℕ) (t : Table) → table_with_id tables id ≡ Some t → (schema : Schema) → schema ≡ schema_of t
     → (bookmark : List ℕ) (values : RecordFields) → IsStorable t bookmark values → PutGiven longs tables trees held id schema bookmark values
 asked_of_put longs tables trees held kept sorted id t found schema schema_is bookmark values is = record {
   there = has_trees trees tables id kept.numbers ∙ ap is_some found;
@@ -300,7 +301,7 @@ asked_of_put longs tables trees held kept sorted id t found schema schema_is boo
     asks = put_asks longs tables trees held kept sorted id t found bookmark values is.indexable
 
 -- the room for the change, by its row
-pub row_room : (sizes : RowSizes) (latest : ℕ) (catalog : CatalogState) (trees : List StoredTable) (held : List HeldChange) → AreKept catalog.tables trees held → AreSorted trees → (now : StoredVersions) → stored_versions latest catalog trees held ≡ now
+pub row_room : (sizes : RowSizes) (latest : ℕ) (catalog : CatalogState) (trees : List StoredTable) (held : List HeldChange) → AreKept catalog.tables trees held → AreInOrder trees → (now : StoredVersions) → stored_versions latest catalog trees held ≡ now
     → (by : By) (made : Change) (id : ℕ) (bookmark : List ℕ) → id ≡ changed_table made → bookmark ≡ changed_bookmark made → has_room_for_row by made (row_under (table_nodes trees id) bookmark) held ≡ has_room by made now.store
 row_room sizes latest catalog trees held kept sorted now shows by made id bookmark id_is bookmark_is =
     same_room (table_long_values trees) sizes by made (row_under (table_nodes trees id) bookmark)

@@ -1,11 +1,11 @@
 -- A put, and one that failed, keep what trees, catalog and held changes keep of one another.
-use Rattle.std.proofs.Common.{◌≡◌, ◌≢◌, ℕ, ◌≤◌, Bool, true, false, not, ◌&&◌, ◌||◌, cond, Equal, List, [], ◌∷◌, ◌++◌, length, Option, Some, None, find, map, option_map, refl, sym, ap, subst, ◌∙◌, arith}
+use Rattle.std.proofs.Common.{◌≡◌, ◌≢◌, ℕ, ◌≤◌, Bool, true, false, not, ◌&&◌, ◌||◌, cond, List, [], ◌∷◌, ◌++◌, length, Option, Some, None, find, map, option_map, refl, sym, ap, subst, ◌∙◌, arith}
 use Rattle.std.proofs.lemmas.Bool.Decides.{nat_tests}
 use Rattle.std.specs.Prelude.{◌==◌, All, IfSome, IsSomeAnd, bytes_eq, is_some, nat_lt, option_and_then, unwrap_or}
 use Rattle.std.specs.List.{AllByRecursion, list_any}
-use Rattle.std.specs.Ordering.{nat_cmp, is_eq}
+use Rattle.std.specs.Ordering.{nat_cmp}
 use Rattle.std.specs.Cmp.Lexicographic.{slice_cmp, nat_list_cmp_total, texts_ties}
-use Rattle.std.specs.FinMap.Entries.{find-put, is_sorted-put, same_entries}
+use Rattle.std.specs.FinMap.Entries.{find-put, is_sorted-put}
 use Rattle.std.proofs.lemmas.List.Folds.{list_any-append}
 use Rattle.std.proofs.lemmas.Bool.{eqb-true}
 use Rattle.common_lemmas.proofs.Booleans.{and_left, and_right, impossible}
@@ -14,7 +14,6 @@ use Rattle.common_lemmas.proofs.Lists.{all_append}
 use Rattle.btree_inplace.specs.Order.{extent_in, get_in}
 use Rattle.column_set.specs.declared.changes.Change.TheVariants.{Put}
 use Rattle.column_set.specs.RecordValues.{RecordFields}
-use Rattle.cursor_nav.specs.Places.{are_sorted}
 use Rattle.database_state.specs.Changes.{tables_after}
 use Rattle.database_state.specs.Conflicts.{yields_key}
 use Rattle.database_state.specs.Table.{Rows, Table, record_in, row_at, rule_with_id, schema_of, table_with_id, with_row}
@@ -23,10 +22,9 @@ use Rattle.index_derive.specs.declared.rules.IndexRule.{IndexRule}
 use Rattle.index_derive.specs.declared.rules.Schema.{Schema}
 use Rattle.jet_base.specs.declared.ids.TableId.{TableId}
 use Rattle.jet_catalog.specs.Catalog.{ids_rise}
-use Rattle.table_trees.specs.StoredNodes.{IsShortNode, bookmark_entries}
+use Rattle.table_trees.specs.StoredNodes.{IsShortNode}
 use Rattle.table_trees.specs.StoredTables.{StoredIndex, StoredTable, index_entries, is_table, table_nodes}
 use Rattle.version_store.specs.declared.calls.By.{By}
-use Rattle.version_store.specs.declared.calls.ChangeKind.{ChangeKind}
 use Rattle.version_store.specs.declared.calls.ChangeKind.TheVariants as kind
 use Rattle.version_store.specs.HeldChanges.{HeldChange, new_change}
 use Rattle.versioned_tables.specs.HeldRecords.{HeldRecord, is_standing_rewrite, new_change as new_record}
@@ -34,19 +32,20 @@ use Rattle.versioned_tables.specs.Holding.{RowsRise}
 use Rattle.versioned_tables.specs.VersionedTables.{with_change}
 use Rattle.versioned_tables.specs.Variants.{HoldsVariants, has_variant, is_variant_key}
 use Rattle.stored_variants.specs.PutRecords.{HasKeysOf, record_keys}
-use Rattle.stored_variants.specs.RecordRows.{TableValues, some_before, IsRecordRow, held_record_in, record_of, row_in_node, row_under, rows_of_nodes}
+use Rattle.stored_variants.specs.RecordRows.{TableValues, IsRecordRow, held_record_in, record_of, row_in_node, row_under, rows_of_nodes}
 use Rattle.variant_trees.specs.GoneKeys.{index_numbers, table_numbers}
 use Rattle.variant_trees.specs.PutStages.{AreWidened, IsPut, IsSame, IsWidened, is_place}
 use Rattle.stored_variants.specs.VersionsKept.{AreKeptWith, IsKeptChange, IsKeptTable, IsRowUnder, needed_trees, only_secondary, secondary_rule, tree_numbers}
 use Rattle.stored_variants.specs.VersionsView.{with_newest_by}
 use Rattle.stored_variants.proofs.Dropped.{room_in}
-use Rattle.table_versions.proofs.Held.{appended, no_sum}
+use Rattle.table_versions.proofs.Held.{appended, no_sum, is_drop, variants}
 use Rattle.stored_variants.proofs.FoundRules.{secondary_found, record_yields}
 use Rattle.stored_variants.proofs.NodeRecords.{record_at}
-use Rattle.stored_variants.proofs.RisingRows.{rows_rise}
+use Rattle.stored_variants.proofs.RisingRows.{rows_rise, same_rows}
 use Rattle.table_versions.proofs.Span.{RowSizes, same_cost}
 use Rattle.stored_variants.proofs.Tables.{found_number, newest_at, newest_is_row}
 use Rattle.long_value.specs.Values.{Values}
+use Rattle.stored_variants.proofs.SameRecords.{AreInOrder}
 
 -- ---- numbers of trees
 
@@ -132,21 +131,12 @@ numbers_kept high tables new old rise needed same indexes =
 
 -- ---- rows by their bookmarks
 
-equal_keys : (x y : List ℕ) → slice_cmp nat_cmp x y ≡ Equal → x ≡ y
-equal_keys x y e = same_bytes x y (texts_ties x y ∙ ap is_eq e)
-
-abbrev pub AreSorted : List StoredTable → Type 0
-AreSorted trees = (table : ℕ) → are_sorted (bookmark_entries (table_nodes trees table)) ≡ true
-
-same_rows : (a b : Rows) → RowsRise a → RowsRise b → ((own : List ℕ) → row_at a own ≡ row_at b own) → a ≡ b
-same_rows a b one other same = same_entries (slice_cmp nat_cmp) nat_list_cmp_total equal_keys a b one other same
-
 -- ---- a put that failed
 
 same_under : (table : ℕ) (schema : Schema) (old new : List StoredTable) → IsSame table schema old new → (other : ℕ) (own : List ℕ) → row_under (table_nodes new other) own ≡ row_under (table_nodes old other) own
 same_under table schema old new same other own = ap (option_and_then row_in_node) (same.rows other own)
 
-same_record : (longs : TableValues) (table : ℕ) (schema : Schema) (old new : List StoredTable) → IsSame table schema old new → AreSorted old → AreSorted new → (other : ℕ) (own : List ℕ)
+same_record : (longs : TableValues) (table : ℕ) (schema : Schema) (old new : List StoredTable) → IsSame table schema old new → AreInOrder old → AreInOrder new → (other : ℕ) (own : List ℕ)
     → row_at (rows_of_nodes (longs other) (table_nodes new other)) own ≡ row_at (rows_of_nodes (longs other) (table_nodes old other)) own
 same_record longs table schema old new same sorted sorted_then other own =
     record_at (longs other) (table_nodes new other) (sorted_then other) own ∙ ap (option_map (record_of (longs other))) (same_under table schema old new same other own) ∙ sym (record_at (longs other) (table_nodes old other) (sorted other) own)
@@ -192,7 +182,7 @@ same_index table schema old new same t is index = by (t.id == table) refl
         (subst (λ (s : Schema). SameIndex old new table index (only_secondary (rule_with_id s index))) (is found) (same.entries index))
     by false e = any (secondary_rule t index) (λ at. impossible (sym e ∙ ap (λ n. n == table) at ∙ self_equal table))
 
-table_same : (longs : TableValues) (table : ℕ) (schema : Schema) (old new : List StoredTable) → IsSame table schema old new → AreSorted old → AreSorted new → (held : List HeldRecord) (t : Table) → (t.id ≡ table → schema ≡ schema_of t)
+table_same : (longs : TableValues) (table : ℕ) (schema : Schema) (old new : List StoredTable) → IsSame table schema old new → AreInOrder old → AreInOrder new → (held : List HeldRecord) (t : Table) → (t.id ≡ table → schema ≡ schema_of t)
     → IsKeptTable old (longs t.id) (table_nodes old t.id) held t → IsKeptTable new (longs t.id) (table_nodes new t.id) held t
 table_same longs table schema old new same sorted sorted_then held t is kept = record {
   rules = kept.rules;
@@ -213,7 +203,7 @@ table_same longs table schema old new same sorted sorted_then held t is kept = r
 one_table : (a b : Table) → Some a ≡ Some b → a ≡ b
 one_table a b e = ap (λ (o : Option Table). unwrap_or o a) e
 
-pub same_kept : (longs : TableValues) (high : ℕ) (tables : List Table) (old new : List StoredTable) (held : List HeldChange) (own : Table) (table : ℕ) → ids_rise 0 high tables ≡ true → table_with_id tables table ≡ Some own → IsSame table (schema_of own) old new → AreSorted old → AreSorted new
+pub same_kept : (longs : TableValues) (high : ℕ) (tables : List Table) (old new : List StoredTable) (held : List HeldChange) (own : Table) (table : ℕ) → ids_rise 0 high tables ≡ true → table_with_id tables table ≡ Some own → IsSame table (schema_of own) old new → AreInOrder old → AreInOrder new
     → AreKeptWith longs tables old held → AreKeptWith longs tables new held
 same_kept longs high tables old new held own table rise found same sorted sorted_then kept = record {
   plain = kept.plain;
@@ -232,7 +222,7 @@ same_kept longs high tables old new held own table rise found same sorted sorted
         (subst (λ (n : ℕ). IsKeptTable old (longs n) (table_nodes old n) (map (held_record_in longs) held) t) (sym number) is))
 
 -- and show the same tables
-pub same_tables : (longs : TableValues) (table : ℕ) (schema : Schema) (old new : List StoredTable) → IsSame table schema old new → AreSorted old → AreSorted new → (tables : List Table) → map (with_newest_by longs new) tables ≡ map (with_newest_by longs old) tables
+pub same_tables : (longs : TableValues) (table : ℕ) (schema : Schema) (old new : List StoredTable) → IsSame table schema old new → AreInOrder old → AreInOrder new → (tables : List Table) → map (with_newest_by longs new) tables ≡ map (with_newest_by longs old) tables
 same_tables longs table schema old new same sorted sorted_then [] = refl
 same_tables longs table schema old new same sorted sorted_then (t ∷ tables) =
     λ i. record t { rows = same_rows (rows_of_nodes (longs t.id) (table_nodes new t.id)) (rows_of_nodes (longs t.id) (table_nodes old t.id)) (rows_rise (longs t.id) (table_nodes new t.id) (sorted_then t.id)) (rows_rise (longs t.id) (table_nodes old t.id) (sorted t.id)) (same_record longs table schema old new same sorted sorted_then t.id) i }
@@ -254,7 +244,7 @@ put_under table bookmark row given keys old new put some other own = ap (option_
     by true = some
     by false = refl
 
-put_record : (longs : TableValues) (table : ℕ) (bookmark row : List ℕ) (values : RecordFields) (given : List (List ℕ × List ℕ)) (keys : ℕ → List ℕ → Bool) (old new : List StoredTable) → IsPut table bookmark row given keys old new → row_in_node row ≡ Some row → record_of (longs table) row ≡ values → AreSorted old → AreSorted new → (other : ℕ) (own : List ℕ)
+put_record : (longs : TableValues) (table : ℕ) (bookmark row : List ℕ) (values : RecordFields) (given : List (List ℕ × List ℕ)) (keys : ℕ → List ℕ → Bool) (old new : List StoredTable) → IsPut table bookmark row given keys old new → row_in_node row ≡ Some row → record_of (longs table) row ≡ values → AreInOrder old → AreInOrder new → (other : ℕ) (own : List ℕ)
     → row_at (rows_of_nodes (longs other) (table_nodes new other)) own ≡ cond (is_place table bookmark other own) (Some values) (row_at (rows_of_nodes (longs other) (table_nodes old other)) own)
 put_record longs table bookmark row values given keys old new put some shows sorted sorted_then other own =
     record_at (longs other) (table_nodes new other) (sorted_then other) own ∙ ap (option_map (record_of (longs other))) (put_under table bookmark row given keys old new put some other own) ∙ by (is_place table bookmark other own) refl
@@ -267,11 +257,7 @@ put_record longs table bookmark row values given keys old new put some shows sor
 abbrev pub made_put : By → TableId → List ℕ → Option (List ℕ) → RecordFields → List StoredTable → HeldChange
 made_put by table bookmark copied values trees = new_change by (Put table bookmark copied values) (row_under (table_nodes trees table.0) bookmark)
 
--- the variants of each record, as far as a test tells that passes no record that is not there
-abbrev pub variants : (Option RecordFields → Bool) → Option RecordFields → ℕ → List ℕ → List HeldRecord → Bool
-variants test newest table bookmark held = test newest || some_before test table bookmark held
-
-more_variants : (longs : TableValues) (by : By) (table : TableId) (bookmark : List ℕ) (copied : Option (List ℕ)) (values : RecordFields) (old : List StoredTable) → AreSorted old → (held : List HeldChange) (test : Option RecordFields → Bool) → test None ≡ false → (other : ℕ) (own : List ℕ)
+more_variants : (longs : TableValues) (by : By) (table : TableId) (bookmark : List ℕ) (copied : Option (List ℕ)) (values : RecordFields) (old : List StoredTable) → AreInOrder old → (held : List HeldChange) (test : Option RecordFields → Bool) → test None ≡ false → (other : ℕ) (own : List ℕ)
     → variants test (cond (is_place table.0 bookmark other own) (Some values) (row_at (rows_of_nodes (longs other) (table_nodes old other)) own)) other own (map (held_record_in longs) (held ++ made_put by table bookmark copied values old ∷ []))
     ≡ (variants test (row_at (rows_of_nodes (longs other) (table_nodes old other)) own) other own (map (held_record_in longs) held) || (is_place table.0 bookmark other own && test (Some values)))
 more_variants longs by table bookmark copied values old sorted held test none other own =
@@ -364,7 +350,7 @@ own_keys schema values index rule rules e key = by (record_keys schema.indexes s
 
 -- a table after the put
 table_put : (longs : TableValues) (by : By) (table : TableId) (bookmark : List ℕ) (copied : Option (List ℕ)) (row : List ℕ) (values : RecordFields) (given : List (List ℕ × List ℕ)) (own : Table) → IsNewRow (longs table.0) own bookmark row values → AllByRecursion (HasKeysOf (schema_of own) values) (schema_of own).indexes
-    → (old new : List StoredTable) → IsPut table.0 bookmark row given (record_keys (schema_of own).indexes (schema_of own) values) old new → AreSorted old → AreSorted new → (held : List HeldChange) (t : Table) → (t.id ≡ table.0 → own ≡ t)
+    → (old new : List StoredTable) → IsPut table.0 bookmark row given (record_keys (schema_of own).indexes (schema_of own) values) old new → AreInOrder old → AreInOrder new → (held : List HeldChange) (t : Table) → (t.id ≡ table.0 → own ≡ t)
     → IsKeptTable old (longs t.id) (table_nodes old t.id) (map (held_record_in longs) held) t
     → IsKeptTable new (longs t.id) (table_nodes new t.id) (map (held_record_in longs) (held ++ made_put by table bookmark copied values old ∷ [])) t
 table_put longs by table bookmark copied row values given own is rules old new put sorted sorted_then held t which kept = record {
@@ -436,12 +422,6 @@ table_put longs by table bookmark copied row values given own is rules old new p
 
 -- ---- the change that is held
 
-abbrev is_drop : ChangeKind → Bool
-is_drop kind.Put = false
-is_drop kind.Drop = true
-is_drop kind.Hold = false
-is_drop (kind.Add column amount) = false
-
 made_kept : (longs : TableValues) (by : By) (table : TableId) (bookmark : List ℕ) (copied : Option (List ℕ)) (values : RecordFields) (old new : List StoredTable) → AreWidened old new → All IsShortNode (table_nodes old table.0) → (tables : List Table) (own : Table) → table_with_id tables table.0 ≡ Some own
     → (held : List HeldRecord) → IfSome (table_with_id tables table.0) (IsKeptTable old (longs table.0) (table_nodes old table.0) held) → IsKeptChange longs tables new (made_put by table bookmark copied values old)
 made_kept longs by table bookmark copied values old new wide short tables own found held kept = record {
@@ -460,7 +440,7 @@ made_kept longs by table bookmark copied values old new wide short tables own fo
 
 pub put_kept : (longs : TableValues) (high : ℕ) (tables : List Table) (by : By) (table : TableId) (bookmark : List ℕ) (copied : Option (List ℕ)) (row : List ℕ) (values : RecordFields) (given : List (List ℕ × List ℕ)) (own : Table) → ids_rise 0 high tables ≡ true → table_with_id tables table.0 ≡ Some own
     → IsNewRow (longs table.0) own bookmark row values → AllByRecursion (HasKeysOf (schema_of own) values) (schema_of own).indexes
-    → (old new : List StoredTable) → IsPut table.0 bookmark row given (record_keys (schema_of own).indexes (schema_of own) values) old new → AreSorted old → AreSorted new → All IsShortNode (table_nodes old table.0)
+    → (old new : List StoredTable) → IsPut table.0 bookmark row given (record_keys (schema_of own).indexes (schema_of own) values) old new → AreInOrder old → AreInOrder new → All IsShortNode (table_nodes old table.0)
     → (held : List HeldChange) → AreKeptWith longs tables old held → AreKeptWith longs tables new (held ++ made_put by table bookmark copied values old ∷ [])
 put_kept longs high tables by table bookmark copied row values given own rise found is rules old new put sorted sorted_then short held kept = record {
   plain = kept.plain;
@@ -483,7 +463,7 @@ put_kept longs high tables by table bookmark copied row values given own rise fo
 
 -- ---- what it shows
 
-rows_put : (longs : TableValues) (table : ℕ) (bookmark row : List ℕ) (values : RecordFields) (given : List (List ℕ × List ℕ)) (keys : ℕ → List ℕ → Bool) (old new : List StoredTable) → IsPut table bookmark row given keys old new → row_in_node row ≡ Some row → record_of (longs table) row ≡ values → AreSorted old → AreSorted new → (other : ℕ)
+rows_put : (longs : TableValues) (table : ℕ) (bookmark row : List ℕ) (values : RecordFields) (given : List (List ℕ × List ℕ)) (keys : ℕ → List ℕ → Bool) (old new : List StoredTable) → IsPut table bookmark row given keys old new → row_in_node row ≡ Some row → record_of (longs table) row ≡ values → AreInOrder old → AreInOrder new → (other : ℕ)
     → rows_of_nodes (longs other) (table_nodes new other) ≡ cond (other == table) (with_row (rows_of_nodes (longs other) (table_nodes old other)) bookmark values) (rows_of_nodes (longs other) (table_nodes old other))
 rows_put longs table bookmark row values given keys old new put some shows sorted sorted_then other =
     same_rows (rows_of_nodes (longs other) (table_nodes new other)) (cond (other == table) (with_row rows bookmark values) rows) (rows_rise (longs other) (table_nodes new other) (sorted_then other)) (rises (other == table))
@@ -502,7 +482,7 @@ rows_put longs table bookmark row values given keys old new put some shows sorte
         ∙ sym (find-put (slice_cmp nat_cmp) nat_list_cmp_total at bookmark values rows)
     by at false = refl
 
-tables_put : (longs : TableValues) (table : TableId) (bookmark : List ℕ) (copied : Option (List ℕ)) (row : List ℕ) (values : RecordFields) (given : List (List ℕ × List ℕ)) (keys : ℕ → List ℕ → Bool) (old new : List StoredTable) → IsPut table.0 bookmark row given keys old new → row_in_node row ≡ Some row → record_of (longs table.0) row ≡ values → AreSorted old → AreSorted new
+tables_put : (longs : TableValues) (table : TableId) (bookmark : List ℕ) (copied : Option (List ℕ)) (row : List ℕ) (values : RecordFields) (given : List (List ℕ × List ℕ)) (keys : ℕ → List ℕ → Bool) (old new : List StoredTable) → IsPut table.0 bookmark row given keys old new → row_in_node row ≡ Some row → record_of (longs table.0) row ≡ values → AreInOrder old → AreInOrder new
     → (tables : List Table) → map (with_newest_by longs new) tables ≡ tables_after (map (with_newest_by longs old) tables) (Put table bookmark copied values)
 tables_put longs table bookmark copied row values given keys old new put some shows sorted sorted_then [] = refl
 tables_put longs table bookmark copied row values given keys old new put some shows sorted sorted_then (t ∷ tables) =
@@ -520,7 +500,7 @@ held_put longs sizes by table bookmark copied values row is = λ i. record (held
 
 -- the trees and the held changes after a put show the versioned tables after it
 pub put_shown : (longs : TableValues) (sizes : RowSizes) (by : By) (table : TableId) (bookmark : List ℕ) (copied : Option (List ℕ)) (row : List ℕ) (values : RecordFields) (given : List (List ℕ × List ℕ)) (keys : ℕ → List ℕ → Bool) (old new : List StoredTable) → IsPut table.0 bookmark row given keys old new → row_in_node row ≡ Some row → record_of (longs table.0) row ≡ values
-    → AreSorted old → AreSorted new → (tables : List Table) (held : List HeldChange) → AreKeptWith longs tables old held
+    → AreInOrder old → AreInOrder new → (tables : List Table) (held : List HeldChange) → AreKeptWith longs tables old held
     → record { tables = map (with_newest_by longs new) tables; held = map (held_record_in longs) (held ++ made_put by table bookmark copied values old ∷ []) }
     ≡ with_change by (Put table bookmark copied values) (record { tables = map (with_newest_by longs old) tables; held = map (held_record_in longs) held })
 put_shown longs sizes by table bookmark copied row values given keys old new put some shows sorted sorted_then tables held kept =

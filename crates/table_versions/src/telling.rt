@@ -8,12 +8,12 @@ ghost use Rattle.stored_variants.specs.StoredVersions.{has_room, next_to_forget}
 
 use crate::reading::newest_row;
 use crate::store::TableVersions;
-use column_set::{Change, size_of_a_row};
+use column_set::{Change, MAX_ROW_SIZE, size_of_a_row};
 use jet_base::TableId;
 use version_store::{By, Reader};
 
 // As many bytes as a row has at most.
-static LONGEST_ROW: [u8; 1_700] = [0; 1_700];
+static LONGEST_ROW: [u8; MAX_ROW_SIZE] = [0; MAX_ROW_SIZE];
 
 impl TableVersions {
     /// How many changes are held.

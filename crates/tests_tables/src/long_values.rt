@@ -88,9 +88,7 @@ fn has_value(tables: &TableTrees, table: TableId, bytes: &[u8], count: u32) -> b
     } else {
         &bytes[..1_024]
     };
-    tables.long_count(table, ID) == count
-        && tables.long_length(table, ID) as usize == bytes.len()
-        && tables.first_part(table, ID) == first
+    tables.long_count(table, ID) == count && tables.first_part(table, ID) == first
 }
 
 /// Whether the first bytes of a value, as many as there is room for, are the first of these.

@@ -1,7 +1,7 @@
 -- A table whose columns change, but for those that its indexes read.
 use Rattle.std.proofs.Common.{◌≡◌, ℕ, Bool, true, false, not, ◌||◌, List, [], ◌∷◌, Option, Some, None, length, refl, sym, ap, ◌∙◌}
 use Rattle.std.specs.Prelude.{MatchOption, is_none, is_some}
-use Rattle.std.specs.List.{AllByRecursion, flat_map, list_all}
+use Rattle.std.specs.List.{AllByRecursion, list_all}
 use Rattle.std.proofs.lemmas.Bool.{and_from}
 use Rattle.column_set.specs.declared.columns.Column.{Column}
 use Rattle.column_set.specs.RecordValues.{RecordFields, column_of_id, has_value, is_kept_column, record_fits, values_fit, values_of}
@@ -23,6 +23,7 @@ use Rattle.stored_variants.specs.VersionsKept.{IsBookmarkOf, IsStoredRule}
 use Rattle.common_lemmas.proofs.Found.{of_found}
 use Rattle.common_lemmas.proofs.Lists.{all_stronger, all_weaker}
 use Rattle.common_lemmas.proofs.Booleans.{and_left, and_right}
+use Rattle.stored_variants.proofs.TakenRecords.{refusals_in}
 
 abbrev pub with_columns : List Column → GreatestColumns → Rows → Table → Table
 with_columns columns greatest rows t = record t { columns = columns; greatest = greatest; rows = rows }
@@ -60,10 +61,7 @@ rules_then columns greatest rows t rules same = all_both (IsStoredRule t) (SameC
 
 -- ---- records
 
-abbrev pub refusals : Schema → RecordFields → List IndexRule → Refusals
-refusals schema values rules = flat_map (λ rule. (is_null_refusal (entries rule schema values), jet.NullKeyDisallowed) ∷ (is_cut_refusal (entries rule schema values), jet.KeyTruncated) ∷ []) rules
-
-refusals_same : (one other : Schema) (left right : RecordFields) (rules : List IndexRule) → AllByRecursion (λ rule. entries rule one left ≡ entries rule other right) rules → refusals one left rules ≡ refusals other right rules
+refusals_same : (one other : Schema) (left right : RecordFields) (rules : List IndexRule) → AllByRecursion (λ rule. entries rule one left ≡ entries rule other right) rules → refusals_in one left rules ≡ refusals_in other right rules
 refusals_same one other left right [] h = refl
 refusals_same one other left right (rule ∷ rules) h =
     λ i. (is_null_refusal (h.0 i), jet.NullKeyDisallowed) ∷ (is_cut_refusal (h.0 i), jet.KeyTruncated) ∷ refusals_same one other left right rules h.1 i

@@ -7,12 +7,10 @@ use Rattle.database_state.specs.State.{is_undone, undone}
 use Rattle.long_references.specs.ReferenceCounts.{references_before}
 use Rattle.version_store.specs.HeldChanges.{HeldChange, undone_at, with_status}
 use Rattle.stored_variants.specs.CountedValues.{row_before, rows_before}
+use Rattle.common_lemmas.proofs.Options.{same_some}
 
 none_change : {A : Type 0} (x : HeldChange) → None ≡ Some x → A
 none_change x e = cc
-
-same_change : (x y : HeldChange) → Some x ≡ Some y → x ≡ y
-same_change x y e = cc
 
 -- a change that holds no row refers to no value
 pub no_references : (id : List ℕ) (h : HeldChange) → h.before ≡ None → references_before id (row_before h) ≡ 0
@@ -32,7 +30,7 @@ none_counts id table zero h (x ∷ held) at none = by (x.table == table)
     rest = filter (λ (y : HeldChange). y.table == table) held
 
     no_row : x.before ≡ None
-    no_row = ap (λ (y : HeldChange). y.before) (same_change x h at) ∙ none
+    no_row = ap (λ (y : HeldChange). y.before) (same_some x h at) ∙ none
 
     by : (b : Bool) → sum_by (references_before id) (map row_before (cond b (with_status undone x ∷ rest) rest)) ≡ sum_by (references_before id) (map row_before (cond b (x ∷ rest) rest))
     by true =

@@ -1,19 +1,16 @@
 -- The oldest held change is forgotten.
-use Rattle.std.proofs.Common.{◌≡◌, ℕ, ◌<◌, ◌≤◌, zero, suc, ◌+◌, Bool, true, false, not, ◌&&◌, ◌||◌, ◌⊎◌, inl, inr, cond, List, [], ◌∷◌, length, take, drop, Option, Some, None, Result, Ok, Err, find, filter, map, option_map, refl, sym, ap, subst, ◌∙◌, arith}
-use Rattle.std.specs.Prelude.{◌==◌, IfSome, IsOk, MatchOption, is_none, is_some, nat_lt, flat_map, slice_get, sum_by, IsSome}
+use Rattle.std.proofs.Common.{◌≡◌, ℕ, ◌<◌, ◌≤◌, zero, suc, ◌+◌, Bool, true, false, not, ◌&&◌, ◌||◌, ◌⊎◌, inl, inr, cond, List, [], ◌∷◌, length, take, drop, Option, Some, None, find, filter, map, option_map, refl, sym, ap, subst, ◌∙◌, arith}
+use Rattle.std.specs.Prelude.{◌==◌, IfSome, IsOk, MatchOption, is_some, nat_lt, slice_get, sum_by, IsSome}
 use Rattle.std.specs.List.{AllByRecursion, list_any}
-use Rattle.column_set.specs.Refusals.{Refusals, first_refusal}
 use Rattle.column_set.specs.RecordValues.{RecordFields}
 use Rattle.database_state.specs.Conflicts.{yields_key}
 use Rattle.database_state.specs.Lawful.{is_indexable}
-use Rattle.database_state.specs.Puts.{is_cut_refusal, is_null_refusal}
 use Rattle.database_state.specs.State.{is_undone}
 use Rattle.database_state.specs.Table.{Table, primary_rule, row_at, rule_with_id, schema_of, table_with_id}
 use Rattle.derived_index.specs.KeptEntries.{has_entry}
-use Rattle.jet_base.specs.declared.replies.Jet.TheVariants as jet
 use Rattle.index_derive.specs.declared.rules.IndexRule.{IndexRule}
 use Rattle.index_derive.specs.declared.rules.Schema.{Schema}
-use Rattle.index_derive.specs.Entries.{KeyRefusal, NullKeyDisallowed, KeyTruncated, entries, is_legal, primary_key}
+use Rattle.index_derive.specs.Entries.{entries, is_legal, primary_key}
 use Rattle.jet_catalog.specs.Catalog.{CatalogState, IsNumbered, ids_rise}
 use Rattle.page_image.specs.Page.{Node}
 use Rattle.table_trees.specs.StoredTables.{StoredTable, index_entries, table_long_values, table_nodes}
@@ -43,29 +40,9 @@ use Rattle.stored_variants.proofs.CountedRows.{first_of_other, first_of_table}
 use Rattle.variant_trees.proofs.CountedUndone.{no_references}
 use Rattle.variant_trees.proofs.EntryTrees.{other_number}
 use Rattle.variant_trees.proofs.Released.{named_is_there}
+use Rattle.stored_variants.proofs.TakenRecords.{record_taken}
 
 -- ---- the keys of a row that an index took
-
-pub no_refusal : (r : Result (List (List ℕ)) KeyRefusal) → is_null_refusal r ≡ false → is_cut_refusal r ≡ false → IsOk r
-no_refusal (Ok keys) a b = refl
-no_refusal (Err NullKeyDisallowed) a b = impossible (sym a)
-no_refusal (Err KeyTruncated) a b = impossible (sym b)
-
-pub record_taken : (schema : Schema) (values : RecordFields) (rules : List IndexRule)
-    → is_none (first_refusal (flat_map (λ (rule : IndexRule). (is_null_refusal (entries rule schema values), jet.NullKeyDisallowed) ∷ (is_cut_refusal (entries rule schema values), jet.KeyTruncated) ∷ []) rules)) ≡ true
-    → AllByRecursion (λ rule. IsOk (entries rule schema values)) rules
-record_taken schema values [] e = tt
-record_taken schema values (rule ∷ rules) e = by (is_null_refusal (entries rule schema values)) (is_cut_refusal (entries rule schema values)) refl refl e (record_taken schema values rules)
-  where
-    rest : Refusals
-    rest = flat_map (λ (rule : IndexRule). (is_null_refusal (entries rule schema values), jet.NullKeyDisallowed) ∷ (is_cut_refusal (entries rule schema values), jet.KeyTruncated) ∷ []) rules
-
-    by : (a b : Bool) → is_null_refusal (entries rule schema values) ≡ a → is_cut_refusal (entries rule schema values) ≡ b
-        → is_none (cond a (Some jet.NullKeyDisallowed) (cond b (Some jet.KeyTruncated) (first_refusal rest))) ≡ true
-        → (is_none (first_refusal rest) ≡ true → AllByRecursion (λ r. IsOk (entries r schema values)) rules) → IsOk (entries rule schema values) × AllByRecursion (λ r. IsOk (entries r schema values)) rules
-    by true b f g e next = impossible e
-    by false true f g e next = impossible e
-    by false false f g e next = (no_refusal (entries rule schema values) f g, next e)
 
 rules_have : (table : Table) (schema : Schema) (values : RecordFields) (rules : List IndexRule) → schema ≡ schema_of table → AllByRecursion (IsStoredRule table) rules → AllByRecursion (λ rule. IsOk (entries rule schema values)) rules → AllByRecursion (HasKeysOf schema values) rules
 rules_have table schema values [] same stored taken = tt

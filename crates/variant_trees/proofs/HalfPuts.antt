@@ -62,7 +62,7 @@ row_stays table bookmark keys old new half =
     by false None = refl
     by false (Some row) = refl
 
-own_place : (table : ℕ) (bookmark : List ℕ) → is_place table bookmark table bookmark ≡ true
+pub own_place : (table : ℕ) (bookmark : List ℕ) → is_place table bookmark table bookmark ≡ true
 own_place table bookmark = λ i. self_equal table i && equal_bytes bookmark bookmark refl i
 
 pub node_is_there : (table : ℕ) (bookmark : List ℕ) (keys : Keys) (old new : List StoredTable) → IsHalfPut table bookmark keys old new → is_some (get_in (table_nodes new table) bookmark) ≡ true

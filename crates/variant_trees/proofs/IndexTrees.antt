@@ -24,17 +24,18 @@ use Rattle.stored_variants.specs.RecordRows.{TableValues, record_of, row_under}
 use Rattle.stored_variants.specs.SchemaSteps.{IsIndexFor, IsMade}
 use Rattle.stored_variants.specs.VersionsKept.{AreKeptWith, IsKeptTable, IsRowUnder, needed_trees, secondary_rules, tree_numbers}
 use Rattle.stored_variants.specs.VersionsView.{with_newest_by}
-use Rattle.variant_trees.proofs.Forgotten.{distinct_ids, no_refusal}
+use Rattle.variant_trees.proofs.Forgotten.{distinct_ids}
 use Rattle.variant_trees.proofs.LeftNodes.{numbers_needed}
-use Rattle.variant_trees.proofs.MadeIndexes.{apart_from, tree_of_index}
+use Rattle.variant_trees.proofs.MadeIndexes.{tree_of_index}
 use Rattle.variant_trees.proofs.NewEntries.{changed_twice}
 use Rattle.variant_trees.proofs.NewIndexes.{AreWithIndex, index_created, row_taken}
 use Rattle.stored_variants.proofs.NodeRecords.{record_at}
-use Rattle.variant_trees.proofs.Stepping.{map_last}
+use Rattle.variant_trees.proofs.Stepping.{map_last, apart_from}
 use Rattle.stored_variants.proofs.Tables.{found_number, table_at}
 use Rattle.variant_trees.proofs.TreeNumbers.{changed_numbers, same_indexes}
 use Rattle.stored_variants.specs.CountedValues.{AreCounted}
 use Rattle.variant_trees.specs.GoneKeys.{KeepsValues}
+use Rattle.stored_variants.proofs.TakenRecords.{no_refusal}
 
 -- ---- laws of trees
 

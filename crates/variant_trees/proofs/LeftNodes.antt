@@ -7,7 +7,7 @@ use Rattle.common_lemmas.proofs.Booleans.{and_left, and_right, impossible}
 use Rattle.common_lemmas.proofs.Numbers.{bytes_turned, same_bytes, self_equal}
 use Rattle.btree_inplace.specs.Order.{extent_in, get_in, has_key}
 use Rattle.column_set.specs.RecordValues.{RecordFields}
-use Rattle.database_state.specs.State.{Status, uncommitted, committed, undone, is_open, is_undone}
+use Rattle.database_state.specs.State.{is_open}
 use Rattle.database_state.specs.Table.{Rows, Table, row_at, rule_with_id, schema_of, table_with_id}
 use Rattle.derived_index.specs.KeptEntries.{has_entry}
 use Rattle.index_derive.specs.declared.rules.IndexRule.{IndexRule}
@@ -24,6 +24,7 @@ use Rattle.stored_variants.specs.VersionsView.{with_newest_by}
 use Rattle.stored_variants.specs.VersionsKept.{AreKeptWith, IsKeptChange, IsKeptTable, IsRowUnder, needed_trees, only_secondary, secondary_rule, tree_numbers}
 use Rattle.variant_trees.proofs.EntryTrees.{no_part, other_number}
 use Rattle.stored_variants.proofs.Tables.{found_number}
+use Rattle.stored_variants.proofs.ChangesKept.{open_stands}
 
 -- ---- numbers
 
@@ -217,11 +218,6 @@ table_kept_then longs newest held schema id bookmark gone old between new goes i
         ∙ ap (λ (rows : Rows). is_variant_key (row_at rows own) held rule (schema_of t) t.id key own) (sym (rows_stay longs newest held schema id bookmark gone old between new goes t.id))
 
 -- ---- held changes
-
-open_stands : (s : Status) → is_open s ≡ true → is_undone s ≡ false
-open_stands uncommitted e = refl
-open_stands (committed n) e = impossible e
-open_stands undone e = impossible e
 
 -- an open change with a row before it leaves a variant
 leaves_one : (longs : TableValues) (tables : List Table) (trees : List StoredTable) (id : ℕ) (bookmark : List ℕ) (h : HeldChange) → IsKeptChange longs tables trees h → is_open h.status ≡ true → is_some h.before ≡ true → is_this id bookmark h.table h.bookmark ≡ true

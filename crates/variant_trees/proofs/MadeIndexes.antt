@@ -4,7 +4,6 @@ use Rattle.std.specs.Prelude.{◌==◌, IfSome, IsSomeAnd, is_some, unwrap_or}
 use Rattle.std.specs.List.{AllByRecursion, list_any}
 use Rattle.std.proofs.lemmas.Bool.{eqb-true, not-true}
 use Rattle.common_lemmas.proofs.Lists.{all_each, all_filter, all_weaker, filter_swap}
-use Rattle.common_lemmas.proofs.Numbers.{self_equal}
 use Rattle.common_lemmas.proofs.Booleans.{impossible}
 use Rattle.common_lemmas.proofs.Finding.{find_none}
 use Rattle.database_state.specs.SchemaChanges.{without_index}
@@ -25,7 +24,7 @@ use Rattle.stored_variants.specs.SchemaSteps.{IsMade}
 use Rattle.stored_variants.specs.VersionsKept.{AreKeptWith, IsKeptTable, IsRowUnder, IsStoredRule, needed_trees, only_secondary, secondary_rule, secondary_rules, tree_numbers}
 use Rattle.stored_variants.specs.VersionsView.{with_newest_by}
 use Rattle.variant_trees.proofs.OtherRules.{Takes, row_as, rule_as, yields_as}
-use Rattle.variant_trees.proofs.Stepping.{IsSettled, StepsTo, changed_at, made_with_values, kept_of, map_filter, map_same, map_table, moved, newest_same, plain_table, settled_of}
+use Rattle.variant_trees.proofs.Stepping.{IsSettled, StepsTo, changed_at, made_with_values, kept_of, map_filter, map_same, map_table, moved, newest_same, plain_table, settled_of, apart_from}
 use Rattle.stored_variants.proofs.Tables.{found_number}
 use Rattle.variant_trees.proofs.TreeNumbers.{changed_numbers, first_or_none, index_numbers, others}
 use Rattle.stored_variants.specs.CountedValues.{AreCounted}
@@ -121,9 +120,6 @@ pub record OldIndexLaws : Type 0 where
   pub others : (tables : List StoredTable) (table index other : ℕ) → other ≢ index → index_entries (without_tree table index tables) table other ≡ index_entries tables table other
   pub nodes : (tables : List StoredTable) (table other : ℕ) (indexes : List StoredIndex) → table_nodes (with_indexes table indexes tables) other ≡ table_nodes tables other
   pub tables : (tables : List StoredTable) (table other : ℕ) (indexes : List StoredIndex) → other ≢ table → table_indexes (with_indexes table indexes tables) other ≡ table_indexes tables other
-
-pub apart_from : (a b : ℕ) → (a == b) ≡ false → a ≢ b
-apart_from a b e same = impossible (sym e ∙ ap (λ n. n == b) same ∙ self_equal b)
 
 abbrev leaves : ℕ → IndexRule → Bool
 leaves index r = not (r.id.0 == index)

@@ -3,7 +3,7 @@ use Rattle.std.proofs.Common.{◌≡◌, ◌≢◌, ◌<◌, ℕ, Bool, true, fa
 use Rattle.std.specs.Prelude.{◌==◌, IfSome, is_some, nat_le, nat_lt}
 use Rattle.std.proofs.lemmas.Bool.Decides.{nat_tests}
 use Rattle.std.proofs.lemmas.Bool.{eqb-true}
-use Rattle.common_lemmas.proofs.Booleans.{and_left, and_right, impossible}
+use Rattle.common_lemmas.proofs.Booleans.{and_left, and_right}
 use Rattle.common_lemmas.proofs.Numbers.{self_equal}
 use Rattle.common_lemmas.proofs.Lists.{all_each}
 use Rattle.database_state.specs.SchemaChanges.{new_table}
@@ -22,7 +22,7 @@ use Rattle.stored_variants.specs.SchemaSteps.{IsMade}
 use Rattle.stored_variants.specs.VersionsKept.{AreKeptWith, IsKeptTable, needed_trees, tree_numbers}
 use Rattle.stored_variants.specs.VersionsView.{with_newest_by}
 use Rattle.stored_variants.proofs.Dropped.{has_trees}
-use Rattle.variant_trees.proofs.Stepping.{IsSettled, StepsTo, if_some, is_made, made_with_values, kept_of, map_filter, map_last, map_same, moved, newest_same, settled_of}
+use Rattle.variant_trees.proofs.Stepping.{IsSettled, StepsTo, if_some, is_made, made_with_values, kept_of, map_filter, map_last, map_same, moved, newest_same, settled_of, apart_from}
 use Rattle.stored_variants.proofs.Tables.{found_number, no_nodes}
 use Rattle.stored_variants.specs.CountedValues.{BringsNoValue, newest_rows, AreCounted}
 use Rattle.variant_trees.specs.GoneKeys.{KeepsValues}
@@ -112,9 +112,6 @@ pub record OldTableLaws : Type 0 where
 
 abbrev stays : ℕ → Table → Bool
 stays id t = not (t.id == id)
-
-apart_from : (a b : ℕ) → (a == b) ≡ false → a ≢ b
-apart_from a b e same = impossible (sym e ∙ ap (λ n. n == b) same ∙ self_equal b)
 
 pub gone : (id : ℕ) (tables : List Table) → table_with_id (filter (stays id) tables) id ≡ None
 gone id [] = refl

@@ -18,7 +18,7 @@ use Rattle.table_trees.specs.StoredTables.{StoredIndex, StoredTable, has_table, 
 use Rattle.stored_variants.specs.PutRecords.{Keys}
 use Rattle.stored_variants.specs.RecordRows.{row_in_node, row_under}
 use Rattle.variant_trees.specs.PutStages.{HasKeys, HasNewRow, IsHalfPut, IsNewPut, IsPut, IsWidened, MayHaveKeys, is_place, node_at_least}
-use Rattle.variant_trees.proofs.HalfPuts.{values_given}
+use Rattle.variant_trees.proofs.HalfPuts.{values_given, own_place}
 use Rattle.variant_trees.proofs.KeysPut.{may_have}
 use Rattle.variant_trees.proofs.RoomMade.{NodeLaws, data_of, extent_of, found_then, no_less, same_table_numbers}
 
@@ -145,9 +145,6 @@ new_put_done table bookmark row given keys old mid ready new node has long =
           ∙ has.entries index key own
           ∙ ap (λ es. has_entry key own es || (bytes_eq own bookmark && keys index key)) (ap (λ (indexes : List StoredIndex). part_of (is_index index) (λ x. x.1) indexes) (node.indexes table));
     }
-
-own_place : (table : ℕ) (bookmark : List ℕ) → is_place table bookmark table bookmark ≡ true
-own_place table bookmark = λ i. self_equal table i && equal_bytes bookmark bookmark refl i
 
 pub new_node_is_there : (table : ℕ) (bookmark row : List ℕ) (keys : Keys) (old new : List StoredTable) → IsNewPut table bookmark row keys old new → is_some (get_in (table_nodes new table) bookmark) ≡ true
 new_node_is_there table bookmark row keys old new put = ap is_some (put.rows table bookmark) ∙ ap (λ b. is_some (cond b (Some row) (get_in (table_nodes old table) bookmark))) (own_place table bookmark)

@@ -6,7 +6,7 @@ use Rattle.common_lemmas.proofs.Options.{none_some, same_some}
 use Rattle.common_lemmas.proofs.Booleans.{and_right, impossible}
 use Rattle.btree_inplace.specs.Order.{extent_in}
 use Rattle.database_state.specs.Changes.{tables_after}
-use Rattle.database_state.specs.State.{Status, uncommitted, committed, undone, is_open, is_undone}
+use Rattle.database_state.specs.State.{undone, is_open, is_undone}
 use Rattle.database_state.specs.Table.{Table, schema_of, table_with_id}
 use Rattle.index_derive.specs.declared.rules.Schema.{Schema}
 use Rattle.table_trees.specs.StoredTables.{table_long_values, StoredTable, table_nodes}
@@ -22,7 +22,7 @@ use Rattle.variant_trees.specs.GoneKeys.{AreRows}
 use Rattle.variant_trees.specs.UndoneChanges.{CanPutBack, IsBack, IsUndone, WasOpen}
 use Rattle.stored_variants.specs.VersionsKept.{AreKeptWith, IsKeptChange, IsKeptTable, IsRowUnder}
 use Rattle.stored_variants.specs.VersionsView.{with_newest_by}
-use Rattle.stored_variants.proofs.ChangesKept.{SameVariants, changes_kept}
+use Rattle.stored_variants.proofs.ChangesKept.{SameVariants, changes_kept, open_stands}
 use Rattle.variant_trees.proofs.Forgotten.{are_rows, has_keys, short_bookmark}
 use Rattle.stored_variants.proofs.Tables.{unchanged}
 use Rattle.variant_trees.proofs.Refilled.{all_undone, undone_kept}
@@ -98,11 +98,6 @@ rows_now tables trees now place table held h was =
     P : HeldChange → Type 0
     P x = is_standing x ≡ true → IfSome x.before (IsRecordRow (table_long_values trees x.table))
 
-stands : (s : Status) → is_open s ≡ true → not (is_undone s) ≡ true
-stands uncommitted e = refl
-stands (committed n) e = impossible e
-stands undone e = impossible e
-
 pub can_put_back : (tables : List Table) (trees : List StoredTable) (now : List HeldChange) (place table : ℕ) (held : List HeldChange) (h : HeldChange) → WasOpen tables trees now place table held h → is_rewrite h.kind ≡ true → (schema : Schema) → IsSomeAnd (table_with_id tables table) (λ t. schema ≡ schema_of t)
     → CanPutBack schema table trees now place (with_status undone h)
 can_put_back tables trees now place table held h was rewrites schema same = record {
@@ -111,7 +106,7 @@ can_put_back tables trees now place table held h was rewrites schema same = reco
   row =
       subst (λ (n : ℕ). IfSome h.before (IsRecordRow (table_long_values trees n))) was.named
       (all_place (λ (x : HeldChange). is_standing x ≡ true → IfSome x.before (IsRecordRow (table_long_values trees x.table))) held place h (are_rows (table_long_values trees) tables trees held was.kept) was.at
-      (λ i. rewrites i && stands h.status was.is_uncommitted i));
+      (λ i. rewrites i && not (open_stands h.status was.is_uncommitted i)));
   room = subst (λ (n : ℕ). IfSome h.before (λ row. IsSomeAnd (extent_in (table_nodes trees n) h.bookmark) (λ extent. length row ≤ extent))) was.named ((all_place (IsKeptChange (table_long_values trees) tables trees) held place h was.kept.changes was.at).room was.is_uncommitted);
   newest = of (table_with_id tables table) same (was.kept.each table) (row_under (table_nodes trees table) h.bookmark) refl;
 }
@@ -128,7 +123,7 @@ pub was_undone : (tables : List Table) (trees : List StoredTable) (now : List He
 was_undone tables trees now place table held h was rewrites = record { at = was.at; rewrites = rewrites; is_uncommitted = was.is_uncommitted; after = was.after }
 
 pub before_is : (longs : TableValues) (h : HeldChange) → is_rewrite h.kind ≡ true → is_open h.status ≡ true → (held_record_in longs h).before ≡ option_map (record_of (longs h.table)) h.before
-before_is longs h rewrites is_uncommitted = λ i. cond (rewrites i && stands h.status is_uncommitted i) (option_map (record_of (longs h.table)) h.before) None
+before_is longs h rewrites is_uncommitted = λ i. cond (rewrites i && not (open_stands h.status is_uncommitted i)) (option_map (record_of (longs h.table)) h.before) None
 
 pub always_found : {A : Type 0} (tables : List Table) (trees : List StoredTable) (now : List HeldChange) (place table : ℕ) (held : List HeldChange) (h : HeldChange) → WasOpen tables trees now place table held h → None ≡ table_with_id tables table → A
 always_found tables trees now place table held h was none =

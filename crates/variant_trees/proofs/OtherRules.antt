@@ -20,8 +20,8 @@ use Rattle.version_keys.proofs.IndexNumbers.{all_primary_first}
 use Rattle.version_keys.proofs.SameColumns.{SameAt, entries_same, legal_same, primary_key_same, yields_same}
 use Rattle.stored_variants.specs.VersionsKept.{IsRowUnder, IsStoredRule}
 use Rattle.stored_variants.specs.RecordRows.{record_of}
-use Rattle.variant_trees.proofs.ChangedColumns.{refusals}
 use Rattle.long_value.specs.Values.{Values}
+use Rattle.stored_variants.proofs.TakenRecords.{refusals_in}
 
 abbrev pub with_rules : List IndexRule → Table → Table
 with_rules rules t = record t { indexes = rules }
@@ -47,21 +47,21 @@ yields_as t rules rule key (Some values) = yields_same rule (schema_of (with_rul
 abbrev pub Takes : Schema → RecordFields → IndexRule → Type 0
 Takes schema values rule = (is_null_refusal (entries rule schema values) ≡ false) × (is_cut_refusal (entries rule schema values) ≡ false)
 
-each_takes : (schema : Schema) (values : RecordFields) (rules : List IndexRule) → is_none (first_refusal (refusals schema values rules)) ≡ true → AllByRecursion (Takes schema values) rules
+each_takes : (schema : Schema) (values : RecordFields) (rules : List IndexRule) → is_none (first_refusal (refusals_in schema values rules)) ≡ true → AllByRecursion (Takes schema values) rules
 each_takes schema values [] h = tt
 each_takes schema values (rule ∷ rules) h = by (is_null_refusal (entries rule schema values)) refl (is_cut_refusal (entries rule schema values)) refl h (each_takes schema values rules)
   where
     by : (a : Bool) → is_null_refusal (entries rule schema values) ≡ a → (b : Bool) → is_cut_refusal (entries rule schema values) ≡ b
-        → is_none (cond a (Some jet.NullKeyDisallowed) (cond b (Some jet.KeyTruncated) (first_refusal (refusals schema values rules)))) ≡ true
-        → (is_none (first_refusal (refusals schema values rules)) ≡ true → AllByRecursion (Takes schema values) rules) → AllByRecursion (Takes schema values) (rule ∷ rules)
+        → is_none (cond a (Some jet.NullKeyDisallowed) (cond b (Some jet.KeyTruncated) (first_refusal (refusals_in schema values rules)))) ≡ true
+        → (is_none (first_refusal (refusals_in schema values rules)) ≡ true → AllByRecursion (Takes schema values) rules) → AllByRecursion (Takes schema values) (rule ∷ rules)
     by true e b f h rest = impossible h
     by false e true f h rest = impossible h
     by false e false f h rest = ((e, f), rest h)
 
-all_take : (schema : Schema) (values : RecordFields) (rules : List IndexRule) → AllByRecursion (Takes schema values) rules → is_none (first_refusal (refusals schema values rules)) ≡ true
+all_take : (schema : Schema) (values : RecordFields) (rules : List IndexRule) → AllByRecursion (Takes schema values) rules → is_none (first_refusal (refusals_in schema values rules)) ≡ true
 all_take schema values [] h = refl
 all_take schema values (rule ∷ rules) h =
-    (λ i. is_none (cond (h.0.0 i) (Some jet.NullKeyDisallowed) (cond (h.0.1 i) (Some jet.KeyTruncated) (first_refusal (refusals schema values rules))))) ∙ all_take schema values rules h.1
+    (λ i. is_none (cond (h.0.0 i) (Some jet.NullKeyDisallowed) (cond (h.0.1 i) (Some jet.KeyTruncated) (first_refusal (refusals_in schema values rules))))) ∙ all_take schema values rules h.1
 
 -- a record that may be indexed is one that each index takes
 pub takes_of : (t : Table) (values : RecordFields) → is_indexable (schema_of t) values ≡ true → AllByRecursion (Takes (schema_of t) values) t.indexes

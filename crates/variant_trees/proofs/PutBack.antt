@@ -1,10 +1,9 @@
 -- What the store keeps and shows once the row before an undone change is back.
 use Rattle.std.proofs.Common.{◌≡◌, ℕ, Bool, true, false, not, ◌&&◌, ◌||◌, cond, List, [], ◌∷◌, Option, Some, None, map, option_map, refl, sym, ap, subst, ◌∙◌}
 use Rattle.std.specs.Prelude.{◌==◌, IfSome, bytes_eq, is_some}
-use Rattle.std.specs.declared.cmp.Ordering.TheVariants.{Equal}
 use Rattle.std.specs.Ordering.{nat_cmp, is_eq}
 use Rattle.std.specs.Cmp.Lexicographic.{slice_cmp, nat_list_cmp_total, texts_ties}
-use Rattle.std.specs.FinMap.Entries.{find-put, is_sorted-put, same_entries}
+use Rattle.std.specs.FinMap.Entries.{find-put, is_sorted-put}
 use Rattle.std.proofs.lemmas.Bool.{eqb-true}
 use Rattle.common_lemmas.proofs.Booleans.{and_left, and_right, impossible}
 use Rattle.common_lemmas.proofs.Numbers.{bytes_turned, equal_turned, same_bytes}
@@ -28,9 +27,9 @@ use Rattle.variant_trees.specs.LeftVariants.{is_this}
 use Rattle.variant_trees.specs.UndoneChanges.{tables_put_back}
 use Rattle.stored_variants.specs.VersionsView.{with_newest_by}
 use Rattle.stored_variants.specs.VersionsKept.{AreKeptWith, IsKeptChange, IsKeptTable, secondary_rule}
-use Rattle.stored_variants.proofs.Dropped.{TreeLaws, same_numbers, rows_emptied}
-use Rattle.stored_variants.proofs.RisingRows.{rows_rise}
-use Rattle.variant_trees.proofs.Refilled.{Fills, Undoes, all_undone, filled, nodes_filled, record_back, record_filled, room_filled, rows_back, same_index, there_filled, undone_kept, undone_same}
+use Rattle.stored_variants.proofs.Dropped.{TreeLaws, same_numbers, rows_emptied, same_index}
+use Rattle.stored_variants.proofs.RisingRows.{rows_rise, same_rows}
+use Rattle.variant_trees.proofs.Refilled.{Fills, Undoes, all_undone, filled, nodes_filled, record_back, record_filled, room_filled, rows_back, there_filled, undone_kept, undone_same}
 use Rattle.stored_variants.proofs.Tables.{found_number}
 
 -- ---- where there was no newest record
@@ -128,12 +127,6 @@ kept_unchanged longs trees held place h row undoes before none tables kept = rec
         (table_unchanged longs trees held place h row undoes before none t (subst (λ (n : ℕ). IsKeptTable trees (longs n) (table_nodes trees n) (map (held_record_in longs) held) t) (sym found) is))
 
 -- ---- what it shows
-
-equal_keys : (x y : List ℕ) → slice_cmp nat_cmp x y ≡ Equal → x ≡ y
-equal_keys x y e = same_bytes x y (texts_ties x y ∙ ap is_eq e)
-
-same_rows : (a b : Rows) → RowsRise a → RowsRise b → ((own : List ℕ) → row_at a own ≡ row_at b own) → a ≡ b
-same_rows a b one other same = same_entries (slice_cmp nat_cmp) nat_list_cmp_total equal_keys a b one other same
 
 pub rows_filled : (longs : TableValues) (laws : TreeLaws) (trees : List StoredTable) (id : ℕ) (bookmark row : List ℕ) → Fills laws trees id bookmark row → (other : ℕ)
     → rows_of_nodes (longs other) (table_nodes (filled trees id bookmark row) other) ≡ cond (other == id) (rows_with (rows_of_nodes (longs other) (table_nodes trees other)) bookmark (option_map (record_of (longs id)) (row_in_node row))) (rows_of_nodes (longs other) (table_nodes trees other))

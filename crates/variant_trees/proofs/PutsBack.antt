@@ -6,12 +6,10 @@ use Rattle.std.proofs.lemmas.Bool.{eqb-true}
 use Rattle.common_lemmas.proofs.Numbers.{same_bytes, self_equal}
 use Rattle.common_lemmas.proofs.Booleans.{impossible}
 use Rattle.btree_inplace.specs.Order.{extent_in, get_in}
-use Rattle.cursor_nav.specs.Places.{are_sorted}
 use Rattle.database_state.specs.State.{undone}
 use Rattle.database_state.specs.Table.{Table, row_at}
 use Rattle.index_derive.specs.declared.rules.Schema.{Schema}
 use Rattle.record_changes.proofs.Tests.{equal_bytes}
-use Rattle.table_trees.specs.StoredNodes.{bookmark_entries}
 use Rattle.table_trees.specs.StoredTables.{table_long_values, StoredTable, table_nodes}
 use Rattle.version_store.specs.HeldChanges.{HeldChange, undone_at, with_status}
 use Rattle.column_set.specs.RowReading.{row_in}
@@ -30,9 +28,7 @@ use Rattle.variant_trees.proofs.OpenUndone.{all_place}
 use Rattle.variant_trees.proofs.PutBack.{kept_back, kept_unchanged, tables_back, tables_unchanged}
 use Rattle.variant_trees.proofs.Refilled.{Fills, Undoes, change_back, filled, row_filled}
 use Rattle.variant_trees.proofs.UndoneThere.{node_of_extent, node_of_row, room_for, row_in_bytes, same_at, undone_there}
-
-abbrev pub AreSorted : List StoredTable → Type 0
-AreSorted trees = (table : ℕ) → are_sorted (bookmark_entries (table_nodes trees table)) ≡ true
+use Rattle.stored_variants.proofs.SameRecords.{AreInOrder}
 
 -- What is known once the change's bookmark and the bytes of the row before it are read.
 pub record Reads (schema : Schema) (table : ℕ) (trees : List StoredTable) (now : List HeldChange) (place : ℕ) (bookmark row : List ℕ) : Type 0 where
@@ -146,7 +142,7 @@ all_back laws schema table trees now place bookmark row reads known is tables he
 no_bytes : (row : List ℕ) → (length row == 0) ≡ true → row_in_node row ≡ None
 no_bytes row e = no_byte row e
 
-pub none_back : (schema : Schema) (table : ℕ) (trees : List StoredTable) (now : List HeldChange) (place : ℕ) (bookmark row : List ℕ) → Reads schema table trees now place bookmark row → AreSorted trees
+pub none_back : (schema : Schema) (table : ℕ) (trees : List StoredTable) (now : List HeldChange) (place : ℕ) (bookmark row : List ℕ) → Reads schema table trees now place bookmark row → AreInOrder trees
     → row_under (table_nodes trees table) bookmark ≡ None → (length row == 0) ≡ true → (tables : List Table) (held : List HeldChange) (h : HeldChange) → IsUndone held place h now → AreKeptWith (table_long_values trees) tables trees held → AreKeptWith (table_long_values trees) tables trees now
 none_back schema table trees now place bookmark row reads sorted is empty tables held h was kept =
     subst (AreKeptWith (table_long_values trees) tables trees) (sym was.after)
@@ -169,7 +165,7 @@ shown_back laws schema table trees now place bookmark row reads known tables h a
     own : IsAt table bookmark reads.change
     own = (reads.can.named, reads.is_bookmark)
 
-pub shown_unchanged : (schema : Schema) (table : ℕ) (trees : List StoredTable) (now : List HeldChange) (place : ℕ) (bookmark row : List ℕ) → Reads schema table trees now place bookmark row → AreSorted trees
+pub shown_unchanged : (schema : Schema) (table : ℕ) (trees : List StoredTable) (now : List HeldChange) (place : ℕ) (bookmark row : List ℕ) → Reads schema table trees now place bookmark row → AreInOrder trees
     → row_under (table_nodes trees table) bookmark ≡ None → (length row == 0) ≡ true → (tables : List Table) (h : HeldChange) → slice_get now place ≡ Some h → map (with_newest_by (table_long_values trees) trees) tables ≡ tables_put_back (table_long_values trees table) (map (with_newest_by (table_long_values trees) trees) tables) h
 shown_unchanged schema table trees now place bookmark row reads sorted is empty tables h at =
     subst (λ (x : HeldChange). map (with_newest_by (table_long_values trees) trees) tables ≡ tables_put_back (table_long_values trees table) (map (with_newest_by (table_long_values trees) trees) tables) x) (same_at now place reads.change h reads.can.at at)
@@ -201,7 +197,7 @@ rows_back laws schema table trees now place bookmark row reads known h at other 
         ∙ sym (ap (λ b. cond b (with_row reads.change.bookmark (option_map row_in reads.change.before) (newest_rows (table_nodes trees other))) (newest_rows (table_nodes trees other))) e)
 
 -- where there was none before, and is none, nothing changes
-pub rows_unchanged : (schema : Schema) (table : ℕ) (trees : List StoredTable) (now : List HeldChange) (place : ℕ) (bookmark row : List ℕ) → Reads schema table trees now place bookmark row → AreSorted trees
+pub rows_unchanged : (schema : Schema) (table : ℕ) (trees : List StoredTable) (now : List HeldChange) (place : ℕ) (bookmark row : List ℕ) → Reads schema table trees now place bookmark row → AreInOrder trees
     → row_under (table_nodes trees table) bookmark ≡ None → (length row == 0) ≡ true → (h : HeldChange) → slice_get now place ≡ Some h → (other : ℕ) → newest_rows (table_nodes trees other) ≡ rows_put_back h table other (newest_rows (table_nodes trees other))
 rows_unchanged schema table trees now place bookmark row reads sorted is empty h at other =
     by (table == other) refl ∙ ap (λ (x : HeldChange). rows_put_back x table other (newest_rows (table_nodes trees other))) (same_at now place reads.change h reads.can.at at)

@@ -10,13 +10,13 @@ use Rattle.btree_inplace.specs.Order.{extent_in, get_in, has_key}
 use Rattle.column_set.specs.RecordValues.{RecordFields}
 use Rattle.cursor_nav.specs.Places.{are_sorted}
 use Rattle.database_state.specs.Conflicts.{yields_key}
-use Rattle.database_state.specs.State.{Status, uncommitted, committed, undone, is_open, is_undone}
+use Rattle.database_state.specs.State.{undone, is_open, is_undone}
 use Rattle.database_state.specs.Table.{Table, row_at, schema_of, table_with_id}
 use Rattle.derived_index.specs.KeptEntries.{has_entry}
 use Rattle.index_derive.specs.declared.rules.IndexRule.{IndexRule}
 use Rattle.page_image.specs.Page.{Node}
 use Rattle.table_trees.specs.StoredNodes.{bookmark_entries, put_data}
-use Rattle.table_trees.specs.StoredTables.{StoredIndex, StoredTable, has_table, index_entries, is_index, part_of, table_nodes, with_nodes}
+use Rattle.table_trees.specs.StoredTables.{StoredTable, has_table, index_entries, table_nodes, with_nodes}
 use Rattle.version_store.specs.HeldChanges.{HeldChange, is_rewrite, undone_at, with_status}
 use Rattle.versioned_tables.specs.HeldRecords.{HeldRecord, is_standing_rewrite}
 use Rattle.versioned_tables.specs.Variants.{HoldsVariants, has_variant, is_variant_key}
@@ -24,10 +24,12 @@ use Rattle.stored_variants.specs.RecordRows.{TableValues, some_before, held_reco
 use Rattle.variant_trees.specs.GoneKeys.{is_gone_key}
 use Rattle.variant_trees.specs.LeftVariants.{AreLeft, IsLeft, is_this}
 use Rattle.stored_variants.specs.VersionsKept.{AreKeptWith, IsKeptChange, IsKeptTable, IsRowUnder, secondary_rule}
-use Rattle.stored_variants.proofs.Dropped.{TreeLaws, same_numbers}
+use Rattle.stored_variants.proofs.Dropped.{TreeLaws, same_numbers, same_index}
 use Rattle.variant_trees.proofs.EntryTrees.{other_number}
 use Rattle.stored_variants.proofs.NodeRecords.{record_at}
 use Rattle.stored_variants.proofs.Tables.{found_number}
+use Rattle.common_lemmas.proofs.Options.{same_some, none_some}
+use Rattle.stored_variants.proofs.ChangesKept.{open_stands}
 
 -- the trees with another row in a node
 abbrev pub filled : List StoredTable → ℕ → List ℕ → List ℕ → List StoredTable
@@ -120,24 +122,13 @@ record_filled longs laws trees id bookmark row fills other own =
 
 -- ---- an undone change among the others
 
-open_stands : (s : Status) → is_open s ≡ true → not (is_undone s) ≡ true
-open_stands uncommitted e = refl
-open_stands (committed n) e = impossible e
-open_stands undone e = impossible e
-
-same_change : (x y : HeldChange) → Some x ≡ Some y → x ≡ y
-same_change x y e = cc
-
-none_change : {A : Type 0} (x : HeldChange) → None ≡ Some x → A
-none_change x e = cc
-
 -- what the change adds to the variants is gone with it
 pub undone_before : (longs : TableValues) (test : Option RecordFields → Bool) (table : ℕ) (own : List ℕ) (h : HeldChange) → is_rewrite h.kind ≡ true → is_open h.status ≡ true → (held : List HeldChange) (place : ℕ) → slice_get held place ≡ Some h
     → some_before test table own (map (held_record_in longs) held) ≡ ((is_this h.table h.bookmark table own && test (option_map (record_of (longs h.table)) h.before)) || some_before test table own (map (held_record_in longs) (undone_at (Some place) held)))
-undone_before longs test table own h rewrites is_uncommitted [] place at = none_change h at
+undone_before longs test table own h rewrites is_uncommitted [] place at = none_some h at
 undone_before longs test table own h rewrites is_uncommitted (x ∷ held) zero at =
     subst (λ (y : HeldChange). some_before test table own (map (held_record_in longs) (y ∷ held)) ≡ ((is_this h.table h.bookmark table own && test (option_map (record_of (longs h.table)) h.before)) || some_before test table own (map (held_record_in longs) (with_status undone y ∷ held))))
-    (sym (same_change x h at)) first
+    (sym (same_some x h at)) first
   where
     stood : (this w u : Bool) → w ≡ true → u ≡ true → (((this && w) && u) && test (cond (w && u) (option_map (record_of (longs h.table)) h.before) None)) ≡ (this && test (option_map (record_of (longs h.table)) h.before))
     stood true true true e f = refl
@@ -152,7 +143,7 @@ undone_before longs test table own h rewrites is_uncommitted (x ∷ held) zero a
 
     first : some_before test table own (map (held_record_in longs) (h ∷ held)) ≡ ((is_this h.table h.bookmark table own && test (option_map (record_of (longs h.table)) h.before)) || some_before test table own (map (held_record_in longs) (with_status undone h ∷ held)))
     first =
-        ap (λ b. b || some_before test table own (map (held_record_in longs) held)) (stood (is_this h.table h.bookmark table own) (is_rewrite h.kind) (not (is_undone h.status)) rewrites (open_stands h.status is_uncommitted))
+        ap (λ b. b || some_before test table own (map (held_record_in longs) held)) (stood (is_this h.table h.bookmark table own) (is_rewrite h.kind) (not (is_undone h.status)) rewrites (ap not (open_stands h.status is_uncommitted)))
         ∙ sym (ap (λ b. (is_this h.table h.bookmark table own && test (option_map (record_of (longs h.table)) h.before)) || (b || some_before test table own (map (held_record_in longs) held))) (none (is_this h.table h.bookmark table own) (is_rewrite h.kind) (test (held_record_in longs (with_status undone h)).before)))
 undone_before longs test table own h rewrites is_uncommitted (x ∷ held) (suc place) at =
     ap (λ b. (is_standing_rewrite table own (held_record_in longs x) && test (held_record_in longs x).before) || b) (undone_before longs test table own h rewrites is_uncommitted held place at)
@@ -273,14 +264,11 @@ rows_back longs laws trees held place h row undoes fills tables kept t found row
         subst (λ (b : List ℕ). IfSome h.before (IsRowUnder (longs t.id) t b)) (same_bytes h.bookmark own (and_right (h.table == t.id) (bytes_eq h.bookmark own) e))
         (subst (λ (n : ℕ). IfSome h.before (IsRowUnder (longs n) t h.bookmark)) same
         (subst (λ (o : Option Table). IfSome o (λ u. IfSome h.before (IsRowUnder (longs h.table) u h.bookmark))) (ap (table_with_id tables) same ∙ found)
-        (kept.before (λ i. undoes.rewrites i && open_stands h.status undoes.is_uncommitted i))))
+        (kept.before (λ i. undoes.rewrites i && not (open_stands h.status undoes.is_uncommitted i)))))
 
     by : (b : Bool) → is_this h.table h.bookmark t.id own ≡ b → IfSome (cond b (row_in_node row) (row_under (table_nodes trees t.id) own)) (IsRowUnder (longs t.id) t own)
     by true e = subst (λ (o : Option (List ℕ)). IfSome o (IsRowUnder (longs t.id) t own)) (sym undoes.before) (before e)
     by false e = rows own
-
-pub same_index : (laws : TreeLaws) (trees : List StoredTable) (id : ℕ) (nodes : List Node) (other index : ℕ) → index_entries (with_nodes id nodes trees) other index ≡ index_entries trees other index
-same_index laws trees id nodes other index = ap (λ (indexes : List StoredIndex). part_of (is_index index) (λ x. x.1) indexes) (laws.indexes trees id other nodes)
 
 table_back : (longs : TableValues) (laws : TreeLaws) (trees : List StoredTable) (held : List HeldChange) (place : ℕ) (h : HeldChange) (row : List ℕ) → Undoes held place h row → Fills laws trees h.table h.bookmark row → (gone : RecordFields)
     → row_at (rows_of_nodes (longs h.table) (table_nodes trees h.table)) h.bookmark ≡ Some gone → (tables : List Table) → IsKeptChange longs tables trees h → (t : Table) → table_with_id tables t.id ≡ Some t → IsKeptTable trees (longs t.id) (table_nodes trees t.id) (map (held_record_in longs) held) t

@@ -1,5 +1,5 @@
 -- What a schema step makes of the tables of the catalog beside their trees, while no change is held.
-use Rattle.std.proofs.Common.{◌≡◌, ℕ, Bool, true, false, cond, List, [], ◌∷◌, ◌++◌, Option, Some, None, filter, map, option_map, refl, sym, ap, subst, ◌∙◌}
+use Rattle.std.proofs.Common.{◌≡◌, ℕ, Bool, true, false, cond, List, [], ◌∷◌, ◌++◌, Option, Some, None, filter, map, option_map, refl, sym, ap, subst, ◌∙◌, ◌≢◌}
 use Rattle.std.specs.Prelude.{◌==◌, IfSome}
 use Rattle.std.proofs.lemmas.Bool.{eqb-true}
 use Rattle.database_state.specs.SchemaChanges.{tables_after_step}
@@ -21,6 +21,11 @@ use Rattle.long_value.specs.Values.{value_of, Values}
 use Rattle.stored_variants.specs.CountedValues.{newest_rows, BringsNoValue, AreCounted}
 use Rattle.variant_trees.specs.GoneKeys.{KeepsValues}
 use Rattle.long_references.specs.ReferenceCounts.{HasCounts}
+use Rattle.common_lemmas.proofs.Booleans.{impossible}
+use Rattle.common_lemmas.proofs.Numbers.{self_equal}
+
+pub apart_from : (a b : ℕ) → (a == b) ≡ false → a ≢ b
+apart_from a b e same = impossible (sym e ∙ ap (λ n. n == b) same ∙ self_equal b)
 
 -- ---- tables while no change is held
 

@@ -41,7 +41,7 @@ use Rattle.variant_trees.specs.LeftVariants.{is_this}
 use Rattle.stored_variants.specs.VersionsKept.{AreKept, AreKeptWith, IsBookmarkOf, IsKeptChange, IsKeptTable, IsRowUnder, IsStoredRule, only_secondary}
 use Rattle.stored_variants.specs.VersionsView.{with_newest, with_newest_by}
 use Rattle.variant_trees.proofs.ChangedColumns.{SameFields, indexable_then, own_then}
-use Rattle.stored_variants.proofs.Dropped.{TreeLaws, same_numbers}
+use Rattle.stored_variants.proofs.Dropped.{TreeLaws, same_numbers, same_index}
 use Rattle.stored_variants.proofs.RowRecords.{row-fits, row-formed}
 use Rattle.stored_variants.proofs.NodeRecords.{record_at}
 use Rattle.variant_trees.specs.GoneKeys.{KeepsValues}
@@ -50,7 +50,7 @@ use Rattle.stored_variants.specs.CountedValues.{AreCounted}
 use Rattle.column_set.specs.declared.changes.Change.{Change}
 use Rattle.variant_trees.proofs.RowsSummed.{names_put, record_put, stands_here, whole_put}
 use Rattle.variant_trees.proofs.PutBack.{rows_filled}
-use Rattle.variant_trees.proofs.Refilled.{Fills, filled, record_filled, room_filled, row_filled, same_index, there_filled}
+use Rattle.variant_trees.proofs.Refilled.{Fills, filled, record_filled, room_filled, row_filled, there_filled}
 use Rattle.common_lemmas.proofs.Found.{of_found}
 use Rattle.common_lemmas.proofs.Options.{same_some}
 use Rattle.common_lemmas.proofs.Booleans.{and_left, and_right, impossible}
@@ -61,6 +61,7 @@ use Rattle.variant_trees.proofs.UndoneThere.{fills, node_of_row}
 use Rattle.long_references.specs.RowReferences.{identifiers}
 use Rattle.long_rows.specs.WholeRows.{is_whole, record_in}
 use Rattle.long_value.specs.Values.{Values}
+use Rattle.stored_variants.proofs.SameRecords.{AreInOrder}
 
 -- laws of rows
 pub record SumLaws : Type 0 where
@@ -323,9 +324,6 @@ took (x ∷ front) rest = ap (λ (xs : List ℕ). x ∷ xs) (took front rest)
 pub written_over : (was now : List ℕ) → length now ≡ length was → refill (length was) was now ≡ now
 written_over was now e = ap (λ n. take n (now ++ drop (length now) was)) (sym e) ∙ took now (drop (length now) was)
 
-abbrev AreSorted : List StoredTable → Type 0
-AreSorted trees = (table : ℕ) → are_sorted (bookmark_entries (table_nodes trees table)) ≡ true
-
 -- The row in a node was written over with the sum of its number and another.
 abbrev pub IsWritten : List ℕ → ℕ → ℕ → List ℕ → Type 0
 IsWritten row column addend now =
@@ -338,7 +336,7 @@ pub record IsDone (tables : List Table) (trees other : List StoredTable) (held :
   pub counts : AreCounted trees held → AreCounted other held
 
 pub sum_done : SumLaws → (laws : TreeLaws) (trees other : List StoredTable) (table : TableId) (bookmark row : List ℕ) (column : ColumnId) (addend : ℕ) (now : List ℕ) → row_under (table_nodes trees table.0) bookmark ≡ Some row
-    → AreSorted trees → AreSorted other → other ≡ filled trees table.0 bookmark now → IsWritten row column.0 addend now → (tables : List Table) (held : List HeldChange) → IsSomeAnd (table_with_id tables table.0) (λ t. is_escrow_column (schema_of t) column.0 ≡ true)
+    → AreInOrder trees → AreInOrder other → other ≡ filled trees table.0 bookmark now → IsWritten row column.0 addend now → (tables : List Table) (held : List HeldChange) → IsSomeAnd (table_with_id tables table.0) (λ t. is_escrow_column (schema_of t) column.0 ≡ true)
     → AreKeptWith (table_long_values trees) tables trees held → (amount : ℤ) → cast_unsigned w32 amount ≡ addend → IsDone tables trees other held (Add table bookmark column amount)
 sum_done rows laws trees other table bookmark row column addend now under sorted sorted_then done written tables held named kept amount is = by (table_with_id tables table.0) refl named (kept.each table.0)
   where

@@ -2,10 +2,9 @@
 use Rattle.std.proofs.Common.{◌≡◌, ℕ, ◌<◌, Bool, true, false, cond, List, Option, Some, map, option_map, refl, sym, ap, subst, ◌∙◌}
 use Rattle.std.specs.Prelude.{◌==◌, ◌++◌, ◌∷◌, IfSome, IsSome, is_some}
 use Rattle.std.proofs.lemmas.Bool.{eqb-true}
-use Rattle.common_lemmas.proofs.Booleans.{impossible}
 use Rattle.column_set.specs.RecordValues.{lookup_by_key}
 use Rattle.column_set.specs.RowReading.{row_in}
-use Rattle.database_state.specs.State.{Status, committed, is_open, is_undone, uncommitted, undone}
+use Rattle.database_state.specs.State.{undone}
 use Rattle.database_state.specs.Table.{Table, table_with_id}
 use Rattle.kept_rows.specs.ValuesChanged.{HasLongValues}
 use Rattle.long_references.specs.ReferenceCounts.{AreRows, HasCounts, NewestRows, RowBefore, as_undone, with_all_released, with_row}
@@ -28,15 +27,11 @@ use Rattle.variant_trees.proofs.EntryTrees.{other_number}
 use Rattle.variant_trees.proofs.OpenUndone.{all_place, before_is}
 use Rattle.variant_trees.proofs.PutBack.{inverse_back}
 use Rattle.variant_trees.proofs.Released.{Releases, named_is_there, no_value_came, still_held, still_kept, still_shown}
+use Rattle.stored_variants.proofs.ChangesKept.{open_stands}
 
 abbrev pub UndoneLaw : Type 0
 UndoneLaw = (values : Values) (rows : NewestRows) (earlier later : List RowBefore) (change : RowBefore) → AreRows rows → change.is_undone ≡ false
     → HasCounts values rows (earlier ++ change ∷ later) → HasCounts (with_all_released (identifiers (lookup_by_key change.bookmark rows)) values) (with_row change.bookmark change.row rows) (earlier ++ as_undone change ∷ later)
-
-not_undone : (s : Status) → is_open s ≡ true → is_undone s ≡ false
-not_undone uncommitted e = refl
-not_undone (committed n) e = impossible e
-not_undone undone e = impossible e
 
 pub undone_counted : UndoneLaw → (tables : List Table) (old mid new : List StoredTable) (now : List HeldChange) (place table : ℕ) (held : List HeldChange) (h : HeldChange) → WasOpen tables old now place table held h → AreInOrder old → KeepsValues old mid
     → ((other : ℕ) → newest_rows (table_nodes mid other) ≡ rows_put_back h table other (newest_rows (table_nodes old other)))
@@ -71,7 +66,7 @@ undone_counted law tables old mid new now place table held h was sorted values r
         (subst (HasCounts (table_long_values new n) (with_row h.bookmark (option_map row_in h.before) (own_rows n))) (sym u.is)
         (subst (λ (v : Values). HasCounts v (with_row h.bookmark (option_map row_in h.before) (own_rows n)) (u.earlier ++ as_undone (row_before h) ∷ u.later))
         (ap (λ (names : List (List ℕ)). with_all_released names (table_long_values old n)) (named n e) ∙ sym now_has)
-        (law (table_long_values old n) (own_rows n) u.earlier u.later (row_before h) (own_rows_are (table_nodes old n) (sorted n)) (not_undone h.status was.is_uncommitted)
+        (law (table_long_values old n) (own_rows n) u.earlier u.later (row_before h) (own_rows_are (table_nodes old n) (sorted n)) (open_stands h.status was.is_uncommitted)
         (subst (HasCounts (table_long_values old n) (own_rows n)) u.was (was.counts n)))))
     by n false e =
         let other : (h.table == n) ≡ false = ap (λ m. m == n) was.named ∙ e in

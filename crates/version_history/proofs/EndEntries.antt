@@ -27,7 +27,7 @@ use Rattle.version_history.specs.Readers.{is_standing, was_committed}
 use Rattle.version_history.proofs.Befores.{at}
 use Rattle.version_history.proofs.Beginning.{keeps_changed}
 use Rattle.version_history.proofs.Ending.{keeps_cleaned, keeps_committed, keeps_lowered}
-use Rattle.version_history.proofs.Entries.{history_later, history_moved}
+use Rattle.version_history.proofs.Entries.{history_later, history_moved, passed_own}
 use Rattle.version_history.proofs.Keeping.{Follows, passed_followed, passed_later, with_at}
 use Rattle.version_history.proofs.SeenRecords.{are_there, folded, newest_records, of_kept, open_after}
 use Rattle.version_history.proofs.Transactions.{transaction-ended, transaction-levels}
@@ -36,14 +36,6 @@ use Rattle.version_history.proofs.Viewing.{same_there}
 map_same : {X : Type 0} (f : X → X) (xs : List X) → AllByRecursion (λ x. f x ≡ x) xs → map f xs ≡ xs
 map_same f [] h = refl
 map_same f (x ∷ xs) h = λ i. h.0 i ∷ map_same f xs h.1 i
-
-passed_closed : (n : ℕ) (transactions : ℕ → Option Transaction) (s : Status) → IsPassedBy n transactions s → is_open s ≡ false
-passed_closed n transactions uncommitted h = absurd h
-passed_closed n transactions (committed m) h = refl
-passed_closed n transactions undone h = refl
-
-passed_own : (n : ℕ) (transactions : ℕ → Option Transaction) (label : ℕ) (item : PastChange) → IsPassed n transactions item → is_open_change_of label item ≡ false
-passed_own n transactions label item h = ap (λ b. b && (item.session == label)) (passed_closed n transactions item.status h)
 
 -- ---- a level released
 

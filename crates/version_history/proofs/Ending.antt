@@ -19,6 +19,7 @@ use Rattle.version_history.proofs.Befores.{at, befores-map}
 use Rattle.version_history.proofs.Keeping.{apart_moved, some_at, some_map, with_at}
 use Rattle.version_history.proofs.Lists.{each_map}
 use Rattle.version_history.proofs.Viewing.{same_there}
+use Rattle.version_history.proofs.SeenRecords.{own_open}
 
 -- ---- all open changes of a session committed
 
@@ -71,9 +72,6 @@ commit_unseen session n t le item = elim (is_open_change_of session item) as (λ
     none uncommitted e = refl
     none (committed k) e = impossible e
     none undone e = refl
-
-own_open : (session : ℕ) (item : PastChange) → is_open_change_of session item ≡ true → is_open item.status ≡ true
-own_open session item e = and_left _ _ e
 
 -- one that is committed, and one that is not
 pub order_committed : (Meet : PastChange → PastChange → Type 0) (session n : ℕ) (transactions : ℕ → Option Transaction) (p q : PastChange) → (Meet (committed_own session (n + 1) p) (committed_own session (n + 1) q) → Meet p q)

@@ -12,10 +12,10 @@ use Rattle.database_state.specs.Table.{Table}
 use Rattle.database_state.specs.State.{DatabaseState, PastChange, LiveSession, Transaction, Status, uncommitted, committed, undone, is_open, is_open_change_of, live_session, transaction_of, levels_of, levels, with_session}
 use Rattle.database_state.specs.Step.{entered, left, with_transaction, began, at_levels, with_levels, with_changes_at, is_at_level, every_change, innermost_undone, all_undone}
 use Rattle.record_changes.specs.Records.{Records}
-use Rattle.version_history.specs.History.{IsBegun, IsHistory, IsOpenIn, IsPassed, IsPassedBy, IsPlaced, IsPlacedBy, KeepsHistory, LevelsRise}
+use Rattle.version_history.specs.History.{IsBegun, IsHistory, IsOpenIn, IsPassed, IsPassedBy, IsPlaced, KeepsHistory, LevelsRise}
 use Rattle.version_history.specs.KeptSteps.{is_own_open, undone_where, with_next_number}
 use Rattle.version_history.proofs.Beginning.{keeps_begun, passed_begun}
-use Rattle.version_history.proofs.Keeping.{Follows, StaysOpen, goes_apart, keeps_followed, keeps_later, keeps_undone, passed_followed, passed_later, with_at}
+use Rattle.version_history.proofs.Keeping.{Follows, StaysOpen, goes_apart, keeps_followed, keeps_later, keeps_undone, passed_followed, passed_later, with_at, open_in}
 use Rattle.version_history.proofs.Lists.{all_both}
 use Rattle.version_history.proofs.Transactions.{same-with, transaction-begun, transaction-ended, transaction-entered, transaction-left, transaction-levels}
 
@@ -58,11 +58,6 @@ follows_at n tables base kept transactions begun label u f x =
       | true ↦ λ e. subst (λ (k : ℕ). Follows (transactions k) u) (sym (eqb-true x label e)) f
       | false ↦ λ e. follows_self n tables base kept (transactions x) (begun x)
     ] refl
-
-open_in : (n : ℕ) (transactions : ℕ → Option Transaction) (item : PastChange) (s : Status) → is_open s ≡ true → IsPlacedBy n transactions item s → IsOpenIn item (transactions item.session)
-open_in n transactions item uncommitted e h = h
-open_in n transactions item (committed m) e h = impossible e
-open_in n transactions item undone e h = impossible e
 
 stays_at : (n : ℕ) (tables : List Table) (transactions : ℕ → Option Transaction) (label : ℕ) (u : Option Transaction) (item : PastChange) → IsPlaced n tables transactions item
     → (is_open_change_of label item ≡ true → IsOpenIn item (transactions label) → IsOpenIn item u) → StaysOpen (with_at label u transactions) item
@@ -135,7 +130,7 @@ passed_closed n transactions (committed m) h = refl
 passed_closed n transactions undone h = refl
 
 -- what passed is open for no one
-passed_own : (n : ℕ) (transactions : ℕ → Option Transaction) (label : ℕ) (item : PastChange) → IsPassed n transactions item → is_open_change_of label item ≡ false
+pub passed_own : (n : ℕ) (transactions : ℕ → Option Transaction) (label : ℕ) (item : PastChange) → IsPassed n transactions item → is_open_change_of label item ≡ false
 passed_own n transactions label item h = ap (λ b. b && (item.session == label)) (passed_closed n transactions item.status h)
 
 pub history_undone : (base : Records) (dropped kept : List PastChange) (label : ℕ) (test : PastChange → Bool) (state : DatabaseState)

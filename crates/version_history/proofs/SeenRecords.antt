@@ -122,5 +122,5 @@ newest_records base dropped kept state h =
 
 -- ---- what a session sees
 
-own_open : (session : ℕ) (item : PastChange) → is_open_change_of session item ≡ true → is_open item.status ≡ true
+pub own_open : (session : ℕ) (item : PastChange) → is_open_change_of session item ≡ true → is_open item.status ≡ true
 own_open session item e = and_left _ _ e

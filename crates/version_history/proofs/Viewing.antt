@@ -13,10 +13,7 @@ use Rattle.version_history.specs.History.{IsBegun, IsHistory, IsOpenIn, IsPlaced
 use Rattle.version_history.specs.Readers.{found_record, hides, is_unseen, sees, until, was_committed}
 use Rattle.version_history.proofs.FoundRecord.{found}
 use Rattle.version_history.proofs.SeenEarlier.{seen_earlier}
-use Rattle.version_history.proofs.SeenRecords.{folded, newest_records, of_kept, open_after}
-
-own_open : (session : ℕ) (item : PastChange) → is_open_change_of session item ≡ true → is_open item.status ≡ true
-own_open session item e = and_left _ _ e
+use Rattle.version_history.proofs.SeenRecords.{folded, newest_records, of_kept, open_after, own_open}
 
 -- ---- outside a transaction
 

@@ -77,7 +77,7 @@ abbrev restored : Change → Option RecordFields → Records → Records
 restored change before records table bookmark = cond (is_change_of table bookmark change) before (records table bookmark)
 
 -- a test of the very record
-at_itself : (change : Change) → is_change_of (changed_table change) (changed_bookmark change) change ≡ true
+pub at_itself : (change : Change) → is_change_of (changed_table change) (changed_bookmark change) change ≡ true
 at_itself change = ap (λ b. b && bytes_eq (changed_bookmark change) (changed_bookmark change)) (self_equal (changed_table change)) ∙ equal_bytes (changed_bookmark change) (changed_bookmark change) refl
 
 -- what holds of the change's own record holds where the test says so

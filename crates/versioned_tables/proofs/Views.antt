@@ -19,6 +19,7 @@ use Rattle.versioned_tables.specs.Holding.{AllRise, Holds, RecordsRise, Snapshot
 use Rattle.versioned_tables.proofs.FoundRecords.{seen_is_found}
 use Rattle.versioned_tables.proofs.Rising.{all_seen_rise, all_tables_rise, same_table}
 use Rattle.versioned_tables.proofs.SeenRows.{seen_at}
+use Rattle.versioned_tables.proofs.SeenTables.{seen_at_id}
 
 -- ---- definitions and order
 
@@ -57,15 +58,6 @@ view_rises state rise session = view_rises_by state rise session (transaction_of
 
 -- ---- records
 
-seen_found : (reader : Reader) (held : List HeldRecord) (tables : List Table) (id : ℕ) → table_with_id (map (seen_table reader held) tables) id ≡ option_map (seen_table reader held) (table_with_id tables id)
-seen_found reader held [] id = refl
-seen_found reader held (t ∷ tables) id = by (t.id == id) (seen_found reader held tables id)
-  where
-    by : (b : Bool) → table_with_id (map (seen_table reader held) tables) id ≡ option_map (seen_table reader held) (table_with_id tables id)
-        → cond b (Some (seen_table reader held t)) (table_with_id (map (seen_table reader held) tables) id) ≡ option_map (seen_table reader held) (cond b (Some t) (table_with_id tables id))
-    by true rest = refl
-    by false rest = rest
-
 pub no_record : (tables : List Table) (id : ℕ) (bookmark : List ℕ) → is_some (table_with_id tables id) ≡ false → record_in tables id bookmark ≡ None
 no_record tables id bookmark e = by (table_with_id tables id) e
   where
@@ -82,7 +74,7 @@ FindsItsRecord =
 pub seen_records : FindsItsRecord → (base : Records) (dropped kept : List PastChange) (store : VersionedTables) (state : DatabaseState) → Holds base dropped kept store state → HasNoSums kept → (reader : Reader) → reader.begin ≡ begin_of (transaction_of state reader.session.0)
     → (id : ℕ) (bookmark : List ℕ) → record_in (seen_tables reader store) id bookmark ≡ record_in (view state reader.session.0) id bookmark
 seen_records finds base dropped kept store state h none reader e id bookmark =
-    ap (λ t. row_at (rows_of t) bookmark) (seen_found reader store.held store.tables id) ∙ by (table_with_id store.tables id) refl
+    ap (λ t. row_at (rows_of t) bookmark) (seen_at_id reader store.held store.tables id) ∙ by (table_with_id store.tables id) refl
   where
     by : (t : Option Table) → table_with_id store.tables id ≡ t → row_at (rows_of (option_map (seen_table reader store.held) t)) bookmark ≡ record_in (view state reader.session.0) id bookmark
     by None f =

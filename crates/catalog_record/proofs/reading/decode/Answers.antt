@@ -1,5 +1,5 @@
 use Rattle.std.proofs.Common.{◌≡◌, Option, Some, None, sym, ◌∙◌, arith}
-use Rattle.log_grammar.proofs.Laws.{some_is}
+use Rattle.column_set.specs.NumberReading.{some_is}
 use Rattle.log_record.specs.EntrySeen.{Fails}
 use Rattle.log_record.specs.declared.fault.EntryFault.{EntryFault}
 use Rattle.log_record.specs.declared.fault.EntryFault.TheVariants.{BadEntry, OutOfMemory}

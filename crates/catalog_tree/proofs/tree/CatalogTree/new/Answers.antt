@@ -5,7 +5,7 @@ use Rattle.btree_inplace.specs.Trees.{nodes_of, pages_of}
 use Rattle.catalog_grammar.specs.CatalogBytes.{catalog_node, item_node}
 use Rattle.catalog_grammar.specs.declared.items.CatalogItem.TheVariants as item
 use Rattle.catalog_record.specs.Buffers.{NodeText}
-use Rattle.catalog_tree.proofs.Exchanging.{exchanges_then}
+use Rattle.btree_inplace.specs.ExchangeLaws.{exchanges_then}
 use Rattle.catalog_tree.proofs.tree.CatalogTree.new.Goals as goal
 
 pub returns-in-Ok-clause-ok : goal.returns-in-Ok-clause-ok

@@ -1,10 +1,9 @@
 -- The walk goes on from the change's own slot, which is that of its record.
 use Rattle.std.proofs.Common.{◌≡◌, ℕ, ◌+◌, ◌-◌, ◌<◌, List, [], map, length, get_or, take, sym, ap, subst, ◌∙◌, arith}
 use Rattle.std.specs.Prelude.{slice_get}
-use Rattle.std.proofs.lemmas.List.{get_or-map, length-map}
+use Rattle.std.proofs.lemmas.List.{length-map}
 use Rattle.common_lemmas.proofs.Options.{same_some}
-use Rattle.version_store.specs.declared.item.Item.{Item}
-use Rattle.version_store.specs.Chained.{Walk, latest}
+use Rattle.version_store.specs.Chained.{Walk}
 use Rattle.version_store.specs.HeldChanges.{HeldChange, is_standing_rewrite, last_place}
 use Rattle.version_store.specs.Items.{held_change, item_slot}
 use Rattle.version_store.specs.Kept.{held}
@@ -13,21 +12,7 @@ use Rattle.version_store.proofs.HeldLemmas.{held_slot, held-item, length-held, s
 use Rattle.version_store.proofs.RecordLemmas.{standing-slot}
 use Rattle.version_store.proofs.WalkLemmas.{last-before, place-below, walk-falls, walk-step}
 use Rattle.version_store.proofs.versions.Versions.older_rewrite.Goals as goal
-
--- a walk that stands behind the item at the place
-record Behind (slots : List ℕ) (place : ℕ) (x : Item) (from : ℕ) : Type 0 where
-  walk : Walk (item_slot x) slots (place + 1)
-  next : from ≡ latest (get_or slots (place + 1 - 1) 0) (take (place + 1 - 1) slots)
-
-behind : (items : List Item) (slots : List ℕ) (place from : ℕ) (x : Item) → slots ≡ map item_slot items → place < length items → x ≡ get_or items place x → from ≡ latest (get_or slots place 0) (take place slots) → Behind slots place x from
-behind items slots place from x are within is next =
-    let same : place + 1 - 1 ≡ place = omega arith in
-    let count : length slots ≡ length items = ap (length {A = ℕ}) are ∙ length-map items item_slot in
-    let slot : get_or slots place 0 ≡ item_slot x = ap (λ (l : List ℕ). get_or l place 0) are ∙ get_or-map item_slot items place x 0 within ∙ ap item_slot (sym is) in
-    record {
-      walk = record { within = omega (arith, count, within); on_slot = λ (h : 0 < place + 1). ap (λ (n : ℕ). get_or slots n 0) same ∙ slot };
-      next = next ∙ sym (ap (λ (n : ℕ). latest (get_or slots n 0) (take n slots)) same);
-    }
+use Rattle.version_store.proofs.EarlierWalks.{behind}
 
 pub before-from-requires : goal.before-from-requires
 before-from-requires c =

@@ -1,4 +1,4 @@
--- What is found in lists: cursors by label, columns by number, and the values of a column.
+-- Laws of what is found in lists: cursors by label, columns by number, and the values of a column.
 use Rattle.std.proofs.Common.{◌≡◌, ℕ, ◌+◌, ◌≤◌, ◌==◌, Bool, true, false, cond, not, ◌&&◌, ◌||◌, List, [], ◌∷◌, length, map, find, Option, Some, None, refl, sym, ap, ◌∙◌, unwrap_or, arith}
 use Rattle.std.specs.List.{list_all, list_any}
 use Rattle.std.specs.Ordering.{nat_cmp, is_eq}

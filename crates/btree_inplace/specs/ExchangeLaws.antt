@@ -1,4 +1,4 @@
--- Changes of pages one behind the other.
+-- Laws of exchanged pages: one exchange behind another is one.
 use Rattle.std.proofs.Common.{ℕ, suc, ◌⊎◌, inl, inr, List, [], ◌∷◌, sym, ◌∙◌, arith}
 use Rattle.std.specs.Prelude.{Contains}
 use Rattle.std.proofs.lemmas.Bool.{cases_eq}
