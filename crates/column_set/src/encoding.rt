@@ -56,7 +56,7 @@ fn put_head(bytes: &mut Vec<u8>, column: u16, form: u8, count: u16) -> Result<()
 }
 
 /// Writes a value that stands in its row, with its column.
-fn put_here(bytes: &mut Vec<u8>, column: u16, here: &[u8]) -> Result<(), AllocError>
+pub(crate) fn put_here(bytes: &mut Vec<u8>, column: u16, here: &[u8]) -> Result<(), AllocError>
     requires { length here.now ≤ 255 }
     ensures { OnOk result (bytes.new.items ≡ bytes.old.items ++ value_bytes (column, RowValue.Here here.now)) }
 {

@@ -1,8 +1,8 @@
 //! Rows of outside vectors, and bytes that are no row.
 
 use column_set::{
-    Record, Row, RowFault, RowRef, RowValue, Values, decode, encode, is_all_here, is_row,
-    values_here_are_the_record,
+    Record, Row, RowFault, RowRef, RowValue, Values, decode, encode, encode_record, is_all_here,
+    is_row, values_here_are_the_record,
 };
 use jet_base::{ColumnId, Octets, OutOfMemory};
 use std::alloc::Global;
@@ -12,6 +12,11 @@ use std::test::*;
 /// The row {1: 02000000, 128: "bob"}.
 const BOB: [u8; 19] = [
     2, 0, 1, 0, 0, 4, 0, 2, 0, 0, 0, 128, 0, 0, 3, 0, b'b', b'o', b'b',
+];
+
+/// The row with an empty value more in column 128.
+const BOB_TWICE: [u8; 24] = [
+    3, 0, 1, 0, 0, 4, 0, 2, 0, 0, 0, 128, 0, 0, 3, 0, b'b', b'o', b'b', 128, 0, 0, 0, 0,
 ];
 
 /// The row {256: a value of 300 bytes, which entry 7 wrote at its place 2}.
@@ -165,12 +170,40 @@ fn add(rt: &impl Abort, alloc: Global, record: &mut Record, column: ColumnId, by
     record.push_value(column, value).expect(rt, "memory");
 }
 
+/// Whether no value of a record is kept apart, and its row is these bytes.
+fn has_row(alloc: Global, record: &Record, bytes: &[u8]) -> bool {
+    if !is_all_here(record) {
+        return false;
+    }
+    match encode_record(alloc, record) {
+        Ok(written) => written.as_slice() == bytes,
+        Err(_) => false,
+    }
+}
+
 #[test]
-fn a_record_with_a_value_of_256_bytes_is_not_all_in_its_row(rt: HostRuntime) {
+fn the_row_of_a_record_is_written(rt: HostRuntime) {
     let mut record = Record::new(rt.alloc());
     add(&rt, rt.alloc(), &mut record, ColumnId(128), b"bob");
-    assert!(&rt; is_all_here(&record));
+    add(&rt, rt.alloc(), &mut record, ColumnId(1), &[2, 0, 0, 0]);
+    assert!(&rt; has_row(rt.alloc(), &record, &BOB));
+    add(&rt, rt.alloc(), &mut record, ColumnId(128), b"");
+    assert!(&rt; has_row(rt.alloc(), &record, &BOB_TWICE));
     add(&rt, rt.alloc(), &mut record, ColumnId(256), &[97; 256]);
     assert!(&rt; !is_all_here(&record));
     values_here_are_the_record();
+}
+
+#[test]
+fn the_row_of_a_record_has_at_most_1700_bytes(rt: HostRuntime) {
+    let mut record = Record::new(rt.alloc());
+    for _ in 0..7 {
+        add(&rt, rt.alloc(), &mut record, ColumnId(200), &[97; 255]);
+    }
+    if is_all_here(&record) {
+        let written = encode_record(rt.alloc(), &record);
+        assert!(&rt; matches!(written, Err(RowFault::RecordTooBig)));
+    } else {
+        assert!(&rt; false);
+    }
 }
