@@ -6,17 +6,13 @@ use Rattle.jet_base.specs.declared.replies.Jet.{Jet}
 use Rattle.database_state.specs.Refusals.{Refusals, first_refusal}
 use Rattle.version_keys.proofs.SchemaKeys.{unrefused}
 use Rattle.session_local.specs.declared.request.Request.{Request}
-use Rattle.session_local.specs.Answer.{ShownValue}
 use Rattle.session_local.specs.Calls.{answer, answer_begun, answer_not_begun}
 use Rattle.session_local.specs.Local.{OpenCursor, cursor_labelled}
-use Rattle.session_local.specs.Outcome.{Asked, Outcome, at_cursor, on_cursor, said, unless, unless_refused}
+use Rattle.session_local.specs.Outcome.{Asked, Outcome, at_cursor, on_cursor, unless, unless_refused}
 use Rattle.agreeing_sessions.specs.InStep.{IsInStep, StaysInStep}
 
 abbrev pub InStep : Asked → Type 0
 InStep asked = IsInStep asked.state asked.session asked.local
-
-pub said_in_step : (asked : Asked) → IsInStep asked.state asked.session asked.local → (reply : Jet) (shown : ShownValue) → StaysInStep asked (said asked reply shown)
-said_in_step asked step reply shown = step
 
 pub unrefused_in_step : (asked : Asked) → IsInStep asked.state asked.session asked.local → (refusal : Option Jet) (next : Unit {0} → Outcome) → (is_none refusal ≡ true → StaysInStep asked (next tt)) → StaysInStep asked (unless_refused asked refusal next)
 unrefused_in_step asked step None next f = f refl

@@ -17,8 +17,9 @@ use Rattle.version_history.proofs.OtherSessions.{stays_after, view_stays}
 use Rattle.session_local.specs.Agreement.{Agrees}
 use Rattle.session_local.specs.Local.{LocalState}
 use Rattle.lawful_answers.specs.LawfulSteps.{AreLawful}
+use Rattle.lawful_answers.proofs.TableTests.{definitions_stay}
 use Rattle.agreeing_sessions.proofs.Prepared.{AreStorable, all_anywhere, all_stay, same_locks, unlocked_outside}
-use Rattle.agreeing_sessions.proofs.Schemas.{HaveSchemas, definitions_stay, schemas_defined, schemas_kept}
+use Rattle.agreeing_sessions.proofs.Schemas.{HaveSchemas, schemas_defined, schemas_kept}
 use Rattle.agreeing_sessions.proofs.LiveSessions.{others_live}
 
 pub schemas_by_kind : (state : DatabaseState) (label session : ℕ) (local : LocalState) (kind : EntryKind) → is_lawful_kind state label kind ≡ true → Agrees state session local → HaveSchemas (applied label kind (with_next_number state)).tables local.cursors

@@ -38,13 +38,14 @@ use Rattle.session_local.specs.SessionCalls.{begin_session}
 use Rattle.session_local.specs.SessionSide.{are_distinct, label_of}
 use Rattle.lawful_answers.proofs.SessionSteps.{cursor_there, same_members}
 use Rattle.lawful_answers.specs.EntryTypes.{HasRisingColumns}
+use Rattle.lawful_answers.proofs.TableTests.{definitions_stay, is_schema_entry}
 use Rattle.agreeing_sessions.specs.InStep.{IsInStep, StaysInStep}
 use Rattle.agreeing_sessions.proofs.Answering.{at_found, past, unrefused_in_step, when_begun}
 use Rattle.agreeing_sessions.proofs.Counting.{cancelled, counted, counted-last, counted-with_one, counted-without_one, counts}
 use Rattle.agreeing_sessions.proofs.OpenCursors.{counted-without, distinct_filtered, filtered_all, labels_with}
 use Rattle.agreeing_sessions.proofs.Moves.{primary_order_there}
 use Rattle.agreeing_sessions.proofs.Prepared.{AreStorable, all_anywhere, all_stay, same_locks, unlocked_outside}
-use Rattle.agreeing_sessions.proofs.Schemas.{definitions_stay, is_schema, schemas_defined, schemas_kept}
+use Rattle.agreeing_sessions.proofs.Schemas.{schemas_defined, schemas_kept}
 use Rattle.agreeing_sessions.proofs.LiveSessions.{insert_own, keeps_sessions, own_live, with_own}
 
 -- ---- a session's begin and end
@@ -106,7 +107,7 @@ session_ends asked step = when_begun asked call.EndSession (λ e. ends asked) (�
 
 -- ---- entries that leave the session's cursors
 
-pub entry_keeps : (asked : Asked) (kind : EntryKind) → keeps_sessions kind ≡ true → is_schema kind ≡ false → IsInStep asked.state asked.session asked.local → AreStorable (state_after asked.state (entry_of asked kind)) asked.session asked.local.cursors
+pub entry_keeps : (asked : Asked) (kind : EntryKind) → keeps_sessions kind ≡ true → is_schema_entry kind ≡ false → IsInStep asked.state asked.session asked.local → AreStorable (state_after asked.state (entry_of asked kind)) asked.session asked.local.cursors
     → IsInStep (state_after asked.state (entry_of asked kind)) asked.session asked.local
 unfolding state_after
 entry_keeps asked kind plain no_schema step storable =
@@ -134,7 +135,7 @@ schema_unprepared : (c : OpenCursor) (o : Option Table) → HasSchemaOf c o → 
 schema_unprepared c None h = h
 schema_unprepared c (Some t) h = h
 
-entry_drops : (asked : Asked) (kind : EntryKind) → keeps_sessions kind ≡ true → is_schema kind ≡ false → IsInStep asked.state asked.session asked.local → IsInStep (state_after asked.state (entry_of asked kind)) asked.session (without_prepared asked.local)
+entry_drops : (asked : Asked) (kind : EntryKind) → keeps_sessions kind ≡ true → is_schema_entry kind ≡ false → IsInStep asked.state asked.session asked.local → IsInStep (state_after asked.state (entry_of asked kind)) asked.session (without_prepared asked.local)
 unfolding state_after
 entry_drops asked kind plain no_schema step =
     let live = own_live asked.state asked.session kind plain asked.session in

@@ -4,21 +4,18 @@ use Rattle.std.specs.Prelude.{◌==◌, filter, is_none, is_some, map, unwrap_or
 use Rattle.std.specs.List.{AllByRecursion, list_any}
 use Rattle.std.proofs.lemmas.Bool.{eqb-true, false_from_ne_true}
 use Rattle.jet_base.specs.declared.replies.Jet.TheVariants as jet
-use Rattle.index_derive.specs.declared.log.EntryKind.{EntryKind}
 use Rattle.index_derive.specs.declared.log.EntryKind.TheVariants as entry
 use Rattle.index_derive.specs.declared.schema_calls.SchemaStep.{SchemaStep}
 use Rattle.index_derive.specs.declared.schema_calls.SchemaStep.TheVariants as step
 use Rattle.database_state.specs.Table.{Table, table_with_id}
 use Rattle.database_state.specs.SchemaChanges.{is_in_use, makes_table, new_table, schema_refusal, step_refusals, step_table, tables_after_step, with_column, with_index, without_column, without_index}
 use Rattle.database_state.specs.State.{DatabaseState, LiveSession, levels, live_session}
-use Rattle.database_state.specs.Step.{applied}
 use Rattle.record_changes.proofs.Tests.{or_second}
 use Rattle.version_history.specs.History.{without_rows}
-use Rattle.version_history.specs.KeptSteps.{with_next_number}
 use Rattle.version_history.proofs.Lists.{all_both}
 use Rattle.version_keys.proofs.IndexNumbers.{found_in_filter, none_of}
 use Rattle.version_keys.proofs.SchemaKeys.{other_table, unrefused}
-use Rattle.version_keys.proofs.UniqueKept.{id_of, same_tables}
+use Rattle.version_keys.proofs.UniqueKept.{id_of}
 use Rattle.common_lemmas.proofs.Found.{of_found}
 use Rattle.common_lemmas.proofs.Lists.{all_each, all_weaker}
 use Rattle.common_lemmas.proofs.Numbers.{self_equal}
@@ -45,24 +42,6 @@ back_there c (t ∷ tables) id h = elim (t.id == id) as (λ b. HasSchemaOf c (co
 
 pub defined : (c : OpenCursor) (after tables : List Table) → map without_rows after ≡ map without_rows tables → (id : ℕ) → HasSchemaOf c (table_with_id tables id) → HasSchemaOf c (table_with_id after id)
 defined c after tables e id h = there c after id (subst (λ (ts : List Table). HasSchemaOf c (table_with_id ts id)) (sym e) (back_there c tables id h))
-
-abbrev pub is_schema : EntryKind → Bool
-is_schema (entry.Schema made) = true
-is_schema _ = false
-
-pub definitions_stay : (state : DatabaseState) (label : ℕ) (kind : EntryKind) → is_schema kind ≡ false → map without_rows (applied label kind (with_next_number state)).tables ≡ map without_rows state.tables
-definitions_stay state label entry.Enter plain = refl
-definitions_stay state label entry.Leave plain = refl
-definitions_stay state label (entry.Open table) plain = refl
-definitions_stay state label (entry.Shut table) plain = refl
-definitions_stay state label entry.Begin plain = refl
-definitions_stay state label entry.Save plain = refl
-definitions_stay state label (entry.Change change) plain = refl
-definitions_stay state label entry.Release plain = refl
-definitions_stay state label entry.Undo plain = same_tables state label entry.Undo refl
-definitions_stay state label entry.UndoAll plain = refl
-definitions_stay state label entry.Commit plain = same_tables state label entry.Commit refl
-definitions_stay state label (entry.Schema made) plain = impossible (sym plain)
 
 abbrev pub HaveSchemas : List Table → List OpenCursor → Type 0
 HaveSchemas tables cursors = AllByRecursion (λ c. HasSchemaOf c (table_with_id tables c.cursor.table)) cursors

@@ -11,6 +11,7 @@ use Rattle.long_references.specs.RowReferences.{identifier, named_by}
 use Rattle.long_references.specs.ReferenceCounts.{with_all_taken, with_taken}
 use Rattle.long_references.proofs.Taken.{ValueLaws}
 use Rattle.long_references.proofs.Totals.{itself}
+use Rattle.long_references.proofs.Taken.{shared}
 use Rattle.long_rows.specs.KeptRows.{MayTake, Takes}
 use Rattle.long_rows.proofs.Given.{added, among, any_named, named_with, there}
 use Rattle.long_rows.proofs.InUse.{given_back}
@@ -24,9 +25,6 @@ use Rattle.kept_rows.proofs.Changed.{ChangeLaw, changed, then_has}
 use Rattle.kept_rows.proofs.NamedBytes.{Told}
 
 -- ---- one value
-
-shared : (values : Values) (given : List ℕ × List ℕ) → is_some (value_of given.0 values) ≡ true → with_taken values given ≡ with_reference given.0 values
-shared values given t = rw t refl
 
 placed : (values : Values) (given : List ℕ × List ℕ) → is_some (value_of given.0 values) ≡ false → with_taken values given ≡ put_value given.0 (record { count = 1; bytes = given.1 }) values
 placed values given f = rw f refl

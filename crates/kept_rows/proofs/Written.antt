@@ -1,16 +1,15 @@
 -- The row that is written value by value.
-use Rattle.std.proofs.Common.{◌≡◌, ℕ, suc, ◌+◌, ◌-◌, ◌≤◌, ◌^◌, min, Bool, true, false, if◌then◌else◌, Option, List, [], ◌∷◌, ◌++◌, length, map, refl, sym, ap, ◌∙◌, arith}
-use Rattle.std.specs.Prelude.{IfOk, Result, Ok, Err, nat_lt, sum_by}
+use Rattle.std.proofs.Common.{◌≡◌, ℕ, suc, ◌+◌, ◌-◌, ◌≤◌, ◌^◌, min, List, [], ◌∷◌, ◌++◌, length, map, refl, sym, ap, ◌∙◌, arith}
+use Rattle.std.specs.Prelude.{IfOk, Result, Ok, Err, sum_by}
 use Rattle.std.specs.Int.{w16, to_le_bytes}
 use Rattle.std.specs.List.{flat_map}
 use Rattle.std.proofs.lemmas.Grind.{flat_map-append}
 use Rattle.std.proofs.lemmas.List.{append_assoc}
 use Rattle.std.proofs.lemmas.List.Sums.{sum_by-cons}
 use Rattle.column_set.specs.declared.rows.RowValue.{RowValue}
-use Rattle.column_set.specs.declared.rows.RowValue.TheVariants.{Here}
 use Rattle.column_set.specs.RecordValues.{RecordFields, record_size, size_of_value, size_of_values}
 use Rattle.column_set.specs.Rows.{row_bytes, value_bytes, values_in_order}
-use Rattle.long_rows.specs.KeptRows.{Found, kept_fields, kept_row, kept_value, kept_values, next_place, place_after, place_behind, shared, value_apart}
+use Rattle.long_rows.specs.KeptRows.{Found, kept_fields, kept_row, kept_values, next_place, place_after}
 
 pub if_ok : {X Y : Type 0} {A B : X → Type 0} (r : Result X Y) → ((x : X) → A x → B x) → IfOk r A → IfOk r B
 if_ok (Ok x) f a = f x a
@@ -18,42 +17,10 @@ if_ok (Err y) f a = tt
 
 -- ---- one value
 
-pub here_kept : (found : Found) (column at place : ℕ) (v : List ℕ) → nat_lt 255 (length v) ≡ false → kept_value found column at place v ≡ Here v
-here_kept found column at place v short = ap (λ (b : Bool). if b then value_apart (shared found column at v) found.number place (length v) else Here v) short
-
-pub here_next : (found : Found) (column at place : ℕ) (v : List ℕ) → nat_lt 255 (length v) ≡ false → next_place found column at place v ≡ place
-here_next found column at place v short = ap (λ (b : Bool). if b then place_behind (shared found column at v) place else place) short
-
-pub apart_kept : (found : Found) (column at place : ℕ) (v : List ℕ) (o : Option (ℕ × ℕ)) → nat_lt 255 (length v) ≡ true → o ≡ shared found column at v → kept_value found column at place v ≡ value_apart o found.number place (length v)
-apart_kept found column at place v o long is =
-    ap (λ (b : Bool). if b then value_apart (shared found column at v) found.number place (length v) else Here v) long
-    ∙ ap (λ (s : Option (ℕ × ℕ)). value_apart s found.number place (length v)) (sym is)
-
-pub apart_next : (found : Found) (column at place : ℕ) (v : List ℕ) (o : Option (ℕ × ℕ)) → nat_lt 255 (length v) ≡ true → o ≡ shared found column at v → next_place found column at place v ≡ place_behind o place
-apart_next found column at place v o long is =
-    ap (λ (b : Bool). if b then place_behind (shared found column at v) place else place) long
-    ∙ ap (λ (s : Option (ℕ × ℕ)). place_behind s place) (sym is)
-
 -- ---- the values of a column
 
 abbrev pub column_bytes : ℕ → List RowValue → List ℕ
 column_bytes column vs = flat_map value_bytes (map (λ (v : RowValue). (column, v)) vs)
-
-pub values_written : (found : Found) (column at place next : ℕ) (v : List ℕ) (others values : List (List ℕ)) (old mid new : List ℕ) → values ≡ v ∷ others → next ≡ next_place found column at place v
-    → mid ≡ old ++ value_bytes (column, kept_value found column at place v) → new ≡ mid ++ column_bytes column (kept_values found column (suc at) next others)
-    → new ≡ old ++ column_bytes column (kept_values found column at place values)
-values_written found column at place next v others values old mid new split is first rest =
-    let one = value_bytes (column, kept_value found column at place v) in
-    rest
-    ∙ ap (λ (l : List ℕ). l ++ column_bytes column (kept_values found column (suc at) next others)) first
-    ∙ append_assoc old one (column_bytes column (kept_values found column (suc at) next others))
-    ∙ ap (λ (n : ℕ). old ++ (one ++ column_bytes column (kept_values found column (suc at) n others))) is
-    ∙ ap (λ (l : List (List ℕ)). old ++ column_bytes column (kept_values found column at place l)) (sym split)
-
-pub values_next : (found : Found) (column at place next last : ℕ) (v : List ℕ) (others values : List (List ℕ)) → values ≡ v ∷ others → next ≡ next_place found column at place v → last ≡ place_after found column (suc at) next others
-    → last ≡ place_after found column at place values
-values_next found column at place next last v others values split is rest =
-    rest ∙ ap (λ (n : ℕ). place_after found column (suc at) n others) is ∙ ap (place_after found column at place) (sym split)
 
 -- ---- all columns
 

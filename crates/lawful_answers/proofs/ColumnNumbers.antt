@@ -74,9 +74,6 @@ next_above bound v h = grind (arith, nat_tests)
 le_through : (a b c : ℕ) → nat_le a b ≡ true → nat_le b c ≡ true → nat_le a c ≡ true
 le_through a b c h g = grind (arith, nat_tests)
 
-less_through : (a b c : ℕ) → nat_le a b ≡ true → nat_le c b ≡ false → nat_le c a ≡ false
-less_through a b c h g = grind (arith, nat_tests)
-
 -- what a next number of some greatest ones leaves: the numbers stay in range, those that were given stay so, and it is a new one that is now given
 record IsNext (fixed variable tagged n fixed' variable' tagged' : ℕ) : Type 0 where
   range : Ranges fixed' variable' tagged'

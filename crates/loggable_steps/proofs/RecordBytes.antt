@@ -14,6 +14,7 @@ use Rattle.column_set.specs.RecordValues.{RecordFields, column_of_id, size_of_le
 use Rattle.column_set.specs.RecordValues.{record_size}
 use Rattle.column_set.specs.Rows.{record_values_in_order}
 use Rattle.log_grammar.specs.EntryBytes.{value_bytes, value_fits as value_fits_entry}
+use Rattle.log_grammar.proofs.Values.{of_column}
 use Rattle.common_lemmas.proofs.Found.{found_passes}
 use Rattle.common_lemmas.proofs.Booleans.{impossible}
 use Rattle.database_state.specs.Table.{GreatestColumns}
@@ -140,9 +141,6 @@ weighs n h = elim (nat_lt 255 n) as (λ b. nat_lt 255 n ≡ b → 6 + n ≤ 4993
 
 length-value : (value : ℕ × List ℕ) → length (value_bytes value) ≡ 6 + length value.1
 length-value value = omega arith
-
-abbrev of_column : ℕ → List (List ℕ) → List (ℕ × List ℕ)
-of_column column values = map (λ value. (column, value)) values
 
 -- what is asked of the values of a column: bytes, and how many they are
 record AreFew (bytes count size : ℕ) : Type 0 where

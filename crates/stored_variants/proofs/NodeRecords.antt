@@ -73,7 +73,3 @@ no_byte (byte ∷ bytes) e = impossible (sym (not_zero (length bytes)) ∙ e)
   where
     not_zero : (n : ℕ) → (suc n == 0) ≡ false
     not_zero n = grind (arith, nat_tests)
-
-pub some_byte : (bytes : List ℕ) → (length bytes == 0) ≡ false → row_in_node bytes ≡ Some bytes
-some_byte [] e = impossible (sym e)
-some_byte (byte ∷ bytes) e = refl

@@ -231,9 +231,6 @@ lower_number session level item = lowered (λ i. i.number ≡ item.number) sessi
 pub lower_status : (session level : ℕ) (item : PastChange) → (lowered_own session level item).status ≡ item.status
 lower_status session level item = lowered (λ i. i.status ≡ item.status) session level item refl refl
 
-lower_session : (session level : ℕ) (item : PastChange) → (lowered_own session level item).session ≡ item.session
-lower_session session level item = lowered (λ i. i.session ≡ item.session) session level item refl refl
-
 order_lowered : (transactions : ℕ → Option Transaction) (session level : ℕ) (p q : PastChange) → InOrder transactions p q → InOrder transactions (lowered_own session level p) (lowered_own session level q)
 order_lowered transactions session level p q h =
     lowered (λ i. InOrder transactions i (lowered_own session level q)) session level p

@@ -20,9 +20,6 @@ use Rattle.version_history.proofs.Lists.{all_both, each_and, each_both, each_map
 
 -- ---- tests
 
-pub both_no : {A : Type 0} (b : Bool) → b ≡ true → b ≡ false → A
-both_no b e f = impossible (sym f ∙ e)
-
 pub some_map : {X : Type 0} (P Q : X → Type 0) → ((x : X) → P x → Q x) → (o : Option X) → IfSome o P → IfSome o Q
 some_map P Q f None h = tt
 some_map P Q f (Some x) h = f x h

@@ -4,7 +4,7 @@ use Rattle.std.specs.Prelude.{ℤ, ◌==◌, filter, fold, IfSome}
 use Rattle.std.specs.List.{AllByRecursion, list_any}
 use Rattle.std.proofs.lemmas.Bool.{eqb-true}
 use Rattle.common_lemmas.proofs.Booleans.{and_left, impossible}
-use Rattle.common_lemmas.proofs.Lists.{all_each, all_weaker}
+use Rattle.common_lemmas.proofs.Lists.{all_weaker}
 use Rattle.column_set.specs.declared.changes.Change.{Change}
 use Rattle.column_set.specs.declared.changes.Change.TheVariants.{Put, Drop, Hold, Add}
 use Rattle.column_set.specs.RecordValues.{RecordFields, values_of}
@@ -101,13 +101,6 @@ none_added rule (Add t b c a) h = impossible (sym h)
 
 pub sees_none : (rule : IndexRule) (table : ℕ) (kept : List PastChange) → HasNoSums kept → SeesNoSum rule table kept
 sees_none rule table kept none = all_weaker (λ item. is_sum item.change ≡ false) (λ item. changed_table item.change ≡ table → adds_to_index rule item.change ≡ false) (λ item sum own. none_added rule item.change sum) kept none
-
-pub all_see_none : (kept : List PastChange) (state : DatabaseState) → HasNoSums kept → IndexesSeeNoSum kept state
-all_see_none kept state none id = by (table_with_id state.tables id)
-  where
-    by : (found : Option Table) → IfSome found (λ table. AllByRecursion (λ rule. SeesNoSum rule table.id kept) table.indexes)
-    by None = tt
-    by (Some table) = all_each (λ rule. SeesNoSum rule table.id kept) (λ rule. sees_none rule table.id kept none) table.indexes
 
 pub befores_of_none : (rule : IndexRule) (schema : Schema) (table : ℕ) (kept : List PastChange) (base : Records) → HasNoSums kept → HasKeyBefores rule schema table base kept
 befores_of_none rule schema table [] base none = tt
