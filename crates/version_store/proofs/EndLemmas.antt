@@ -5,7 +5,7 @@ use Rattle.database_state.specs.State.{committed}
 use Rattle.version_store.specs.declared.item.Item.{Item}
 use Rattle.version_store.specs.declared.item.Status.TheVariants as status
 use Rattle.version_store.specs.HeldChanges.{HeldChange, committed_change, cost_of, is_open_at, is_open_of, released_change, with_status}
-use Rattle.version_store.specs.Items.{committed_item, held_change, item_slot, lowered, released_item}
+use Rattle.version_store.specs.Items.{committed_item, held_change, item_hash, lowered, released_item}
 
 pub commit-held : (session number : ℕ) (item : Item) (row : List ℕ) → held_change (committed_item session number item) row ≡ committed_change session number (held_change item row)
 commit-held session number x row = at (is_open_of session (held_change x []))
@@ -14,10 +14,10 @@ commit-held session number x row = at (is_open_of session (held_change x []))
     at true = refl
     at false = refl
 
-pub commit-slot : (session number : ℕ) (item : Item) → item_slot (committed_item session number item) ≡ item_slot item
-commit-slot session number x = at (is_open_of session (held_change x []))
+pub commit-hash : (session number : ℕ) (item : Item) → item_hash (committed_item session number item) ≡ item_hash item
+commit-hash session number x = at (is_open_of session (held_change x []))
   where
-    at : (b : Bool) → item_slot (if b then record x { status = status.Committed number } else x) ≡ item_slot x
+    at : (b : Bool) → item_hash (if b then record x { status = status.Committed number } else x) ≡ item_hash x
     at true = refl
     at false = refl
 
@@ -42,10 +42,10 @@ release-held session level x row = at (is_open_at session level (held_change x [
     at true = refl
     at false = refl
 
-pub release-slot : (session level : ℕ) (item : Item) → item_slot (released_item session level item) ≡ item_slot item
-release-slot session level x = at (is_open_at session level (held_change x []))
+pub release-hash : (session level : ℕ) (item : Item) → item_hash (released_item session level item) ≡ item_hash item
+release-hash session level x = at (is_open_at session level (held_change x []))
   where
-    at : (b : Bool) → item_slot (if b then record x { level = level - 1; highest = lowered level x.highest } else x) ≡ item_slot x
+    at : (b : Bool) → item_hash (if b then record x { level = level - 1; highest = lowered level x.highest } else x) ≡ item_hash x
     at true = refl
     at false = refl
 

@@ -5,13 +5,13 @@ use Rattle.std.proofs.lemmas.List.{map-append}
 use Rattle.version_store.specs.declared.item.Item.{Item}
 use Rattle.version_store.specs.declared.item.Status.TheVariants as status
 use Rattle.version_store.specs.HeldChanges.{HeldChange, undone_at}
-use Rattle.version_store.specs.Items.{held_change, held_changes, item_slot}
-use Rattle.version_store.specs.Kept.{slots_of}
-use Rattle.version_store.specs.Slots.{slot_of}
+use Rattle.version_store.specs.Items.{held_change, held_changes, item_hash}
+use Rattle.version_store.specs.Kept.{hashes_of}
+use Rattle.version_store.specs.Hashes.{hash_of}
 
--- the slot of a held change's record
-abbrev pub held_slot : HeldChange → ℕ
-held_slot held = slot_of held.table held.bookmark
+-- the hash of a held change's record
+abbrev pub held_hash : HeldChange → ℕ
+held_hash held = hash_of held.table held.bookmark
 
 pub length-held : (items : List Item) (rows : List (List ℕ)) → length rows ≡ length items → length (held_changes items rows) ≡ length items
 length-held [] rows same = refl
@@ -53,10 +53,10 @@ held-map g f [] rows each = refl
 held-map g f (i ∷ items) [] each = refl
 held-map g f (i ∷ items) (r ∷ rows) each = λ k. each i r k ∷ held-map g f items rows each k
 
-pub slots-held : (items : List Item) (rows : List (List ℕ)) → length rows ≡ length items → slots_of items ≡ map held_slot (held_changes items rows)
-slots-held [] rows same = refl
-slots-held (i ∷ items) [] same = absurd (omega arith)
-slots-held (i ∷ items) (r ∷ rows) same = ap (λ (l : List ℕ). item_slot i ∷ l) (slots-held items rows (omega arith))
+pub hashes-held : (items : List Item) (rows : List (List ℕ)) → length rows ≡ length items → hashes_of items ≡ map held_hash (held_changes items rows)
+hashes-held [] rows same = refl
+hashes-held (i ∷ items) [] same = absurd (omega arith)
+hashes-held (i ∷ items) (r ∷ rows) same = ap (λ (l : List ℕ). item_hash i ∷ l) (hashes-held items rows (omega arith))
 
 -- the change of the item that was read
 pub held-item : (items : List Item) (rows : List (List ℕ)) (at : ℕ) (x : Item) → length rows ≡ length items → at < length items → x ≡ get_or items at x → slice_get (held_changes items rows) at ≡ Some (held_change x (get_or rows at []))
@@ -76,12 +76,12 @@ pub read-at : {B : Type 0} (f : HeldChange → B) (items : List Item) (rows : Li
 read-at f items rows changes place x same view within is =
     ap (λ (l : List HeldChange). slice_get (map f l) place) (sym view) ∙ get-map f (held_changes items rows) place (held_change x (get_or rows place [])) (held-item items rows place x same within is)
 
-pub slots-items : (items : List Item) (item : Item) → slots_of (items ++ item ∷ []) ≡ slots_of items ++ item_slot item ∷ []
-slots-items items item = map-append item_slot items (item ∷ [])
+pub hashes-items : (items : List Item) (item : Item) → hashes_of (items ++ item ∷ []) ≡ hashes_of items ++ item_hash item ∷ []
+hashes-items items item = map-append item_hash items (item ∷ [])
 
-pub slots-drop : (items : List Item) → slots_of (drop 1 items) ≡ drop 1 (slots_of items)
-slots-drop [] = refl
-slots-drop (item ∷ items) = refl
+pub hashes-drop : (items : List Item) → hashes_of (drop 1 items) ≡ drop 1 (hashes_of items)
+hashes-drop [] = refl
+hashes-drop (item ∷ items) = refl
 
 pub length-drop_one : {X Y : Type 0} (xs : List X) (ys : List Y) → length xs ≡ length ys → length (drop 1 xs) ≡ length (drop 1 ys)
 length-drop_one [] [] e = refl

@@ -9,19 +9,19 @@ use Rattle.version_store.specs.declared.calls.By.{By}
 use Rattle.version_store.specs.declared.item.Item.{Item}
 use Rattle.version_store.specs.declared.item.Status.TheVariants as status
 use Rattle.version_store.specs.HeldChanges.{HeldChange, cost_of, kind_of, new_change, undone_at}
-use Rattle.version_store.specs.Items.{held_change, held_changes, item_slot, row_of, state_of}
-use Rattle.version_store.specs.Kept.{AreSpent, Keeps, slots_of, spents_of}
-use Rattle.version_store.proofs.HeldLemmas.{held-drop, held-map, held-push, held-undone, length-drop_one, slots-drop, slots-items}
+use Rattle.version_store.specs.Items.{held_change, held_changes, item_hash, row_of, state_of}
+use Rattle.version_store.specs.Kept.{AreSpent, Keeps, hashes_of, spents_of}
+use Rattle.version_store.proofs.HeldLemmas.{held-drop, held-map, held-push, held-undone, length-drop_one, hashes-drop, hashes-items}
 use Rattle.version_store.proofs.SpanLemmas.{spent-drop, spent-map, spent-push, spent-undone}
 
-pub record Pushed (items new : List Item) (rows more : List (List ℕ)) (slots longer : List ℕ) (item : Item) (row : List ℕ) (total sum : ℕ) : Type 0 where
+pub record Pushed (items new : List Item) (rows more : List (List ℕ)) (hashes longer : List ℕ) (item : Item) (row : List ℕ) (total sum : ℕ) : Type 0 where
   pub keeps : Keeps new more longer sum
   pub value : held_changes new more ≡ held_changes items rows ++ held_change item row ∷ []
 
-pub keeps-push : (items new : List Item) (rows more : List (List ℕ)) (slots longer : List ℕ) (item : Item) (row : List ℕ) (total sum : ℕ)
-    → Keeps items rows slots total → new ≡ items ++ item ∷ [] → more ≡ rows ++ row ∷ [] → longer ≡ slots ++ item_slot item ∷ [] → item.spent ≡ total → sum ≡ total + cost_of (held_change item row)
-    → Pushed items new rows more slots longer item row total sum
-keeps-push items new rows more slots longer item row total sum kept is_new is_more is_longer spent is_sum =
+pub keeps-push : (items new : List Item) (rows more : List (List ℕ)) (hashes longer : List ℕ) (item : Item) (row : List ℕ) (total sum : ℕ)
+    → Keeps items rows hashes total → new ≡ items ++ item ∷ [] → more ≡ rows ++ row ∷ [] → longer ≡ hashes ++ item_hash item ∷ [] → item.spent ≡ total → sum ≡ total + cost_of (held_change item row)
+    → Pushed items new rows more hashes longer item row total sum
+keeps-push items new rows more hashes longer item row total sum kept is_new is_more is_longer spent is_sum =
     let value : held_changes new more ≡ held_changes items rows ++ held_change item row ∷ [] =
     ap (λ (l : List Item). held_changes l more) is_new ∙ ap (held_changes (items ++ item ∷ [])) is_more ∙ held-push items rows item row kept.are_rows in
     let spents : spents_of new ≡ spents_of items ++ total ∷ [] =
@@ -29,7 +29,7 @@ keeps-push items new rows more slots longer item row total sum kept is_new is_mo
     record {
       keeps = record {
         are_rows = ap length is_more ∙ length_push rows row ∙ ap (λ (n : ℕ). n + 1) kept.are_rows ∙ sym (ap length is_new ∙ length_push items item);
-        are_slots = is_longer ∙ ap (λ (l : List ℕ). l ++ item_slot item ∷ []) kept.are_slots ∙ sym (ap slots_of is_new ∙ slots-items items item);
+        are_hashes = is_longer ∙ ap (λ (l : List ℕ). l ++ item_hash item ∷ []) kept.are_hashes ∙ sym (ap hashes_of is_new ∙ hashes-items items item);
         are_spent = subst (λ (n : ℕ). AreSpent n (spents_of new) (held_changes new more)) (sym is_sum)
             (subst (λ (l : List ℕ). AreSpent (total + cost_of (held_change item row)) l (held_changes new more)) (sym spents)
             (subst (AreSpent (total + cost_of (held_change item row)) (spents_of items ++ total ∷ [])) (sym value)
@@ -42,12 +42,12 @@ spents-drop : (items : List Item) → spents_of (drop 1 items) ≡ drop 1 (spent
 spents-drop [] = refl
 spents-drop (item ∷ items) = refl
 
-pub keeps-pop : (items new : List Item) (rows less : List (List ℕ)) (slots fewer : List ℕ) (total : ℕ) → Keeps items rows slots total → new ≡ drop 1 items → less ≡ drop 1 rows → fewer ≡ drop 1 slots → Keeps new less fewer total
-keeps-pop items new rows less slots fewer total kept is_new is_less is_fewer =
+pub keeps-pop : (items new : List Item) (rows less : List (List ℕ)) (hashes fewer : List ℕ) (total : ℕ) → Keeps items rows hashes total → new ≡ drop 1 items → less ≡ drop 1 rows → fewer ≡ drop 1 hashes → Keeps new less fewer total
+keeps-pop items new rows less hashes fewer total kept is_new is_less is_fewer =
     let value : held_changes new less ≡ drop 1 (held_changes items rows) = ap (λ (l : List Item). held_changes l less) is_new ∙ ap (held_changes (drop 1 items)) is_less ∙ held-drop items rows kept.are_rows in
     record {
       are_rows = ap length is_less ∙ length-drop_one rows items kept.are_rows ∙ sym (ap length is_new);
-      are_slots = is_fewer ∙ ap (drop 1) kept.are_slots ∙ sym (ap slots_of is_new ∙ slots-drop items);
+      are_hashes = is_fewer ∙ ap (drop 1) kept.are_hashes ∙ sym (ap hashes_of is_new ∙ hashes-drop items);
       are_spent = subst (λ (l : List ℕ). AreSpent total l (held_changes new less)) (sym (ap spents_of is_new ∙ spents-drop items))
           (subst (AreSpent total (drop 1 (spents_of items))) (sym value) (spent-drop total (spents_of items) (held_changes items rows) kept.are_spent));
     }
@@ -56,35 +56,35 @@ map-map_same : {Y : Type 0} (f : Item → Y) (g : Item → Item) (items : List I
 map-map_same f g [] same = refl
 map-map_same f g (x ∷ items) same = λ i. same x i ∷ map-map_same f g items same i
 
-pub record Mapped (new : List Item) (rows : List (List ℕ)) (slots : List ℕ) (total : ℕ) (value : List HeldChange) : Type 0 where
-  pub keeps : Keeps new rows slots total
+pub record Mapped (new : List Item) (rows : List (List ℕ)) (hashes : List ℕ) (total : ℕ) (value : List HeldChange) : Type 0 where
+  pub keeps : Keeps new rows hashes total
   pub value_is : held_changes new rows ≡ value
 
 -- each item changes in its state or its level alone
-pub keeps-map : (g : Item → Item) (f : HeldChange → HeldChange) (items new : List Item) (rows : List (List ℕ)) (slots : List ℕ) (total : ℕ) → Keeps items rows slots total → new ≡ map g items
-    → ((item : Item) (row : List ℕ) → held_change (g item) row ≡ f (held_change item row)) → ((item : Item) → item_slot (g item) ≡ item_slot item) → ((item : Item) → (g item).spent ≡ item.spent) → ((held : HeldChange) → cost_of (f held) ≡ cost_of held)
-    → Mapped new rows slots total (map f (held_changes items rows))
-keeps-map g f items new rows slots total kept is each slot spent same =
+pub keeps-map : (g : Item → Item) (f : HeldChange → HeldChange) (items new : List Item) (rows : List (List ℕ)) (hashes : List ℕ) (total : ℕ) → Keeps items rows hashes total → new ≡ map g items
+    → ((item : Item) (row : List ℕ) → held_change (g item) row ≡ f (held_change item row)) → ((item : Item) → item_hash (g item) ≡ item_hash item) → ((item : Item) → (g item).spent ≡ item.spent) → ((held : HeldChange) → cost_of (f held) ≡ cost_of held)
+    → Mapped new rows hashes total (map f (held_changes items rows))
+keeps-map g f items new rows hashes total kept is each hash spent same =
     let value : held_changes new rows ≡ map f (held_changes items rows) = ap (λ (l : List Item). held_changes l rows) is ∙ held-map g f items rows each in
     record {
       keeps = record {
         are_rows = kept.are_rows ∙ sym (ap length is ∙ length-map items g);
-        are_slots = kept.are_slots ∙ sym (ap slots_of is ∙ map-map_same item_slot g items slot);
+        are_hashes = kept.are_hashes ∙ sym (ap hashes_of is ∙ map-map_same item_hash g items hash);
         are_spent = subst (λ (l : List ℕ). AreSpent total l (held_changes new rows)) (sym (ap spents_of is ∙ map-map_same (λ (x : Item). x.spent) g items spent))
             (subst (AreSpent total (spents_of items)) (sym value) (spent-map total (spents_of items) f (held_changes items rows) same kept.are_spent));
       };
       value_is = value;
     }
 
-pub keeps-undone : (items : List Item) (rows : List (List ℕ)) (slots : List ℕ) (total at : ℕ) (old : Item) → Keeps items rows slots total → at < length items → old ≡ get_or items at old
-    → Mapped (set items at (record old { status = status.Undone })) rows slots total (undone_at (Some at) (held_changes items rows))
-keeps-undone items rows slots total at old kept within is =
+pub keeps-undone : (items : List Item) (rows : List (List ℕ)) (hashes : List ℕ) (total at : ℕ) (old : Item) → Keeps items rows hashes total → at < length items → old ≡ get_or items at old
+    → Mapped (set items at (record old { status = status.Undone })) rows hashes total (undone_at (Some at) (held_changes items rows))
+keeps-undone items rows hashes total at old kept within is =
     let new : List Item = set items at (record old { status = status.Undone }) in
     let value : held_changes new rows ≡ undone_at (Some at) (held_changes items rows) = held-undone items rows at old is within in
     record {
       keeps = record {
         are_rows = kept.are_rows ∙ sym (length-set items at (record old { status = status.Undone }));
-        are_slots = kept.are_slots ∙ sym (map-set_same item_slot items at (record old { status = status.Undone }) old (ap item_slot is));
+        are_hashes = kept.are_hashes ∙ sym (map-set_same item_hash items at (record old { status = status.Undone }) old (ap item_hash is));
         are_spent = subst (λ (l : List ℕ). AreSpent total l (held_changes new rows)) (sym (map-set_same (λ (x : Item). x.spent) items at (record old { status = status.Undone }) old (ap (λ (x : Item). x.spent) is)))
             (subst (AreSpent total (spents_of items)) (sym value) (spent-undone total (spents_of items) at (held_changes items rows) kept.are_spent));
       };

@@ -1,4 +1,5 @@
 pub mod ChainLemmas
+pub mod ChainWalks
 pub mod EarlierWalks
 pub mod EndLemmas
 pub mod HeldLemmas

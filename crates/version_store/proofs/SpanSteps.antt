@@ -9,9 +9,9 @@ use Rattle.version_store.specs.Kept.{Keeps, spents_of}
 use Rattle.version_store.proofs.HeldLemmas.{held-item-get, length-held}
 use Rattle.version_store.proofs.SpanLemmas.{oldest-kept, oldest-skipped, spent-at}
 
-pub span-found : (items : List Item) (rows : List (List ℕ)) (slots : List ℕ) (total : ℕ) (oldest : Option ℕ) (at : ℕ) (x : Item) → Keeps items rows slots total → at < length items → x ≡ get_or items at x → is_kept oldest (held_change x []) ≡ true
+pub span-found : (items : List Item) (rows : List (List ℕ)) (hashes : List ℕ) (total : ℕ) (oldest : Option ℕ) (at : ℕ) (x : Item) → Keeps items rows hashes total → at < length items → x ≡ get_or items at x → is_kept oldest (held_change x []) ≡ true
     → from_oldest_kept oldest (held_changes items rows) ≡ from_oldest_kept oldest (drop at (held_changes items rows)) → x.spent + span oldest (held_changes items rows) ≡ total
-span-found items rows slots total oldest at x kept within is passes skipped =
+span-found items rows hashes total oldest at x kept within is passes skipped =
     let hs : List HeldChange = held_changes items rows in
     let d : HeldChange = held_change x [] in
     let inside : at < length hs = omega (arith, length-held items rows kept.are_rows) in

@@ -5,7 +5,7 @@ use Rattle.version_store.specs.declared.item.Item.{Item}
 use Rattle.version_store.specs.declared.item.Status.{Status}
 use Rattle.version_store.specs.declared.item.Status.TheVariants as status
 use Rattle.version_store.specs.HeldChanges.{HeldChange, is_open_at, is_open_of}
-use Rattle.version_store.specs.Slots.{slot_of}
+use Rattle.version_store.specs.Hashes.{hash_of}
 
 abbrev pub state_of : Status → State
 state_of status.Uncommitted = uncommitted
@@ -34,8 +34,8 @@ held_changes [] rows = []
 held_changes (item ∷ items) [] = []
 held_changes (item ∷ items) (row ∷ rows) = held_change item row ∷ held_changes items rows
 
-abbrev pub item_slot : Item → ℕ
-item_slot item = slot_of item.table.0 item.bookmark
+abbrev pub item_hash : Item → ℕ
+item_hash item = hash_of item.table.0 item.bookmark
 
 -- the highest level so far, after the changes of a level have gone to the one below
 abbrev pub lowered : ℕ → ℕ → ℕ

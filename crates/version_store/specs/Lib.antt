@@ -5,5 +5,5 @@ pub mod Items
 pub mod Kept
 pub mod OpenChanges
 pub mod Samples
-pub mod Slots
+pub mod Hashes
 pub mod Sums

@@ -6,9 +6,9 @@ mod chains;
 mod ends;
 pub mod examples;
 mod fault;
+mod hash;
 mod item;
 mod records;
-mod slot;
 mod versions;
 
 pub use calls::{By, ChangeKind, Reader, Undone, Variant};

@@ -13,9 +13,9 @@ use crate::ends::{
     set_newest,
 };
 use crate::fault::VersionFault;
+use crate::hash::hash_of;
 use crate::item::{Item, Status, bookmark_of, cost_of, row_parts, table_of, what};
-use crate::records::{newest_standing, newest_touching};
-use crate::slot::slot_of;
+use crate::records::{newest_hashed, newest_standing, newest_touching};
 use column_set::{Bookmark, Change};
 use jet_base::{ColumnId, OutOfMemory, Session, TableId};
 use std::alloc::Global;
@@ -25,13 +25,13 @@ use version_bucket::Buckets;
 
 /// The changes of the past that are still held, oldest first, each with the row before it. One stands for the whole engine.
 ///
-/// Finding the changes of a record walks those that share its slot, of 65,536. Reading takes no memory.
+/// Finding the changes of a record walks those of its slot; there are as many slots as held changes, or more. Reading takes no memory.
 #[derive(Drop)]
 pub struct Versions {
     items: VecDeque<Item>,
     // The row before each item, empty where there was none.
     rows: Buckets,
-    // The slots of the items' records.
+    // The hashes of the items' records.
     chains: Chains,
     // What all changes that were ever pushed have cost.
     total: u64,
@@ -152,7 +152,7 @@ impl Versions {
         }
         let (had_row, row) = row_parts(before);
         let bookmark = bookmark_of(change).copy()?;
-        let slot = slot_of(table_of(change), bookmark.as_bytes());
+        let hash = hash_of(table_of(change), bookmark.as_bytes());
         let own_before = newest_of(&self.newest, by.session);
         let end = end_of(own_before, self.rows.first());
         let highest = highest_before(&self.items, end).max(by.level);
@@ -171,7 +171,7 @@ impl Versions {
         };
         self.items.reserve(1)?;
         make_room(&mut self.newest, by.session)?;
-        self.chains.push(slot)?;
+        self.chains.push(hash)?;
         match self.rows.push(row) {
             Ok(_) => {}
             Err(error) => {
@@ -192,7 +192,7 @@ impl Versions {
         ensures { result ≡ has_conflict reader change.now self.now }
     {
         let bookmark = bookmark_of(change).as_bytes();
-        let mut end = self.chains.newest(slot_of(table_of(change), bookmark));
+        let mut end = newest_hashed(&self.chains, table_of(change), bookmark);
         while end > 0 {
             if self.items[end - 1].conflicts(reader, change) {
                 return true;
@@ -230,7 +230,7 @@ impl Versions {
         ensures { result ≡ unseen_sum table.0 bookmark.now column.0 reader self.now }
     {
         let mut sum = 0;
-        let mut end = self.chains.newest(slot_of(table, bookmark));
+        let mut end = newest_hashed(&self.chains, table, bookmark);
         while end > 0 {
             let place = end - 1;
             sum = self.items[place].unseen_with(table, bookmark, column, reader, sum);
@@ -245,7 +245,7 @@ impl Versions {
         ensures within { IfSome result (λ place. place < length self.now) }
     {
         let mut oldest = None;
-        let mut end = self.chains.newest(slot_of(table, bookmark));
+        let mut end = newest_hashed(&self.chains, table, bookmark);
         while end > 0 {
             let place = end - 1;
             let hides = self.items[place].hides(table, bookmark, reader);
@@ -321,7 +321,7 @@ impl Versions {
         ensures place { result ≡ last_place (is_record table.0 bookmark.now) self.now }
         ensures within { IfSome result (λ place. place < length self.now) }
     {
-        let from = self.chains.newest(slot_of(table, bookmark));
+        let from = newest_hashed(&self.chains, table, bookmark);
         newest_touching(&self.items, &self.chains, from, table, bookmark)
     }
 
@@ -348,7 +348,7 @@ impl Versions {
         ensures place { result ≡ last_place (is_standing_rewrite table.0 bookmark.now) self.now }
         ensures within { IfSome result (λ place. place < length self.now) }
     {
-        let from = self.chains.newest(slot_of(table, bookmark));
+        let from = newest_hashed(&self.chains, table, bookmark);
         newest_standing(&self.items, &self.chains, from, table, bookmark)
     }
 

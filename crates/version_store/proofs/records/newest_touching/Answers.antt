@@ -2,10 +2,10 @@
 use Rattle.std.proofs.Common.{◌≡◌, ℕ, ◌-◌, ◌<◌, ◌≤◌, true, List, [], length, get_or, take, refl, sym, ap, ◌∙◌, arith}
 use Rattle.std.proofs.lemmas.List.{length-map}
 use Rattle.version_store.specs.HeldChanges.{HeldChange, is_record, last_place}
-use Rattle.version_store.specs.Items.{held_change, held_changes, item_slot}
-use Rattle.version_store.specs.Slots.{slot_of}
-use Rattle.version_store.proofs.HeldLemmas.{held-item-get, length-held, slots-held}
-use Rattle.version_store.proofs.RecordLemmas.{record-slot}
+use Rattle.version_store.specs.Items.{held_change, held_changes, item_hash}
+use Rattle.version_store.specs.Hashes.{hash_of}
+use Rattle.version_store.proofs.HeldLemmas.{held-item-get, length-held, hashes-held}
+use Rattle.version_store.proofs.RecordLemmas.{record-hash}
 use Rattle.version_store.proofs.WalkLemmas.{last-here, last-step, walk-falls, walk-step}
 use Rattle.version_store.proofs.records.newest_touching.Goals as goal
 
@@ -15,13 +15,13 @@ loop-end-init c = record { walk = c.requires.walk; within = omega arith; same = 
 pub index-requires : goal.index-requires
 index-requires c =
     let items = c.args.items.now in
-    omega (arith, items.ok.0, ap (length {A = ℕ}) c.requires.slots, length-map items.items item_slot, c.loop-end.invariant.walk.within, c.loop-end-test.true)
+    omega (arith, items.ok.0, ap (length {A = ℕ}) c.requires.hashes, length-map items.items item_hash, c.loop-end.invariant.walk.within, c.loop-end-test.true)
 
 pub returns-then-is_record-clause-place : goal.returns-then-is_record-clause-place
 returns-then-is_record-clause-place c rows e =
     let items = c.args.items.now.items in let x = c.index.result.now in let h : HeldChange = held_change x [] in let end : ℕ = c.loop-end.end in
     let test = is_record c.args.table.0 c.args.bookmark.now in
-    let within : end ≤ length items = omega (arith, ap (length {A = ℕ}) c.requires.slots, length-map items item_slot, c.loop-end.invariant.walk.within) in
+    let within : end ≤ length items = omega (arith, ap (length {A = ℕ}) c.requires.hashes, length-map items item_hash, c.loop-end.invariant.walk.within) in
     let passes : test (get_or (held_changes items rows) (end - 1) h) ≡ true =
     ap test (held-item-get items rows (end - 1) x h e (omega (arith, within, c.loop-end-test.true)) c.index.ensures) ∙ sym c.is_record.ensures ∙ c.if-is_record.true in
     sym (last-here test (held_changes items rows) end h c.loop-end-test.true (omega (arith, within, length-held items rows e)) passes) ∙ c.loop-end.invariant.same rows e
@@ -38,14 +38,14 @@ loop-end-smaller c = walk-falls _ c.args.chains.now c.loop-end.end c.before-end.
 pub loop-end-preserved : goal.loop-end-preserved
 loop-end-preserved c =
     let items = c.args.items.now.items in let x = c.index.result.now in let h : HeldChange = held_change x [] in let end : ℕ = c.loop-end.end in
-    let slot : ℕ = slot_of c.args.table.0 c.args.bookmark.now in let test = is_record c.args.table.0 c.args.bookmark.now in
-    let within : end ≤ length items = omega (arith, ap (length {A = ℕ}) c.requires.slots, length-map items item_slot, c.loop-end.invariant.walk.within) in
+    let hash : ℕ = hash_of c.args.table.0 c.args.bookmark.now in let test = is_record c.args.table.0 c.args.bookmark.now in
+    let within : end ≤ length items = omega (arith, ap (length {A = ℕ}) c.requires.hashes, length-map items item_hash, c.loop-end.invariant.walk.within) in
     let falls : c.before-end.result < end = walk-falls _ c.args.chains.now end c.before-end.result c.loop-end.invariant.walk c.loop-end-test.true c.before-end.ensures in
     record {
-      walk = walk-step slot c.args.chains.now end c.before-end.result c.loop-end.invariant.walk c.loop-end-test.true c.before-end.ensures;
+      walk = walk-step hash c.args.chains.now end c.before-end.result c.loop-end.invariant.walk c.loop-end-test.true c.before-end.ensures;
       within = omega (arith, falls, c.loop-end.invariant.within);
       same = λ (rows : List (List ℕ)) (e : length rows ≡ length items).
-          last-step test slot (held_changes items rows) c.args.chains.now end c.before-end.result h (record-slot c.args.table.0 c.args.bookmark.now) (c.requires.slots ∙ slots-held items rows e) c.loop-end.invariant.walk c.loop-end-test.true c.before-end.ensures
+          last-step test hash (held_changes items rows) c.args.chains.now end c.before-end.result h (record-hash c.args.table.0 c.args.bookmark.now) (c.requires.hashes ∙ hashes-held items rows e) c.loop-end.invariant.walk c.loop-end-test.true c.before-end.ensures
           (ap test (held-item-get items rows (end - 1) x h e (omega (arith, within, c.loop-end-test.true)) c.index.ensures) ∙ sym c.is_record.ensures ∙ c.if-is_record.false)
           ∙ c.loop-end.invariant.same rows e;
     }

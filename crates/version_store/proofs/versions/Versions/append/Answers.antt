@@ -3,8 +3,8 @@ use Rattle.std.proofs.Common.{◌≡◌, ℕ, suc, ◌+◌, ◌-◌, List, [], �
 use Rattle.std.proofs.lemmas.List.{length_push}
 use Rattle.database_state.specs.Changes.{changed_bookmark}
 use Rattle.version_store.specs.HeldChanges.{HeldChange, cost_of, new_change}
-use Rattle.version_store.specs.Items.{held_change, held_changes, item_slot}
-use Rattle.version_store.specs.Slots.{slot_of}
+use Rattle.version_store.specs.Items.{held_change, held_changes, item_hash}
+use Rattle.version_store.specs.Hashes.{hash_of}
 use Rattle.version_store.specs.declared.item.Item.{Item}
 use Rattle.version_store.specs.declared.item.Status.TheVariants as status
 use Rattle.std.specs.Prelude.{option_copied, slice_get}
@@ -35,8 +35,8 @@ bookmark_is c = c.in_ok-bookmark.ensures ∙ c.bookmark_of.ensures
 is_new : (c : goal.After-set_newest) → held_change (item_of c) c.row_parts-had_row.result.1.now ≡ new_change c.args.by c.args.change.now (option_copied c.args.before)
 is_new c = new-held c.args.by c.args.change.now (option_copied c.args.before) (item_of c) c.row_parts-had_row.result.1.now refl refl refl c.what.ensures c.table_of-2.ensures (bookmark_is c) c.row_parts-had_row.ensures.row refl
 
-slot_is : (c : goal.After-set_newest) → c.slot_of-slot.result ≡ item_slot (item_of c)
-slot_is c = c.slot_of-slot.ensures.value ∙ ap (λ (t : ℕ). slot_of t c.as_bytes.result.now) (c.table_of.ensures ∙ sym c.table_of-2.ensures) ∙ ap (slot_of c.table_of-2.result.0) c.as_bytes.ensures
+hash_is : (c : goal.After-set_newest) → c.hash_of-hash.result ≡ item_hash (item_of c)
+hash_is c = c.hash_of-hash.ensures ∙ ap (λ (t : ℕ). hash_of t c.as_bytes.result.now) (c.table_of.ensures ∙ sym c.table_of-2.ensures) ∙ ap (hash_of c.table_of-2.result.0) c.as_bytes.ensures
 
 pushed : (c : goal.After-set_newest) → Pushed c.self.inside.items.items c.push_back_reserved.new.self.items c.self.inside.rows.pieces c.push-2.new.self.pieces c.self.inside.chains c.push.new.self (item_of c) c.row_parts-had_row.result.1.now c.self.inside.total (c.self.inside.total + c.cost_of-cost.result)
 pushed c =
@@ -45,7 +45,7 @@ pushed c =
     c.self.invariant.keeps
     (c.push_back_reserved.ensures.items ∙ ap (λ (l : List Item). l ++ x ∷ []) c.in_ok-reserve.ensures.items)
     (ap (λ (v : Pieces). v.pieces) c.in-Ok.ensures.ok)
-    (c.in_ok-push.ensures ∙ ap (λ (n : ℕ). a.chains ++ n ∷ []) (slot_is c))
+    (c.in_ok-push.ensures ∙ ap (λ (n : ℕ). a.chains ++ n ∷ []) (hash_is c))
     refl
     (ap (λ (n : ℕ). a.total + n) (c.cost_of-cost.ensures.value ∙ sym (ap cost_of (is_new c))))
 

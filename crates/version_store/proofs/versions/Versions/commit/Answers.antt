@@ -5,7 +5,7 @@ use Rattle.version_store.specs.HeldChanges.{committed_change}
 use Rattle.version_store.specs.Items.{committed_item}
 use Rattle.version_store.specs.Kept.{held}
 use Rattle.version_store.specs.OpenChanges.{OpenChanges}
-use Rattle.version_store.proofs.EndLemmas.{commit-cost, commit-held, commit-slot, commit-spent}
+use Rattle.version_store.proofs.EndLemmas.{commit-cost, commit-held, commit-hash, commit-spent}
 use Rattle.version_store.proofs.KeepLemmas.{Mapped, keeps-map}
 use Rattle.version_store.proofs.OpenLemmas.{opens-committed}
 use Rattle.version_store.proofs.versions.Versions.commit.Goals as goal
@@ -14,7 +14,7 @@ mapped : (c : goal.After-set_newest) → Mapped c.commit_all.new.items.items c.s
 mapped c =
     let a = c.self.inside in
     keeps-map (committed_item c.args.session.0 c.args.number) (committed_change c.args.session.0 c.args.number) a.items.items c.commit_all.new.items.items a.rows.pieces a.chains a.total c.self.invariant.keeps c.commit_all.ensures
-    (commit-held c.args.session.0 c.args.number) (commit-slot c.args.session.0 c.args.number) (commit-spent c.args.session.0 c.args.number) (commit-cost c.args.session.0 c.args.number)
+    (commit-held c.args.session.0 c.args.number) (commit-hash c.args.session.0 c.args.number) (commit-spent c.args.session.0 c.args.number) (commit-cost c.args.session.0 c.args.number)
 
 pub invariant_of-self : goal.invariant_of-self
 invariant_of-self c =

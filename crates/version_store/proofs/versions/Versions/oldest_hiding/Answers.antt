@@ -9,23 +9,23 @@ use Rattle.version_store.specs.Chained.{latest}
 use Rattle.version_store.specs.HeldChanges.{HeldChange, hides}
 use Rattle.version_store.specs.Items.{held_change}
 use Rattle.version_store.specs.Kept.{held}
-use Rattle.version_store.specs.Slots.{slot_of}
-use Rattle.version_store.proofs.HeldLemmas.{held_slot, held-item-get, length-held, slots-held}
-use Rattle.version_store.proofs.RecordLemmas.{hides-slot}
+use Rattle.version_store.specs.Hashes.{hash_of}
+use Rattle.version_store.proofs.HeldLemmas.{held_hash, held-item-get, length-held, hashes-held}
+use Rattle.version_store.proofs.RecordLemmas.{hides-hash}
 use Rattle.version_store.specs.Chained.{Walk}
 use Rattle.version_store.proofs.WalkLemmas.{find-start, find-step, later-at, later-within, or-none, then_some-if, walk-falls, walk-start, walk-step}
 use Rattle.version_store.proofs.versions.Versions.oldest_hiding.Goals as goal
 
 pub loop-end-init : goal.loop-end-init
 loop-end-init c =
-    let a = c.self.inside in let slot : ℕ = slot_of c.args.table.0 c.args.bookmark.now in
-    let are : a.chains ≡ map held_slot (held a) = c.self.invariant.keeps.are_slots ∙ slots-held a.items.items a.rows.pieces c.self.invariant.keeps.are_rows in
-    let is : c.newest-end.result ≡ latest slot a.chains = c.newest-end.ensures ∙ ap (λ (s : ℕ). latest s a.chains) c.slot_of.ensures.value in
+    let a = c.self.inside in let hash : ℕ = hash_of c.args.table.0 c.args.bookmark.now in
+    let are : a.chains ≡ map held_hash (held a) = c.self.invariant.keeps.are_hashes ∙ hashes-held a.items.items a.rows.pieces c.self.invariant.keeps.are_rows in
+    let is : c.newest_hashed-end.result ≡ latest hash a.chains = c.newest_hashed-end.ensures in
     record {
-      walk = subst (Walk slot a.chains) (sym is) (walk-start slot a.chains);
-      same = or-none (find (hides c.args.table.0 c.args.bookmark.now c.args.reader) (take c.newest-end.result (held a)))
+      walk = subst (Walk hash a.chains) (sym is) (walk-start hash a.chains);
+      same = or-none (find (hides c.args.table.0 c.args.bookmark.now c.args.reader) (take c.newest_hashed-end.result (held a)))
           ∙ ap (λ (n : ℕ). find (hides c.args.table.0 c.args.bookmark.now c.args.reader) (take n (held a))) is
-          ∙ find-start (hides c.args.table.0 c.args.bookmark.now c.args.reader) slot (held a) a.chains (hides-slot c.args.table.0 c.args.bookmark.now c.args.reader) are;
+          ∙ find-start (hides c.args.table.0 c.args.bookmark.now c.args.reader) hash (held a) a.chains (hides-hash c.args.table.0 c.args.bookmark.now c.args.reader) are;
       within = tt;
     }
 
@@ -36,9 +36,9 @@ loop-end-smaller c =
 pub loop-end-preserved : goal.loop-end-preserved
 loop-end-preserved c =
     let a = c.self.inside in let x = c.index.result.now in let h : HeldChange = held_change x [] in
-    let place : ℕ = c.loop-end.end - 1 in let slot : ℕ = slot_of c.args.table.0 c.args.bookmark.now in
-    let are : a.chains ≡ map held_slot (held a) = c.self.invariant.keeps.are_slots ∙ slots-held a.items.items a.rows.pieces c.self.invariant.keeps.are_rows in
-    let len : length a.chains ≡ length (held a) = ap (length {A = ℕ}) are ∙ length-map (held a) held_slot in
+    let place : ℕ = c.loop-end.end - 1 in let hash : ℕ = hash_of c.args.table.0 c.args.bookmark.now in
+    let are : a.chains ≡ map held_hash (held a) = c.self.invariant.keeps.are_hashes ∙ hashes-held a.items.items a.rows.pieces c.self.invariant.keeps.are_rows in
+    let len : length a.chains ≡ length (held a) = ap (length {A = ℕ}) are ∙ length-map (held a) held_hash in
     let within : place < length (held a) = omega (arith, c.loop-end.invariant.walk.within, c.loop-end-test.true, len) in
     let test : Bool = hides c.args.table.0 c.args.bookmark.now c.args.reader (get_or (held a) place h) in
     let tested : c.hides-hides.result ≡ test = c.hides-hides.ensures
@@ -46,10 +46,10 @@ loop-end-preserved c =
     let now : c.or-oldest.result ≡ option_or (if test then Some place else None) c.loop-end.oldest =
     c.or-oldest.ensures ∙ ap (λ (o : Option ℕ). option_or o c.loop-end.oldest) (c.then_some.ensures ∙ ap (λ (b : Bool). then_some b place) tested ∙ then_some-if test place) in
     record {
-      walk = walk-step slot a.chains c.loop-end.end c.before-end.result c.loop-end.invariant.walk c.loop-end-test.true c.before-end.ensures;
+      walk = walk-step hash a.chains c.loop-end.end c.before-end.result c.loop-end.invariant.walk c.loop-end-test.true c.before-end.ensures;
       same = ap (λ (o : Option ℕ). option_or (find (hides c.args.table.0 c.args.bookmark.now c.args.reader) (take c.before-end.result (held a))) (change_at (held a) o)) now
           ∙ ap (option_or (find (hides c.args.table.0 c.args.bookmark.now c.args.reader) (take c.before-end.result (held a)))) (later-at (held a) place h test c.loop-end.oldest within)
-          ∙ find-step (hides c.args.table.0 c.args.bookmark.now c.args.reader) slot (held a) a.chains c.loop-end.end c.before-end.result h (change_at (held a) c.loop-end.oldest) (hides-slot c.args.table.0 c.args.bookmark.now c.args.reader) are c.loop-end.invariant.walk c.loop-end-test.true c.before-end.ensures
+          ∙ find-step (hides c.args.table.0 c.args.bookmark.now c.args.reader) hash (held a) a.chains c.loop-end.end c.before-end.result h (change_at (held a) c.loop-end.oldest) (hides-hash c.args.table.0 c.args.bookmark.now c.args.reader) are c.loop-end.invariant.walk c.loop-end-test.true c.before-end.ensures
           ∙ c.loop-end.invariant.same;
       within = subst (λ (o : Option ℕ). IfSome o (λ (k : ℕ). k < length (held a))) (sym now) (later-within (length (held a)) place test c.loop-end.oldest within c.loop-end.invariant.within);
     }

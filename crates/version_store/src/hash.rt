@@ -1,7 +1,7 @@
-//! The slot of a record.
+//! The hash of a record.
 
-ghost use Rattle.std.specs.Prelude.{◌≡◌, ◌<◌, ◌%◌, ◌^◌};
-ghost use Rattle.version_store.specs.Slots.{mixed, slot_of as the_slot};
+ghost use Rattle.std.specs.Prelude.{◌≡◌, ◌%◌, ◌^◌};
+ghost use Rattle.version_store.specs.Hashes.{hash_of as the_hash, mixed};
 
 use jet_base::TableId;
 
@@ -15,14 +15,13 @@ fn mix(hash: u64, byte: u64) -> u64
     hash.wrapping_add(byte).wrapping_mul(FACTOR)
 }
 
-/// The slot of a record: equal records have equal slots.
-pub(crate) fn slot_of(table: TableId, bookmark: &[u8]) -> usize
-    ensures value { result ≡ the_slot table.0 bookmark.now }
-    ensures limit { result < 65536 }
+/// The hash of a record, whose highest bits spread best: equal records have equal hashes.
+pub(crate) fn hash_of(table: TableId, bookmark: &[u8]) -> u64
+    ensures { result ≡ the_hash table.0 bookmark.now }
 {
     let mut hash = mix(0, u64::from(table.0));
     for byte in bookmark {
         hash = mix(hash, u64::from(*byte));
     }
-    (hash >> 48) as usize
+    hash
 }
