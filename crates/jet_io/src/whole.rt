@@ -14,6 +14,9 @@ use thiserror::Error;
 /// The least room that a reading of a whole source begins with.
 const FIRST_ROOM: usize = 4096;
 
+/// The most room that is cleared at once, so that little is cleared that the source does not fill.
+const MOST_ROOM: usize = 65_536;
+
 /// Why a source was not read to its end.
 #[derive(Clone, Copy, Debug, PartialEq, Eq, Error)]
 pub enum ReadFault {
@@ -90,8 +93,10 @@ fn read_behind<S: Source>(source: &mut S, bytes: &mut [u8], len: usize) -> Resul
     source.read(&mut bytes[len..])
 }
 
-/// Makes room behind the first `len` bytes where there is none: as much again, or what is left to one byte
-/// above the limit.
+/// Makes room behind the first `len` bytes where there is none: as much again, but no more than is cleared at once,
+/// or what is left to one byte above the limit.
+///
+/// The vector's own capacity doubles, so a reading of the whole source takes linear time.
 fn make_room(bytes: &mut Vec<u8>, len: usize, limit: usize) -> Result<(), AllocError>
     requires within { len ≤ length bytes.old.items }
     requires short { length bytes.old.items ≤ limit + 1 }
@@ -103,7 +108,7 @@ fn make_room(bytes: &mut Vec<u8>, len: usize, limit: usize) -> Result<(), AllocE
     if len < bytes.len() {
         return Ok(());
     }
-    let more = len.max(FIRST_ROOM).min(limit - len);
+    let more = len.max(FIRST_ROOM).min(MOST_ROOM).min(limit - len);
     let room = len.checked_add(more).and_then(|n| n.checked_add(1));
     bytes.resize(room.ok_or(AllocError)?, 0)
 }

@@ -138,10 +138,16 @@ fn text(alloc: Global, text: &[u8]) -> Result<Given, Refusal>
 }
 
 /// Whether each byte is from 21 to 7E.
+///
+/// It does not stop at the first that is not, so that the compiler may test many bytes at once.
 fn are_graphic(bytes: &[u8]) -> bool
     ensures { result ≡ list_all is_ascii_graphic bytes.now }
 {
-    bytes.iter().all(|byte| byte.is_ascii_graphic())
+    let mut graphic = true;
+    for byte in bytes {
+        graphic &= byte.is_ascii_graphic();
+    }
+    graphic
 }
 
 /// The bytes of pairs of hexadecimal digits, as a value.
