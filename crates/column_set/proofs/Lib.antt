@@ -10,3 +10,4 @@ pub mod Places
 pub mod Edits
 pub mod Walking
 pub mod Measures
+pub mod Indexing

@@ -9,3 +9,4 @@ pub mod Rows
 pub mod Refusals
 pub mod Shared
 pub mod HeldValues
+pub mod NameIndex

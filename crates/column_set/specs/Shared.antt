@@ -9,4 +9,4 @@ abbrev pub record_fields : records.Inside → List (ℕ × List (List ℕ))
 record_fields inside = elim inside.shared [ None ↦ [] | Some shared ↦ arc_value shared ]
 
 abbrev pub column_list : columns.Inside → List Column
-column_list inside = elim inside.shared [ None ↦ [] | Some shared ↦ let columns = arc_value shared in columns.items ]
+column_list inside = elim inside.shared [ None ↦ [] | Some shared ↦ arc_value shared ]

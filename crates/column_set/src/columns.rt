@@ -3,6 +3,7 @@
 ghost use Rattle.std.specs.Prelude.{◌≡◌, [], ◌∷◌, ◌++◌, IfOk, is_ok, if◌then◌else◌, option_copied};
 ghost use Rattle.column_set.specs.RecordValues.{column_named, column_of_id};
 
+use crate::indexed::IndexedColumns;
 use jet_base::{ColType, ColumnId, Name, OutOfMemory};
 use std::alloc::{AllocError, Global};
 use std::marker::Model;
@@ -63,7 +64,7 @@ impl Clone for Column {
 pub struct Columns {
     alloc: Global,
     // None where there never was a column.
-    shared: Option<Arc<Vec<Column>>>,
+    shared: Option<Arc<IndexedColumns>>,
 }
 
 impl Model for Columns {
@@ -93,7 +94,7 @@ impl Columns {
         ensures { IfOk result (λ made. made ≡ columns.items) }
     {
         let alloc = *columns.allocator();
-        let shared = Arc::new(alloc, columns)?;
+        let shared = Arc::new(alloc, IndexedColumns::new(columns)?)?;
         Ok(Columns {
             alloc,
             shared: Some(shared),
@@ -116,7 +117,7 @@ impl Columns {
     {
         let mut columns = self.as_slice().to_vec(self.alloc)?;
         columns.push(column)?;
-        self.shared = Some(Arc::new(self.alloc, columns)?);
+        self.shared = Some(Arc::new(self.alloc, IndexedColumns::new(columns)?)?);
         Ok(())
     }
 
@@ -141,10 +142,10 @@ impl Columns {
 pub fn column_named<'a>(columns: &'a Columns, name: &Name) -> Option<&'a Column>
     ensures { option_copied result ≡ column_named columns.now name.now }
 {
-    columns
-        .as_slice()
-        .iter()
-        .find(|column| column.name == *name)
+    match &columns.shared {
+        Some(columns) => columns.named(name),
+        None => None,
+    }
 }
 
 /// The column of this number.

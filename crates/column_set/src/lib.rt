@@ -9,6 +9,7 @@ mod encoding;
 mod encoding_records;
 mod field_list;
 mod fields;
+mod indexed;
 mod reading;
 mod records;
 mod row_fault;

@@ -4,3 +4,4 @@ pub mod ColumnType
 pub mod Given
 pub mod TypeKinds
 pub mod SmallBytes
+pub mod ByteHash

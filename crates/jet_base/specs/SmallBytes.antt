@@ -1,5 +1,5 @@
 -- Byte strings of which short ones are kept in place.
-use Rattle.std.specs.Prelude.{◌≡◌, ℕ, ◌-◌, ◌≤◌, List, drop, length, replicate, take}
+use Rattle.std.specs.Prelude.{◌≡◌, ℕ, ◌-◌, ◌<◌, ◌≤◌, List, drop, length, replicate, take}
 use Rattle.jet_base.specs.declared.small_bytes.Kept.{Kept}
 use Rattle.jet_base.specs.declared.small_bytes.Kept.TheVariants.{InPlace, Apart}
 
@@ -15,4 +15,4 @@ pub record IsInPlace (count : ℕ) (bytes : List ℕ) : Type 0 where
 
 abbrev pub IsKept : Kept → Type 0
 IsKept (InPlace count bytes) = IsInPlace count bytes
-IsKept (Apart bytes) = Unit {0}
+IsKept (Apart bytes) = let held = bytes.value in 22 < length held.items

@@ -1,14 +1,20 @@
 //! Byte strings of which short ones take no memory.
 
-ghost use Rattle.std.specs.Prelude.{◌≡◌, ◌≤◌, [], length, take, IfOk, bytes_eq};
-ghost use Rattle.std.specs.Int.{w64, from_le_bytes};
+ghost use Rattle.std.specs.Prelude.{◌≡◌, ◌+◌, ◌<◌, ◌≤◌, ◌↔◌, [], length, take, IfOk, IsTrue, bytes_eq};
 ghost use Rattle.jet_base.specs.SmallBytes.{kept_bytes, IsInPlace, IsKept};
+ghost use Rattle.jet_base.specs.ByteHash.{bytes_hash, hash_with, mixed, word_from};
 
 use std::alloc::{AllocError, Global};
 use std::marker::Model;
 
 /// The most bytes that are kept in place.
 const MOST_IN_PLACE: usize = 22;
+
+/// The bytes of a word.
+const WORD_BYTES: usize = 8;
+
+/// What a hash is multiplied by for each word: 2^64 divided by the golden ratio, made odd.
+const MIXER: u64 = 0x9e37_79b9_7f4a_7c15;
 
 // The bytes: few of them in place, with zeros behind them, and more in memory of their own.
 #[derive(Debug, Drop)]
@@ -94,6 +100,19 @@ impl SmallBytes {
             _ => self.as_slice() == other.as_slice(),
         }
     }
+
+    /// A hash of the bytes, made of the first sixteen and the last eight: equal strings have the same.
+    #[inline(always)]
+    pub fn hash(&self) -> u64
+        ensures { result ≡ bytes_hash self.now }
+    {
+        match &self.kept {
+            Kept::InPlace(count, bytes) => {
+                hash_of(bytes, (*count as usize).saturating_sub(WORD_BYTES))
+            }
+            Kept::Apart(bytes) => hash_of(bytes.as_slice(), bytes.len() - WORD_BYTES),
+        }
+    }
 }
 
 impl Clone for SmallBytes {
@@ -125,20 +144,61 @@ fn are_equal(count: u8, bytes: &[u8; 22], other_count: u8, other_bytes: &[u8; 22
     if count != other_count {
         return false;
     }
-    if first_word(bytes) != first_word(other_bytes) {
+    if !have_same_front(bytes, other_bytes) {
         return false;
+    }
+    if count as usize <= WORD_BYTES {
+        return true;
     }
     *bytes == *other_bytes
 }
 
-// The first eight bytes, as a number.
+// Whether the first eight bytes are the same.
 #[inline(always)]
-fn first_word(bytes: &[u8; 22]) -> u64
-    ensures { result ≡ from_le_bytes w64 bytes.now }
+fn have_same_front(bytes: &[u8], other: &[u8]) -> bool
+    requires own { 8 ≤ length bytes.now }
+    requires other { 8 ≤ length other.now }
+    ensures { IsTrue result ↔ (take 8 bytes.now ≡ take 8 other.now) }
+{
+    word_at(bytes, 0) == word_at(other, 0)
+}
+
+// The eight bytes from a place on, as a number, the lowest first.
+#[inline(always)]
+fn word_at(bytes: &[u8], at: usize) -> u64
+    requires { at + 8 ≤ length bytes.now }
+    ensures { result ≡ word_from at bytes.now }
 {
     u64::from_le_bytes([
-        bytes[0], bytes[1], bytes[2], bytes[3], bytes[4], bytes[5], bytes[6], bytes[7],
+        bytes[at],
+        bytes[at + 1],
+        bytes[at + 2],
+        bytes[at + 3],
+        bytes[at + 4],
+        bytes[at + 5],
+        bytes[at + 6],
+        bytes[at + 7],
     ])
+}
+
+// The hash of the first two words and of one more.
+#[inline(always)]
+fn hash_of(bytes: &[u8], last: usize) -> u64
+    requires two { 16 ≤ length bytes.now }
+    requires within { last + 8 ≤ length bytes.now }
+    ensures { result ≡ hash_with last bytes.now }
+{
+    let first = mixed(0, word_at(bytes, 0));
+    let second = mixed(first, word_at(bytes, WORD_BYTES));
+    mixed(second, word_at(bytes, last))
+}
+
+// A hash with one more word.
+#[inline(always)]
+fn mixed(hash: u64, word: u64) -> u64
+    ensures { result ≡ mixed hash word }
+{
+    hash.wrapping_add(word).wrapping_mul(MIXER)
 }
 
 // At most 22 bytes, kept in place.
@@ -153,8 +213,9 @@ fn in_place(bytes: &[u8]) -> Kept
     Kept::InPlace(bytes.len() as u8, kept)
 }
 
-// Bytes in memory of their own.
+// More than 22 bytes, in memory of their own.
 fn apart(bytes: Vec<u8>) -> Result<Kept, AllocError>
+    requires { 22 < length bytes.items }
     ensures bytes { IfOk result (λ kept. kept_bytes kept ≡ bytes.items) }
     ensures kept { IfOk result IsKept }
 {

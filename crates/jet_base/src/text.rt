@@ -3,6 +3,7 @@
 ghost use Rattle.std.specs.Prelude.{◌≡◌, [], IfOk, Some, refl, bytes_eq};
 ghost use Rattle.std.specs.Ordering.{nat_cmp};
 ghost use Rattle.std.specs.Cmp.{partial_equiv_from_equiv};
+ghost use Rattle.jet_base.specs.ByteHash.{bytes_hash};
 ghost use Rattle.std.specs.Cmp.Lexicographic.{slice_cmp, nat_list_eq_equiv, nat_list_cmp_total, texts_ties, texts_po};
 
 use crate::memory::OutOfMemory;
@@ -51,6 +52,14 @@ impl Name {
         ensures { result.now ≡ self.now }
     {
         self.bytes.as_slice()
+    }
+
+    /// A hash of the name: equal names have the same.
+    #[inline(always)]
+    pub fn hash(&self) -> u64
+        ensures { result ≡ bytes_hash self.now }
+    {
+        self.bytes.hash()
     }
 
     /// Another value of the same name.

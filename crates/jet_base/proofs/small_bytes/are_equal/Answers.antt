@@ -1,11 +1,10 @@
-use Rattle.std.proofs.Common.{◌≡◌, ℕ, ◌-◌, Bool, false, List, ◌++◌, length, take, sym, ap, subst, ◌∙◌, arith, length-take}
+use Rattle.std.proofs.Common.{◌≡◌, ℕ, ◌-◌, ◌≤◌, Bool, false, List, ◌++◌, length, take, sym, ap, subst, ◌∙◌, arith, length-take}
 use Rattle.std.specs.Prelude.{bytes_eq, replicate}
 use Rattle.std.specs.Bool.{Decides}
 use Rattle.std.specs.Cmp.{unsigned_Decides}
-use Rattle.std.specs.Int.{w64, from_le_bytes}
 use mathlib.Core.Bool.{false≢true}
 use Rattle.std.proofs.lemmas.Bool.Decides.{Decides-like, same_from_decides}
-use Rattle.std.proofs.lemmas.List.{take-append-drop}
+use Rattle.std.proofs.lemmas.List.{take-append-drop, take-take}
 use Rattle.std.proofs.lemmas.Slice.Eq.{bytes_eq-Decides, slice_eq-Decides}
 use Rattle.jet_base.specs.SmallBytes.{IsInPlace}
 use Rattle.jet_base.proofs.small_bytes.are_equal.Goals as goal
@@ -32,13 +31,22 @@ pub returns-then-count-other_count : goal.returns-then-count-other_count
 returns-then-count-other_count c =
     differ (take c.args.count c.args.bytes.now) (take c.args.other_count c.args.other_bytes.now) (λ e. c.if-count-other_count.true (counts c.args.count c.args.other_count c.args.bytes.now c.args.other_bytes.now c.requires.own c.requires.other e))
 
-pub returns-then-first_word : goal.returns-then-first_word
-returns-then-first_word c =
+pub returns-then-not-have_same_front : goal.returns-then-not-have_same_front
+returns-then-not-have_same_front c =
     let other : IsInPlace c.args.count c.args.other_bytes.now = subst (λ (n : ℕ). IsInPlace n c.args.other_bytes.now) (sym c.if-count-other_count.false) c.requires.other in
     differ (take c.args.count c.args.bytes.now) (take c.args.other_count c.args.other_bytes.now) (λ e.
     let same : take c.args.count c.args.bytes.now ≡ take c.args.count c.args.other_bytes.now = e ∙ ap (λ (n : ℕ). take n c.args.other_bytes.now) (sym c.if-count-other_count.false) in
     let all = all_equal c.args.count c.args.bytes.now c.args.other_bytes.now c.requires.own other same in
-    c.if-first_word.true (c.first_word.ensures ∙ (ap (from_le_bytes w64) all ∙ sym c.first_word-2.ensures)))
+    false≢true (sym c.if-not-have_same_front.true ∙ c.have_same_front.ensures.1 (ap (take 8) all)))
+
+-- a short string ends within the front
+pub returns-then-count-le-WORD_BYTES : goal.returns-then-count-le-WORD_BYTES
+returns-then-count-le-WORD_BYTES c =
+    let front : take 8 c.args.bytes.now ≡ take 8 c.args.other_bytes.now = c.have_same_front.ensures.0 c.if-not-have_same_front.false in
+    let short : c.args.count ≤ 8 = c.if-count-le-WORD_BYTES.true in
+    let own : take c.args.count c.args.bytes.now ≡ take c.args.count c.args.other_bytes.now =
+    sym (take-take c.args.count 8 c.args.bytes.now short) ∙ ap (take c.args.count) front ∙ take-take c.args.count 8 c.args.other_bytes.now short in
+    sym ((bytes_eq-Decides (take c.args.count c.args.bytes.now) (take c.args.other_count c.args.other_bytes.now)).1 (own ∙ ap (λ (n : ℕ). take n c.args.other_bytes.now) c.if-count-other_count.false))
 
 pub returns : goal.returns
 returns c =
