@@ -101,7 +101,7 @@ impl TableDef {
     pub fn column_named(&self, name: &Name) -> Option<&Column>
         ensures { option_copied result ≡ column_named self.now.columns name.now }
     {
-        self.columns().iter().find(|column| column.name == *name)
+        column_set::column_named(&self.schema.columns, name)
     }
 
     /// The index of this name.
