@@ -1,5 +1,5 @@
 -- What decides RetrieveColumn.
-use Rattle.std.proofs.Common.{◌≡◌, ℕ, Bool, true, false, cond, List, [], ◌∷◌, length, map, Ok, Err, Option, Some, None, unwrap_or, slice_get, refl, sym, ap, subst, ◌∙◌}
+use Rattle.std.proofs.Common.{◌≡◌, ℕ, Bool, true, false, cond, List, [], ◌∷◌, map, Ok, Err, Option, Some, None, unwrap_or, slice_get, refl, sym, ap, ◌∙◌}
 use Rattle.std.specs.Prelude.{ℤ, ◌==◌, ◌-◌, ◌||◌, bytes_eq, option_map, is_none, not}
 use Rattle.std.specs.List.{list_all}
 use Rattle.jet_base.specs.declared.ids.CursorId.{CursorId}
@@ -24,13 +24,12 @@ use Rattle.session_local.specs.LocalCalls.{is_answered_locally}
 use Rattle.session_local.specs.Outcome.{Asked, Outcome, refused, unless_refused, rows_seen}
 use Rattle.session_local.specs.RecordCalls.{column_shown, on_column, retrieve_column, value_shown}
 use Rattle.session_local.specs.SessionSide.{SessionSide, are_distinct}
-use Rattle.session_local.specs.Showing.{names_within}
 use Rattle.session_local.specs.WellFormed.{IsWellFormed, is_well_formed_cursor, is_well_formed_schema, is_long_if_sum, is_well_formed_update, number_of_column}
 use Rattle.session_local.specs.Calls.{answer}
 use Rattle.agreeing_sessions.specs.InStep.{IsInStep}
 use Rattle.engine_versions.specs.EngineState.{EngineState}
 use Rattle.engine_versions.specs.HoldsState.{HoldsState, asked_of}
-use Rattle.engine_parts.specs.Deciding.{Decides, IsBeside, IsDecision}
+use Rattle.engine_parts.specs.Deciding.{Decides, IsBeside}
 use Rattle.version_cleanup.specs.Cleaning.{reader_in}
 use Rattle.versioned_tables.specs.HeldSums.{unseen_sums}
 use Rattle.versioned_tables.specs.ViewedRecords.{without_sums}
@@ -171,22 +170,6 @@ retrieve-shown reads engine side new cursor name sequence most c row column deci
     (shown asked)
     (ap (λ (d : Decision). d.step) nothing ∙ sym still.step)
     (same ∙ sym still.local)
-
--- what is said of a decision that only reads
-pub reading-decision : (engine : EngineState) (side new : SessionSide) (cursor : CursorId) (name : List ℕ) (sequence most : ℕ) (decision : Decision)
-    → decision ≡ record { step = None; reply = decision.reply; table = None; copied = None; buffers = None; flush = false }
-    → new.session ≡ side.session → new.state ≡ side.state → length new.reply ≡ length side.reply → names_within decision.reply.value (length new.reply) ≡ true
-    → IsDecision engine side (call.RetrieveColumn cursor name sequence false most) new decision
-reading-decision engine side new cursor name sequence most decision nothing session same room named =
-    subst (IsDecision engine side (call.RetrieveColumn cursor name sequence false most) new) (sym nothing) (record {
-      session = session;
-      still = λ _. same;
-      room = room;
-      named = named;
-      fits = tt;
-      flush = refl;
-      lawful = λ state held step. tt;
-    })
 
 -- ---- the values are readable
 

@@ -16,7 +16,6 @@ ghost use Rattle.engine_parts.specs.Reading.{CurrentEntry, records_for};
 use crate::answers::{done, one, refusal, refused};
 use crate::engine::{Engine, LOG_LIMIT};
 use crate::laws::a_session_reads_its_view;
-use crate::record_calls::show_bytes;
 use crate::view::EngineView;
 use index_derive::{EntryKind, Place, Schema, Step};
 use jet_base::{CursorId, Jet, Name, OutOfMemory, Session, TableId};
@@ -187,7 +186,7 @@ fn show_key(local: &mut Local, key: &Key) -> Reply
     ensures session { local.new.session ≡ local.old.session }
 {
     let bytes = key.as_bytes();
-    let value = show_bytes(local, bytes, bytes.len() as u64);
+    let value = local.show(bytes, bytes.len() as u64);
     Reply {
         jet: Jet::Success,
         value,

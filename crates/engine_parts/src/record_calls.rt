@@ -1,12 +1,12 @@
 //! RetrieveColumn.
 
-ghost use Rattle.std.specs.Prelude.{◌≡◌, ◌≤◌, ℕ, Some, None, IfOk, IsTrue, false, true, length};
+ghost use Rattle.std.specs.Prelude.{◌≡◌, ℕ, Some, None, IfOk, IsTrue, false, true, length};
 ghost use Rattle.jet_base.specs.ColumnType.{is_number_type};
 ghost use Rattle.column_set.specs.RecordValues.{value_fits, values_of};
 ghost use Rattle.cursor_nav.specs.Places.{is_on};
 ghost use Rattle.index_derive.specs.Entries.{is_escrow_column};
 ghost use Rattle.session_local.specs.declared.request.Request.TheVariants as call;
-ghost use Rattle.session_local.specs.Answer.{Bytes, answered_by, shown_by};
+ghost use Rattle.session_local.specs.Answer.{answered_by};
 ghost use Rattle.session_local.specs.LocalCalls.{is_answered_locally};
 ghost use Rattle.session_local.specs.Outcome.{Asked};
 ghost use Rattle.session_local.specs.RecordCalls.{column_shown, value_shown};
@@ -192,17 +192,4 @@ fn show_value(local: &mut Local, value: Shown<'_>, most: u32) -> Reply
         },
         Shown::Stored(value) => local.show_value(&value, most),
     }
-}
-
-// The bytes at the front of the reply buffer, as the front of a value of so many.
-pub(crate) fn show_bytes(local: &mut Local, front: &[u8], whole: u64) -> Value
-    requires begun { IsTrue local.old.state.begun }
-    requires room { length front.now ≤ 1048576 }
-    ensures shown { shown_by result local.new.reply ≡ Bytes front.now whole }
-    ensures named { IsTrue (names_within result (length local.new.reply)) }
-    ensures room { length local.new.reply ≡ length local.old.reply }
-    ensures state { local.new.state ≡ local.old.state }
-    ensures session { local.new.session ≡ local.old.session }
-{
-    local.show(front, whole)
 }

@@ -1,7 +1,7 @@
 -- What a step leaves of the ends of each session.
-use Rattle.std.proofs.Common.{◌≡◌, ℕ, suc, ◌+◌, ◌-◌, ◌*◌, ◌<◌, ◌≤◌, Bool, true, false, not, cond, List, [], ◌∷◌, length, Option, Some, None, refl, sym, ap, subst, ◌∙◌, arith}
-use Rattle.std.specs.Prelude.{◌==◌, nat_lt, find, is_some, option_and_then, option_map}
-use Rattle.std.specs.List.{AllByRecursion, list_any}
+use Rattle.std.proofs.Common.{◌≡◌, ℕ, ◌+◌, ◌-◌, ◌*◌, ◌<◌, ◌≤◌, Bool, true, false, not, cond, List, [], ◌∷◌, length, Option, Some, None, refl, sym, ap, subst, ◌∙◌, arith}
+use Rattle.std.specs.Prelude.{◌==◌, nat_lt, find, is_some, option_map}
+use Rattle.std.specs.List.{AllByRecursion}
 use Rattle.std.proofs.lemmas.Bool.Decides.{nat_tests}
 use Rattle.std.proofs.lemmas.List.Sums.{sum_by-cons}
 use Rattle.std.proofs.lemmas.Bool.{eqb-true}
@@ -10,10 +10,10 @@ use Rattle.common_lemmas.proofs.Booleans.{and_left, impossible}
 use Rattle.index_derive.specs.declared.log.EntryKind.{EntryKind}
 use Rattle.index_derive.specs.declared.log.EntryKind.TheVariants as entry
 use Rattle.database_state.specs.State.{DatabaseState, LiveSession}
-use Rattle.database_state.specs.Step.{with_one, without_one}
+use Rattle.database_state.specs.Step.{without_one}
 use Rattle.database_state.specs.Lawful.{has_open as has_open_in, is_lawful_kind}
 use Rattle.version_history.specs.History.{EachTwo}
-use Rattle.version_cleanup.specs.LiveSessions.{LiveState, began, ended, entered, insert_session, left, levels_in, levels_of, live_state, lowered, new_session, opened, saved, session_in, sessions_after, shut, with_session}
+use Rattle.version_cleanup.specs.LiveSessions.{LiveState, began, ended, entered, left, levels_in, levels_of, live_state, lowered, new_session, opened, saved, session_in, sessions_after, shut, with_session}
 use Rattle.engine_versions.specs.EngineState.{EngineState}
 use Rattle.engine_versions.specs.HoldsState.{HoldsState}
 use Rattle.engine_versions.proofs.Sessions.{live_alike, session_alike}
@@ -271,11 +271,3 @@ open_within label (s ∷ sessions) = elim (s.label == label) as (λ b. open_in (
 
     later : (a b c y : ℕ) → y ≡ b + c → a ≤ c → a ≤ y
     later a b c y q h = omega (arith, q, h)
-
-pub bytes_told : (o : Option LiveState) → is_some o ≡ true → 9 + 13 * open_in o + 9 * levels_of (option_and_then (λ (s : LiveState). s.transaction) o) ≡ bytes_in o
-bytes_told None live = impossible live
-bytes_told (Some s) live = refl
-
-pub none_told : (o : Option LiveState) → is_some o ≡ false → 0 ≡ bytes_in o
-none_told None live = refl
-none_told (Some s) live = impossible (sym live)

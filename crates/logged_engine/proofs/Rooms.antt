@@ -22,7 +22,6 @@ use Rattle.logged_engine.specs.Ends.{CountsEnds, EndsState, Follows, IsCountedAn
 use Rattle.logged_engine.specs.LoggedState.{HasRoom, MayLackMemory, logged_step_may_lack_memory}
 use Rattle.logged_engine.proofs.Follows.{open_within}
 use Rattle.logged_engine.proofs.StepBytes.{alone_size, end_appended, loggable_parts, one_size}
-use Rattle.logged_engine.proofs.Steps.{same_sessions}
 
 -- ---- numbers
 
@@ -167,22 +166,6 @@ room_counted engine made old new ends ends' enough own step has loggable label l
     (counted_after by.session.0 by.kind engine.sessions after.sessions ends ends' own follows has.exact is_own told_after))
 
 -- ---- after want of memory
-
-cleaned_sessions : (b : Bool) (engine : EngineState) → (cleaned_for b engine).sessions ≡ engine.sessions
-cleaned_sessions true engine = refl
-cleaned_sessions false engine = refl
-
-pub room_cleaned : (cleans : Bool) (engine : EngineState) (old new : LogState) (ends : EndsState) → HasRoom engine old ends → new.stream ≡ old.stream → old.room ≤ new.room → HasRoom (cleaned_for cleans engine) new ends
-room_cleaned cleans engine old new ends has stream room = record {
-  exact = subst (λ (sessions : List LiveState). CountsEnds sessions ends) (sym (cleaned_sessions cleans engine)) has.exact;
-  labels = subst HaveLabels (sym (cleaned_sessions cleans engine)) has.labels;
-  room = subst (λ (n : ℕ). n ≤ new.room) (sym (same_sessions cleans engine)) (by (end_bytes engine.sessions) old.room new.room has.room room);
-  few = subst (λ (n : ℕ). n ≤ 16 * (cleaned_for cleans engine).number) (sym (same_sessions cleans engine)) (subst (λ (n : ℕ). end_bytes engine.sessions ≤ 16 * n) (sym (same_number cleans engine)) has.few);
-  short = subst (λ (n : ℕ). stream_end new.stream ≤ 2 ^ 27 * n) (sym (same_number cleans engine)) (subst (λ (s : ℕ). s ≤ 2 ^ 27 * engine.number) (sym (ap stream_end stream)) has.short);
-}
-  where
-    by : (a b c : ℕ) → a ≤ b → b ≤ c → a ≤ c
-    by a b c p q = omega (arith, p, q)
 
 -- where no session is live
 pub room_closed : (engine : EngineState) (log : LogState) (ends : EndsState) → engine.sessions ≡ [] → log.stream ≡ empty_stream → CountsEnds [] ends → HasRoom engine log ends

@@ -1,12 +1,6 @@
 -- Told bytes that are written in pieces.
-use Rattle.std.proofs.Common.{◌≡◌, ℕ, List, [], ◌++◌, Option, Some, None, refl, ap, sym, append_assoc}
-use Rattle.std.proofs.lemmas.List.{append-nil}
+use Rattle.std.proofs.Common.{◌≡◌, ℕ, List, ◌++◌, Option, Some, None, refl, ap, append_assoc}
 use Rattle.std.specs.Io.KnownBytes.{append_known}
-
--- no byte is written yet
-pub append_none : (known : Option (List ℕ)) → known ≡ append_known known []
-append_none None = refl
-append_none (Some so_far) = ap (λ (l : List ℕ). Some l) (sym (append-nil so_far))
 
 -- two pieces, one behind the other
 pub append_twice : (known : Option (List ℕ)) (a b : List ℕ) → append_known (append_known known a) b ≡ append_known known (a ++ b)

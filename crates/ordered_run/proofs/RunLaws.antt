@@ -20,7 +20,7 @@ use Rattle.ordered_run.specs.Outcomes.{is_plain, AreOutcomesOf, run_transcript, 
 use Rattle.ordered_run.specs.declared.session_engine.SessionEngine.{SessionEngine}
 use Rattle.ordered_run.specs.Serving.{IsReady}
 use Rattle.ordered_run.specs.Lines.{line_text, RunsLine, BreaksLine}
-use Rattle.ordered_run.proofs.Pieces.{append_none, append_twice}
+use Rattle.ordered_run.proofs.Pieces.{append_twice}
 
 -- a line with its outcome
 abbrev pub Served : Type 0
@@ -106,11 +106,6 @@ pub record SoFar (limit : ℕ) (engine : SessionEngine) (gone left : List Line) 
   pub outcomes : AreOutcomesOf limit gone pairs
   pub ready : HasServed limit engine pairs left
   pub taken : taken_now ≡ append_known taken_before (run_transcript limit pairs)
-
--- nothing is written yet
-pub none_so_far : (limit : ℕ) (engine : SessionEngine) (lines : List Line) (taken : Option (List ℕ))
-    → IsReady limit engine (run_from empty_state) lines → SoFar limit engine [] lines taken taken
-none_so_far limit engine lines taken ready = record { pairs = []; outcomes = (refl, refl, refl); ready = ready; taken = append_none taken }
 
 -- one line more
 pub one_more : (limit : ℕ) (engine after : SessionEngine) (gone rest : List Line) (line : Line) (taken_before taken_now taken_after : Option (List ℕ))

@@ -61,14 +61,6 @@ impl CopyBuffer {
         &self.values
     }
 
-    /// The record, given up.
-    pub fn into_record(self) -> Record
-        ensures { result ≡ self.fields }
-    {
-        let CopyBuffer { values, .. } = self;
-        values
-    }
-
     /// How many values the column has: 0 where it is NULL.
     pub fn count(&self, column: ColumnId) -> usize
         ensures { result ≡ length (values_of self.now.fields column.0) }
@@ -103,23 +95,15 @@ impl CopyBuffer {
         ensures refusals { let given = given_of_bytes (option_copied value.entry) in MatchResult result (λ _. set_refusal self.old column.0 sequence given ≡ None) (IsFaultOf (set_refusal self.old column.0 sequence given)) }
         ensures after { self.new ≡ (if is_ok result then buffer_after self.old column.0 sequence (given_of_bytes (option_copied value.entry)) else self.old) }
     {
-        self.put(column, sequence, NewValue::from_bytes(value))
+        let Some(found) = column_of_id(self.columns.as_slice(), column) else {
+            return Err(EditFault::Refused(Jet::ColumnNotFound));
+        };
+        let value = NewValue::from_bytes(value);
+        put_in(self.alloc, found, sequence, value, &mut self.values)
     }
 
-    /// The same with a value as it is written. A repeated byte is spelled out only where it is not refused.
-    pub fn set_given(
-        &mut self,
-        column: ColumnId,
-        sequence: u32,
-        value: &Given,
-    ) -> Result<(), EditFault>
-        ensures refusals { MatchResult result (λ _. set_refusal self.old column.0 sequence value.now ≡ None) (IsFaultOf (set_refusal self.old column.0 sequence value.now)) }
-        ensures after { self.new ≡ (if is_ok result then buffer_after self.old column.0 sequence value.now else self.old) }
-    {
-        self.put(column, sequence, NewValue::from_given(value))
-    }
-
-    /// The same in the column of this name.
+    /// The same in the column of this name, with a value as it is written. A repeated byte is spelled out only where it
+    /// is not refused.
     pub fn set_named(&mut self, name: &Name, sequence: u32, value: &Given) -> Result<(), EditFault>
         ensures refusals { MatchResult result (λ _. named_refusal self.old name.now sequence value.now ≡ None) (IsFaultOf (named_refusal self.old name.now sequence value.now)) }
         ensures after { self.new ≡ (if is_ok result then named_after self.old name.now sequence value.now else self.old) }
@@ -128,16 +112,6 @@ impl CopyBuffer {
             return Err(EditFault::Refused(Jet::ColumnNotFound));
         };
         let value = NewValue::from_given(value);
-        put_in(self.alloc, found, sequence, value, &mut self.values)
-    }
-
-    fn put(&mut self, column: ColumnId, sequence: u32, value: NewValue) -> Result<(), EditFault>
-        ensures refusals { MatchResult result (λ _. set_refusal self.old column.0 sequence (given_of value.entry) ≡ None) (IsFaultOf (set_refusal self.old column.0 sequence (given_of value.entry))) }
-        ensures after { self.new ≡ (if is_ok result then buffer_after self.old column.0 sequence (given_of value.entry) else self.old) }
-    {
-        let Some(found) = column_of_id(self.columns.as_slice(), column) else {
-            return Err(EditFault::Refused(Jet::ColumnNotFound));
-        };
         put_in(self.alloc, found, sequence, value, &mut self.values)
     }
 }

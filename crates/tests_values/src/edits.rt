@@ -1,7 +1,7 @@
 //! What no script shows of copy buffers: sums, which no call sets, the calls of a buffer itself, and memory that fails.
 
 use column_set::{Column, Columns, Record};
-use jet_base::{ColType, ColumnId, Given, Jet, Name};
+use jet_base::{ColType, ColumnId, Jet, Name};
 use record_edit::{CopyBuffer, EditFault};
 use std::alloc::Global;
 use std::process::Abort;
@@ -41,7 +41,7 @@ fn buffer(rt: &impl Abort, alloc: Global) -> CopyBuffer {
 fn a_sum_is_not_set(rt: HostRuntime) {
     let mut buffer = buffer(&rt, rt.alloc());
     assert!(&rt;
-        buffer.set_given(TOTAL, 2, &Given::Number(1))
+        buffer.set(TOTAL, 2, Some(&[1, 0, 0, 0]))
             == Err(EditFault::Refused(Jet::ColumnNotUpdatable))
     );
 }
@@ -71,5 +71,5 @@ fn a_buffer_has_its_columns_and_its_values(rt: HostRuntime) {
     assert!(&rt; buffer.get(TAGS, 1) == Some(b"tag".as_slice()));
     assert!(&rt; buffer.get(TAGS, 0).is_none());
     assert!(&rt; buffer.values().size() == 10);
-    assert!(&rt; buffer.into_record().values(TAGS).len() == 1);
+    assert!(&rt; buffer.values().values(TAGS).len() == 1);
 }

@@ -145,24 +145,3 @@ entry_taken key bookmark (e ∷ entries) k own =
     same h =
         turned (bytes_eq own bookmark) (bytes_eq k key)
         ∙ (λ i. bytes_eq (sym (same_bytes e.0 k (and_left (bytes_eq e.0 k) _ h)) i) key && bytes_eq (sym (same_bytes e.1 own (and_right (bytes_eq e.0 k) _ h)) i) bookmark)
-
--- and one that is not there
-pub entry_absent : (key bookmark : List ℕ) (entries : List Pair) → has_entry key bookmark entries ≡ false → (k own : List ℕ) → has_entry k own entries ≡ (has_entry k own entries && not (bytes_eq own bookmark && bytes_eq k key))
-entry_absent key bookmark entries none k own = by (bytes_eq own bookmark && bytes_eq k key) refl
-  where
-    all : (b : Bool) → b ≡ (b && true)
-    all true = refl
-    all false = refl
-
-    by : (b : Bool) → (bytes_eq own bookmark && bytes_eq k key) ≡ b → has_entry k own entries ≡ (has_entry k own entries && not b)
-    by true e = sym gone ∙ gone_too
-      where
-        same : has_entry k own entries ≡ has_entry key bookmark entries
-        same = λ i. has_entry (same_bytes k key (and_right (bytes_eq own bookmark) _ e) i) (same_bytes own bookmark (and_left (bytes_eq own bookmark) _ e) i) entries
-
-        gone : false ≡ has_entry k own entries
-        gone = sym (same ∙ none)
-
-        gone_too : false ≡ (has_entry k own entries && false)
-        gone_too = ap (λ b. b && false) gone
-    by false e = all (has_entry k own entries)

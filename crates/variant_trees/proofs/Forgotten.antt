@@ -136,9 +136,6 @@ untouched true l k = refl
 untouched false true k = refl
 untouched false false k = refl
 
-no_keys : (v : Bool) → not (true && (true && not v)) ≡ not (true && not v)
-no_keys v = refl
-
 -- a test of the record before the oldest change, and of the others
 left_of : (longs : TableValues) (test : Option RecordFields → Bool) → test None ≡ false → (h : HeldChange) (row : List ℕ) → h.before ≡ Some row → (newest : Option RecordFields) (rest : List HeldRecord) (table : ℕ) (own : List ℕ)
     → (test newest || some_before test table own rest)

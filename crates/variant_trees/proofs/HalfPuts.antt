@@ -30,7 +30,7 @@ use Rattle.stored_variants.specs.VersionsKept.{only_secondary}
 use Rattle.variant_trees.proofs.EntryTrees.{other_number}
 use Rattle.variant_trees.proofs.KeysPut.{may_have}
 use Rattle.stored_variants.proofs.FoundRules.{record_yields, secondary_found}
-use Rattle.variant_trees.proofs.RoomMade.{NodeLaws, data_of, extent_of, found_then, no_less, same_table_numbers}
+use Rattle.variant_trees.proofs.RoomMade.{NodeLaws, data_of, extent_of, found_then, same_table_numbers}
 
 -- ---- a put that is not done
 
@@ -292,22 +292,6 @@ put_done laws table bookmark row size given keys old mid keyed ready there room 
     wide other own true b e =
         subst (λ (o : Option ℕ). IsWidened (extent_in (table_nodes old other) own) o) (sym (same_extent b (find (has_key own) (table_nodes ready table)) ∙ (λ i. extent_in (table_nodes ready (eqb-true table other e i)) own))) (half.extents other own)
     wide other own false b e = half.extents other own
-
--- nothing was done
-pub nothing_put : (table : ℕ) (schema : Schema) (trees : List StoredTable) → IsSame table schema trees trees
-nothing_put table schema trees = record {
-  values = λ other. refl;
-  numbers = refl;
-  indexes = λ other. refl;
-  rows = λ other own. refl;
-  extents = λ other own. no_less (extent_in (table_nodes trees other) own);
-  others = λ other index apart. refl;
-  entries = λ index. same index (only_secondary (rule_with_id schema index));
-}
-  where
-    same : (index : ℕ) (o : Option IndexRule) → IfSome o (λ rule. (key own : List ℕ) → has_entry key own (index_entries trees table index) ≡ has_entry key own (index_entries trees table index))
-    same index None = tt
-    same index (Some rule) = λ key own. refl
 
 -- the row that is put has room
 pub room_stays : (table : ℕ) (bookmark : List ℕ) (size : ℕ) (keys : Keys) (old mid ready : List StoredTable) → HasRoom table bookmark size old mid → HasKeys table bookmark keys mid ready → IsSomeAnd (extent_in (table_nodes ready table) bookmark) (λ extent. size ≤ extent)

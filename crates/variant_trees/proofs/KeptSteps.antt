@@ -39,11 +39,6 @@ step_kept was is catalog made shows roots after = record {
   before = subst (λ (list : List StoredRoots). has_nodes (roots_by_number list) catalog ≡ true) (sym roots) shows.writable;
 }
 
--- the same catalog, and the same nodes
-pub shows_same : (was is : StoredCatalog) (catalog other : CatalogState) → is ≡ was → other ≡ catalog → ShowsCatalog was catalog → ShowsCatalog is other
-shows_same was is catalog other same e shows =
-    subst (λ (c : CatalogState). ShowsCatalog is c) (sym e) (subst (λ (s : StoredCatalog). ShowsCatalog s catalog) (sym same) shows)
-
 pub shows_after : (stored : StoredCatalog) (catalog other : CatalogState) (made step : SchemaStep) → made ≡ step → other ≡ catalog_after catalog made → ShowsCatalog stored (catalog_after catalog step) → ShowsCatalog stored other
 shows_after stored catalog other made step is e shows =
     subst (λ (c : CatalogState). ShowsCatalog stored c) (sym e) (subst (λ (s : SchemaStep). ShowsCatalog stored (catalog_after catalog s)) (sym is) shows)

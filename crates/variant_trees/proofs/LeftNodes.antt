@@ -23,7 +23,8 @@ use Rattle.variant_trees.specs.LeftVariants.{AreLeft, DistinctIds, IsLeft, Loses
 use Rattle.stored_variants.specs.VersionsView.{with_newest_by}
 use Rattle.stored_variants.specs.VersionsKept.{AreKeptWith, IsKeptChange, IsKeptTable, IsRowUnder, needed_trees, only_secondary, secondary_rule, tree_numbers}
 use Rattle.variant_trees.proofs.EntryTrees.{no_part, other_number}
-use Rattle.stored_variants.proofs.Tables.{found_number}
+use Rattle.variant_trees.proofs.TreeNumbers.{first_or_none, is_empty}
+use Rattle.stored_variants.proofs.Tables.{found_number, others}
 use Rattle.stored_variants.proofs.ChangesKept.{open_stands}
 
 -- ---- numbers
@@ -40,23 +41,11 @@ abbrev is_none_left : List ℕ → Bool
 is_none_left [] = true
 is_none_left (n ∷ ns) = false
 
-abbrev first_pair : List (ℕ × List ℕ) → ℕ × List ℕ
-first_pair [] = (0, [])
-first_pair (x ∷ xs) = x
-
-abbrev other_pairs : List (ℕ × List ℕ) → List (ℕ × List ℕ)
-other_pairs [] = []
-other_pairs (x ∷ xs) = xs
-
-abbrev is_empty : List (ℕ × List ℕ) → Bool
-is_empty [] = true
-is_empty (x ∷ xs) = false
-
 same_ids : (trees : List StoredTable) (tables : List Table) → map tree_numbers trees ≡ map needed_trees tables → (n : ℕ) → has_table trees n ≡ list_any (λ (x : Table). x.id == n) tables
 same_ids [] [] same n = refl
 same_ids [] (t ∷ tables) same n = impossible (sym (ap is_empty same))
 same_ids (x ∷ trees) [] same n = impossible (ap is_empty same)
-same_ids (x ∷ trees) (t ∷ tables) same n = λ i. ((first_pair (same i)).0 == n) || same_ids trees tables (ap other_pairs same) n i
+same_ids (x ∷ trees) (t ∷ tables) same n = λ i. ((first_or_none (same i)).0 == n) || same_ids trees tables (ap others same) n i
 
 same_has : (new trees : List StoredTable) → table_numbers new ≡ table_numbers trees → (n : ℕ) → has_table new n ≡ has_table trees n
 same_has [] [] same n = refl
@@ -79,7 +68,7 @@ numbers_needed [] (y ∷ trees) tables ids needed same indexes = impossible (sym
 numbers_needed (x ∷ new) [] tables ids needed same indexes = impossible (ap is_none_left same)
 numbers_needed (x ∷ new) (y ∷ trees) [] ids needed same indexes = impossible (ap is_empty needed)
 numbers_needed (x ∷ new) (y ∷ trees) (t ∷ tables) ids needed same indexes =
-    λ i. (here ∙ ap first_pair needed) i ∷ numbers_needed new trees tables ids.1 (ap other_pairs needed) (ap rest_of same) (λ n. later n (y.number == n) refl) i
+    λ i. (here ∙ ap first_or_none needed) i ∷ numbers_needed new trees tables ids.1 (ap others needed) (ap rest_of same) (λ n. later n (y.number == n) refl) i
   where
     number : x.number ≡ y.number
     number = ap first_of same
@@ -88,7 +77,7 @@ numbers_needed (x ∷ new) (y ∷ trees) (t ∷ tables) ids needed same indexes 
     here = λ i. (number i, (sym (own_indexes x new y.number number) ∙ indexes y.number ∙ own_indexes y trees y.number refl) i)
 
     none : (n : ℕ) → (y.number == n) ≡ true → has_table trees n ≡ false
-    none n e = same_ids trees tables (ap other_pairs needed) n ∙ ap (λ (m : ℕ). list_any (λ (z : Table). z.id == m) tables) (sym (eqb-true y.number n e) ∙ ap (λ (p : ℕ × List ℕ). p.0) (ap first_pair needed)) ∙ ids.0
+    none n e = same_ids trees tables (ap others needed) n ∙ ap (λ (m : ℕ). list_any (λ (z : Table). z.id == m) tables) (sym (eqb-true y.number n e) ∙ ap (λ (p : ℕ × List ℕ). p.0) (ap first_or_none needed)) ∙ ids.0
 
     past : (z : StoredTable) (zs : List StoredTable) (n : ℕ) → (z.number == n) ≡ false → index_numbers (z ∷ zs) n ≡ index_numbers zs n
     past z zs n e = ap (λ (b : Bool). map (λ (i : StoredIndex). i.0) (unwrap_or (option_map (λ (y : StoredTable). y.indexes) (cond b (Some z) (find (is_table n) zs))) [])) e

@@ -45,19 +45,6 @@ lost_nothing v id bookmark trees none = record {
         ∙ sym (ap (λ b. cond b None (find (has_key own) (table_nodes trees other))) e)
     by false none other own false e = sym (ap (λ b. cond b None (find (has_key own) (table_nodes trees other))) e)
 
-pub node_with_row : (longs : TableValues) (id : ℕ) (bookmark : List ℕ) (held : List HeldRecord) (trees : List StoredTable) → is_empty_node (get_in (table_nodes trees id) bookmark) ≡ false
-    → LosesNode (has_variant (option_map (record_of (longs id)) (row_under (table_nodes trees id) bookmark)) held id bookmark) id bookmark trees trees
-node_with_row longs id bookmark held trees full =
-    lost_nothing (has_variant (option_map (record_of (longs id)) (row_under (table_nodes trees id) bookmark)) held id bookmark) id bookmark trees (by (find (has_key bookmark) (table_nodes trees id)) full)
-  where
-    data_of : (n : Node) (bytes : List ℕ) → is_empty_node (Some bytes) ≡ false → (is_some (option_map (record_of (longs id)) (row_in_node bytes)) || some_before is_some id bookmark held) ≡ false → Some n ≡ None
-    data_of n [] e f = impossible (sym e)
-    data_of n (byte ∷ bytes) e f = impossible (sym f)
-
-    by : (o : Option Node) → is_empty_node (option_map (λ (n : Node). n.data) o) ≡ false → (is_some (option_map (record_of (longs id)) (option_and_then row_in_node (option_map (λ (n : Node). n.data) o))) || some_before is_some id bookmark held) ≡ false → o ≡ None
-    by None e f = refl
-    by (Some n) e f = data_of n n.data e f
-
 pub node_with_variant : (longs : TableValues) (id : ℕ) (bookmark : List ℕ) (held : List HeldRecord) (trees : List StoredTable) → some_before is_some id bookmark held ≡ true
     → LosesNode (has_variant (option_map (record_of (longs id)) (row_under (table_nodes trees id) bookmark)) held id bookmark) id bookmark trees trees
 node_with_variant longs id bookmark held trees some =

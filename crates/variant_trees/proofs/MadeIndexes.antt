@@ -25,8 +25,8 @@ use Rattle.stored_variants.specs.VersionsKept.{AreKeptWith, IsKeptTable, IsRowUn
 use Rattle.stored_variants.specs.VersionsView.{with_newest_by}
 use Rattle.variant_trees.proofs.OtherRules.{Takes, row_as, rule_as, yields_as}
 use Rattle.variant_trees.proofs.Stepping.{IsSettled, StepsTo, changed_at, made_with_values, kept_of, map_filter, map_same, map_table, moved, newest_same, plain_table, settled_of, apart_from}
-use Rattle.stored_variants.proofs.Tables.{found_number}
-use Rattle.variant_trees.proofs.TreeNumbers.{changed_numbers, first_or_none, index_numbers, others}
+use Rattle.stored_variants.proofs.Tables.{found_number, others}
+use Rattle.variant_trees.proofs.TreeNumbers.{changed_numbers, first_or_none, index_numbers}
 use Rattle.stored_variants.specs.CountedValues.{AreCounted}
 use Rattle.variant_trees.specs.GoneKeys.{KeepsValues}
 

@@ -27,7 +27,7 @@ use Rattle.stored_variants.proofs.NodeRecords.{no_byte, record_at}
 use Rattle.variant_trees.proofs.OpenUndone.{all_place}
 use Rattle.variant_trees.proofs.PutBack.{kept_back, kept_unchanged, tables_back, tables_unchanged}
 use Rattle.variant_trees.proofs.Refilled.{Fills, Undoes, change_back, filled, row_filled}
-use Rattle.variant_trees.proofs.UndoneThere.{node_of_extent, node_of_row, room_for, row_in_bytes, same_at, undone_there}
+use Rattle.variant_trees.proofs.UndoneThere.{node_of_extent, room_for, row_in_bytes, same_at, undone_there}
 use Rattle.stored_variants.proofs.SameRecords.{AreInOrder}
 
 -- What is known once the change's bookmark and the bytes of the row before it are read.
@@ -38,9 +38,6 @@ pub record Reads (schema : Schema) (table : ℕ) (trees : List StoredTable) (now
   pub is_row : unwrap_or change.before [] ≡ row
 
 -- ---- the node
-
-pub node_read : (schema : Schema) (table : ℕ) (trees : List StoredTable) (now : List HeldChange) (place : ℕ) (bookmark row : List ℕ) → Reads schema table trees now place bookmark row → is_some (row_under (table_nodes trees table) bookmark) ≡ true → is_some (get_in (table_nodes trees table) bookmark) ≡ true
-node_read schema table trees now place bookmark row reads there = node_of_row (table_nodes trees table) bookmark there
 
 pub room_read : (schema : Schema) (table : ℕ) (trees : List StoredTable) (now : List HeldChange) (place : ℕ) (bookmark row : List ℕ) → Reads schema table trees now place bookmark row → is_some (get_in (table_nodes trees table) bookmark) ≡ true
     → IsSomeAnd (extent_in (table_nodes trees table) bookmark) (λ extent. length row ≤ extent)

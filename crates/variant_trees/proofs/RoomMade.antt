@@ -1,6 +1,6 @@
 -- Nodes that come, go or are changed for a put.
 use Rattle.std.proofs.Common.{◌≡◌, ◌≢◌, ℕ, ◌≤◌, Bool, true, false, ◌&&◌, cond, if◌then◌else◌, List, [], ◌∷◌, Option, Some, None, find, length, option_map, refl, sym, ap, subst, ◌∙◌, arith}
-use Rattle.std.specs.Prelude.{◌==◌, All, IsSomeAnd, bytes_eq, is_none, unwrap_or}
+use Rattle.std.specs.Prelude.{◌==◌, All, IsSomeAnd, bytes_eq, unwrap_or}
 use Rattle.std.proofs.lemmas.List.Elements.{All-head, All-tail}
 use Rattle.std.proofs.lemmas.Bool.{eqb-true}
 use Rattle.common_lemmas.proofs.Numbers.{same_bytes, self_equal}
@@ -55,53 +55,6 @@ same_table_numbers table nodes (x ∷ trees) = λ i. same (is_table table x) i �
 pub no_less : (o : Option ℕ) → IsWidened o o
 no_less None = tt
 no_less (Some n) = omega arith
-
--- ---- a new node
-
-pub room_in_new : NodeLaws → (trees : List StoredTable) (table : ℕ) (bookmark : List ℕ) (size : ℕ) → has_table trees table ≡ true → get_in (table_nodes trees table) bookmark ≡ None
-    → HasRoom table bookmark size trees (with_nodes table (inserted (table_nodes trees table) (record { key = bookmark; extent = size; «data» = [] })) trees)
-room_in_new laws trees table bookmark size there absent = record {
-  numbers = same_table_numbers table (inserted (table_nodes trees table) node) trees;
-  indexes = λ other. laws.indexes trees table other (inserted (table_nodes trees table) node);
-  values = λ other. laws.values trees table other (inserted (table_nodes trees table) node);
-  rows = λ other own. ap data_of (found other own) ∙ row other own (table == other) (bytes_eq bookmark own) refl refl;
-  extents = λ other own. subst (λ (o : Option Node). IsWidened (extent_in (table_nodes trees other) own) (extent_of o)) (sym (found other own)) (wide other own (table == other) (bytes_eq bookmark own) refl refl);
-  room = subst (λ (o : Option Node). IsSomeAnd (extent_of o) (λ extent. size ≤ extent)) (sym (found table bookmark ∙ own_found)) (omega arith);
-}
-  where
-    node : Node
-    node = record { key = bookmark; extent = size; «data» = [] }
-
-    found : (other : ℕ) (own : List ℕ) → find (has_key own) (table_nodes (with_nodes table (inserted (table_nodes trees table) node) trees) other)
-        ≡ cond (table == other) (cond (bytes_eq bookmark own) (Some node) (find (has_key own) (table_nodes trees table))) (find (has_key own) (table_nodes trees other))
-    found other own =
-        found_then laws trees table (inserted (table_nodes trees table) node) there other own
-        ∙ ap (λ o. cond (table == other) o (find (has_key own) (table_nodes trees other))) (laws.put (table_nodes trees table) node own)
-
-    own_found : cond (table == table) (cond (bytes_eq bookmark bookmark) (Some node) (find (has_key bookmark) (table_nodes trees table))) (find (has_key bookmark) (table_nodes trees table)) ≡ Some node
-    own_found = λ i. cond (self_equal table i) (cond (equal_bytes bookmark bookmark refl i) (Some node) (find (has_key bookmark) (table_nodes trees table))) (find (has_key bookmark) (table_nodes trees table))
-
-    none : (other : ℕ) (own : List ℕ) → (table == other) ≡ true → bytes_eq bookmark own ≡ true → get_in (table_nodes trees other) own ≡ None
-    none other own e f = (λ i. get_in (table_nodes trees (sym (eqb-true table other e) i)) (sym (same_bytes bookmark own f) i)) ∙ absent
-
-    no_extent : (o : Option Node) → data_of o ≡ None → extent_of o ≡ None
-    no_extent None e = refl
-    no_extent (Some n) e = absurd (no n.data e)
-      where
-        no : (row : List ℕ) → Some row ≡ None → ⊥
-        no row h = cc
-
-    row : (other : ℕ) (own : List ℕ) (a b : Bool) → (table == other) ≡ a → bytes_eq bookmark own ≡ b
-        → data_of (cond a (cond b (Some node) (find (has_key own) (table_nodes trees table))) (find (has_key own) (table_nodes trees other))) ≡ node_at_least (a && b) (get_in (table_nodes trees other) own)
-    row other own true true e f = sym (ap (node_at_least true) (none other own e f))
-    row other own true false e f = λ i. get_in (table_nodes trees (eqb-true table other e i)) own
-    row other own false b e f = refl
-
-    wide : (other : ℕ) (own : List ℕ) (a b : Bool) → (table == other) ≡ a → bytes_eq bookmark own ≡ b
-        → IsWidened (extent_in (table_nodes trees other) own) (extent_of (cond a (cond b (Some node) (find (has_key own) (table_nodes trees table))) (find (has_key own) (table_nodes trees other))))
-    wide other own true true e f = subst (λ (o : Option ℕ). IsWidened o (Some size)) (sym (no_extent (find (has_key own) (table_nodes trees other)) (none other own e f))) tt
-    wide other own true false e f = subst (λ (n : ℕ). IsWidened (extent_in (table_nodes trees other) own) (extent_in (table_nodes trees n) own)) (sym (eqb-true table other e)) (no_less (extent_in (table_nodes trees other) own))
-    wide other own false b e f = no_less (extent_in (table_nodes trees other) own)
 
 -- ---- a node that is there
 
@@ -187,20 +140,6 @@ room_in_wider laws trees table bookmark size n there is less = record {
     wide other own false b e f = no_less (extent_in (table_nodes trees other) own)
 
 -- ---- what is asked of the calls
-
-pub no_node : (nodes : List Node) (bookmark : List ℕ) → extent_in nodes bookmark ≡ None → get_in nodes bookmark ≡ None
-no_node nodes bookmark none = by (find (has_key bookmark) nodes) none
-  where
-    by : (o : Option Node) → extent_of o ≡ None → data_of o ≡ None
-    by None e = refl
-    by (Some n) e = cc
-
-pub some_node : (nodes : List Node) (bookmark : List ℕ) (n : ℕ) → extent_in nodes bookmark ≡ Some n → is_none (get_in nodes bookmark) ≡ false
-some_node nodes bookmark n some = by (find (has_key bookmark) nodes) some
-  where
-    by : (o : Option Node) → extent_of o ≡ Some n → is_none (data_of o) ≡ false
-    by None e = cc
-    by (Some x) e = refl
 
 pub row_fits : (nodes : List Node) (bookmark : List ℕ) (n size : ℕ) → All IsShortNode nodes → extent_in nodes bookmark ≡ Some n → n ≤ size → IsSomeAnd (get_in nodes bookmark) (λ row. length row ≤ size)
 row_fits [] bookmark n size short some less = cc

@@ -7,16 +7,13 @@ use Rattle.database_state.specs.Table.{Table, with_table}
 use Rattle.jet_catalog.specs.Catalog.{ids_rise}
 use Rattle.table_trees.specs.StoredTables.{StoredIndex, StoredTable, is_table, put_indexes, table_indexes, with_indexes}
 use Rattle.stored_variants.specs.VersionsKept.{needed_trees, tree_numbers}
+use Rattle.stored_variants.proofs.Tables.{others}
 
 abbrev pub first_or_none : List (ℕ × List ℕ) → ℕ × List ℕ
 first_or_none [] = (0, [])
 first_or_none (x ∷ xs) = x
 
-abbrev pub others : List (ℕ × List ℕ) → List (ℕ × List ℕ)
-others [] = []
-others (x ∷ xs) = xs
-
-abbrev is_empty : List (ℕ × List ℕ) → Bool
+abbrev pub is_empty : List (ℕ × List ℕ) → Bool
 is_empty [] = true
 is_empty (x ∷ xs) = false
 
