@@ -1,7 +1,6 @@
 -- Nodes that are gone over where they lie, up to the first whose record a reader sees.
 use Rattle.std.proofs.Common.{◌≡◌, ◌≤◌, ◌<◌, ℕ, Bool, Bor, true, false, cond, List, Option, Some, None, filter, length, option_map, refl, sym, ap, ◌∙◌}
-use Rattle.std.specs.Prelude.{IfSome, is_some, option_and_then, option_copied}
-use Rattle.common_lemmas.proofs.Booleans.{impossible}
+use Rattle.std.specs.Prelude.{IfSome, is_some, option_and_then}
 use Rattle.btree_inplace.specs.Order.{get_in}
 use Rattle.column_set.specs.RecordValues.{RecordFields}
 use Rattle.cursor_nav.specs.Places.{Pair, are_sorted, entry_after}
@@ -86,10 +85,6 @@ parts_of found = option_map (λ f. (f.0.now, f.1.now)) found
 pub short_parts : (found : Option (Bor (List ℕ) × Bor (List ℕ))) → IfSome found (λ f. length f.0.now ≤ 255) → IfSome (parts_of found) (λ (f : Pair). length f.0 ≤ 255)
 short_parts None short = tt
 short_parts (Some f) short = short
-
-pub none_copied : {A : Type 0} (found : Option (Bor A)) → is_some found ≡ false → option_copied found ≡ None
-none_copied None e = refl
-none_copied (Some x) e = impossible (sym e)
 
 -- whether a reader sees the record of a node is told by the node's bytes
 pub seen_in_place : (latest : ℕ) (catalog : CatalogState) (trees : List StoredTable) (held : List HeldChange) → AreKept catalog.tables trees held → ((table : ℕ) → are_sorted (bookmark_entries (table_nodes trees table)) ≡ true)

@@ -15,14 +15,14 @@ use Rattle.index_derive.specs.Primary.{first_values}
 use Rattle.version_store.specs.declared.calls.Reader.{Reader}
 use Rattle.versioned_tables.specs.VersionedTables.{VersionedTables}
 use Rattle.table_versions.specs.KeyConflicts.{has_conflict_over, is_taken_for, replaced_seen, unique_refusals}
-use Rattle.table_versions.proofs.StoredConflicts.{OneEntry}
+use Rattle.version_keys.proofs.BookmarkKeys.{HasOneEntry}
 
 or_false : (b : Bool) → (b || false) ≡ b
 or_false true = refl
 or_false false = refl
 
 -- the key of a record that a primary index does not refuse
-alone : OneEntry → (rule : IndexRule) (schema : Schema) (values : RecordFields) (key : List ℕ) → is_legal rule schema ≡ true → rule.flags.primary ≡ true → IsOk (entries rule schema values) → key ≡ primary_key rule schema values → key_list rule schema values ≡ key ∷ []
+alone : HasOneEntry → (rule : IndexRule) (schema : Schema) (values : RecordFields) (key : List ℕ) → is_legal rule schema ≡ true → rule.flags.primary ≡ true → IsOk (entries rule schema values) → key ≡ primary_key rule schema values → key_list rule schema values ≡ key ∷ []
 alone law rule schema values key legal primary taken is =
     ap keys_or_none (law rule schema values legal primary)
     ∙ by (rule.flags.disallownull && list_any (λ column. not (has_value values column)) (key_columns rule)) (rule.flags.disallowtruncation && is_cut rule.key_most (whole_key rule schema (first_values rule values)))
@@ -45,7 +45,7 @@ asked_of_one found is_new key = by (is_new key)
     by false = refl
 
 -- what the primary index refuses of the record, by that key
-pub refused_by_key : OneEntry → (reader : Reader) (store : VersionedTables) (table : ℕ) (schema : Schema) (rule : IndexRule) (own : Option (List ℕ)) (key : List ℕ) → is_legal rule schema ≡ true → rule.flags.primary ≡ true → (met taken : Bool)
+pub refused_by_key : HasOneEntry → (reader : Reader) (store : VersionedTables) (table : ℕ) (schema : Schema) (rule : IndexRule) (own : Option (List ℕ)) (key : List ℕ) → is_legal rule schema ≡ true → rule.flags.primary ≡ true → (met taken : Bool)
     → met ≡ (not (yields_key rule schema key (replaced_seen reader store table own)) && has_conflict_over reader store table rule schema key) → taken ≡ is_taken_for reader store table rule.id.0 own key
     → (values : RecordFields) → IsOk (entries rule schema values) → key ≡ primary_key rule schema values
     → first_refusal ((met, jet.WriteConflict) ∷ (taken, jet.KeyDuplicate) ∷ []) ≡ first_refusal (unique_refusals reader store table schema rule own values)

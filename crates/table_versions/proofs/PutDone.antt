@@ -1,6 +1,6 @@
 -- A store after a put.
-use Rattle.std.proofs.Common.{◌≡◌, ℕ, ◌≤◌, ◌<◌, ◌^◌, Bool, true, false, ◌&&◌, cond, List, [], ◌∷◌, ◌++◌, length, map, Option, Some, None, Result, Ok, Err, option_map, refl, sym, ap, subst, ◌∙◌, arith}
-use Rattle.std.specs.Prelude.{◌==◌, All, IfSome, IsSomeAnd, IsTrue, OnErr, OnOk, is_some, option_and_then}
+use Rattle.std.proofs.Common.{◌≡◌, ℕ, ◌≤◌, ◌<◌, ◌^◌, Bool, true, false, ◌&&◌, cond, List, [], ◌∷◌, ◌++◌, length, map, Option, Some, None, option_map, refl, sym, ap, subst, ◌∙◌, arith}
+use Rattle.std.specs.Prelude.{◌==◌, All, IfSome, IsSomeAnd, IsTrue, is_some, option_and_then}
 use Rattle.std.specs.List.{AllByRecursion, list_all}
 use Rattle.std.proofs.lemmas.Bool.{and_from, eqb-true}
 use Rattle.common_lemmas.proofs.Numbers.{self_equal}
@@ -326,17 +326,3 @@ put_as number old new row id other id_is bookmark own bookmark_is schema table_s
 pub same_as : (old new : List StoredTable) (id other : ℕ) → id ≡ other → (schema table_schema : Schema) → schema ≡ table_schema → IsSame id schema old new → IsSame other table_schema old new
 same_as old new id other id_is schema table_schema schema_is same =
     subst (λ (n : ℕ). IsSame n table_schema old new) id_is (subst (λ (s : Schema). IsSame id s old new) schema_is same)
-
--- ---- either way
-
-pub on_both : {A B P Q R S G : Type 0} (r : Result A B) → OnOk r P → OnOk r Q → OnErr r R → OnErr r S → (P → Q → G) → (R → S → G) → G
-on_both (Ok x) p q e f good bad = good p q
-on_both (Err x) p q e f good bad = bad e f
-
-pub on_oks : {A B P Q G : Type 0} (r : Result A B) → OnOk r P → OnOk r Q → (P → Q → G) → OnOk r G
-on_oks (Ok x) p q good = good p q
-on_oks (Err x) p q good = tt
-
-pub on_errs : {A B P Q G : Type 0} (r : Result A B) → OnErr r P → OnErr r Q → (P → Q → G) → OnErr r G
-on_errs (Ok x) p q bad = tt
-on_errs (Err x) p q bad = bad p q

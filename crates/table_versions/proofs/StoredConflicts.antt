@@ -14,7 +14,7 @@ use Rattle.database_state.specs.Table.{Table, primary_rule, record_in, row_at, r
 use Rattle.index_derive.specs.declared.rules.IndexRule.{IndexRule}
 use Rattle.index_derive.specs.declared.rules.Schema.{Schema}
 use Rattle.index_derive.specs.Entries.{NullKeyDisallowed, KeyTruncated, entries, is_legal, key_columns, keys_or_none, primary_key, whole_key}
-use Rattle.index_derive.specs.Primary.{first_values, primary_entries}
+use Rattle.index_derive.specs.Primary.{first_values}
 use Rattle.key_normal.specs.KeyBytes.{is_cut}
 use Rattle.jet_catalog.specs.Catalog.{CatalogState}
 use Rattle.table_trees.specs.StoredNodes.{bookmark_entries}
@@ -34,6 +34,7 @@ use Rattle.table_versions.proofs.StoredRules.{IsLegalRule, rule_at, stored_rule}
 use Rattle.stored_variants.proofs.Tables.{found_number, newest_at, table_at}
 use Rattle.table_versions.proofs.WithKey.{has_key_and}
 use Rattle.long_value.specs.Values.{Values}
+use Rattle.version_keys.proofs.BookmarkKeys.{HasOneEntry}
 
 -- ---- rows before changes
 
@@ -125,10 +126,7 @@ conflict_in_tree reader key latest catalog trees held kept now shows table schem
 
 -- ---- the primary index
 
-abbrev pub OneEntry : Type 0
-OneEntry = (rule : IndexRule) (schema : Schema) (fields : RecordFields) → is_legal rule schema ≡ true → rule.flags.primary ≡ true → entries rule schema fields ≡ primary_entries rule schema fields
-
-own_key : OneEntry → (rule : IndexRule) (schema : Schema) (key : List ℕ) (values : RecordFields) → is_legal rule schema ≡ true → rule.flags.primary ≡ true → yields_key rule schema key (Some values) ≡ true → key ≡ primary_key rule schema values
+own_key : HasOneEntry → (rule : IndexRule) (schema : Schema) (key : List ℕ) (values : RecordFields) → is_legal rule schema ≡ true → rule.flags.primary ≡ true → yields_key rule schema key (Some values) ≡ true → key ≡ primary_key rule schema values
 own_key law rule schema key values legal primary yields =
     by (rule.flags.disallownull && list_any (λ column. not (has_value values column)) (key_columns rule)) (rule.flags.disallowtruncation && is_cut rule.key_most (whole_key rule schema (first_values rule values)))
     (sym (ap (λ r. list_any (bytes_eq key) (keys_or_none r)) (law rule schema values legal primary)) ∙ yields)
@@ -145,7 +143,7 @@ own_key law rule schema key values legal primary yields =
     by false false h = same_bytes key (primary_key rule schema values) (alone (bytes_eq key (primary_key rule schema values)) h)
 
 -- the key of a row is the bookmark that it stands under
-row_key : (vals : Values) → OneEntry → (t : Table) (rule : IndexRule) (key bookmark : List ℕ) → is_legal rule (schema_of t) ≡ true → rule.flags.primary ≡ true → primary_rule (schema_of t) ≡ Some rule
+row_key : (vals : Values) → HasOneEntry → (t : Table) (rule : IndexRule) (key bookmark : List ℕ) → is_legal rule (schema_of t) ≡ true → rule.flags.primary ≡ true → primary_rule (schema_of t) ≡ Some rule
     → (row : Option (List ℕ)) → IfSome row (IsRowUnder vals t bookmark) → yields_key rule (schema_of t) key (option_map (record_of vals) row) ≡ true → bookmark ≡ key
 row_key vals law t rule key bookmark legal primary first None is yields = impossible yields
 row_key vals law t rule key bookmark legal primary first (Some row) is yields =
@@ -153,7 +151,7 @@ row_key vals law t rule key bookmark legal primary first (Some row) is yields =
     subst B first is.own ∙ sym (own_key law rule (schema_of t) key (record_of vals row) legal primary yields)
 
 -- and so is that of the row before a change
-changed_key : (longs : TableValues) → OneEntry → (tables : List Table) (trees : List StoredTable) (t : Table) → table_with_id tables t.id ≡ Some t → (rule : IndexRule) (key bookmark : List ℕ) → is_legal rule (schema_of t) ≡ true → rule.flags.primary ≡ true → primary_rule (schema_of t) ≡ Some rule
+changed_key : (longs : TableValues) → HasOneEntry → (tables : List Table) (trees : List StoredTable) (t : Table) → table_with_id tables t.id ≡ Some t → (rule : IndexRule) (key bookmark : List ℕ) → is_legal rule (schema_of t) ≡ true → rule.flags.primary ≡ true → primary_rule (schema_of t) ≡ Some rule
     → (held : List HeldChange) → AllByRecursion (IsKeptChange longs tables trees) held
     → list_any (λ (change : HeldRecord). is_standing_rewrite t.id bookmark change && yields_key rule (schema_of t) key change.before) (map (held_record_in longs) held) ≡ true → bookmark ≡ key
 changed_key longs law tables trees t named rule key bookmark legal primary first [] kept any = impossible any
@@ -182,7 +180,7 @@ changed_key longs law tables trees t named rule key bookmark legal primary first
     by true e any rest = here e
     by false e any rest = rest any
 
-pub conflict_in_primary : OneEntry → (reader : Reader) (key : List ℕ) (latest : ℕ) (catalog : CatalogState) (trees : List StoredTable) (held : List HeldChange) → AreKept catalog.tables trees held → ((table : ℕ) → are_sorted (bookmark_entries (table_nodes trees table)) ≡ true)
+pub conflict_in_primary : HasOneEntry → (reader : Reader) (key : List ℕ) (latest : ℕ) (catalog : CatalogState) (trees : List StoredTable) (held : List HeldChange) → AreKept catalog.tables trees held → ((table : ℕ) → are_sorted (bookmark_entries (table_nodes trees table)) ≡ true)
     → (now : StoredVersions) → stored_versions latest catalog trees held ≡ now → (table : ℕ) (schema : Schema) → IsSomeAnd (table_with_id now.store.tables table) (λ t. schema ≡ schema_of t) → (rule : IndexRule) → rule_with_id schema rule.id.0 ≡ Some rule → rule.flags.primary ≡ true
     → OfRecord reader now table rule schema key key ≡ Conflict reader now table rule schema key
 conflict_in_primary law reader key latest catalog trees held kept sorted now shows table schema known rule found primary =
