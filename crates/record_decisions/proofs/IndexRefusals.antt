@@ -45,11 +45,6 @@ is-ok (Err KeyTruncated) none = some_none _ none
 pub rule-taken : (schema : Schema) (values : RecordFields) (place : ℕ) (rule : IndexRule) → first_refusal (null_refusals schema values) ≡ None → slice_get schema.indexes place ≡ Some rule → IsOk (entries rule schema values)
 rule-taken schema values place rule none is = is-ok (entries rule schema values) (none-at (entry_refusals schema values) schema.indexes place rule none is)
 
--- ---- what was derived
-
-pub derived-told : (keys told : Result (List (List ℕ)) KeyRefusal) (found : Option Jet) → keys ≡ told → found ≡ first_refusal (refusals_of_keys told) → found ≡ first_refusal (refusals_of_keys keys)
-derived-told keys told found is by = by ∙ ap (λ (k : Result (List (List ℕ)) KeyRefusal). first_refusal (refusals_of_keys k)) (sym is)
-
 -- ---- a unique index is asked
 
 pub unique-told : (engine : EngineState) (session table : ℕ) (schema : Schema) (own other : Option (List ℕ)) (values others : RecordFields) (rule : IndexRule) (reader : Reader) (store : VersionedTables) (found : Option Jet) → reader ≡ reader_in session engine.sessions

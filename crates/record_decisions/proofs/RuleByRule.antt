@@ -30,9 +30,6 @@ at_rule f rules i rule found low is told =
     ∙ first_refusal-append (f rule) later
     ∙ ap (λ o. option_or o (first_refusal later)) (sym told)
 
-pub passed-on : {X : Type 0} (f : X → Refusals) (rules : List X) (i : ℕ) (rule : X) → PassedTo f rules i → i < length rules → rule ≡ get_or rules i rule → None ≡ first_refusal (f rule) → PassedTo f rules (i + 1)
-passed-on f rules i rule passed low is told = sym (at_rule f rules i rule None low is told) ∙ passed
-
 pub refused-at : {X : Type 0} (f : X → Refusals) (rules : List X) (i : ℕ) (rule : X) (reply : Jet) → PassedTo f rules i → i < length rules → rule ≡ get_or rules i rule → Some reply ≡ first_refusal (f rule)
     → Some reply ≡ first_refusal (flat_map f rules)
 refused-at f rules i rule reply passed low is told = sym (at_rule f rules i rule (Some reply) low is told) ∙ passed

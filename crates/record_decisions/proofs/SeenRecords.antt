@@ -10,7 +10,7 @@ use Rattle.std.specs.Bool.{passes}
 use Rattle.std.specs.FinMap.Entries.{by_order, find-put, is_sorted, is_sorted-put}
 use Rattle.std.proofs.lemmas.Int.{of_z-to_z}
 use Rattle.std.proofs.Math.Nat.{mod-eq_of_lt}
-use Rattle.std.proofs.lemmas.List.{take_all, take_more}
+use Rattle.std.proofs.lemmas.List.{take_all}
 use Rattle.std.proofs.lemmas.List.Folds.{list_any_more}
 use Rattle.std.proofs.lemmas.Bool.{and_from, eqb-true}
 use Rattle.common_lemmas.proofs.Booleans.{and_left, and_right, impossible, is_true}
@@ -219,6 +219,3 @@ zeros_push (x ∷ xs) column fields =
       | true ↦ zeros_push xs column (with_values fields x.id.0 ((0 ∷ 0 ∷ 0 ∷ 0 ∷ []) ∷ []))
       | false ↦ zeros_push xs column fields
     ]
-
-pub zeros_more : (columns : List Column) (i : ℕ) (d : Column) (fields : RecordFields) → i < length columns → with_sums_at_zero (take (i + 1) columns) fields ≡ with_zero (get_or columns i d) (with_sums_at_zero (take i columns) fields)
-zeros_more columns i d fields within = ap (λ cs. with_sums_at_zero cs fields) (take_more columns i d within) ∙ zeros_push (take i columns) (get_or columns i d) fields
