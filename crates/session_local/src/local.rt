@@ -58,13 +58,6 @@ impl Local {
         self.session
     }
 
-    /// Whether the session was begun.
-    pub fn is_begun(&self) -> bool
-        ensures { result ≡ self.now.state.begun }
-    {
-        self.begun.is_some()
-    }
-
     /// The reply buffer, empty before BeginSession.
     pub fn reply(&self) -> &[u8]
         ensures bytes { result.now ≡ self.now.reply }
