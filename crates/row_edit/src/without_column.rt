@@ -74,8 +74,8 @@ pub(crate) fn first_value(bytes: &[u8]) -> Option<(u16, &[u8], &[u8])>
     Some((column, value, rest))
 }
 
-// Writes bytes behind what the buffer holds.
-fn append(buffer: &mut ArrayVec<u8, MAX_ROW_SIZE>, bytes: &[u8])
+/// Writes bytes behind what the buffer of a row holds. It takes no memory.
+pub fn append(buffer: &mut ArrayVec<u8, MAX_ROW_SIZE>, bytes: &[u8])
     requires { length buffer.old.items + length bytes.now ≤ largest_row }
     ensures { buffer.new.items ≡ buffer.old.items ++ bytes.now }
 {

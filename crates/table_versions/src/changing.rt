@@ -1,7 +1,7 @@
 //! Changes of records.
 
-ghost use Rattle.std.specs.Prelude.{◌≡◌, ◌↔◌, ◌<◌, ◌≤◌, ◌+◌, ◌++◌, length, true, false, is_some, option_copied, IfSome, IsErrOf, IsSomeAnd, OnErr, OnOk};
-ghost use Rattle.column_set.specs.Rows.{IsRowBytes, largest_row};
+ghost use Rattle.std.specs.Prelude.{◌≡◌, ◌↔◌, ◌<◌, true, false, is_some, option_copied, IfSome, IsErrOf, IsSomeAnd, OnErr, OnOk};
+ghost use Rattle.column_set.specs.Rows.{IsRowBytes};
 ghost use Rattle.database_state.specs.Changes.{changed_bookmark, changed_table, is_sum};
 ghost use Rattle.database_state.specs.Table.{record_in, table_with_id, schema_of};
 ghost use Rattle.version_store.specs.HeldChanges.{kind_of};
@@ -21,6 +21,7 @@ use long_references::{counts_after_a_step, values_keep_their_counts};
 use long_rows::{
     form_of_a_kept_row, kept_rows_stand_for_their_records, rows_stand_as_values_change,
 };
+use row_edit::append;
 use table_trees::{nodes_after_a_change, nodes_by_bookmark};
 use variant_trees::{add_sum, put_record, row_in_node};
 use version_store::{By, Reader, VersionFault};
@@ -210,16 +211,5 @@ fn copied_of(change: &Change) -> Option<&[u8]> {
         Change::Drop { .. } => None,
         Change::Hold { .. } => None,
         Change::Add { .. } => None,
-    }
-}
-
-// Writes bytes behind what the buffer holds.
-fn append(buffer: &mut ArrayVec<u8, MAX_ROW_SIZE>, bytes: &[u8])
-    requires { length buffer.old.items + length bytes.now ≤ largest_row }
-    ensures { buffer.new.items ≡ buffer.old.items ++ bytes.now }
-{
-    match buffer.try_extend_from_slice(bytes) {
-        Ok(()) => {}
-        Err(_) => unreachable!(),
     }
 }
