@@ -89,6 +89,7 @@ impl<'a> NewValue<'a> {
     }
 
     /// The bytes that it stores in a column of the type.
+    #[inline(always)]
     pub fn stored(self, alloc: Global, kind: ColType) -> Result<Octets, OutOfMemory>
         requires { IsTrue (given_fits kind (given_of self)) }
         ensures { IfOk result (λ made. made ≡ given_bytes kind (given_of self.entry)) }
