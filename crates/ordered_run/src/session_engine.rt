@@ -141,7 +141,8 @@ impl SessionEngine {
         self.tell(session, number, reply)
     }
 
-    // Serves any other call that looks at the shared state.
+    // Serves any other call that looks at the shared state. Apart, since its decision is large and most calls need none.
+    #[inline(never)]
     #[tactic(none)]
     fn serve_decided(&mut self, session: Session, request: &Request) -> Served
         requires ready { (limit : ℕ) × (run : RunState) × IsAt limit self.old run }

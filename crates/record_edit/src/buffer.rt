@@ -1,6 +1,6 @@
 //! The copy buffer.
 
-ghost use Rattle.std.specs.Prelude.{◌≡◌, ◌++◌, ◌-◌, ◌^◌, ℕ, List, MatchResult, IfOk, IsTrue, None, Some, length, min, is_ok, if◌then◌else◌};
+ghost use Rattle.std.specs.Prelude.{◌≡◌, ◌<◌, ◌++◌, ◌-◌, ◌^◌, ℕ, List, [], ◌∷◌, MatchResult, IfOk, IsTrue, None, Some, length, min, is_ok, slice_set, if◌then◌else◌};
 ghost use Rattle.std.specs.Option.{option_copied};
 ghost use Rattle.column_set.specs.RecordValues.{column_of_id, record_size, values_of, with_values};
 ghost use Rattle.jet_base.specs.Given.{given_bytes, given_fits};
@@ -14,7 +14,7 @@ use crate::effect::Effect;
 use crate::fault::EditFault;
 use crate::new_value::NewValue;
 use column_set::{Column, Columns, MAX_ROW_SIZE, Record, column_named, column_of_id};
-use jet_base::{ColType, ColumnId, Given, Jet, Name, OutOfMemory};
+use jet_base::{ColType, ColumnId, Given, Jet, Name, Octets, OutOfMemory};
 use std::alloc::Global;
 use std::marker::Model;
 use stored_value::largest_value;
@@ -140,7 +140,8 @@ fn checked(column: &Column, sequence: u32, value: NewValue, values: &Record) -> 
     ensures refusals { MatchResult result (λ _. refusal_in_column column.now sequence (given_of value.entry) values.now ≡ None) (λ refusal. refusal_in_column column.now sequence (given_of value.entry) values.now ≡ Some refusal) }
     ensures effect { IfOk result (IsEffectOf column.now sequence (given_of value.entry) values.now) }
 {
-    let count = values.values(column.id).len();
+    let there = values.values(column.id);
+    let count = there.len();
     let effect = Effect::of(column.multi, sequence, value.is_null(), count);
     if column.escrow {
         return Err(Jet::ColumnNotUpdatable);
@@ -157,19 +158,28 @@ fn checked(column: &Column, sequence: u32, value: NewValue, values: &Record) -> 
     if value.is_null() && column.not_null && effect.leaves_none(count) {
         return Err(Jet::NullInvalid);
     }
-    if MAX_ROW_SIZE < size_after(effect, value.stored_length(column.kind), column.id, values) {
+    let added = value.stored_length(column.kind);
+    if MAX_ROW_SIZE < size_after(effect, added, column.id, there, values) {
         return Err(Jet::RecordTooBig);
     }
     Ok(effect)
 }
 
-// The size of the record after the effect of a value of so many bytes. Past the largest number it is that number.
-fn size_after(effect: Effect, added: usize, column: ColumnId, values: &Record) -> usize
-    requires { IsEffectOn (length (values_of values.now column.0)) effect }
+// The size of the record after the effect of a value of so many bytes on the values that the column has. Past the largest
+// number it is that number.
+fn size_after(
+    effect: Effect,
+    added: usize,
+    column: ColumnId,
+    there: &[Octets],
+    values: &Record,
+) -> usize
+    requires there { there.now ≡ values_of values.now column.0 }
+    requires effect { IsEffectOn (length (values_of values.now column.0)) effect }
     ensures { (value : List ℕ) → length value ≡ added → result ≡ min (record_size (with_values values.now column.0 (values_by effect value (values_of values.now column.0)))) (2 ^ 64 - 1) }
 {
     let others = values.size_without(column);
-    others.saturating_add(effect.size_after(added, values.values(column)))
+    others.saturating_add(effect.size_after(added, there))
 }
 
 // The effect on the record, for which the value is spelled out. Where there is no memory all stays.
@@ -190,9 +200,41 @@ fn apply(
         Effect::Nothing => {}
         Effect::Clear => values.clear(column)?,
         Effect::Remove(place) => values.remove_value(column, place)?,
-        Effect::Set(place) => values.set_value(column, place, value.stored(alloc, kind)?)?,
+        Effect::Set(place) => replace(alloc, column, place, kind, value, values)?,
         Effect::Only => values.set_only_value(column, value.stored(alloc, kind)?)?,
-        Effect::Push => values.push_value(column, value.stored(alloc, kind)?)?,
+        Effect::Push => push(alloc, column, kind, value, values)?,
     }
     Ok(())
+}
+
+// Puts the value in the place of one of several. Apart, since few columns have several.
+#[inline(never)]
+fn replace(
+    alloc: Global,
+    column: ColumnId,
+    place: usize,
+    kind: ColType,
+    value: NewValue,
+    values: &mut Record,
+) -> Result<(), OutOfMemory>
+    requires place { place < length (values_of values.old column.0) }
+    requires given { IsTrue (given_fits kind (given_of value)) }
+    ensures { values.new ≡ (if is_ok result then with_values values.old column.0 (slice_set (values_of values.old column.0) place (given_bytes kind (given_of value.entry))) else values.old) }
+{
+    values.set_value(column, place, value.stored(alloc, kind)?)
+}
+
+// Puts one more value behind those of the column. Apart, since few columns have several.
+#[inline(never)]
+fn push(
+    alloc: Global,
+    column: ColumnId,
+    kind: ColType,
+    value: NewValue,
+    values: &mut Record,
+) -> Result<(), OutOfMemory>
+    requires { IsTrue (given_fits kind (given_of value)) }
+    ensures { values.new ≡ (if is_ok result then with_values values.old column.0 (values_of values.old column.0 ++ given_bytes kind (given_of value.entry) ∷ []) else values.old) }
+{
+    values.push_value(column, value.stored(alloc, kind)?)
 }

@@ -89,6 +89,7 @@ impl<'a> NewValue<'a> {
     }
 
     /// The bytes that it stores in a column of the type.
+    #[inline(always)]
     pub fn stored(self, alloc: Global, kind: ColType) -> Result<Octets, OutOfMemory>
         requires { IsTrue (given_fits kind (given_of self)) }
         ensures { IfOk result (λ made. made ≡ given_bytes kind (given_of self.entry)) }
@@ -116,15 +117,22 @@ fn stored_bytes(alloc: Global, kind: ColType, bytes: &[u8]) -> Result<Octets, Ou
     ensures { IfOk result (λ made. made ≡ as_stored kind bytes.now) }
 {
     match kind {
-        ColType::Bit => {
-            let bits = bytes.iter().map(|byte| as_bit(*byte)).collect(alloc)?;
-            Octets::new(bits)
-        }
+        ColType::Bit => stored_bits(alloc, bytes),
         _ => Octets::from_slice(alloc, bytes),
     }
 }
 
-// The same of a repeated byte.
+// Bytes as a column of type `Bit` stores them. Apart, since few columns have it.
+#[inline(never)]
+fn stored_bits(alloc: Global, bytes: &[u8]) -> Result<Octets, OutOfMemory>
+    ensures { IfOk result (λ made. made ≡ as_stored ColType.Bit bytes.now) }
+{
+    let bits = bytes.iter().map(|byte| as_bit(*byte)).collect(alloc)?;
+    Octets::new(bits)
+}
+
+// The same of a repeated byte, as a column of any type stores it.
+#[inline(never)]
 fn stored_fill(alloc: Global, kind: ColType, count: u32, byte: u8) -> Result<Octets, OutOfMemory>
     ensures { IfOk result (λ made. made ≡ as_stored kind (replicate count byte)) }
 {
