@@ -122,6 +122,7 @@ impl FieldList {
     }
 
     /// Puts the value in the place of all values of the column. Where there is no memory all stays.
+    #[inline(always)]
     pub(crate) fn set_only_value(
         &mut self,
         column: ColumnId,

@@ -142,6 +142,7 @@ impl Record {
     }
 
     /// Puts the value in the place of all values of the column. Where there is no memory all stays.
+    #[inline(always)]
     pub fn set_only_value(&mut self, column: ColumnId, value: Octets) -> Result<(), OutOfMemory>
         ensures { self.new ≡ (if is_ok result then with_values self.old column.0 (value ∷ []) else self.old) }
     {
@@ -202,6 +203,7 @@ impl Record {
     }
 
     // Puts the first value of all.
+    #[inline(never)]
     fn begin(&mut self, column: ColumnId, value: Octets) -> Result<(), OutOfMemory>
         requires { self.old ≡ [] }
         ensures { self.new ≡ (if is_ok result then with_values self.old column.0 (value ∷ []) else self.old) }
