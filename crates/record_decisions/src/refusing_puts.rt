@@ -7,11 +7,11 @@ ghost use Rattle.database_state.specs.Puts.{null_refusals};
 ghost use Rattle.database_state.specs.Refusals.{first_refusal};
 ghost use Rattle.database_state.specs.Table.{primary_rule, rule_with_id, schema_of, table_with_id};
 ghost use Rattle.session_local.specs.Preparing.{for_of, update_of};
-ghost use Rattle.session_local.specs.RecordCalls.{is_primary_changed, replaced_by};
+ghost use Rattle.session_local.specs.RecordCalls.{is_other_key, is_primary_changed, replaced_by};
 ghost use Rattle.table_versions.specs.KeyConflicts.{unique_refusals};
 ghost use Rattle.record_decisions.specs.Updating.{HasLegalRules, IsSchemaOf, entry_refusals, keys_in, own_key, record_in, values_in};
 
-use column_set::Record;
+use column_set::{Bookmark, Record};
 use engine_parts::Engine;
 use index_derive::{DeriveFault, IndexRule, Schema, derive, primary_key};
 use jet_base::{Jet, OutOfMemory, Session, TableId};
@@ -77,13 +77,23 @@ fn is_primary_changed(schema: &Schema, purpose: &Purpose, values: &Record) -> bo
 {
     match purpose {
         Purpose::Insert(_) => false,
-        Purpose::Replace(bookmark) => match schema.primary_rule() {
-            Some(rule) => {
-                let key = primary_key(rule, schema, values);
-                key.as_bytes() != bookmark.as_bytes()
-            }
-            None => false,
-        },
+        Purpose::Replace(bookmark) => is_other_key(schema, bookmark, values),
+    }
+}
+
+// Whether the record's key in the primary index is another than the bookmark. Apart, since a key is large and an insert makes
+// none here.
+#[inline(never)]
+fn is_other_key(schema: &Schema, bookmark: &Bookmark, values: &Record) -> bool
+    requires rules { HasLegalRules schema.now }
+    ensures { result ≡ is_other_key schema.now bookmark.now values.now (primary_rule schema.now) }
+{
+    match schema.primary_rule() {
+        Some(rule) => {
+            let key = primary_key(rule, schema, values);
+            key.as_bytes() != bookmark.as_bytes()
+        }
+        None => false,
     }
 }
 
