@@ -12,8 +12,6 @@ ghost use Rattle.session_local.specs.Outcome.{Asked};
 ghost use Rattle.lawful_answers.specs.LawfulSteps.{IsReached};
 ghost use Rattle.agreeing_sessions.specs.InStep.{IsInStep, SeesStored, StaysInStep};
 
-use index_derive::{a_primary_index_has_one_entry, entries_rise};
-
 /// A lock leaves the records that the session has prepared to replace, and a delete of one of them is refused.
 pub fn locks_and_deletes_keep_a_session_in_step()
     ensures lock { (base : Records) (dropped kept : List PastChange) (asked : Asked) (cursor : CursorId) → IsHistory base dropped kept asked.state → IsInStep asked.state asked.session asked.local → StaysInStep asked (answer asked (call.GetLock cursor)) }
@@ -31,10 +29,7 @@ pub fn sums_keep_a_session_in_step()
 /// also a replace of the same record.
 pub fn an_update_keeps_a_session_in_step()
     ensures { (base : Records) (dropped kept : List PastChange) (asked : Asked) (cursor : CursorId) → IsReached base dropped kept asked.state → IsInStep asked.state asked.session asked.local → StaysInStep asked (answer asked (call.Update cursor)) }
-{
-    a_primary_index_has_one_entry();
-    entries_rise();
-}
+{}
 
 /// A replace that is prepared is of a record of the view, which it locks; so it may be stored as it is, where all records that
 /// the session sees fit their row and their columns. Its columns rise, as those of every record that is seen.

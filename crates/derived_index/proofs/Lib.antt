@@ -4,6 +4,7 @@ pub mod Members
 pub mod Rising
 pub mod Rows
 pub mod Adding
+pub mod KeysRise
 pub mod Segments
 pub mod WholeKeys
 pub mod RecordKeys

@@ -16,7 +16,7 @@ abbrev KeysPass : (List ℕ → Type 0) → Result (List (List ℕ)) KeyRefusal 
 KeysPass P (Ok keys) = AllByRecursion P keys
 KeysPass P (Err refusal) = Unit {0}
 
-all_insert_key : (P : List ℕ → Type 0) (key : List ℕ) (keys : List (List ℕ)) → P key → AllByRecursion P keys → AllByRecursion P (insert_key key keys)
+pub all_insert_key : (P : List ℕ → Type 0) (key : List ℕ) (keys : List (List ℕ)) → P key → AllByRecursion P keys → AllByRecursion P (insert_key key keys)
 all_insert_key P key [] p h = (p, tt)
 all_insert_key P key (k ∷ ks) p h = elim (slice_cmp nat_cmp key k) as (λ r. AllByRecursion P (by_order r (key ∷ k ∷ ks) (k ∷ ks) (k ∷ insert_key key ks))) [
   | Less ↦ (p, h)

@@ -8,15 +8,11 @@ ghost use Rattle.index_derive.specs.Entries.{derive, own_order, has_double_key};
 ghost use Rattle.cursor_nav.specs.Places.{Pair, are_sorted};
 ghost use Rattle.derived_index.specs.KeptEntries.{has_entry, has_equal_neighbours};
 
-use index_derive::entries_rise;
-
 /// The entries of an index are in order and none stands twice, where the bookmarks of the records rise.
 pub fn derived_entries_are_in_order()
     ensures { (rule : IndexRule) (schema : Schema) (rows : List (List ℕ × RecordFields))
         → are_sorted (own_order rows) ≡ true → are_sorted (derive rule schema rows) ≡ true }
-{
-    entries_rise();
-}
+{}
 
 /// Two records share a key exactly where two entries that follow each other do.
 pub fn double_keys_are_entries_of_one_key()

@@ -11,25 +11,19 @@ ghost use Rattle.database_state.specs.Conflicts.{yields_key};
 ghost use Rattle.database_state.specs.Puts.{new_keys};
 ghost use Rattle.derived_index.specs.KeptEntries.{with_entries, without_entries, without_each, entries_with, has_entry};
 
-use index_derive::entries_rise;
-
 /// A record with a new bookmark adds an entry for each of its keys, put in their places one after the other.
 pub fn a_new_record_adds_its_entries()
     ensures { (rule : IndexRule) (schema : Schema) (rows : List (List ℕ × RecordFields)) (bookmark : List ℕ) (values : RecordFields)
         → are_sorted (own_order rows) ≡ true → lookup_by_key bookmark rows ≡ None
         → derive rule schema (put_by_key bookmark values rows) ≡ with_entries (key_list rule schema values) bookmark (derive rule schema rows) }
-{
-    entries_rise();
-}
+{}
 
 /// An index is made of its records one after the other, in the order of their bookmarks.
 pub fn an_index_is_derived_record_by_record()
     ensures { (rule : IndexRule) (schema : Schema) (rows : List (List ℕ × RecordFields)) (bookmark : List ℕ) (values : RecordFields)
         → are_sorted (own_order (rows ++ (bookmark, values) ∷ [])) ≡ true
         → derive rule schema (rows ++ (bookmark, values) ∷ []) ≡ with_entries (key_list rule schema values) bookmark (derive rule schema rows) }
-{
-    entries_rise();
-}
+{}
 
 /// A record that goes takes the entries with its bookmark, and no others: as many as it has keys, one after the other.
 pub fn a_record_that_goes_takes_its_entries()
@@ -50,9 +44,7 @@ pub fn a_changed_record_changes_its_entries()
         → are_sorted (own_order rows) ≡ true → lookup_by_key bookmark rows ≡ Some old
         → derive rule schema (put_by_key bookmark values rows)
         ≡ with_entries (new_keys rule schema (Some old) values) bookmark (without_each (new_keys rule schema (Some values) old) bookmark (derive rule schema rows)) }
-{
-    entries_rise();
-}
+{}
 
 /// Entries that were put for a new bookmark, however many of its record's, can be taken out again.
 pub fn entries_that_were_put_can_be_taken_out()
@@ -79,6 +71,4 @@ pub fn a_record_has_an_entry_a_key()
     ensures no_record { (rule : IndexRule) (schema : Schema) (rows : List (List ℕ × RecordFields)) (bookmark : List ℕ)
         → lookup_by_key bookmark rows ≡ None
         → entries_with bookmark (derive rule schema rows) ≡ [] }
-{
-    entries_rise();
-}
+{}

@@ -22,8 +22,6 @@ ghost use Rattle.versioned_tables.specs.ViewedRecords.{viewed_record};
 ghost use Rattle.engine_versions.specs.EngineState.{EngineState, has_table_open};
 ghost use Rattle.engine_versions.specs.HoldsState.{HoldsState};
 
-use version_keys::variants_tell_key_conflicts;
-
 /// Which sessions are live, and their transactions.
 pub fn sessions_are_told()
     ensures live { (engine : EngineState) (state : DatabaseState) → HoldsState engine state → (session : ℕ) → is_live session engine.sessions ≡ is_live_in state session }
@@ -68,9 +66,7 @@ pub fn conflicts_are_told()
         → IfSome (table_with_id state.tables table) (λ t. AllByRecursion (λ rule. (key : List ℕ)
         → has_key_conflict (reader_in session engine.sessions) (records_of engine.store.tables) table rule (schema_of t) key engine.store.held ≡ has_key_conflict_in state session table (schema_of t) rule key) t.indexes) }
     ensures span { (engine : EngineState) (state : DatabaseState) → HoldsState engine state → span (oldest_begin engine.sessions) engine.store.held ≡ version_span state }
-{
-    variants_tell_key_conflicts();
-}
+{}
 
 /// The records of the engine's tables are the newest ones. Where no session is in a transaction they are the committed ones,
 /// the tables are the committed tables, and each session is shown them.

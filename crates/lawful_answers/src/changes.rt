@@ -23,8 +23,6 @@ ghost use Rattle.session_local.specs.Calls.{answer};
 ghost use Rattle.session_local.specs.Outcome.{Asked};
 ghost use Rattle.lawful_answers.specs.LawfulSteps.{AreLawful, HasLawfulStep, IsReached, begin_of};
 
-use index_derive::{a_primary_index_has_one_entry, entries_rise};
-
 /// Outside a transaction a session meets the same conflicts as after a begin, which are those with the open changes of others,
 /// and it sees the same. So a refusal that is asked before the begin holds behind it.
 pub fn a_session_meets_the_same_after_its_begin()
@@ -41,46 +39,31 @@ pub fn a_change_alone_is_lawful()
     ensures { (base : Records) (dropped kept : List PastChange) (state : DatabaseState) (session : ℕ) (change : Change) → IsReached base dropped kept state → nat_lt state.number log_limit ≡ true → is_live state session ≡ true
         → (levels state session == 0) ≡ true → is_lawful (state_after state (begin_of session)) (record { session = record { 0 = session }; kind = entry.Change change }) ≡ true
         → AreLawful state (entries_of_step (Some (Alone (record { session = record { 0 = session }; kind = entry.Change change })))) }
-{
-    a_primary_index_has_one_entry();
-    entries_rise();
-}
+{}
 
 /// The step of a delete.
 pub fn the_step_of_a_delete_is_lawful()
     ensures { (base : Records) (dropped kept : List PastChange) (asked : Asked) (cursor : CursorId) → IsReached base dropped kept asked.state → Agrees asked.state asked.session asked.local
         → HasLawfulStep asked.state (answer asked (call.Delete cursor)) }
-{
-    a_primary_index_has_one_entry();
-    entries_rise();
-}
+{}
 
 /// The step of a lock.
 pub fn the_step_of_a_lock_is_lawful()
     ensures { (base : Records) (dropped kept : List PastChange) (asked : Asked) (cursor : CursorId) → IsReached base dropped kept asked.state → Agrees asked.state asked.session asked.local
         → HasLawfulStep asked.state (answer asked (call.GetLock cursor)) }
-{
-    a_primary_index_has_one_entry();
-    entries_rise();
-}
+{}
 
 /// The step of a sum of an escrow column.
 pub fn the_step_of_a_sum_is_lawful()
     ensures { (base : Records) (dropped kept : List PastChange) (asked : Asked) (cursor : CursorId) (column : List ℕ) (amount : ℤ) → IsReached base dropped kept asked.state → Agrees asked.state asked.session asked.local
         → HasLawfulStep asked.state (answer asked (call.EscrowUpdate cursor column amount)) }
-{
-    a_primary_index_has_one_entry();
-    entries_rise();
-}
+{}
 
 /// The step of a replace that is prepared, which locks its record.
 pub fn the_step_of_a_replace_is_lawful()
     ensures { (base : Records) (dropped kept : List PastChange) (asked : Asked) (cursor : CursorId) → IsReached base dropped kept asked.state → Agrees asked.state asked.session asked.local
         → HasLawfulStep asked.state (answer asked (call.PrepareUpdate cursor prepare.Replace)) }
-{
-    a_primary_index_has_one_entry();
-    entries_rise();
-}
+{}
 
 /// A record that a session has locked meets no write conflict of that session: who changed it before had committed when the
 /// session's transaction began, and no one else changes it behind the lock.
@@ -94,7 +77,4 @@ pub fn a_locked_record_meets_no_write_conflict()
 pub fn the_step_of_an_update_is_lawful()
     ensures { (base : Records) (dropped kept : List PastChange) (asked : Asked) (cursor : CursorId) → IsReached base dropped kept asked.state → Agrees asked.state asked.session asked.local
         → HasLawfulStep asked.state (answer asked (call.Update cursor)) }
-{
-    a_primary_index_has_one_entry();
-    entries_rise();
-}
+{}

@@ -20,17 +20,13 @@ ghost use Rattle.lawful_answers.specs.ColumnNumbers.{have_own_numbers};
 ghost use Rattle.lawful_answers.specs.EntryTypes.{AreOfTheirTypes};
 ghost use Rattle.lawful_answers.specs.LawfulSteps.{AreLawful, IsReached, IsReachedState};
 
-use index_derive::a_primary_index_has_one_entry;
-
 /// Every lawful entry that is as its type has it reaches a state of the same kind, with the history that it leaves, sums of escrow
 /// columns among the entries. So do entries that are lawful each in its turn.
 pub fn lawful_entries_reach_the_next_state()
     ensures one { (base : Records) (dropped kept : List PastChange) (state : DatabaseState) (made : Entry) → IsReached base dropped kept state → is_lawful state made ≡ true → HasItsType made.kind
         → IsReached (base_after state made.kind base) (dropped_after made.kind dropped kept) (kept_after state made.session.0 made.kind kept) (state_after state made) }
     ensures many { (state : DatabaseState) (entries : List Entry) → IsReachedState state → AreLawful state entries → AreOfTheirTypes entries → IsReachedState (state_after_all state entries) }
-{
-    a_primary_index_has_one_entry();
-}
+{}
 
 /// The oldest kept change can be dropped where it is not needed: the very state is reached still.
 pub fn a_clean_reaches_the_same_state()

@@ -9,8 +9,6 @@ ghost use Rattle.session_local.specs.Calls.{answer};
 ghost use Rattle.session_local.specs.Outcome.{Asked};
 ghost use Rattle.lawful_answers.specs.LawfulSteps.{HasLawfulStep, IsReached};
 
-use index_derive::entries_rise;
-
 /// The steps of a session's begin and of its end.
 pub fn steps_of_sessions_are_lawful()
     ensures begin { (asked : Asked) → Agrees asked.state asked.session asked.local → HasLawfulStep asked.state (answer asked call.BeginSession) }
@@ -27,6 +25,4 @@ pub fn steps_of_transactions_are_lawful()
 pub fn the_step_of_a_commit_is_lawful()
     ensures { (base : Records) (dropped kept : List PastChange) (asked : Asked) (lazy : Bool) → IsReached base dropped kept asked.state → Agrees asked.state asked.session asked.local
         → HasLawfulStep asked.state (answer asked (call.CommitTransaction lazy)) }
-{
-    entries_rise();
-}
+{}

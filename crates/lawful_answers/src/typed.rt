@@ -8,8 +8,6 @@ ghost use Rattle.session_local.specs.Outcome.{Asked};
 ghost use Rattle.lawful_answers.specs.EntryTypes.{AreOfTheirTypes, HasItsAmount, HasRisingUpdates};
 ghost use Rattle.lawful_answers.specs.LawfulSteps.{HasLawfulStep, IsReachedState};
 
-use crate::reached::lawful_entries_reach_the_next_state;
-
 /// Each entry of an answer is as its type has it: a sum adds the amount of its call, and an update puts the record that is
 /// prepared, whose columns rise.
 pub fn entries_of_answers_are_of_their_types()
@@ -20,7 +18,4 @@ pub fn entries_of_answers_are_of_their_types()
 pub fn lawful_answers_reach_the_next_state()
     ensures { (asked : Asked) (request : Request) → IsReachedState asked.state → HasLawfulStep asked.state (answer asked request) → HasItsAmount request → HasRisingUpdates asked.local
         → IsReachedState (state_after_all asked.state (entries_of_step (answer asked request).step)) }
-{
-    lawful_entries_reach_the_next_state();
-    entries_of_answers_are_of_their_types();
-}
+{}

@@ -14,24 +14,16 @@ ghost use Rattle.built_calls.specs.BuiltTables.{AllMakeBuilt, makes_built};
 ghost use Rattle.log_grammar.specs.EntryStreams.{stream_fits};
 ghost use Rattle.loggable_steps.specs.Loggable.{fits_types, is_label, is_loggable, made_by};
 
-use index_derive::a_primary_index_has_one_entry;
-use lawful_answers::lawful_entries_reach_the_next_state;
-
 /// A lawful entry of a session with a label of 1 to 99 can be written, by less than 134,217,728 bytes, where it makes only what is
 /// built and its numbers have the bits of their types.
 pub fn lawful_entries_can_be_logged()
     ensures { (base : Records) (dropped kept : List PastChange) (state : DatabaseState) (made : Entry) → IsReached base dropped kept state → is_lawful state made ≡ true → makes_built made.kind ≡ true → HasItsType made.kind
         → is_label made.session.0 ≡ true → fits_types made.kind ≡ true → is_loggable made ≡ true }
-{
-    a_primary_index_has_one_entry();
-}
+{}
 
 /// So can each entry of a lawful step of such a session.
 pub fn lawful_steps_can_be_logged()
     ensures made { (state : DatabaseState) (step : Step) → IsReachedState state → AreLawful state (entries_of_step (Some step)) → AllMakeBuilt (entries_of_step (Some step)) → AreOfTheirTypes (entries_of_step (Some step))
         → is_label (made_by step).session.0 ≡ true → fits_types (made_by step).kind ≡ true → is_loggable (made_by step) ≡ true }
     ensures all { (step : Step) → is_loggable (made_by step) ≡ true → stream_fits (entries_of_step (Some step)) ≡ true }
-{
-    a_primary_index_has_one_entry();
-    lawful_entries_reach_the_next_state();
-}
+{}

@@ -57,9 +57,7 @@ pub fn a_log_is_read_back_and_replayed()
         → (read : List Entry) (rest : List ℕ) → Holds stream.bytes read rest → (read ≡ entries) × (rest ≡ []) }
     ensures replay { (opening : DatabaseState) (entries : List Entry) (engine : EngineState) (stream : KeptStream) → HasLogged opening entries engine stream → stream.from ≡ 0
         → (read : List Entry) (rest : List ℕ) → Holds stream.bytes read rest → AreLawful opening read × HoldsState engine (state_after_all opening read) }
-{
-    streams_are_read_back();
-}
+{}
 
 /// Any front of the bytes of a whole log, as a crash leaves it, is read back in one way: as the first of the entries, up to a rest
 /// that is cut from an entry or has no byte. These entries are a whole log of their own. So they are lawful in turn from the

@@ -7,8 +7,6 @@ ghost use Rattle.long_value.specs.Values.{AreLong, Values, value_of};
 ghost use Rattle.long_references.specs.RowReferences.{identifiers, removed_identifiers};
 ghost use Rattle.long_references.specs.ReferenceCounts.{AreRows, HasCounts, NamesNoOther, NewestRows, RowBefore, as_undone, identifiers_before, reference_count, with_all_released, with_all_taken, with_change, with_row};
 
-use long_value::{references_after_a_change, values_after_a_change};
-
 /// Where no row is there, no value is. A put takes the values that its row names: it shares those that are there and puts the
 /// others. A drop takes none. An undo gives up those of the row that it takes away, and a clean those of the row before that
 /// it drops. A row that is rewritten to one that names no other value gives up those that it no longer names, while the rows
@@ -23,10 +21,7 @@ pub fn values_keep_their_counts()
         → HasCounts values rows (oldest ∷ held) → HasCounts (with_all_released (identifiers_before oldest) values) rows held }
     ensures rewritten { (values : Values) (bookmark : List ℕ) (is : Option RowFields) (rows : NewestRows) (held : List RowBefore) → AreRows rows → NamesNoOther is (lookup_by_key bookmark rows)
         → HasCounts values rows held → HasCounts (with_all_released (removed_identifiers (lookup_by_key bookmark rows) is) values) (with_row bookmark is rows) held }
-{
-    references_after_a_change();
-    values_after_a_change();
-}
+{}
 
 /// A value is there exactly where a row, or the row before of a change that is not undone, refers to it: none stands at 0.
 pub fn referred_values_are_there()

@@ -11,12 +11,16 @@ use Rattle.long_value.specs.Values.{LongValue, Values, value_of}
 use Rattle.long_value.specs.Stores.{id_bytes}
 use Rattle.long_value.specs.declared.values.LongId.{LongId}
 use Rattle.long_references.specs.RowReferences.{identifier, named_by, with_identifier}
+use Rattle.long_references.proofs.Identifiers.{numbers_told}
 use Rattle.long_rows.specs.KeptRows.{Found, MayTake, Takes, given_by, is_long, with_given}
 use Rattle.long_rows.proofs.Kept.{AreKept, IsKept, IsNew, IsShared}
 
 -- what the law of identifiers says
 abbrev pub IdLaw : Type 0
 IdLaw = (a b : LongId) → a.entry < 2 ^ 64 → b.entry < 2 ^ 64 → a.place < 2 ^ 32 → b.place < 2 ^ 32 → id_bytes a ≡ id_bytes b → (a.entry ≡ b.entry) × (a.place ≡ b.place)
+
+pub id_law : IdLaw
+id_law a b = numbers_told a.entry b.entry a.place b.place
 
 -- No value has the number of the put's entry.
 pub record IsFresh (found : Found) : Type 0 where

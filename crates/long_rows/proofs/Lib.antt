@@ -7,6 +7,7 @@ pub mod Given
 pub mod Reading
 pub mod Formed
 pub mod Stored
+pub mod Sizes
 pub mod InUse
 pub mod WithoutColumn
 pub mod GivenBack

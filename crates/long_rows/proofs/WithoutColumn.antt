@@ -1,16 +1,20 @@
 -- Rows without the values of a column.
-use Rattle.std.proofs.Common.{◌≡◌, ℕ, ◌==◌, ◌≤◌, Bool, true, false, not, ◌||◌, Some, List, [], ◌∷◌, ◌++◌, map, refl, sym, ap, subst, ◌∙◌, arith, true≢false}
-use Rattle.std.specs.Prelude.{IsTrue, bytes_eq}
+use Rattle.std.proofs.Common.{◌≡◌, ℕ, ◌==◌, ◌<◌, ◌≤◌, ◌^◌, Bool, true, false, not, ◌||◌, Some, List, [], ◌∷◌, ◌++◌, T, length, map, refl, sym, ap, subst, ◌∙◌, arith}
+use Rattle.std.specs.Prelude.{bytes_eq, nat_lt}
 use Rattle.std.specs.List.{list_all, list_any}
-use Rattle.std.proofs.lemmas.Bool.{and_from, or_right}
-use Rattle.common_lemmas.proofs.Booleans.{and_left, and_right, by_test}
+use Rattle.std.specs.Ordering.{nat_cmp}
+use Rattle.std.specs.FinMap.Entries.{is_sorted, is_sorted-where_key}
+use Rattle.std.proofs.lemmas.Bool.{and_from, lt-ltb, ltb-true, or_right}
+use Rattle.std.proofs.lemmas.List.{length-append}
+use Rattle.common_lemmas.proofs.Booleans.{and_left, and_right, by_test, is_true}
+use Rattle.common_lemmas.proofs.Lists.{all_filtered}
 use Rattle.common_lemmas.proofs.Numbers.{same_bytes}
 use Rattle.column_set.specs.declared.rows.RowValue.{RowValue}
 use Rattle.column_set.specs.declared.rows.RowValue.TheVariants.{Here, Apart}
 use Rattle.column_set.specs.RecordValues.{RecordFields, remove_by_number}
-use Rattle.column_set.specs.Rows.{RowFields, is_row, values_in_order}
+use Rattle.column_set.specs.Rows.{RowFields, field_fits_row, is_row, is_well_formed, values_in_order}
 use Rattle.long_value.specs.Values.{Values}
-use Rattle.long_references.specs.RowReferences.{identifier, identifiers, named_by, references, times_among, with_identifier}
+use Rattle.long_references.specs.RowReferences.{identifier, identifiers, named_by, with_identifier}
 use Rattle.long_references.specs.ReferenceCounts.{NamesNoOther}
 use Rattle.long_references.proofs.Totals.{none_among, refers_once, some_among}
 use Rattle.long_rows.specs.WholeRows.{StandsFor, is_there, is_whole, record_in, whole_value}
@@ -85,6 +89,30 @@ names_no_other row column id =
     omega (arith, there, once))
     (λ f. let none = none_among id (identifiers (Some (remove_by_number column row))) f in omega (arith, none))
 
+-- ---- it is a row
+
+fewer_values : (column : ℕ) (row : RowFields) → length (values_in_order (remove_by_number column row)) ≤ length (values_in_order row)
+fewer_values column [] = omega arith
+fewer_values column (field ∷ row) =
+    let own : List (ℕ × RowValue) = map (λ (value : RowValue). (field.0, value)) field.1 in
+    let left = remove_by_number column row in
+    let rest = fewer_values column row in
+    by_test (field.0 == column)
+    (λ t. let e = ap (λ (r : RowFields). length (values_in_order r)) (gone column field row t) in omega (arith, e, rest, length-append own (values_in_order row)))
+    (λ f. let e = ap (λ (r : RowFields). length (values_in_order r)) (stays column field row f) in omega (arith, e, rest, length-append own (values_in_order row), length-append own (values_in_order left)))
+
+pub formed : (row : RowFields) (column : ℕ) → is_row row ≡ true → is_row (remove_by_number column row) ≡ true
+formed row column h =
+    let left = remove_by_number column row in
+    let well = and_left (is_well_formed row) (nat_lt (length (values_in_order row)) (2 ^ 16)) h in
+    let few = ltb-true _ _ (and_right (is_well_formed row) (nat_lt (length (values_in_order row)) (2 ^ 16)) h) in
+    let fewer : length (values_in_order left) < 2 ^ 16 = omega (arith, few, fewer_values column row) in
+    and_from (is_well_formed left) (nat_lt (length (values_in_order left)) (2 ^ 16))
+    (and_from (is_sorted nat_cmp left) (list_all field_fits_row left)
+    (is_true (is_sorted nat_cmp left) (is_sorted-where_key nat_cmp (λ number. not (number == column)) row (subst T (sym (and_left (is_sorted nat_cmp row) (list_all field_fits_row row) well)) tt)))
+    (all_filtered field_fits_row (λ field. not (field.0 == column)) row (and_right (is_sorted nat_cmp row) (list_all field_fits_row row) well)))
+    (lt-ltb _ _ fewer)
+
 -- ---- the record that it stands for
 
 pub shown : (values : Values) (row : RowFields) (column : ℕ) → record_in values (remove_by_number column row) ≡ remove_by_number column (record_in values row)
@@ -106,9 +134,8 @@ still_whole values (field ∷ row) column e =
     (λ t. ap (is_whole values) (gone column field row t) ∙ rest)
     (λ f. ap (is_whole values) (stays column field row f) ∙ and_from own (is_whole values (remove_by_number column row)) (and_left own (is_whole values row) e) rest)
 
-pub stands : ((row : RowFields) (column : ℕ) → IsTrue (is_row row) → IsTrue (is_row (remove_by_number column row))) → (values : Values) (row : RowFields) (fields : RecordFields) (column : ℕ) → StandsFor values row fields
-    → StandsFor values (remove_by_number column row) (remove_by_number column fields)
-stands formed values row fields column stand = record {
+pub stands : (values : Values) (row : RowFields) (fields : RecordFields) (column : ℕ) → StandsFor values row fields → StandsFor values (remove_by_number column row) (remove_by_number column fields)
+stands values row fields column stand = record {
   formed = formed row column stand.formed;
   whole = still_whole values row column stand.whole;
   shown = shown values row column ∙ ap (remove_by_number column) stand.shown;

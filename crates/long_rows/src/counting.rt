@@ -10,10 +10,6 @@ ghost use Rattle.long_rows.specs.WholeRows.{StandsFor};
 ghost use Rattle.long_rows.specs.KeptRows.{Found, given_values, kept_row};
 ghost use Rattle.long_rows.specs.RowsInUse.{IsInUse};
 
-use crate::storing::kept_rows_stand_for_their_records;
-use long_references::values_keep_their_counts;
-use long_value::{references_after_a_change, values_after_a_change};
-
 /// Where each value has as many references as rows in use name it, each value that a row in use names is there. So each row in
 /// use that stands for a record still does once an undo or a clean has given up the references that it takes away, or a row that
 /// is rewritten those that it no longer names.
@@ -25,26 +21,17 @@ pub fn rows_in_use_stand()
         → IsInUse rows held row → StandsFor values row fields → StandsFor (with_all_released (identifiers_before oldest) values) row fields }
     ensures rewritten { (values : Values) (bookmark : List ℕ) (is : Option RowFields) (rows : NewestRows) (held : List RowBefore) (row : RowFields) (fields : RecordFields) → AreRows rows → NamesNoOther is (lookup_by_key bookmark rows) → HasCounts values rows held
         → IsInUse (with_row bookmark is rows) held row → StandsFor values row fields → StandsFor (with_all_released (removed_identifiers (lookup_by_key bookmark rows) is) values) row fields }
-{
-    references_after_a_change();
-    values_after_a_change();
-}
+{}
 
 /// Each value has as many references as rows in use name it, once a put has taken the values of the row that it makes.
 pub fn counts_after_a_put()
     ensures { (found : Found) (fields : RecordFields) (bookmark : List ℕ) (rows : NewestRows) (held : List RowBefore) → AreRows rows → HasCounts found.values rows held
         → HasCounts (with_all_taken (given_values (kept_row found fields) fields) found.values) (with_row bookmark (Some (kept_row found fields)) rows) (with_change bookmark rows held) }
-{
-    kept_rows_stand_for_their_records();
-    values_keep_their_counts();
-}
+{}
 
 /// The values are what they were once a reference that was taken is given up again, be it to a new value or to one that was there.
 /// So they are once a row gives up all that it took.
 pub fn values_that_are_given_back()
     ensures one { (values : Values) (id bytes : List ℕ) → AreLong values → without_reference id (with_taken values (id, bytes)) ≡ values }
     ensures all { (values : Values) (given : List (List ℕ × List ℕ)) (row : Option RowFields) → AreLong values → map (λ one. one.0) given ≡ identifiers row → with_all_released (identifiers row) (with_all_taken given values) ≡ values }
-{
-    references_after_a_change();
-    values_after_a_change();
-}
+{}

@@ -9,9 +9,6 @@ ghost use Rattle.long_references.specs.ReferenceCounts.{NamesNoOther, with_all_t
 ghost use Rattle.long_rows.specs.WholeRows.{StandsFor, is_whole, record_in};
 ghost use Rattle.long_rows.specs.KeptRows.{Found, kept_row};
 
-use long_value::{references_after_a_change, values_after_a_change};
-use row_edit::rows_without_a_column;
-
 /// A row that keeps each of its values stands for the same record whatever long values there are: it can be read whole, and names
 /// none. A put makes such a row of a record that has no value of more than 255 bytes.
 pub fn rows_without_long_values()
@@ -30,16 +27,11 @@ pub fn rows_stand_as_values_change()
     ensures released { (values : Values) (id : List ℕ) (value : LongValue) (row : RowFields) (fields : RecordFields) → value_of id values ≡ Some value → 1 < value.count → StandsFor values row fields → StandsFor (without_reference id values) row fields }
     ensures beside { (values : Values) (id : List ℕ) (row : RowFields) (fields : RecordFields) → references id (Some row) ≡ 0 → StandsFor values row fields → StandsFor (without_reference id values) row fields }
     ensures taken { (values : Values) (given : List (List ℕ × List ℕ)) (row : RowFields) (fields : RecordFields) → StandsFor values row fields → StandsFor (with_all_taken given values) row fields }
-{
-    references_after_a_change();
-    values_after_a_change();
-}
+{}
 
 /// A row without the values of a column names no value that the row does not, and stands for the record without them.
 pub fn rows_without_a_columns_values()
     ensures names { (row : RowFields) (column : ℕ) → NamesNoOther (Some (remove_by_number column row)) (Some row) }
     ensures shown { (values : Values) (row : RowFields) (column : ℕ) → record_in values (remove_by_number column row) ≡ with_values (record_in values row) column [] }
     ensures stand { (values : Values) (row : RowFields) (fields : RecordFields) (column : ℕ) → StandsFor values row fields → StandsFor values (remove_by_number column row) (with_values fields column []) }
-{
-    rows_without_a_column();
-}
+{}

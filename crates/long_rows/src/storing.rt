@@ -10,17 +10,12 @@ ghost use Rattle.long_references.specs.ReferenceCounts.{with_all_taken};
 ghost use Rattle.long_rows.specs.WholeRows.{StandsFor};
 ghost use Rattle.long_rows.specs.KeptRows.{Found, MayKeep, MayTake, given_values, kept_row};
 
-use column_set::size_of_a_row;
-use long_value::{identifiers_differ, references_after_a_change, values_after_a_change};
-
 /// The row that a put makes is the in-page form of the record, of the record's size.
 pub fn form_of_a_kept_row()
     ensures form { (found : Found) (fields : RecordFields) → IsTrue (is_row_of (kept_row found fields) fields) }
     ensures size { (found : Found) (fields : RecordFields) → row_size (kept_row found fields) ≡ record_size fields }
     ensures row { (found : Found) (fields : RecordFields) → MayKeep found fields → IsTrue (is_row (kept_row found fields)) }
-{
-    size_of_a_row();
-}
+{}
 
 /// The values that a put takes are those that its row names, each once. Each may be taken, and once they are the row stands for
 /// the record. None of them is of an entry behind the put's, where no value was.
@@ -30,9 +25,4 @@ pub fn kept_rows_stand_for_their_records()
     ensures stand { (found : Found) (fields : RecordFields) → MayKeep found fields → StandsFor (with_all_taken (given_values (kept_row found fields) fields) found.values) (kept_row found fields) fields }
     ensures none_behind { (found : Found) (fields : RecordFields) (number place : ℕ) → MayKeep found fields → found.number < number → number < 2 ^ 64 → place < 2 ^ 32 → value_of (identifier number place) found.values ≡ None
         → value_of (identifier number place) (with_all_taken (given_values (kept_row found fields) fields) found.values) ≡ None }
-{
-    size_of_a_row();
-    identifiers_differ();
-    references_after_a_change();
-    values_after_a_change();
-}
+{}

@@ -9,6 +9,7 @@ pub mod KeepingKeys
 pub mod FreeKeys
 pub mod KeysOfEntries
 pub mod BookmarkKeys
+pub mod OneEntry
 pub mod UniqueKept
 pub mod SameColumns
 pub mod IndexNumbers

@@ -15,11 +15,6 @@ ghost use Rattle.version_history.specs.History.{IsHistory};
 ghost use Rattle.version_keys.specs.KeySums.{SeesNoSum};
 ghost use Rattle.version_keys.specs.Variants.{HoldsVariants, shown_entries};
 
-use derived_index::{
-    derived_entries_are_in_order, entries_are_of_their_records,
-    entries_in_order_are_told_by_those_that_are_there,
-};
-
 /// Of the entries of all variants a session is shown exactly those of the records that it sees, whatever sums it does not see:
 /// the index names no column of theirs.
 pub fn a_session_walks_among_the_entries_of_variants()
@@ -33,8 +28,4 @@ pub fn the_entries_that_a_session_is_shown_are_derived()
     ensures { (base : Records) (dropped kept : List PastChange) (state : DatabaseState) → IsHistory base dropped kept state → (session table : ℕ) (rule : IndexRule) (schema : Schema) → SeesNoSum rule table kept → (entries : List Pair)
         → HoldsVariants (records_of (newest state)) kept rule schema table entries → are_sorted entries ≡ true → are_sorted (own_order (rows_of (table_with_id (view state session) table))) ≡ true
         → shown_entries (records_of (view state session)) rule schema table entries ≡ derive rule schema (rows_of (table_with_id (view state session) table)) }
-{
-    derived_entries_are_in_order();
-    entries_are_of_their_records();
-    entries_in_order_are_told_by_those_that_are_there();
-}
+{}

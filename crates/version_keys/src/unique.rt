@@ -18,8 +18,6 @@ ghost use Rattle.version_keys.specs.TableOrder.{HasTablesInOrder};
 ghost use Rattle.version_keys.specs.KeySums.{IndexesSeeNoSum, SeesNoSum};
 ghost use Rattle.version_keys.specs.UniqueKeys.{AreUnique, HasFreeKeys, HasUniqueKeys, IsUniqueTable};
 
-use index_derive::{a_primary_index_has_one_entry, entries_rise};
-
 /// Where standing changes brought free keys, and those that meet in a key are in order, no session finds a key at two records,
 /// and the newest state has none at two, whatever was committed or undone since.
 pub fn no_reader_finds_a_unique_key_twice()
@@ -41,9 +39,7 @@ pub fn lawful_entries_keep_unique_keys()
     ensures { (base : Records) (dropped kept : List PastChange) (state : DatabaseState) (made : Entry) → IsHistory base dropped kept state → is_lawful state made ≡ true
         → IndexesSeeNoSum kept state → IndexesSeeNoSum (kept_after state made.session.0 made.kind kept) state → HasUniqueKeys base kept state
         → HasUniqueKeys (base_after state made.kind base) (kept_after state made.session.0 made.kind kept) (state_after state made) }
-{
-    a_primary_index_has_one_entry();
-}
+{}
 
 /// So does a clean of the oldest kept change. The state is the same; the changes begin behind that one.
 pub fn a_clean_keeps_unique_keys()
@@ -56,6 +52,4 @@ pub fn a_clean_keeps_unique_keys()
 pub fn a_commit_is_always_lawful()
     ensures { (base : Records) (dropped kept : List PastChange) (state : DatabaseState) (session : ℕ) → IsHistory base dropped kept state → IndexesSeeNoSum kept state → HasUniqueKeys base kept state → HasTablesInOrder state
         → levels state session ≡ 1 → is_lawful state (record { session = record { 0 = session }; kind = entry.Commit }) ≡ true }
-{
-    entries_rise();
-}
+{}

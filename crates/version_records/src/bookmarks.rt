@@ -16,8 +16,6 @@ ghost use Rattle.version_keys.specs.UniqueKeys.{HasUniqueKeys};
 ghost use Rattle.version_keys.specs.KeySums.{IndexesSeeNoSum};
 ghost use Rattle.version_records.specs.Bookmarks.{HasBookmarks, StandsUnder, is_entry_number};
 
-use index_derive::a_primary_index_has_one_entry;
-
 /// The number of an entry, in 8 bytes big-endian, is told from the numbers of all entries before it, as far as a log goes.
 pub fn numbers_of_later_entries_are_new()
     ensures own { (number : ℕ) → is_entry_number number (big_endian 8 number) ≡ true }
@@ -35,9 +33,7 @@ pub fn lawful_entries_keep_bookmarks()
     ensures { (base : Records) (dropped kept : List PastChange) (state : DatabaseState) (made : Entry) → IsHistory base dropped kept state → is_lawful state made ≡ true
         → IndexesSeeNoSum kept state → IndexesSeeNoSum (kept_after state made.session.0 made.kind kept) state → HasUniqueKeys base kept state → HasBookmarks base kept state
         → HasBookmarks (base_after state made.kind base) (kept_after state made.session.0 made.kind kept) (state_after state made) }
-{
-    a_primary_index_has_one_entry();
-}
+{}
 
 /// So does a clean of the oldest kept change.
 pub fn a_clean_keeps_bookmarks()

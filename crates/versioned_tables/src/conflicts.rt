@@ -16,8 +16,6 @@ ghost use Rattle.versioned_tables.specs.HeldRecords.{HeldRecord, has_conflict, h
 ghost use Rattle.versioned_tables.specs.VersionedTables.{VersionedTables};
 ghost use Rattle.versioned_tables.specs.Holding.{Holds, Matches, begin_of, oldest_begin};
 
-use version_keys::variants_tell_key_conflicts;
-
 /// A change meets a held one exactly where the state has a write conflict.
 pub fn held_changes_tell_write_conflicts()
     ensures { (base : Records) (dropped kept : List PastChange) (store : VersionedTables) (state : DatabaseState) → Holds base dropped kept store state
@@ -31,9 +29,7 @@ pub fn held_changes_tell_key_conflicts()
         → (reader : Reader) → reader.begin ≡ begin_of (transaction_of state reader.session.0) → (table : ℕ) (schema : Schema) (rule : IndexRule)
         → SeesNoSum rule table kept → HasKeyBefores rule schema table base kept → (key : List ℕ)
         → has_key_conflict reader (records_of store.tables) table rule schema key store.held ≡ has_key_conflict_in state reader.session.0 table schema rule key }
-{
-    variants_tell_key_conflicts();
-}
+{}
 
 /// Given where the oldest transaction began, a held change must be kept where the past change is needed, and the span of the
 /// held changes is that of the state.

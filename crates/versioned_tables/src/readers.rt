@@ -11,8 +11,6 @@ ghost use Rattle.versioned_tables.specs.HeldRecords.{HeldRecord, seen_record};
 ghost use Rattle.versioned_tables.specs.VersionedTables.{VersionedTables, seen_rows, seen_tables};
 ghost use Rattle.versioned_tables.specs.Holding.{Holds, begin_of};
 
-use version_keys::a_session_finds_its_very_record;
-
 /// Of each record a reader is shown the one before the oldest put or drop that it does not see, or the newest one.
 pub fn a_reader_is_shown_the_records_that_it_sees()
     ensures { (table : ℕ) (reader : Reader) (held : List HeldRecord) (rows : Rows) (bookmark : List ℕ)
@@ -30,6 +28,4 @@ pub fn a_session_is_shown_its_view()
     ensures { (base : Records) (dropped kept : List PastChange) (store : VersionedTables) (state : DatabaseState) → Holds base dropped kept store state → HasNoSums kept
         → (reader : Reader) → reader.begin ≡ begin_of (transaction_of state reader.session.0)
         → (table : ℕ) → table_with_id (seen_tables reader store) table ≡ table_with_id (view state reader.session.0) table }
-{
-    a_session_finds_its_very_record();
-}
+{}

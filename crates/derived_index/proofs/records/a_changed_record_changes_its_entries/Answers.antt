@@ -1,9 +1,10 @@
 use Rattle.derived_index.proofs.Changing.{derived_replaced}
 use Rattle.derived_index.proofs.Difference.{derived_by_difference}
+use Rattle.derived_index.proofs.KeysRise.{keys_rise}
 use Rattle.derived_index.proofs.records.a_changed_record_changes_its_entries.Goals as goal
 
 pub returns-clause-all : goal.returns-clause-all
-returns-clause-all c = derived_replaced c.entries_rise.ensures
+returns-clause-all c = derived_replaced keys_rise
 
 pub returns-clause-by_difference : goal.returns-clause-by_difference
-returns-clause-by_difference c = derived_by_difference c.entries_rise.ensures
+returns-clause-by_difference c = derived_by_difference keys_rise

@@ -1,5 +1,7 @@
+use Rattle.derived_index.proofs.KeysRise.{keys_rise}
+use Rattle.version_keys.proofs.OneEntry.{one_entry}
 use Rattle.lawful_answers.proofs.ChangeSteps.{replaces}
 use Rattle.lawful_answers.proofs.changes.the_step_of_a_replace_is_lawful.Goals as goal
 
 pub returns : goal.returns
-returns c = replaces c.a_primary_index_has_one_entry.ensures c.entries_rise.ensures
+returns c = replaces one_entry keys_rise

@@ -1,8 +1,9 @@
+use Rattle.version_keys.proofs.OneEntry.{one_entry}
 use Rattle.lawful_answers.proofs.ReachedStates.{reaches, reaches_all}
 use Rattle.lawful_answers.proofs.reached.lawful_entries_reach_the_next_state.Goals as goal
 
 pub returns-clause-one : goal.returns-clause-one
-returns-clause-one c = reaches c.a_primary_index_has_one_entry.ensures
+returns-clause-one c = reaches one_entry
 
 pub returns-clause-many : goal.returns-clause-many
-returns-clause-many c = reaches_all c.a_primary_index_has_one_entry.ensures
+returns-clause-many c = reaches_all one_entry

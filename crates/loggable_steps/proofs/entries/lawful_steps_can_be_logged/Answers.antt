@@ -1,8 +1,10 @@
+use Rattle.version_keys.proofs.OneEntry.{one_entry}
+use Rattle.lawful_answers.proofs.ReachedStates.{reaches}
 use Rattle.loggable_steps.proofs.Spelled.{entries_spelled, step_loggable}
 use Rattle.loggable_steps.proofs.entries.lawful_steps_can_be_logged.Goals as goal
 
 pub returns : goal.returns
 returns c = record {
-  made = step_loggable c.a_primary_index_has_one_entry.ensures c.lawful_entries_reach_the_next_state.ensures.one;
+  made = step_loggable one_entry (reaches one_entry);
   all = entries_spelled;
 }

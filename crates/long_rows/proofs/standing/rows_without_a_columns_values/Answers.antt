@@ -8,4 +8,4 @@ pub returns-clause-shown : goal.returns-clause-shown
 returns-clause-shown c = shown
 
 pub returns-clause-stand : goal.returns-clause-stand
-returns-clause-stand c = stands c.rows_without_a_column.ensures.formed
+returns-clause-stand c = stands

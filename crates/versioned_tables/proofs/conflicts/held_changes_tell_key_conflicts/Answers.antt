@@ -1,5 +1,6 @@
+use Rattle.version_keys.proofs.KeyConflicts.{key_conflict_by_variants}
 use Rattle.versioned_tables.proofs.TellingKeys.{key_conflict_is_told}
 use Rattle.versioned_tables.proofs.conflicts.held_changes_tell_key_conflicts.Goals as goal
 
 pub returns : goal.returns
-returns c = key_conflict_is_told c.variants_tell_key_conflicts.ensures
+returns c = key_conflict_is_told key_conflict_by_variants

@@ -1,5 +1,6 @@
+use Rattle.version_keys.proofs.FoundKeys.{found_without_sums}
 use Rattle.versioned_tables.proofs.Views.{is_shown}
 use Rattle.versioned_tables.proofs.readers.a_session_is_shown_its_view.Goals as goal
 
 pub returns : goal.returns
-returns c = is_shown c.a_session_finds_its_very_record.ensures
+returns c = is_shown found_without_sums
