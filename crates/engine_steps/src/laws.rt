@@ -24,8 +24,8 @@ use engine_versions::{
     a_clean_leaves_the_state, a_lawful_entry_makes_the_next_state, ends_always_find_room,
     newest_records_are_told, sessions_are_told, tables_are_told,
 };
-use index_derive::a_primary_index_has_one_entry;
 use version_cleanup::needed_changes_are_kept;
+use version_keys::a_primary_index_has_one_entry;
 
 /// The oldest held changes, none of which a reader needs, go without a change of the state.
 pub(crate) fn changes_that_are_not_needed_may_go()

@@ -18,8 +18,9 @@ ghost use Rattle.engine_versions.specs.EngineSteps.{engine_after_answer};
 ghost use Rattle.engine_versions.specs.HoldsState.{HoldsAllInStep, HoldsInStep, HoldsState, asked_of, with_local};
 
 use crate::entries::{a_lawful_step_makes_the_next_state, ends_always_find_room};
-use index_derive::{a_primary_index_has_one_entry, entries_rise};
+use index_derive::entries_rise;
 use session_local::local_calls_keep_well_formed;
+use version_keys::a_primary_index_has_one_entry;
 
 /// The step of an answer is lawful, and the session that was answered stays in step.
 pub fn an_answer_is_lawful_and_stays_in_step()

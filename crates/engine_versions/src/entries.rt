@@ -15,8 +15,8 @@ ghost use Rattle.engine_versions.specs.EngineState.{EngineState, HasRoomForEnds,
 ghost use Rattle.engine_versions.specs.EngineSteps.{engine_after, engine_after_all, engine_after_step};
 ghost use Rattle.engine_versions.specs.HoldsState.{HoldsState};
 
-use index_derive::a_primary_index_has_one_entry;
 use version_cleanup::{entries_change_the_sessions_alike, needed_changes_are_kept};
+use version_keys::a_primary_index_has_one_entry;
 
 /// An engine that holds a state holds the next one after a lawful entry that makes only what is built and is as its type has it.
 /// So it does after entries that are lawful each in its turn.

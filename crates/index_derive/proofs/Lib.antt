@@ -6,7 +6,6 @@ pub mod Fronts
 pub mod Keys
 pub mod Least
 pub mod Lists
-pub mod OneEntry
 pub mod Rows
 pub mod Sorting
 pub mod Texts

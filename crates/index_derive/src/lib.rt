@@ -23,6 +23,6 @@ pub use faults::DeriveFault;
 pub use laws::{entries_rise, next_entries_are_entries};
 pub use legality::{GREATEST_KEY_MOST, MOST_KEY_COLUMNS, USUAL_KEY_MOST, legal};
 pub use log::{Entry, EntryKind, Step};
-pub use primary::{a_primary_index_has_one_entry, primary_key};
+pub use primary::primary_key;
 pub use rules::{Condition, IndexFlags, IndexRule, Schema, Segment};
 pub use schema_calls::{NamedCondition, NamedSegment, SchemaCall, SchemaStep};

@@ -1,11 +1,7 @@
 //! The key of a record in a primary index.
 
-ghost use Rattle.std.specs.Prelude.{◌≡◌, ◌≤◌, true};
-ghost use Rattle.column_set.specs.RecordValues.{RecordFields};
-ghost use Rattle.index_derive.specs.declared.rules.IndexRule.{IndexRule};
-ghost use Rattle.index_derive.specs.declared.rules.Schema.{Schema};
-ghost use Rattle.index_derive.specs.Entries.{is_legal, entries, primary_key};
-ghost use Rattle.index_derive.specs.Primary.{primary_entries};
+ghost use Rattle.std.specs.Prelude.{◌≡◌, ◌≤◌};
+ghost use Rattle.index_derive.specs.Entries.{primary_key};
 
 use crate::legality::kind_of;
 use crate::rules::{IndexRule, Schema};
@@ -32,9 +28,3 @@ pub fn primary_key<R: Values>(rule: &IndexRule, schema: &Schema, record: &R) -> 
     }
     maker.finish()
 }
-
-/// A record has exactly one entry in a primary index, or is refused there: no column of its key has several values,
-/// no flag or condition leaves an entry out, and there are no parts of texts.
-pub fn a_primary_index_has_one_entry()
-    ensures { (rule : IndexRule) (schema : Schema) (fields : RecordFields) → is_legal rule schema ≡ true → rule.flags.primary ≡ true → entries rule schema fields ≡ primary_entries rule schema fields }
-{}

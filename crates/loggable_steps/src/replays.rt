@@ -24,10 +24,11 @@ use engine_versions::{
 };
 use entry_log::what_is_kept_goes_on_with_its_stream;
 use held_states::states_that_one_engine_holds_answer_alike;
-use index_derive::{a_primary_index_has_one_entry, entries_rise};
+use index_derive::entries_rise;
 use log_grammar::{
     cut_bytes_begin_with_no_entry, fronts_of_streams_hold_the_first, streams_are_read_back,
 };
+use version_keys::a_primary_index_has_one_entry;
 use version_records::every_record_seen_is_stored;
 
 /// A log begins with an engine of any state, by no entry. It goes on by each step that is lawful in a state that the engine holds

@@ -16,12 +16,13 @@ ghost use Rattle.table_trees.specs.StoredTables.{table_long_values};
 use crate::store::TableVersions;
 use crate::walking::entry_behind;
 use index_derive::derive::yields;
-use index_derive::{IndexRule, Place, Schema, a_primary_index_has_one_entry};
+use index_derive::{IndexRule, Place, Schema};
 use jet_base::{IndexId, TableId};
 use kept_rows::ShownRow;
 use key_normal::Key;
 use table_trees::TableTrees;
 use variant_trees::in_place;
+use version_keys::a_primary_index_has_one_entry;
 use version_store::{Reader, Versions};
 
 impl TableVersions {

@@ -23,10 +23,11 @@ use crate::conflicting_keys::is_replaced;
 use crate::store::TableVersions;
 use column_set::Values;
 use index_derive::derive::{next_entry, yields};
-use index_derive::{IndexRule, Schema, a_primary_index_has_one_entry, entries_rise, primary_key};
+use index_derive::{IndexRule, Schema, entries_rise, primary_key};
 use jet_base::{Jet, TableId};
 use kept_rows::ShownRow;
 use key_normal::Key;
+use version_keys::a_primary_index_has_one_entry;
 use version_store::Reader;
 use versioned_tables::{
     a_reader_finds_the_records_that_it_is_shown, a_reader_is_shown_the_entries_of_its_view,

@@ -9,8 +9,8 @@ use crate::entries::cases::{CASES, Case, PLAIN};
 use column_set::{Column, Columns, Values};
 use index_derive::derive::{entries, next_entry, yields};
 use index_derive::{
-    Condition, DeriveFault, IndexFlags, IndexRule, Schema, Segment, a_primary_index_has_one_entry,
-    entries_rise, legal, next_entries_are_entries,
+    Condition, DeriveFault, IndexFlags, IndexRule, Schema, Segment, entries_rise, legal,
+    next_entries_are_entries,
 };
 use jet_base::{ColType, ColumnId, IndexId, Items, Name, OutOfMemory};
 use key_normal::Key;
@@ -160,7 +160,6 @@ fn entries_follow_the_rule(rt: HostRuntime) {
     }
     entries_rise();
     next_entries_are_entries();
-    a_primary_index_has_one_entry();
 }
 
 /// Bytes of which no two starts are alike, and none is a small letter.

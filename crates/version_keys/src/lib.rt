@@ -5,6 +5,7 @@
 
 mod conflicts;
 mod entries;
+mod primary;
 mod sums;
 mod tables;
 mod unique;
@@ -14,6 +15,7 @@ pub use conflicts::variants_tell_key_conflicts;
 pub use entries::{
     a_session_walks_among_the_entries_of_variants, the_entries_that_a_session_is_shown_are_derived,
 };
+pub use primary::a_primary_index_has_one_entry;
 pub use sums::{
     a_clean_keeps_indexes_apart_from_sums, indexes_begin_apart_from_sums,
     lawful_entries_keep_indexes_apart_from_sums, no_index_sees_a_sum,
