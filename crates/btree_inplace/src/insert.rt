@@ -14,11 +14,8 @@ use crate::Tree;
 use btree_node::{child, half, split_at};
 use byteorder::{ByteOrder, LittleEndian};
 use jet_base::OutOfMemory;
-use page_image::{NODE_HEAD_BYTES, PAGE_BYTES, Page};
+use page_image::{INNER, NODE_HEAD_BYTES, PAGE_BYTES, Page};
 use page_space::Space;
-
-/// The kind of a page that is no leaf.
-const INNER: u8 = 2;
 
 /// The bytes of a child's number.
 const CHILD_BYTES: usize = 4;

@@ -12,10 +12,8 @@ use crate::Tree;
 use crate::insert::clear_first_key;
 use btree_node::child;
 use byteorder::{ByteOrder, LittleEndian};
-use page_image::Page;
+use page_image::{LEAF, Page};
 use page_space::Space;
-
-const LEAF: u8 = 1;
 
 impl Tree {
     /// Takes out the node with a key that is there. It takes no memory, and gives back each page that

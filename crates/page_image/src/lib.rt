@@ -9,4 +9,4 @@ mod spelling;
 
 pub use laws::nodes_of_a_page_are_few;
 pub use page::{BadPage, Full, Page};
-pub use spelling::{HEAD_BYTES, NODE_HEAD_BYTES, PAGE_BYTES};
+pub use spelling::{HEAD_BYTES, INNER, LEAF, NODE_HEAD_BYTES, PAGE_BYTES};

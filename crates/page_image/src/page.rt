@@ -7,8 +7,8 @@ ghost use Rattle.page_image.specs.Page.{HasRisingKeys, IsInsertPlace, IsPage, Pa
 use crate::offsets::{MAX_NODES, copy_offsets, insert_offset, move_offsets, remove_offset};
 use crate::order::{compare, front, is_lower};
 use crate::spelling::{
-    HEAD_BYTES, NODE_HEAD_BYTES, PAGE_BYTES, finish, has_same_words, insert_node, number_at,
-    remove_bytes, replace_data, resize_zeros, sealed,
+    HEAD_BYTES, INNER, LEAF, NODE_HEAD_BYTES, PAGE_BYTES, finish, has_same_words, insert_node,
+    number_at, remove_bytes, replace_data, resize_zeros, sealed,
 };
 use byteorder::{ByteOrder, LittleEndian};
 use std::cmp::Ordering;
@@ -58,7 +58,7 @@ impl Model for Page {
 }
 
 impl Page {
-    /// A page with no node. Its kind is 1 for a leaf, 2 for an inner page.
+    /// A page with no node. Its kind is [`LEAF`], 1, or [`INNER`], 2.
     pub fn empty(number: u32, kind: u8) -> Page
         requires { (kind ≡ 1) ⊎ (kind ≡ 2) }
         ensures value { result ≡ record { number = number; kind = kind; nodes = [] } }
@@ -81,7 +81,7 @@ impl Page {
         ensures only { (p : PageContents) → IsPage p → bytes ≡ page_bytes p → result ≡ Ok p }
     {
         let kind = bytes[12];
-        if kind != 1 && kind != 2 {
+        if kind != LEAF && kind != INNER {
             return Err(BadPage);
         }
         let mut page = Page::empty(LittleEndian::read_u32(&bytes[8..]), kind);

@@ -9,6 +9,12 @@ use byteorder::{ByteOrder, LittleEndian};
 /// The bytes of a page.
 pub const PAGE_BYTES: usize = 4096;
 
+/// The kind of a leaf.
+pub const LEAF: u8 = 1;
+
+/// The kind of an inner page.
+pub const INNER: u8 = 2;
+
 /// The bytes of the checksum, the first ones.
 pub const CHECKSUM_BYTES: usize = 8;
 

@@ -7,15 +7,12 @@ ghost use Rattle.page_space.specs.Frames.{IsTaken, Takes, page_at};
 ghost use Rattle.page_space.specs.Lending.{LendsPage};
 
 use jet_base::OutOfMemory;
-use page_image::Page;
+use page_image::{LEAF, Page};
 use std::alloc::Global;
 use std::marker::Model;
 
 /// The most pages of a space: 64 GiB of them.
 const MAX_PAGES: usize = 16_777_216;
-
-/// The kind of a page that was taken and not written yet.
-const LEAF: u8 = 1;
 
 /// Pages by their numbers, which begin at 0. A page keeps its bytes while it is taken.
 #[derive(Drop)]

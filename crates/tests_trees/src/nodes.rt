@@ -4,11 +4,9 @@ ghost use Rattle.std.specs.Prelude.{◌≤◌, IsTrue, All};
 ghost use Rattle.page_image.specs.Page.{node_size};
 
 use btree_node::{child, split_at};
-use page_image::Page;
+use page_image::{INNER, Page};
 use std::process::Abort;
 use std::test::*;
-
-const INNER: u8 = 2;
 
 fn put(rt: &impl Abort, page: &mut Page, key: &[u8]) {
     if key.len() > 755 {

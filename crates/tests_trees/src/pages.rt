@@ -1,10 +1,8 @@
 //! Pages against bytes and counts that were worked out by hand.
 
-use page_image::Page;
+use page_image::{LEAF, Page};
 use std::process::Abort;
 use std::test::*;
-
-const LEAF: u8 = 1;
 
 /// Whether a node of 4 bytes and extent 100 gets into the page under the key.
 fn goes_in(page: &mut Page, key: &[u8; 5]) -> bool {

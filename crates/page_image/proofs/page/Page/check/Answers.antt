@@ -7,10 +7,10 @@ use Rattle.page_image.proofs.Spelled.{with_checksum}
 use Rattle.page_image.proofs.Kept.{all_taken, count_read, pointwise-same, kind_read, never, number_read, same_head}
 use Rattle.page_image.proofs.page.Page.check.Goals as goal
 
-pub returns-then-kind-ne2-clause-only : goal.returns-then-kind-ne2-clause-only
-returns-then-kind-ne2-clause-only c p page spelled = elim page.kind [
-  | inl one ↦ absurd (c.if-kind-ne1.true (kind_read p c.args.bytes spelled ∙ one))
-  | inr two ↦ absurd (c.if-kind-ne2.true (kind_read p c.args.bytes spelled ∙ two))
+pub returns-then-kind-ne-INNER-clause-only : goal.returns-then-kind-ne-INNER-clause-only
+returns-then-kind-ne-INNER-clause-only c p page spelled = elim page.kind [
+  | inl one ↦ absurd (c.if-kind-ne-LEAF.true (kind_read p c.args.bytes spelled ∙ one))
+  | inr two ↦ absurd (c.if-kind-ne-INNER.true (kind_read p c.args.bytes spelled ∙ two))
 ]
 
 pub loop-init : goal.loop-init
