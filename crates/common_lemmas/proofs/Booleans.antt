@@ -8,6 +8,12 @@ pub by_test : {P : Type 0} (b : Bool) → (b ≡ true → P) → (b ≡ false �
 by_test true f g = f refl
 by_test false f g = g refl
 
+-- two tests that tell the same
+pub same_tests : (a b : Bool) → (a ≡ true → b ≡ true) → (b ≡ true → a ≡ true) → a ≡ b
+same_tests true b f g = sym (f refl)
+same_tests false true f g = g refl
+same_tests false false f g = refl
+
 -- ---- both
 
 pub and_left : (a b : Bool) → (a && b) ≡ true → a ≡ true

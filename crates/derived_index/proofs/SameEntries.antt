@@ -10,7 +10,7 @@ use Rattle.derived_index.proofs.Rising.{same_rising}
 use Rattle.std.proofs.lemmas.Slice.Eq.{bytes_eq-Decides}
 use Rattle.std.proofs.lemmas.Bool.{and_from}
 use Rattle.common_lemmas.proofs.Numbers.{same_bytes}
-use Rattle.common_lemmas.proofs.Booleans.{and_left, and_right, impossible}
+use Rattle.common_lemmas.proofs.Booleans.{and_left, and_right, impossible, same_tests}
 
 equal_bytes : (a b : List ℕ) → a ≡ b → bytes_eq a b ≡ true
 equal_bytes a b = (bytes_eq-Decides a b).1
@@ -51,11 +51,6 @@ within p (x ∷ xs) ys f h =
     or_right : (a b : Bool) → b ≡ true → (a || b) ≡ true
     or_right true b e = refl
     or_right false b e = e
-
-same_tests : (a b : Bool) → (a ≡ true → b ≡ true) → (b ≡ true → a ≡ true) → a ≡ b
-same_tests true b f g = sym (f refl)
-same_tests false true f g = g refl
-same_tests false false f g = refl
 
 -- sorted lists of the same entries are equal
 pub same_sorted : (xs ys : List Pair) → are_sorted xs ≡ true → are_sorted ys ≡ true → ((key bookmark : List ℕ) → has_entry key bookmark xs ≡ has_entry key bookmark ys) → xs ≡ ys
