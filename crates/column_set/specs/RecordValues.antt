@@ -92,6 +92,10 @@ value_fits kind value = elim (fixed_width kind) [ Some width ↦ length value ==
 abbrev pub values_fit : Column → List (List ℕ) → Bool
 values_fit column values = (column.multi || nat_le (length values) 1) && list_all (value_fits column.kind) values
 
+-- whether values stand under a column that takes them
+abbrev pub stands_in : List Column → ℕ × List (List ℕ) → Bool
+stands_in columns field = elim (column_of_id columns field.0) [ Some column ↦ values_fit column field.1 | None ↦ false ]
+
 -- whether the column's one value is kept by the engine, so that every record has it
 abbrev pub is_kept_column : Column → Bool
 is_kept_column column = column.escrow || column.version || column.auto
@@ -99,7 +103,7 @@ is_kept_column column = column.escrow || column.version || column.auto
 -- whether a table of these columns may hold the record: each value stands under a column that takes it, and each column that the engine keeps has one. A column that must not be NULL may be: it is asked where a record is stored
 abbrev pub record_fits : List Column → RecordFields → Bool
 record_fits columns fields =
-    list_all (λ field. elim (column_of_id columns field.0) [ Some column ↦ values_fit column field.1 | None ↦ false ]) fields
+    list_all (stands_in columns) fields
     && list_all (λ column. not (is_kept_column column) || has_value fields column.id.0) columns
 
 -- whether a column that must not be NULL has no value

@@ -4,10 +4,9 @@ use Rattle.std.specs.Prelude.{◌^◌, nat_le, nat_lt}
 use Rattle.std.specs.List.{list_all}
 use Rattle.std.proofs.lemmas.Bool.{and_from}
 use Rattle.column_set.specs.declared.columns.Column.{Column}
-use Rattle.column_set.specs.RecordValues.{RecordFields, column_of_id, value_fits, values_fit}
+use Rattle.column_set.specs.RecordValues.{RecordFields, column_of_id, value_fits, values_fit, stands_in}
 use Rattle.database_state.specs.Table.{GreatestColumns}
 use Rattle.long_rows.specs.KeptRows.{are_values}
-use Rattle.session_local.specs.WellFormed.{stands_in}
 use Rattle.common_lemmas.proofs.Booleans.{and_left, and_right, impossible}
 use Rattle.loggable_steps.proofs.RecordBytes.{AreNumbered, column_low, values_within}
 

@@ -9,7 +9,7 @@ use Rattle.jet_base.specs.ColumnType.{big_endian}
 use Rattle.column_set.specs.declared.changes.Change.{Change}
 use Rattle.column_set.specs.declared.changes.Change.TheVariants.{Put, Drop, Hold, Add}
 use Rattle.column_set.specs.Record.{is_record}
-use Rattle.column_set.specs.RecordValues.{RecordFields, has_value, is_kept_column, is_missing_a_value, record_fits, record_size}
+use Rattle.column_set.specs.RecordValues.{RecordFields, has_value, is_kept_column, is_missing_a_value, record_fits, record_size, stands_in}
 use Rattle.column_set.specs.Rows.{largest_row}
 use Rattle.index_derive.specs.declared.log.EntryKind.TheVariants as entry
 use Rattle.index_derive.specs.declared.rules.IndexRule.{IndexRule}
@@ -22,7 +22,6 @@ use Rattle.database_state.specs.View.{newest, view}
 use Rattle.database_state.specs.Lawful.{has_free_keys, is_bookmark_of, is_copied_in, is_indexable, is_lawful_change, is_lawful_put, keeps_escrow}
 use Rattle.record_changes.specs.Records.{records_of}
 use Rattle.long_rows.specs.KeptRows.{are_values}
-use Rattle.session_local.specs.WellFormed.{stands_in}
 use Rattle.version_history.proofs.Unhindered.{finds_newest}
 use Rattle.version_keys.proofs.EscrowSums.{unseen_now}
 use Rattle.version_records.specs.Bookmarks.{is_bookmark}

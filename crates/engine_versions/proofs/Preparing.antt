@@ -8,7 +8,7 @@ use Rattle.jet_base.specs.declared.replies.Jet.{Jet}
 use Rattle.jet_base.specs.declared.words.Given.{Given}
 use Rattle.jet_base.specs.declared.words.Prepare.TheVariants as prepare
 use Rattle.column_set.specs.declared.columns.Column.{Column}
-use Rattle.column_set.specs.RecordValues.{RecordFields, column_named, has_value, is_kept_column, record_fits, record_size, values_of}
+use Rattle.column_set.specs.RecordValues.{RecordFields, column_named, has_value, is_kept_column, record_fits, record_size, values_of, stands_in}
 use Rattle.record_edit.specs.SetColumn.{fields_after, set_refusals, size_refusals, stored_value, values_after}
 use Rattle.index_derive.specs.declared.rules.Schema.{Schema}
 use Rattle.database_state.specs.Table.{Table, row_at, schema_of, table_with_id}
@@ -36,7 +36,7 @@ use Rattle.session_local.specs.Local.{LocalState, OpenCursor, PreparedUpdate, cu
 use Rattle.session_local.specs.Outcome.{Asked, Outcome, at_cursor, on_cursor, rows_seen, unless_refused}
 use Rattle.session_local.specs.RecordCalls.{bookmark_at, current, on_column, on_prepared, prepare_copy, prepare_insert, prepared_refusals, record_at, set_column, set_column_in, with_sums_at_zero}
 use Rattle.session_local.specs.SessionSide.{are_distinct}
-use Rattle.session_local.specs.WellFormed.{IsWellFormed, is_well_formed_cursor, is_well_formed_record, is_well_formed_schema, number_of_column, stands_in}
+use Rattle.session_local.specs.WellFormed.{IsWellFormed, is_well_formed_cursor, is_well_formed_record, is_well_formed_schema, number_of_column}
 use Rattle.lawful_answers.specs.ColumnNumbers.{are_in_range, has_own_numbers, is_given_number}
 use Rattle.lawful_answers.proofs.ChangeSteps.{IsAtTable, at_its_table}
 use Rattle.lawful_answers.specs.EntryTypes.{HasRisingColumns}

@@ -9,7 +9,7 @@ use Rattle.std.proofs.lemmas.Bool.{and_from, le-leb, not-true}
 use Rattle.common_lemmas.proofs.Lists.{all_filtered, all_stronger}
 use Rattle.common_lemmas.proofs.Booleans.{and_left, and_right, impossible}
 use Rattle.column_set.specs.declared.columns.Column.{Column}
-use Rattle.column_set.specs.RecordValues.{has_value, is_kept_column, record_size}
+use Rattle.column_set.specs.RecordValues.{has_value, is_kept_column, record_size, stands_in}
 use Rattle.index_derive.specs.declared.rules.IndexRule.{IndexRule}
 use Rattle.database_state.specs.Table.{Table, primary_first, schema_of, table_with_id}
 use Rattle.database_state.specs.SchemaChanges.{is_type_long}
@@ -18,7 +18,7 @@ use Rattle.record_changes.proofs.Tests.{or_first, or_second}
 use Rattle.session_local.specs.Agreement.{HasSchemaOf, IsStorable}
 use Rattle.session_local.specs.Local.{LocalState, OpenCursor, PreparedUpdate}
 use Rattle.session_local.specs.SessionSide.{are_distinct}
-use Rattle.session_local.specs.WellFormed.{has_short_keys, is_long_if_sum, is_sum, is_well_formed_cursor, is_well_formed_schema, is_well_formed_update, number_of_column, stands_in}
+use Rattle.session_local.specs.WellFormed.{has_short_keys, is_long_if_sum, is_sum, is_well_formed_cursor, is_well_formed_schema, is_well_formed_update, number_of_column}
 use Rattle.lawful_answers.specs.ColumnNumbers.{are_in_range, has_own_numbers, is_given_number}
 use Rattle.lawful_answers.proofs.TableTests.{all_found}
 use Rattle.agreeing_sessions.specs.InStep.{IsInStep}

@@ -10,8 +10,7 @@ use Rattle.std.proofs.lemmas.List.Sums.{sum_by-cons}
 use Rattle.jet_base.specs.declared.words.ColType.{ColType}
 use Rattle.jet_base.specs.declared.words.ColType.TheVariants as kind
 use Rattle.column_set.specs.declared.columns.Column.{Column}
-use Rattle.column_set.specs.RecordValues.{RecordFields, column_of_id, size_of_length, size_of_values, value_fits, values_fit}
-use Rattle.column_set.specs.RecordValues.{record_size}
+use Rattle.column_set.specs.RecordValues.{RecordFields, column_of_id, record_size, size_of_length, size_of_values, stands_in, value_fits, values_fit}
 use Rattle.column_set.specs.Rows.{record_values_in_order}
 use Rattle.log_grammar.specs.EntryBytes.{value_bytes, value_fits as value_fits_entry}
 use Rattle.log_grammar.proofs.Values.{of_column}
@@ -108,9 +107,6 @@ column_low greatest columns id column are found =
 -- whether a field has a number of 16 bits, and values of 2^20 bytes at most
 abbrev pub field_within : ℕ × List (List ℕ) → Bool
 field_within field = nat_lt field.0 (2 ^ 16) && list_all is_within field.1
-
-abbrev stands_in : List Column → ℕ × List (List ℕ) → Bool
-stands_in columns field = elim (column_of_id columns field.0) [ Some column ↦ values_fit column field.1 | None ↦ false ]
 
 field_found : (greatest : GreatestColumns) (columns : List Column) (field : ℕ × List (List ℕ)) (found : Option Column) → AreNumbered greatest columns → column_of_id columns field.0 ≡ found
     → elim found [ Some column ↦ values_fit column field.1 | None ↦ false ] ≡ true → field_within field ≡ true

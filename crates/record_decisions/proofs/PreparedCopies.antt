@@ -9,7 +9,7 @@ use Rattle.jet_base.specs.declared.words.Prepare.{Prepare}
 use Rattle.jet_base.specs.declared.words.Prepare.TheVariants as prepare
 use Rattle.column_set.specs.declared.columns.Column.{Column}
 use Rattle.column_set.specs.Record.{is_record}
-use Rattle.column_set.specs.RecordValues.{RecordFields, column_of_id, record_fits, values_fit}
+use Rattle.column_set.specs.RecordValues.{RecordFields, column_of_id, record_fits, values_fit, stands_in}
 use Rattle.index_derive.specs.declared.log.Step.{Step}
 use Rattle.common_lemmas.proofs.Found.{all_found}
 use Rattle.common_lemmas.proofs.Lists.{all_stronger}
@@ -31,7 +31,7 @@ use Rattle.session_local.specs.Preparing.{FitsCursor, update_of}
 use Rattle.session_local.specs.RecordCalls.{bookmark_at, conflict_refusals, current, hold_at, own_refusals, prepare_copy, prepare_replace, prepared_refusals, record_at, with_prepared, with_sums_at_zero}
 use Rattle.session_local.specs.Run.{flushes_step}
 use Rattle.session_local.specs.SessionSide.{SessionSide, are_distinct}
-use Rattle.session_local.specs.WellFormed.{IsWellFormed, is_well_formed_cursor, is_well_formed_schema, is_well_formed_update, number_of_column, stands_in}
+use Rattle.session_local.specs.WellFormed.{IsWellFormed, is_well_formed_cursor, is_well_formed_schema, is_well_formed_update, number_of_column}
 use Rattle.agreeing_sessions.specs.InStep.{IsInStep}
 use Rattle.engine_versions.specs.EngineState.{EngineState}
 use Rattle.engine_versions.specs.HoldsState.{HoldsState}

@@ -14,7 +14,7 @@ use Rattle.jet_base.specs.declared.words.Prepare.{Prepare}
 use Rattle.jet_base.specs.declared.words.Prepare.TheVariants as prepare
 use Rattle.jet_base.specs.Given.{given_fits}
 use Rattle.column_set.specs.declared.columns.Column.{Column}
-use Rattle.column_set.specs.RecordValues.{RecordFields, with_values, values_of, value_fits, column_named, record_size}
+use Rattle.column_set.specs.RecordValues.{RecordFields, with_values, values_of, value_fits, column_named, record_size, stands_in}
 use Rattle.index_derive.specs.declared.rules.IndexRule.{IndexRule}
 use Rattle.index_derive.specs.declared.rules.Segment.{Segment}
 use Rattle.index_derive.specs.declared.rules.Schema.{Schema}
@@ -31,7 +31,7 @@ use Rattle.session_local.specs.RecordCalls.{with_sums_at_zero}
 use Rattle.session_local.specs.Changing.{Changed, cursor_if, with_key, key_made_at, new_update, update_prepared_at, value_set_at, value_set_on, value_set_in, changed_by, changed_to, changed_unless, refused_by, cursor_after, local_after, change_at, ChangesTo, ChangesBy}
 use Rattle.session_local.specs.SessionSide.{HeldState, label_of, are_distinct}
 use Rattle.session_local.specs.Holding.{begun_with_cursors}
-use Rattle.session_local.specs.WellFormed.{has_short_keys, is_well_formed_schema, is_well_formed_cursor, is_well_formed_update, stands_in}
+use Rattle.session_local.specs.WellFormed.{has_short_keys, is_well_formed_schema, is_well_formed_cursor, is_well_formed_update}
 use Rattle.session_local.specs.FoundLaws.{by_number, labelled, values_of-counted, values_of-fit}
 use Rattle.session_local.proofs.Distinct.{found-position, set-position}
 use Rattle.common_lemmas.proofs.Found.{all_found}

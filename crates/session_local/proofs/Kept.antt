@@ -12,7 +12,7 @@ use Rattle.jet_base.specs.declared.words.Prepare.TheVariants as prepare
 use Rattle.jet_base.specs.ColumnType.{largest_value}
 use Rattle.jet_base.specs.Given.{given_fits, given_length, given_is_null, given_bytes}
 use Rattle.column_set.specs.declared.columns.Column.{Column}
-use Rattle.column_set.specs.RecordValues.{RecordFields, values_of, column_named, column_of_id, value_fits, values_fit, record_size, is_kept_column, has_value}
+use Rattle.column_set.specs.RecordValues.{RecordFields, values_of, column_named, column_of_id, value_fits, values_fit, record_size, is_kept_column, has_value, stands_in}
 use Rattle.record_edit.specs.SetColumn.{refusal_in_column, stored_value, values_after, fields_after}
 use Rattle.index_derive.specs.declared.rules.Schema.{Schema}
 use Rattle.cursor_nav.specs.Navigation.{Navigated}
@@ -28,7 +28,7 @@ use Rattle.session_local.specs.SessionSide.{are_distinct}
 use Rattle.session_local.specs.Finishing.{Decided, after_step, begun_with, is_release, with_update_on, with_update_at, with_opened, with_copied, opened_cursor, finished}
 use Rattle.session_local.specs.Navigating.{navigated_on}
 use Rattle.session_local.specs.Changing.{Changed, cursor_if, insert_prepared_at, update_cancelled_at, update_prepared_at, new_update, value_set_in, value_set_on, changed_by, changed_unless, changed_to, refused_by, local_after}
-use Rattle.session_local.specs.WellFormed.{number_of_column, is_sum, is_long_if_sum, has_short_keys, is_well_formed_schema, stands_in, is_well_formed_record, is_well_formed_update, is_well_formed_cursor, is_well_formed_table, is_well_formed_on, is_well_formed_copy, IsWellFormed}
+use Rattle.session_local.specs.WellFormed.{number_of_column, is_sum, is_long_if_sum, has_short_keys, is_well_formed_schema, is_well_formed_record, is_well_formed_update, is_well_formed_cursor, is_well_formed_table, is_well_formed_on, is_well_formed_copy, IsWellFormed}
 use Rattle.session_local.specs.FoundLaws.{by_number, values_of-fit}
 use Rattle.session_local.proofs.Fitting.{fits_if, value_fits-given_bytes, values_after-fit}
 use Rattle.common_lemmas.proofs.Found.{all_found}

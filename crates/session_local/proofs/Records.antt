@@ -11,11 +11,11 @@ use Rattle.std.proofs.lemmas.Bool.{and_from, and_parts, not-true, or_parts}
 use Rattle.common_lemmas.proofs.Lists.{all_filtered}
 use Rattle.common_lemmas.proofs.Numbers.{self_equal, unequal_turned}
 use Rattle.column_set.specs.declared.columns.Column.{Column}
-use Rattle.column_set.specs.RecordValues.{RecordFields, with_values, column_of_id, value_fits, values_fit, size_of_value, size_of_values, record_size}
+use Rattle.column_set.specs.RecordValues.{RecordFields, with_values, column_of_id, value_fits, values_fit, size_of_value, size_of_values, record_size, stands_in}
 use Rattle.database_state.specs.SchemaChanges.{is_type_long}
 use Rattle.session_local.specs.RecordCalls.{with_sums_at_zero}
 use Rattle.session_local.specs.SessionSide.{are_distinct}
-use Rattle.session_local.specs.WellFormed.{number_of_column, is_sum, is_long_if_sum, stands_in}
+use Rattle.session_local.specs.WellFormed.{number_of_column, is_sum, is_long_if_sum}
 use Rattle.session_local.specs.FoundLaws.{taken}
 use Rattle.session_local.proofs.Fitting.{value_fits-zero}
 

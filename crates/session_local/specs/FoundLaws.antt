@@ -10,10 +10,10 @@ use Rattle.std.proofs.lemmas.List.Sums.{sum_by-cons}
 use Rattle.std.proofs.lemmas.Bool.{and_parts, eqb-true, not-true}
 use Rattle.common_lemmas.proofs.Numbers.{self_equal}
 use Rattle.column_set.specs.declared.columns.Column.{Column}
-use Rattle.column_set.specs.RecordValues.{RecordFields, values_of, column_of_id, values_fit, size_of_value, size_of_values, record_size}
+use Rattle.column_set.specs.RecordValues.{RecordFields, values_of, column_of_id, values_fit, size_of_value, size_of_values, record_size, stands_in}
 use Rattle.session_local.specs.Local.{OpenCursor}
 use Rattle.session_local.specs.SessionSide.{are_distinct}
-use Rattle.session_local.specs.WellFormed.{number_of_column, stands_in}
+use Rattle.session_local.specs.WellFormed.{number_of_column}
 
 -- a cursor that is found by a label has it
 pub labelled : (label : ℕ) (cursors : List OpenCursor) (c : OpenCursor) → find (λ c. c.label == label) cursors ≡ Some c → c.label ≡ label

@@ -1,9 +1,9 @@
 -- What a session's own state is like where the database is sound: its cursors have the columns and indexes of tables that
 -- were made by lawful steps, and what is prepared on them may be stored.
-use Rattle.std.specs.Prelude.{ℕ, Bool, true, false, not, ◌&&◌, ◌||◌, nat_le, length, List, map, filter, Option, Some, None, IsTrue}
+use Rattle.std.specs.Prelude.{ℕ, Bool, true, not, ◌&&◌, ◌||◌, nat_le, length, List, map, filter, Option, Some, None, IsTrue}
 use Rattle.std.specs.List.{list_all}
 use Rattle.column_set.specs.declared.columns.Column.{Column}
-use Rattle.column_set.specs.RecordValues.{RecordFields, column_of_id, values_fit, record_size}
+use Rattle.column_set.specs.RecordValues.{RecordFields, record_size, stands_in}
 use Rattle.index_derive.specs.declared.rules.IndexRule.{IndexRule}
 use Rattle.index_derive.specs.declared.rules.Schema.{Schema}
 use Rattle.database_state.specs.SchemaChanges.{is_type_long}
@@ -37,10 +37,6 @@ is_well_formed_schema schema =
     && list_all has_short_keys schema.indexes
 
 -- ---- prepared updates
-
--- whether values stand under a column that takes them
-abbrev pub stands_in : List Column → ℕ × List (List ℕ) → Bool
-stands_in columns field = elim (column_of_id columns field.0) [ Some column ↦ values_fit column field.1 | None ↦ false ]
 
 -- each value stands under a column that takes it, and the record has 1,700 bytes at most
 abbrev pub is_well_formed_record : List Column → RecordFields → Bool

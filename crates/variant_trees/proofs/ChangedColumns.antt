@@ -1,16 +1,16 @@
 -- A table whose columns change, but for those that its indexes read.
-use Rattle.std.proofs.Common.{◌≡◌, ℕ, Bool, true, false, not, ◌||◌, List, [], ◌∷◌, Option, Some, None, length, refl, sym, ap, ◌∙◌}
+use Rattle.std.proofs.Common.{◌≡◌, ℕ, true, List, [], ◌∷◌, Option, Some, None, length, refl, sym, ap, ◌∙◌}
 use Rattle.std.specs.Prelude.{MatchOption, is_none, is_some}
 use Rattle.std.specs.List.{AllByRecursion, list_all}
 use Rattle.std.proofs.lemmas.Bool.{and_from}
 use Rattle.column_set.specs.declared.columns.Column.{Column}
-use Rattle.column_set.specs.RecordValues.{RecordFields, column_of_id, has_value, is_kept_column, record_fits, values_fit, values_of}
+use Rattle.column_set.specs.RecordValues.{RecordFields, column_of_id, values_of}
 use Rattle.database_state.specs.Lawful.{is_indexable}
 use Rattle.database_state.specs.Puts.{is_cut_refusal, is_null_refusal}
 use Rattle.database_state.specs.Refusals.{Refusals, first_refusal}
 use Rattle.database_state.specs.SchemaChanges.{columns_with, has_column, rule_columns, with_column}
 use Rattle.database_state.specs.Table.{GreatestColumns, Rows, Table, primary_first, primary_rule, schema_of}
-use Rattle.database_state.proofs.Columns.{column_of_id-columns_with, list_all-columns_with}
+use Rattle.database_state.proofs.Columns.{column_of_id-columns_with}
 use Rattle.index_derive.specs.declared.rules.IndexRule.{IndexRule}
 use Rattle.index_derive.specs.declared.rules.Schema.{Schema}
 use Rattle.index_derive.specs.Entries.{entries, primary_key}
@@ -21,7 +21,7 @@ use Rattle.version_keys.proofs.SameColumns.{entries_same, legal_same, primary_ke
 use Rattle.version_keys.proofs.SchemaKeys.{each_column, found_has}
 use Rattle.stored_variants.specs.VersionsKept.{IsBookmarkOf, IsStoredRule}
 use Rattle.common_lemmas.proofs.Found.{of_found}
-use Rattle.common_lemmas.proofs.Lists.{all_stronger, all_weaker}
+use Rattle.common_lemmas.proofs.Lists.{all_weaker}
 use Rattle.common_lemmas.proofs.Booleans.{and_left, and_right}
 use Rattle.stored_variants.proofs.TakenRecords.{refusals_in}
 
@@ -96,20 +96,3 @@ added_columns column t rules = all_weaker (IsStoredRule t) (SameColumns (columns
         all_weaker (λ id. (column_of_id (columns_with column t.columns) id ≡ column_of_id t.columns id) × (has_column t id ≡ true → has_column (with_column column t) id ≡ true))
         (λ id. column_of_id (columns_with column t.columns) id ≡ column_of_id t.columns id) (λ id c. c.0) (rule_columns rule)
         (each_column t (with_column column t) (rule_columns rule) is.columns (λ id has. column_of_id-columns_with column id t.columns (found_has t.columns id ∙ has)))
-
-abbrev takes : List Column → ℕ × List (List ℕ) → Bool
-takes columns field = elim (column_of_id columns field.0) [ Some column ↦ values_fit column field.1 | None ↦ false ]
-
-column_there : (o : Option Column) (values : List (List ℕ)) → (elim o [ Some column ↦ values_fit column values | None ↦ false ]) ≡ true → is_some o ≡ true
-column_there None values h = h
-column_there (Some column) values h = refl
-
--- a record fits one column more
-pub fits_with : (column : Column) (columns : List Column) (values : RecordFields) → is_kept_column column ≡ false → record_fits columns values ≡ true → record_fits (columns_with column columns) values ≡ true
-fits_with column columns values plain h =
-    and_from (list_all (takes (columns_with column columns)) values) (list_all (λ c. not (is_kept_column c) || has_value values c.id.0) (columns_with column columns))
-    (all_stronger (takes columns) (takes (columns_with column columns))
-    (λ field e. ap (λ (o : Option Column). elim o [ Some c ↦ values_fit c field.1 | None ↦ false ]) (column_of_id-columns_with column field.0 columns (column_there (column_of_id columns field.0) field.1 e)) ∙ e)
-    values (and_left (list_all (takes columns) values) _ h))
-    (list_all-columns_with (λ c. not (is_kept_column c) || has_value values c.id.0) column columns (and_right (list_all (takes columns) values) _ h)
-    (ap (λ b. not b || has_value values column.id.0) plain))

@@ -25,6 +25,7 @@ use Rattle.table_trees.specs.StoredTables.{table_long_values, StoredIndex, Store
 use Rattle.version_keys.proofs.IndexNumbers.{all_primary_first, none_of}
 use Rattle.version_keys.proofs.SameColumns.{yields_same}
 use Rattle.version_keys.proofs.SchemaKeys.{mapped_row, other_column}
+use Rattle.version_records.proofs.Storing.{fits_without}
 use Rattle.version_sums.specs.EscrowNumbers.{holds_number, is_one_number}
 use Rattle.versioned_tables.specs.Variants.{HoldsVariants, has_variant}
 use Rattle.variant_trees.specs.LostColumns.{LosesValues, HasNodes, HoldsRecord, node_without, row_without}
@@ -34,7 +35,7 @@ use Rattle.stored_variants.specs.VersionsKept.{AreKept, AreKeptWith, HoldsNumber
 use Rattle.stored_variants.specs.VersionsView.{with_newest_by}
 use Rattle.variant_trees.proofs.ChangedColumns.{SameColumns, SameFields, indexable_then, own_then, rules_then}
 use Rattle.variant_trees.proofs.EntryTrees.{other_number}
-use Rattle.variant_trees.proofs.LostRows.{RowLaws, all_records, fits_without, got_without, record_without, row_is, rows_lost, under_without, values_elsewhere}
+use Rattle.variant_trees.proofs.LostRows.{RowLaws, all_records, got_without, record_without, row_is, rows_lost, under_without, values_elsewhere}
 use Rattle.variant_trees.proofs.Stepping.{IsSettled, StepsTo, changed_at, is_made, kept_of, moved, newest_same, plain_table, settled_of}
 use Rattle.common_lemmas.proofs.Found.{of_found}
 use Rattle.common_lemmas.proofs.Lists.{all_weaker}

@@ -1,23 +1,21 @@
 -- Rows and nodes without the values of a column.
-use Rattle.std.proofs.Common.{◌≡◌, ℕ, ◌≤◌, Bool, true, false, not, ◌||◌, cond, List, [], ◌∷◌, length, Option, Some, None, filter, find, map, option_map, refl, sym, ap, subst, ◌∙◌, arith}
-use Rattle.std.specs.Prelude.{◌==◌, IfSome, IsTrue, is_some, nat_lt, option_and_then, unwrap_or}
+use Rattle.std.proofs.Common.{◌≡◌, ℕ, ◌≤◌, Bool, true, false, ◌||◌, cond, List, [], ◌∷◌, length, Option, Some, None, find, map, option_map, refl, sym, ap, subst, ◌∙◌, arith}
+use Rattle.std.specs.Prelude.{◌==◌, IfSome, IsTrue, is_some, option_and_then, unwrap_or}
 use Rattle.std.specs.List.{AllByRecursion, list_all}
 use Rattle.btree_inplace.specs.Order.{get_in, has_key}
-use Rattle.column_set.specs.declared.columns.Column.{Column}
-use Rattle.column_set.specs.RecordValues.{RecordFields, column_of_id, has_value, is_kept_column, record_fits, remove_by_number, values_fit, values_of, with_values}
+use Rattle.column_set.specs.RecordValues.{RecordFields, remove_by_number, values_of, with_values}
 use Rattle.column_set.specs.RowReading.{row_in}
 use Rattle.column_set.specs.Rows.{RowFields, is_row, row_bytes}
 use Rattle.cursor_nav.specs.Places.{are_sorted, pair_lt}
-use Rattle.database_state.specs.SchemaChanges.{without_column}
-use Rattle.database_state.specs.Table.{Table, row_at}
+use Rattle.database_state.specs.Table.{row_at}
 use Rattle.long_rows.specs.WholeRows.{StandsFor, is_whole, record_in}
 use Rattle.page_image.specs.Page.{Node}
 use Rattle.record_changes.proofs.Tests.{equal_bytes}
 use Rattle.std.specs.Cmp.Lexicographic.{texts_ties}
-use Rattle.std.proofs.lemmas.Bool.{and_from, false_from_ne_true, not-true}
+use Rattle.std.proofs.lemmas.Bool.{false_from_ne_true}
 use Rattle.common_lemmas.proofs.Booleans.{and_left, and_right, impossible}
 use Rattle.table_trees.specs.StoredNodes.{bookmark_entries}
-use Rattle.version_keys.proofs.SchemaKeys.{other_column, other_values}
+use Rattle.version_keys.proofs.SchemaKeys.{other_values}
 use Rattle.variant_trees.specs.LostColumns.{HoldsRecord, node_without, row_without}
 use Rattle.stored_variants.specs.RecordRows.{IsRecordRow, record_of, row_in_node, row_under, rows_of_nodes, with_record}
 use Rattle.stored_variants.proofs.NodeRecords.{apart, key_is, record_at}
@@ -126,31 +124,3 @@ all_records vals nodes sorted stands rows = each nodes (found_own nodes sorted)
 
 pub values_elsewhere : (column : ℕ) (values : RecordFields) (id : ℕ) → (id == column) ≡ false → values_of (remove_by_number column values) id ≡ values_of values id
 values_elsewhere column values id apart = ap (λ (o : Option (List (List ℕ))). unwrap_or o []) (other_values values column id apart)
-
-all_left : {X : Type 0} (p q kept : X → Bool) → ((x : X) → kept x ≡ true → p x ≡ q x) → (xs : List X) → list_all q xs ≡ true → list_all p (filter kept xs) ≡ true
-all_left p q kept same [] h = refl
-all_left {X} p q kept same (x ∷ xs) h = by (kept x) refl (and_left (q x) (list_all q xs) h) (all_left p q kept same xs (and_right (q x) (list_all q xs) h))
-  where
-    by : (b : Bool) → kept x ≡ b → q x ≡ true → list_all p (filter kept xs) ≡ true → list_all p (cond b (x ∷ filter kept xs) (filter kept xs)) ≡ true
-    by true e own rest = and_from (p x) (list_all p (filter kept xs)) (same x e ∙ own) rest
-    by false e own rest = rest
-
--- a record without the values of a column fits the not-true columns
-pub fits_without : (column : ℕ) (t : Table) (values : RecordFields) → record_fits t.columns values ≡ true → record_fits (without_column column t).columns (remove_by_number column values) ≡ true
-fits_without column t values h =
-    and_from (list_all (takes (without_column column t).columns) (remove_by_number column values)) (list_all (has_kept (remove_by_number column values)) (without_column column t).columns)
-    (all_left (takes (without_column column t).columns) (takes t.columns) (λ field. not (field.0 == column))
-    (λ field left. ap (λ (o : Option Column). elim o [ Some c ↦ values_fit c field.1 | None ↦ false ]) (other_column column t field.0 (not-true (field.0 == column) left)))
-    values (and_left (list_all (takes t.columns) values) (list_all (has_kept values) t.columns) h))
-    (all_left (has_kept (remove_by_number column values)) (has_kept values) (λ c. not (c.id.0 == column))
-    (λ c left. ap (λ (v : List (List ℕ)). not (is_kept_column c) || has_some v) (values_elsewhere column values c.id.0 (not-true (c.id.0 == column) left)))
-    t.columns (and_right (list_all (takes t.columns) values) (list_all (has_kept values) t.columns) h))
-  where
-    takes : List Column → ℕ × List (List ℕ) → Bool
-    takes columns field = elim (column_of_id columns field.0) [ Some c ↦ values_fit c field.1 | None ↦ false ]
-
-    has_some : List (List ℕ) → Bool
-    has_some values = nat_lt 0 (length values)
-
-    has_kept : RecordFields → Column → Bool
-    has_kept values c = not (is_kept_column c) || has_value values c.id.0

@@ -19,12 +19,13 @@ use Rattle.table_trees.specs.StoredNodes.{bookmark_entries}
 use Rattle.table_trees.specs.StoredTables.{table_long_values, StoredTable, index_entries, table_nodes}
 use Rattle.version_keys.proofs.IndexNumbers.{all_primary_first}
 use Rattle.version_keys.proofs.SameColumns.{yields_same}
+use Rattle.version_records.proofs.Storing.{fits_with}
 use Rattle.versioned_tables.specs.Variants.{HoldsVariants}
 use Rattle.stored_variants.specs.RecordRows.{TableValues, record_of, row_under, rows_of_nodes}
 use Rattle.stored_variants.specs.SchemaSteps.{IsMade, TakesColumn}
 use Rattle.stored_variants.specs.VersionsKept.{AreKeptWith, IsRowUnder, needed_trees, only_secondary}
 use Rattle.stored_variants.specs.VersionsView.{with_newest_by}
-use Rattle.variant_trees.proofs.ChangedColumns.{SameColumns, SameFields, added_columns, fits_with, indexable_then, own_then, rules_then}
+use Rattle.variant_trees.proofs.ChangedColumns.{SameColumns, SameFields, added_columns, indexable_then, own_then, rules_then}
 use Rattle.stored_variants.proofs.NodeRecords.{record_at}
 use Rattle.variant_trees.proofs.Stepping.{IsSettled, StepsTo, changed_at, made_with_values, kept_of, map_table, plain_table, settled_of}
 use Rattle.common_lemmas.proofs.Found.{of_found}

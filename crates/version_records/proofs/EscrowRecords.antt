@@ -9,7 +9,7 @@ use Rattle.std.proofs.lemmas.Bool.{eqb-true}
 use Rattle.column_set.specs.declared.changes.Change.{Change}
 use Rattle.column_set.specs.declared.changes.Change.TheVariants.{Put, Drop, Hold, Add}
 use Rattle.column_set.specs.declared.columns.Column.{Column}
-use Rattle.column_set.specs.RecordValues.{RecordFields, column_of_id, has_value, is_kept_column, lookup_by_number, record_fits, remove_by_number, values_fit, with_values}
+use Rattle.column_set.specs.RecordValues.{RecordFields, column_of_id, has_value, is_kept_column, lookup_by_number, record_fits, remove_by_number, stands_in, values_fit, with_values}
 use Rattle.index_derive.specs.declared.log.Entry.{Entry}
 use Rattle.index_derive.specs.declared.log.EntryKind.{EntryKind}
 use Rattle.index_derive.specs.declared.log.EntryKind.TheVariants as entry
@@ -76,9 +76,6 @@ found_all : (p : Column → Bool) (columns : List Column) (id : ℕ) (c : Column
 found_all p columns id c h e =
     let at = λ (x : Column). x.id.0 == id in (all_found p at columns c h e, eqb-true c.id.0 id (found_passes at columns c e))
 
-abbrev fits_at : List Column → ℕ × List (List ℕ) → Bool
-fits_at columns field = elim (column_of_id columns field.0) [ Some column ↦ values_fit column field.1 | None ↦ false ]
-
 -- one value, which is that of the record in whose place it comes
 one_of : (o : Option (List (List ℕ))) (stored : List ℕ) → is_number stored ≡ true → nat_lt 0 (length (unwrap_or o [])) ≡ true → ((values : List (List ℕ)) → o ≡ Some values → nat_le (length values) 1 ≡ true)
     → unwrap_or (slice_get (unwrap_or o []) 0) (0 ∷ 0 ∷ 0 ∷ 0 ∷ []) ≡ stored → is_one_number (unwrap_or o []) ≡ true
@@ -107,14 +104,14 @@ numbers_of_put state label table rows bookmark copied values single had lawful c
     at fits keeps None e h = impossible h
     at fits keeps (Some c) e h =
         let own = found_all (λ c. not c.escrow || bytes_eq (escrow_bytes values c.id.0) (escrow_bytes (unwrap_or (row_at rows bookmark) []) c.id.0)) table.columns column c keeps e in
-        let kept = found_all (λ c. not (is_kept_column c) || has_value values c.id.0) table.columns column c (and_right (list_all (fits_at table.columns) values) _ fits) e in
+        let kept = found_all (λ c. not (is_kept_column c) || has_value values c.id.0) table.columns column c (and_right (list_all (stands_in table.columns) values) _ fits) e in
         let one = found_all (λ c. not c.escrow || not c.multi) table.columns column c single e in
         one_of (lookup_by_number column values) (escrow_bytes (unwrap_or (row_at rows bookmark) []) column)
         (seen_number (schema_of table) state.number column bookmark escrow (row_at rows bookmark) (had bookmark))
         (ap (λ (id : ℕ). has_value values id) (sym own.1) ∙ is_there c.escrow c.version c.auto _ h kept.0)
         (λ found f. few c.multi (nat_le (length found) 1) (second c.escrow (not c.multi) h one.0)
         (and_left (c.multi || nat_le (length found) 1) _
-        (ap (λ (o : Option Column). elim o [ Some x ↦ values_fit x found | None ↦ false ]) (sym e) ∙ found_has (fits_at table.columns) column found values (and_left (list_all (fits_at table.columns) values) _ fits) f)))
+        (ap (λ (o : Option Column). elim o [ Some x ↦ values_fit x found | None ↦ false ]) (sym e) ∙ found_has (stands_in table.columns) column found values (and_left (list_all (stands_in table.columns) values) _ fits) f)))
         (ap (escrow_bytes values) (sym own.1)
         ∙ same_bytes (escrow_bytes values c.id.0) (escrow_bytes (unwrap_or (row_at rows bookmark) []) c.id.0) (second c.escrow _ h own.0)
         ∙ ap (escrow_bytes (unwrap_or (row_at rows bookmark) [])) own.1)

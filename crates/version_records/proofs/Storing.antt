@@ -8,7 +8,7 @@ use Rattle.std.proofs.lemmas.Bool.{and_from, not-true}
 use Rattle.common_lemmas.proofs.Booleans.{and_left, and_right, impossible}
 use Rattle.common_lemmas.proofs.Lists.{all_stronger}
 use Rattle.column_set.specs.declared.columns.Column.{Column}
-use Rattle.column_set.specs.RecordValues.{RecordFields, column_of_id, has_value, is_kept_column, record_fits, record_size, remove_by_number, size_of_values, values_fit, with_values}
+use Rattle.column_set.specs.RecordValues.{RecordFields, column_of_id, has_value, is_kept_column, record_fits, record_size, remove_by_number, size_of_values, stands_in, values_fit, with_values}
 use Rattle.index_derive.specs.declared.log.Entry.{Entry}
 use Rattle.index_derive.specs.declared.log.EntryKind.{EntryKind}
 use Rattle.index_derive.specs.declared.log.EntryKind.TheVariants as entry
@@ -63,22 +63,24 @@ column_there : (o : Option Column) (values : List (List ℕ)) → (elim o [ Some
 column_there None values h = h
 column_there (Some column) values h = refl
 
-fits_with : (column : Column) (columns : List Column) (values : RecordFields) → is_kept_column column ≡ false → record_fits columns values ≡ true → record_fits (columns_with column columns) values ≡ true
+-- a record fits one column more
+pub fits_with : (column : Column) (columns : List Column) (values : RecordFields) → is_kept_column column ≡ false → record_fits columns values ≡ true → record_fits (columns_with column columns) values ≡ true
 fits_with column columns values plain h =
     and_from _ _
-    (all_stronger (λ field. elim (column_of_id columns field.0) [ Some c ↦ values_fit c field.1 | None ↦ false ]) (λ field. elim (column_of_id (columns_with column columns) field.0) [ Some c ↦ values_fit c field.1 | None ↦ false ])
+    (all_stronger (stands_in columns) (stands_in (columns_with column columns))
     (λ field e. ap (λ (o : Option Column). elim o [ Some c ↦ values_fit c field.1 | None ↦ false ]) (column_of_id-columns_with column field.0 columns (column_there (column_of_id columns field.0) field.1 e)) ∙ e) values (and_left _ _ h))
-    (list_all-columns_with (λ c. not (is_kept_column c) || has_value values c.id.0) column columns (and_right (list_all (λ field. elim (column_of_id columns field.0) [ Some c ↦ values_fit c field.1 | None ↦ false ]) values) _ h)
+    (list_all-columns_with (λ c. not (is_kept_column c) || has_value values c.id.0) column columns (and_right (list_all (stands_in columns) values) _ h)
     (ap (λ b. not b || has_value values column.id.0) plain))
 
-fits_without : (column : ℕ) (table : Table) (values : RecordFields) → record_fits table.columns values ≡ true → record_fits (without_column column table).columns (remove_by_number column values) ≡ true
+-- a record without the values of a column fits the other columns
+pub fits_without : (column : ℕ) (table : Table) (values : RecordFields) → record_fits table.columns values ≡ true → record_fits (without_column column table).columns (remove_by_number column values) ≡ true
 fits_without column table values h =
     and_from _ _
-    (all_left (λ field. elim (column_of_id table.columns field.0) [ Some c ↦ values_fit c field.1 | None ↦ false ]) (λ field. elim (column_of_id (without_column column table).columns field.0) [ Some c ↦ values_fit c field.1 | None ↦ false ]) (λ field. not (field.0 == column))
+    (all_left (stands_in table.columns) (stands_in (without_column column table).columns) (λ field. not (field.0 == column))
     (λ field left e. ap (λ (o : Option Column). elim o [ Some c ↦ values_fit c field.1 | None ↦ false ]) (other_column column table field.0 (not-true (field.0 == column) left)) ∙ e) values (and_left _ _ h))
     (all_left (λ c. not (is_kept_column c) || has_value values c.id.0) (λ c. not (is_kept_column c) || has_value (remove_by_number column values) c.id.0) (λ c. not (c.id.0 == column))
     (λ c left e. ap (λ (v : Option (List (List ℕ))). not (is_kept_column c) || nat_lt 0 (length (unwrap_or v []))) (other_values values column c.id.0 (not-true (c.id.0 == column) left)) ∙ e) table.columns
-    (and_right (list_all (λ field. elim (column_of_id table.columns field.0) [ Some c ↦ values_fit c field.1 | None ↦ false ]) values) _ h))
+    (and_right (list_all (stands_in table.columns) values) _ h))
 
 smaller : (column : ℕ) (values : RecordFields) → record_size values ≤ 1700 → record_size (remove_by_number column values) ≤ 1700
 smaller column values le =
