@@ -56,12 +56,26 @@ fn put_head(bytes: &mut Vec<u8>, column: u16, form: u8, count: u16) -> Result<()
 }
 
 /// Writes a value that stands in its row, with its column.
-pub(crate) fn put_here(bytes: &mut Vec<u8>, column: u16, here: &[u8]) -> Result<(), AllocError>
+pub fn put_here(bytes: &mut Vec<u8>, column: u16, here: &[u8]) -> Result<(), AllocError>
     requires { length here.now ≤ 255 }
     ensures { OnOk result (bytes.new.items ≡ bytes.old.items ++ value_bytes (column, RowValue.Here here.now)) }
 {
     put_head(bytes, column, HERE, here.len() as u16)?;
     bytes.extend_from_slice(here)
+}
+
+/// Writes a value that is kept apart, with its column: the number of its entry, its place there and its length.
+pub fn put_apart(
+    bytes: &mut Vec<u8>,
+    column: u16,
+    entry: u64,
+    place: u32,
+    length: u32,
+) -> Result<(), AllocError>
+    ensures { OnOk result (bytes.new.items ≡ bytes.old.items ++ value_bytes (column, RowValue.Apart entry place length)) }
+{
+    put_head(bytes, column, APART, APART_BYTES)?;
+    put_place(bytes, entry, place, length)
 }
 
 /// Writes a value with its column.
@@ -75,10 +89,7 @@ fn put_value(bytes: &mut Vec<u8>, column: u16, value: &RowValue) -> Result<(), A
             entry,
             place,
             length,
-        } => {
-            put_head(bytes, column, APART, APART_BYTES)?;
-            put_place(bytes, *entry, *place, *length)
-        }
+        } => put_apart(bytes, column, *entry, *place, *length),
     }
 }
 

@@ -22,7 +22,7 @@ pub use changes::{Bookmark, Change};
 pub use checking::is_row;
 pub use columns::{Column, Columns, column_named, column_of_id};
 pub use decoding::decode;
-pub use encoding::encode;
+pub use encoding::{encode, put_apart, put_here};
 pub use encoding_records::{encode_record, is_all_here, values_here_are_the_record};
 pub use fields::{Field, count_of_values, size_of_length, size_of_values};
 pub use reading::{u16_at, u32_at};

@@ -11,14 +11,14 @@ ghost use Rattle.long_references.specs.RowReferences.{named_by};
 ghost use Rattle.row_edit.specs.OtherValues.{MayStand, StandIn};
 ghost use Rattle.kept_rows.specs.NamedValues.{is_name, name_of};
 
-use column_set::row_format::{APART, VALUE_HEAD_BYTES};
+use column_set::row_format::{APART, APART_BYTES, VALUE_HEAD_BYTES};
 use long_value::{LongId, identifiers_differ};
 
 /// Where the form of a value stands among its bytes.
 const FORM_AT: usize = 2;
 
 /// The bytes of a value that is kept apart, those of its head among them.
-const APART_VALUE_BYTES: usize = 21;
+const APART_VALUE_BYTES: usize = VALUE_HEAD_BYTES + APART_BYTES as usize;
 
 /// What the first value of a row's bytes names, if it is kept apart, and the bytes behind it.
 pub fn first_named(bytes: &[u8]) -> Option<(Option<LongId>, &[u8])>

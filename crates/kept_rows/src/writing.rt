@@ -1,57 +1,20 @@
 //! The row that a put makes of a record.
 
-ghost use Rattle.std.specs.Prelude.{◌≡◌, ◌<◌, ◌≤◌, ◌↔◌, ◌+◌, ◌^◌, ◌++◌, ◌∷◌, ℕ, length, map, sum_by, IfOk, IsErrOf, IsTrue, OnOk};
-ghost use Rattle.std.specs.Int.{w16, w32, w64, to_le_bytes};
+ghost use Rattle.std.specs.Prelude.{◌≡◌, ◌<◌, ◌≤◌, ◌↔◌, ◌+◌, ◌^◌, ◌++◌, length, map, sum_by, IfOk, IsErrOf, IsTrue, OnOk};
 ghost use Rattle.std.specs.List.{flat_map, list_all};
-ghost use Rattle.column_set.specs.declared.rows.RowValue.{RowValue};
-ghost use Rattle.column_set.specs.declared.rows.RowValue.TheVariants.{Here, Apart};
+ghost use Rattle.column_set.specs.declared.rows.RowValue.TheVariants.{Apart};
 ghost use Rattle.column_set.specs.RecordValues.{record_size};
 ghost use Rattle.column_set.specs.Rows.{largest_row, row_bytes, value_bytes, values_in_order};
 ghost use Rattle.long_rows.specs.KeptRows.{are_values, kept_fields, kept_row, kept_value, kept_values, next_place, place_after};
 ghost use Rattle.kept_rows.specs.Sources.{HasRows, found_in};
 
 use crate::sharing::Sources;
-use column_set::row_format::{APART, APART_BYTES, HERE, LONGEST_HERE, MAX_ROW_SIZE};
-use column_set::{Field, Record, RowFault, count_of_values, size_of_a_row};
+use column_set::row_format::{LONGEST_HERE, MAX_ROW_SIZE};
+use column_set::{Field, Record, RowFault, count_of_values, put_apart, put_here, size_of_a_row};
 use jet_base::{ColumnId, Octets};
 use long_rows::form_of_a_kept_row;
 use long_value::LongId;
 use std::alloc::{AllocError, Global};
-
-/// Writes a value's column, its form and the count of the bytes that follow.
-fn put_head(bytes: &mut Vec<u8>, column: u16, form: u8, count: u16) -> Result<(), AllocError>
-    ensures { OnOk result (bytes.new.items ≡ bytes.old.items ++ (to_le_bytes w16 column ++ (form ∷ to_le_bytes w16 count))) }
-{
-    bytes.extend_from_slice(&column.to_le_bytes())?;
-    bytes.push(form)?;
-    bytes.extend_from_slice(&count.to_le_bytes())
-}
-
-/// Writes a value that stands in its row.
-fn put_here(bytes: &mut Vec<u8>, column: u16, here: &[u8]) -> Result<(), AllocError>
-    requires { length here.now ≤ 255 }
-    ensures { OnOk result (bytes.new.items ≡ bytes.old.items ++ value_bytes (column, Here here.now)) }
-{
-    put_head(bytes, column, HERE, here.len() as u16)?;
-    bytes.extend_from_slice(here)
-}
-
-/// Writes where a value is kept apart.
-fn put_place(bytes: &mut Vec<u8>, entry: u64, place: u32, length: u32) -> Result<(), AllocError>
-    ensures { OnOk result (bytes.new.items ≡ bytes.old.items ++ (to_le_bytes w64 entry ++ to_le_bytes w32 place ++ to_le_bytes w32 length)) }
-{
-    bytes.extend_from_slice(&entry.to_le_bytes())?;
-    bytes.extend_from_slice(&place.to_le_bytes())?;
-    bytes.extend_from_slice(&length.to_le_bytes())
-}
-
-/// Writes a value that is kept apart.
-fn put_apart(bytes: &mut Vec<u8>, column: u16, id: LongId, length: u32) -> Result<(), AllocError>
-    ensures { OnOk result (bytes.new.items ≡ bytes.old.items ++ value_bytes (column, Apart id.entry id.place length)) }
-{
-    put_head(bytes, column, APART, APART_BYTES)?;
-    put_place(bytes, id.entry, id.place, length)
-}
 
 /// The identifier under which a value of more than 255 bytes is kept, and the place of the next new one.
 fn identifier_for(
@@ -102,7 +65,7 @@ fn put_kept(
         }
     } else {
         let (id, next) = identifier_for(sources, column, at, place, value);
-        match put_apart(bytes, column, id, value.len() as u32) {
+        match put_apart(bytes, column, id.entry, id.place, value.len() as u32) {
             Ok(()) => Ok(next),
             Err(fault) => Err(fault),
         }
