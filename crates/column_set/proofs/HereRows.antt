@@ -17,7 +17,8 @@ use Rattle.column_set.specs.declared.rows.RowValue.TheVariants.{Here}
 use Rattle.column_set.specs.Record.{is_record}
 use Rattle.column_set.specs.RecordValues.{RecordFields, record_size}
 use Rattle.column_set.specs.Rows.{all_here, are_short, bytes_here, field_fits_row, here_fields, is_all_here, is_row, is_row_of, record_values_in_order, row_bytes, row_size, stands_for, value_bytes, value_fits_row, values_in_order, values_stand_for}
-use Rattle.column_set.proofs.Sizes.{few_from_size, is_row-from, row_size-record_size, size-length}
+use Rattle.column_set.proofs.Sizes.{few_from_size, is_row-from, size-length}
+use Rattle.column_set.specs.RowSizes.{row_size-record_size}
 
 -- ---- the values of the row
 

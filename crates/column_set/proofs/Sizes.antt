@@ -1,17 +1,15 @@
--- The size of a row, and what the values of a row in order have.
-use Rattle.std.proofs.Common.{◌≡◌, ℕ, ◌+◌, ◌*◌, ◌^◌, ◌<◌, ◌≤◌, Bool, true, false, cond, ltb, leb, eqb, ◌&&◌, List, [], ◌∷◌, ◌++◌, length, take, get_or, refl, sym, ap, ◌∙◌, arith, All}
-use Rattle.std.specs.Prelude.{bytes_eq, map, sum_by}
+-- The bytes of a row, and what the values of a row in order have.
+use Rattle.std.proofs.Common.{◌≡◌, ℕ, ◌+◌, ◌*◌, ◌^◌, ◌<◌, ◌≤◌, true, ltb, List, [], ◌∷◌, ◌++◌, length, take, get_or, refl, sym, ap, ◌∙◌, arith, All}
+use Rattle.std.specs.Prelude.{sum_by}
 use Rattle.std.specs.List.{flat_map, AllByRecursion}
 use Rattle.std.specs.Int.{w16, to_le_bytes}
-use Rattle.std.proofs.lemmas.Bool.{and_parts, and_from, leb-true, le-ltb, lt-ltb, ltb-true}
+use Rattle.std.proofs.lemmas.Bool.{and_parts, and_from, lt-ltb, ltb-true}
 use Rattle.std.proofs.lemmas.List.{length-append, take_more}
-use Rattle.std.proofs.lemmas.Slice.Eq.{bytes_eq-Decides}
 use Rattle.std.proofs.lemmas.List.Sums.{sum_by-cons, sum_by-take-le, sum_by_push}
 use Rattle.std.proofs.lemmas.List.Elements.{All-from_recursion}
 use Rattle.column_set.specs.declared.rows.RowValue.{RowValue}
 use Rattle.column_set.specs.declared.rows.RowValue.TheVariants.{Here, Apart}
-use Rattle.column_set.specs.Rows.{RowFields, values_in_order, value_fits_row, room_in_row, value_bytes, is_row, is_row_of, is_well_formed, record_values_in_order, row_bytes, row_size, stands_for, values_stand_for}
-use Rattle.column_set.specs.RecordValues.{RecordFields, record_size, size_of_value}
+use Rattle.column_set.specs.Rows.{RowFields, values_in_order, value_fits_row, room_in_row, value_bytes, is_row, is_well_formed, row_bytes, row_size}
 use Rattle.column_set.specs.RowReading.{are_in_order, size_of_values}
 use Rattle.column_set.proofs.Grouping.{in_order_parts}
 
@@ -75,37 +73,3 @@ size-more values i value lt is =
     let one = take_more values i value lt in
     let e : size_of_values (take (i + 1) values) ≡ size_of_values (take i values ++ value ∷ []) = ap size_of_values (one ∙ ap (λ (v : ℕ × RowValue). take i values ++ v ∷ []) (sym is)) in
     e ∙ omega (arith, sum_by_push (λ (v : ℕ × RowValue). 5 + room_in_row v.1) (take i values) value)
-
--- ---- the size of the record
-
-size_of_value-stands : (x : RowValue) (value : List ℕ) → stands_for x value ≡ true → room_in_row x ≡ size_of_value value
-size_of_value-stands (Here bytes) value h =
-    let parts = and_parts (bytes_eq bytes value) (leb (length value) 255) h in
-    let same : bytes ≡ value = (bytes_eq-Decides bytes value).0 parts.0 in
-    let short : ltb 255 (length value) ≡ false = le-ltb _ _ (leb-true _ _ parts.1) in
-    ap length same ∙ sym (ap (λ (b : Bool). cond b 16 (length value)) short)
-size_of_value-stands (Apart entry place size) value h =
-    let parts = and_parts (ltb 255 (length value)) (eqb size (length value)) h in
-    sym (ap (λ (b : Bool). cond b 16 (length value)) parts.0)
-
-sizes-stand : (xs : List (ℕ × RowValue)) (values : List (ℕ × List ℕ)) → values_stand_for xs values ≡ true → sum_by (λ x. 5 + room_in_row x.1) xs ≡ sum_by (λ value. 5 + size_of_value value.1) values
-sizes-stand [] [] h = refl
-sizes-stand [] (value ∷ values) h = absurd cc
-sizes-stand (x ∷ xs) [] h = absurd cc
-sizes-stand (x ∷ xs) (value ∷ values) h =
-    let a = and_parts (eqb x.0 value.0 && stands_for x.1 value.1) (values_stand_for xs values) h in
-    let b = and_parts (eqb x.0 value.0) (stands_for x.1 value.1) a.0 in
-    omega (arith, sum_by-cons (λ (v : ℕ × RowValue). 5 + room_in_row v.1) x xs, sum_by-cons (λ (v : ℕ × List ℕ). 5 + size_of_value v.1) value values, size_of_value-stands x.1 value.1 b.1, sizes-stand xs values a.1)
-
-sum-field : (column : ℕ) (values : List (List ℕ)) (rest : List (ℕ × List ℕ)) → sum_by (λ value. 5 + size_of_value value.1) (map (λ value. (column, value)) values ++ rest) ≡ sum_by (λ value. 5 + size_of_value value) values + sum_by (λ value. 5 + size_of_value value.1) rest
-sum-field column [] rest = omega arith
-sum-field column (value ∷ values) rest =
-    omega (arith, sum_by-cons (λ (v : ℕ × List ℕ). 5 + size_of_value v.1) (column, value) (map (λ v. (column, v)) values ++ rest), sum_by-cons (λ (v : List ℕ). 5 + size_of_value v) value values, sum-field column values rest)
-
-sum-record : (fields : RecordFields) → sum_by (λ value. 5 + size_of_value value.1) (record_values_in_order fields) ≡ sum_by (λ field. sum_by (λ value. 5 + size_of_value value) field.1) fields
-sum-record [] = refl
-sum-record (field ∷ fields) =
-    omega (arith, sum-field field.0 field.1 (record_values_in_order fields), sum-record fields, sum_by-cons (λ (f : ℕ × List (List ℕ)). sum_by (λ v. 5 + size_of_value v) f.1) field fields)
-
-pub row_size-record_size : (row : RowFields) (fields : RecordFields) → is_row_of row fields ≡ true → row_size row ≡ record_size fields
-row_size-record_size row fields h = ap (λ (n : ℕ). 2 + n) (sizes-stand (values_in_order row) (record_values_in_order fields) h ∙ sum-record fields)

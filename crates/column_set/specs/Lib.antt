@@ -6,6 +6,7 @@ pub mod NumberReading
 pub mod RowReading
 pub mod RowSeen
 pub mod Rows
+pub mod RowSizes
 pub mod Refusals
 pub mod Shared
 pub mod HeldValues
