@@ -5,11 +5,12 @@ use Rattle.column_set.specs.RecordValues.{RecordFields, lookup_by_key, put_by_ke
 use Rattle.index_derive.specs.declared.rules.IndexRule.{IndexRule}
 use Rattle.index_derive.specs.declared.rules.Schema.{Schema}
 use Rattle.index_derive.specs.Entries.{derive, key_list, own_order, sorted_entries}
+use Rattle.index_derive.specs.RisingKeys.{AreRisingKeys}
 use Rattle.cursor_nav.specs.Places.{Pair, are_sorted}
 use Rattle.derived_index.specs.KeptEntries.{with_entries}
 use Rattle.derived_index.proofs.PairOrder.{IsRising, sorted-rising}
 use Rattle.derived_index.proofs.Members.{all_sorted, any_sorted, any_with}
-use Rattle.derived_index.proofs.Rising.{IsApart, IsFresh, AreRisingKeys, rising_sorted, rising_with, same_rising}
+use Rattle.derived_index.proofs.Rising.{IsApart, IsFresh, rising_sorted, rising_with, same_rising}
 use Rattle.derived_index.proofs.Rows.{all_entries, entries_of, RowsRise, rise-sorted, rise-put, distinct_entries, fresh_entries, not_equal_missed, any_put}
 
 -- the keys of each record rise

@@ -12,8 +12,8 @@ use Rattle.index_derive.specs.declared.rules.Schema.{Schema}
 use Rattle.index_derive.specs.Entries.{derive, key_list, own_order}
 use Rattle.cursor_nav.specs.Places.{are_sorted}
 use Rattle.derived_index.specs.KeptEntries.{with_entries, without_entries}
-use Rattle.derived_index.proofs.PairOrder.{key_cmp}
-use Rattle.derived_index.proofs.Rows.{turned_keys, below_after, missed-not_equal, IsBelow, RowsRise, rise-sorted, not_equal_below}
+use Rattle.index_derive.specs.RisingKeys.{key_cmp, turned_keys}
+use Rattle.derived_index.proofs.Rows.{below_after, missed-not_equal, IsBelow, RowsRise, rise-sorted, not_equal_below}
 use Rattle.derived_index.proofs.Adding.{KeysRise, derived_put_rising}
 use Rattle.derived_index.proofs.Removing.{derived_without}
 use Rattle.derived_index.proofs.Standing.{same_test}

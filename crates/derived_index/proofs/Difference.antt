@@ -14,10 +14,11 @@ use Rattle.column_set.specs.RecordValues.{RecordFields, lookup_by_key, put_by_ke
 use Rattle.index_derive.specs.declared.rules.IndexRule.{IndexRule}
 use Rattle.index_derive.specs.declared.rules.Schema.{Schema}
 use Rattle.index_derive.specs.Entries.{derive, key_list, own_order}
+use Rattle.index_derive.specs.RisingKeys.{key_cmp}
 use Rattle.cursor_nav.specs.Places.{Pair, are_sorted}
 use Rattle.database_state.specs.Puts.{new_keys}
 use Rattle.derived_index.specs.KeptEntries.{with_entries, without_entries, without_each}
-use Rattle.derived_index.proofs.PairOrder.{key_cmp, pair_cmp, IsRising}
+use Rattle.derived_index.proofs.PairOrder.{pair_cmp, IsRising}
 use Rattle.derived_index.proofs.Members.{all_sorted, any_with}
 use Rattle.derived_index.proofs.Rising.{IsApart, IsFresh, rising_with, same_rising}
 use Rattle.derived_index.proofs.Rows.{missed-not_equal, entries_of, all_entries, RowsRise, rise-sorted, rise-put, apart_records}

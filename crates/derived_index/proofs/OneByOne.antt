@@ -13,7 +13,7 @@ use Rattle.index_derive.specs.declared.rules.Schema.{Schema}
 use Rattle.index_derive.specs.Entries.{derive, key_list, own_order}
 use Rattle.cursor_nav.specs.Places.{Pair, are_sorted}
 use Rattle.derived_index.specs.KeptEntries.{with_entries, without_each}
-use Rattle.derived_index.proofs.PairOrder.{key_cmp}
+use Rattle.index_derive.specs.RisingKeys.{key_cmp}
 use Rattle.derived_index.proofs.Members.{all_sorted}
 use Rattle.derived_index.proofs.Filtering.{filter_alike, filter_twice, filter_with}
 use Rattle.derived_index.proofs.Rows.{entries_of, all_entries, RowsRise, rise-sorted, not_equal_below, not_equal_missed}

@@ -15,8 +15,7 @@ use Rattle.index_derive.specs.Entries.{derive, key_list, own_order, insert_entry
 use Rattle.index_derive.specs.Derived.{next_in}
 use Rattle.cursor_nav.specs.Places.{Pair, are_sorted, least_entry_of}
 use Rattle.derived_index.specs.KeptEntries.{entries_with}
-use Rattle.derived_index.proofs.PairOrder.{key_cmp}
-use Rattle.derived_index.proofs.Rising.{AreRisingKeys}
+use Rattle.index_derive.specs.RisingKeys.{AreRisingKeys, key_cmp}
 use Rattle.derived_index.proofs.Filtering.{filter-append, sorted-filter, find-filter}
 use Rattle.derived_index.proofs.InOrder.{IsNotAbove, insert_first}
 use Rattle.derived_index.proofs.Rows.{entries_of, all_entries, RowsRise, rise-sorted, not_equal_below, not_equal_missed}

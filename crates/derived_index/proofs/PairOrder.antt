@@ -1,21 +1,19 @@
 -- Entries are in a total order, which tells each from every other.
-use Rattle.std.proofs.Common.{◌≡◌, ℕ, true, ◌&&◌, ◌||◌, List, [], ◌∷◌, refl, sym, ap, ◌∙◌, true≢false}
+use Rattle.std.proofs.Common.{◌≡◌, true, ◌&&◌, ◌||◌, List, [], ◌∷◌, refl, sym, ap, ◌∙◌, true≢false}
 use Rattle.std.specs.List.{list_all, AllByRecursion}
 use Rattle.std.specs.List.Sorted.{IsStrictlySortedBy}
 use Rattle.std.specs.declared.cmp.Ordering.{Ordering}
 use Rattle.std.specs.declared.cmp.Ordering.TheVariants.{Less, Equal, Greater}
-use Rattle.std.specs.Ordering.{nat_cmp, is_lt, is_eq, ordering_then}
+use Rattle.std.specs.Ordering.{is_lt, is_eq, ordering_then}
 use Rattle.std.specs.Cmp.{IsTotalOrder, then_total, on_total}
-use Rattle.std.specs.Cmp.Lexicographic.{slice_cmp, nat_list_cmp_total, texts_ties}
+use Rattle.std.specs.Cmp.Lexicographic.{nat_list_cmp_total, texts_ties}
 use Rattle.std.proofs.lemmas.Map.Lookups.{exact_bytes}
 use Rattle.std.proofs.lemmas.Bool.{and_from}
 use Rattle.common_lemmas.proofs.Orders.{is_less, less_then}
 use Rattle.common_lemmas.proofs.Booleans.{and_left, and_right}
 use Rattle.column_set.specs.RecordValues.{bytes_lt}
 use Rattle.cursor_nav.specs.Places.{Pair, pair_lt, are_sorted}
-
-abbrev pub key_cmp : List ℕ → List ℕ → Ordering
-key_cmp x y = slice_cmp nat_cmp x y
+use Rattle.index_derive.specs.RisingKeys.{key_cmp}
 
 abbrev pub pair_cmp : Pair → Pair → Ordering
 pair_cmp x y = ordering_then (key_cmp x.0 y.0) (key_cmp x.1 y.1)

@@ -1,28 +1,18 @@
 -- The keys of a record are those of values of its columns.
 use Rattle.std.proofs.Common.{◌≡◌, ℕ, Bool, true, false, ◌||◌, not, List, [], ◌∷◌, map, filter, Result, Ok, Err, refl, sym, subst, true≢false, bytes_eq}
 use Rattle.std.specs.List.{list_any, AllByRecursion}
-use Rattle.std.specs.declared.cmp.Ordering.TheVariants.{Less, Equal, Greater}
-use Rattle.std.specs.Ordering.{nat_cmp}
-use Rattle.std.specs.Cmp.Lexicographic.{slice_cmp, bytes_decides}
-use Rattle.std.specs.FinMap.Entries.{by_order}
+use Rattle.std.specs.Cmp.Lexicographic.{bytes_decides}
 use Rattle.common_lemmas.proofs.Lists.{all_filter, all_map}
 use Rattle.column_set.specs.RecordValues.{RecordFields}
 use Rattle.key_normal.specs.KeyBytes.{cut_key}
 use Rattle.index_derive.specs.declared.rules.IndexRule.{IndexRule}
 use Rattle.index_derive.specs.declared.rules.Schema.{Schema}
-use Rattle.index_derive.specs.Entries.{KeyValues, KeyRefusal, NullKeyDisallowed, KeyTruncated, entries, meets_conditions, all_key_values, is_ignored, whole_key, keys_of, keys_or_none, key_list, insert_key, sorted_keys}
+use Rattle.index_derive.specs.Entries.{KeyValues, KeyRefusal, NullKeyDisallowed, KeyTruncated, entries, meets_conditions, all_key_values, is_ignored, whole_key, keys_of, keys_or_none, key_list, sorted_keys}
+use Rattle.index_derive.specs.RisingKeys.{all_insert_key}
 
 abbrev KeysPass : (List ℕ → Type 0) → Result (List (List ℕ)) KeyRefusal → Type 0
 KeysPass P (Ok keys) = AllByRecursion P keys
 KeysPass P (Err refusal) = Unit {0}
-
-pub all_insert_key : (P : List ℕ → Type 0) (key : List ℕ) (keys : List (List ℕ)) → P key → AllByRecursion P keys → AllByRecursion P (insert_key key keys)
-all_insert_key P key [] p h = (p, tt)
-all_insert_key P key (k ∷ ks) p h = elim (slice_cmp nat_cmp key k) as (λ r. AllByRecursion P (by_order r (key ∷ k ∷ ks) (k ∷ ks) (k ∷ insert_key key ks))) [
-  | Less ↦ (p, h)
-  | Equal ↦ h
-  | Greater ↦ (h.0, all_insert_key P key ks p h.1)
-]
 
 all_sorted_keys : (P : List ℕ → Type 0) (keys : List (List ℕ)) → AllByRecursion P keys → AllByRecursion P (sorted_keys keys)
 all_sorted_keys P [] h = tt

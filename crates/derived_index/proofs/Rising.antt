@@ -10,8 +10,9 @@ use Rattle.std.specs.BTreeSet.{BTreeSet}
 use Rattle.std.proofs.lemmas.Map.Lookups.{btree_set_from_contains}
 use Rattle.cursor_nav.specs.Places.{Pair}
 use Rattle.index_derive.specs.Entries.{insert_entry, sorted_entries}
+use Rattle.index_derive.specs.RisingKeys.{AreRisingKeys, key_cmp}
 use Rattle.derived_index.specs.KeptEntries.{with_entries}
-use Rattle.derived_index.proofs.PairOrder.{key_cmp, pair_cmp, pairs_total, exact_pairs, IsRising}
+use Rattle.derived_index.proofs.PairOrder.{pair_cmp, pairs_total, exact_pairs, IsRising}
 use Rattle.derived_index.proofs.Members.{all_insert, all_sorted}
 
 -- two entries that are not one
@@ -47,9 +48,6 @@ rising_sorted [] h = tt
 rising_sorted (e ∷ es) h = rising_insert e (sorted_entries es) (rising_sorted es h.1) (all_sorted (IsApart e) es h.0)
 
 -- ---- the entries of rising keys
-
-abbrev pub AreRisingKeys : List (List ℕ) → Type 0
-AreRisingKeys keys = IsStrictlySortedBy key_cmp keys
 
 not_equal : (r q : Ordering) → r ≡ Greater → is_eq (ordering_then r q) ≡ false
 not_equal Less q h = refl

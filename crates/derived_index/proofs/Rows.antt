@@ -4,7 +4,7 @@ use Rattle.std.specs.List.{list_any, list_all, AllByRecursion}
 use Rattle.std.specs.List.Sorted.{IsStrictlySortedBy}
 use Rattle.std.specs.declared.cmp.Ordering.{Ordering}
 use Rattle.std.specs.declared.cmp.Ordering.TheVariants.{Less, Equal, Greater}
-use Rattle.std.specs.Ordering.{is_lt, is_eq, ordering_then, ordering_reverse}
+use Rattle.std.specs.Ordering.{is_lt, is_eq, ordering_then}
 use Rattle.std.specs.Cmp.Lexicographic.{nat_list_cmp_total}
 use Rattle.std.specs.FinMap.Entries.{by_order}
 use Rattle.std.proofs.lemmas.List.Folds.{list_any-append}
@@ -12,9 +12,10 @@ use Rattle.common_lemmas.proofs.Booleans.{and_left, and_right, or_swap}
 use Rattle.common_lemmas.proofs.Lists.{all_append}
 use Rattle.column_set.specs.RecordValues.{lookup_by_key, put_by_key}
 use Rattle.index_derive.specs.Entries.{own_order}
+use Rattle.index_derive.specs.RisingKeys.{AreRisingKeys, key_cmp, turned_keys}
 use Rattle.cursor_nav.specs.Places.{Pair, pair_lt, are_sorted}
-use Rattle.derived_index.proofs.PairOrder.{key_cmp, pair_lt-is}
-use Rattle.derived_index.proofs.Rising.{IsApart, IsFresh, AreDistinct, AreRisingKeys}
+use Rattle.derived_index.proofs.PairOrder.{pair_lt-is}
+use Rattle.derived_index.proofs.Rising.{IsApart, IsFresh, AreDistinct}
 
 -- the entries of keys that a record has under its bookmark
 abbrev pub entries_of : List ℕ → List (List ℕ) → List Pair
@@ -115,9 +116,6 @@ below_put bookmark key x (place ∷ rows) p h = elim (key_cmp key place.0) as (�
 pub below_after : {X : Type 0} (bookmark key : List ℕ) (rows : List (List ℕ × X)) → key_cmp bookmark key ≡ Less → IsBelow key rows → IsBelow bookmark rows
 below_after bookmark key [] p h = tt
 below_after bookmark key (place ∷ rows) p h = (nat_list_cmp_total.trans bookmark key place.0 p h.0, below_after bookmark key rows p h.1)
-
-pub turned_keys : (x y : List ℕ) (o : Ordering) → key_cmp x y ≡ o → key_cmp y x ≡ ordering_reverse o
-turned_keys x y o e = nat_list_cmp_total.antisymm y x ∙ ap ordering_reverse e
 
 pub rise-put : {X : Type 0} (key : List ℕ) (x : X) (rows : List (List ℕ × X)) → RowsRise rows → RowsRise (put_by_key key x rows)
 rise-put key x [] h = (tt, tt)

@@ -12,7 +12,7 @@ use Rattle.index_derive.specs.declared.rules.Schema.{Schema}
 use Rattle.index_derive.specs.Entries.{derive, key_list, insert_entry, sorted_entries, entry_le, has_double, has_double_key}
 use Rattle.cursor_nav.specs.Places.{Pair}
 use Rattle.derived_index.specs.KeptEntries.{has_equal_neighbours}
-use Rattle.derived_index.proofs.PairOrder.{key_cmp}
+use Rattle.index_derive.specs.RisingKeys.{key_cmp}
 use Rattle.derived_index.proofs.Members.{any_insert, any_sorted}
 use Rattle.derived_index.proofs.InOrder.{IsNotAbove, AreInOrder, in_order_sorted}
 use Rattle.derived_index.proofs.Rows.{entries_of, all_entries}

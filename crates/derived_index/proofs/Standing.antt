@@ -13,7 +13,7 @@ use Rattle.cursor_nav.specs.Places.{are_sorted}
 use Rattle.database_state.specs.Conflicts.{yields_key}
 use Rattle.derived_index.specs.KeptEntries.{has_entry}
 use Rattle.derived_index.proofs.Tests.{and_true}
-use Rattle.derived_index.proofs.PairOrder.{key_cmp}
+use Rattle.index_derive.specs.RisingKeys.{key_cmp}
 use Rattle.derived_index.proofs.Rows.{entries_of, all_entries, RowsRise, rise-sorted, not_equal_below}
 use Rattle.derived_index.proofs.Adding.{any_derived}
 

@@ -19,9 +19,9 @@ use Rattle.index_derive.specs.Derived.{all_candidates, refusal_of, fault_of, IsD
 use Rattle.index_derive.proofs.Combining.{lists_of, multis, plain_rows, crossed_rows}
 use Rattle.index_derive.proofs.Lists.{list_any_map}
 use Rattle.index_derive.proofs.Least.{rising_none}
-use Rattle.index_derive.proofs.Sorting.{IsRising, rising_sorted}
 use Rattle.index_derive.proofs.Rows.{rest-fresh}
 use Rattle.index_derive.proofs.Texts.{text_rows}
+use Rattle.index_derive.specs.RisingKeys.{AreRisingKeys, rising_sorted}
 
 -- ---- what a legal rule says
 
@@ -227,14 +227,14 @@ out_of_memory derived (Err answer) h kept = subst (λ (f : DeriveFault). IsDeriv
 
 -- ---- laws
 
-rising_kept : (a b : Bool) (keys : List (List ℕ)) → IsRising (keys_or_none (kept_keys a b (sorted_keys keys)))
+rising_kept : (a b : Bool) (keys : List (List ℕ)) → AreRisingKeys (keys_or_none (kept_keys a b (sorted_keys keys)))
 rising_kept true b keys = rising_none
 rising_kept false true keys = rising_none
 rising_kept false false keys = rising_sorted keys
 
-pub rising_list : (rule : IndexRule) (schema : Schema) (fields : RecordFields) → IsRising (key_list rule schema fields)
+pub rising_list : (rule : IndexRule) (schema : Schema) (fields : RecordFields) → AreRisingKeys (key_list rule schema fields)
 unfolding entries
-rising_list rule schema fields = elim (meets_conditions rule fields) as (λ m. IsRising (keys_or_none (elim m [ true ↦ keys_of rule schema (kept_values rule schema fields) | false ↦ Ok [] ]))) [
+rising_list rule schema fields = elim (meets_conditions rule fields) as (λ m. AreRisingKeys (keys_or_none (elim m [ true ↦ keys_of rule schema (kept_values rule schema fields) | false ↦ Ok [] ]))) [
   | true ↦ rising_kept _ _ (map (cut_key rule.key_most) (map (whole_key rule schema) (kept_values rule schema fields)))
   | false ↦ rising_none
 ]

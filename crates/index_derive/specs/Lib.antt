@@ -5,3 +5,4 @@ pub mod Primary
 pub mod Steps
 pub mod Walks
 pub mod Schemas
+pub mod RisingKeys

@@ -24,8 +24,7 @@ use Rattle.database_state.specs.Conflicts.{yields_key}
 use Rattle.database_state.specs.Step.{applied, every_change, with_changes_at}
 use Rattle.database_state.specs.Lawful.{is_unique_throughout}
 use Rattle.derived_index.proofs.Adding.{KeysRise}
-use Rattle.derived_index.proofs.PairOrder.{key_cmp}
-use Rattle.derived_index.proofs.Rising.{AreRisingKeys}
+use Rattle.index_derive.specs.RisingKeys.{AreRisingKeys, key_cmp}
 use Rattle.derived_index.proofs.Rows.{RowsRise}
 use Rattle.derived_index.proofs.Standing.{same_test}
 use Rattle.record_changes.specs.Records.{Records, records_of}

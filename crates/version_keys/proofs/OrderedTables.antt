@@ -18,13 +18,14 @@ use Rattle.index_derive.specs.declared.log.EntryKind.TheVariants as entry
 use Rattle.index_derive.specs.declared.schema_calls.SchemaStep.{SchemaStep}
 use Rattle.index_derive.specs.declared.schema_calls.SchemaStep.TheVariants as step
 use Rattle.index_derive.specs.Entries.{own_order}
+use Rattle.index_derive.specs.RisingKeys.{key_cmp}
 use Rattle.database_state.specs.Table.{Rows, Table, row_at, table_with_id}
 use Rattle.database_state.specs.Changes.{changed_table, rows_after, rows_with_sum, tables_after, tables_after_all, with_sum}
 use Rattle.database_state.specs.SchemaChanges.{greatest_table_after, new_table, tables_after_step, with_column, with_index, without_column, without_index}
 use Rattle.database_state.specs.State.{DatabaseState, levels, open_changes_of, undone}
 use Rattle.database_state.specs.Step.{applied, is_at_level, state_after, with_changes_at, with_levels, with_transaction}
 use Rattle.database_state.specs.Lawful.{has_next_numbers, has_number, is_lawful, is_lawful_kind}
-use Rattle.derived_index.proofs.PairOrder.{key_cmp, pair_lt-is}
+use Rattle.derived_index.proofs.PairOrder.{pair_lt-is}
 use Rattle.derived_index.proofs.Rows.{IsBelow, RowsRise, rise-put, rise-sorted}
 use Rattle.version_history.specs.History.{EachTwo}
 use Rattle.version_history.specs.KeptSteps.{with_next_number}
