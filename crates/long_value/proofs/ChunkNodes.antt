@@ -6,8 +6,9 @@ use Rattle.page_image.specs.Page.{Node}
 use Rattle.btree_inplace.specs.Changes.{inserted, without_key}
 use Rattle.btree_inplace.specs.Order.{has_key}
 use Rattle.long_value.specs.Values.{LacksValue, LongValue, chunk_count, chunk_key, chunk_node, head_node, order, with_chunks, with_value, without_chunks}
-use Rattle.long_value.proofs.Keys.{itself, other_chunk, other_value}
+use Rattle.long_value.proofs.Keys.{other_chunk, other_value}
 use Rattle.long_value.proofs.Nodes.{both_less, found_elsewhere, found_still, found_there, swapped, taken_out}
+use Rattle.long_value.specs.ChangedValues.{itself}
 
 -- ---- look-ups
 

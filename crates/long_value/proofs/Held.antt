@@ -19,8 +19,9 @@ use Rattle.long_value.specs.Stores.{Becomes, HasNoValue, HasValues, HoldsValue, 
 use Rattle.long_value.specs.declared.values.LongId.{LongId}
 use Rattle.long_value.specs.declared.values.LongValues.{LongValues}
 use Rattle.long_value.proofs.ChunkNodes.{head_elsewhere, value_chunk, value_head, value_out}
-use Rattle.long_value.proofs.Maps.{holds, lacking, none_gone, put_long, put_nodes, value_gone, value_long, value_nodes, without_long}
+use Rattle.long_value.proofs.Maps.{holds, lacking, none_gone, put_long, put_nodes, value_long, value_nodes, without_long}
 use Rattle.long_value.proofs.Nodes.{redone_there}
+use Rattle.long_value.specs.ChangedValues.{value_gone}
 
 -- ---- numbers of chunks
 
@@ -36,7 +37,7 @@ within_chunk size k lt = omega arith
 -- ---- what is there
 
 rest_lacks : (id : List ℕ) (values : Values) → length id ≡ 12 → AreLong values → LacksValue id (nodes_of_values (without_value id values))
-rest_lacks id values long all = lacking id (without_value id values) long (without_long id values all).whole (value_gone id values)
+rest_lacks id values long all = lacking id (without_value id values) long (without_long id values all).whole (value_gone values id)
 
 pub nodes_with : (id : List ℕ) (value : LongValue) (values : Values) → length id ≡ 12 → AreLong values → value_of id values ≡ Some value → nodes_of_values values ≡ with_value id value (nodes_of_values (without_value id values))
 nodes_with id value values long all e = value_nodes id value values long (holds (is_sorted order values) all.in_order) all.whole e

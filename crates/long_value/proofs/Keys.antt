@@ -1,29 +1,19 @@
 -- Keys: which are the same, and how they lie to each other.
 use Rattle.std.proofs.Common.{◌≡◌, ◌≢◌, ℕ, suc, ◌+◌, ◌<◌, true, false, List, [], ◌++◌, length, take, refl, sym, ap, subst, ◌∙◌, true≢false, arith}
-use Rattle.std.proofs.lemmas.Slice.Eq.{bytes_eq-Decides}
-use Rattle.std.proofs.lemmas.Cmp.{tied_itself}
 use Rattle.std.proofs.lemmas.List.{append_cancel_left}
 use Rattle.std.proofs.Math.Seq.{take-append_seam}
 use Rattle.std.specs.declared.cmp.Ordering.{Ordering}
 use Rattle.std.specs.declared.cmp.Ordering.TheVariants.{Less, Equal, Greater}
 use Rattle.std.specs.Ordering.{is_eq, is_lt, ordering_reverse}
-use Rattle.std.specs.Cmp.Lexicographic.{nat_list_cmp_total, texts_ties}
+use Rattle.std.specs.Cmp.Lexicographic.{nat_list_cmp_total}
 use Rattle.common_lemmas.proofs.Orders.{is_equal, is_less}
 use Rattle.common_lemmas.proofs.Booleans.{by_test}
 use Rattle.byteorder.specs.Endian.{big_bytes, big_number}
 use Rattle.byteorder.specs.Numbers.{big_number-reads_back}
 use Rattle.long_value.specs.Values.{chunk_key, order}
+use Rattle.long_value.specs.ChangedValues.{differ, itself, same_key}
 
 -- ---- equal keys
-
-pub same_key : (a b : List ℕ) → is_eq (order a b) ≡ true → a ≡ b
-same_key a b e = (bytes_eq-Decides a b).0 (texts_ties a b ∙ e)
-
-pub itself : (a : List ℕ) → is_eq (order a a) ≡ true
-itself a = ap is_eq (tied_itself nat_list_cmp_total a)
-
-pub differ : (a b : List ℕ) → a ≢ b → is_eq (order a b) ≡ false
-differ a b n = by_test (is_eq (order a b)) (λ t. absurd (n (same_key a b t))) (λ t. t)
 
 pub differing : (a b : List ℕ) → is_eq (order a b) ≡ false → a ≢ b
 differing a b f e = true≢false (sym (itself a) ∙ ap (λ k. is_eq (order a k)) e ∙ f)

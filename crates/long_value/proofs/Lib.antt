@@ -6,6 +6,6 @@ pub mod Changes
 pub mod Held
 pub mod Reading
 pub mod Putting
-pub mod AfterChanges
+pub mod Identifiers
 pub mod Shown
 pub mod Comparing

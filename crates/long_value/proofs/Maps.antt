@@ -9,8 +9,9 @@ use Rattle.std.specs.FinMap.Entries.{below_all, by_order, is_sorted, is_sorted-p
 use Rattle.std.proofs.lemmas.Bool.{not_from_false, not_from_true}
 use Rattle.common_lemmas.proofs.Booleans.{T_first, T_second, by_test, is_true}
 use Rattle.long_value.specs.Values.{AreLong, IsLong, LacksValue, LongValue, Values, nodes_of_values, order, put_value, value_of, with_value, without_value}
-use Rattle.long_value.proofs.Keys.{differing, same_key}
+use Rattle.long_value.proofs.Keys.{differing}
 use Rattle.long_value.proofs.ChunkNodes.{found_of_another, values_swapped}
+use Rattle.long_value.specs.ChangedValues.{same_key}
 
 -- ---- tests
 
@@ -58,13 +59,6 @@ none_gone id (row ∷ values) e =
     by_test (is_eq (order id row.0))
     (λ t. let some : Some row.1 ≡ None = sym (value_there id row values t) ∙ e in absurd cc)
     (λ t. kept id row values t ∙ ap (λ l. row ∷ l) (none_gone id values (sym (value_later id row values t) ∙ e)))
-
-pub value_gone : (id : List ℕ) (values : Values) → value_of id (without_value id values) ≡ None
-value_gone id [] = refl
-value_gone id (row ∷ values) =
-    by_test (is_eq (order id row.0))
-    (λ t. ap (value_of id) (gone id row values t) ∙ value_gone id values)
-    (λ t. ap (value_of id) (kept id row values t) ∙ value_later id row (without_value id values) t ∙ value_gone id values)
 
 pub lacking : (id : List ℕ) (values : Values) → length id ≡ 12 → All IsLong values → value_of id values ≡ None → LacksValue id (nodes_of_values values)
 lacking id [] long whole e k lt = refl

@@ -8,7 +8,8 @@ use Rattle.page_image.specs.Page.{Node}
 use Rattle.btree_inplace.specs.Changes.{inserted, with_data_at, without_key}
 use Rattle.btree_inplace.specs.Order.{has_key}
 use Rattle.long_value.specs.Values.{order}
-use Rattle.long_value.proofs.Keys.{between, itself, lower, lower_differs, not_above, same_key}
+use Rattle.long_value.proofs.Keys.{between, lower, lower_differs, not_above}
+use Rattle.long_value.specs.ChangedValues.{itself, same_key}
 
 -- ---- one step
 

@@ -18,9 +18,10 @@ use Rattle.btree_inplace.specs.Order.{get_in}
 use Rattle.long_value.specs.Values.{AreLong, IsLong, LongValue, Values, chunk_count, chunk_key, chunk_node, chunk_of, head_data, head_node, nodes_of_values, order, put_value, value_of, with_chunks}
 use Rattle.long_value.specs.Shown.{bytes_in, id_of, is_head, shown_values, value_at, values_of_heads}
 use Rattle.long_value.proofs.Held.{chunk_there, count_read, few_chunks}
-use Rattle.long_value.proofs.Keys.{differ, itself, number_back, same_key}
-use Rattle.long_value.proofs.Maps.{holds, nothing_gone, value_gone, value_later, value_long, value_there}
+use Rattle.long_value.proofs.Keys.{number_back}
+use Rattle.long_value.proofs.Maps.{holds, nothing_gone, value_later, value_long, value_there}
 use Rattle.long_value.proofs.Nodes.{find_no, find_yes, ins_ge, ins_lt, not_found}
+use Rattle.long_value.specs.ChangedValues.{differ, itself, same_key, value_gone}
 
 -- whether a node is the head of one value
 abbrev is_head_of : List ℕ → Node → Bool
@@ -125,7 +126,7 @@ found_head q (row ∷ values) sorted whole =
     (λ t.
     let same : q ≡ id = same_key q id t in
     let below : T (below_all order q values) = subst (λ k. T (below_all order k values)) (sym same) (T_first (below_all order id values) (is_sorted order values) sorted) in
-    let none : value_of q values ≡ None = ap (value_of q) (sym (nothing_gone q values below)) ∙ value_gone q values in
+    let none : value_of q values ≡ None = ap (value_of q) (sym (nothing_gone q values below)) ∙ value_gone values q in
     found_new (is_head_of q) (with_chunks id value.bytes n nodes) (head_node id value)
     (and_from (eq_by_cmp order q (id_of (head_node id value))) (is_head (head_node id value)) (head_test q id value long.id ∙ t) (head_is id value long.id))
     (past ∙ rest ∙ ap (option_map (head_node q)) none)

@@ -1,3 +1,4 @@
 pub mod Values
 pub mod Stores
 pub mod Shown
+pub mod ChangedValues

@@ -1,4 +1,4 @@
-use Rattle.long_value.proofs.AfterChanges.{same_entry, same_place}
+use Rattle.long_value.proofs.Identifiers.{same_entry, same_place}
 use Rattle.long_value.proofs.laws.identifiers_differ.Goals as goal
 
 pub returns : goal.returns

@@ -1,5 +1,5 @@
-use Rattle.long_value.proofs.AfterChanges.{less_beside, less_there, more_beside, more_there}
 use Rattle.long_value.proofs.laws.references_after_a_change.Goals as goal
+use Rattle.long_value.specs.ChangedValues.{less_beside, less_there, more_beside, more_there}
 
 pub returns-clause-more : goal.returns-clause-more
 returns-clause-more c values id value e = more_there values id value e

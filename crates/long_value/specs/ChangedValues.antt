@@ -1,15 +1,23 @@
--- Look-ups in a map of values after a change, and identifiers by their bytes.
-use Rattle.std.proofs.Common.{◌≡◌, ◌≢◌, ℕ, suc, ◌<◌, ◌==◌, ◌-◌, List, [], ◌∷◌, ◌++◌, drop, Option, Some, None, if◌then◌else◌, option_map, refl, sym, ap, ◌∙◌}
-use Rattle.std.specs.Prelude.{unwrap_or}
-use Rattle.std.specs.Ordering.{is_eq}
-use Rattle.std.specs.Cmp.Lexicographic.{nat_list_cmp_total}
-use Rattle.std.specs.FinMap.Entries.{find-put}
+-- Look-ups in a map of long values after a change.
+use Rattle.std.proofs.Common.{◌≡◌, ◌≢◌, ℕ, suc, ◌==◌, ◌-◌, true, false, List, Option, Some, None, if◌then◌else◌, refl, sym, ap, ◌∙◌}
+use Rattle.std.specs.Prelude.{not, option_map, unwrap_or}
+use Rattle.std.specs.Ordering.{eq_by_cmp, is_eq}
+use Rattle.std.specs.Cmp.Lexicographic.{nat_list_cmp_total, texts_ties}
+use Rattle.std.specs.FinMap.Entries.{find-put, find-where_key}
+use Rattle.std.proofs.lemmas.Cmp.{tied_itself}
+use Rattle.std.proofs.lemmas.Map.Lookups.{exact_bytes}
 use Rattle.common_lemmas.proofs.Booleans.{by_test}
-use Rattle.byteorder.specs.Endian.{big_bytes, big_number}
-use Rattle.byteorder.specs.Numbers.{big_number-reads_back}
+use Rattle.common_lemmas.proofs.Numbers.{same_bytes}
 use Rattle.long_value.specs.Values.{LongValue, Values, order, put_value, released, value_of, with_reference, without_reference, without_value}
-use Rattle.long_value.proofs.Keys.{differ, itself, same_key}
-use Rattle.long_value.proofs.Maps.{gone, kept, value_gone, value_later, value_there}
+
+pub itself : (id : List ℕ) → is_eq (order id id) ≡ true
+itself id = ap is_eq (tied_itself nat_list_cmp_total id)
+
+pub same_key : (id other : List ℕ) → is_eq (order id other) ≡ true → id ≡ other
+same_key id other e = same_bytes id other (texts_ties id other ∙ e)
+
+pub differ : (id other : List ℕ) → id ≢ other → is_eq (order id other) ≡ false
+differ id other n = by_test (is_eq (order id other)) (λ t. absurd (n (same_key id other t))) (λ f. f)
 
 pub value_put : (values : Values) (id : List ℕ) (value : LongValue) → value_of id (put_value id value values) ≡ Some value
 value_put values id value = find-put order nat_list_cmp_total id id value values ∙ rw (itself id) refl
@@ -17,24 +25,15 @@ value_put values id value = find-put order nat_list_cmp_total id id value values
 pub value_beside : (values : Values) (id other : List ℕ) (value : LongValue) → other ≢ id → value_of other (put_value id value values) ≡ value_of other values
 value_beside values id other value n = let apart = differ other id n in find-put order nat_list_cmp_total other id value values ∙ rw apart refl
 
+value_without : (values : Values) (id other : List ℕ) → value_of other (without_value id values) ≡ (if not (is_eq (order id other)) then value_of other values else None)
+value_without values id other =
+    find-where_key order (λ k. not (eq_by_cmp order id k)) other (λ x e. ap (λ k. not (eq_by_cmp order id k)) (sym (exact_bytes other x e))) values
+
+pub value_gone : (values : Values) (id : List ℕ) → value_of id (without_value id values) ≡ None
+value_gone values id = value_without values id id ∙ rw (itself id) refl
+
 pub value_left : (values : Values) (id other : List ℕ) → other ≢ id → value_of other (without_value id values) ≡ value_of other values
-value_left [] id other n = refl
-value_left (row ∷ values) id other n =
-    by_test (is_eq (order id row.0))
-    (λ t.
-    let apart = differ other row.0 (λ e. n (e ∙ sym (same_key id row.0 t))) in
-    ap (value_of other) (gone id row values t) ∙ value_left values id other n ∙ sym (value_later other row values apart))
-    (λ t.
-    ap (value_of other) (kept id row values t)
-    ∙ by_test (is_eq (order other row.0))
-    (λ h. value_there other row (without_value id values) h ∙ sym (value_there other row values h))
-    (λ h. value_later other row (without_value id values) h ∙ value_left values id other n ∙ sym (value_later other row values h)))
-
-pub same_entry : (a b x y : ℕ) → a < 18446744073709551616 → b < 18446744073709551616 → big_bytes 8 a ++ big_bytes 4 x ≡ big_bytes 8 b ++ big_bytes 4 y → a ≡ b
-same_entry a b x y low low' e = sym (big_number-reads_back 8 a (big_bytes 4 x) low) ∙ ap (big_number 8) e ∙ big_number-reads_back 8 b (big_bytes 4 y) low'
-
-pub same_place : (a b x y : ℕ) → x < 4294967296 → y < 4294967296 → big_bytes 8 a ++ big_bytes 4 x ≡ big_bytes 8 b ++ big_bytes 4 y → x ≡ y
-same_place a b x y low low' e = sym (big_number-reads_back 4 x [] low) ∙ ap (λ (l : List ℕ). big_number 4 (drop 8 l)) e ∙ big_number-reads_back 4 y [] low'
+value_left values id other n = let apart = differ id other (λ e. n (sym e)) in value_without values id other ∙ rw apart refl
 
 -- ---- one reference more or less
 
@@ -58,7 +57,7 @@ pub less_there : (values : Values) (id : List ℕ) (value : LongValue) → value
 less_there values id value e =
     ap (value_of id) (with_less values id (Some value) e)
     ∙ by_test (value.count == 1)
-    (λ t. rw t (value_gone id values))
+    (λ t. rw t (value_gone values id))
     (λ t. rw t (value_put values id (record value { count = value.count - 1 })))
 
 pub less_beside : (values : Values) (id other : List ℕ) → other ≢ id → value_of other (without_reference id values) ≡ value_of other values
