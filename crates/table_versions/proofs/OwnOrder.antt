@@ -21,10 +21,9 @@ use Rattle.versioned_tables.specs.VersionedTables.{seen_rows}
 use Rattle.versioned_tables.specs.Variants.{has_variant}
 use Rattle.versioned_tables.proofs.Rising.{seen_rise}
 use Rattle.stored_variants.specs.RecordRows.{rows_of_nodes}
-use Rattle.table_versions.proofs.SeenRecords.{unseen_stands}
 use Rattle.stored_variants.proofs.RisingRows.{rows_rise}
 use Rattle.long_value.specs.Values.{Values}
-use Rattle.versioned_tables.proofs.Walking.{order_is}
+use Rattle.versioned_tables.proofs.Walking.{order_is, unseen_stands}
 
 -- ---- a record that is seen has a node
 

@@ -5,12 +5,13 @@ use Rattle.std.specs.List.{AllByRecursion}
 use Rattle.std.proofs.lemmas.Bool.{and_from, eqb-true}
 use Rattle.common_lemmas.proofs.Booleans.{and_left, and_right, impossible}
 use Rattle.column_set.specs.RecordValues.{RecordFields}
-use Rattle.database_state.specs.State.{Status, uncommitted, committed, undone, is_undone}
+use Rattle.database_state.specs.State.{is_undone}
 use Rattle.database_state.specs.Table.{Table, table_with_id}
 use Rattle.table_trees.specs.StoredTables.{StoredTable}
 use Rattle.version_store.specs.declared.calls.Reader.{Reader}
-use Rattle.version_store.specs.HeldChanges.{HeldChange, SeenRow, current, row_before, absent, hides, is_record, is_rewrite, is_unseen_status, seen_at, seen_before, seen_row}
+use Rattle.version_store.specs.HeldChanges.{HeldChange, SeenRow, current, row_before, absent, hides, is_record, is_rewrite, seen_at, seen_before, seen_row}
 use Rattle.versioned_tables.specs.HeldRecords.{before_or, hides as hides_record, seen_record}
+use Rattle.versioned_tables.proofs.Walking.{unseen_stands}
 use Rattle.stored_variants.specs.RecordRows.{TableValues, IsRecordRow, held_record_in, record_of}
 use Rattle.stored_variants.specs.VersionsKept.{IsKeptChange, IsRowUnder, is_standing}
 use Rattle.long_value.specs.Values.{Values}
@@ -21,12 +22,6 @@ abbrev pub record_seen : Values → Option RecordFields → SeenRow → Option R
 record_seen vals newest current = newest
 record_seen vals newest (row_before row) = Some (record_of vals row)
 record_seen vals newest absent = None
-
--- a reader sees no change that is undone
-pub unseen_stands : (reader : Reader) (session : ℕ) (s : Status) → is_unseen_status reader session s ≡ true → not (is_undone s) ≡ true
-unseen_stands reader session uncommitted e = refl
-unseen_stands reader session (committed n) e = refl
-unseen_stands reader session undone e = impossible e
 
 pub hidden_stands : (table : ℕ) (bookmark : List ℕ) (reader : Reader) (h : HeldChange) → hides table bookmark reader h ≡ true → is_standing h ≡ true
 hidden_stands table bookmark reader h hit =

@@ -38,7 +38,8 @@ order_is (row ∷ rows) h = and_from _ _ (below_is row.0 rows (T_first _ _ h)) (
 
 -- ---- what is seen is a variant
 
-unseen_stands : (reader : Reader) (session : ℕ) (s : Status) → is_unseen_status reader session s ≡ true → not (is_undone s) ≡ true
+-- a reader sees no change that is undone
+pub unseen_stands : (reader : Reader) (session : ℕ) (s : Status) → is_unseen_status reader session s ≡ true → not (is_undone s) ≡ true
 unseen_stands reader session uncommitted e = refl
 unseen_stands reader session (committed n) e = refl
 unseen_stands reader session undone e = impossible e
