@@ -4,7 +4,7 @@ use Rattle.std.specs.Prelude.{◌==◌, is_none, is_some, unwrap_or, if◌then�
 use Rattle.std.specs.List.{list_any}
 use Rattle.std.proofs.lemmas.List.Folds.{list_any-append}
 use Rattle.std.proofs.lemmas.Bool.{and_from}
-use Rattle.common_lemmas.proofs.Numbers.{self_equal}
+use Rattle.common_lemmas.proofs.Numbers.{equal_bytes, self_equal}
 use Rattle.common_lemmas.proofs.Booleans.{impossible}
 use Rattle.jet_base.specs.declared.ids.CursorId.{CursorId}
 use Rattle.jet_base.specs.declared.words.Prepare.TheVariants as prepare
@@ -23,7 +23,6 @@ use Rattle.database_state.specs.View.{view}
 use Rattle.database_state.specs.Step.{applied, state_after, state_after_all}
 use Rattle.database_state.specs.Lawful.{keeps_escrow}
 use Rattle.record_changes.specs.Records.{Records, is_change_of, records_of}
-use Rattle.record_changes.proofs.Tests.{equal_bytes}
 use Rattle.version_history.specs.History.{IsHistory}
 use Rattle.version_history.specs.KeptSteps.{new_change, with_next_number}
 use Rattle.version_sums.specs.EscrowNumbers.{ColumnsRise}

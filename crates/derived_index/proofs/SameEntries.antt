@@ -7,13 +7,9 @@ use Rattle.derived_index.specs.KeptEntries.{has_entry}
 use Rattle.derived_index.proofs.AnyOf.{rising_filter}
 use Rattle.derived_index.proofs.PairOrder.{pair_cmp, rising-sorted, sorted-rising}
 use Rattle.derived_index.proofs.Rising.{same_rising}
-use Rattle.std.proofs.lemmas.Slice.Eq.{bytes_eq-Decides}
 use Rattle.std.proofs.lemmas.Bool.{and_from}
-use Rattle.common_lemmas.proofs.Numbers.{same_bytes}
+use Rattle.common_lemmas.proofs.Numbers.{equal_bytes, same_bytes}
 use Rattle.common_lemmas.proofs.Booleans.{and_left, and_right, impossible, same_tests}
-
-equal_bytes : (a b : List ℕ) → a ≡ b → bytes_eq a b ≡ true
-equal_bytes a b = (bytes_eq-Decides a b).1
 
 -- ---- lists of the same entries
 

@@ -23,7 +23,6 @@ use Rattle.database_state.specs.Step.{state_after}
 use Rattle.database_state.specs.Lawful.{has_free_keys, is_bookmark_of, is_copied_in, is_indexable, is_lawful_at, is_live, keeps_escrow}
 use Rattle.derived_index.proofs.Adding.{KeysRise}
 use Rattle.record_changes.specs.Records.{Records}
-use Rattle.record_changes.proofs.Tests.{equal_bytes}
 use Rattle.version_keys.specs.UniqueKeys.{HasUniqueIndexes, IsSoundIndex, IsUniqueIndex}
 use Rattle.version_keys.proofs.BookmarkKeys.{HasOneEntry}
 use Rattle.version_keys.proofs.IndexNumbers.{all_primary_first}
@@ -40,7 +39,7 @@ use Rattle.lawful_answers.proofs.ChangeSteps.{IsAtTable, IsLawfulAtTable, after_
 use Rattle.lawful_answers.proofs.Locks.{locked_free}
 use Rattle.common_lemmas.proofs.Found.{of_found}
 use Rattle.common_lemmas.proofs.Lists.{all_parted, all_weaker}
-use Rattle.common_lemmas.proofs.Numbers.{same_bytes}
+use Rattle.common_lemmas.proofs.Numbers.{equal_bytes, same_bytes}
 use Rattle.version_records.proofs.PrimaryKeys.{AreUnrefused}
 use Rattle.lawful_answers.proofs.NewBookmarks.{AreFound, IsNewFor, new_for, new_row}
 use Rattle.lawful_answers.proofs.PutSteps.{IsFreeIn, IsOwn, free_rules, no_first, parts_of_put}

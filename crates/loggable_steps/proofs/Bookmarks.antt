@@ -17,7 +17,6 @@ use Rattle.database_state.specs.State.{DatabaseState, PastChange, transaction_of
 use Rattle.database_state.specs.View.{view}
 use Rattle.database_state.specs.Lawful.{is_bookmark_of}
 use Rattle.record_changes.specs.Records.{Records, records_of}
-use Rattle.record_changes.proofs.Tests.{equal_bytes}
 use Rattle.version_keys.specs.UniqueKeys.{HasUniqueIndexes, IsSoundIndex, IsUniqueIndex}
 use Rattle.version_keys.proofs.BookmarkKeys.{HasOneEntry, own_key}
 use Rattle.version_keys.proofs.EscrowSums.{unseen_now}
@@ -27,7 +26,7 @@ use Rattle.version_records.proofs.EntryNumbers.{entry_number-own}
 use Rattle.common_lemmas.proofs.Found.{found_passes, of_found}
 use Rattle.common_lemmas.proofs.Booleans.{and_left, and_right, impossible}
 use Rattle.common_lemmas.proofs.Lists.{all_weaker}
-use Rattle.common_lemmas.proofs.Numbers.{same_bytes}
+use Rattle.common_lemmas.proofs.Numbers.{equal_bytes, same_bytes}
 use Rattle.version_records.proofs.Standing.{bookmarks_seen}
 use Rattle.lawful_answers.specs.LawfulSteps.{IsReached}
 use Rattle.log_grammar.specs.EntryBytes.{bookmark_fits}

@@ -16,7 +16,7 @@ use Rattle.database_state.specs.State.{DatabaseState, LiveSession, PastChange, t
 use Rattle.database_state.specs.Conflicts.{yields_key}
 use Rattle.database_state.specs.View.{view, view_in}
 use Rattle.record_changes.specs.Records.{Records, records_of}
-use Rattle.record_changes.proofs.Tests.{equal_bytes}
+use Rattle.common_lemmas.proofs.Numbers.{equal_bytes}
 use Rattle.version_history.proofs.Lists.{all_both}
 use Rattle.version_keys.specs.KeySums.{IsApartFromSums, IsPlainIndex, SeesNoSum}
 use Rattle.version_keys.specs.TableOrder.{HasTablesInOrder}

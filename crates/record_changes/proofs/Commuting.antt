@@ -3,14 +3,13 @@ use Rattle.std.proofs.Common.{◌≡◌, ℕ, Bool, true, false, not, ◌&&◌, 
 use Rattle.std.specs.Prelude.{◌==◌, bytes_eq}
 use Rattle.std.proofs.lemmas.Bool.{and_from, eqb-true}
 use Rattle.common_lemmas.proofs.Booleans.{and_left, and_right}
-use Rattle.common_lemmas.proofs.Numbers.{same_bytes, self_equal}
+use Rattle.common_lemmas.proofs.Numbers.{equal_bytes, same_bytes, self_equal}
 use Rattle.column_set.specs.declared.changes.Change.{Change}
 use Rattle.column_set.specs.declared.changes.Change.TheVariants.{Put, Drop, Hold, Add}
 use Rattle.column_set.specs.RecordValues.{RecordFields}
 use Rattle.database_state.specs.Changes.{changed_table, changed_bookmark, is_sum}
 use Rattle.database_state.specs.State.{PastChange}
 use Rattle.database_state.specs.Conflicts.{collide}
-use Rattle.record_changes.proofs.Tests.{equal_bytes}
 use Rattle.record_changes.proofs.Sums.{sums_commute}
 use Rattle.record_changes.specs.Records.{Records, record_after, is_change_of, records_after, after_item}
 

@@ -1,7 +1,5 @@
--- Tests of two conditions, of numbers and of byte strings.
-use Rattle.std.proofs.Common.{◌≡◌, ℕ, Bool, true, false, ◌&&◌, ◌||◌, List, refl, sym}
-use Rattle.std.specs.Prelude.{bytes_eq}
-use Rattle.std.proofs.lemmas.Slice.Eq.{bytes_eq-Decides}
+-- Tests of two conditions.
+use Rattle.std.proofs.Common.{◌≡◌, Bool, true, false, ◌&&◌, ◌||◌, refl, sym}
 use Rattle.common_lemmas.proofs.Booleans.{impossible}
 
 pub contradicted : (a : Bool) → (a ≡ true → true ≡ false) → a ≡ false
@@ -20,6 +18,3 @@ or_first false b e = refl
 pub or_second : (a b : Bool) → (a || b) ≡ false → b ≡ false
 or_second true b e = impossible (sym e)
 or_second false b e = e
-
-pub equal_bytes : (a b : List ℕ) → a ≡ b → bytes_eq a b ≡ true
-equal_bytes a b = (bytes_eq-Decides a b).1

@@ -6,14 +6,13 @@ use Rattle.std.specs.Cmp.Lexicographic.{texts_ties}
 use Rattle.std.proofs.lemmas.Bool.Decides.{nat_tests}
 use Rattle.std.proofs.lemmas.Bool.{false_from_ne_true}
 use Rattle.common_lemmas.proofs.Booleans.{and_left, and_right, impossible}
-use Rattle.common_lemmas.proofs.Numbers.{same_bytes}
+use Rattle.common_lemmas.proofs.Numbers.{equal_bytes, same_bytes}
 use Rattle.column_set.specs.RecordValues.{RecordFields}
 use Rattle.index_derive.specs.declared.entries.Place.TheVariants.{Before, On}
 use Rattle.index_derive.specs.declared.rules.IndexRule.{IndexRule}
 use Rattle.index_derive.specs.Entries.{own_order}
 use Rattle.cursor_nav.specs.Places.{Pair, are_sorted, entry_after, pair_lt}
 use Rattle.database_state.specs.Table.{Rows, Table, entries_of_rule, index_entries, record_in, row_at, rows_of, rule_with_id, schema_of, table_with_id}
-use Rattle.record_changes.proofs.Tests.{equal_bytes}
 use Rattle.stored_variants.specs.StoredVersions.{entries_in}
 use Rattle.table_versions.specs.Shown.{FindsShown}
 use Rattle.versioned_tables.proofs.Order.{not_back, not_itself}

@@ -10,7 +10,7 @@ use Rattle.btree_inplace.specs.Order.{has_key, key_and_data}
 use Rattle.index_derive.specs.declared.entries.Place.{Place}
 use Rattle.index_derive.specs.declared.entries.Place.TheVariants.{On}
 use Rattle.cursor_nav.specs.Places.{Pair, are_sorted, is_beyond, pair_lt}
-use Rattle.record_changes.proofs.Tests.{equal_bytes}
+use Rattle.common_lemmas.proofs.Numbers.{equal_bytes}
 use Rattle.table_trees.specs.StoredNodes.{bookmark_entries, node_after}
 use Rattle.versioned_tables.proofs.Neighbours.{IsIn, all_in, fewer, found_in}
 use Rattle.stored_variants.proofs.NodeRecords.{apart, key_is}

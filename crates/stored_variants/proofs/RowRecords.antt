@@ -7,7 +7,7 @@ use Rattle.std.proofs.lemmas.Bool.Decides.{nat_tests}
 use Rattle.std.specs.FinMap.Entries.{below_all, is_sorted}
 use Rattle.std.proofs.lemmas.Bool.{and_from}
 use Rattle.common_lemmas.proofs.Booleans.{and_left, and_right}
-use Rattle.common_lemmas.proofs.Numbers.{self_equal}
+use Rattle.common_lemmas.proofs.Numbers.{equal_bytes, self_equal}
 use Rattle.column_set.specs.declared.rows.RowValue.{RowValue}
 use Rattle.column_set.specs.declared.rows.RowValue.TheVariants.{Here, Apart}
 use Rattle.column_set.specs.Record.{is_record}
@@ -17,7 +17,6 @@ use Rattle.long_rows.specs.WholeRows.{bytes_of_value, is_there, is_whole, record
 use Rattle.long_rows.proofs.Keeping.{found_one}
 use Rattle.long_rows.proofs.Kept.{and_four}
 use Rattle.long_value.specs.Values.{LongValue, Values, value_of}
-use Rattle.record_changes.proofs.Tests.{equal_bytes}
 
 below-here : (longs : Values) (column : ℕ) (row : RowFields) → below_all nat_cmp column (record_in longs row) ≡ below_all nat_cmp column row
 below-here longs column [] = refl

@@ -4,14 +4,13 @@ use Rattle.std.specs.Prelude.{◌==◌, bytes_eq}
 use Rattle.std.specs.List.{list_any}
 use Rattle.std.proofs.lemmas.Bool.{and_from, eqb-true, or_left, or_right}
 use Rattle.common_lemmas.proofs.Booleans.{and_left, and_right, impossible, same_tests}
-use Rattle.common_lemmas.proofs.Numbers.{same_bytes}
+use Rattle.common_lemmas.proofs.Numbers.{equal_bytes, same_bytes}
 use Rattle.column_set.specs.RecordValues.{RecordFields}
 use Rattle.cursor_nav.specs.Places.{Pair}
 use Rattle.database_state.specs.Conflicts.{yields_key}
 use Rattle.derived_index.specs.KeptEntries.{has_entry}
 use Rattle.index_derive.specs.declared.rules.IndexRule.{IndexRule}
 use Rattle.index_derive.specs.declared.rules.Schema.{Schema}
-use Rattle.record_changes.proofs.Tests.{equal_bytes}
 use Rattle.version_store.specs.declared.calls.Reader.{Reader}
 use Rattle.versioned_tables.specs.HeldRecords.{HeldRecord, before_or, has_key_conflict, is_change_at, is_concurrent, is_standing_rewrite, next_variant}
 use Rattle.versioned_tables.specs.Variants.{is_variant_key}

@@ -7,7 +7,7 @@ use Rattle.std.proofs.lemmas.List.Elements.{All-cons}
 use Rattle.std.proofs.lemmas.List.Folds.{list_any_more}
 use Rattle.std.proofs.lemmas.Bool.{eqb-true, or_left}
 use Rattle.common_lemmas.proofs.Booleans.{and_left, and_right, impossible}
-use Rattle.common_lemmas.proofs.Numbers.{bytes_turned, same_bytes, self_equal}
+use Rattle.common_lemmas.proofs.Numbers.{bytes_turned, equal_bytes, same_bytes, self_equal}
 use Rattle.column_set.specs.RecordValues.{RecordFields, record_fits}
 use Rattle.cursor_nav.specs.Places.{Pair}
 use Rattle.database_state.specs.Conflicts.{yields_key}
@@ -16,7 +16,6 @@ use Rattle.index_derive.specs.declared.rules.IndexRule.{IndexRule}
 use Rattle.index_derive.specs.declared.rules.Schema.{Schema}
 use Rattle.index_derive.specs.Entries.{entries, entry_le, insert_entry, is_legal, key_list, keys_or_none, KeyRefusal}
 use Rattle.index_tree.specs.Entries.{IsApart, IsApartFromAll, insert_entry_if_absent}
-use Rattle.record_changes.proofs.Tests.{equal_bytes}
 use Rattle.table_trees.specs.StoredTables.{StoredIndex, StoredTable, has_index, index_entries, is_index, part_of, table_indexes, with_entries}
 use Rattle.stored_variants.specs.PutRecords.{HasKeysOf, Keys, record_keys, rule_keys}
 use Rattle.variant_trees.specs.GoneKeys.{index_numbers}

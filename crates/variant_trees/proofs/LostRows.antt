@@ -10,7 +10,7 @@ use Rattle.cursor_nav.specs.Places.{are_sorted, pair_lt}
 use Rattle.database_state.specs.Table.{row_at}
 use Rattle.long_rows.specs.WholeRows.{StandsFor, is_whole, record_in}
 use Rattle.page_image.specs.Page.{Node}
-use Rattle.record_changes.proofs.Tests.{equal_bytes}
+use Rattle.common_lemmas.proofs.Numbers.{equal_bytes}
 use Rattle.std.specs.Cmp.Lexicographic.{texts_ties}
 use Rattle.std.proofs.lemmas.Bool.{false_from_ne_true}
 use Rattle.common_lemmas.proofs.Booleans.{and_left, and_right, impossible}

@@ -3,7 +3,7 @@ use Rattle.std.proofs.Common.{◌≡◌, ℕ, Bool, true, false, ◌&&◌, ◌||
 use Rattle.std.specs.Prelude.{◌==◌, bytes_eq, if◌then◌else◌, is_none, is_some}
 use Rattle.std.specs.Option.{option_and_then}
 use Rattle.std.proofs.lemmas.Bool.{eqb-true}
-use Rattle.common_lemmas.proofs.Numbers.{same_bytes, self_equal}
+use Rattle.common_lemmas.proofs.Numbers.{equal_bytes, same_bytes, self_equal}
 use Rattle.common_lemmas.proofs.Booleans.{impossible}
 use Rattle.btree_inplace.specs.Changes.{inserted, inserted_if_absent, with_data_at}
 use Rattle.btree_inplace.specs.Order.{extent_in, get_in, has_key}
@@ -12,7 +12,6 @@ use Rattle.kept_rows.specs.ValuesChanged.{HasLongValues}
 use Rattle.long_references.specs.ReferenceCounts.{with_all_taken}
 use Rattle.long_value.specs.Values.{Values}
 use Rattle.page_image.specs.Page.{Node}
-use Rattle.record_changes.proofs.Tests.{equal_bytes}
 use Rattle.table_trees.specs.StoredNodes.{put_data}
 use Rattle.table_trees.specs.StoredTables.{StoredIndex, StoredTable, has_table, index_entries, is_index, part_of, table_long_values, table_nodes, with_nodes}
 use Rattle.stored_variants.specs.PutRecords.{Keys}

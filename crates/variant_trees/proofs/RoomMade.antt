@@ -3,12 +3,11 @@ use Rattle.std.proofs.Common.{◌≡◌, ◌≢◌, ℕ, ◌≤◌, Bool, true, 
 use Rattle.std.specs.Prelude.{◌==◌, All, IsSomeAnd, bytes_eq, unwrap_or}
 use Rattle.std.proofs.lemmas.List.Elements.{All-head, All-tail}
 use Rattle.std.proofs.lemmas.Bool.{eqb-true}
-use Rattle.common_lemmas.proofs.Numbers.{same_bytes, self_equal}
+use Rattle.common_lemmas.proofs.Numbers.{equal_bytes, same_bytes, self_equal}
 use Rattle.common_lemmas.proofs.Booleans.{impossible}
 use Rattle.btree_inplace.specs.Changes.{inserted, with_data_at, with_extent_at, without_key}
 use Rattle.btree_inplace.specs.Order.{extent_in, get_in, has_key}
 use Rattle.page_image.specs.Page.{Node}
-use Rattle.record_changes.proofs.Tests.{equal_bytes}
 use Rattle.table_trees.specs.StoredNodes.{IsShortNode, put_data, put_extent}
 use Rattle.table_trees.specs.StoredTables.{StoredTable, has_table, is_table, put_nodes, table_indexes, table_long_values, table_nodes, with_nodes}
 use Rattle.variant_trees.specs.GoneKeys.{table_numbers}

@@ -7,7 +7,7 @@ use Rattle.std.proofs.lemmas.List.{map-append}
 use Rattle.std.proofs.lemmas.Bool.{and_from, eqb-true}
 use Rattle.common_lemmas.proofs.Booleans.{and_left, and_right, impossible}
 use Rattle.common_lemmas.proofs.Lists.{all_append, all_each, all_filter, all_map, all_weaker}
-use Rattle.common_lemmas.proofs.Numbers.{self_equal}
+use Rattle.common_lemmas.proofs.Numbers.{equal_bytes, self_equal}
 use Rattle.column_set.specs.declared.changes.Change.{Change}
 use Rattle.column_set.specs.declared.changes.Change.TheVariants.{Put, Drop, Hold, Add}
 use Rattle.index_derive.specs.declared.schema_calls.SchemaStep.{SchemaStep}
@@ -20,7 +20,7 @@ use Rattle.database_state.specs.VersionStore.{is_needed, is_needed_status}
 use Rattle.database_state.specs.Step.{with_transaction, at_levels, with_levels, with_changes_at, is_at_level, every_change, released, all_committed, changed, with_schema_step}
 use Rattle.record_changes.specs.Records.{IsThere, Records, after_item, is_change_of, record_after, records_after_items, records_of}
 use Rattle.record_changes.proofs.Projecting.{projected}
-use Rattle.record_changes.proofs.Tests.{equal_bytes, or_first, or_second}
+use Rattle.record_changes.proofs.Tests.{or_first, or_second}
 use Rattle.version_history.specs.History.{IsBegun, IsHistory, IsOpenIn, IsPassed, IsPassedBy, IsPlaced, IsPlacedBy, KeepsHistory, without_rows}
 use Rattle.version_history.specs.KeptSteps.{committed_own, lowered_own, new_change, with_next_number}
 use Rattle.version_history.specs.Readers.{is_standing, was_committed}

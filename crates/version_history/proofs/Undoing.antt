@@ -6,14 +6,13 @@ use Rattle.std.proofs.lemmas.List.Elements.{filter-append}
 use Rattle.std.proofs.lemmas.List.Sums.{fold-append}
 use Rattle.std.proofs.lemmas.Bool.{and_from}
 use Rattle.common_lemmas.proofs.Lists.{all_weaker}
-use Rattle.common_lemmas.proofs.Numbers.{self_equal}
+use Rattle.common_lemmas.proofs.Numbers.{equal_bytes, self_equal}
 use Rattle.column_set.specs.declared.changes.Change.{Change}
 use Rattle.database_state.specs.Changes.{changed_table, changed_bookmark, is_sum}
 use Rattle.database_state.specs.State.{PastChange}
 use Rattle.database_state.specs.Conflicts.{collide}
 use Rattle.record_changes.specs.Records.{Records, after_item, is_change_of, record_after, records_after_items}
 use Rattle.record_changes.proofs.Commuting.{both_touch, commute}
-use Rattle.record_changes.proofs.Tests.{equal_bytes}
 use Rattle.version_history.specs.History.{HasBefores}
 use Rattle.version_history.specs.Readers.{is_standing}
 use Rattle.version_history.proofs.Befores.{at}

@@ -5,7 +5,7 @@ use Rattle.std.specs.List.{AllByRecursion, list_any}
 use Rattle.std.proofs.lemmas.Bool.{eqb-true, false_from_ne_true}
 use Rattle.common_lemmas.proofs.Booleans.{and_left, and_right, impossible}
 use Rattle.common_lemmas.proofs.Lists.{all_append, all_map, all_weaker}
-use Rattle.common_lemmas.proofs.Numbers.{same_bytes}
+use Rattle.common_lemmas.proofs.Numbers.{equal_bytes, same_bytes}
 use Rattle.column_set.specs.RecordValues.{RecordFields, has_value}
 use Rattle.key_normal.specs.KeyBytes.{is_cut}
 use Rattle.index_derive.specs.declared.rules.IndexRule.{IndexRule}
@@ -16,7 +16,6 @@ use Rattle.database_state.specs.Changes.{changed_table, changed_bookmark, is_sum
 use Rattle.database_state.specs.State.{PastChange}
 use Rattle.database_state.specs.Conflicts.{yields_key}
 use Rattle.record_changes.specs.Records.{Records, after_item, is_change_of, record_after, records_after_items}
-use Rattle.record_changes.proofs.Tests.{equal_bytes}
 use Rattle.version_history.specs.History.{HasBefores}
 use Rattle.version_history.specs.Readers.{is_standing}
 use Rattle.version_keys.specs.UniqueKeys.{BringsKey, HasBookmarkKeys, HasOwnKey, MeetsKey}

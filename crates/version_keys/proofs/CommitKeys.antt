@@ -9,7 +9,7 @@ use Rattle.std.specs.Cmp.Lexicographic.{texts_ties}
 use Rattle.std.proofs.lemmas.List.Folds.{list_any-append}
 use Rattle.std.proofs.lemmas.Bool.{false_from_ne_true, or_left, or_right}
 use Rattle.common_lemmas.proofs.Lists.{all_listed, all_map, all_weaker}
-use Rattle.common_lemmas.proofs.Numbers.{self_equal}
+use Rattle.common_lemmas.proofs.Numbers.{equal_bytes, self_equal}
 use Rattle.common_lemmas.proofs.Booleans.{impossible}
 use Rattle.column_set.specs.RecordValues.{RecordFields}
 use Rattle.index_derive.specs.declared.rules.IndexRule.{IndexRule}
@@ -28,7 +28,7 @@ use Rattle.index_derive.specs.RisingKeys.{AreRisingKeys, key_cmp}
 use Rattle.derived_index.proofs.Rows.{RowsRise}
 use Rattle.derived_index.proofs.Standing.{same_test}
 use Rattle.record_changes.specs.Records.{Records, records_of}
-use Rattle.record_changes.proofs.Tests.{equal_bytes, or_first, or_second}
+use Rattle.record_changes.proofs.Tests.{or_first, or_second}
 use Rattle.version_history.specs.History.{IsHistory}
 use Rattle.version_history.specs.KeptSteps.{committed_own, kept_after, with_next_number}
 use Rattle.version_history.proofs.EndEntries.{history_committed, same_definitions}

@@ -4,7 +4,7 @@ use Rattle.std.specs.Prelude.{◌==◌, find, filter, fold}
 use Rattle.std.specs.List.{AllByRecursion, list_any}
 use Rattle.std.proofs.lemmas.Bool.{and_from, eqb-true}
 use Rattle.common_lemmas.proofs.Booleans.{and_left, and_right, impossible}
-use Rattle.common_lemmas.proofs.Numbers.{same_bytes, self_equal}
+use Rattle.common_lemmas.proofs.Numbers.{equal_bytes, same_bytes, self_equal}
 use Rattle.column_set.specs.declared.changes.Change.{Change}
 use Rattle.index_derive.specs.declared.rules.IndexRule.{IndexRule}
 use Rattle.index_derive.specs.declared.rules.Schema.{Schema}
@@ -14,7 +14,6 @@ use Rattle.database_state.specs.State.{DatabaseState, PastChange, Transaction, S
 use Rattle.database_state.specs.View.{newest}
 use Rattle.database_state.specs.Conflicts.{is_concurrent, is_concurrent_status, has_key_conflict, yields_key}
 use Rattle.record_changes.specs.Records.{Records, after_item, is_change_of, record_after, records_after_items, records_of}
-use Rattle.record_changes.proofs.Tests.{equal_bytes}
 use Rattle.version_history.specs.History.{HasBefores, IsHistory, IsPlaced}
 use Rattle.version_history.specs.Readers.{before_or, is_rewrite, is_standing}
 use Rattle.version_history.proofs.Concurrent.{key_conflict_kept}

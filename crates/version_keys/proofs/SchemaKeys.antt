@@ -10,7 +10,7 @@ use Rattle.std.proofs.lemmas.List.Folds.{list_any-append}
 use Rattle.std.proofs.lemmas.Bool.{eqb-true}
 use Rattle.common_lemmas.proofs.Booleans.{and_left, and_right, impossible}
 use Rattle.common_lemmas.proofs.Lists.{all_append, all_each, all_weaker}
-use Rattle.common_lemmas.proofs.Numbers.{same_bytes, self_equal}
+use Rattle.common_lemmas.proofs.Numbers.{equal_bytes, same_bytes, self_equal}
 use Rattle.jet_base.specs.declared.ids.ColumnId.{ColumnId}
 use Rattle.jet_base.specs.declared.ids.TableId.{TableId}
 use Rattle.jet_base.specs.declared.replies.Jet.TheVariants as jet
@@ -29,7 +29,7 @@ use Rattle.database_state.specs.Conflicts.{yields_key}
 use Rattle.database_state.specs.Lawful.{has_next_numbers, is_name}
 use Rattle.database_state.proofs.Columns.{column_of_id-columns_with}
 use Rattle.derived_index.proofs.Standing.{same_test}
-use Rattle.record_changes.proofs.Tests.{and_second, contradicted, equal_bytes, or_second}
+use Rattle.record_changes.proofs.Tests.{and_second, contradicted, or_second}
 use Rattle.version_history.proofs.Lists.{all_both}
 use Rattle.version_keys.specs.UniqueKeys.{HasOwnKey, IsSoundIndex}
 use Rattle.version_keys.proofs.FreeKeys.{in_any_order}

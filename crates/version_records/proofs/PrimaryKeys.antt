@@ -12,7 +12,7 @@ use Rattle.index_derive.specs.Entries.{KeyTruncated, NullKeyDisallowed, entries,
 use Rattle.index_derive.specs.Primary.{first_values}
 use Rattle.database_state.specs.Refusals.{Refusals}
 use Rattle.database_state.specs.Puts.{is_cut_refusal, is_null_refusal}
-use Rattle.record_changes.proofs.Tests.{equal_bytes}
+use Rattle.common_lemmas.proofs.Numbers.{equal_bytes}
 use Rattle.version_keys.proofs.BookmarkKeys.{HasOneEntry}
 
 abbrev pub AreUnrefused : Refusals → Type 0

@@ -9,10 +9,9 @@ use Rattle.database_state.specs.Changes.{changed_table, changed_bookmark, escrow
 use Rattle.database_state.specs.State.{PastChange}
 use Rattle.std.proofs.lemmas.Int.{of_z-to_z}
 use Rattle.std.proofs.lemmas.Bool.{and_from}
-use Rattle.common_lemmas.proofs.Numbers.{self_equal}
+use Rattle.common_lemmas.proofs.Numbers.{equal_bytes, self_equal}
 use Rattle.common_lemmas.proofs.Booleans.{impossible}
 use Rattle.record_changes.specs.Records.{Records, record_after, records_after_items}
-use Rattle.record_changes.proofs.Tests.{equal_bytes}
 use Rattle.version_history.specs.Readers.{is_standing}
 use Rattle.version_history.proofs.Undoing.{IsLastOf, made_last}
 use Rattle.version_sums.specs.EscrowSums.{escrow_value, seen_value, sums_by, with_sums, without_amount}

@@ -4,7 +4,7 @@ use Rattle.std.specs.List.{AllByRecursion}
 use Rattle.std.proofs.lemmas.Bool.{and_from, false_from_ne_true}
 use Rattle.common_lemmas.proofs.Finding.{find_none}
 use Rattle.common_lemmas.proofs.Booleans.{and_left, and_right, impossible}
-use Rattle.common_lemmas.proofs.Numbers.{self_equal}
+use Rattle.common_lemmas.proofs.Numbers.{equal_bytes, self_equal}
 use Rattle.column_set.specs.declared.changes.Change.{Change}
 use Rattle.database_state.specs.Changes.{changed_bookmark, changed_table, is_sum}
 use Rattle.database_state.specs.State.{DatabaseState, PastChange, Transaction, transaction_of}
@@ -12,7 +12,6 @@ use Rattle.database_state.specs.View.{newest}
 use Rattle.database_state.specs.Conflicts.{collide, has_write_conflict, is_concurrent}
 use Rattle.record_changes.specs.Records.{Records, is_change_of, records_of}
 use Rattle.record_changes.proofs.Commuting.{both_touch}
-use Rattle.record_changes.proofs.Tests.{equal_bytes}
 use Rattle.version_history.specs.History.{IsHistory, IsPlaced}
 use Rattle.version_history.specs.Readers.{before_or, found_record, hides, is_rewrite, is_standing, is_unseen, sees}
 use Rattle.version_history.proofs.EndEntries.{free_of}

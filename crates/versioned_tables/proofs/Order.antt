@@ -8,13 +8,12 @@ use Rattle.std.proofs.lemmas.Map.Lookups.{exact_bytes}
 use Rattle.std.proofs.lemmas.Bool.{false_from_ne_true}
 use Rattle.common_lemmas.proofs.Orders.{is_less}
 use Rattle.common_lemmas.proofs.Booleans.{and_left, impossible}
-use Rattle.common_lemmas.proofs.Numbers.{same_bytes}
+use Rattle.common_lemmas.proofs.Numbers.{equal_bytes, same_bytes}
 use Rattle.index_derive.specs.declared.entries.Place.{Place}
 use Rattle.index_derive.specs.declared.entries.Place.TheVariants.{Before, After, On, Gap}
 use Rattle.column_set.specs.RecordValues.{bytes_le, bytes_lt}
 use Rattle.cursor_nav.specs.Places.{Pair, is_beyond, is_short_of, pair_lt}
 use Rattle.derived_index.proofs.PairOrder.{pair_cmp, pair_lt-is, pairs_total}
-use Rattle.record_changes.proofs.Tests.{equal_bytes}
 
 -- ---- entries
 
