@@ -81,7 +81,8 @@ loggable made label is = and_from (has_spelling made) (nat_lt (length (entry_byt
     low : (n k : ℕ) → n ≡ 9 + k → k ≤ 84890000 → nat_lt n (2 ^ 27) ≡ true
     low n k e h = grind (arith, nat_tests)
 
-kind_of : (state : DatabaseState) (made : Entry) → is_lawful state made ≡ true → is_lawful_kind state made.session.0 made.kind ≡ true
+-- the kind of a lawful entry is lawful
+pub kind_of : (state : DatabaseState) (made : Entry) → is_lawful state made ≡ true → is_lawful_kind state made.session.0 made.kind ≡ true
 unfolding is_lawful
 kind_of state made e = and_right (has_number state.number made.kind) (is_lawful_kind state made.session.0 made.kind) e
 

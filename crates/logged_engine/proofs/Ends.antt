@@ -1,13 +1,13 @@
 -- What is to end, and by how many bytes.
 use Rattle.std.proofs.Common.{◌≡◌, ℕ, ◌+◌, ◌-◌, ◌*◌, ◌≤◌, true, false, cond, List, map, length, Option, Some, None, sym, ap, subst, ◌∙◌, arith}
 use Rattle.std.specs.Prelude.{◌==◌, nat_lt, find, is_some, option_map}
-use Rattle.common_lemmas.proofs.Booleans.{and_left, and_right, impossible}
+use Rattle.common_lemmas.proofs.Booleans.{and_left, impossible}
 use Rattle.index_derive.specs.declared.log.Entry.{Entry}
 use Rattle.index_derive.specs.declared.log.EntryKind.{EntryKind}
 use Rattle.index_derive.specs.declared.log.EntryKind.TheVariants as entry
 use Rattle.database_state.specs.State.{DatabaseState, LiveSession, levels}
 use Rattle.database_state.specs.Step.{with_one, without_one}
-use Rattle.database_state.specs.Lawful.{has_number, has_open as has_open_in, is_lawful, is_lawful_kind}
+use Rattle.database_state.specs.Lawful.{has_open as has_open_in, is_lawful, is_lawful_kind}
 use Rattle.version_history.specs.History.{EachTwo}
 use Rattle.version_cleanup.specs.declared.live.Transaction.{Transaction}
 use Rattle.version_cleanup.specs.LiveSessions.{LiveState, at_levels, began, ended, entered, left, levels_in, levels_of, live_state, lowered, new_session, opened, saved, session_in, sessions_after, shut, with_session}
@@ -17,6 +17,7 @@ use Rattle.engine_versions.specs.HoldsState.{HoldsState}
 use Rattle.engine_versions.proofs.SessionTotals.{EndsBy, RisesTo, ends_by, grows, in_levels, inserted, le_self, left_fewer, level_of, levels_there, one_level, one_more_open, rise_told, shut_fewer, shut_no_more, two_levels}
 use Rattle.engine_versions.proofs.Sessions.{live_alike, session_alike}
 use Rattle.logged_engine.specs.Ends.{begun_bytes, end_bytes, end_bytes_of, ended_bytes}
+use Rattle.loggable_steps.proofs.Spelled.{kind_of}
 
 -- ---- more
 
@@ -154,10 +155,6 @@ by_kind engine state session entry.Undo h e rise =
       | false ↦ ends 9 (end_bytes (with_session session ended engine.sessions)) (end_bytes engine.sessions)
           (ends_by end_bytes_of 9 session ended ended_keeps engine.sessions (in_levels end_bytes_of 9 ended ended_ends session engine.sessions is_in))
     ]
-
-pub kind_of : (state : DatabaseState) (made : Entry) → is_lawful state made ≡ true → is_lawful_kind state made.session.0 made.kind ≡ true
-unfolding is_lawful
-kind_of state made e = and_right (has_number state.number made.kind) (is_lawful_kind state made.session.0 made.kind) e
 
 pub entry_keeps : (engine : EngineState) (state : DatabaseState) (made : Entry) → HoldsState engine state → is_lawful state made ≡ true → ended_bytes made.kind + end_bytes (engine_after engine made).sessions ≤ end_bytes engine.sessions + begun_bytes made.kind
 entry_keeps engine state made h e = by_kind engine state made.session.0 made.kind h (kind_of state made e) (rise_told engine state h)

@@ -18,9 +18,10 @@ use Rattle.engine_versions.specs.HoldsState.{HoldsState}
 use Rattle.engine_versions.proofs.Cleans.{CleanHolds, clean_for_holds}
 use Rattle.engine_versions.proofs.Room.{EntryHolds}
 use Rattle.loggable_steps.specs.Loggable.{made_by}
+use Rattle.loggable_steps.proofs.Spelled.{kind_of}
 use Rattle.logged_engine.specs.Ends.{Follows, begun_bytes, end_bytes, ended_bytes}
 use Rattle.engine_versions.proofs.SessionTotals.{rise_told}
-use Rattle.logged_engine.proofs.Ends.{entry_keeps, kind_of}
+use Rattle.logged_engine.proofs.Ends.{entry_keeps}
 use Rattle.logged_engine.proofs.Follows.{between, kind_follows}
 
 pub same_sessions : (b : Bool) (engine : EngineState) → end_bytes (cleaned_for b engine).sessions ≡ end_bytes engine.sessions
