@@ -11,6 +11,10 @@ use Rattle.database_state.specs.State.{DatabaseState, LiveSession, PastChange, T
 use Rattle.database_state.specs.View.{newest}
 use Rattle.database_state.specs.SchemaChanges.{tables_after_step, greatest_table_after}
 
+-- an entry of the session
+abbrev pub entry_by : ℕ → EntryKind → Entry
+entry_by session kind = record { session = record { 0 = session }; kind = kind }
+
 -- ---- sessions, by rising label
 
 abbrev pub insert_session : LiveSession → List LiveSession → List LiveSession

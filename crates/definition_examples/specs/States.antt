@@ -7,17 +7,13 @@ use Rattle.column_set.specs.declared.columns.Column.{Column}
 use Rattle.column_set.specs.declared.changes.Change.{Change}
 use Rattle.column_set.specs.declared.changes.Change.TheVariants.{Put}
 use Rattle.column_set.specs.RecordValues.{RecordFields}
-use Rattle.index_derive.specs.declared.log.Entry.{Entry}
 use Rattle.index_derive.specs.declared.log.EntryKind.{EntryKind}
 use Rattle.index_derive.specs.declared.rules.IndexRule.{IndexRule}
 use Rattle.database_state.specs.Table.{Table, Rows}
 use Rattle.database_state.specs.State.{DatabaseState, PastChange, Status, empty_state}
-use Rattle.database_state.specs.Step.{state_after_all}
+use Rattle.database_state.specs.Step.{entry_by, state_after_all}
 
 -- ---- entries
-
-abbrev pub entry_by : ℕ → EntryKind → Entry
-entry_by session kind = record { session = record { 0 = session }; kind = kind }
 
 -- the state that these entries of one session lead to from the empty one
 abbrev pub state_of : List EntryKind → DatabaseState

@@ -14,7 +14,8 @@ ghost use Rattle.database_state.specs.Refusals.{first_refusal};
 ghost use Rattle.database_state.specs.Puts.{put_refusals};
 ghost use Rattle.database_state.specs.Lawful.{is_lawful};
 ghost use Rattle.database_state.specs.Equivalence.{essence};
-ghost use Rattle.definition_examples.specs.States.{entry_by, state_of, column, sample_table, fields, hidden_key, put, in_transaction, past_change};
+ghost use Rattle.database_state.specs.Step.{entry_by};
+ghost use Rattle.definition_examples.specs.States.{state_of, column, sample_table, fields, hidden_key, put, in_transaction, past_change};
 
 /// A table whose columns were made as 1, 128, 256 and 2 has them by rising number.
 pub fn columns_made_out_of_order()

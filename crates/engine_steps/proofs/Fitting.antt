@@ -7,10 +7,11 @@ use Rattle.index_derive.specs.declared.log.EntryKind.{EntryKind}
 use Rattle.index_derive.specs.declared.log.EntryKind.TheVariants as entry
 use Rattle.database_state.specs.State.{DatabaseState, levels}
 use Rattle.database_state.specs.Lawful.{has_number, is_lawful, is_lawful_kind, is_live as is_live_in}
+use Rattle.database_state.specs.Step.{entry_by}
 use Rattle.version_cleanup.specs.LiveSessions.{is_live, levels_in}
 use Rattle.engine_versions.specs.EngineState.{EngineState}
 use Rattle.engine_versions.specs.HoldsState.{HoldsState}
-use Rattle.engine_steps.specs.Steps.{MayCome, entry_by}
+use Rattle.engine_steps.specs.Steps.{MayCome}
 
 -- what is lawful at all, by its kind
 pub lawful_by_kind : (state : DatabaseState) (session : ℕ) (kind : EntryKind) → is_lawful state (entry_by session kind) ≡ true → is_lawful_kind state session kind ≡ true

@@ -16,6 +16,7 @@ use Rattle.database_state.specs.Table.{Table, primary_first, table_with_id}
 use Rattle.database_state.specs.State.{DatabaseState}
 use Rattle.database_state.specs.SchemaChanges.{greatest_order, has_column, least_free_id, new_table, next_column_id, next_index_id, rule_columns, step_refusals}
 use Rattle.database_state.specs.Lawful.{is_name}
+use Rattle.database_state.specs.Step.{entry_by}
 use Rattle.record_changes.proofs.Tests.{and_second}
 use Rattle.version_keys.proofs.FreeKeys.{in_any_order}
 use Rattle.version_keys.proofs.IndexNumbers.{all_primary_first, none_of}
@@ -37,7 +38,7 @@ use Rattle.loggable_steps.proofs.ChangeBytes.{IsAsked, columns_of}
 use Rattle.loggable_steps.proofs.SchemaBytes.{schema_spelled, table_there}
 use Rattle.version_keys.proofs.BookmarkKeys.{HasOneEntry}
 use Rattle.engine_steps.proofs.NewColumns.{column_is_new, next_is_some}
-use Rattle.engine_steps.specs.Steps.{MayCome, entry_by}
+use Rattle.engine_steps.specs.Steps.{MayCome}
 use Rattle.engine_steps.proofs.Settled.{IsLawfulStep, lawful_step, none_open}
 
 -- ---- lists

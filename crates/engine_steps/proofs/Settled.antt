@@ -13,7 +13,7 @@ use Rattle.index_derive.specs.declared.schema_calls.SchemaStep.{SchemaStep}
 use Rattle.database_state.specs.Table.{Table}
 use Rattle.database_state.specs.State.{DatabaseState, LiveSession, PastChange, Status, Transaction as WholeTransaction, uncommitted, committed, undone, levels, levels_of, transaction_of}
 use Rattle.database_state.specs.SchemaChanges.{schema_refusal}
-use Rattle.database_state.specs.Step.{state_after}
+use Rattle.database_state.specs.Step.{entry_by, state_after}
 use Rattle.database_state.specs.Lawful.{has_next_numbers, is_lawful, is_live as is_live_in}
 use Rattle.version_history.specs.History.{EachTwo, IsOpenIn, IsPlaced, IsPlacedBy, LabelsRise}
 use Rattle.version_history.specs.KeptSteps.{with_next_number}
@@ -27,7 +27,7 @@ use Rattle.versioned_tables.specs.Holding.{AllMatch}
 use Rattle.engine_versions.specs.EngineState.{EngineState, cleaned}
 use Rattle.engine_versions.specs.EngineSteps.{cleaned_for, cleans_first, step_cleans}
 use Rattle.engine_versions.specs.HoldsState.{HoldsState}
-use Rattle.engine_steps.specs.Steps.{IsSettledFor, IsSettledForStep, MayTake, entry_by}
+use Rattle.engine_steps.specs.Steps.{IsSettledFor, IsSettledForStep, MayTake}
 use Rattle.engine_steps.proofs.Fitting.{lawful_by_kind}
 use Rattle.engine_steps.proofs.Turns.{apart}
 

@@ -20,6 +20,7 @@ use Rattle.database_state.specs.State.{DatabaseState, Transaction, levels, level
 use Rattle.database_state.specs.Conflicts.{has_write_conflict}
 use Rattle.database_state.specs.View.{newest, view}
 use Rattle.database_state.specs.Lawful.{has_free_keys, is_bookmark_of, is_copied_in, is_indexable, is_lawful_change, is_lawful_put, keeps_escrow}
+use Rattle.database_state.specs.Step.{entry_by}
 use Rattle.record_changes.specs.Records.{records_of}
 use Rattle.long_rows.specs.KeptRows.{are_values}
 use Rattle.version_history.proofs.Unhindered.{finds_newest}
@@ -37,7 +38,7 @@ use Rattle.engine_versions.specs.HoldsState.{HoldsState}
 use Rattle.stored_variants.specs.PutRecords.{IsStorable}
 use Rattle.stored_variants.specs.VersionsKept.{HoldsNumbers}
 use Rattle.engine_steps.specs.Changing.{CanChange, IsFormed}
-use Rattle.engine_steps.specs.Steps.{MayCome, entry_by}
+use Rattle.engine_steps.specs.Steps.{MayCome}
 use Rattle.engine_steps.proofs.Fitting.{lawful_by_kind}
 use Rattle.engine_steps.proofs.PrimaryKeys.{IsLegalKey, key_short, key_some, legal_key}
 use Rattle.engine_steps.proofs.RowValues.{each_kept}

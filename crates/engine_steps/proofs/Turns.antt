@@ -11,7 +11,7 @@ use Rattle.index_derive.specs.declared.log.EntryKind.TheVariants as entry
 use Rattle.index_derive.specs.declared.log.Step.{Step}
 use Rattle.index_derive.specs.declared.log.Step.TheVariants.{Alone}
 use Rattle.database_state.specs.State.{DatabaseState, LiveSession, levels}
-use Rattle.database_state.specs.Step.{state_after}
+use Rattle.database_state.specs.Step.{entry_by, state_after}
 use Rattle.database_state.specs.Lawful.{is_lawful, is_live as is_live_in}
 use Rattle.session_local.specs.Local.{LocalState}
 use Rattle.version_history.specs.History.{EachTwo, LabelsRise}
@@ -23,7 +23,7 @@ use Rattle.engine_versions.specs.EngineSteps.{cleaned_for, effect_on, engine_aft
 use Rattle.engine_versions.specs.HoldsState.{HoldsAllInStep, HoldsState}
 use Rattle.engine_versions.proofs.Cleans.{CleanHolds, clean_for_holds}
 use Rattle.engine_versions.proofs.Room.{EntryHolds}
-use Rattle.engine_steps.specs.Steps.{MayCome, MayTake, begin_taken_back, entry_by}
+use Rattle.engine_steps.specs.Steps.{MayCome, MayTake, begin_taken_back}
 use Rattle.engine_steps.proofs.Fitting.{lawful_by_kind}
 
 -- ---- the sessions after a begin that is taken back

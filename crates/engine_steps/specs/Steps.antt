@@ -1,6 +1,5 @@
 -- When an entry can be made, and which need memory.
 use Rattle.std.specs.Prelude.{◌≡◌, ℕ, ◌-◌, Bool, true, false, List, [], Some}
-use Rattle.jet_base.specs.Ids.{session_id}
 use Rattle.index_derive.specs.declared.log.Entry.{Entry}
 use Rattle.index_derive.specs.declared.log.EntryKind.{EntryKind}
 use Rattle.index_derive.specs.declared.log.EntryKind.TheVariants as entry
@@ -17,10 +16,6 @@ use Rattle.versioned_tables.specs.HeldRecords.{HeldRecord}
 use Rattle.built_calls.specs.BuiltTables.{AllMakeBuilt, makes_built}
 use Rattle.engine_versions.specs.EngineState.{EngineState}
 use Rattle.engine_versions.specs.HoldsState.{HoldsState}
-
--- an entry of the session
-abbrev pub entry_by : ℕ → EntryKind → Entry
-entry_by session kind = record { session = session_id session; kind = kind }
 
 -- The entry is lawful in a state that the engine holds, makes only what is built, and is as its type has it.
 pub record MayCome (engine : EngineState) (made : Entry) : Type 0 where

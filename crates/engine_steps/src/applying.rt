@@ -6,7 +6,8 @@ ghost use Rattle.index_derive.specs.declared.log.Step.TheVariants.{Alone};
 ghost use Rattle.index_derive.specs.Steps.{entries_of_step};
 ghost use Rattle.engine_versions.specs.EngineState.{HasRoomForEnds};
 ghost use Rattle.engine_versions.specs.EngineSteps.{cleaned_for, cleans_first, effect_on, engine_after_all, engine_after_step, step_cleans};
-ghost use Rattle.engine_steps.specs.Steps.{IsSettledFor, IsSettledForStep, MayCome, MayTake, begin_taken_back, entry_by, may_lack_memory, step_may_lack_memory};
+ghost use Rattle.database_state.specs.Step.{entry_by};
+ghost use Rattle.engine_steps.specs.Steps.{IsSettledFor, IsSettledForStep, MayCome, MayTake, begin_taken_back, may_lack_memory, step_may_lack_memory};
 
 use crate::change_steps::{change, changes_are_formed};
 use crate::cleaning::clean_all;

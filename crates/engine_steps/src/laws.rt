@@ -16,7 +16,8 @@ ghost use Rattle.engine_versions.specs.EngineSteps.{cleaned_for, effect_on, step
 ghost use Rattle.engine_versions.specs.HoldsState.{HoldsAllInStep, HoldsState};
 ghost use Rattle.engine_steps.specs.Changing.{CanChange, IsFormed};
 ghost use Rattle.engine_steps.specs.Cleans.{CanGo, without_oldest_held};
-ghost use Rattle.engine_steps.specs.Steps.{IsSettledForStep, MayCome, MayTake, begin_taken_back, entry_by};
+ghost use Rattle.database_state.specs.Step.{entry_by};
+ghost use Rattle.engine_steps.specs.Steps.{IsSettledForStep, MayCome, MayTake, begin_taken_back};
 ghost use Rattle.loggable_steps.specs.Loggable.{schema_fits_types};
 ghost use Rattle.stored_variants.specs.SchemaSteps.{CanMake};
 

@@ -8,7 +8,7 @@ use Rattle.index_derive.specs.declared.log.EntryKind.{EntryKind}
 use Rattle.index_derive.specs.declared.log.EntryKind.TheVariants as entry
 use Rattle.index_derive.specs.declared.schema_calls.SchemaStep.TheVariants as step
 use Rattle.database_state.specs.State.{DatabaseState, LiveSession, PastChange, levels, undone}
-use Rattle.database_state.specs.Step.{applied, innermost_undone, is_at_level, state_after, state_after_all, with_changes_at, with_levels, with_transaction}
+use Rattle.database_state.specs.Step.{applied, entry_by, innermost_undone, is_at_level, state_after, state_after_all, with_changes_at, with_levels, with_transaction}
 use Rattle.database_state.specs.Lawful.{is_lawful}
 use Rattle.version_history.specs.KeptSteps.{base_after, dropped_after, kept_after, with_next_number}
 use Rattle.version_history.proofs.Labels.{labels_rise}
@@ -34,9 +34,6 @@ use Rattle.engine_versions.specs.EngineSteps.{engine_after, engine_after_all, gr
 use Rattle.engine_versions.specs.HoldsState.{HoldsState}
 use Rattle.engine_versions.proofs.Sessions.{levels_alike}
 use Rattle.engine_versions.proofs.Tables.{built_kept}
-
-abbrev pub entry_by : ℕ → EntryKind → Entry
-entry_by session kind = record { session = record { 0 = session }; kind = kind }
 
 pub levels_told : (engine : EngineState) (state : DatabaseState) → HoldsState engine state → (session : ℕ) → levels_in session engine.sessions ≡ levels state session
 levels_told engine state h session = ap (levels_in session) (sym h.sessions) ∙ levels_alike session state

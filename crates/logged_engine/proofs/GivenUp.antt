@@ -6,7 +6,7 @@ use Rattle.std.proofs.lemmas.Bool.Decides.{nat_tests}
 use Rattle.common_lemmas.proofs.Booleans.{and_left, and_right, impossible}
 use Rattle.index_derive.specs.declared.log.EntryKind.TheVariants as entry
 use Rattle.database_state.specs.State.{DatabaseState}
-use Rattle.database_state.specs.Step.{state_after}
+use Rattle.database_state.specs.Step.{entry_by, state_after}
 use Rattle.database_state.specs.Lawful.{is_lawful}
 use Rattle.version_store.specs.HeldChanges.{is_kept_status}
 use Rattle.version_cleanup.specs.LiveSessions.{LiveState, is_live, left, oldest_begin, session_in}
@@ -16,7 +16,6 @@ use Rattle.engine_versions.specs.EngineState.{EngineState, cleaned, engine_of}
 use Rattle.engine_versions.specs.HoldsState.{HoldsState}
 use Rattle.engine_versions.proofs.Room.{EntryHolds}
 use Rattle.engine_versions.proofs.Sessions.{live_alike}
-use Rattle.engine_steps.specs.Steps.{entry_by}
 use Rattle.loggable_steps.specs.Loggable.{is_label}
 use Rattle.loggable_steps.specs.Replays.{closed}
 use Rattle.logged_engine.specs.Closing.{HaveLabels, HoldsTables, IsGivenUpTo, without_live, without_session}

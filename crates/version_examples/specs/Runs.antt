@@ -12,13 +12,13 @@ use Rattle.database_state.specs.Table.{Rows, schema_of, rows_of, table_with_id}
 use Rattle.database_state.specs.State.{DatabaseState, LiveSession, Status, transaction_of}
 use Rattle.database_state.specs.Conflicts.{is_concurrent, has_key_conflict}
 use Rattle.database_state.specs.View.{newest, view}
-use Rattle.database_state.specs.Step.{state_after, state_after_all}
+use Rattle.database_state.specs.Step.{entry_by, state_after, state_after_all}
 use Rattle.database_state.specs.Lawful.{is_lawful}
 use Rattle.record_changes.specs.Records.{records_of}
 use Rattle.version_history.specs.Readers.{found_record}
 use Rattle.version_sums.specs.EscrowSums.{amounts_to, escrow_value, seen_value, unseen_sums}
 use Rattle.version_keys.specs.Variants.{is_key_held, is_variant_key, shown_entries}
-use Rattle.definition_examples.specs.States.{entry_by, unique_rule, sample_table, fields, hidden_key}
+use Rattle.definition_examples.specs.States.{unique_rule, sample_table, fields, hidden_key}
 
 -- records 3 and 4
 abbrev pub first_rows : Rows

@@ -5,11 +5,11 @@ ghost use Rattle.std.specs.Prelude.{◌≡◌, List, [], ◌∷◌, true, false,
 ghost use Rattle.index_derive.specs.declared.log.EntryKind.TheVariants as entry;
 ghost use Rattle.database_state.specs.Conflicts.{has_write_conflict};
 ghost use Rattle.database_state.specs.State.{committed};
-ghost use Rattle.database_state.specs.Step.{state_after};
+ghost use Rattle.database_state.specs.Step.{entry_by, state_after};
 ghost use Rattle.database_state.specs.Equivalence.{essence};
 ghost use Rattle.database_state.specs.Lawful.{is_lawful};
 ghost use Rattle.database_state.specs.VersionStore.{version_span};
-ghost use Rattle.definition_examples.specs.States.{entry_by, fields, past_change, put};
+ghost use Rattle.definition_examples.specs.States.{fields, past_change, put};
 ghost use Rattle.version_examples.specs.Runs.{after, first_state, lock, add, shown, latest, meets_key};
 ghost use Rattle.version_examples.specs.Forgetting.{cleaned, with_undone, with_sums, numbers_kept, costs_kept, meets_sum};
 

@@ -7,7 +7,8 @@ ghost use Rattle.database_state.specs.State.{uncommitted, committed, undone};
 ghost use Rattle.database_state.specs.Conflicts.{has_write_conflict};
 ghost use Rattle.database_state.specs.VersionStore.{is_needed, version_span};
 ghost use Rattle.database_state.specs.Lawful.{is_lawful};
-ghost use Rattle.definition_examples.specs.States.{entry_by, fields, put};
+ghost use Rattle.database_state.specs.Step.{entry_by};
+ghost use Rattle.definition_examples.specs.States.{fields, put};
 ghost use Rattle.version_examples.specs.Runs.{after, lock, add, shown, latest, found, befores, afters, levels_of, statuses};
 
 /// Session 1 replaces a record under session 2, which goes on seeing the old one, finds it before the change, and may not

@@ -4,7 +4,8 @@
 ghost use Rattle.std.specs.Prelude.{◌≡◌, List, [], ◌∷◌, true, false, pos};
 ghost use Rattle.index_derive.specs.declared.log.EntryKind.TheVariants as entry;
 ghost use Rattle.database_state.specs.Lawful.{is_lawful, is_unique_throughout};
-ghost use Rattle.definition_examples.specs.States.{entry_by, fields, put};
+ghost use Rattle.database_state.specs.Step.{entry_by};
+ghost use Rattle.definition_examples.specs.States.{fields, put};
 ghost use Rattle.version_examples.specs.Runs.{first_state, after, are_lawful, delete, meets_key, meets_variant, has_variant, entry_of, shown_of, derived_of};
 
 /// Session 1 changes a unique key from 7 to 9. Session 2 may put neither as long as it stands before that change: one is the

@@ -5,7 +5,8 @@ ghost use Rattle.std.specs.Prelude.{◌≡◌, List, [], ◌∷◌, true, false,
 ghost use Rattle.index_derive.specs.declared.log.EntryKind.TheVariants as entry;
 ghost use Rattle.database_state.specs.State.{uncommitted, committed, undone};
 ghost use Rattle.database_state.specs.Lawful.{is_lawful};
-ghost use Rattle.definition_examples.specs.States.{entry_by, fields, put};
+ghost use Rattle.database_state.specs.Step.{entry_by};
+ghost use Rattle.definition_examples.specs.States.{fields, put};
 ghost use Rattle.version_examples.specs.Runs.{after, add, shown, latest, found, unseen, stored_number, seen_number, befores, statuses, meets_key, meets_variant, derived_of, entry_of};
 
 /// Session 1 adds 4 under session 2, which began before it: the stored number has the sum, and without it is the one that

@@ -1,11 +1,10 @@
 -- Entries that leave the tables and the changes as they are.
 use Rattle.std.proofs.Common.{◌≡◌, ℕ, true, List, map, refl, sym, ap, ◌∙◌}
 use Rattle.common_lemmas.proofs.Booleans.{impossible}
-use Rattle.index_derive.specs.declared.log.Entry.{Entry}
 use Rattle.index_derive.specs.declared.log.EntryKind.{EntryKind}
 use Rattle.index_derive.specs.declared.log.EntryKind.TheVariants as entry
 use Rattle.database_state.specs.State.{DatabaseState, PastChange}
-use Rattle.database_state.specs.Step.{state_after}
+use Rattle.database_state.specs.Step.{entry_by, state_after}
 use Rattle.database_state.specs.Lawful.{is_lawful}
 use Rattle.database_state.specs.View.{newest}
 use Rattle.record_changes.specs.Records.{Records, records_of}
@@ -14,9 +13,6 @@ use Rattle.version_history.proofs.LawfulEntries.{keeps_lawful}
 use Rattle.versioned_tables.specs.VersionedTables.{VersionedTables, leaves_tables}
 use Rattle.versioned_tables.specs.Holding.{Holds}
 use Rattle.versioned_tables.proofs.RisingSteps.{step_keeps_order}
-
-abbrev pub entry_by : ℕ → EntryKind → Entry
-entry_by session kind = record { session = record { 0 = session }; kind = kind }
 
 same_newest : (state : DatabaseState) (session : ℕ) (kind : EntryKind) → leaves_tables kind ≡ true → newest (state_after state (entry_by session kind)) ≡ newest state
 unfolding newest state_after

@@ -11,7 +11,7 @@ use Rattle.index_derive.specs.declared.log.EntryKind.{EntryKind}
 use Rattle.index_derive.specs.declared.log.EntryKind.TheVariants as entry
 use Rattle.database_state.specs.State.{DatabaseState, PastChange, Transaction, Status, uncommitted, committed, undone, is_open, is_open_change_of, levels, levels_of, transaction_of}
 use Rattle.database_state.specs.Changes.{changed_table}
-use Rattle.database_state.specs.Step.{every_change, innermost_undone, is_at_level, state_after, with_changes_at, with_levels, with_transaction}
+use Rattle.database_state.specs.Step.{entry_by, every_change, innermost_undone, is_at_level, state_after, with_changes_at, with_levels, with_transaction}
 use Rattle.database_state.specs.Lawful.{is_lawful}
 use Rattle.record_changes.specs.Records.{IsThere, Records, records_after_items, records_of}
 use Rattle.version_history.specs.History.{EachTwo, IsHistory, IsOpenIn, IsPlaced, IsPlacedBy, LevelsRise, without_rows}
@@ -30,7 +30,6 @@ use Rattle.versioned_tables.proofs.Ending.{same_open}
 use Rattle.versioned_tables.proofs.RisingSteps.{step_keeps_order}
 use Rattle.versioned_tables.proofs.ExactSums.{Numbers, any, first_numbers, numbers_back, plain_back}
 use Rattle.versioned_tables.proofs.TakingBack.{SameTest, all_undone_match, taken_defined, taken_records, taken_rise}
-use Rattle.versioned_tables.proofs.Unchanged.{entry_by}
 
 -- ---- what goes
 

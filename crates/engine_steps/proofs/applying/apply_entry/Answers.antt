@@ -3,8 +3,9 @@ use Rattle.std.specs.Prelude.{Result, Ok, Err, OnOk}
 use Rattle.index_derive.specs.declared.log.EntryKind.{EntryKind}
 use Rattle.index_derive.specs.declared.log.EntryKind.TheVariants as entry
 use Rattle.engine_versions.specs.EngineSteps.{effect_on}
-use Rattle.engine_steps.specs.Steps.{MayCome, entry_by}
+use Rattle.engine_steps.specs.Steps.{MayCome}
 use Rattle.engine_steps.proofs.applying.apply_entry.Goals as goal
+use Rattle.database_state.specs.Step.{entry_by}
 
 pub enter-requires-clause-few : goal.enter-requires-clause-few
 enter-requires-clause-few c =
