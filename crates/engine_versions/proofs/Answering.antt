@@ -37,7 +37,9 @@ use Rattle.built_calls.specs.BuiltTables.{AllMakeBuilt, is_unnumbered, is_built_
 use Rattle.engine_versions.specs.EngineState.{EngineState, HasRoomForEnds}
 use Rattle.engine_versions.specs.EngineSteps.{engine_after_answer, engine_after_step}
 use Rattle.engine_versions.specs.HoldsState.{HoldsAllInStep, HoldsState, asked_of, with_local}
+use Rattle.engine_versions.proofs.Cleans.{step_holds}
 use Rattle.engine_versions.proofs.Preparing.{KeepWellFormed, column_is_set, copy_prepared, insert_prepared}
+use Rattle.engine_versions.proofs.Room.{step_has_room}
 
 -- ---- lawful steps
 
@@ -116,22 +118,16 @@ answer_in_step one rise keeps engine state h session local (call.EscrowUpdate cu
 
 -- ---- what the engine holds then
 
--- the law that an engine holds the next state after a step
-abbrev pub StepHolds : Type 0
-StepHolds =
-    (engine : EngineState) (state : DatabaseState) (step : Step) → HoldsState engine state → AreLawful state (entries_of_step (Some step)) → AllMakeBuilt (entries_of_step (Some step)) → AreOfTheirTypes (entries_of_step (Some step))
-    → HoldsState (engine_after_step engine step) (state_after_all state (entries_of_step (Some step)))
-
-pub held_after : StepHolds → (engine : EngineState) (state : DatabaseState) (o : Option Step) → HoldsState engine state → AreLawful state (entries_of_step o) → AllMakeBuilt (entries_of_step o) → AreOfTheirTypes (entries_of_step o)
+pub held_after : (engine : EngineState) (state : DatabaseState) (o : Option Step) → HoldsState engine state → AreLawful state (entries_of_step o) → AllMakeBuilt (entries_of_step o) → AreOfTheirTypes (entries_of_step o)
     → HoldsState (engine_after_answer engine o) (state_after_all state (entries_of_step o))
-held_after holds engine state None h lawful built types = h
-held_after holds engine state (Some step) h lawful built types = holds engine state step h lawful built types
+held_after engine state None h lawful built types = h
+held_after engine state (Some step) h lawful built types = step_holds engine state step h lawful built types
 
-pub all_held_after : StepHolds → (engine : EngineState) (locals : ℕ → LocalState) (session : ℕ) (outcome : Outcome) (h : HoldsAllInStep engine locals) → HasLawfulStep h.state outcome → AllMakeBuilt (entries_of_step outcome.step) → AreOfTheirTypes (entries_of_step outcome.step)
+pub all_held_after : (engine : EngineState) (locals : ℕ → LocalState) (session : ℕ) (outcome : Outcome) (h : HoldsAllInStep engine locals) → HasLawfulStep h.state outcome → AllMakeBuilt (entries_of_step outcome.step) → AreOfTheirTypes (entries_of_step outcome.step)
     → AllByRecursion (λ made. made.session.0 ≡ session) (entries_of_step outcome.step) → StaysInStep (asked_of engine h.state session (locals session)) outcome → HoldsAllInStep (engine_after_answer engine outcome.step) (with_local session outcome.local locals)
-all_held_after holds engine locals session outcome h lawful built types own step = record {
+all_held_after engine locals session outcome h lawful built types own step = record {
   state = state_after_all h.state (entries_of_step outcome.step);
-  holds = held_after holds engine h.state outcome.step h.holds lawful built types;
+  holds = held_after engine h.state outcome.step h.holds lawful built types;
   in_step = all_in_step (asked_of engine h.state session (locals session)) outcome (record { base = h.holds.base; dropped = h.holds.dropped; kept = h.holds.kept; is_history = h.holds.reached.history }) lawful own step locals h.in_step;
 }
 
@@ -141,7 +137,7 @@ StepHasRoom =
     (engine : EngineState) (state : DatabaseState) (step : Step) → HoldsState engine state → AreLawful state (entries_of_step (Some step)) → AllMakeBuilt (entries_of_step (Some step)) → AreOfTheirTypes (entries_of_step (Some step))
     → HasRoomForEnds engine → HasRoomForEnds (engine_after_step engine step)
 
-pub room_after : StepHasRoom → (engine : EngineState) (state : DatabaseState) (o : Option Step) → HoldsState engine state → AreLawful state (entries_of_step o) → AllMakeBuilt (entries_of_step o) → AreOfTheirTypes (entries_of_step o)
+pub room_after : (engine : EngineState) (state : DatabaseState) (o : Option Step) → HoldsState engine state → AreLawful state (entries_of_step o) → AllMakeBuilt (entries_of_step o) → AreOfTheirTypes (entries_of_step o)
     → HasRoomForEnds engine → HasRoomForEnds (engine_after_answer engine o)
-room_after leaves engine state None h lawful built types room = room
-room_after leaves engine state (Some step) h lawful built types room = leaves engine state step h lawful built types room
+room_after engine state None h lawful built types room = room
+room_after engine state (Some step) h lawful built types room = step_has_room engine state step h lawful built types room
