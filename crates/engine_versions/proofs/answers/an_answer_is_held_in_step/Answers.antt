@@ -24,7 +24,7 @@ returns-clause-in_step c = λ engine session local request h built.
       holds =
           held_after engine h.state (answer asked request).step h.holds (answer_lawful one_entry keys_rise engine h.state h.holds session local request h.in_step built)
           (answer_built asked request built) (answer_typed asked request (built_amount request built) h.in_step.updates);
-      in_step = answer_in_step one_entry keys_rise c.local_calls_keep_well_formed.ensures engine h.state h.holds session local request h.in_step built;
+      in_step = answer_in_step one_entry keys_rise engine h.state h.holds session local request h.in_step built;
     }
 
 pub returns-clause-all : goal.returns-clause-all
@@ -32,7 +32,7 @@ returns-clause-all c = λ engine locals session request h built.
     let asked : Asked = asked_of engine h.state session (locals session) in
     all_held_after engine locals session (answer asked request) h (answer_lawful one_entry keys_rise engine h.state h.holds session (locals session) request (h.in_step session) built)
     (answer_built asked request built) (answer_typed asked request (built_amount request built) (h.in_step session).updates) (answer_own asked request built)
-    (answer_in_step one_entry keys_rise c.local_calls_keep_well_formed.ensures engine h.state h.holds session (locals session) request (h.in_step session) built)
+    (answer_in_step one_entry keys_rise engine h.state h.holds session (locals session) request (h.in_step session) built)
 
 pub returns-clause-room : goal.returns-clause-room
 returns-clause-room c = λ engine state h session local request step built room.

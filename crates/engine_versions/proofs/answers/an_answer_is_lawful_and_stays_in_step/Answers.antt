@@ -7,4 +7,4 @@ pub returns-clause-lawful : goal.returns-clause-lawful
 returns-clause-lawful c = answer_lawful one_entry keys_rise
 
 pub returns-clause-in_step : goal.returns-clause-in_step
-returns-clause-in_step c = answer_in_step one_entry keys_rise c.local_calls_keep_well_formed.ensures
+returns-clause-in_step c = answer_in_step one_entry keys_rise
