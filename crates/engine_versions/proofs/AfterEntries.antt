@@ -1,5 +1,5 @@
 -- The engine after an entry, after a clean and after a step.
-use Rattle.std.proofs.Common.{◌≡◌, ℕ, ◌+◌, ◌-◌, ◌≤◌, Bool, true, false, cond, List, [], ◌∷◌, map, None, refl, sym, ap, subst, ◌∙◌, inr, arith}
+use Rattle.std.proofs.Common.{◌≡◌, ℕ, ◌+◌, ◌-◌, ◌≤◌, Bool, true, false, cond, List, [], ◌∷◌, None, refl, sym, ap, subst, ◌∙◌, inr, arith}
 use Rattle.std.specs.Prelude.{nat_lt}
 use Rattle.column_set.specs.declared.changes.Change.{Change}
 use Rattle.column_set.specs.declared.changes.Change.TheVariants.{Put, Drop, Hold, Add}
@@ -12,11 +12,12 @@ use Rattle.database_state.specs.Step.{applied, entry_by, innermost_undone, is_at
 use Rattle.database_state.specs.Lawful.{is_lawful}
 use Rattle.version_history.specs.KeptSteps.{base_after, dropped_after, kept_after, with_next_number}
 use Rattle.version_history.proofs.Labels.{labels_rise}
-use Rattle.version_keys.proofs.BookmarkKeys.{HasOneEntry}
+use Rattle.version_keys.proofs.OneEntry.{one_entry}
 use Rattle.version_records.specs.RecordNumbers.{HasItsType}
 use Rattle.version_records.specs.StoredRecords.{leaves_records_short}
 use Rattle.version_records.proofs.StoredSums.{stored_kept_with_sums}
-use Rattle.version_cleanup.specs.LiveSessions.{levels_in, live_state, sessions_after}
+use Rattle.version_cleanup.specs.LiveSessions.{levels_in, sessions_after}
+use Rattle.version_cleanup.specs.SessionLaws.{entries-alike}
 use Rattle.versioned_tables.specs.HeldRecords.{is_open_at}
 use Rattle.versioned_tables.specs.VersionedTables.{with_changes_undone, with_level_released, with_session_committed}
 use Rattle.versioned_tables.specs.Holding.{Holds}
@@ -131,17 +132,12 @@ short_of (entry.Schema (step.CreateIndex table rule)) e = refl
 short_of (entry.Schema (step.DeleteIndex table index)) e = refl
 short_of _ e = refl
 
--- the law that an entry changes the sessions alike
-abbrev pub ChangesSessionsAlike : Type 0
-ChangesSessionsAlike =
-    (state : DatabaseState) (made : Entry) → map live_state (state_after state made).sessions ≡ sessions_after (state.number + 1) made.session.0 made.kind (map live_state state.sessions)
-
-pub entry_holds : HasOneEntry → ChangesSessionsAlike → (engine : EngineState) (state : DatabaseState) (made : Entry) → HoldsState engine state → is_lawful state made ≡ true → makes_built made.kind ≡ true → HasItsType made.kind
+pub entry_holds : (engine : EngineState) (state : DatabaseState) (made : Entry) → HoldsState engine state → is_lawful state made ≡ true → makes_built made.kind ≡ true → HasItsType made.kind
     → HoldsState (engine_after engine made) (state_after state made)
 unfolding state_after
-entry_holds one alike engine state made h e built type =
+entry_holds engine state made h e built type =
     let session = made.session.0 in
-    let reached : IsReached (base_after state made.kind h.base) (dropped_after made.kind h.dropped h.kept) (kept_after state session made.kind h.kept) (state_after state made) = reaches one h.base h.dropped h.kept state made h.reached e type in
+    let reached : IsReached (base_after state made.kind h.base) (dropped_after made.kind h.dropped h.kept) (kept_after state session made.kind h.kept) (state_after state made) = reaches one_entry h.base h.dropped h.kept state made h.reached e type in
     record {
       base = base_after state made.kind h.base;
       dropped = dropped_after made.kind h.dropped h.kept;
@@ -152,12 +148,12 @@ entry_holds one alike engine state made h e built type =
       number = number_after state session made.kind ∙ ap (λ (n : ℕ). n + 1) h.number;
       greatest = greatest_stays state session made.kind ∙ ap (λ (n : ℕ). greatest_after n made.kind) h.greatest;
       newest = newest_within engine.number engine.newest_put made.kind h.newest;
-      sessions = alike state made ∙ (λ i. sessions_after (h.number i + 1) session made.kind (h.sessions i));
+      sessions = entries-alike state made ∙ (λ i. sessions_after (h.number i + 1) session made.kind (h.sessions i));
       labels = labels_rise state made h.labels e;
       built = built_kept state made reached.order.ids e built h.built;
     }
 
-pub entries_hold : HasOneEntry → ChangesSessionsAlike → (engine : EngineState) (state : DatabaseState) (entries : List Entry) → HoldsState engine state → AreLawful state entries → AllMakeBuilt entries → AreOfTheirTypes entries → HoldsState (engine_after_all engine entries) (state_after_all state entries)
-entries_hold one alike engine state [] h lawful built types = h
-entries_hold one alike engine state (made ∷ entries) h lawful built types =
-    entries_hold one alike (engine_after engine made) (state_after state made) entries (entry_holds one alike engine state made h lawful.0 built.0 types.0) lawful.1 built.1 types.1
+pub entries_hold : (engine : EngineState) (state : DatabaseState) (entries : List Entry) → HoldsState engine state → AreLawful state entries → AllMakeBuilt entries → AreOfTheirTypes entries → HoldsState (engine_after_all engine entries) (state_after_all state entries)
+entries_hold engine state [] h lawful built types = h
+entries_hold engine state (made ∷ entries) h lawful built types =
+    entries_hold (engine_after engine made) (state_after state made) entries (entry_holds engine state made h lawful.0 built.0 types.0) lawful.1 built.1 types.1

@@ -37,7 +37,9 @@ use Rattle.built_calls.specs.BuiltTables.{AllMakeBuilt, is_unnumbered, is_built_
 use Rattle.engine_versions.specs.EngineState.{EngineState, HasRoomForEnds}
 use Rattle.engine_versions.specs.EngineSteps.{engine_after_answer, engine_after_step}
 use Rattle.engine_versions.specs.HoldsState.{HoldsAllInStep, HoldsState, asked_of, with_local}
-use Rattle.engine_versions.proofs.Preparing.{KeepWellFormed, column_is_set, copy_prepared, insert_prepared}
+use Rattle.engine_versions.proofs.Cleans.{step_holds}
+use Rattle.engine_versions.proofs.Preparing.{column_is_set, copy_prepared, insert_prepared}
+use Rattle.engine_versions.proofs.Room.{step_has_room}
 
 -- ---- lawful steps
 
@@ -76,62 +78,56 @@ answer_lawful one rise engine state h session local request step built = elim (t
 
 -- ---- the session's own state
 
-pub answer_in_step : HasOneEntry → KeysRise → KeepWellFormed → (engine : EngineState) (state : DatabaseState) → HoldsState engine state → (session : ℕ) (local : LocalState) (request : Request) → IsInStep state session local → is_built_request request ≡ true
+pub answer_in_step : HasOneEntry → KeysRise → (engine : EngineState) (state : DatabaseState) → HoldsState engine state → (session : ℕ) (local : LocalState) (request : Request) → IsInStep state session local → is_built_request request ≡ true
     → StaysInStep (asked_of engine state session local) (answer (asked_of engine state session local) request)
-answer_in_step one rise keeps engine state h session local call.BeginSession step b = session_begins (asked_of engine state session local) step
-answer_in_step one rise keeps engine state h session local call.EndSession step b = session_ends (asked_of engine state session local) step
-answer_in_step one rise keeps engine state h session local call.BeginTransaction step b = transaction_begins h.base h.dropped h.kept (asked_of engine state session local) h.reached.history step
-answer_in_step one rise keeps engine state h session local (call.CommitTransaction lazy) step b = commits (asked_of engine state session local) lazy step
-answer_in_step one rise keeps engine state h session local (call.Rollback all) step b = rolls_back (asked_of engine state session local) all step
-answer_in_step one rise keeps engine state h session local (call.CreateTable table) step b = table_created h.base h.dropped h.kept (asked_of engine state session local) table h.reached.history step
-answer_in_step one rise keeps engine state h session local (call.DeleteTable table) step b = table_deleted h.base h.dropped h.kept (asked_of engine state session local) table h.reached.history step
-answer_in_step one rise keeps engine state h session local (call.AddColumn table column kind flags) step b = column_added h.base h.dropped h.kept (asked_of engine state session local) table column kind flags h.reached.history step
-answer_in_step one rise keeps engine state h session local (call.DeleteColumn table column) step b = column_deleted h.base h.dropped h.kept (asked_of engine state session local) table column h.reached.history step
-answer_in_step one rise keeps engine state h session local (call.CreateIndex table index flags key_most segments conditions) step b =
+answer_in_step one rise engine state h session local call.BeginSession step b = session_begins (asked_of engine state session local) step
+answer_in_step one rise engine state h session local call.EndSession step b = session_ends (asked_of engine state session local) step
+answer_in_step one rise engine state h session local call.BeginTransaction step b = transaction_begins h.base h.dropped h.kept (asked_of engine state session local) h.reached.history step
+answer_in_step one rise engine state h session local (call.CommitTransaction lazy) step b = commits (asked_of engine state session local) lazy step
+answer_in_step one rise engine state h session local (call.Rollback all) step b = rolls_back (asked_of engine state session local) all step
+answer_in_step one rise engine state h session local (call.CreateTable table) step b = table_created h.base h.dropped h.kept (asked_of engine state session local) table h.reached.history step
+answer_in_step one rise engine state h session local (call.DeleteTable table) step b = table_deleted h.base h.dropped h.kept (asked_of engine state session local) table h.reached.history step
+answer_in_step one rise engine state h session local (call.AddColumn table column kind flags) step b = column_added h.base h.dropped h.kept (asked_of engine state session local) table column kind flags h.reached.history step
+answer_in_step one rise engine state h session local (call.DeleteColumn table column) step b = column_deleted h.base h.dropped h.kept (asked_of engine state session local) table column h.reached.history step
+answer_in_step one rise engine state h session local (call.CreateIndex table index flags key_most segments conditions) step b =
     index_created h.base h.dropped h.kept (asked_of engine state session local) table index flags key_most segments conditions h.reached.history step
-answer_in_step one rise keeps engine state h session local (call.DeleteIndex table index) step b = index_deleted h.base h.dropped h.kept (asked_of engine state session local) table index h.reached.history step
-answer_in_step one rise keeps engine state h session local (call.OpenTable cursor table) step b = opens (asked_of engine state session local) cursor table step h.reached.order
-answer_in_step one rise keeps engine state h session local (call.CloseTable cursor) step b = closes (asked_of engine state session local) cursor step
-answer_in_step one rise keeps engine state h session local (call.SetCurrentIndex cursor index) step b = chooses_index (asked_of engine state session local) cursor index step
-answer_in_step one rise keeps engine state h session local (call.Move cursor way) step b = moves (asked_of engine state session local) cursor way step
-answer_in_step one rise keeps engine state h session local (call.MakeKey cursor fresh value) step b = makes_keys (asked_of engine state session local) cursor fresh value step
-answer_in_step one rise keeps engine state h session local (call.Seek cursor seek) step b = seeks (asked_of engine state session local) cursor seek step
-answer_in_step one rise keeps engine state h session local (call.SetIndexRange cursor upper inclusive) step b = ranges (asked_of engine state session local) cursor upper inclusive step
-answer_in_step one rise keeps engine state h session local (call.RemoveIndexRange cursor) step b = unranges (asked_of engine state session local) cursor step
-answer_in_step one rise keeps engine state h session local (call.IndexRecordCount cursor most) step b = counts_entries (asked_of engine state session local) cursor most step
-answer_in_step one rise keeps engine state h session local (call.RetrieveKey cursor) step b = shows_key (asked_of engine state session local) cursor step
-answer_in_step one rise keeps engine state h session local (call.GetBookmark cursor) step b = shows_bookmark (asked_of engine state session local) cursor step
-answer_in_step one rise keeps engine state h session local (call.GotoBookmark cursor bookmark) step b = goes_to (asked_of engine state session local) cursor bookmark step
-answer_in_step one rise keeps engine state h session local (call.PrepareUpdate cursor prepare.Insert) step b = insert_prepared keeps engine state session local cursor h step
-answer_in_step one rise keeps engine state h session local (call.PrepareUpdate cursor prepare.InsertCopy) step b = copy_prepared engine state session local cursor h step
-answer_in_step one rise keeps engine state h session local (call.PrepareUpdate cursor prepare.Replace) step b = replaces h.base h.dropped h.kept (asked_of engine state session local) cursor h.reached
+answer_in_step one rise engine state h session local (call.DeleteIndex table index) step b = index_deleted h.base h.dropped h.kept (asked_of engine state session local) table index h.reached.history step
+answer_in_step one rise engine state h session local (call.OpenTable cursor table) step b = opens (asked_of engine state session local) cursor table step h.reached.order
+answer_in_step one rise engine state h session local (call.CloseTable cursor) step b = closes (asked_of engine state session local) cursor step
+answer_in_step one rise engine state h session local (call.SetCurrentIndex cursor index) step b = chooses_index (asked_of engine state session local) cursor index step
+answer_in_step one rise engine state h session local (call.Move cursor way) step b = moves (asked_of engine state session local) cursor way step
+answer_in_step one rise engine state h session local (call.MakeKey cursor fresh value) step b = makes_keys (asked_of engine state session local) cursor fresh value step
+answer_in_step one rise engine state h session local (call.Seek cursor seek) step b = seeks (asked_of engine state session local) cursor seek step
+answer_in_step one rise engine state h session local (call.SetIndexRange cursor upper inclusive) step b = ranges (asked_of engine state session local) cursor upper inclusive step
+answer_in_step one rise engine state h session local (call.RemoveIndexRange cursor) step b = unranges (asked_of engine state session local) cursor step
+answer_in_step one rise engine state h session local (call.IndexRecordCount cursor most) step b = counts_entries (asked_of engine state session local) cursor most step
+answer_in_step one rise engine state h session local (call.RetrieveKey cursor) step b = shows_key (asked_of engine state session local) cursor step
+answer_in_step one rise engine state h session local (call.GetBookmark cursor) step b = shows_bookmark (asked_of engine state session local) cursor step
+answer_in_step one rise engine state h session local (call.GotoBookmark cursor bookmark) step b = goes_to (asked_of engine state session local) cursor bookmark step
+answer_in_step one rise engine state h session local (call.PrepareUpdate cursor prepare.Insert) step b = insert_prepared engine state session local cursor h step
+answer_in_step one rise engine state h session local (call.PrepareUpdate cursor prepare.InsertCopy) step b = copy_prepared engine state session local cursor h step
+answer_in_step one rise engine state h session local (call.PrepareUpdate cursor prepare.Replace) step b = replaces h.base h.dropped h.kept (asked_of engine state session local) cursor h.reached
     (stored_seen_with_sums h.base h.dropped h.kept state h.reached.history h.reached.numbers h.stored session) step
-answer_in_step one rise keeps engine state h session local (call.PrepareUpdate cursor prepare.Cancel) step b = cancels (asked_of engine state session local) cursor step
-answer_in_step one rise keeps engine state h session local (call.SetColumn cursor column sequence value) step b = column_is_set keeps engine state session local cursor column sequence value h step
-answer_in_step one rise keeps engine state h session local (call.RetrieveColumn cursor column sequence copy most) step b = shows_value (asked_of engine state session local) cursor column sequence copy most step
-answer_in_step one rise keeps engine state h session local (call.Update cursor) step b = own_changes.updates one rise h.base h.dropped h.kept (asked_of engine state session local) cursor h.reached step
-answer_in_step one rise keeps engine state h session local (call.Delete cursor) step b = own_changes.deletes h.base h.dropped h.kept (asked_of engine state session local) cursor h.reached.history step
-answer_in_step one rise keeps engine state h session local (call.GetLock cursor) step b = own_changes.locks h.base h.dropped h.kept (asked_of engine state session local) cursor h.reached.history step
-answer_in_step one rise keeps engine state h session local (call.EscrowUpdate cursor column amount) step b = own_changes.sums h.base h.dropped h.kept (asked_of engine state session local) cursor column amount h.reached.history step
+answer_in_step one rise engine state h session local (call.PrepareUpdate cursor prepare.Cancel) step b = cancels (asked_of engine state session local) cursor step
+answer_in_step one rise engine state h session local (call.SetColumn cursor column sequence value) step b = column_is_set engine state session local cursor column sequence value h step
+answer_in_step one rise engine state h session local (call.RetrieveColumn cursor column sequence copy most) step b = shows_value (asked_of engine state session local) cursor column sequence copy most step
+answer_in_step one rise engine state h session local (call.Update cursor) step b = own_changes.updates one rise h.base h.dropped h.kept (asked_of engine state session local) cursor h.reached step
+answer_in_step one rise engine state h session local (call.Delete cursor) step b = own_changes.deletes h.base h.dropped h.kept (asked_of engine state session local) cursor h.reached.history step
+answer_in_step one rise engine state h session local (call.GetLock cursor) step b = own_changes.locks h.base h.dropped h.kept (asked_of engine state session local) cursor h.reached.history step
+answer_in_step one rise engine state h session local (call.EscrowUpdate cursor column amount) step b = own_changes.sums h.base h.dropped h.kept (asked_of engine state session local) cursor column amount h.reached.history step
 
 -- ---- what the engine holds then
 
--- the law that an engine holds the next state after a step
-abbrev pub StepHolds : Type 0
-StepHolds =
-    (engine : EngineState) (state : DatabaseState) (step : Step) → HoldsState engine state → AreLawful state (entries_of_step (Some step)) → AllMakeBuilt (entries_of_step (Some step)) → AreOfTheirTypes (entries_of_step (Some step))
-    → HoldsState (engine_after_step engine step) (state_after_all state (entries_of_step (Some step)))
-
-pub held_after : StepHolds → (engine : EngineState) (state : DatabaseState) (o : Option Step) → HoldsState engine state → AreLawful state (entries_of_step o) → AllMakeBuilt (entries_of_step o) → AreOfTheirTypes (entries_of_step o)
+pub held_after : (engine : EngineState) (state : DatabaseState) (o : Option Step) → HoldsState engine state → AreLawful state (entries_of_step o) → AllMakeBuilt (entries_of_step o) → AreOfTheirTypes (entries_of_step o)
     → HoldsState (engine_after_answer engine o) (state_after_all state (entries_of_step o))
-held_after holds engine state None h lawful built types = h
-held_after holds engine state (Some step) h lawful built types = holds engine state step h lawful built types
+held_after engine state None h lawful built types = h
+held_after engine state (Some step) h lawful built types = step_holds engine state step h lawful built types
 
-pub all_held_after : StepHolds → (engine : EngineState) (locals : ℕ → LocalState) (session : ℕ) (outcome : Outcome) (h : HoldsAllInStep engine locals) → HasLawfulStep h.state outcome → AllMakeBuilt (entries_of_step outcome.step) → AreOfTheirTypes (entries_of_step outcome.step)
+pub all_held_after : (engine : EngineState) (locals : ℕ → LocalState) (session : ℕ) (outcome : Outcome) (h : HoldsAllInStep engine locals) → HasLawfulStep h.state outcome → AllMakeBuilt (entries_of_step outcome.step) → AreOfTheirTypes (entries_of_step outcome.step)
     → AllByRecursion (λ made. made.session.0 ≡ session) (entries_of_step outcome.step) → StaysInStep (asked_of engine h.state session (locals session)) outcome → HoldsAllInStep (engine_after_answer engine outcome.step) (with_local session outcome.local locals)
-all_held_after holds engine locals session outcome h lawful built types own step = record {
+all_held_after engine locals session outcome h lawful built types own step = record {
   state = state_after_all h.state (entries_of_step outcome.step);
-  holds = held_after holds engine h.state outcome.step h.holds lawful built types;
+  holds = held_after engine h.state outcome.step h.holds lawful built types;
   in_step = all_in_step (asked_of engine h.state session (locals session)) outcome (record { base = h.holds.base; dropped = h.holds.dropped; kept = h.holds.kept; is_history = h.holds.reached.history }) lawful own step locals h.in_step;
 }
 
@@ -141,7 +137,7 @@ StepHasRoom =
     (engine : EngineState) (state : DatabaseState) (step : Step) → HoldsState engine state → AreLawful state (entries_of_step (Some step)) → AllMakeBuilt (entries_of_step (Some step)) → AreOfTheirTypes (entries_of_step (Some step))
     → HasRoomForEnds engine → HasRoomForEnds (engine_after_step engine step)
 
-pub room_after : StepHasRoom → (engine : EngineState) (state : DatabaseState) (o : Option Step) → HoldsState engine state → AreLawful state (entries_of_step o) → AllMakeBuilt (entries_of_step o) → AreOfTheirTypes (entries_of_step o)
+pub room_after : (engine : EngineState) (state : DatabaseState) (o : Option Step) → HoldsState engine state → AreLawful state (entries_of_step o) → AllMakeBuilt (entries_of_step o) → AreOfTheirTypes (entries_of_step o)
     → HasRoomForEnds engine → HasRoomForEnds (engine_after_answer engine o)
-room_after leaves engine state None h lawful built types room = room
-room_after leaves engine state (Some step) h lawful built types room = leaves engine state step h lawful built types room
+room_after engine state None h lawful built types room = room
+room_after engine state (Some step) h lawful built types room = step_has_room engine state step h lawful built types room

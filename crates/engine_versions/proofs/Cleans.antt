@@ -1,6 +1,5 @@
 -- The engine after a clean, and after a whole step.
 use Rattle.std.proofs.Common.{◌≡◌, ℕ, Bool, true, false, cond, List, [], ◌∷◌, ◌++◌, map, Option, Some, refl, sym, ◌∙◌}
-use Rattle.index_derive.specs.declared.log.Entry.{Entry}
 use Rattle.index_derive.specs.declared.log.Step.{Step}
 use Rattle.index_derive.specs.Steps.{entries_of_step}
 use Rattle.database_state.specs.Table.{Table}
@@ -14,6 +13,7 @@ use Rattle.version_records.specs.StoredRecords.{IsStored}
 use Rattle.version_records.proofs.StoredSums.{stored_cleaned_with_sums}
 use Rattle.version_store.specs.HeldChanges.{is_kept_status}
 use Rattle.version_cleanup.specs.LiveSessions.{live_state, oldest_begin}
+use Rattle.version_cleanup.specs.NeededLaws.{needed-kept}
 use Rattle.versioned_tables.specs.HeldRecords.{HeldRecord, from_oldest_kept}
 use Rattle.versioned_tables.specs.VersionedTables.{VersionedTables}
 use Rattle.versioned_tables.specs.Holding.{Holds, Matches}
@@ -23,8 +23,9 @@ use Rattle.lawful_answers.specs.LawfulSteps.{AreLawful, IsReached}
 use Rattle.lawful_answers.proofs.ReachedStates.{cleaned as reached_cleaned}
 use Rattle.built_calls.specs.BuiltTables.{AllMakeBuilt}
 use Rattle.engine_versions.specs.EngineState.{EngineState, cleaned}
-use Rattle.engine_versions.specs.EngineSteps.{cleaned_for, engine_after_all, engine_after_step, step_cleans}
+use Rattle.engine_versions.specs.EngineSteps.{cleaned_for, engine_after_step, step_cleans}
 use Rattle.engine_versions.specs.HoldsState.{HoldsState}
+use Rattle.engine_versions.proofs.AfterEntries.{entries_hold}
 
 -- what a clean leaves of the history of a state
 record HasStore (store : VersionedTables) (state : DatabaseState) : Type 0 where
@@ -77,9 +78,6 @@ clean_holds keeps engine state h =
 
 -- ---- a whole step
 
-abbrev pub EntriesHold : Type 0
-EntriesHold = (engine : EngineState) (state : DatabaseState) (entries : List Entry) → HoldsState engine state → AreLawful state entries → AllMakeBuilt entries → AreOfTheirTypes entries → HoldsState (engine_after_all engine entries) (state_after_all state entries)
-
 abbrev pub CleanHolds : Type 0
 CleanHolds = (engine : EngineState) (state : DatabaseState) → HoldsState engine state → HoldsState (cleaned engine) state
 
@@ -87,7 +85,7 @@ pub clean_for_holds : CleanHolds → (b : Bool) (engine : EngineState) (state : 
 clean_for_holds cleans true engine state h = cleans engine state h
 clean_for_holds cleans false engine state h = h
 
-pub step_holds : EntriesHold → CleanHolds → (engine : EngineState) (state : DatabaseState) (step : Step) → HoldsState engine state → AreLawful state (entries_of_step (Some step)) → AllMakeBuilt (entries_of_step (Some step)) → AreOfTheirTypes (entries_of_step (Some step))
+pub step_holds : (engine : EngineState) (state : DatabaseState) (step : Step) → HoldsState engine state → AreLawful state (entries_of_step (Some step)) → AllMakeBuilt (entries_of_step (Some step)) → AreOfTheirTypes (entries_of_step (Some step))
     → HoldsState (engine_after_step engine step) (state_after_all state (entries_of_step (Some step)))
-step_holds hold cleans engine state step h lawful built types =
-    hold (cleaned_for (step_cleans step) engine) state (entries_of_step (Some step)) (clean_for_holds cleans (step_cleans step) engine state h) lawful built types
+step_holds engine state step h lawful built types =
+    entries_hold (cleaned_for (step_cleans step) engine) state (entries_of_step (Some step)) (clean_for_holds (clean_holds needed-kept) (step_cleans step) engine state h) lawful built types

@@ -1,10 +1,9 @@
 -- Updates that a session prepares by itself, or copies, keep it in step.
-use Rattle.std.proofs.Common.{◌≡◌, ℕ, ◌≤◌, Bool, true, false, not, ◌&&◌, ◌||◌, cond, List, [], ◌∷◌, ◌++◌, map, Option, Some, None, refl, sym, ap, subst, ◌∙◌}
-use Rattle.std.specs.Prelude.{◌==◌, bytes_eq, find, is_none, nat_le, unwrap_or, IfSome}
-use Rattle.std.specs.List.{AllByRecursion, list_all}
-use Rattle.std.proofs.lemmas.Bool.{and_from, leb-true}
+use Rattle.std.proofs.Common.{◌≡◌, ℕ, ◌≤◌, true, false, not, ◌&&◌, ◌||◌, List, [], ◌++◌, map, Option, Some, None, refl, sym, ap, subst, ◌∙◌}
+use Rattle.std.specs.Prelude.{◌==◌, bytes_eq, is_none, nat_le, unwrap_or, IfSome}
+use Rattle.std.specs.List.{list_all}
+use Rattle.std.proofs.lemmas.Bool.{and_from, leb-true, not-false}
 use Rattle.jet_base.specs.declared.ids.CursorId.{CursorId}
-use Rattle.jet_base.specs.declared.replies.Jet.{Jet}
 use Rattle.jet_base.specs.declared.words.Given.{Given}
 use Rattle.jet_base.specs.declared.words.Prepare.TheVariants as prepare
 use Rattle.column_set.specs.declared.columns.Column.{Column}
@@ -13,7 +12,6 @@ use Rattle.record_edit.specs.SetColumn.{fields_after, set_refusals, size_refusal
 use Rattle.index_derive.specs.declared.rules.Schema.{Schema}
 use Rattle.database_state.specs.Table.{Table, row_at, schema_of, table_with_id}
 use Rattle.database_state.specs.Lawful.{keeps_escrow}
-use Rattle.database_state.specs.Refusals.{Refusals, first_refusal}
 use Rattle.database_state.specs.State.{DatabaseState}
 use Rattle.database_state.specs.View.{view}
 use Rattle.record_changes.specs.Records.{records_of}
@@ -22,25 +20,22 @@ use Rattle.version_records.specs.StoredRecords.{IsStored}
 use Rattle.version_records.specs.RecordNumbers.{HoldsNumbers}
 use Rattle.version_records.proofs.EscrowRecords.{numbers_seen}
 use Rattle.version_records.proofs.StoredSums.{IsStoredWithNumbers, stored_seen_with_sums}
-use Rattle.version_keys.proofs.SchemaKeys.{unrefused}
 use Rattle.common_lemmas.proofs.Found.{of_found}
 use Rattle.common_lemmas.proofs.Booleans.{and_left, and_right, impossible}
 use Rattle.common_lemmas.proofs.Lists.{all_stronger}
-use Rattle.common_lemmas.proofs.Numbers.{self_equal}
-use Rattle.session_local.specs.declared.request.Request.{Request}
 use Rattle.session_local.specs.declared.request.Request.TheVariants as call
 use Rattle.session_local.specs.Agreement.{IsStorable, MayReplace, replaced_in}
 use Rattle.session_local.specs.Calls.{answer}
-use Rattle.session_local.specs.LocalCalls.{is_answered_begun, is_answered_locally, is_begin}
 use Rattle.session_local.specs.Local.{LocalState, OpenCursor, PreparedUpdate, cursor_labelled, inserting, with_cursor}
-use Rattle.session_local.specs.Outcome.{Asked, Outcome, at_cursor, on_cursor, rows_seen, unless_refused}
+use Rattle.session_local.specs.Outcome.{Asked, rows_seen}
 use Rattle.session_local.specs.RecordCalls.{bookmark_at, current, on_column, on_prepared, prepare_copy, prepare_insert, prepared_refusals, record_at, set_column, set_column_in, with_sums_at_zero}
+use Rattle.session_local.specs.FormedLaws.{new_is_well_formed, set_is_well_formed}
+use Rattle.session_local.specs.FoundLaws.{by_number}
 use Rattle.session_local.specs.SessionSide.{are_distinct}
-use Rattle.session_local.specs.WellFormed.{IsWellFormed, is_well_formed_cursor, is_well_formed_record, is_well_formed_schema, number_of_column}
+use Rattle.session_local.specs.WellFormed.{is_well_formed_record, is_well_formed_schema, number_of_column}
 use Rattle.lawful_answers.specs.ColumnNumbers.{are_in_range, has_own_numbers, is_given_number}
 use Rattle.lawful_answers.proofs.ChangeSteps.{IsAtTable, at_its_table}
 use Rattle.lawful_answers.specs.EntryTypes.{HasRisingColumns}
-use Rattle.lawful_answers.proofs.Replies.{begun_each}
 use Rattle.lawful_answers.proofs.TableTests.{all_found}
 use Rattle.agreeing_sessions.specs.InStep.{IsInStep, StaysInStep}
 use Rattle.agreeing_sessions.proofs.Answering.{at_found, past, when_begun}
@@ -51,7 +46,7 @@ use Rattle.built_calls.specs.BuiltTables.{is_built_column, is_built_rule, is_bui
 use Rattle.built_calls.proofs.BuiltColumns.{its_sum}
 use Rattle.engine_versions.specs.EngineState.{EngineState}
 use Rattle.engine_versions.specs.HoldsState.{HoldsState, asked_of}
-use Rattle.engine_versions.proofs.WellFormed.{session_formed}
+use Rattle.engine_versions.proofs.WellFormed.{table_formed}
 use Rattle.engine_versions.proofs.ZeroSums.{all_kept, apart_from_sums, set_keeps_sums, set_leaves_sums, sums_kept, zeros_kept, zeros_stored, zeros_there}
 
 -- ---- columns that are built
@@ -71,6 +66,10 @@ columns_distinct engine state session local h c at =
     ∙ and_right (are_in_range at.table.greatest && list_all (is_given_number at.table.greatest) at.table.columns) (are_distinct (map number_of_column at.table.columns))
     (subst (λ (o : Option Table). IfSome o (λ t. has_own_numbers t ≡ true)) at.found (all_found has_own_numbers state.tables h.reached.columns c.cursor.table))
 
+schema_formed : (engine : EngineState) (state : DatabaseState) (session : ℕ) (local : LocalState) → HoldsState engine state → (c : OpenCursor) → IsAtTable (asked_of engine state session local) c → is_well_formed_schema c.schema ≡ true
+schema_formed engine state session local h c at =
+    ap is_well_formed_schema at.schema ∙ subst (λ (o : Option Table). IfSome o (λ t. is_well_formed_schema (schema_of t) ≡ true)) at.found (table_formed engine state h c.cursor.table)
+
 -- a well-formed record may be stored where it has every sum, as it may be stored
 storable_formed : (state : DatabaseState) (session : ℕ) (c : OpenCursor) (p : PreparedUpdate) → AreBuilt c.schema.columns → is_well_formed_record c.schema.columns p.values ≡ true → MayReplace state session c p.for
     → list_all (λ d. not d.escrow || has_value p.values d.id.0) c.schema.columns ≡ true → keeps_escrow c.schema.columns (replaced_in state session c p.for) p.values ≡ true → IsStorable state session c (Some p)
@@ -83,109 +82,58 @@ storable_formed state session c p built formed may there keeps = (
   may,
 )
 
--- ---- the cursor that was changed
-
-put_there : (test : OpenCursor → Bool) (label : ℕ) (c new : OpenCursor) (cursors : List OpenCursor) → find (λ o. o.label == label) cursors ≡ Some c → list_all test (map (λ o. cond (o.label == c.label) new o) cursors) ≡ true → test new ≡ true
-put_there test label c new [] e h = absurd (none e)
-  where
-    none : None ≡ Some c → ⊥
-    none e = cc
-put_there test label c new (x ∷ cursors) e h =
-    elim (x.label == label) as (λ b. cond b (Some x) (find (λ o. o.label == label) cursors) ≡ Some c → test new ≡ true) [
-      | true ↦ λ g. ap (λ (b : Bool). test (cond b new x)) (sym (ap (λ (o : OpenCursor). x.label == o.label) (sym (same x c g)) ∙ self_equal x.label))
-          ∙ and_left (test (cond (x.label == c.label) new x)) (list_all test (map (λ o. cond (o.label == c.label) new o) cursors)) h
-      | false ↦ λ g. put_there test label c new cursors g (and_right (test (cond (x.label == c.label) new x)) (list_all test (map (λ o. cond (o.label == c.label) new o) cursors)) h)
-    ] e
-  where
-    same : (a b : OpenCursor) → Some a ≡ Some b → a ≡ b
-    same a b e = cc
-
-record_formed : (local : LocalState) (label : ℕ) (c : OpenCursor) (p : PreparedUpdate) → cursor_labelled local label ≡ Some c → IsWellFormed (with_cursor local (record c { prepared = Some p })) → is_well_formed_record c.schema.columns p.values ≡ true
-record_formed local label c p e formed =
-    and_right (is_well_formed_schema c.schema) (is_well_formed_record c.schema.columns p.values) (put_there is_well_formed_cursor label c (record c { prepared = Some p }) local.cursors e formed)
-
 -- ---- calls that a session answers by itself
-
--- the law that they keep it well formed
-abbrev pub KeepWellFormed : Type 0
-KeepWellFormed = (asked : Asked) (request : Request) → is_answered_locally asked.local request ≡ true → IsWellFormed asked.local → IsWellFormed (answer asked request).local
-
--- an answer keeps the session in step where it keeps it well formed
-abbrev IfFormed : Asked → Outcome → Type 0
-IfFormed asked outcome = IsWellFormed outcome.local → StaysInStep asked outcome
-
-locally : (local : LocalState) (request : Request) → is_answered_begun local request ≡ true → is_begin request ≡ false → is_answered_locally local request ≡ true
-locally local request e f = by local.begun
-  where
-    by : (b : Bool) → elim b [ true ↦ is_answered_begun local request | false ↦ not (is_begin request) ] ≡ true
-    by true = e
-    by false = ap not f
 
 with_update : (engine : EngineState) (state : DatabaseState) (session : ℕ) (local : LocalState) → HoldsState engine state → IsInStep state session local → (label : ℕ) (c : OpenCursor) → cursor_labelled local label ≡ Some c → (p : PreparedUpdate) → MayReplace state session c p.for → ColumnsRise p.values
     → list_all (λ d. not d.escrow || has_value p.values d.id.0) c.schema.columns ≡ true → keeps_escrow c.schema.columns (replaced_in state session c p.for) p.values ≡ true
-    → IsWellFormed (with_cursor local (record c { prepared = Some p })) → IsInStep state session (with_cursor local (record c { prepared = Some p }))
+    → is_well_formed_record c.schema.columns p.values ≡ true → IsInStep state session (with_cursor local (record c { prepared = Some p }))
 with_update engine state session local h step label c e p may rise there keeps formed =
     prepared_in_step state session local label c (Some p) step e
-    (storable_formed state session (record c { prepared = Some p }) p (columns_built engine state session local h c (at_its_table (asked_of engine state session local) label c step.agrees e)) (record_formed local label c p e formed) may there keeps) rise
+    (storable_formed state session (record c { prepared = Some p }) p (columns_built engine state session local h c (at_its_table (asked_of engine state session local) label c step.agrees e)) formed may there keeps) rise
 
-unless_formed : (asked : Asked) → IsInStep asked.state asked.session asked.local → (refusal : Option Jet) (next : Unit {0} → Outcome) → IfFormed asked (next tt) → IfFormed asked (unless_refused asked refusal next)
-unless_formed asked step None next f = f
-unless_formed asked step (Some reply) next f = λ formed. step
-
-unless_past : (asked : Asked) → IsInStep asked.state asked.session asked.local → (refusals : Refusals) (next : Unit {0} → Outcome) → (AllByRecursion (λ refusal. refusal.0 ≡ false) refusals → IfFormed asked (next tt)) → IfFormed asked (unless_refused asked (first_refusal refusals) next)
-unless_past asked step refusals next f = elim (first_refusal refusals) as (λ o. first_refusal refusals ≡ o → IfFormed asked (unless_refused asked o next)) [
-  | None ↦ λ e. f (unrefused refusals (ap is_none e))
-  | Some reply ↦ λ e. λ formed. step
-] refl
-
-cursor_formed : (asked : Asked) → IsInStep asked.state asked.session asked.local → (label : ℕ) (next : OpenCursor → Outcome) → ((c : OpenCursor) → cursor_labelled asked.local label ≡ Some c → IfFormed asked (next c)) → IfFormed asked (at_cursor asked label next)
-cursor_formed asked step label next f = elim (cursor_labelled asked.local label) as (λ o. cursor_labelled asked.local label ≡ o → IfFormed asked (on_cursor asked o next)) [
-  | Some c ↦ λ e. f c e
-  | None ↦ λ e. λ formed. step
-] refl
-
-pub insert_prepared : KeepWellFormed → (engine : EngineState) (state : DatabaseState) (session : ℕ) (local : LocalState) (cursor : CursorId) → HoldsState engine state → IsInStep state session local
+pub insert_prepared : (engine : EngineState) (state : DatabaseState) (session : ℕ) (local : LocalState) (cursor : CursorId) → HoldsState engine state → IsInStep state session local
     → StaysInStep (asked_of engine state session local) (answer (asked_of engine state session local) (call.PrepareUpdate cursor prepare.Insert))
-insert_prepared keeps engine state session local cursor h step =
+insert_prepared engine state session local cursor h step =
     let asked = asked_of engine state session local in
-    begun_each (IfFormed asked) asked (call.PrepareUpdate cursor prepare.Insert)
-    (λ begun. cursor_formed asked step cursor.0 (prepare_insert asked) (λ c e. unless_formed asked step (first_refusal (prepared_refusals c)) _ (λ formed. with_update engine state session local h step cursor.0 c e _ tt (zeros_rise c.schema.columns [] tt) (zeros_there c.schema.columns []) (zeros_kept c.schema.columns []) formed)))
-    (λ begun. λ formed. step)
-    (keeps asked (call.PrepareUpdate cursor prepare.Insert) (locally local (call.PrepareUpdate cursor prepare.Insert) refl refl) (session_formed engine state h session local step))
+    when_begun asked (call.PrepareUpdate cursor prepare.Insert)
+    (λ begun. at_found asked step cursor.0 (prepare_insert asked) (λ c e. past asked step (prepared_refusals c) _ (λ r.
+    with_update engine state session local h step cursor.0 c e _ tt (zeros_rise c.schema.columns [] tt) (zeros_there c.schema.columns []) (zeros_kept c.schema.columns [])
+    (new_is_well_formed c.schema (schema_formed engine state session local h c (at_its_table asked cursor.0 c step.agrees e))))))
+    (λ begun. step)
 
 -- ---- columns that are set
 
 -- no sum is set
 column_set : (engine : EngineState) (state : DatabaseState) (session : ℕ) (local : LocalState) → HoldsState engine state → IsInStep state session local → (label : ℕ) (c : OpenCursor) → cursor_labelled local label ≡ Some c → (name : List ℕ) (sequence : ℕ) (value : Given) (p : PreparedUpdate)
-    → IsStorable state session c (Some p) → ColumnsRise p.values → (o : Option Column) → column_named c.schema.columns name ≡ o → IfFormed (asked_of engine state session local) (on_column (asked_of engine state session local) o (set_column_in (asked_of engine state session local) c p sequence value))
-column_set engine state session local h step label c e name sequence value p storable rise None found = λ formed. step
+    → IsStorable state session c (Some p) → ColumnsRise p.values → (o : Option Column) → column_named c.schema.columns name ≡ o → StaysInStep (asked_of engine state session local) (on_column (asked_of engine state session local) o (set_column_in (asked_of engine state session local) c p sequence value))
+column_set engine state session local h step label c e name sequence value p storable rise None found = step
 column_set engine state session local h step label c e name sequence value p storable rise (Some column) found =
     let asked = asked_of engine state session local in
     let values = values_after column.multi sequence (stored_value column value) (values_of p.values column.id.0) in
-    unless_past asked step (set_refusals column sequence value p.values) _ (λ refused.
-    let apart = apart_from_sums (λ o. bytes_eq o.name name) c.schema.columns column (columns_distinct engine state session local h c (at_its_table asked label c step.agrees e)) found refused.0 in
-    unless_formed asked step (first_refusal (size_refusals column sequence value p.values)) _
-    (λ formed. with_update engine state session local h step label c e (record p { values = fields_after column sequence value p.values }) storable.3
+    let distinct = columns_distinct engine state session local h c (at_its_table asked label c step.agrees e) in
+    past asked step (set_refusals column sequence value p.values) _ (λ refused.
+    let apart = apart_from_sums (λ o. bytes_eq o.name name) c.schema.columns column distinct found refused.0 in
+    past asked step (size_refusals column sequence value p.values) _ (λ small.
+    with_update engine state session local h step label c e (record p { values = fields_after column sequence value p.values }) storable.3
     (values_rise p.values column.id.0 values rise)
     (set_leaves_sums c.schema.columns p.values column.id.0 values apart (sums_kept p.values c.schema.columns (and_right _ _ storable.1)))
-    (set_keeps_sums c.schema.columns (replaced_in state session c p.for) p.values column.id.0 values apart storable.2) formed))
+    (set_keeps_sums c.schema.columns (replaced_in state session c p.for) p.values column.id.0 values apart storable.2)
+    (set_is_well_formed c.schema.columns column sequence value p.values (by_number (λ o. bytes_eq o.name name) c.schema.columns column distinct found)
+    (and_left (list_all (stands_in c.schema.columns) p.values) (list_all (λ column. not (is_kept_column column) || has_value p.values column.id.0) c.schema.columns) storable.1)
+    (record { fits = not-false _ refused.1.1.0; small = refused.1.1.1.0; size = small.0 }))))
 
-pub column_is_set : KeepWellFormed → (engine : EngineState) (state : DatabaseState) (session : ℕ) (local : LocalState) (cursor : CursorId) (name : List ℕ) (sequence : ℕ) (value : Given) → HoldsState engine state → IsInStep state session local
+pub column_is_set : (engine : EngineState) (state : DatabaseState) (session : ℕ) (local : LocalState) (cursor : CursorId) (name : List ℕ) (sequence : ℕ) (value : Given) → HoldsState engine state → IsInStep state session local
     → StaysInStep (asked_of engine state session local) (answer (asked_of engine state session local) (call.SetColumn cursor name sequence value))
-column_is_set keeps engine state session local cursor name sequence value h step =
-    begun_each (IfFormed asked) asked request
-    (λ begun. cursor_formed asked step cursor.0 (λ c. set_column asked c name sequence value) (λ c e. by c e c.prepared (of_found (λ c. IsStorable state session c c.prepared) (λ c. c.label == cursor.0) local.cursors c e step.agrees.prepared) (of_found (λ c. HasRisingColumns c.prepared) (λ c. c.label == cursor.0) local.cursors c e step.updates)))
-    (λ begun. λ formed. step)
-    (keeps asked request (locally local request refl refl) (session_formed engine state h session local step))
+column_is_set engine state session local cursor name sequence value h step =
+    when_begun asked (call.SetColumn cursor name sequence value)
+    (λ begun. at_found asked step cursor.0 (λ c. set_column asked c name sequence value) (λ c e. by c e c.prepared (of_found (λ c. IsStorable state session c c.prepared) (λ c. c.label == cursor.0) local.cursors c e step.agrees.prepared) (of_found (λ c. HasRisingColumns c.prepared) (λ c. c.label == cursor.0) local.cursors c e step.updates)))
+    (λ begun. step)
   where
     asked : Asked
     asked = asked_of engine state session local
 
-    request : Request
-    request = call.SetColumn cursor name sequence value
-
-    by : (c : OpenCursor) → cursor_labelled local cursor.0 ≡ Some c → (o : Option PreparedUpdate) → IsStorable state session c o → HasRisingColumns o → IfFormed asked (on_prepared asked o (λ p. on_column asked (column_named c.schema.columns name) (set_column_in asked c p sequence value)))
-    by c e None storable rise = λ formed. step
+    by : (c : OpenCursor) → cursor_labelled local cursor.0 ≡ Some c → (o : Option PreparedUpdate) → IsStorable state session c o → HasRisingColumns o → StaysInStep asked (on_prepared asked o (λ p. on_column asked (column_named c.schema.columns name) (set_column_in asked c p sequence value)))
+    by c e None storable rise = step
     by c e (Some p) storable rise = column_set engine state session local h step cursor.0 c e name sequence value p storable rise (column_named c.schema.columns name) refl
 
 -- ---- a copy

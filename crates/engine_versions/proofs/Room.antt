@@ -14,6 +14,7 @@ use Rattle.database_state.specs.Lawful.{has_number, has_open as has_open_in, is_
 use Rattle.version_history.specs.History.{EachTwo}
 use Rattle.version_cleanup.specs.declared.live.Transaction.{Transaction}
 use Rattle.version_cleanup.specs.LiveSessions.{LiveState, at_levels, began, ended, entered, left, levels_in, levels_of, live_state, lowered, new_session, opened, saved, session_in, sessions_after, shut, with_session}
+use Rattle.version_cleanup.specs.NeededLaws.{needed-kept}
 use Rattle.lawful_answers.specs.LawfulSteps.{AreLawful}
 use Rattle.version_records.specs.RecordNumbers.{HasItsType}
 use Rattle.lawful_answers.specs.EntryTypes.{AreOfTheirTypes}
@@ -21,7 +22,8 @@ use Rattle.built_calls.specs.BuiltTables.{AllMakeBuilt, makes_built}
 use Rattle.engine_versions.specs.EngineState.{EngineState, HasRoomForEnds, ends_in, ends_of}
 use Rattle.engine_versions.specs.EngineSteps.{cleaned_for, engine_after, engine_after_all, engine_after_step, step_cleans}
 use Rattle.engine_versions.specs.HoldsState.{HoldsState}
-use Rattle.engine_versions.proofs.Cleans.{CleanHolds, clean_for_holds}
+use Rattle.engine_versions.proofs.AfterEntries.{entry_holds}
+use Rattle.engine_versions.proofs.Cleans.{clean_for_holds, clean_holds}
 use Rattle.engine_versions.proofs.SessionTotals.{EndsBy, RisesTo, ends_by, grows, in_levels, inserted, le_self, left_fewer, level_of, levels_there, one_level, one_more_open, rise_told, shut_fewer, shut_no_more, two_levels}
 use Rattle.engine_versions.proofs.Sessions.{live_alike, session_alike}
 
@@ -206,19 +208,19 @@ entry_has_room engine state made h e room =
 abbrev pub EntryHolds : Type 0
 EntryHolds = (engine : EngineState) (state : DatabaseState) (made : Entry) → HoldsState engine state → is_lawful state made ≡ true → makes_built made.kind ≡ true → HasItsType made.kind → HoldsState (engine_after engine made) (state_after state made)
 
-pub entries_have_room : EntryHolds → (engine : EngineState) (state : DatabaseState) (entries : List Entry) → HoldsState engine state → AreLawful state entries → AllMakeBuilt entries → AreOfTheirTypes entries → HasRoomForEnds engine → HasRoomForEnds (engine_after_all engine entries)
-entries_have_room holds engine state [] h lawful built types room = room
-entries_have_room holds engine state (made ∷ entries) h lawful built types room =
-    entries_have_room holds (engine_after engine made) (state_after state made) entries (holds engine state made h lawful.0 built.0 types.0) lawful.1 built.1 types.1 (entry_has_room engine state made h lawful.0 room)
+pub entries_have_room : (engine : EngineState) (state : DatabaseState) (entries : List Entry) → HoldsState engine state → AreLawful state entries → AllMakeBuilt entries → AreOfTheirTypes entries → HasRoomForEnds engine → HasRoomForEnds (engine_after_all engine entries)
+entries_have_room engine state [] h lawful built types room = room
+entries_have_room engine state (made ∷ entries) h lawful built types room =
+    entries_have_room (engine_after engine made) (state_after state made) entries (entry_holds engine state made h lawful.0 built.0 types.0) lawful.1 built.1 types.1 (entry_has_room engine state made h lawful.0 room)
 
 clean_has_room : (b : Bool) (engine : EngineState) → HasRoomForEnds engine → HasRoomForEnds (cleaned_for b engine)
 clean_has_room true engine room = record { begun = room.begun; room = room.room }
 clean_has_room false engine room = room
 
-pub step_has_room : EntryHolds → CleanHolds → (engine : EngineState) (state : DatabaseState) (step : Step) → HoldsState engine state → AreLawful state (entries_of_step (Some step)) → AllMakeBuilt (entries_of_step (Some step)) → AreOfTheirTypes (entries_of_step (Some step)) → HasRoomForEnds engine
+pub step_has_room : (engine : EngineState) (state : DatabaseState) (step : Step) → HoldsState engine state → AreLawful state (entries_of_step (Some step)) → AllMakeBuilt (entries_of_step (Some step)) → AreOfTheirTypes (entries_of_step (Some step)) → HasRoomForEnds engine
     → HasRoomForEnds (engine_after_step engine step)
-step_has_room holds cleans engine state step h lawful built types room =
-    entries_have_room holds (cleaned_for (step_cleans step) engine) state (entries_of_step (Some step)) (clean_for_holds cleans (step_cleans step) engine state h) lawful built types (clean_has_room (step_cleans step) engine room)
+step_has_room engine state step h lawful built types room =
+    entries_have_room (cleaned_for (step_cleans step) engine) state (entries_of_step (Some step)) (clean_for_holds (clean_holds needed-kept) (step_cleans step) engine state h) lawful built types (clean_has_room (step_cleans step) engine room)
 
 pub number_at_most : (engine : EngineState) → HasRoomForEnds engine → engine.number ≤ 2 ^ 35 + 1
 number_at_most engine room = by engine.number (ends_in engine.sessions) (2 ^ 35 + 1) room.room

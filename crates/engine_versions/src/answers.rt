@@ -17,22 +17,13 @@ ghost use Rattle.engine_versions.specs.EngineState.{EngineState, HasRoomForEnds}
 ghost use Rattle.engine_versions.specs.EngineSteps.{engine_after_answer};
 ghost use Rattle.engine_versions.specs.HoldsState.{HoldsAllInStep, HoldsInStep, HoldsState, asked_of, with_local};
 
-use crate::entries::{a_lawful_step_makes_the_next_state, ends_always_find_room};
-use index_derive::entries_rise;
-use session_local::local_calls_keep_well_formed;
-use version_keys::a_primary_index_has_one_entry;
-
 /// The step of an answer is lawful, and the session that was answered stays in step.
 pub fn an_answer_is_lawful_and_stays_in_step()
     ensures lawful { (engine : EngineState) (state : DatabaseState) → HoldsState engine state → (session : ℕ) (local : LocalState) (request : Request) → IsInStep state session local → is_built_request request ≡ true
         → HasLawfulStep state (answer (asked_of engine state session local) request) }
     ensures in_step { (engine : EngineState) (state : DatabaseState) → HoldsState engine state → (session : ℕ) (local : LocalState) (request : Request) → IsInStep state session local → is_built_request request ≡ true
         → StaysInStep (asked_of engine state session local) (answer (asked_of engine state session local) request) }
-{
-    a_primary_index_has_one_entry();
-    entries_rise();
-    local_calls_keep_well_formed();
-}
+{}
 
 /// The entries of an answer make only what is built, are of the session that was answered, and are as their types have them.
 pub fn an_answer_makes_what_is_built()
@@ -53,9 +44,4 @@ pub fn an_answer_is_held_in_step()
         → HoldsInStep (engine_after_answer engine (answer (asked_of engine h.state session local) request).step) session (answer (asked_of engine h.state session local) request).local }
     ensures all { (engine : EngineState) (locals : ℕ → LocalState) (session : ℕ) (request : Request) (h : HoldsAllInStep engine locals) → is_built_request request ≡ true
         → HoldsAllInStep (engine_after_answer engine (answer (asked_of engine h.state session (locals session)) request).step) (with_local session (answer (asked_of engine h.state session (locals session)) request).local locals) }
-{
-    an_answer_is_lawful_and_stays_in_step();
-    an_answer_makes_what_is_built();
-    a_lawful_step_makes_the_next_state();
-    ends_always_find_room();
-}
+{}

@@ -15,9 +15,6 @@ ghost use Rattle.engine_versions.specs.EngineState.{EngineState, HasRoomForEnds,
 ghost use Rattle.engine_versions.specs.EngineSteps.{engine_after, engine_after_all, engine_after_step};
 ghost use Rattle.engine_versions.specs.HoldsState.{HoldsState};
 
-use version_cleanup::{entries_change_the_sessions_alike, needed_changes_are_kept};
-use version_keys::a_primary_index_has_one_entry;
-
 /// An engine that holds a state holds the next one after a lawful entry that makes only what is built and is as its type has it.
 /// So it does after entries that are lawful each in its turn.
 pub fn a_lawful_entry_makes_the_next_state()
@@ -25,26 +22,18 @@ pub fn a_lawful_entry_makes_the_next_state()
         → HoldsState (engine_after engine made) (state_after state made) }
     ensures many { (engine : EngineState) (state : DatabaseState) (entries : List Entry) → HoldsState engine state → AreLawful state entries → AllMakeBuilt entries → AreOfTheirTypes entries
         → HoldsState (engine_after_all engine entries) (state_after_all state entries) }
-{
-    a_primary_index_has_one_entry();
-    entries_change_the_sessions_alike();
-}
+{}
 
 /// A clean of the oldest held changes leaves the state that the engine holds.
 pub fn a_clean_leaves_the_state()
     ensures { (engine : EngineState) (state : DatabaseState) → HoldsState engine state → HoldsState (cleaned engine) state }
-{
-    needed_changes_are_kept();
-}
+{}
 
 /// So an engine holds the next state after a whole step.
 pub fn a_lawful_step_makes_the_next_state()
     ensures { (engine : EngineState) (state : DatabaseState) (step : Step) → HoldsState engine state → AreLawful state (entries_of_step (Some step)) → AllMakeBuilt (entries_of_step (Some step)) → AreOfTheirTypes (entries_of_step (Some step))
         → HoldsState (engine_after_step engine step) (state_after_all state (entries_of_step (Some step))) }
-{
-    a_lawful_entry_makes_the_next_state();
-    a_clean_leaves_the_state();
-}
+{}
 
 /// No more is to end than was begun, and so the number of the log has room for all ends: it stays below 2^36.
 pub fn ends_always_find_room()
@@ -54,7 +43,4 @@ pub fn ends_always_find_room()
     ensures step { (engine : EngineState) (state : DatabaseState) (step : Step) → HoldsState engine state → AreLawful state (entries_of_step (Some step)) → AllMakeBuilt (entries_of_step (Some step)) → AreOfTheirTypes (entries_of_step (Some step))
         → HasRoomForEnds engine → HasRoomForEnds (engine_after_step engine step) }
     ensures most { (engine : EngineState) → HasRoomForEnds engine → engine.number ≤ 2 ^ 35 + 1 }
-{
-    a_lawful_entry_makes_the_next_state();
-    a_clean_leaves_the_state();
-}
+{}

@@ -1,1 +1,2 @@
 pub mod LogState
+pub mod StreamLaws

@@ -12,7 +12,7 @@ use Rattle.built_calls.specs.BuiltTables.{AllMakeBuilt, makes_built}
 use Rattle.engine_versions.specs.EngineState.{EngineState}
 use Rattle.engine_versions.specs.EngineSteps.{engine_after_all}
 use Rattle.engine_versions.specs.HoldsState.{HoldsState}
-use Rattle.engine_versions.proofs.Cleans.{EntriesHold}
+use Rattle.engine_versions.proofs.AfterEntries.{entries_hold}
 use Rattle.log_grammar.specs.EntryBytes.{BeginsWithNone, IsCut, has_spelling}
 use Rattle.log_grammar.specs.EntryStreams.{Holds, HoldsFirst, stream_bytes, stream_fits}
 use Rattle.entry_log.specs.LogState.{KeptStream}
@@ -77,9 +77,9 @@ front_first laws opening entries engine stream log whole front behind cut read r
 
 -- ---- they are a log of their own
 
-first_logged : EntriesHold → (opening : DatabaseState) (entries : List Entry) (engine : EngineState) (stream : KeptStream) → HasLogged opening entries engine stream → (read others : List Entry) → entries ≡ read ++ others
+first_logged : (opening : DatabaseState) (entries : List Entry) (engine : EngineState) (stream : KeptStream) → HasLogged opening entries engine stream → (read others : List Entry) → entries ≡ read ++ others
     → (first : EngineState) → HoldsState first opening → HasLogged opening read (engine_after_all first read) (whole_stream read)
-first_logged many opening entries engine stream log read others split first h =
+first_logged opening entries engine stream log read others split first h =
     let lawful : AreLawful opening read = lawful_first opening read others (subst (AreLawful opening) split log.lawful) in
     let built : AllMakeBuilt read = all_first (λ made. makes_built made.kind ≡ true) read others (subst AllMakeBuilt split log.built) in
     let typed : AreOfTheirTypes read = all_first (λ made. HasItsType made.kind) read others (subst AreOfTheirTypes split log.typed) in
@@ -89,11 +89,11 @@ first_logged many opening entries engine stream log read others split first h =
       typed = typed;
       spelled = spelled_first read others (subst (λ (made : List Entry). stream_fits made ≡ true) split log.spelled);
       kept = record { within = omega arith; bytes_are = refl };
-      holds = many first opening read h lawful built typed;
+      holds = entries_hold first opening read h lawful built typed;
     }
 
-pub front_replayed : FrontLaws → EntriesHold → (opening : DatabaseState) (entries : List Entry) (engine : EngineState) (stream : KeptStream) → HasLogged opening entries engine stream → stream.from ≡ 0 → (front behind : List ℕ) → stream.bytes ≡ front ++ behind
+pub front_replayed : FrontLaws → (opening : DatabaseState) (entries : List Entry) (engine : EngineState) (stream : KeptStream) → HasLogged opening entries engine stream → stream.from ≡ 0 → (front behind : List ℕ) → stream.bytes ≡ front ++ behind
     → (read : List Entry) (rest : List ℕ) → Holds front read rest → (first : EngineState) → HoldsState first opening → HasLogged opening read (engine_after_all first read) (whole_stream read)
-front_replayed laws many opening entries engine stream log whole front behind cut read rest holds first h =
+front_replayed laws opening entries engine stream log whole front behind cut read rest holds first h =
     let is = front_first laws opening entries engine stream log whole front behind cut read rest holds in
-    first_logged many opening entries engine stream log read is.others is.split first h
+    first_logged opening entries engine stream log read is.others is.split first h

@@ -17,13 +17,16 @@ use Rattle.built_calls.specs.BuiltTables.{AllMakeBuilt, makes_built}
 use Rattle.engine_versions.specs.EngineState.{EngineState}
 use Rattle.engine_versions.specs.EngineSteps.{engine_after, engine_after_step}
 use Rattle.engine_versions.specs.HoldsState.{HoldsState}
-use Rattle.engine_versions.proofs.Answering.{StepHolds}
-use Rattle.engine_versions.proofs.Room.{EntryHolds}
+use Rattle.engine_versions.proofs.AfterEntries.{entry_holds}
+use Rattle.engine_versions.proofs.Cleans.{step_holds}
+use Rattle.held_states.proofs.EquivalentRuns.{held_entries}
 use Rattle.log_grammar.specs.EntryBytes.{BeginsWithNone, entry_bytes, has_spelling}
 use Rattle.log_grammar.specs.EntryStreams.{Holds, stream_bytes, stream_fits}
 use Rattle.entry_log.specs.LogState.{IsKeptOf, KeptStream, appended, empty_stream, stream_end, trimmed_to}
+use Rattle.entry_log.specs.StreamLaws.{first_stream, goes_on, trimmed_stream}
 use Rattle.loggable_steps.specs.Loggable.{is_loggable, made_by}
 use Rattle.loggable_steps.specs.Replays.{HasLogged}
+use Rattle.loggable_steps.proofs.Spelled.{entries_spelled}
 
 -- ---- runs one after the other
 
@@ -41,41 +44,32 @@ spelled-append (x ∷ xs) ys h g = let both = and_parts (has_spelling x) (stream
 
 -- ---- states that one engine holds take the same entries
 
-abbrev pub TakeTheSame : Type 0
-TakeTheSame = (engine : EngineState) (one other : DatabaseState) → HoldsState engine one → HoldsState engine other → (made : Entry) → is_lawful one made ≡ is_lawful other made
-
-lawful_alike : EntryHolds → TakeTheSame → (engine : EngineState) (one other : DatabaseState) → HoldsState engine one → HoldsState engine other → (entries : List Entry) → AllMakeBuilt entries → AreOfTheirTypes entries → AreLawful one entries → AreLawful other entries
-lawful_alike next same engine one other h g [] built typed lawful = tt
-lawful_alike next same engine one other h g (made ∷ entries) built typed lawful =
-    let first : is_lawful other made ≡ true = sym (same engine one other h g made) ∙ lawful.0 in (
+lawful_alike : (engine : EngineState) (one other : DatabaseState) → HoldsState engine one → HoldsState engine other → (entries : List Entry) → AllMakeBuilt entries → AreOfTheirTypes entries → AreLawful one entries → AreLawful other entries
+lawful_alike engine one other h g [] built typed lawful = tt
+lawful_alike engine one other h g (made ∷ entries) built typed lawful =
+    let first : is_lawful other made ≡ true = sym (held_entries engine one other h g made) ∙ lawful.0 in (
       first,
-      lawful_alike next same (engine_after engine made) (state_after one made) (state_after other made) (next engine one made h lawful.0 built.0 typed.0) (next engine other made g first built.0 typed.0) entries built.1 typed.1 lawful.1,
+      lawful_alike (engine_after engine made) (state_after one made) (state_after other made) (entry_holds engine one made h lawful.0 built.0 typed.0) (entry_holds engine other made g first built.0 typed.0) entries built.1 typed.1 lawful.1,
     )
 
 -- ---- a log goes on
 
-pub first_logged : IsKeptOf [] empty_stream → (opening : DatabaseState) (engine : EngineState) → HoldsState engine opening → HasLogged opening [] engine empty_stream
-first_logged none opening engine h = record { lawful = tt; built = tt; typed = tt; spelled = refl; kept = none; holds = h }
+pub first_logged : (opening : DatabaseState) (engine : EngineState) → HoldsState engine opening → HasLogged opening [] engine empty_stream
+first_logged opening engine h = record { lawful = tt; built = tt; typed = tt; spelled = refl; kept = first_stream; holds = h }
 
-abbrev pub KeptGoesOn : Type 0
-KeptGoesOn = (whole bytes : List ℕ) (stream : KeptStream) → IsKeptOf whole stream → IsKeptOf (whole ++ bytes) (appended bytes stream)
-
-abbrev pub AllSpelled : Type 0
-AllSpelled = (step : Step) → is_loggable (made_by step) ≡ true → stream_fits (entries_of_step (Some step)) ≡ true
-
-pub step_logged : EntryHolds → TakeTheSame → StepHolds → KeptGoesOn → AllSpelled → (opening : DatabaseState) (entries : List Entry) (engine : EngineState) (stream : KeptStream) → HasLogged opening entries engine stream
+pub step_logged : (opening : DatabaseState) (entries : List Entry) (engine : EngineState) (stream : KeptStream) → HasLogged opening entries engine stream
     → (state : DatabaseState) (step : Step) → HoldsState engine state → AreLawful state (entries_of_step (Some step)) → AllMakeBuilt (entries_of_step (Some step)) → AreOfTheirTypes (entries_of_step (Some step)) → is_loggable (made_by step) ≡ true
     → HasLogged opening (entries ++ entries_of_step (Some step)) (engine_after_step engine step) (appended (stream_bytes (entries_of_step (Some step))) stream)
-step_logged next same steps goes_on all opening entries engine stream log state step h lawful built typed loggable =
+step_logged opening entries engine stream log state step h lawful built typed loggable =
     let more : List Entry = entries_of_step (Some step) in
-    let own : AreLawful (state_after_all opening entries) more = lawful_alike next same engine state (state_after_all opening entries) h log.holds more built typed lawful in
+    let own : AreLawful (state_after_all opening entries) more = lawful_alike engine state (state_after_all opening entries) h log.holds more built typed lawful in
     record {
       lawful = lawful-append opening entries more log.lawful own;
       built = all_append (λ made. makes_built made.kind ≡ true) entries more log.built built;
       typed = all_append (λ made. HasItsType made.kind) entries more log.typed typed;
-      spelled = spelled-append entries more log.spelled (all step loggable);
+      spelled = spelled-append entries more log.spelled (entries_spelled step loggable);
       kept = subst (λ (whole : List ℕ). IsKeptOf whole (appended (stream_bytes more) stream)) (sym (flat_map-append entry_bytes entries more)) (goes_on (stream_bytes entries) (stream_bytes more) stream log.kept);
-      holds = subst (HoldsState (engine_after_step engine step)) (sym (state_after-append opening entries more)) (steps engine (state_after_all opening entries) step log.holds own built typed);
+      holds = subst (HoldsState (engine_after_step engine step)) (sym (state_after-append opening entries more)) (step_holds engine (state_after_all opening entries) step log.holds own built typed);
     }
 
 pub same_logged : (opening : DatabaseState) (entries : List Entry) (engine other : EngineState) (stream : KeptStream) → HasLogged opening entries engine stream → ((state : DatabaseState) → HoldsState engine state → HoldsState other state) → HasLogged opening entries other stream
@@ -88,16 +82,13 @@ same_logged opening entries engine other stream log same = record {
   holds = same (state_after_all opening entries) log.holds;
 }
 
-abbrev pub KeptTrims : Type 0
-KeptTrims = (whole : List ℕ) (position : ℕ) (stream : KeptStream) → IsKeptOf whole stream → position ≤ stream_end stream → IsKeptOf whole (trimmed_to position stream)
-
-pub trimmed_logged : KeptTrims → (opening : DatabaseState) (entries : List Entry) (engine : EngineState) (stream : KeptStream) (position : ℕ) → HasLogged opening entries engine stream → position ≤ stream_end stream → HasLogged opening entries engine (trimmed_to position stream)
-trimmed_logged trims opening entries engine stream position log le = record {
+pub trimmed_logged : (opening : DatabaseState) (entries : List Entry) (engine : EngineState) (stream : KeptStream) (position : ℕ) → HasLogged opening entries engine stream → position ≤ stream_end stream → HasLogged opening entries engine (trimmed_to position stream)
+trimmed_logged opening entries engine stream position log le = record {
   lawful = log.lawful;
   built = log.built;
   typed = log.typed;
   spelled = log.spelled;
-  kept = trims (stream_bytes entries) position stream log.kept le;
+  kept = trimmed_stream (stream_bytes entries) position stream log.kept le;
   holds = log.holds;
 }
 

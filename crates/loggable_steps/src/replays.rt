@@ -17,20 +17,6 @@ ghost use Rattle.entry_log.specs.LogState.{KeptStream, appended, empty_stream, s
 ghost use Rattle.loggable_steps.specs.Loggable.{is_loggable, made_by};
 ghost use Rattle.loggable_steps.specs.Replays.{HasLogged, IsCutLog, closed, opened_state, whole_stream};
 
-use crate::entries::lawful_steps_can_be_logged;
-use engine_versions::{
-    a_lawful_entry_makes_the_next_state, a_lawful_step_makes_the_next_state,
-    an_engine_of_tables_alone_holds_their_state,
-};
-use entry_log::what_is_kept_goes_on_with_its_stream;
-use held_states::states_that_one_engine_holds_answer_alike;
-use index_derive::entries_rise;
-use log_grammar::{
-    cut_bytes_begin_with_no_entry, fronts_of_streams_hold_the_first, streams_are_read_back,
-};
-use version_keys::a_primary_index_has_one_entry;
-use version_records::every_record_seen_is_stored;
-
 /// A log begins with an engine of any state, by no entry. It goes on by each step that is lawful in a state that the engine holds
 /// and whose entry can be written. Whatever leaves the states that the engine holds, as a clean does, leaves its log, and so does
 /// a trim.
@@ -43,13 +29,7 @@ pub fn a_log_goes_on_with_its_engine()
         → ((state : DatabaseState) → HoldsState engine state → HoldsState other state) → HasLogged opening entries other stream }
     ensures trimmed { (opening : DatabaseState) (entries : List Entry) (engine : EngineState) (stream : KeptStream) (position : ℕ) → HasLogged opening entries engine stream
         → position ≤ stream_end stream → HasLogged opening entries engine (trimmed_to position stream) }
-{
-    lawful_steps_can_be_logged();
-    a_lawful_entry_makes_the_next_state();
-    a_lawful_step_makes_the_next_state();
-    states_that_one_engine_holds_answer_alike();
-    what_is_kept_goes_on_with_its_stream();
-}
+{}
 
 /// The entries that are read back from the bytes of a whole log are those that were made, up to the last byte. So they are lawful
 /// in turn from the opening state, and their replay from there gives the state that the engine holds.
@@ -71,12 +51,7 @@ pub fn a_front_of_a_log_is_a_log_of_its_first_entries()
     ensures replay { (opening : DatabaseState) (entries : List Entry) (engine : EngineState) (stream : KeptStream) → HasLogged opening entries engine stream → stream.from ≡ 0
         → (front behind : List ℕ) → stream.bytes ≡ front ++ behind → (read : List Entry) (rest : List ℕ) → Holds front read rest
         → (first : EngineState) → HoldsState first opening → HasLogged opening read (engine_after_all first read) (whole_stream read) }
-{
-    a_lawful_entry_makes_the_next_state();
-    cut_bytes_begin_with_no_entry();
-    fronts_of_streams_hold_the_first();
-    streams_are_read_back();
-}
+{}
 
 /// An engine without sessions tells its state: the tables are the committed ones, and nothing of its past matters. Once it is
 /// cleaned it is the very engine that is made of these tables.
@@ -90,9 +65,4 @@ pub fn an_engine_without_sessions_tells_its_state()
 /// replayed goes on from there.
 pub fn a_closed_state_is_held_by_its_tables()
     ensures holds { (engine : EngineState) (state : DatabaseState) → HoldsState engine state → (limit newest : ℕ) → newest ≤ state.number → HoldsState (engine_of limit newest (closed state)) (closed state) }
-{
-    a_primary_index_has_one_entry();
-    entries_rise();
-    every_record_seen_is_stored();
-    an_engine_of_tables_alone_holds_their_state();
-}
+{}

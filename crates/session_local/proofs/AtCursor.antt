@@ -32,11 +32,12 @@ use Rattle.session_local.specs.Changing.{Changed, cursor_if, with_key, key_made_
 use Rattle.session_local.specs.SessionSide.{HeldState, label_of, are_distinct}
 use Rattle.session_local.specs.Holding.{begun_with_cursors}
 use Rattle.session_local.specs.WellFormed.{has_short_keys, is_well_formed_schema, is_well_formed_cursor, is_well_formed_update}
+use Rattle.session_local.specs.FormedLaws.{schema_parts}
 use Rattle.session_local.specs.FoundLaws.{by_number, labelled, values_of-counted, values_of-fit}
 use Rattle.session_local.proofs.Distinct.{found-position, set-position}
 use Rattle.common_lemmas.proofs.Found.{all_found}
 use Rattle.common_lemmas.proofs.Lists.{all_at}
-use Rattle.session_local.proofs.Kept.{schema_parts, schema_of_cursor, update_of_cursor, record_parts}
+use Rattle.session_local.proofs.Kept.{schema_of_cursor, update_of_cursor, record_parts}
 
 -- ---- MakeKey
 

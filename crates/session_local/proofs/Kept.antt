@@ -1,8 +1,7 @@
 -- What keeps a session's own state well formed.
-use Rattle.std.proofs.Common.{◌≡◌, ℕ, ◌≤◌, ◌==◌, Bool, true, false, cond, not, ◌&&◌, ◌||◌, List, [], ◌∷◌, ◌++◌, length, map, filter, Option, Some, None, refl, nat_le, nat_lt, is_some, is_none, if◌then◌else◌, arith}
+use Rattle.std.proofs.Common.{◌≡◌, ℕ, ◌≤◌, ◌==◌, Bool, true, false, cond, not, ◌&&◌, ◌||◌, List, [], ◌∷◌, ◌++◌, length, map, filter, Option, Some, None, refl, nat_le, nat_lt, is_some, is_none, if◌then◌else◌}
 use Rattle.std.specs.List.{list_all, AllByRecursion}
 use Rattle.std.specs.Prelude.{bytes_eq}
-use Rattle.std.proofs.lemmas.Bool.Decides.{nat_tests}
 use Rattle.std.proofs.lemmas.Bool.{and_from, and_parts, le-leb, leb-true, not-false}
 use Rattle.jet_base.specs.declared.replies.Jet.{Jet}
 use Rattle.jet_base.specs.declared.replies.Jet.TheVariants as jet
@@ -10,10 +9,10 @@ use Rattle.jet_base.specs.declared.words.Given.{Given}
 use Rattle.jet_base.specs.declared.words.Prepare.{Prepare}
 use Rattle.jet_base.specs.declared.words.Prepare.TheVariants as prepare
 use Rattle.jet_base.specs.ColumnType.{largest_value}
-use Rattle.jet_base.specs.Given.{given_fits, given_length, given_is_null, given_bytes}
+use Rattle.jet_base.specs.Given.{given_fits, given_length, given_is_null}
 use Rattle.column_set.specs.declared.columns.Column.{Column}
-use Rattle.column_set.specs.RecordValues.{RecordFields, values_of, column_named, column_of_id, value_fits, values_fit, record_size, is_kept_column, has_value, stands_in}
-use Rattle.record_edit.specs.SetColumn.{refusal_in_column, stored_value, values_after, fields_after}
+use Rattle.column_set.specs.RecordValues.{RecordFields, values_of, column_named, record_size, is_kept_column, has_value, stands_in}
+use Rattle.record_edit.specs.SetColumn.{refusal_in_column, values_after, fields_after}
 use Rattle.index_derive.specs.declared.rules.Schema.{Schema}
 use Rattle.cursor_nav.specs.Navigation.{Navigated}
 use Rattle.cursor_nav.specs.MakingKeys.{key_made}
@@ -24,31 +23,16 @@ use Rattle.database_state.specs.Table.{Table, schema_of, table_with_id}
 use Rattle.database_state.specs.State.{DatabaseState}
 use Rattle.session_local.specs.Agreement.{HasSchemaOf, IsStorable, Agrees}
 use Rattle.session_local.specs.Local.{LocalState, OpenCursor, PreparedUpdate, no_session, cursor_labelled, with_new_cursor, without_cursor, without_prepared, unprepared}
-use Rattle.session_local.specs.SessionSide.{are_distinct}
 use Rattle.session_local.specs.Finishing.{Decided, after_step, begun_with, is_release, with_update_on, with_update_at, with_opened, with_copied, opened_cursor, finished}
 use Rattle.session_local.specs.Navigating.{navigated_on}
 use Rattle.session_local.specs.Changing.{Changed, cursor_if, insert_prepared_at, update_cancelled_at, update_prepared_at, new_update, value_set_in, value_set_on, changed_by, changed_unless, changed_to, refused_by, local_after}
-use Rattle.session_local.specs.WellFormed.{number_of_column, is_sum, is_long_if_sum, has_short_keys, is_well_formed_schema, is_well_formed_record, is_well_formed_update, is_well_formed_cursor, is_well_formed_table, is_well_formed_on, is_well_formed_copy, IsWellFormed}
-use Rattle.session_local.specs.FoundLaws.{by_number, values_of-fit}
-use Rattle.session_local.proofs.Fitting.{fits_if, value_fits-given_bytes, values_after-fit}
+use Rattle.session_local.specs.WellFormed.{is_well_formed_schema, is_well_formed_record, is_well_formed_update, is_well_formed_cursor, is_well_formed_table, is_well_formed_on, is_well_formed_copy, IsWellFormed}
+use Rattle.session_local.specs.FormedLaws.{IsSettable, new_is_well_formed, schema_parts, set_is_well_formed}
+use Rattle.session_local.specs.FoundLaws.{by_number}
 use Rattle.common_lemmas.proofs.Found.{all_found}
 use Rattle.common_lemmas.proofs.Lists.{all_filtered}
-use Rattle.session_local.proofs.Records.{stands-in, all_with_values, sums_at_zero-stand, sums_at_zero-small}
 
--- ---- the parts of a schema
-
-pub record SchemaParts (schema : Schema) : Type 0 where
-  pub distinct : are_distinct (map number_of_column schema.columns) ≡ true
-  pub long : list_all is_long_if_sum schema.columns ≡ true
-  pub few : nat_le (length (filter is_sum schema.columns)) 127 ≡ true
-  pub short : list_all has_short_keys schema.indexes ≡ true
-
-pub schema_parts : (schema : Schema) → is_well_formed_schema schema ≡ true → SchemaParts schema
-schema_parts schema h =
-    let last = and_parts (are_distinct (map number_of_column schema.columns) && list_all is_long_if_sum schema.columns && nat_le (length (filter is_sum schema.columns)) 127) (list_all has_short_keys schema.indexes) h in
-    let more = and_parts (are_distinct (map number_of_column schema.columns) && list_all is_long_if_sum schema.columns) (nat_le (length (filter is_sum schema.columns)) 127) last.0 in
-    let first = and_parts (are_distinct (map number_of_column schema.columns)) (list_all is_long_if_sum schema.columns) more.0 in
-    record { distinct = first.0; long = first.1; few = more.1; short = last.1 }
+-- ---- the parts of a cursor
 
 pub schema_of_cursor : (c : OpenCursor) → is_well_formed_cursor c ≡ true → is_well_formed_schema c.schema ≡ true
 schema_of_cursor c h = (and_parts (is_well_formed_schema c.schema) (is_well_formed_update c.schema.columns c.prepared) h).0
@@ -70,12 +54,7 @@ tested : (b : Bool) (reply : Jet) (rest : Option Jet) → cond b (Some reply) re
 tested false reply rest h = (refl, h)
 tested true reply rest h = cc
 
-pub record IsSettable (column : Column) (sequence : ℕ) (value : Given) (fields : RecordFields) : Type 0 where
-  pub fits : given_fits column.kind value ≡ true
-  pub small : nat_lt (largest_value column.kind) (given_length value) ≡ false
-  pub size : nat_lt 1700 (record_size (fields_after column sequence value fields)) ≡ false
-
-pub settable : (column : Column) (sequence : ℕ) (value : Given) (fields : RecordFields) → refusal_in_column column sequence value fields ≡ None → IsSettable column sequence value fields
+settable : (column : Column) (sequence : ℕ) (value : Given) (fields : RecordFields) → refusal_in_column column sequence value fields ≡ None → IsSettable column sequence value fields
 settable column sequence value fields h =
     let one = tested column.escrow jet.ColumnNotUpdatable _ h in
     let two = tested (not column.multi && nat_lt 1 sequence) jet.BadItagSequence _ one.1 in
@@ -84,27 +63,6 @@ settable column sequence value fields h =
     let five = tested (given_is_null value && column.not_null && (length (values_after column.multi sequence None (values_of fields column.id.0)) == 0)) jet.NullInvalid _ four.1 in
     let six = tested (nat_lt 1700 (record_size (fields_after column sequence value fields))) jet.RecordTooBig _ five.1 in
     record { fits = not-false _ three.0; small = four.0; size = six.0 }
-
-stored_fits : (column : Column) (value : Given) → given_fits column.kind value ≡ true → nat_lt (largest_value column.kind) (given_length value) ≡ false → fits_if (value_fits column.kind) (stored_value column value) ≡ true
-stored_fits column value fits small =
-    elim (given_is_null value) as (λ b. given_is_null value ≡ b → fits_if (value_fits column.kind) (if b then None else Some (given_bytes column.kind value)) ≡ true) [
-      | true ↦ λ e. refl
-      | false ↦ λ e. value_fits-given_bytes column.kind value fits small e
-    ] refl
-
-not_beyond : (m n : ℕ) → nat_lt n m ≡ false → nat_le m n ≡ true
-not_beyond m n h = grind (arith, nat_tests)
-
-pub set_is_well_formed : (columns : List Column) (column : Column) (sequence : ℕ) (value : Given) (fields : RecordFields) → column_of_id columns column.id.0 ≡ Some column → list_all (stands_in columns) fields ≡ true → refusal_in_column column sequence value fields ≡ None → is_well_formed_record columns (fields_after column sequence value fields) ≡ true
-set_is_well_formed columns column sequence value fields found all none =
-    let s = settable column sequence value fields none in
-    let old = values_of fields column.id.0 in
-    let new = values_after column.multi sequence (stored_value column value) old in
-    let fit : values_fit column new ≡ true =
-    values_after-fit (value_fits column.kind) column.multi sequence (stored_value column value) old (values_of-fit columns fields column.id.0 column all found) (stored_fits column value s.fits s.small) in
-    and_from (list_all (stands_in columns) (fields_after column sequence value fields)) (nat_le (record_size (fields_after column sequence value fields)) 1700)
-    (all_with_values columns fields column.id.0 new all (stands-in columns column.id.0 column new found fit))
-    (not_beyond (record_size (fields_after column sequence value fields)) 1700 s.size)
 
 -- ---- call by call
 
@@ -124,11 +82,7 @@ unless-kept (Some reply) c h = refl
 insert-kept : (c : OpenCursor) → is_well_formed_cursor c ≡ true → is_well_formed_if (insert_prepared_at c).cursor ≡ true
 insert-kept c h =
     let schema = schema_of_cursor c h in
-    let s = schema_parts c.schema schema in
-    let stand = sums_at_zero-stand c.schema.columns s.distinct s.long in
-    let small = sums_at_zero-small c.schema.columns (leb-true (length (filter is_sum c.schema.columns)) 127 s.few) in
-    let fit : is_well_formed_update c.schema.columns (Some (new_update c)) ≡ true =
-    and_from (list_all (stands_in c.schema.columns) (new_update c).values) (nat_le (record_size (new_update c).values) 1700) stand (le-leb (record_size (new_update c).values) 1700 small) in
+    let fit : is_well_formed_update c.schema.columns (Some (new_update c)) ≡ true = new_is_well_formed c.schema schema in
     elim (is_some c.prepared) as (λ b. is_well_formed_if (Changed.cursor (if b then refused_by jet.AlreadyPrepared else changed_to (record c { prepared = Some (new_update c) }))) ≡ true) [
       | true ↦ refl
       | false ↦ with_update c (Some (new_update c)) schema fit
@@ -155,7 +109,7 @@ value_in-kept c update name sequence value (Some column) h fit found =
     unless-kept (refusal_in_column column sequence value update.values)
     (record c { prepared = Some (record update { values = fields_after column sequence value update.values }) })
     (λ none. with_update c (Some (record update { values = fields_after column sequence value update.values })) schema
-    (set_is_well_formed c.schema.columns column sequence value update.values its (record_parts c.schema.columns update.values fit).0 none))
+    (set_is_well_formed c.schema.columns column sequence value update.values its (record_parts c.schema.columns update.values fit).0 (settable column sequence value update.values none)))
 
 value_on-kept : (c : OpenCursor) (name : List ℕ) (sequence : ℕ) (value : Given) (update : Option PreparedUpdate) → is_well_formed_cursor c ≡ true → c.prepared ≡ update → is_well_formed_if (value_set_on c name sequence value update).cursor ≡ true
 value_on-kept c name sequence value None h is = refl

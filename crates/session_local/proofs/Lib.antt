@@ -4,8 +4,7 @@ pub mod Distinct
 pub mod Updates
 pub mod Finishes
 pub mod Locals
-pub mod Fitting
-pub mod Records
+pub mod ColumnNumbers
 pub mod Kept
 pub mod Steps
 pub mod AtCursor

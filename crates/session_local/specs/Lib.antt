@@ -19,5 +19,8 @@ pub mod Deciding
 pub mod Navigating
 pub mod WellFormed
 pub mod FoundLaws
+pub mod FittingLaws
+pub mod RecordLaws
+pub mod FormedLaws
 pub mod Changing
 pub mod Showing

@@ -1,4 +1,4 @@
-use Rattle.entry_log.proofs.Streams.{ends_with, first_stream, goes_on, read_from, trimmed_stream}
+use Rattle.entry_log.specs.StreamLaws.{ends_with, first_stream, goes_on, read_from, trimmed_stream}
 use Rattle.entry_log.proofs.laws.what_is_kept_goes_on_with_its_stream.Goals as goal
 
 pub returns : goal.returns

@@ -2,9 +2,13 @@ use Rattle.std.proofs.Common.{refl}
 use Rattle.version_records.specs.Bookmarks.{StandsUnder}
 use Rattle.version_records.specs.RecordNumbers.{HoldsNumbers}
 use Rattle.version_records.specs.StoredRecords.{IsStored}
+use Rattle.derived_index.proofs.KeysRise.{keys_rise}
 use Rattle.version_keys.proofs.EscrowSums.{unseen_now}
+use Rattle.version_keys.proofs.OneEntry.{one_entry}
 use Rattle.version_records.proofs.EscrowRecords.{numbers_seen}
 use Rattle.version_records.proofs.Standing.{bookmarks_seen}
+use Rattle.version_records.proofs.StoredSums.{stored_seen_with_sums}
+use Rattle.engine_versions.proofs.Beginning.{tables_hold}
 use Rattle.loggable_steps.specs.Replays.{closed}
 use Rattle.loggable_steps.proofs.Closing.{KeyLaws, plain_tables, rows_have, still_in_order, unique_tables}
 use Rattle.loggable_steps.proofs.replays.a_closed_state_is_held_by_its_tables.Goals as goal
@@ -12,11 +16,11 @@ use Rattle.loggable_steps.proofs.replays.a_closed_state_is_held_by_its_tables.Go
 pub returns : goal.returns
 returns c = record {
   holds = λ engine state h limit newest within.
-      let keys : KeyLaws = record { one = c.a_primary_index_has_one_entry.ensures; rise = c.entries_rise.ensures } in
+      let keys : KeyLaws = record { one = one_entry; rise = keys_rise } in
       let sees = unseen_now h.base h.kept state h.reached.sums in
-      c.an_engine_of_tables_alone_holds_their_state.ensures.holds limit newest (closed state) within refl refl (still_in_order state h.reached.order) (unique_tables keys h.base h.dropped h.kept state h.reached) (plain_tables h.base h.kept state h.dropped h.reached)
+      tables_hold limit newest (closed state) within refl refl (still_in_order state h.reached.order) (unique_tables keys h.base h.dropped h.kept state h.reached) (plain_tables h.base h.kept state h.dropped h.reached)
       (rows_have StandsUnder state (bookmarks_seen h.base h.dropped h.kept state h.reached.history sees h.reached.bookmarks))
-      (rows_have IsStored state (c.every_record_seen_is_stored.ensures.with_sums h.base h.dropped h.kept state h.reached.history h.reached.numbers h.stored))
+      (rows_have IsStored state (stored_seen_with_sums h.base h.dropped h.kept state h.reached.history h.reached.numbers h.stored))
       (rows_have HoldsNumbers state (numbers_seen h.base h.dropped h.kept state h.reached.history h.reached.numbers))
       h.built h.reached.columns;
 }

@@ -1,7 +1,7 @@
 use Rattle.std.proofs.Common.{not, ◌&&◌, map, sym, ◌∙◌, ap}
 use Rattle.session_local.specs.SessionSide.{are_distinct}
 use Rattle.session_local.specs.WellFormed.{number_of_column}
-use Rattle.session_local.proofs.Records.{behind, distinct_cons}
+use Rattle.session_local.proofs.ColumnNumbers.{behind, distinct_cons}
 use Rattle.session_local.proofs.schemas.+are_distinct.Goals as goal
 
 pub returns-then-not-has_number : goal.returns-then-not-has_number

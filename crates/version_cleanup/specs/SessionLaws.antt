@@ -1,14 +1,16 @@
--- The sessions of a database state, entry by entry, without their snapshots.
+-- Laws of the sessions of a database state, entry by entry, without their snapshots.
 use Rattle.std.proofs.Common.{◌≡◌, ℕ, ◌+◌, ◌-◌, Bool, true, false, not, List, [], ◌∷◌, map, Option, Some, None, refl, sym, ap, ◌∙◌}
 use Rattle.std.specs.Prelude.{◌==◌, nat_lt, filter, find, option_map, option_and_then, if◌then◌else◌}
+use Rattle.index_derive.specs.declared.log.Entry.{Entry}
 use Rattle.index_derive.specs.declared.log.EntryKind.{EntryKind}
 use Rattle.index_derive.specs.declared.log.EntryKind.TheVariants as entry
 use Rattle.database_state.specs.State.{DatabaseState, LiveSession, Transaction as WholeTransaction, levels, levels_of as whole_levels_of, undone}
 use Rattle.database_state.specs.Step as step
+use Rattle.database_state.specs.Step.{state_after}
 use Rattle.version_cleanup.specs.declared.live.Transaction.{Transaction}
 use Rattle.version_cleanup.specs.LiveSessions.{LiveState, live_state, without_snapshot, with_session, session_in, levels_of, levels_in, insert_session, new_session, left, opened, shut, began, ended, at_levels, lowered, level_ended, sessions_after}
 
-abbrev pub changed : ℕ → (LiveSession → LiveSession) → List LiveSession → List LiveSession
+abbrev changed : ℕ → (LiveSession → LiveSession) → List LiveSession → List LiveSession
 changed label change sessions = map (λ s. if s.label == label then change s else s) sessions
 
 changed-alike : (label : ℕ) (whole : LiveSession → LiveSession) (change : LiveState → LiveState) (sessions : List LiveSession) → ((s : LiveSession) → live_state (whole s) ≡ change (live_state s)) → map live_state (changed label whole sessions) ≡ with_session label change (map live_state sessions)
@@ -88,7 +90,7 @@ undone-alike label state =
 entered-alike : (label : ℕ) (sessions : List LiveSession) → map live_state (step.insert_session (record { label = label; open_tables = []; transaction = None }) sessions) ≡ insert_session (new_session label) (map live_state sessions)
 entered-alike label sessions = inserted-alike (record { label = label; open_tables = []; transaction = None }) sessions
 
-pub sessions-alike : (state : DatabaseState) (label : ℕ) (kind : EntryKind) → map live_state (step.applied label kind state).sessions ≡ sessions_after state.number label kind (map live_state state.sessions)
+sessions-alike : (state : DatabaseState) (label : ℕ) (kind : EntryKind) → map live_state (step.applied label kind state).sessions ≡ sessions_after state.number label kind (map live_state state.sessions)
 sessions-alike state label entry.Enter = entered-alike label state.sessions
 sessions-alike state label entry.Leave = left-alike label (λ (s : LiveSession). record s { transaction = None }) state.sessions (λ (s : LiveSession). refl)
 sessions-alike state label (entry.Open table) = changed-alike label (λ (s : LiveSession). record s { open_tables = step.with_one table.0 s.open_tables }) (opened table.0) state.sessions (λ (s : LiveSession). refl)
@@ -102,3 +104,8 @@ sessions-alike state label entry.Undo = undone-alike label state
 sessions-alike state label entry.UndoAll = changed-alike label (λ (s : LiveSession). record s { transaction = None }) ended state.sessions (λ (s : LiveSession). refl)
 sessions-alike state label entry.Commit = changed-alike label (λ (s : LiveSession). record s { transaction = None }) ended state.sessions (λ (s : LiveSession). refl)
 sessions-alike state label (entry.Schema made) = refl
+
+-- so an entry does to the sessions what it does to them without their snapshots
+pub entries-alike : (state : DatabaseState) (made : Entry) → map live_state (state_after state made).sessions ≡ sessions_after (state.number + 1) made.session.0 made.kind (map live_state state.sessions)
+unfolding state_after
+entries-alike state made = sessions-alike (record state { number = state.number + 1 }) made.session.0 made.kind

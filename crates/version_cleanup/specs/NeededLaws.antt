@@ -1,4 +1,4 @@
--- A change is committed after the oldest begin exactly where some open transaction began before it.
+-- Laws of what is kept: a change is committed after the oldest begin exactly where some open transaction began before it.
 use Rattle.std.proofs.Common.{◌≡◌, ℕ, Bool, true, false, ◌||◌, List, [], ◌∷◌, map, Option, Some, None, refl, ap, ◌∙◌, arith}
 use Rattle.std.specs.Prelude.{nat_lt, min, option_map}
 use Rattle.std.specs.List.{list_any}
@@ -30,7 +30,7 @@ after-begin : (t : Option WholeTransaction) (number : ℕ) → is_after (option_
 after-begin None number = refl
 after-begin (Some t) number = refl
 
-pub after-oldest : (sessions : List LiveSession) (number : ℕ) → is_after (oldest_begin (map live_state sessions)) number ≡ list_any (λ s. is_after_begin s.transaction number) sessions
+after-oldest : (sessions : List LiveSession) (number : ℕ) → is_after (oldest_begin (map live_state sessions)) number ≡ list_any (λ s. is_after_begin s.transaction number) sessions
 after-oldest [] number = refl
 after-oldest (s ∷ sessions) number =
     after-lesser (begin_of (live_state s)) (oldest_begin (map live_state sessions)) number

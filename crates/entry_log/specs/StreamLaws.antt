@@ -1,4 +1,4 @@
--- A stream and what is kept of it.
+-- Laws of a stream and of what is kept of it.
 use Rattle.std.proofs.Common.{◌≡◌, ℕ, zero, suc, ◌+◌, ◌-◌, ◌≤◌, List, [], ◌∷◌, ◌++◌, drop, length, max, refl, sym, ap, ◌∙◌, arith}
 use Rattle.std.proofs.lemmas.List.{length-append, length-drop}
 use Rattle.entry_log.specs.LogState.{IsKeptOf, KeptStream, appended, bytes_from, empty_stream, stream_end, trimmed_to}

@@ -1,8 +1,7 @@
--- Records whose values stand under columns that take them.
-use Rattle.std.proofs.Common.{◌≡◌, ℕ, zero, suc, ◌+◌, ◌*◌, ◌≤◌, ◌==◌, Bool, true, false, cond, not, ◌&&◌, ◌||◌, List, [], ◌∷◌, length, map, filter, find, fold, Some, refl, sym, ap, ◌∙◌, sum_by, get_or, take, drop, ◌-◌, arith}
+-- Laws of records whose values stand under columns that take them.
+use Rattle.std.proofs.Common.{◌≡◌, ℕ, zero, ◌+◌, ◌*◌, ◌≤◌, ◌==◌, Bool, true, false, cond, not, ◌&&◌, ◌||◌, List, [], ◌∷◌, length, map, filter, fold, Some, refl, ap, ◌∙◌, sum_by, arith}
 use Rattle.std.specs.List.{list_all, list_any}
 use Rattle.std.specs.Ordering.{nat_cmp}
-use Rattle.std.specs.declared.cmp.Ordering.{Ordering}
 use Rattle.std.specs.declared.cmp.Ordering.TheVariants.{Less, Equal, Greater}
 use Rattle.std.specs.FinMap.{nat_cmp-IsAntisymmetric}
 use Rattle.std.specs.FinMap.Entries.{put as put_entry, by_order}
@@ -11,13 +10,13 @@ use Rattle.std.proofs.lemmas.Bool.{and_from, and_parts, not-true, or_parts}
 use Rattle.common_lemmas.proofs.Lists.{all_filtered}
 use Rattle.common_lemmas.proofs.Numbers.{self_equal, unequal_turned}
 use Rattle.column_set.specs.declared.columns.Column.{Column}
-use Rattle.column_set.specs.RecordValues.{RecordFields, with_values, column_of_id, value_fits, values_fit, size_of_value, size_of_values, record_size, stands_in}
+use Rattle.column_set.specs.RecordValues.{RecordFields, with_values, column_of_id, value_fits, values_fit, size_of_values, record_size, stands_in}
 use Rattle.database_state.specs.SchemaChanges.{is_type_long}
 use Rattle.session_local.specs.RecordCalls.{with_sums_at_zero}
 use Rattle.session_local.specs.SessionSide.{are_distinct}
 use Rattle.session_local.specs.WellFormed.{number_of_column, is_sum, is_long_if_sum}
 use Rattle.session_local.specs.FoundLaws.{taken}
-use Rattle.session_local.proofs.Fitting.{value_fits-zero}
+use Rattle.session_local.specs.FittingLaws.{value_fits-zero}
 
 -- ---- the values of a column
 
@@ -124,30 +123,3 @@ sums_at_zero-stand columns distinct long = all_zeros columns (filter is_sum colu
 
 pub sums_at_zero-small : (columns : List Column) → length (filter is_sum columns) ≤ 127 → record_size (with_sums_at_zero columns []) ≤ 1700
 sums_at_zero-small columns few = let size = size_zeros (filter is_sum columns) [] in omega (arith, size)
-
--- ---- one value of a column
-
-pub any_numbers : (number : ℕ) (columns : List Column) → list_any (λ other. other == number) (map number_of_column columns) ≡ list_any (λ column. column.id.0 == number) columns
-any_numbers number [] = refl
-any_numbers number (x ∷ xs) = ap (λ b. (x.id.0 == number) || b) (any_numbers number xs)
-
--- the columns behind the first, as the code has them
-abbrev pub behind : List Column → List Column
-behind columns = take (length columns - 1) (drop 1 columns)
-
-behind-cons : (x : Column) (xs : List Column) → behind (x ∷ xs) ≡ xs
-behind-cons x xs = let e : suc (length xs) - 1 ≡ length xs = omega arith in ap (λ n. take n xs) e ∙ whole xs
-  where
-    whole : (xs : List Column) → take (length xs) xs ≡ xs
-    whole [] = refl
-    whole (x ∷ xs) = ap (λ cs. x ∷ cs) (whole xs)
-
-pub distinct_cons : (columns : List Column) (first : Column) (again : Bool) → 1 ≤ length columns → first ≡ get_or columns 0 first → again ≡ list_any (λ column. column.id.0 == first.id.0) (behind columns) → are_distinct (map number_of_column columns) ≡ (not again && are_distinct (map number_of_column (behind columns)))
-distinct_cons [] first again some is told = absurd (omega (arith, some))
-distinct_cons (x ∷ xs) first again some is told =
-    let any : list_any (λ other. other == x.id.0) (map number_of_column xs) ≡ again =
-    any_numbers x.id.0 xs
-    ∙ ap (λ (c : Column). list_any (λ column. column.id.0 == c.id.0) xs) (sym is)
-    ∙ ap (λ (cs : List Column). list_any (λ column. column.id.0 == first.id.0) cs) (sym (behind-cons x xs))
-    ∙ sym told in
-    ap (λ b. not b && are_distinct (map number_of_column xs)) any ∙ ap (λ (cs : List Column). not again && are_distinct (map number_of_column cs)) (sym (behind-cons x xs))

@@ -1,15 +1,15 @@
--- Values that fit the type of their column.
+-- Laws of values that fit the type of their column.
 use Rattle.std.proofs.Common.{◌≡◌, ℕ, zero, suc, ◌*◌, ◌≤◌, ◌==◌, Bool, true, false, cond, ◌&&◌, ◌||◌, List, [], ◌∷◌, ◌++◌, length, map, replicate, Option, Some, None, refl, nat_le, nat_lt, remove, set, if◌then◌else◌, ◌-◌, arith}
-use Rattle.std.specs.Prelude.{ℤ, pos, negsuc, bytes_eq}
+use Rattle.std.specs.Prelude.{ℤ, pos, negsuc}
 use Rattle.std.specs.List.{list_all}
-use Rattle.std.proofs.lemmas.Bool.{and_from, and_parts, eqb-true, false≢true, leb-true}
+use Rattle.std.proofs.lemmas.Bool.{and_from, and_parts, eqb-true, false≢true}
 use Rattle.std.proofs.lemmas.Bool.Decides.{nat_tests}
 use Rattle.std.proofs.lemmas.List.{length-replicate}
 use Rattle.jet_base.specs.declared.words.Given.{Given}
 use Rattle.jet_base.specs.declared.words.Given.TheVariants.{Null, Number, Bytes, Fill}
 use Rattle.jet_base.specs.declared.words.ColType.{ColType}
 use Rattle.jet_base.specs.declared.words.ColType.TheVariants.{Bit, UnsignedByte, Short, UnsignedShort, Long, UnsignedLong, LongLong, Currency, Guid, Binary, Text, LongBinary, LongText}
-use Rattle.jet_base.specs.ColumnType.{little_endian, twos_complement, largest_value, is_number_type}
+use Rattle.jet_base.specs.ColumnType.{little_endian, twos_complement, largest_value}
 use Rattle.jet_base.specs.Given.{as_bit, as_stored, number_fits, width_fits, given_fits, given_bytes, given_length, given_is_null}
 use Rattle.column_set.specs.RecordValues.{value_fits}
 use Rattle.record_edit.specs.SetColumn.{is_place_of, values_after}
@@ -81,46 +81,6 @@ value_fits-given_bytes kind (Fill count byte) h most there =
 pub value_fits-zero : (kind : ColType) → is_type_long kind ≡ true → value_fits kind (0 ∷ 0 ∷ 0 ∷ 0 ∷ []) ≡ true
 value_fits-zero Long h = refl
 value_fits-zero _ h = cc
-
--- ---- the lengths of values that fit
-
-bit_length : (value : List ℕ) (b : ℕ) → bytes_eq value (b ∷ []) ≡ true → length value ≡ 1
-bit_length [] b h = cc
-bit_length (x ∷ []) b h = refl
-bit_length (x ∷ y ∷ rest) b h = let parts : ((x == b) ≡ true) × (false ≡ true) = and_parts _ _ h in cc (parts.1)
-
-either : (a b : Bool) (P : Type 0) → (a || b) ≡ true → (a ≡ true → P) → (b ≡ true → P) → P
-either true b P h one other = one refl
-either false b P h one other = other h
-
-pub number_length : (kind : ColType) (value : List ℕ) → is_number_type kind ≡ true → value_fits kind value ≡ true → length value ≡ largest_value kind
-number_length Bit value number h = either (bytes_eq value (0 ∷ [])) (bytes_eq value (1 ∷ [])) (length value ≡ 1) h (λ e. bit_length value 0 e) (λ e. bit_length value 1 e)
-number_length UnsignedByte value number h = eqb-true _ _ h
-number_length Short value number h = eqb-true _ _ h
-number_length UnsignedShort value number h = eqb-true _ _ h
-number_length Long value number h = eqb-true _ _ h
-number_length UnsignedLong value number h = eqb-true _ _ h
-number_length LongLong value number h = eqb-true _ _ h
-number_length Currency value number h = eqb-true _ _ h
-number_length Guid value number h = cc
-number_length Binary value number h = cc
-number_length Text value number h = cc
-number_length LongBinary value number h = cc
-number_length LongText value number h = cc
-
-sixteen : (n : ℕ) → (n == 16) ≡ true → n ≤ 1048576
-sixteen n h = let e : n ≡ 16 = eqb-true n 16 h in omega (arith, e)
-
-short : (n : ℕ) → nat_le n 255 ≡ true → n ≤ 1048576
-short n h = let e = leb-true n 255 h in omega (arith, e)
-
-pub bytes_length : (kind : ColType) (value : List ℕ) → is_number_type kind ≡ false → value_fits kind value ≡ true → length value ≤ 1048576
-bytes_length Guid value other h = sixteen (length value) h
-bytes_length Binary value other h = short (length value) h
-bytes_length Text value other h = short (length value) h
-bytes_length LongBinary value other h = leb-true (length value) 1048576 h
-bytes_length LongText value other h = leb-true (length value) 1048576 h
-bytes_length _ value other h = cc
 
 -- ---- values of a column after a new one
 
