@@ -63,6 +63,15 @@ shown_text reply (Number number) = codes " n:" ++ signed_decimal number
 shown_text reply (Count count) = codes " " ++ decimal count
 shown_text reply (Bytes bytes whole) = (if is_truncated reply then codes " " ++ decimal whole else []) ++ (codes " x:" ++ flat_map byte_digits bytes)
 
+-- what a line begins with: the number and the session, with a space between them
+abbrev pub line_head : ℕ → ℕ → List ℕ
+line_head n session = decimal n ++ codes " " ++ decimal session
+
+-- what stands behind that: the call and the answer, each behind a space, and byte 0A
+abbrev pub answer_behind_head : Request → Answered → List ℕ
+answer_behind_head request answered =
+    codes " " ++ call_name request ++ codes " " ++ jet_name answered.jet ++ shown_text answered.jet answered.shown ++ (10 ∷ [])
+
 -- a transcript line: the number, the session, the call and the answer, with a space between two of them, and byte 0A
 unfoldable pub answer_line : ℕ → ℕ → Request → Answered → List ℕ
 answer_line n session request answered =

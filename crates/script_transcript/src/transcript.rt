@@ -1,10 +1,11 @@
 //! A transcript: a text of lines, each of which says how a call was answered.
 
-ghost use Rattle.std.specs.Prelude.{◌≡◌, [], ◌+◌, ◌*◌, ◌≤◌, ◌++◌, length, OnOk, vec_len};
+ghost use Rattle.std.specs.Prelude.{◌≡◌, [], ◌+◌, ◌*◌, ◌≤◌, ◌<◌, ◌++◌, length, if◌then◌else◌, IsTrue, OnOk, vec_len};
 ghost use Rattle.jet_base.specs.JetName.{jet_name};
 ghost use Rattle.session_local.specs.Answer as answer;
-ghost use Rattle.session_local.specs.Answer.{shown_by};
-ghost use Rattle.script_transcript.specs.TranscriptLine.{shown_text, transcript_line, NamesNoMore};
+ghost use Rattle.session_local.specs.Answer.{answered_by, shown_by};
+ghost use Rattle.script_transcript.specs.TranscriptLine.{answer_behind_head, line_head, shown_text, transcript_line, NamesNoMore};
+ghost use Rattle.script_transcript.specs.Written.{BeginsWith};
 ghost use Rattle.std.specs.Vec.{vec_capacity};
 
 use crate::append::{append, append_hex, append_label, append_number, append_signed};
@@ -17,20 +18,34 @@ use std::marker::Model;
 /// The room in bytes that the longest line fits, with a value of 1,048,576 bytes in hexadecimal digits.
 pub const LINE_ROOM: usize = 2_097_408;
 
+/// What the bytes of a transcript begin with: the head of a line of this number and session, or nothing if it has no length.
+#[derive(Clone, Copy)]
+struct Head {
+    length: usize,
+    number: u64,
+    session: Session,
+}
+
 /// A text of transcript lines with room kept behind it.
+///
+/// Most lines of a run have the number and the session of the line before. So where the text is emptied, the head of its first
+/// line stays in its place, and serves the next line if that begins so too.
 #[derive(Drop)]
 pub struct Transcript {
-    text: Vec<u8>,
+    // The text, or where that is empty the head that is kept.
+    bytes: Vec<u8>,
+    empty: bool,
+    head: Head,
 }
 
 impl Model for Transcript {
-    ghost use Rattle.std.specs.Prelude.{◌-◌, vec_len};
-    ghost use Rattle.std.specs.Vec.{vec_capacity};
-    ghost use Rattle.script_transcript.specs.Written.{Written};
+    ghost use Rattle.script_transcript.specs.Written.{Written, written, KeepsItsHead};
 
     ghost Value = { Written };
 
-    ghost view = { λ a. record { text = a.text.items; room = vec_capacity a.text - vec_len a.text } };
+    ghost view = { written };
+
+    ghost invariant = { KeepsItsHead };
 }
 
 impl Transcript {
@@ -39,7 +54,13 @@ impl Transcript {
         ensures { result.text ≡ [] }
     {
         Transcript {
-            text: Vec::new(alloc),
+            bytes: Vec::new(alloc),
+            empty: true,
+            head: Head {
+                length: 0,
+                number: 0,
+                session: Session(0),
+            },
         }
     }
 
@@ -47,7 +68,10 @@ impl Transcript {
     pub fn text(&self) -> &[u8]
         ensures { result.now ≡ self.now.text }
     {
-        self.text.as_slice()
+        if self.empty {
+            return &[];
+        }
+        self.bytes.as_slice()
     }
 
     /// Makes room for one more line. The text stays, whatever the result.
@@ -56,13 +80,15 @@ impl Transcript {
         ensures room { OnOk result (LINE_ROOM ≤ self.new.room) }
         ensures grows { self.old.room ≤ self.new.room }
     {
-        self.text.reserve(LINE_ROOM)?;
+        let kept = if self.empty { self.head.length } else { 0 };
+        self.bytes.reserve(LINE_ROOM - kept)?;
         Ok(())
     }
 
     /// Appends the line that says how a call was answered. It takes no memory.
     ///
     /// `n` is the number of the call, and `bytes` the session's reply buffer, of which a reply's value names the front.
+    #[tactic(auto, using(crate::proofs::Heads::heads), unfolding(crate::specs::TranscriptLine::answer_line))]
     pub fn line(&mut self, n: u64, session: Session, request: &Request, reply: &Reply, bytes: &[u8])
         requires bytes { length bytes.now ≤ 1048576 }
         requires named { NamesNoMore reply.now (length bytes.now) }
@@ -71,7 +97,9 @@ impl Transcript {
         // What is written takes of the room, and nothing else does.
         ensures room { length self.old.text + self.old.room ≤ length self.new.text + self.new.room }
     {
-        append_line(&mut self.text, n, session, request, reply, bytes);
+        begin_line(&mut self.bytes, &mut self.head, self.empty, n, session);
+        self.empty = false;
+        append_answer(&mut self.bytes, request, reply, bytes);
     }
 
     /// Empties the text and keeps the room, that of the text's bytes included.
@@ -79,7 +107,8 @@ impl Transcript {
         ensures text { self.new.text ≡ [] }
         ensures room { length self.old.text + self.old.room ≤ self.new.room }
     {
-        self.text.clear();
+        self.bytes.truncate(self.head.length);
+        self.empty = true;
     }
 }
 
@@ -134,24 +163,74 @@ fn append_value(text: &mut Vec<u8>, reply: &Reply, bytes: &[u8])
     }
 }
 
-/// Puts a line at the end.
-#[tactic(auto, unfolding(crate::specs::TranscriptLine::answer_line))]
-fn append_line(
-    text: &mut Vec<u8>,
-    n: u64,
-    session: Session,
-    request: &Request,
-    reply: &Reply,
-    bytes: &[u8],
-)
-    requires bytes { length bytes.now ≤ 1048576 }
-    requires named { NamesNoMore reply.now (length bytes.now) }
-    requires room { vec_len text.old + LINE_ROOM ≤ vec_capacity text.old }
-    ensures items { text.new.items ≡ text.old.items ++ transcript_line n session.0 request.now reply.now bytes.now }
+/// Puts what a line begins with behind a text, whose bytes they are but where it is empty.
+#[tactic(auto, using(crate::proofs::Heads::heads))]
+#[inline(always)]
+fn begin_line(bytes: &mut Vec<u8>, head: &mut Head, empty: bool, number: u64, session: Session)
+    requires kept { BeginsWith head.old bytes.old.items }
+    requires short { head.old.length ≤ 41 }
+    requires within { head.old.length ≤ vec_len bytes.old }
+    requires empty { IsTrue empty → vec_len bytes.old ≡ head.old.length }
+    requires room { (if empty then 0 else vec_len bytes.old) + LINE_ROOM ≤ vec_capacity bytes.old }
+    ensures items { bytes.new.items ≡ (if empty then [] else bytes.old.items) ++ line_head number session.0 }
+    ensures kept { BeginsWith head.new bytes.new.items }
+    ensures short { head.new.length ≤ 41 }
+    ensures within { head.new.length ≤ vec_len bytes.new }
+    ensures len { vec_len bytes.new ≤ (if empty then 0 else vec_len bytes.old) + 41 }
+    ensures room { vec_capacity bytes.old ≤ vec_capacity bytes.new }
+{
+    if empty {
+        keep_head(bytes, head, number, session);
+    } else {
+        append_head(bytes, number, session);
+    }
+}
+
+/// Makes the bytes of an empty text the head of a line, which they may be.
+#[tactic(auto, using(crate::proofs::Heads::heads))]
+#[inline(always)]
+fn keep_head(bytes: &mut Vec<u8>, head: &mut Head, number: u64, session: Session)
+    requires kept { BeginsWith head.old bytes.old.items }
+    requires short { head.old.length ≤ 41 }
+    requires length { vec_len bytes.old ≡ head.old.length }
+    requires room { LINE_ROOM ≤ vec_capacity bytes.old }
+    ensures items { bytes.new.items ≡ line_head number session.0 }
+    ensures kept { BeginsWith head.new bytes.new.items }
+    ensures length { vec_len bytes.new ≡ head.new.length }
+    ensures short { vec_len bytes.new ≤ 41 }
+    ensures room { vec_capacity bytes.old ≤ vec_capacity bytes.new }
+{
+    if head.length == 0 || head.number != number || head.session.0 != session.0 {
+        bytes.clear();
+        append_head(bytes, number, session);
+        *head = Head {
+            length: bytes.len(),
+            number,
+            session,
+        };
+    }
+}
+
+/// Puts what a line begins with at the end, of at most 41 bytes.
+fn append_head(text: &mut Vec<u8>, number: u64, session: Session)
+    requires { vec_len text.old + 41 ≤ vec_capacity text.old }
+    ensures items { text.new.items ≡ text.old.items ++ line_head number session.0 }
+    ensures len { vec_len text.new ≤ vec_len text.old + 41 }
     ensures room { vec_capacity text.old ≤ vec_capacity text.new }
 {
-    append_number(text, n);
+    append_number(text, number);
     append_label(text, session.0);
+}
+
+/// Puts the rest of a line at the end.
+#[tactic(auto, unfolding(crate::specs::TranscriptLine::answer_line))]
+fn append_answer(text: &mut Vec<u8>, request: &Request, reply: &Reply, bytes: &[u8])
+    requires bytes { length bytes.now ≤ 1048576 }
+    requires named { NamesNoMore reply.now (length bytes.now) }
+    requires room { vec_len text.old + 2097367 ≤ vec_capacity text.old }
+    ensures items { text.new.items ≡ text.old.items ++ answer_behind_head request.now (answered_by reply.now bytes.now) }
+    ensures room { vec_capacity text.old ≤ vec_capacity text.new }
+{
     append(text, spaced_name_of_call(request).as_bytes());
     append_reply_name(text, reply.jet);
     append_value(text, reply, bytes);
