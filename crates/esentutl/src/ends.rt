@@ -13,10 +13,10 @@ ghost use Rattle.esentutl.specs.RunEnds.{RunEndsBy, RunsBy};
 
 use crate::reading::ReadScriptFault;
 use crate::report::{make_bad_line, make_last_line, say_only};
-use jet_base::{OutOfMemory, Session};
+use jet_base::OutOfMemory;
 use jet_io::Sink;
 use ordered_run::{LineFault, SessionEngine, run_lines};
-use session_local::Request;
+use script_text::ScriptCalls;
 use std::alloc::Global;
 
 /// Tells why a script is not run, by its line and its status. Want of memory has no line.
@@ -42,18 +42,13 @@ pub fn tell<K: Sink>(fault: ReadScriptFault, out: &mut K) -> u8
 }
 
 /// Runs the calls of a script over an empty database.
-pub fn run_script<K: Sink>(
-    alloc: Global,
-    limit: u64,
-    lines: &[(Session, Request)],
-    out: &mut K,
-) -> u8
-    requires { are_built (calls_of lines.now) ≡ true }
+pub fn run_script<K: Sink>(alloc: Global, limit: u64, calls: ScriptCalls, out: &mut K) -> u8
+    requires { are_built (calls_of calls) ≡ true }
     ensures { (ending : Ending) × (result ≡ status_of ending)
-        × RunsBy limit (calls_of lines.now) (K.taken out.old) (K.taken out.new) (K.faults out.old) (K.faults out.new) ending }
+        × RunsBy limit (calls_of calls) (K.taken out.old) (K.taken out.new) (K.faults out.old) (K.faults out.new) ending }
 {
     match SessionEngine::new(alloc, limit) {
-        Ok(mut engine) => run_over(alloc, &mut engine, lines, out),
+        Ok(mut engine) => run_over(alloc, &mut engine, calls, out),
         Err(OutOfMemory) => 7,
     }
 }
@@ -62,14 +57,14 @@ pub fn run_script<K: Sink>(
 fn run_over<K: Sink>(
     alloc: Global,
     engine: &mut SessionEngine,
-    lines: &[(Session, Request)],
+    calls: ScriptCalls,
     out: &mut K,
 ) -> u8
-    requires { IsReady (span_limit engine.old) engine.old (run_from empty_state) (calls_of lines.now) }
+    requires { IsReady (span_limit engine.old) engine.old (run_from empty_state) (calls_of calls) }
     ensures { (ending : Ending) × (result ≡ status_of ending)
-        × RunEndsBy (span_limit engine.old) (calls_of lines.now) engine.new (K.taken out.old) (K.taken out.new) (K.faults out.old) (K.faults out.new) ending }
+        × RunEndsBy (span_limit engine.old) (calls_of calls) engine.new (K.taken out.old) (K.taken out.new) (K.faults out.old) (K.faults out.new) ending }
 {
-    match run_lines(alloc, engine, lines, out) {
+    match run_lines(alloc, engine, calls, out) {
         Ok(()) => 0,
         Err(LineFault::Memory) => 7,
         Err(LineFault::Sink) => 6,

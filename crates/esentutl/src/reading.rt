@@ -6,10 +6,8 @@ ghost use Rattle.script_text.specs.Built.{are_built};
 ghost use Rattle.script_text.specs.Parsed.{calls_of};
 ghost use Rattle.esentutl.specs.Reading.{ReadsAs};
 
-use jet_base::Session;
 use jet_io::{ReadFault, Source, read_to_limit};
-use script_text::{ScriptFault, parse};
-use session_local::Request;
+use script_text::{ScriptCalls, ScriptFault, parse};
 use std::alloc::Global;
 use thiserror::Error;
 
@@ -34,20 +32,17 @@ pub enum ReadScriptFault {
 }
 
 /// Reads a script to its end, and its calls from it.
-pub fn read_script<S: Source>(
-    alloc: Global,
-    script: &mut S,
-) -> Result<Vec<(Session, Request)>, ReadScriptFault>
+pub fn read_script<S: Source>(alloc: Global, script: &mut S) -> Result<ScriptCalls, ReadScriptFault>
     ensures script { (text : List ℕ) × (S.left script.old ≡ prepend_known text (S.left script.new))
         × MatchResult result
-        (λ lines. ReadsAs (record { left_before = S.left script.old; left_after = S.left script.new; faults_before = S.faults script.old; faults_after = S.faults script.new }) text (Ok lines.items))
+        (λ calls. ReadsAs (record { left_before = S.left script.old; left_after = S.left script.new; faults_before = S.faults script.old; faults_after = S.faults script.new }) text (Ok calls))
         (λ e. ReadsAs (record { left_before = S.left script.old; left_after = S.left script.new; faults_before = S.faults script.old; faults_after = S.faults script.new }) text (Err e)) }
     // Each call is one that the engine answers, whatever stands before it.
-    ensures built { IfOk result (λ lines. are_built (calls_of lines.items) ≡ true) }
+    ensures built { IfOk result (λ calls. are_built (calls_of calls) ≡ true) }
 {
     match read_to_limit(alloc, script, SCRIPT_LIMIT) {
         Ok(text) => match parse(alloc, &text) {
-            Ok(lines) => Ok(lines),
+            Ok(calls) => Ok(calls),
             Err(ScriptFault::BadLine(line)) => Err(ReadScriptFault::BadLine(line)),
             Err(ScriptFault::OutOfMemory) => Err(ReadScriptFault::Memory),
         },

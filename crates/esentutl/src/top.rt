@@ -75,7 +75,7 @@ fn run_words<S: Source, K: Sink>(alloc: Global, words: &[String], script: &mut S
 {
     match form_of_words(words) {
         Form::OrderedRun(limit) => match read_script(alloc, script) {
-            Ok(lines) => run_script(alloc, limit, &lines, out),
+            Ok(calls) => run_script(alloc, limit, calls, out),
             Err(fault) => tell(fault, out),
         },
         Form::About(topic) => tell_about(topic, out),

@@ -20,6 +20,7 @@ use Rattle.ordered_run.specs.Outcomes.{is_plain, AreOutcomesOf, run_transcript, 
 use Rattle.ordered_run.specs.declared.session_engine.SessionEngine.{SessionEngine}
 use Rattle.ordered_run.specs.Serving.{IsReady}
 use Rattle.ordered_run.specs.Lines.{line_text, RunsLine, BreaksLine}
+use Rattle.ordered_run.specs.RunSoFar.{SoFar, BrokenOff, RunsOn, BreaksOff}
 use Rattle.ordered_run.proofs.Pieces.{append_twice}
 
 -- a line with its outcome
@@ -99,14 +100,6 @@ AreOutcomesOf-append limit lines pairs line outcome so_far plain may =
       outcomes_may_come-append limit (run_from empty_state) pairs pair so_far.1 ∙ and_from (outcomes_may_come limit (run_from empty_state) pairs) (may_come limit (run_after_all limit (run_from empty_state) pairs) line outcome) so_far.2 may,
     )
 
--- What holds before each line: the lines so far had outcomes that they may have, the sink took their transcript, and the
--- engine has served them and can serve the rest.
-pub record SoFar (limit : ℕ) (engine : SessionEngine) (gone left : List Line) (taken_before taken_now : Option (List ℕ)) : Type 0 where
-  pub pairs : List Served
-  pub outcomes : AreOutcomesOf limit gone pairs
-  pub ready : HasServed limit engine pairs left
-  pub taken : taken_now ≡ append_known taken_before (run_transcript limit pairs)
-
 -- one line more
 pub one_more : (limit : ℕ) (engine after : SessionEngine) (gone rest : List Line) (line : Line) (taken_before taken_now taken_after : Option (List ℕ))
     → SoFar limit engine gone (line ∷ rest) taken_before taken_now → (outcome : LineOutcome) → RunsLine engine after line outcome taken_now taken_after
@@ -143,23 +136,91 @@ drop_calls_of lines i = sym (drop-map call_of i lines)
 -- a front of one line's text behind the transcript so far is a front of the transcript with it
 pub broken_line : (limit : ℕ) (engine after : SessionEngine) (gone rest : List Line) (line : Line) (taken_before taken_now taken_after : Option (List ℕ))
     → SoFar limit engine gone (line ∷ rest) taken_before taken_now → (outcome : LineOutcome) → BreaksLine engine after line outcome taken_now taken_after
-    → (n : ℕ) × (pairs : List Served) × AreOutcomesOf limit (gone ++ line ∷ []) pairs × (n < length (run_transcript limit pairs)) × (taken_after ≡ append_known taken_before (take n (run_transcript limit pairs)))
-    × HasServed limit after pairs rest
+    → BrokenOff limit after (gone ++ line ∷ []) rest taken_before taken_after
 broken_line limit engine after gone rest line taken_before taken_now taken_after so_far outcome breaks =
     let run = run_after_all limit (run_from empty_state) so_far.pairs in
     let facts = breaks.1 limit run rest so_far.ready in
     let front = facts.2 in
     let old = run_transcript limit so_far.pairs in
     let text = line_text limit run line outcome in
-    let whole = run_transcript-append limit so_far.pairs (line, outcome) in (
-      length old + front.0,
-      so_far.pairs ++ (line, outcome) ∷ [],
-      AreOutcomesOf-append limit gone so_far.pairs line outcome so_far.outcomes breaks.0 facts.0,
-      rw (whole, length-append old text) (below_sum (length old) front.0 (length text) front.1),
-      rw (whole, take-append-add old text front.0)
-          (front.2 ∙ ap (λ t. append_known t (take front.0 text)) so_far.taken ∙ append_twice taken_before old (take front.0 text)),
-      subst (λ (r : RunState). IsReady limit after r rest) (sym (run_after_all-append limit (run_from empty_state) so_far.pairs (line, outcome))) facts.1,
-    )
+    let whole = run_transcript-append limit so_far.pairs (line, outcome) in record {
+      n = length old + front.0;
+      pairs = so_far.pairs ++ (line, outcome) ∷ [];
+      outcomes = AreOutcomesOf-append limit gone so_far.pairs line outcome so_far.outcomes breaks.0 facts.0;
+      within = rw (whole, length-append old text) (below_sum (length old) front.0 (length text) front.1);
+      taken = rw (whole, take-append-add old text front.0)
+          (front.2 ∙ ap (λ t. append_known t (take front.0 text)) so_far.taken ∙ append_twice taken_before old (take front.0 text));
+      ready = subst (λ (r : RunState). IsReady limit after r rest) (sym (run_after_all-append limit (run_from empty_state) so_far.pairs (line, outcome))) facts.1;
+    }
   where
     below_sum : (a n m : ℕ) → n < m → a + n < a + m
     below_sum a n m h = omega arith
+
+-- ---- the lines of a piece, one by one
+
+-- the next line of a piece
+pub drop-next : (lines : List (Session × Request)) (i : ℕ) (line : Session × Request) → line ≡ get_or lines i line → i < length lines
+    → drop i (calls_of lines) ≡ call_of line ∷ drop (i + 1) (calls_of lines)
+drop-next lines i line is below =
+    sym (drop_calls_of lines i) ∙ calls_of-drop_one lines i line is below ∙ ap (λ (rest : List Line). call_of line ∷ rest) (drop_calls_of lines (i + 1))
+
+pub take-next : (lines : List (Session × Request)) (i : ℕ) (line : Session × Request) → line ≡ get_or lines i line → i < length lines
+    → take i (calls_of lines) ++ call_of line ∷ [] ≡ take (i + 1) (calls_of lines)
+take-next lines i line is below =
+    ap (λ (gone : List Line). gone ++ call_of line ∷ []) (sym (take_calls_of lines i))
+    ∙ sym (calls_of-take_more lines i line is below) ∙ take_calls_of lines (i + 1)
+
+-- before its first line nothing of a piece has run
+pub runs_none : (engine : SessionEngine) (lines : List Line) (taken : Option (List ℕ)) → RunsOn engine engine lines 0 taken taken
+runs_none engine lines taken = λ limit gone rest start so_far.
+    subst (λ (g : List Line). SoFar limit engine g (lines ++ rest) start taken) (sym (append-nil gone)) so_far
+
+-- what has run is the same over an engine and a sink that have not changed
+pub runs_kept : (before engine after : SessionEngine) (lines : List Line) (count : ℕ) (taken_before taken_now taken_after : Option (List ℕ)) → after ≡ engine → taken_after ≡ taken_now
+    → RunsOn before engine lines count taken_before taken_now → RunsOn before after lines count taken_before taken_after
+runs_kept before engine after lines count taken_before taken_now taken_after same_engine same_taken on =
+    subst (λ (e : SessionEngine). RunsOn before e lines count taken_before taken_after) (sym same_engine)
+    (subst (λ (t : Option (List ℕ)). RunsOn before engine lines count taken_before t) (sym same_taken) on)
+
+-- so far, with the next line in front of the others
+at_next : (limit : ℕ) (engine : SessionEngine) (lines : List (Session × Request)) (i : ℕ) (line : Session × Request) (gone rest : List Line) (start taken : Option (List ℕ))
+    → line ≡ get_or lines i line → i < length lines → SoFar limit engine gone (drop i (calls_of lines) ++ rest) start taken
+    → SoFar limit engine gone (call_of line ∷ (drop (i + 1) (calls_of lines) ++ rest)) start taken
+at_next limit engine lines i line gone rest start taken is below so_far =
+    subst (λ (left : List Line). SoFar limit engine gone (left ++ rest) start taken) (drop-next lines i line is below) so_far
+
+-- the lines that are gone, with the next line behind them
+gone-next : (lines : List (Session × Request)) (i : ℕ) (line : Session × Request) (gone : List Line) → line ≡ get_or lines i line → i < length lines
+    → (gone ++ take i (calls_of lines)) ++ call_of line ∷ [] ≡ gone ++ take (i + 1) (calls_of lines)
+gone-next lines i line gone is below =
+    append_assoc gone (take i (calls_of lines)) (call_of line ∷ []) ∙ ap (λ (t : List Line). gone ++ t) (take-next lines i line is below)
+
+-- the run that a piece is in is ready for its next line
+pub ready_for_next : (limit : ℕ) (before engine : SessionEngine) (lines : List (Session × Request)) (i : ℕ) (line : Session × Request) (gone rest : List Line) (start taken_before taken_now : Option (List ℕ))
+    → line ≡ get_or lines i line → i < length lines → RunsOn before engine (calls_of lines) i taken_before taken_now → SoFar limit before gone (calls_of lines ++ rest) start taken_before
+    → (run : RunState) × IsReady limit engine run (call_of line ∷ (drop (i + 1) (calls_of lines) ++ rest))
+ready_for_next limit before engine lines i line gone rest start taken_before taken_now is below on so_far =
+    let now = at_next limit engine lines i line (gone ++ take i (calls_of lines)) rest start taken_now is below (on limit gone rest start so_far) in
+    (run_after_all limit (run_from empty_state) now.pairs, now.ready)
+
+pub runs_more : (before engine after : SessionEngine) (lines : List (Session × Request)) (i : ℕ) (line : Session × Request) (taken_before taken_now taken_after : Option (List ℕ))
+    → line ≡ get_or lines i line → i < length lines → RunsOn before engine (calls_of lines) i taken_before taken_now
+    → (outcome : LineOutcome) → RunsLine engine after (call_of line) outcome taken_now taken_after
+    → RunsOn before after (calls_of lines) (i + 1) taken_before taken_after
+runs_more before engine after lines i line taken_before taken_now taken_after is below on outcome runs = λ limit gone rest start so_far.
+    let here = gone ++ take i (calls_of lines) in
+    let left = drop (i + 1) (calls_of lines) ++ rest in
+    subst (λ (g : List Line). SoFar limit after g left start taken_after) (gone-next lines i line gone is below)
+    (one_more limit engine after here left (call_of line) start taken_now taken_after
+    (at_next limit engine lines i line here rest start taken_now is below (on limit gone rest start so_far)) outcome runs)
+
+pub breaks_off : (before engine after : SessionEngine) (lines : List (Session × Request)) (i : ℕ) (line : Session × Request) (taken_before taken_now taken_after : Option (List ℕ))
+    → line ≡ get_or lines i line → i < length lines → RunsOn before engine (calls_of lines) i taken_before taken_now
+    → (outcome : LineOutcome) → BreaksLine engine after (call_of line) outcome taken_now taken_after
+    → BreaksOff before after (calls_of lines) (i + 1) taken_before taken_after
+breaks_off before engine after lines i line taken_before taken_now taken_after is below on outcome breaks = λ limit gone rest start so_far.
+    let here = gone ++ take i (calls_of lines) in
+    let left = drop (i + 1) (calls_of lines) ++ rest in
+    subst (λ (g : List Line). BrokenOff limit after g left start taken_after) (gone-next lines i line gone is below)
+    (broken_line limit engine after here left (call_of line) start taken_now taken_after
+    (at_next limit engine lines i line here rest start taken_now is below (on limit gone rest start so_far)) outcome breaks)

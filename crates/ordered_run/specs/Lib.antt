@@ -2,3 +2,4 @@ pub mod SessionRun
 pub mod Serving
 pub mod Outcomes
 pub mod Lines
+pub mod RunSoFar

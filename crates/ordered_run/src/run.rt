@@ -1,6 +1,6 @@
 //! The ordered run of a script's lines.
 
-ghost use Rattle.std.specs.Prelude.{◌≡◌, ◌<◌, ℕ, List, [], ◌∷◌, true, length, take, drop, OnOk, IsErrOf};
+ghost use Rattle.std.specs.Prelude.{◌≡◌, ◌<◌, ℕ, List, [], ◌∷◌, ◌++◌, true, length, take, drop, OnOk, IsErrOf, Option};
 ghost use Rattle.std.specs.Io.KnownBytes.{append_known};
 ghost use Rattle.database_state.specs.State.{empty_state};
 ghost use Rattle.session_local.specs.Run.{RunState, Line, LineOutcome, run_from, rows_of_line, run_after, may_come};
@@ -9,10 +9,12 @@ ghost use Rattle.script_text.specs.Parsed.{calls_of};
 ghost use Rattle.ordered_run.specs.Outcomes.{AreOutcomesOf, run_transcript, HasServed};
 ghost use Rattle.ordered_run.specs.Serving.{span_limit, IsReady};
 ghost use Rattle.ordered_run.specs.Lines.{RunsLine, BreaksLine};
+ghost use Rattle.ordered_run.specs.RunSoFar.{SoFar, RunsOn, BreaksOff};
 
 use crate::session_engine::SessionEngine;
 use jet_base::{OutOfMemory, Session};
 use jet_io::{Failed, Sink, write_all};
+use script_text::ScriptCalls;
 use script_transcript::Transcript;
 use session_local::Request;
 use std::alloc::Global;
@@ -82,30 +84,58 @@ fn run_line<K: Sink>(
     Ok(())
 }
 
-/// Runs the lines in their order, and prints each before the next runs.
-pub fn run_lines<K: Sink>(
-    alloc: Global,
+/// Runs the lines of a piece in their order, in a run that has come to the first of them.
+fn run_piece<K: Sink>(
     engine: &mut SessionEngine,
+    transcript: &mut Transcript,
     lines: &[(Session, Request)],
     out: &mut K,
 ) -> Result<(), LineFault>
-    requires { IsReady (span_limit engine.old) engine.old (run_from empty_state) (calls_of lines.now) }
-    ensures done { OnOk result ((pairs : List (Line × LineOutcome)) × AreOutcomesOf (span_limit engine.old) (calls_of lines.now) pairs
+    requires so_far { (limit : ℕ) × (gone rest : List Line) × (start : Option (List ℕ)) × SoFar limit engine.old gone (calls_of lines.now ++ rest) start (K.taken out.old) }
+    requires empty { transcript.old.text ≡ [] }
+    ensures empty { OnOk result (transcript.new.text ≡ []) }
+    ensures done { OnOk result (RunsOn engine.old engine.new (calls_of lines.now) (length lines.now) (K.taken out.old) (K.taken out.new)) }
+    ensures sound { OnOk result (K.faults out.new ≡ K.faults out.old) }
+    ensures memory { IsErrOf result LineFault.Memory → (count : ℕ) × RunsOn engine.old engine.new (calls_of lines.now) count (K.taken out.old) (K.taken out.new) }
+    ensures memory_sound { IsErrOf result LineFault.Memory → K.faults out.new ≡ K.faults out.old }
+    ensures sink { IsErrOf result LineFault.Sink → (count : ℕ) × BreaksOff engine.old engine.new (calls_of lines.now) count (K.taken out.old) (K.taken out.new) }
+    ensures failed { IsErrOf result LineFault.Sink → K.faults out.old < K.faults out.new }
+{
+    for line in lines {
+        match run_line(engine, transcript, line.0, &line.1, out) {
+            Ok(()) => {}
+            Err(fault) => return Err(fault),
+        }
+    }
+    Ok(())
+}
+
+/// Runs the lines in their order, and prints each before the next runs.
+///
+/// Each piece of the calls is freed when its lines have run.
+pub fn run_lines<K: Sink>(
+    alloc: Global,
+    engine: &mut SessionEngine,
+    calls: ScriptCalls,
+    out: &mut K,
+) -> Result<(), LineFault>
+    requires { IsReady (span_limit engine.old) engine.old (run_from empty_state) (calls_of calls) }
+    ensures done { OnOk result ((pairs : List (Line × LineOutcome)) × AreOutcomesOf (span_limit engine.old) (calls_of calls) pairs
         × (K.taken out.new ≡ append_known (K.taken out.old) (run_transcript (span_limit engine.old) pairs)) × HasServed (span_limit engine.old) engine.new pairs []) }
     ensures sound { OnOk result (K.faults out.new ≡ K.faults out.old) }
     // The whole transcript of some first lines, and no other line was served.
-    ensures memory { IsErrOf result LineFault.Memory → (count : ℕ) × (pairs : List (Line × LineOutcome)) × AreOutcomesOf (span_limit engine.old) (take count (calls_of lines.now)) pairs
-        × (K.taken out.new ≡ append_known (K.taken out.old) (run_transcript (span_limit engine.old) pairs)) × HasServed (span_limit engine.old) engine.new pairs (drop count (calls_of lines.now)) }
+    ensures memory { IsErrOf result LineFault.Memory → (count : ℕ) × (pairs : List (Line × LineOutcome)) × AreOutcomesOf (span_limit engine.old) (take count (calls_of calls)) pairs
+        × (K.taken out.new ≡ append_known (K.taken out.old) (run_transcript (span_limit engine.old) pairs)) × HasServed (span_limit engine.old) engine.new pairs (drop count (calls_of calls)) }
     ensures memory_sound { IsErrOf result LineFault.Memory → K.faults out.new ≡ K.faults out.old }
     // A front of the transcript of some first lines, and no other line was served.
-    ensures sink { IsErrOf result LineFault.Sink → (count n : ℕ) × (pairs : List (Line × LineOutcome)) × AreOutcomesOf (span_limit engine.old) (take count (calls_of lines.now)) pairs
+    ensures sink { IsErrOf result LineFault.Sink → (count n : ℕ) × (pairs : List (Line × LineOutcome)) × AreOutcomesOf (span_limit engine.old) (take count (calls_of calls)) pairs
         × (n < length (run_transcript (span_limit engine.old) pairs)) × (K.taken out.new ≡ append_known (K.taken out.old) (take n (run_transcript (span_limit engine.old) pairs)))
-        × HasServed (span_limit engine.old) engine.new pairs (drop count (calls_of lines.now)) }
+        × HasServed (span_limit engine.old) engine.new pairs (drop count (calls_of calls)) }
     ensures failed { IsErrOf result LineFault.Sink → K.faults out.old < K.faults out.new }
 {
     let mut transcript = Transcript::new(alloc);
-    for line in lines {
-        match run_line(engine, &mut transcript, line.0, &line.1, out) {
+    for piece in calls.into_pieces() {
+        match run_piece(engine, &mut transcript, &piece, out) {
             Ok(()) => {}
             Err(fault) => return Err(fault),
         }

@@ -3,6 +3,7 @@ use Rattle.std.specs.Prelude.{ℕ, List, [], ◌∷◌, ◌++◌, Option, Some}
 use Rattle.jet_base.specs.declared.ids.Session.{Session}
 use Rattle.session_local.specs.declared.request.Request.{Request}
 use Rattle.script_text.specs.declared.kept.Calls.TheInside as kept
+use Rattle.script_text.specs.Pieces.{calls_in}
 use Rattle.script_words.specs.Words.{◌>>=◌}
 
 -- the session of the line that is being read, and the calls so far, each with its session
@@ -11,7 +12,7 @@ pub record KeptCalls : Type 0 where
   pub calls : List (Session × Request)
 
 abbrev pub kept_calls : kept.Inside → KeptCalls
-kept_calls inside = record { session = inside.session; calls = inside.calls.items }
+kept_calls inside = record { session = inside.session; calls = calls_in inside.full.items ++ inside.last.items }
 
 -- the calls so far with one more behind them
 abbrev pub kept_behind : KeptCalls → Request → Option KeptCalls

@@ -2,6 +2,7 @@ pub mod Calls
 pub mod CallNames
 pub mod Grammar
 pub mod Built
+pub mod Pieces
 pub mod Kept
 pub mod Computing
 pub mod ScriptRun

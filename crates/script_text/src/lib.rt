@@ -14,6 +14,8 @@ mod laws;
 mod leading;
 mod line;
 mod script;
+mod script_calls;
 
 pub use laws::a_call_of_the_grammar_is_answered;
 pub use script::{ScriptFault, parse};
+pub use script_calls::ScriptCalls;

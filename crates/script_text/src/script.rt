@@ -8,10 +8,9 @@ ghost use Rattle.script_text.specs.Parsed.{calls_of};
 use crate::grammar::is_skipped;
 use crate::kept::Calls;
 use crate::line::keep_line;
-use jet_base::Session;
+use crate::script_calls::ScriptCalls;
 use script_words::{Parts, Refusal};
-use session_local::Request;
-use std::alloc::Global;
+use std::alloc::{AllocError, Global};
 use thiserror::Error;
 
 /// Why a script was not parsed.
@@ -25,12 +24,22 @@ pub enum ScriptFault {
     OutOfMemory,
 }
 
+impl From<AllocError> for ScriptFault {
+    ghost use Rattle.script_text.specs.declared.script.ScriptFault.TheVariants as fault;
+
+    ghost from_gives = { λ _ e. e ≡ fault.OutOfMemory };
+
+    fn from(_error: AllocError) -> ScriptFault {
+        ScriptFault::OutOfMemory
+    }
+}
+
 /// The calls of a script in order, line by line.
-fn calls_of_lines(alloc: Global, bytes: &[u8]) -> Result<Vec<(Session, Request)>, ScriptFault>
-    ensures read { IfOk result (λ calls. script_lines bytes.now ≡ Ok (calls_of calls.items)) }
+fn calls_of_lines(alloc: Global, bytes: &[u8]) -> Result<ScriptCalls, ScriptFault>
+    ensures read { IfOk result (λ calls. script_lines bytes.now ≡ Ok (calls_of calls)) }
     ensures bad_line { (line : ℕ) → result ≡ Err (ScriptFault.BadLine line) → script_lines bytes.now ≡ Err line }
 {
-    let mut kept = Calls::new(alloc);
+    let mut kept = Calls::new(alloc)?;
     let mut number: u64 = 0;
     let mut lines = Parts::of(bytes, b'\n');
     while let Some(line) = lines.next() {
@@ -44,18 +53,18 @@ fn calls_of_lines(alloc: Global, bytes: &[u8]) -> Result<Vec<(Session, Request)>
             Err(Refusal::Memory) => return Err(ScriptFault::OutOfMemory),
         }
     }
-    Ok(kept.into_calls())
+    Ok(kept.into_calls()?)
 }
 
 /// The calls of a script in order, each with the session that makes it.
 ///
 /// The script is read once, line by line; names and values are copied, lines and words are read in place. The fault
 /// `BadLine` comes exactly where some line is outside the grammar, and names the first such line.
-pub fn parse(alloc: Global, bytes: &[u8]) -> Result<Vec<(Session, Request)>, ScriptFault>
+pub fn parse(alloc: Global, bytes: &[u8]) -> Result<ScriptCalls, ScriptFault>
     // They are what the grammar reads.
-    ensures read { IfOk result (λ calls. script_lines bytes.now ≡ Ok (calls_of calls.items)) }
+    ensures read { IfOk result (λ calls. script_lines bytes.now ≡ Ok (calls_of calls)) }
     // Each is of a session, and one that the engine answers. What it makes has a name of 1 to 64 bytes.
-    ensures served { IfOk result (λ calls. are_built (calls_of calls.items) ≡ true) }
+    ensures served { IfOk result (λ calls. are_built (calls_of calls) ≡ true) }
     ensures bad_line { (line : ℕ) → result ≡ Err (ScriptFault.BadLine line) → script_lines bytes.now ≡ Err line }
 {
     let calls = calls_of_lines(alloc, bytes)?;

@@ -64,6 +64,9 @@ const SCRIPT: &[u8] = b"1 BeginSession
 #[test]
 fn a_script_gives_its_calls(rt: HostRuntime) -> Result<(), Fail> {
     let calls = parse(rt.alloc(), SCRIPT).ok().ok_or("the script is read")?;
+    let pieces = calls.into_pieces();
+    assert_eq!(rt; pieces.len(), 1);
+    let calls = &pieces[0];
     assert_eq!(rt; calls.len(), 51);
     assert!(rt; calls[0] == (Session(1), Request::BeginSession));
     let last = Request::RetrieveKey {
@@ -77,6 +80,9 @@ fn a_script_gives_its_calls(rt: HostRuntime) -> Result<(), Fail> {
 fn a_call_keeps_the_label_of_its_line(rt: HostRuntime) -> Result<(), Fail> {
     let script = b"2 BeginSession\n99 GetLock 3\n1 Rollback all\n";
     let calls = parse(rt.alloc(), script).ok().ok_or("the script is read")?;
+    let pieces = calls.into_pieces();
+    assert_eq!(rt; pieces.len(), 1);
+    let calls = &pieces[0];
     assert_eq!(rt; calls.len(), 3);
     let lock = Request::GetLock {
         cursor: CursorId(3),

@@ -14,6 +14,6 @@ returns-in-Ok g c =
       run.1,
       inr (
         c.run_over.new.engine,
-        subst (λ (limit : ℕ). RunEndsBy limit (calls_of c.args.lines.now) c.run_over.new.engine (g.K.Sink.taken c.args.out.now) (g.K.Sink.taken c.run_over.new.out) (g.K.Sink.faults c.args.out.now) (g.K.Sink.faults c.run_over.new.out) run.0) c.in-Ok.ensures.span run.2,
+        subst (λ (limit : ℕ). RunEndsBy limit (calls_of c.args.calls) c.run_over.new.engine (g.K.Sink.taken c.args.out.now) (g.K.Sink.taken c.run_over.new.out) (g.K.Sink.faults c.args.out.now) (g.K.Sink.faults c.run_over.new.out) run.0) c.in-Ok.ensures.span run.2,
       ),
     )

@@ -1,6 +1,4 @@
 use Rattle.std.proofs.Common.{ℕ, List, [], Ok, refl, sym, ap, subst, ◌∙◌}
-use Rattle.jet_base.specs.declared.ids.Session.{Session}
-use Rattle.session_local.specs.declared.request.Request.{Request}
 use Rattle.script_text.specs.Parsed.{calls_of}
 use Rattle.esentutl.specs.TopCall.{Outside, bad_words, Says}
 use Rattle.esentutl.proofs.Endings.{prepend_nothing, ending_of, status_of-ending_of, form_of_ending-ending_of, ends_by_fault, ends_by_telling}
@@ -71,8 +69,7 @@ pub returns-in-Ok : goal.returns-in-Ok
 returns-in-Ok g c =
     let read = c.in-Ok.ensures.script in
     let limit = c.in-OrderedRun.limit in
-    let lines = calls_of c.deref.result.now in
-    let said = read.2.1 ∙ ap (λ (l : List (Session × Request)). Ok (calls_of l)) (sym c.deref.ensures.value) in
+    let lines = calls_of c.in-Ok.calls in
     let run = c.run_script.ensures in
     let o : Outside = record {
       left_before = g.S.Source.left c.args.script.now;
@@ -84,7 +81,7 @@ returns-in-Ok g c =
       sink_before = g.K.Sink.faults c.args.out.now;
       sink_after = g.K.Sink.faults c.run_script.new.out;
     } in
-    let ends = ends_by_run limit o read.0 lines run.0 read.2.0.0 (read.2.0.1, read.2.0.2, said) run.2 in (
+    let ends = ends_by_run limit o read.0 lines run.0 read.2.0.0 (read.2.0.1, read.2.0.2, read.2.1) run.2 in (
       read.0,
       limit,
       run.0,

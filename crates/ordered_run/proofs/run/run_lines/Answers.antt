@@ -1,63 +1,87 @@
-use Rattle.std.proofs.Common.{◌+◌, List, sym, subst, ◌∙◌, take, drop}
+use Rattle.std.proofs.Common.{rules, ◌≡◌, ◌∷◌, [], ◌++◌, List, length, refl, sym, ap, subst, ◌∙◌, append_assoc, append-nil, arith}
+use Rattle.std.specs.Vec.Iter.{into_iter_items}
+use Rattle.jet_base.specs.declared.ids.Session.{Session}
+use Rattle.session_local.specs.declared.request.Request.{Request}
 use Rattle.session_local.specs.Run.{Line}
-use Rattle.script_text.specs.Parsed.{calls_of, call_of}
-use Rattle.ordered_run.specs.Outcomes.{AreOutcomesOf, HasServed}
+use Rattle.script_text.specs.Parsed.{calls_of}
+use Rattle.ordered_run.specs.RunSoFar.{SoFar, RunsOn, BreaksOff}
 use Rattle.ordered_run.specs.Serving.{span_limit}
-use Rattle.ordered_run.proofs.RunLaws.{SoFar, one_more, broken_line, take_calls_of, drop_calls_of, calls_of-take_more, calls_of-drop_one}
+use Rattle.ordered_run.proofs.PieceRuns.{Piece, lines_in, nothing_left, none_so_far, at_piece, piece_done, ended_in_piece, broke_off_in_piece}
 use Rattle.ordered_run.proofs.run.run_lines.Goals as goal
 
-pub loop-line-preserved : goal.loop-line-preserved
-loop-line-preserved g c =
+pub loop-piece-init : goal.loop-piece-init
+loop-piece-init g c =
+    let gives = c.into_iter-piece-iterator.ensures.into_iter_gives in
     let limit = span_limit c.args.engine.now in
-    let index = c.loop-line.line-index in
-    let lines = c.args.lines.now in
-    let line = c.line-item.result in
-    let split = calls_of-drop_one lines index line c.line-item.is c.loop-line-test.true in
-    let served = c.in-Ok.ensures.served in
+    let taken = g.K.Sink.taken c.args.out.now in
+    let whole = ap lines_in gives.0 ∙ ap calls_of c.into_pieces-piece-items.ensures in
     record {
-      so_far = subst (λ (gone : List Line). SoFar limit c.run_line.new.engine gone (calls_of (drop (index + 1) lines)) (g.K.Sink.taken c.args.out.now) (g.K.Sink.taken c.run_line.new.out))
-          (sym (calls_of-take_more lines index line c.line-item.is c.loop-line-test.true))
-          (one_more limit c.loop-line.engine c.run_line.new.engine (calls_of (take index lines)) (calls_of (drop (index + 1) lines)) (call_of line)
-          (g.K.Sink.taken c.args.out.now) (g.K.Sink.taken c.loop-line.out) (g.K.Sink.taken c.run_line.new.out)
-          (subst (λ (left : List Line). SoFar limit c.loop-line.engine (calls_of (take index lines)) left (g.K.Sink.taken c.args.out.now) (g.K.Sink.taken c.loop-line.out)) split c.loop-line.invariant.so_far)
-          served.0 served.1);
-      sound = c.in-Ok.ensures.sound ∙ c.loop-line.invariant.sound;
+      pieces = refl;
+      count = search rules;
+      so_far = subst (λ (lines : List Line). SoFar limit c.args.engine.now [] lines taken taken) (sym whole)
+          (none_so_far limit c.args.engine.now (calls_of c.args.calls) taken c.requires);
+      sound = refl;
+      empty = c.new-transcript.ensures;
+    }
+
+pub run_piece-requires-clause-so_far : goal.run_piece-requires-clause-so_far
+run_piece-requires-clause-so_far g c =
+    let at = c.loop-piece in
+    let limit = span_limit c.args.engine.now in
+    let rest = into_iter_items c.next.new.self in
+    let piece = c.in-Some.piece in (
+      limit,
+      lines_in at.yielded,
+      lines_in rest,
+      g.K.Sink.taken c.args.out.now,
+      subst (λ (calls : List (Session × Request)). SoFar limit at.engine (lines_in at.yielded) (calls_of calls ++ lines_in rest) (g.K.Sink.taken c.args.out.now) (g.K.Sink.taken at.out)) (sym c.deref.ensures.value)
+          (at_piece limit at.engine (lines_in at.yielded) (into_iter_items at.piece-iterator) rest piece (g.K.Sink.taken c.args.out.now) (g.K.Sink.taken at.out) c.in-Some.ensures.steps.0 at.invariant.so_far),
+    )
+
+pub loop-piece-preserved : goal.loop-piece-preserved
+loop-piece-preserved g c =
+    let at = c.loop-piece in
+    let limit = span_limit c.args.engine.now in
+    let rest = into_iter_items c.next.new.self in
+    let piece = c.in-Some.piece in
+    let steps : into_iter_items at.piece-iterator ≡ piece ∷ rest = c.in-Some.ensures.steps.0 in
+    let gone = c.in-Some.ensures.steps.1 in
+    let short = ap length steps in
+    record {
+      pieces = append_assoc at.yielded (piece ∷ []) rest ∙ rw (← steps) at.invariant.pieces;
+      count = let was = at.invariant.count in omega arith;
+      so_far = piece_done limit at.engine c.run_piece.new.engine at.yielded (into_iter_items at.piece-iterator) rest piece
+          (g.K.Sink.taken c.args.out.now) (g.K.Sink.taken at.out) (g.K.Sink.taken c.run_piece.new.out) steps at.invariant.so_far
+          (subst (λ (calls : List (Session × Request)). RunsOn at.engine c.run_piece.new.engine (calls_of calls) (length calls) (g.K.Sink.taken at.out) (g.K.Sink.taken c.run_piece.new.out)) c.deref.ensures.value c.in-Ok.ensures.done);
+      sound = c.in-Ok.ensures.sound ∙ at.invariant.sound;
       empty = c.in-Ok.ensures.empty;
     }
 
+pub returns-clause-done : goal.returns-clause-done
+returns-clause-done g c =
+    let at = c.loop-piece in
+    let limit = span_limit c.args.engine.now in
+    let gives = c.into_iter-piece-iterator.ensures.into_iter_gives in
+    let none = nothing_left (into_iter_items at.piece-iterator) (sym at.invariant.count ∙ c.in-None.ensures.steps.0) in
+    let all : at.yielded ≡ c.into_pieces-piece-items.result.items = sym (append-nil at.yielded) ∙ ap (λ (left : List Piece). at.yielded ++ left) (sym none) ∙ at.invariant.pieces ∙ gives.0 in
+    let done = subst (λ (lines : List Line). SoFar limit at.engine lines [] (g.K.Sink.taken c.args.out.now) (g.K.Sink.taken at.out)) (ap lines_in all ∙ ap calls_of c.into_pieces-piece-items.ensures)
+    (subst (λ (left : List Piece). SoFar limit at.engine (lines_in at.yielded) (lines_in left) (g.K.Sink.taken c.args.out.now) (g.K.Sink.taken at.out)) none at.invariant.so_far) in
+    (done.pairs, done.outcomes, done.taken, done.ready)
+
 pub returns-in-Err-clause-memory : goal.returns-in-Err-clause-memory
 returns-in-Err-clause-memory g c = λ is.
-    let limit = span_limit c.args.engine.now in
-    let index = c.loop-line.line-index in
-    let lines = c.args.lines.now in
-    let so_far = c.loop-line.invariant.so_far in
-    let kept = c.in-Err.ensures.memory is in (
-      index,
-      so_far.pairs,
-      subst (λ (gone : List Line). AreOutcomesOf limit gone so_far.pairs) (take_calls_of lines index) so_far.outcomes,
-      kept.1 ∙ so_far.taken,
-      subst (λ e. HasServed limit e so_far.pairs (drop index (calls_of lines))) (sym kept.0)
-          (subst (λ (left : List Line). HasServed limit c.loop-line.engine so_far.pairs left) (drop_calls_of lines index) so_far.ready),
-    )
+    let at = c.loop-piece in
+    let ran = c.in-Err.ensures.memory is in
+    ended_in_piece (span_limit c.args.engine.now) at.engine c.run_piece.new.engine at.yielded (into_iter_items at.piece-iterator) (into_iter_items c.next.new.self) c.into_pieces-piece-items.result.items c.in-Some.piece
+    (calls_of c.args.calls) ran.0 (g.K.Sink.taken c.args.out.now) (g.K.Sink.taken at.out) (g.K.Sink.taken c.run_piece.new.out)
+    (at.invariant.pieces ∙ c.into_iter-piece-iterator.ensures.into_iter_gives.0) (ap calls_of c.into_pieces-piece-items.ensures) c.in-Some.ensures.steps.0 at.invariant.so_far
+    (subst (λ (calls : List (Session × Request)). RunsOn at.engine c.run_piece.new.engine (calls_of calls) ran.0 (g.K.Sink.taken at.out) (g.K.Sink.taken c.run_piece.new.out)) c.deref.ensures.value ran.1)
 
 pub returns-in-Err-clause-sink : goal.returns-in-Err-clause-sink
 returns-in-Err-clause-sink g c = λ is.
-    let limit = span_limit c.args.engine.now in
-    let index = c.loop-line.line-index in
-    let lines = c.args.lines.now in
-    let line = c.line-item.result in
-    let split = calls_of-drop_one lines index line c.line-item.is c.loop-line-test.true in
-    let breaks = c.in-Err.ensures.sink is in
-    let front = broken_line limit c.loop-line.engine c.run_line.new.engine (calls_of (take index lines)) (calls_of (drop (index + 1) lines)) (call_of line)
-    (g.K.Sink.taken c.args.out.now) (g.K.Sink.taken c.loop-line.out) (g.K.Sink.taken c.run_line.new.out)
-    (subst (λ (left : List Line). SoFar limit c.loop-line.engine (calls_of (take index lines)) left (g.K.Sink.taken c.args.out.now) (g.K.Sink.taken c.loop-line.out)) split c.loop-line.invariant.so_far)
-    breaks.0 breaks.1 in (
-      index + 1,
-      front.0,
-      front.1,
-      subst (λ (gone : List Line). AreOutcomesOf limit gone front.1)
-          (sym (calls_of-take_more lines index line c.line-item.is c.loop-line-test.true) ∙ take_calls_of lines (index + 1)) front.2,
-      front.3,
-      front.4,
-      subst (λ (left : List Line). HasServed limit c.run_line.new.engine front.1 left) (drop_calls_of lines (index + 1)) front.5,
-    )
+    let at = c.loop-piece in
+    let broke = c.in-Err.ensures.sink is in
+    broke_off_in_piece (span_limit c.args.engine.now) at.engine c.run_piece.new.engine at.yielded (into_iter_items at.piece-iterator) (into_iter_items c.next.new.self) c.into_pieces-piece-items.result.items c.in-Some.piece
+    (calls_of c.args.calls) broke.0 (g.K.Sink.taken c.args.out.now) (g.K.Sink.taken at.out) (g.K.Sink.taken c.run_piece.new.out)
+    (at.invariant.pieces ∙ c.into_iter-piece-iterator.ensures.into_iter_gives.0) (ap calls_of c.into_pieces-piece-items.ensures) c.in-Some.ensures.steps.0 at.invariant.so_far
+    (subst (λ (calls : List (Session × Request)). BreaksOff at.engine c.run_piece.new.engine (calls_of calls) broke.0 (g.K.Sink.taken at.out) (g.K.Sink.taken c.run_piece.new.out)) c.deref.ensures.value broke.1)
