@@ -1,3 +1,4 @@
+pub mod EqualFronts
 pub mod FirstWords
 pub mod Lines
 pub mod LabelledCalls

@@ -1,6 +1,6 @@
 //! The first word of a text, where its end need not be searched.
 
-ghost use Rattle.std.specs.Prelude.{◌≡◌, ◌==◌, ◌<◌, ◌≤◌, ◌-◌, ◌∷◌, [], length, not, take, Some, IfSome, IsTrue};
+ghost use Rattle.std.specs.Prelude.{◌≡◌, ◌==◌, ◌<◌, ◌≤◌, ◌+◌, ◌-◌, ◌∷◌, ℕ, [], length, not, slice_index, take, Some, IfSome, IsTrue};
 ghost use Rattle.std.specs.List.{list_all};
 ghost use Rattle.std.specs.Option.{option_copied};
 ghost use Rattle.script_words.specs.Words.{label_of, parts_left, words_of};
@@ -31,20 +31,90 @@ pub fn leading_digit(text: &[u8]) -> Option<(u8, Option<&[u8]>)>
     }
 }
 
-/// Whether a text begins with a word.
-///
-/// It stands where it is used, so that the bytes of a literal are compared without a loop.
+// Whether the eight bytes from a place on are the same in both.
 #[inline(always)]
-fn begins_with(text: &[u8], word: &[u8]) -> bool
-    requires { length word.now ≤ length text.now }
-    ensures { IsTrue result → take (length word.now) text.now ≡ word.now }
+fn have_same_eight(text: &[u8], word: &[u8], at: usize) -> bool
+    requires text { at + 8 ≤ length text.now }
+    requires word { at + 8 ≤ length word.now }
+    ensures { IsTrue result → (k : ℕ) → k < 8 → slice_index text.now (at + k) ≡ slice_index word.now (at + k) }
 {
-    for i in 0..word.len() {
+    let own = u64::from_le_bytes([
+        text[at],
+        text[at + 1],
+        text[at + 2],
+        text[at + 3],
+        text[at + 4],
+        text[at + 5],
+        text[at + 6],
+        text[at + 7],
+    ]);
+    let other = u64::from_le_bytes([
+        word[at],
+        word[at + 1],
+        word[at + 2],
+        word[at + 3],
+        word[at + 4],
+        word[at + 5],
+        word[at + 6],
+        word[at + 7],
+    ]);
+    own == other
+}
+
+// The same of four bytes.
+#[inline(always)]
+fn have_same_four(text: &[u8], word: &[u8], at: usize) -> bool
+    requires text { at + 4 ≤ length text.now }
+    requires word { at + 4 ≤ length word.now }
+    ensures { IsTrue result → (k : ℕ) → k < 4 → slice_index text.now (at + k) ≡ slice_index word.now (at + k) }
+{
+    let own = u32::from_le_bytes([text[at], text[at + 1], text[at + 2], text[at + 3]]);
+    let other = u32::from_le_bytes([word[at], word[at + 1], word[at + 2], word[at + 3]]);
+    own == other
+}
+
+// Whether the bytes before a place are the same in both, one after the other.
+#[inline(always)]
+fn have_same_front(text: &[u8], word: &[u8], end: usize) -> bool
+    requires text { end ≤ length text.now }
+    requires word { end ≤ length word.now }
+    ensures { IsTrue result → take end text.now ≡ take end word.now }
+{
+    for i in 0..end {
         if text[i] != word[i] {
             return false;
         }
     }
     true
+}
+
+// The same, of which the last four bytes are compared at once where there are more.
+#[inline(always)]
+fn have_same_few(text: &[u8], word: &[u8], end: usize) -> bool
+    requires text { end ≤ length text.now }
+    requires word { end ≤ length word.now }
+    ensures { IsTrue result → take end text.now ≡ take end word.now }
+{
+    if end <= 4 {
+        return have_same_front(text, word, end);
+    }
+    have_same_four(text, word, end - 4) && have_same_front(text, word, end - 4)
+}
+
+/// Whether a text begins with a word.
+///
+/// It stands where it is used, so that a literal is compared without a loop, many bytes at once from the last ones on. The first
+/// byte is compared alone: where it is known already nothing is left to do for it.
+#[inline(always)]
+fn begins_with(text: &[u8], word: &[u8]) -> bool
+    requires { length word.now ≤ length text.now }
+    ensures { IsTrue result → take (length word.now) text.now ≡ word.now }
+{
+    let end = word.len();
+    if end <= 8 {
+        return have_same_few(text, word, end);
+    }
+    have_same_eight(text, word, end - 8) && have_same_few(text, word, end - 8)
 }
 
 /// The text behind a word and the space that ends it, where it begins with them.

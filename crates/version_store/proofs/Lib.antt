@@ -2,6 +2,7 @@ pub mod ChainLemmas
 pub mod ChainWalks
 pub mod EarlierWalks
 pub mod EndLemmas
+pub mod HashLemmas
 pub mod HeldLemmas
 pub mod KeepLemmas
 pub mod OpenLemmas

@@ -1,5 +1,5 @@
 use Rattle.std.proofs.Common.{◌≡◌, take}
-use Rattle.script_text.proofs.leading.begins_with.Given as goal
+use Rattle.script_text.proofs.leading.have_same_front.Given as goal
 
 -- the bytes so far are the same
 abbrev pub invariant-loop-i : goal.invariant-loop-i
