@@ -1,15 +1,15 @@
 //! A transcript: a text of lines, each of which says how a call was answered.
 
-ghost use Rattle.std.specs.Prelude.{◌≡◌, [], ◌+◌, ◌*◌, ◌≤◌, ◌<◌, ◌++◌, length, if◌then◌else◌, IsTrue, OnOk, vec_len};
+ghost use Rattle.std.specs.Prelude.{◌≡◌, [], ◌∷◌, ◌+◌, ◌*◌, ◌≤◌, ◌<◌, ◌++◌, length, if◌then◌else◌, IsTrue, OnOk, vec_len};
 ghost use Rattle.jet_base.specs.JetName.{jet_name};
 ghost use Rattle.session_local.specs.Answer as answer;
 ghost use Rattle.session_local.specs.Answer.{answered_by, shown_by};
-ghost use Rattle.script_transcript.specs.TranscriptLine.{answer_behind_head, line_head, shown_text, transcript_line, NamesNoMore};
+ghost use Rattle.script_transcript.specs.TranscriptLine.{answer_behind_head, call_name, line_head, shown_text, transcript_line, NamesNoMore};
 ghost use Rattle.script_transcript.specs.Written.{BeginsWith};
 ghost use Rattle.std.specs.Vec.{vec_capacity};
 
-use crate::append::{append, append_hex, append_label, append_number, append_signed};
-use crate::names::spaced_name_of_call;
+use crate::append::{append, append_front, append_hex, append_label, append_number, append_signed};
+use crate::names::{answer_of_success, spaced_name_of_call};
 use jet_base::{Jet, OutOfMemory, Session, name};
 use session_local::{Reply, Request, Value};
 use std::alloc::Global;
@@ -112,17 +112,6 @@ impl Transcript {
     }
 }
 
-/// Puts the name of a reply at the end, of at most 40 bytes.
-#[tactic(auto, using(crate::proofs::JetNames::names_of_replies))]
-fn append_reply_name(text: &mut Vec<u8>, jet: Jet)
-    requires { vec_len text.old + 40 ≤ vec_capacity text.old }
-    ensures items { text.new.items ≡ text.old.items ++ jet_name jet }
-    ensures len { vec_len text.new ≤ vec_len text.old + 40 }
-    ensures room { vec_capacity text.old ≤ vec_capacity text.new }
-{
-    append(text, name(jet).as_bytes());
-}
-
 /// Puts the bytes of a value at the end, behind its whole length where not all of it is shown.
 #[tactic(auto, unfolding(crate::specs::TranscriptLine::shown_text))]
 fn append_bytes_value(text: &mut Vec<u8>, jet: Jet, bytes: &[u8], whole: u64)
@@ -222,8 +211,21 @@ fn append_head(text: &mut Vec<u8>, number: u64, session: Session)
     append_label(text, session.0);
 }
 
-/// Puts the rest of a line at the end.
-#[tactic(auto, unfolding(crate::specs::TranscriptLine::answer_line))]
+/// Puts the names of a call and of a reply at the end, with a space before each.
+#[tactic(auto, using(crate::proofs::JetNames::names_of_replies))]
+#[inline(never)]
+fn append_names(text: &mut Vec<u8>, request: &Request, jet: Jet)
+    requires { vec_len text.old + 59 ≤ vec_capacity text.old }
+    ensures items { text.new.items ≡ text.old.items ++ 32 ∷ call_name request.now ++ 32 ∷ jet_name jet }
+    ensures len { vec_len text.new ≤ vec_len text.old + 59 }
+    ensures room { vec_capacity text.old ≤ vec_capacity text.new }
+{
+    append(text, spaced_name_of_call(request).as_bytes());
+    append(text, name(jet).as_bytes());
+}
+
+/// Puts the rest of a line at the end. Mostly the call succeeds and shows nothing, and the rest is one piece.
+#[tactic(auto, unfolding(crate::specs::TranscriptLine::answer_line, crate::specs::TranscriptLine::shown_text))]
 fn append_answer(text: &mut Vec<u8>, request: &Request, reply: &Reply, bytes: &[u8])
     requires bytes { length bytes.now ≤ 1048576 }
     requires named { NamesNoMore reply.now (length bytes.now) }
@@ -231,8 +233,16 @@ fn append_answer(text: &mut Vec<u8>, request: &Request, reply: &Reply, bytes: &[
     ensures items { text.new.items ≡ text.old.items ++ answer_behind_head request.now (answered_by reply.now bytes.now) }
     ensures room { vec_capacity text.old ≤ vec_capacity text.new }
 {
-    append(text, spaced_name_of_call(request).as_bytes());
-    append_reply_name(text, reply.jet);
+    if let Jet::Success = reply.jet {
+        let (answer, count) = answer_of_success(request);
+        if let Value::Nothing = reply.value {
+            append_front(text, answer, count);
+            return;
+        }
+        append_front(text, answer, count - 1);
+    } else {
+        append_names(text, request, reply.jet);
+    }
     append_value(text, reply, bytes);
     append(text, b"\n");
 }
