@@ -1,6 +1,6 @@
 //! A transcript: a text of lines, each of which says how a call was answered.
 
-ghost use Rattle.std.specs.Prelude.{◌≡◌, [], ◌∷◌, ◌+◌, ◌*◌, ◌≤◌, ◌<◌, ◌++◌, length, if◌then◌else◌, IsTrue, OnOk, vec_len};
+ghost use Rattle.std.specs.Prelude.{◌≡◌, [], ◌∷◌, ◌+◌, ◌*◌, ◌^◌, ◌≤◌, ◌<◌, ◌++◌, length, if◌then◌else◌, IsTrue, OnOk, vec_len};
 ghost use Rattle.jet_base.specs.JetName.{jet_name};
 ghost use Rattle.session_local.specs.Answer as answer;
 ghost use Rattle.session_local.specs.Answer.{answered_by, shown_by};
@@ -190,6 +190,31 @@ fn keep_head(bytes: &mut Vec<u8>, head: &mut Head, number: u64, session: Session
     ensures room { vec_capacity bytes.old ≤ vec_capacity bytes.new }
 {
     if head.length == 0 || head.number != number || head.session.0 != session.0 {
+        renew_head(bytes, head, number, session);
+    }
+}
+
+/// Makes the bytes of an empty text the head of another line: mostly one of the next number, which is counted up in its place.
+#[tactic(auto, using(crate::proofs::Heads::heads))]
+fn renew_head(bytes: &mut Vec<u8>, head: &mut Head, number: u64, session: Session)
+    requires kept { BeginsWith head.old bytes.old.items }
+    requires short { head.old.length ≤ 41 }
+    requires length { vec_len bytes.old ≡ head.old.length }
+    requires room { LINE_ROOM ≤ vec_capacity bytes.old }
+    ensures items { bytes.new.items ≡ line_head number session.0 }
+    ensures kept { BeginsWith head.new bytes.new.items }
+    ensures length { vec_len bytes.new ≡ head.new.length }
+    ensures short { vec_len bytes.new ≤ 41 }
+    ensures room { vec_capacity bytes.old ≤ vec_capacity bytes.new }
+{
+    if head.length > 0
+        && head.session.0 == session.0
+        && head.number < number
+        && number - head.number == 1
+        && count_up(bytes, head.number, session)
+    {
+        head.number = number;
+    } else {
         bytes.clear();
         append_head(bytes, number, session);
         *head = Head {
@@ -198,6 +223,27 @@ fn keep_head(bytes: &mut Vec<u8>, head: &mut Head, number: u64, session: Session
             session,
         };
     }
+}
+
+/// Makes a head of a line that of the next number, where the label has one digit and the number's last digit alone changes.
+/// Otherwise nothing changes.
+fn count_up(bytes: &mut Vec<u8>, number: u64, session: Session) -> bool
+    requires head { bytes.old.items ≡ line_head number session.0 }
+    requires next { number + 1 < 2 ^ 64 }
+    ensures items { bytes.new.items ≡ line_head (if result then number + 1 else number) session.0 }
+    ensures len { vec_len bytes.new ≡ vec_len bytes.old }
+    ensures room { vec_capacity bytes.old ≤ vec_capacity bytes.new }
+{
+    if session.0 > 9 {
+        return false;
+    }
+    let place = bytes.len() - 3;
+    let digit = bytes[place];
+    if digit == b'9' {
+        return false;
+    }
+    bytes[place] = digit + 1;
+    true
 }
 
 /// Puts what a line begins with at the end, of at most 41 bytes.
