@@ -80,6 +80,9 @@ impl Transcript {
         ensures room { OnOk result (LINE_ROOM ≤ self.new.room) }
         ensures grows { self.old.room ≤ self.new.room }
     {
+        if self.empty && LINE_ROOM <= self.bytes.capacity() {
+            return Ok(());
+        }
         let kept = if self.empty { self.head.length } else { 0 };
         self.bytes.reserve(LINE_ROOM - kept)?;
         Ok(())
