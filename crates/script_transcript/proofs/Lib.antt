@@ -1,3 +1,5 @@
+pub mod Counting
 pub mod Digits
+pub mod Fronts
 pub mod Heads
 pub mod JetNames

@@ -1,11 +1,12 @@
 //! Bytes at the end of a text that has room for them.
 
-ghost use Rattle.std.specs.Prelude.{◌≡◌, ◌+◌, ◌*◌, ◌<◌, ◌≤◌, [], ◌∷◌, ◌++◌, length, vec_len};
+ghost use Rattle.std.specs.Prelude.{◌≡◌, ◌+◌, ◌*◌, ◌<◌, ◌≤◌, [], ◌∷◌, ◌++◌, length, take, vec_len};
 ghost use Rattle.std.specs.Vec.{vec_capacity};
 ghost use Rattle.std.specs.Fmt.{decimal, signed_decimal};
 ghost use Rattle.std.specs.List.{flat_map};
 ghost use Rattle.script_transcript.specs.TranscriptLine.{byte_digits};
 
+use crate::names::ANSWER_ROOM;
 use itoa::Buffer;
 
 /// Puts the bytes at the end.
@@ -17,6 +18,21 @@ pub fn append(text: &mut Vec<u8>, bytes: &[u8])
     ensures room { vec_capacity text.old ≤ vec_capacity text.new }
 {
     text.extend_from_slice(bytes).unwrap();
+}
+
+/// Puts the first bytes of an answer at the end. It is copied whole, since its size is known, and then cut.
+#[tactic(auto, using(crate::proofs::Fronts::fronts))]
+#[inline(always)]
+pub fn append_front(text: &mut Vec<u8>, answer: &[u8; ANSWER_ROOM], count: usize)
+    requires within { count ≤ ANSWER_ROOM }
+    requires room { vec_len text.old + ANSWER_ROOM ≤ vec_capacity text.old }
+    ensures items { text.new.items ≡ text.old.items ++ take count answer.now }
+    ensures len { vec_len text.new ≡ vec_len text.old + count }
+    ensures room { vec_capacity text.old ≤ vec_capacity text.new }
+{
+    let end = text.len() + count;
+    append(text, answer);
+    text.truncate(end);
 }
 
 /// Puts a number at the end, of at most 20 digits.

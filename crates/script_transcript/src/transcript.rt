@@ -1,15 +1,15 @@
 //! A transcript: a text of lines, each of which says how a call was answered.
 
-ghost use Rattle.std.specs.Prelude.{◌≡◌, [], ◌+◌, ◌*◌, ◌≤◌, ◌<◌, ◌++◌, length, if◌then◌else◌, IsTrue, OnOk, vec_len};
+ghost use Rattle.std.specs.Prelude.{◌≡◌, [], ◌∷◌, ◌+◌, ◌*◌, ◌^◌, ◌≤◌, ◌<◌, ◌++◌, length, if◌then◌else◌, IsTrue, OnOk, vec_len};
 ghost use Rattle.jet_base.specs.JetName.{jet_name};
 ghost use Rattle.session_local.specs.Answer as answer;
 ghost use Rattle.session_local.specs.Answer.{answered_by, shown_by};
-ghost use Rattle.script_transcript.specs.TranscriptLine.{answer_behind_head, line_head, shown_text, transcript_line, NamesNoMore};
+ghost use Rattle.script_transcript.specs.TranscriptLine.{answer_behind_head, call_name, line_head, shown_text, transcript_line, NamesNoMore};
 ghost use Rattle.script_transcript.specs.Written.{BeginsWith};
 ghost use Rattle.std.specs.Vec.{vec_capacity};
 
-use crate::append::{append, append_hex, append_label, append_number, append_signed};
-use crate::names::spaced_name_of_call;
+use crate::append::{append, append_front, append_hex, append_label, append_number, append_signed};
+use crate::names::{answer_of_success, spaced_name_of_call};
 use jet_base::{Jet, OutOfMemory, Session, name};
 use session_local::{Reply, Request, Value};
 use std::alloc::Global;
@@ -80,6 +80,9 @@ impl Transcript {
         ensures room { OnOk result (LINE_ROOM ≤ self.new.room) }
         ensures grows { self.old.room ≤ self.new.room }
     {
+        if self.empty && LINE_ROOM <= self.bytes.capacity() {
+            return Ok(());
+        }
         let kept = if self.empty { self.head.length } else { 0 };
         self.bytes.reserve(LINE_ROOM - kept)?;
         Ok(())
@@ -110,17 +113,6 @@ impl Transcript {
         self.bytes.truncate(self.head.length);
         self.empty = true;
     }
-}
-
-/// Puts the name of a reply at the end, of at most 40 bytes.
-#[tactic(auto, using(crate::proofs::JetNames::names_of_replies))]
-fn append_reply_name(text: &mut Vec<u8>, jet: Jet)
-    requires { vec_len text.old + 40 ≤ vec_capacity text.old }
-    ensures items { text.new.items ≡ text.old.items ++ jet_name jet }
-    ensures len { vec_len text.new ≤ vec_len text.old + 40 }
-    ensures room { vec_capacity text.old ≤ vec_capacity text.new }
-{
-    append(text, name(jet).as_bytes());
 }
 
 /// Puts the bytes of a value at the end, behind its whole length where not all of it is shown.
@@ -201,6 +193,31 @@ fn keep_head(bytes: &mut Vec<u8>, head: &mut Head, number: u64, session: Session
     ensures room { vec_capacity bytes.old ≤ vec_capacity bytes.new }
 {
     if head.length == 0 || head.number != number || head.session.0 != session.0 {
+        renew_head(bytes, head, number, session);
+    }
+}
+
+/// Makes the bytes of an empty text the head of another line: mostly one of the next number, which is counted up in its place.
+#[tactic(auto, using(crate::proofs::Heads::heads))]
+fn renew_head(bytes: &mut Vec<u8>, head: &mut Head, number: u64, session: Session)
+    requires kept { BeginsWith head.old bytes.old.items }
+    requires short { head.old.length ≤ 41 }
+    requires length { vec_len bytes.old ≡ head.old.length }
+    requires room { LINE_ROOM ≤ vec_capacity bytes.old }
+    ensures items { bytes.new.items ≡ line_head number session.0 }
+    ensures kept { BeginsWith head.new bytes.new.items }
+    ensures length { vec_len bytes.new ≡ head.new.length }
+    ensures short { vec_len bytes.new ≤ 41 }
+    ensures room { vec_capacity bytes.old ≤ vec_capacity bytes.new }
+{
+    if head.length > 0
+        && head.session.0 == session.0
+        && head.number < number
+        && number - head.number == 1
+        && count_up(bytes, head.number, session)
+    {
+        head.number = number;
+    } else {
         bytes.clear();
         append_head(bytes, number, session);
         *head = Head {
@@ -209,6 +226,27 @@ fn keep_head(bytes: &mut Vec<u8>, head: &mut Head, number: u64, session: Session
             session,
         };
     }
+}
+
+/// Makes a head of a line that of the next number, where the label has one digit and the number's last digit alone changes.
+/// Otherwise nothing changes.
+fn count_up(bytes: &mut Vec<u8>, number: u64, session: Session) -> bool
+    requires head { bytes.old.items ≡ line_head number session.0 }
+    requires next { number + 1 < 2 ^ 64 }
+    ensures items { bytes.new.items ≡ line_head (if result then number + 1 else number) session.0 }
+    ensures len { vec_len bytes.new ≡ vec_len bytes.old }
+    ensures room { vec_capacity bytes.old ≤ vec_capacity bytes.new }
+{
+    if session.0 > 9 {
+        return false;
+    }
+    let place = bytes.len() - 3;
+    let digit = bytes[place];
+    if digit == b'9' {
+        return false;
+    }
+    bytes[place] = digit + 1;
+    true
 }
 
 /// Puts what a line begins with at the end, of at most 41 bytes.
@@ -222,8 +260,21 @@ fn append_head(text: &mut Vec<u8>, number: u64, session: Session)
     append_label(text, session.0);
 }
 
-/// Puts the rest of a line at the end.
-#[tactic(auto, unfolding(crate::specs::TranscriptLine::answer_line))]
+/// Puts the names of a call and of a reply at the end, with a space before each.
+#[tactic(auto, using(crate::proofs::JetNames::names_of_replies))]
+#[inline(never)]
+fn append_names(text: &mut Vec<u8>, request: &Request, jet: Jet)
+    requires { vec_len text.old + 59 ≤ vec_capacity text.old }
+    ensures items { text.new.items ≡ text.old.items ++ 32 ∷ call_name request.now ++ 32 ∷ jet_name jet }
+    ensures len { vec_len text.new ≤ vec_len text.old + 59 }
+    ensures room { vec_capacity text.old ≤ vec_capacity text.new }
+{
+    append(text, spaced_name_of_call(request).as_bytes());
+    append(text, name(jet).as_bytes());
+}
+
+/// Puts the rest of a line at the end. Mostly the call succeeds and shows nothing, and the rest is one piece.
+#[tactic(auto, unfolding(crate::specs::TranscriptLine::answer_line, crate::specs::TranscriptLine::shown_text))]
 fn append_answer(text: &mut Vec<u8>, request: &Request, reply: &Reply, bytes: &[u8])
     requires bytes { length bytes.now ≤ 1048576 }
     requires named { NamesNoMore reply.now (length bytes.now) }
@@ -231,8 +282,16 @@ fn append_answer(text: &mut Vec<u8>, request: &Request, reply: &Reply, bytes: &[
     ensures items { text.new.items ≡ text.old.items ++ answer_behind_head request.now (answered_by reply.now bytes.now) }
     ensures room { vec_capacity text.old ≤ vec_capacity text.new }
 {
-    append(text, spaced_name_of_call(request).as_bytes());
-    append_reply_name(text, reply.jet);
+    if let Jet::Success = reply.jet {
+        let (answer, count) = answer_of_success(request);
+        if let Value::Nothing = reply.value {
+            append_front(text, answer, count);
+            return;
+        }
+        append_front(text, answer, count - 1);
+    } else {
+        append_names(text, request, reply.jet);
+    }
     append_value(text, reply, bytes);
     append(text, b"\n");
 }
