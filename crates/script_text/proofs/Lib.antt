@@ -6,3 +6,5 @@ pub mod Scripts
 pub mod ServedCalls
 pub mod Labels
 pub mod Served
+pub mod SpacedValues
+pub mod LastWords

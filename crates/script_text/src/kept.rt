@@ -1,8 +1,9 @@
 //! The calls of the lines that are read so far.
 
-ghost use Rattle.std.specs.Prelude.{◌≡◌, [], Some, IfOk};
+ghost use Rattle.std.specs.Prelude.{◌≡◌, ◌<◌, ◌++◌, [], Some, IfOk, OnOk, vec_len, vec_capacity};
 ghost use Rattle.script_words.specs.Reading.{Reads};
 ghost use Rattle.script_text.specs.Kept.{kept_behind};
+ghost use Rattle.script_text.specs.Pieces.{calls_in};
 
 use crate::script_calls::ScriptCalls;
 use jet_base::Session;
@@ -59,16 +60,6 @@ impl Calls {
         self.session = session;
     }
 
-    /// Takes the room for the next piece.
-    #[cold]
-    fn begin_piece(&mut self) -> Result<(), Refusal>
-        ensures { Reads (λ _. self.new) result (Some self.old) }
-    {
-        let room = Vec::with_capacity(self.alloc, PIECE_CALLS)?;
-        self.full.push(mem::replace(&mut self.last, room))?;
-        Ok(())
-    }
-
     /// The calls.
     pub fn into_calls(self) -> Result<ScriptCalls, AllocError>
         ensures { IfOk result (λ calls. calls ≡ self.calls) }
@@ -79,16 +70,45 @@ impl Calls {
     }
 }
 
+/// Takes the room for the next piece.
+#[cold]
+fn begin_piece(
+    alloc: Global,
+    full: &mut Vec<Vec<(Session, Request)>>,
+    last: &mut Vec<(Session, Request)>,
+) -> Result<(), Refusal>
+    ensures calls { Reads (λ _. calls_in full.new.items ++ last.new.items) result (Some (calls_in full.old.items ++ last.old.items)) }
+    ensures room { OnOk result (vec_len last.new < vec_capacity last.new) }
+{
+    let room = Vec::with_capacity(alloc, PIECE_CALLS)?;
+    full.push(mem::replace(last, room))?;
+    Ok(())
+}
+
+/// Makes room for one more call in the last piece.
+#[inline(always)]
+fn make_room(
+    alloc: Global,
+    full: &mut Vec<Vec<(Session, Request)>>,
+    last: &mut Vec<(Session, Request)>,
+) -> Result<(), Refusal>
+    ensures calls { Reads (λ _. calls_in full.new.items ++ last.new.items) result (Some (calls_in full.old.items ++ last.old.items)) }
+    ensures room { OnOk result (vec_len last.new < vec_capacity last.new) }
+{
+    if last.len() < last.capacity() {
+        return Ok(());
+    }
+    begin_piece(alloc, full, last)
+}
+
 /// Puts a call of the line's session behind the others.
 ///
-/// A call is moved once, from the place where it is made to its place in the list.
+/// A call is moved once, from the place where it is made to its place in the list, where there is room for it.
 #[inline(always)]
 pub fn keep(kept: &mut Calls, request: Request) -> Result<(), Refusal>
     ensures { Reads (λ _. kept.new) result (kept_behind kept.old request) }
 {
-    if kept.last.len() == kept.last.capacity() {
-        kept.begin_piece()?;
-    }
-    kept.last.push((kept.session, request))?;
+    make_room(kept.alloc, &mut kept.full, &mut kept.last)?;
+    kept.last.push_reserved((kept.session, request));
     Ok(())
 }

@@ -1,7 +1,7 @@
 //! The first word of a text, where its end need not be searched.
 
 ghost use Rattle.std.specs.Prelude.{◌≡◌, ◌==◌, ◌<◌, ◌≤◌, ◌+◌, ◌-◌, ◌∷◌, ℕ, [], length, not, slice_index, take, Some, IfSome, IsTrue};
-ghost use Rattle.std.specs.List.{list_all};
+ghost use Rattle.std.specs.List.{list_all, position};
 ghost use Rattle.std.specs.Option.{option_copied};
 ghost use Rattle.script_words.specs.Words.{label_of, parts_left, words_of};
 
@@ -135,4 +135,30 @@ pub fn behind_word<'a>(text: &'a [u8], word: &[u8]) -> Option<&'a [u8]>
         return None;
     }
     Some(&text[end + 1..])
+}
+
+/// The place of the first space.
+#[inline(always)]
+fn place_of_space(text: &[u8]) -> Option<usize>
+    ensures { result ≡ position (λ b. b == 32) text.now }
+{
+    text.iter().position(|byte| *byte == b' ')
+}
+
+/// The first word of a text and the text behind the space that ends it, where one does.
+#[inline(always)]
+pub fn leading_word(text: &[u8]) -> Option<(&[u8], &[u8])>
+    ensures { IfSome result (λ found. words_of text.now ≡ found.0.now ∷ words_of found.1.now) }
+{
+    let end = place_of_space(text)?;
+    Some((&text[..end], &text[end + 1..]))
+}
+
+/// Whether a text is this word.
+#[tactic(auto, using(crate::proofs::LastWords::whole_word))]
+#[inline(always)]
+pub fn is_the_word(text: &[u8], word: &[u8]) -> bool
+    ensures { IsTrue result → text.now ≡ word.now }
+{
+    text.len() == word.len() && begins_with(text, word)
 }

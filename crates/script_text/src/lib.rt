@@ -7,6 +7,7 @@ mod calls;
 mod choices;
 mod flags;
 mod frequent;
+mod frequent_calls;
 mod grammar;
 mod index_words;
 mod kept;

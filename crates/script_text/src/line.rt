@@ -1,13 +1,16 @@
 //! A line of the grammar, whatever stands before it.
 
-ghost use Rattle.std.specs.Prelude.{◌≡◌, []};
+ghost use Rattle.std.specs.Prelude.{◌≡◌};
+ghost use Rattle.std.specs.Option.{option_copied};
+ghost use Rattle.script_words.specs.Words.{parts_left};
 ghost use Rattle.script_words.specs.Reading.{Reads};
 ghost use Rattle.script_text.specs.CallNames.{cursor_reading, said_by};
 ghost use Rattle.script_text.specs.Grammar.{line_request};
 ghost use Rattle.script_text.specs.Kept.{calls_with_line};
 
 use crate::frequent::{Head, frequent_head};
-use crate::grammar::{call_of_cursor, named_call};
+use crate::frequent_calls::{bare_call, call_behind};
+use crate::grammar::named_call;
 use crate::kept::Calls;
 use jet_base::{CursorId, Session};
 use script_words::arity::first_word;
@@ -24,36 +27,23 @@ pub fn keep_line(alloc: Global, line: &[u8], kept: &mut Calls) -> Result<(), Ref
     ensures { Reads (λ _. kept.new) result (calls_with_line kept.old (line_request line.now)) }
 {
     match frequent_head(line) {
-        Some(head) => match head.rest {
-            Some(rest) => keep_headed(alloc, &head, Parts::of(rest, b' '), kept),
-            None => keep_headed(alloc, &head, no_words(), kept),
-        },
+        Some(head) => keep_headed(alloc, &head, kept),
         None => keep_any_line(alloc, line, kept),
     }
 }
 
-/// The same of a line that begins with a head, by the words behind it.
+/// The same of a line that begins with a head.
 #[tactic(auto, using(crate::proofs::Lines::steps))]
-fn keep_headed(
-    alloc: Global,
-    head: &Head<'_>,
-    words: Parts<'_>,
-    kept: &mut Calls,
-) -> Result<(), Refusal>
-    ensures { Reads (λ _. kept.new) result (calls_with_line kept.old (said_by head.now.session (cursor_reading head.now.call (record { 0 = head.now.cursor }) words.entry))) }
+#[inline(always)]
+fn keep_headed(alloc: Global, head: &Head<'_>, kept: &mut Calls) -> Result<(), Refusal>
+    ensures { Reads (λ _. kept.new) result (calls_with_line kept.old (said_by head.now.session (cursor_reading head.now.call (record { 0 = head.now.cursor }) (parts_left 32 (option_copied head.now.rest))))) }
 {
-    let mut words = words;
     kept.begin_line(Session(head.session));
-    call_of_cursor(alloc, head.call, CursorId(head.cursor), &mut words, kept)
-}
-
-/// No words: none follows the one of an empty text.
-fn no_words() -> Parts<'static>
-    ensures { result ≡ [] }
-{
-    let mut words = Parts::of(b"", b' ');
-    let _empty = words.next();
-    words
+    let cursor = CursorId(head.cursor);
+    match head.rest {
+        Some(text) => call_behind(alloc, head.call, cursor, text, kept),
+        None => bare_call(alloc, head.call, cursor, kept),
+    }
 }
 
 /// The same, word by word.

@@ -2,3 +2,4 @@ pub mod Cuts
 pub mod WordCounts
 pub mod Decimal
 pub mod HexPairs
+pub mod Forms

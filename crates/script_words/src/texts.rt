@@ -50,6 +50,7 @@ pub fn is_name(word: &[u8]) -> bool
 
 /// A name.
 #[tactic(auto, unfolding(crate::specs::Words::name_of))]
+#[inline(always)]
 pub fn name(alloc: Global, word: &[u8]) -> Result<Name, Refusal>
     ensures { Reads (λ name. name) result (name_of word.now) }
 {
@@ -179,9 +180,9 @@ pub fn split_form(word: &[u8]) -> (&[u8], &[u8])
     }
 }
 
-/// A value.
+/// A value, by its form.
 #[tactic(auto, unfolding(crate::specs::Values::given_of))]
-pub fn given(alloc: Global, word: &[u8]) -> Result<Given, Refusal>
+fn given_by_form(alloc: Global, word: &[u8]) -> Result<Given, Refusal>
     ensures { Reads (λ value. value) result (given_of word.now) }
 {
     if is_word(word, b"null") {
@@ -198,5 +199,20 @@ pub fn given(alloc: Global, word: &[u8]) -> Result<Given, Refusal>
         fill(rest)
     } else {
         Err(Refusal::Bad)
+    }
+}
+
+/// A value.
+///
+/// Most are texts and numbers, which their first two bytes tell.
+#[tactic(auto, using(crate::proofs::Forms::forms))]
+#[inline(always)]
+pub fn given(alloc: Global, word: &[u8]) -> Result<Given, Refusal>
+    ensures { Reads (λ value. value) result (given_of word.now) }
+{
+    match word {
+        [b't', b':', rest @ ..] => text(alloc, rest),
+        [b'n', b':', rest @ ..] => number(rest),
+        _ => given_by_form(alloc, word),
     }
 }

@@ -1,0 +1,17 @@
+use Rattle.std.proofs.Common.{◌≡◌, ◌∷◌, [], ◌∙◌, Bor, List, ℕ, Some, ap, sym}
+use Rattle.std.specs.Prelude.{Option}
+use Rattle.std.specs.Option.{option_copied}
+use Rattle.script_words.specs.Words.{parts_left, words_of}
+use Rattle.script_text.specs.Calls.{sequence_of}
+use Rattle.script_text.proofs.LastWords.{sequence_of-label, retrieve_column_call-last}
+use Rattle.script_text.proofs.frequent_calls.value_to_retrieve.Goals as goal
+
+pub returns-in_default-None : goal.returns-in_default-None
+returns-in_default-None c = λ cursor.
+    let column = c.in_ok-column.column.now in
+    let digit = c.in_ok-sequence.field-0.0 in
+    let none : parts_left 32 (option_copied c.in_ok-sequence.field-0.1) ≡ [] = ap (λ (rest : Option (Bor (List ℕ))). parts_left 32 (option_copied rest)) c.in_default-None.is-1 in
+    let place : sequence_of (digit ∷ []) ≡ Some c.from.result = sequence_of-label (digit ∷ []) c.from.result (c.in_ok-sequence.ensures.label ∙ ap Some (sym c.from.ensures)) in
+    retrieve_column_call-last cursor (words_of c.args.text.now) column (digit ∷ []) c.from.result
+    (c.in_ok-column.ensures ∙ ap (λ (ws : List (List ℕ)). column ∷ ws) (c.in_ok-sequence.ensures.cut ∙ ap (λ (ws : List (List ℕ)). (digit ∷ []) ∷ ws) none))
+    place
