@@ -7,3 +7,4 @@ pub mod Kept
 pub mod Computing
 pub mod ScriptRun
 pub mod Parsed
+pub mod Parser
