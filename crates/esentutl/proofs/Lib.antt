@@ -2,3 +2,5 @@ pub mod Endings
 pub mod RunEndings
 pub mod Completeness
 pub mod Processes
+pub mod Buffers
+pub mod ScriptText

@@ -4,6 +4,7 @@ use Rattle.jet_base.specs.declared.ids.Session.{Session}
 use Rattle.session_local.specs.declared.request.Request.{Request}
 use Rattle.script_text.specs.Grammar.{script_lines}
 use Rattle.script_text.specs.Parsed.{calls_of}
+use Rattle.script_text.specs.Parser.{LinesRead, result_with}
 use Rattle.esentutl.specs.declared.reading.ReadScriptFault.{ReadScriptFault}
 use Rattle.esentutl.specs.declared.reading.ReadScriptFault.TheVariants as fault
 use Rattle.esentutl.specs.Words.{last_line, bad_line}
@@ -27,6 +28,22 @@ ReadsAs s text (Err fault.Source) = s.faults_before < s.faults_after
 ReadsAs s text (Err fault.TooLong) = (s.faults_after ≡ s.faults_before) × IfSome s.left_before (λ bytes. script_limit < length bytes)
 ReadsAs s text (Err (fault.BadLine number)) = IsWholeScript s text × (script_lines text ≡ Err number)
 ReadsAs s text (Err fault.Memory) = s.faults_after ≡ s.faults_before
+
+-- what is known of the source's counts of faults where one piece of a script was asked for
+abbrev pub CountsPiece : Result ℕ ReadScriptFault → ℕ → ℕ → Type 0
+CountsPiece (Ok count) before now = now ≡ before
+CountsPiece (Err fault.Source) before now = before < now
+CountsPiece (Err fault.TooLong) before now = ⊥
+CountsPiece (Err (fault.BadLine number)) before now = ⊥
+CountsPiece (Err fault.Memory) before now = now ≡ before
+
+-- what a script comes to where this is the rest of it
+abbrev pub FinishesAs : LinesRead → List ℕ → Result (List (Session × Request)) ReadScriptFault → Type 0
+FinishesAs read rest (Ok calls) = result_with read rest ≡ Ok (calls_of calls)
+FinishesAs read rest (Err fault.Source) = ⊥
+FinishesAs read rest (Err fault.TooLong) = ⊥
+FinishesAs read rest (Err (fault.BadLine number)) = result_with read rest ≡ Err number
+FinishesAs read rest (Err fault.Memory) = Unit {0}
 
 -- the line that tells why, none for want of memory, and the status
 abbrev pub line_of_fault : ReadScriptFault → List ℕ

@@ -8,6 +8,7 @@ mod process;
 mod reading;
 mod report;
 mod top;
+mod unparsed;
 mod words;
 
 pub use process::{WordsFault, end_process, run_process};

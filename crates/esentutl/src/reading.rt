@@ -1,14 +1,15 @@
 //! The reading of a script.
 
-ghost use Rattle.std.specs.Prelude.{◌≡◌, true, ℕ, List, MatchResult, IfOk, Ok, Err};
+ghost use Rattle.std.specs.Prelude.{◌≡◌, ◌<◌, ◌+◌, ◌^◌, true, ℕ, List, length, MatchResult, IfOk, Ok, Err};
 ghost use Rattle.std.specs.Io.KnownBytes.{prepend_known};
 ghost use Rattle.script_text.specs.Built.{are_built};
 ghost use Rattle.script_text.specs.Parsed.{calls_of};
-ghost use Rattle.esentutl.specs.Reading.{ReadsAs};
+ghost use Rattle.esentutl.specs.Reading.{ReadsAs, FinishesAs};
 
-use jet_io::{ReadFault, Source, read_to_limit};
-use script_text::{ScriptCalls, ScriptFault, parse};
-use std::alloc::Global;
+use crate::unparsed::Unparsed;
+use jet_io::Source;
+use script_text::{ScriptCalls, ScriptFault, ScriptParser, a_call_of_the_grammar_is_answered};
+use std::alloc::{AllocError, Global};
 use thiserror::Error;
 
 /// The most bytes of a script.
@@ -31,7 +32,21 @@ pub enum ReadScriptFault {
     Memory,
 }
 
+impl From<AllocError> for ReadScriptFault {
+    ghost use Rattle.esentutl.specs.declared.reading.ReadScriptFault.TheVariants as fault;
+
+    ghost from_gives = { λ _ e. e ≡ fault.Memory };
+
+    fn from(_: AllocError) -> ReadScriptFault {
+        ReadScriptFault::Memory
+    }
+}
+
 /// Reads a script to its end, and its calls from it.
+///
+/// Its text is parsed as it comes, and only the begin of a line is kept of it. It is read to its end, or to one byte above the
+/// limit, also behind a line that is outside the grammar, so that a source that fails and a script that is too long are told
+/// before such a line.
 pub fn read_script<S: Source>(alloc: Global, script: &mut S) -> Result<ScriptCalls, ReadScriptFault>
     ensures script { (text : List ℕ) × (S.left script.old ≡ prepend_known text (S.left script.new))
         × MatchResult result
@@ -40,14 +55,31 @@ pub fn read_script<S: Source>(alloc: Global, script: &mut S) -> Result<ScriptCal
     // Each call is one that the engine answers, whatever stands before it.
     ensures built { IfOk result (λ calls. are_built (calls_of calls) ≡ true) }
 {
-    match read_to_limit(alloc, script, SCRIPT_LIMIT) {
-        Ok(text) => match parse(alloc, &text) {
-            Ok(calls) => Ok(calls),
-            Err(ScriptFault::BadLine(line)) => Err(ReadScriptFault::BadLine(line)),
-            Err(ScriptFault::OutOfMemory) => Err(ReadScriptFault::Memory),
-        },
-        Err(ReadFault::Failed) => Err(ReadScriptFault::Source),
-        Err(ReadFault::TooLong) => Err(ReadScriptFault::TooLong),
-        Err(ReadFault::OutOfMemory) => Err(ReadScriptFault::Memory),
+    a_call_of_the_grammar_is_answered();
+    let mut parser = ScriptParser::new(alloc)?;
+    let mut unparsed = Unparsed::new(alloc);
+    let mut taken = 0;
+    while taken <= SCRIPT_LIMIT {
+        match unparsed.read(script, SCRIPT_LIMIT + 1 - taken) {
+            Ok(0) => return finish(parser, unparsed.as_slice()),
+            Ok(count) => {
+                taken += count;
+                unparsed.parse_lines(&mut parser, count)?;
+            }
+            Err(fault) => return Err(fault),
+        }
+    }
+    Err(ReadScriptFault::TooLong)
+}
+
+/// Parses the rest of a script.
+fn finish(parser: ScriptParser, rest: &[u8]) -> Result<ScriptCalls, ReadScriptFault>
+    requires { parser.number + length rest.now + 1 < 2 ^ 64 }
+    ensures { FinishesAs parser rest.now result }
+{
+    match parser.finish(rest) {
+        Ok(calls) => Ok(calls),
+        Err(ScriptFault::BadLine(line)) => Err(ReadScriptFault::BadLine(line)),
+        Err(ScriptFault::OutOfMemory) => Err(ReadScriptFault::Memory),
     }
 }

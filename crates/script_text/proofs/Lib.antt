@@ -3,6 +3,7 @@ pub mod FirstWords
 pub mod Lines
 pub mod LabelledCalls
 pub mod Scripts
+pub mod WholeLines
 pub mod ServedCalls
 pub mod Labels
 pub mod Served

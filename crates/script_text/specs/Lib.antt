@@ -8,3 +8,4 @@ pub mod Computing
 pub mod ScriptRun
 pub mod Parsed
 pub mod LastWords
+pub mod Parser

@@ -14,9 +14,11 @@ mod kept;
 mod laws;
 mod leading;
 mod line;
+mod parser;
 mod script;
 mod script_calls;
 
 pub use laws::a_call_of_the_grammar_is_answered;
+pub use parser::ScriptParser;
 pub use script::{ScriptFault, parse};
 pub use script_calls::ScriptCalls;

@@ -5,11 +5,8 @@ ghost use Rattle.script_text.specs.Built.{are_built};
 ghost use Rattle.script_text.specs.Grammar.{script_lines};
 ghost use Rattle.script_text.specs.Parsed.{calls_of};
 
-use crate::grammar::is_skipped;
-use crate::kept::Calls;
-use crate::line::keep_line;
+use crate::parser::ScriptParser;
 use crate::script_calls::ScriptCalls;
-use script_words::{Parts, Refusal};
 use std::alloc::{AllocError, Global};
 use thiserror::Error;
 
@@ -34,28 +31,6 @@ impl From<AllocError> for ScriptFault {
     }
 }
 
-/// The calls of a script in order, line by line.
-fn calls_of_lines(alloc: Global, bytes: &[u8]) -> Result<ScriptCalls, ScriptFault>
-    ensures read { IfOk result (λ calls. script_lines bytes.now ≡ Ok (calls_of calls)) }
-    ensures bad_line { (line : ℕ) → result ≡ Err (ScriptFault.BadLine line) → script_lines bytes.now ≡ Err line }
-{
-    let mut kept = Calls::new(alloc)?;
-    let mut number: u64 = 0;
-    let mut lines = Parts::of(bytes, b'\n');
-    while let Some(line) = lines.next() {
-        number += 1;
-        if is_skipped(line) {
-            continue;
-        }
-        match keep_line(alloc, line, &mut kept) {
-            Ok(()) => {}
-            Err(Refusal::Bad) => return Err(ScriptFault::BadLine(number)),
-            Err(Refusal::Memory) => return Err(ScriptFault::OutOfMemory),
-        }
-    }
-    Ok(kept.into_calls()?)
-}
-
 /// The calls of a script in order, each with the session that makes it.
 ///
 /// The script is read once, line by line; names and values are copied, lines and words are read in place. The fault
@@ -67,6 +42,6 @@ pub fn parse(alloc: Global, bytes: &[u8]) -> Result<ScriptCalls, ScriptFault>
     ensures served { IfOk result (λ calls. are_built (calls_of calls) ≡ true) }
     ensures bad_line { (line : ℕ) → result ≡ Err (ScriptFault.BadLine line) → script_lines bytes.now ≡ Err line }
 {
-    let calls = calls_of_lines(alloc, bytes)?;
-    Ok(calls)
+    let parser = ScriptParser::new(alloc)?;
+    parser.finish(bytes)
 }
