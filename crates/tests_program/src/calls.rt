@@ -45,12 +45,9 @@ fn ends_as(
     ended == status && out.taken() == output
 }
 
-// Its first line is outside the grammar, which is told only where the script is not too long.
 #[test]
 fn a_script_that_is_too_long(rt: HostRuntime) {
-    let mut script = vec![in rt.alloc(); b'#'; 16_777_217].expect(&rt, "memory");
-    script[0] = b'1';
-    script[1] = b'\n';
+    let script = vec![in rt.alloc(); b'#'; 16_777_217].expect(&rt, "memory");
     let from = source(&rt, rt.alloc(), &script, &[]);
     let out = sink(&rt, rt.alloc(), 1_000, &[]);
     assert!(&rt;
@@ -63,9 +60,6 @@ fn a_script_that_is_too_long(rt: HostRuntime) {
             b"esentutl: script too long\n"
         )
     );
-    let from = source(&rt, rt.alloc(), &script[..16_777_216], &[]);
-    let out = sink(&rt, rt.alloc(), 1_000, &[]);
-    assert!(&rt; ends_as(&rt, rt.alloc(), from, out, 2, b"esentutl: script line 1\n"));
     let from = source(&rt, rt.alloc(), &script[1..], &[]);
     let out = sink(&rt, rt.alloc(), 1_000, &[]);
     assert!(&rt; ends_as(&rt, rt.alloc(), from, out, 0, b""));
@@ -93,13 +87,10 @@ fn words_of_other_forms(rt: HostRuntime) {
     }
 }
 
-/// Scripts, and the call of the source that fails: its second is made behind the last byte.
-static FAILING: &[(&[u8], u64)] = &[(SCRIPT, 1), (SCRIPT, 2), (b"1 Fly\n", 2)];
-
 #[test]
 fn a_source_that_fails(rt: HostRuntime) {
-    for (script, call) in FAILING {
-        let from = source(&rt, rt.alloc(), script, &[*call]);
+    for call in [1, 2] {
+        let from = source(&rt, rt.alloc(), SCRIPT, &[call]);
         let out = sink(&rt, rt.alloc(), 1_000, &[]);
         assert!(&rt; ends_as(&rt, rt.alloc(), from, out, 5, b"esentutl: source\n"));
     }
