@@ -1,20 +1,19 @@
 -- Frames as their pages, marks and free list make them.
-use Rattle.std.proofs.Common.{◌≡◌, ◌≢◌, ℕ, zero, suc, ◌+◌, ◌<◌, ◌≤◌, Bool, true, false, Some, None, Result, Ok, Err, List, [], ◌∷◌, ◌++◌, length, get_or, set, refl, sym, ap, subst, ◌∙◌, arith}
-use Rattle.std.specs.Prelude.{IsSome, OnErr, All}
+use Rattle.std.proofs.Common.{◌≡◌, ◌≢◌, ℕ, zero, suc, ◌+◌, ◌<◌, ◌≤◌, Bool, true, false, Some, None, List, [], ◌∷◌, ◌++◌, length, get_or, set, refl, sym, ap, subst, ◌∙◌, arith}
+use Rattle.std.specs.Prelude.{IsSome, All}
 use Rattle.std.proofs.lemmas.List.{length-set, get_or-set_same, get_or-set_other, get_or_append_left, get_or_at, get_or_default, length_push}
 use Rattle.std.proofs.lemmas.List.Elements.{All-nil, All-cons, All-tail, All-push}
 use Rattle.std.proofs.lemmas.List.Quantifiers.{all_pairs_push}
-use Rattle.page_image.specs.Page.{PageContents}
 use Rattle.page_space.specs.Frames.{Frames, IsTaken, page_at}
-use Rattle.page_space.specs.Held.{frames_of, free_in, Keeps}
+use Rattle.page_space.specs.Held.{PageBox, frames_of, free_in, Keeps}
 
-pub length-frames_of : (pages : List PageContents) (taken : List Bool) → length taken ≡ length pages → length (frames_of pages taken) ≡ length pages
+pub length-frames_of : (pages : List PageBox) (taken : List Bool) → length taken ≡ length pages → length (frames_of pages taken) ≡ length pages
 length-frames_of [] taken same = refl
 length-frames_of (p ∷ pages) [] same = absurd (omega arith)
 length-frames_of (p ∷ pages) (t ∷ taken) same = omega (arith, length-frames_of pages taken (omega arith))
 
 -- A taken page is marked so.
-pub marked : (pages : List PageContents) (taken : List Bool) (i : ℕ) → IsTaken (frames_of pages taken) i → (i < length pages) × (i < length taken) × (get_or taken i false ≡ true)
+pub marked : (pages : List PageBox) (taken : List Bool) (i : ℕ) → IsTaken (frames_of pages taken) i → (i < length pages) × (i < length taken) × (get_or taken i false ≡ true)
 marked [] taken i some = absurd (never some)
   where
     never : false ≡ true → ⊥
@@ -30,14 +29,14 @@ marked (p ∷ pages) (false ∷ taken) zero some = absurd (never some)
     never e = cc
 marked (p ∷ pages) (t ∷ taken) (suc i) some = let rest = marked pages taken i some in (omega (arith, rest.0), omega (arith, rest.1), rest.2)
 
-pub page_at-marked : (pages : List PageContents) (taken : List Bool) (i : ℕ) (d : PageContents) → i < length pages → get_or taken i false ≡ true → page_at (frames_of pages taken) i ≡ Some (get_or pages i d)
+pub page_at-marked : (pages : List PageBox) (taken : List Bool) (i : ℕ) (d : PageBox) → i < length pages → get_or taken i false ≡ true → page_at (frames_of pages taken) i ≡ Some (get_or pages i d).value
 page_at-marked [] taken i d within mark = absurd (omega arith)
 page_at-marked (p ∷ pages) [] i d within mark = cc
 page_at-marked (p ∷ pages) (true ∷ taken) zero d within mark = refl
 page_at-marked (p ∷ pages) (false ∷ taken) zero d within mark = cc
 page_at-marked (p ∷ pages) (t ∷ taken) (suc i) d within mark = page_at-marked pages taken i d (omega arith) mark
 
-pub page_at-free : (pages : List PageContents) (taken : List Bool) (i : ℕ) → get_or taken i true ≡ false → page_at (frames_of pages taken) i ≡ None
+pub page_at-free : (pages : List PageBox) (taken : List Bool) (i : ℕ) → get_or taken i true ≡ false → page_at (frames_of pages taken) i ≡ None
 page_at-free [] taken i mark = refl
 page_at-free (p ∷ pages) [] i mark = refl
 page_at-free (p ∷ pages) (true ∷ taken) zero mark = cc
@@ -45,26 +44,26 @@ page_at-free (p ∷ pages) (false ∷ taken) zero mark = refl
 page_at-free (p ∷ pages) (t ∷ taken) (suc i) mark = page_at-free pages taken i mark
 
 -- the frames after a write of a page and its mark
-pub frames_of-take : (pages : List PageContents) (taken : List Bool) (i : ℕ) (x : PageContents) → i < length pages → i < length taken → frames_of (set pages i x) (set taken i true) ≡ set (frames_of pages taken) i (Some x)
+pub frames_of-take : (pages : List PageBox) (taken : List Bool) (i : ℕ) (x : PageBox) → i < length pages → i < length taken → frames_of (set pages i x) (set taken i true) ≡ set (frames_of pages taken) i (Some x.value)
 frames_of-take [] taken i x within marks = absurd (omega arith)
 frames_of-take (p ∷ pages) [] i x within marks = absurd (omega arith)
 frames_of-take (p ∷ pages) (t ∷ taken) zero x within marks = refl
 frames_of-take (p ∷ pages) (t ∷ taken) (suc i) x within marks = ap (λ (r : Frames). page_at (frames_of (p ∷ pages) (t ∷ taken)) 0 ∷ r) (frames_of-take pages taken i x (omega arith) (omega arith))
 
-pub frames_of-give : (pages : List PageContents) (taken : List Bool) (i : ℕ) → i < length pages → i < length taken → frames_of pages (set taken i false) ≡ set (frames_of pages taken) i None
+pub frames_of-give : (pages : List PageBox) (taken : List Bool) (i : ℕ) → i < length pages → i < length taken → frames_of pages (set taken i false) ≡ set (frames_of pages taken) i None
 frames_of-give [] taken i within marks = absurd (omega arith)
 frames_of-give (p ∷ pages) [] i within marks = absurd (omega arith)
 frames_of-give (p ∷ pages) (t ∷ taken) zero within marks = refl
 frames_of-give (p ∷ pages) (t ∷ taken) (suc i) within marks = ap (λ (r : Frames). page_at (frames_of (p ∷ pages) (t ∷ taken)) 0 ∷ r) (frames_of-give pages taken i (omega arith) (omega arith))
 
-pub frames_of-write : (pages : List PageContents) (taken : List Bool) (i : ℕ) (x : PageContents) → i < length pages → get_or taken i false ≡ true → frames_of (set pages i x) taken ≡ set (frames_of pages taken) i (Some x)
+pub frames_of-write : (pages : List PageBox) (taken : List Bool) (i : ℕ) (x : PageBox) → i < length pages → get_or taken i false ≡ true → frames_of (set pages i x) taken ≡ set (frames_of pages taken) i (Some x.value)
 frames_of-write [] taken i x within mark = absurd (omega arith)
 frames_of-write (p ∷ pages) [] i x within mark = cc
 frames_of-write (p ∷ pages) (true ∷ taken) zero x within mark = refl
 frames_of-write (p ∷ pages) (false ∷ taken) zero x within mark = cc
 frames_of-write (p ∷ pages) (t ∷ taken) (suc i) x within mark = ap (λ (r : Frames). page_at (frames_of (p ∷ pages) (t ∷ taken)) 0 ∷ r) (frames_of-write pages taken i x (omega arith) mark)
 
-pub frames_of-push : (pages : List PageContents) (taken : List Bool) (x : PageContents) → length taken ≡ length pages → frames_of (pages ++ x ∷ []) (taken ++ true ∷ []) ≡ frames_of pages taken ++ Some x ∷ []
+pub frames_of-push : (pages : List PageBox) (taken : List Bool) (x : PageBox) → length taken ≡ length pages → frames_of (pages ++ x ∷ []) (taken ++ true ∷ []) ≡ frames_of pages taken ++ Some x.value ∷ []
 frames_of-push [] [] x same = refl
 frames_of-push [] (t ∷ taken) x same = absurd (omega arith)
 frames_of-push (p ∷ pages) [] x same = absurd (omega arith)
@@ -96,17 +95,17 @@ free_in-push (true ∷ taken) = free_in-push taken
 free_in-push (false ∷ taken) = ap suc (free_in-push taken)
 
 -- Where none is free, all are taken.
-pub all_taken : (pages : List PageContents) (taken : List Bool) → length taken ≡ length pages → free_in taken ≡ 0 → All IsSome (frames_of pages taken)
+pub all_taken : (pages : List PageBox) (taken : List Bool) → length taken ≡ length pages → free_in taken ≡ 0 → All IsSome (frames_of pages taken)
 all_taken [] taken same none = All-nil IsSome
 all_taken (p ∷ pages) [] same none = absurd (omega arith)
-all_taken (p ∷ pages) (true ∷ taken) same none = All-cons IsSome (Some p) (frames_of pages taken) refl (all_taken pages taken (omega arith) none)
+all_taken (p ∷ pages) (true ∷ taken) same none = All-cons IsSome (Some p.value) (frames_of pages taken) refl (all_taken pages taken (omega arith) none)
 all_taken (p ∷ pages) (false ∷ taken) same none = absurd (omega arith)
 
-pub none_free : (pages : List PageContents) (taken : List Bool) → length taken ≡ length pages → All IsSome (frames_of pages taken) → free_in taken ≡ 0
+pub none_free : (pages : List PageBox) (taken : List Bool) → length taken ≡ length pages → All IsSome (frames_of pages taken) → free_in taken ≡ 0
 none_free [] [] same all = refl
 none_free [] (t ∷ taken) same all = absurd (omega arith)
 none_free (p ∷ pages) [] same all = absurd (omega arith)
-none_free (p ∷ pages) (true ∷ taken) same all = none_free pages taken (omega arith) (All-tail IsSome (Some p) (frames_of pages taken) all)
+none_free (p ∷ pages) (true ∷ taken) same all = none_free pages taken (omega arith) (All-tail IsSome (Some p.value) (frames_of pages taken) all)
 none_free (p ∷ pages) (false ∷ taken) same all = absurd (never (all 0 None (omega arith)))
   where
     never : false ≡ true → ⊥
@@ -119,7 +118,7 @@ within_marks (t ∷ taken) zero mark = omega arith
 within_marks (t ∷ taken) (suc i) mark = omega (arith, within_marks taken i mark)
 
 -- the free list without its last page, which is taken
-pub keeps-take : (pages : List PageContents) (taken : List Bool) (free rest : List ℕ) (capacity capacity' : ℕ) (page : ℕ) (x : PageContents) → Keeps pages taken free capacity → free ≡ rest ++ page ∷ [] → capacity ≤ capacity' → Keeps (set pages page x) (set taken page true) rest capacity'
+pub keeps-take : (pages : List PageBox) (taken : List Bool) (free rest : List ℕ) (capacity capacity' : ℕ) (page : ℕ) (x : PageBox) → Keeps pages taken free capacity → free ≡ rest ++ page ∷ [] → capacity ≤ capacity' → Keeps (set pages page x) (set taken page true) rest capacity'
 keeps-take pages taken free rest capacity capacity' page x k is grows =
     let count : length free ≡ length rest + 1 = ap (λ (l : List ℕ). length l) is ∙ length_push rest page in
     let last : get_or free (length rest) 0 ≡ page = ap (λ (l : List ℕ). get_or l (length rest) 0) is ∙ get_or_at rest page [] 0 (length rest) refl in
@@ -138,7 +137,7 @@ keeps-take pages taken free rest capacity capacity' page x k is grows =
     }
 
 -- the mark of the last page of the free list
-pub last_is_free : (pages : List PageContents) (taken : List Bool) (free rest : List ℕ) (capacity : ℕ) (page : ℕ) → Keeps pages taken free capacity → free ≡ rest ++ page ∷ [] → (get_or taken page true ≡ false) × (page < length pages) × (page < length taken)
+pub last_is_free : (pages : List PageBox) (taken : List Bool) (free rest : List ℕ) (capacity : ℕ) (page : ℕ) → Keeps pages taken free capacity → free ≡ rest ++ page ∷ [] → (get_or taken page true ≡ false) × (page < length pages) × (page < length taken)
 last_is_free pages taken free rest capacity page k is =
     let count : length free ≡ length rest + 1 = ap (λ (l : List ℕ). length l) is ∙ length_push rest page in
     let last : get_or free (length rest) 0 ≡ page = ap (λ (l : List ℕ). get_or l (length rest) 0) is ∙ get_or_at rest page [] 0 (length rest) refl in
@@ -146,7 +145,7 @@ last_is_free pages taken free rest capacity page k is =
     (mark, omega (arith, within_marks taken page mark, k.same), within_marks taken page mark)
 
 -- the free list with a page more, which was taken
-pub keeps-give : (pages : List PageContents) (taken : List Bool) (free : List ℕ) (capacity capacity' : ℕ) (page : ℕ) → Keeps pages taken free capacity → page < length taken → get_or taken page false ≡ true → capacity ≤ capacity' → Keeps pages (set taken page false) (free ++ page ∷ []) capacity'
+pub keeps-give : (pages : List PageBox) (taken : List Bool) (free : List ℕ) (capacity capacity' : ℕ) (page : ℕ) → Keeps pages taken free capacity → page < length taken → get_or taken page false ≡ true → capacity ≤ capacity' → Keeps pages (set taken page false) (free ++ page ∷ []) capacity'
 keeps-give pages taken free capacity capacity' page k within mark grows =
     let was : get_or taken page true ≡ true = get_or_default taken page true false within ∙ mark in
     let other : (j d : ℕ) → j < length free → get_or free j d ≢ page = λ j d lt e. never (sym (k.are_free j d lt) ∙ ap (λ p. get_or taken p true) e ∙ was) in
@@ -165,11 +164,11 @@ keeps-give pages taken free capacity capacity' page k within mark grows =
     never e = cc
 
 -- the free list has room for a page that is taken
-pub free_has_room : (pages : List PageContents) (taken : List Bool) (free : List ℕ) (capacity : ℕ) (page : ℕ) → Keeps pages taken free capacity → get_or taken page false ≡ true → page < length taken → length free < capacity
+pub free_has_room : (pages : List PageBox) (taken : List Bool) (free : List ℕ) (capacity : ℕ) (page : ℕ) → Keeps pages taken free capacity → get_or taken page false ≡ true → page < length taken → length free < capacity
 free_has_room pages taken free capacity page k mark within =
     omega (arith, k.all, k.room, k.same, free_in-give taken page mark, free_in-le (set taken page false), length-set taken page false)
 
-pub is_taken-marked : (pages : List PageContents) (taken : List Bool) (i : ℕ) → i < length pages → get_or taken i false ≡ true → IsTaken (frames_of pages taken) i
+pub is_taken-marked : (pages : List PageBox) (taken : List Bool) (i : ℕ) → i < length pages → get_or taken i false ≡ true → IsTaken (frames_of pages taken) i
 is_taken-marked [] taken i within mark = absurd (omega arith)
 is_taken-marked (p ∷ pages) [] i within mark = cc
 is_taken-marked (p ∷ pages) (true ∷ taken) zero within mark = refl
@@ -177,7 +176,7 @@ is_taken-marked (p ∷ pages) (false ∷ taken) zero within mark = cc
 is_taken-marked (p ∷ pages) (t ∷ taken) (suc i) within mark = is_taken-marked pages taken i (omega arith) mark
 
 -- one page more, which is taken, where none is free
-pub keeps-push : (pages : List PageContents) (taken : List Bool) (free : List ℕ) (capacity capacity' : ℕ) (x : PageContents) → Keeps pages taken free capacity → free_in taken ≡ 0 → length pages < 16777216 → length pages + 1 ≤ capacity' → Keeps (pages ++ x ∷ []) (taken ++ true ∷ []) free capacity'
+pub keeps-push : (pages : List PageBox) (taken : List Bool) (free : List ℕ) (capacity capacity' : ℕ) (x : PageBox) → Keeps pages taken free capacity → free_in taken ≡ 0 → length pages < 16777216 → length pages + 1 ≤ capacity' → Keeps (pages ++ x ∷ []) (taken ++ true ∷ []) free capacity'
 keeps-push pages taken free capacity capacity' x k none fewer room = record {
   same = omega (arith, k.same, length_push pages x, length_push taken true);
   are_free = λ j d lt. absurd (omega (arith, k.all));
@@ -188,5 +187,5 @@ keeps-push pages taken free capacity capacity' x k none fewer room = record {
 }
 
 -- The free list was empty.
-pub free_was_empty : (pages : List PageContents) (taken : List Bool) (free : List ℕ) (capacity : ℕ) → Keeps pages taken free capacity → length free ≡ 0 → All IsSome (frames_of pages taken)
+pub free_was_empty : (pages : List PageBox) (taken : List Bool) (free : List ℕ) (capacity : ℕ) → Keeps pages taken free capacity → length free ≡ 0 → All IsSome (frames_of pages taken)
 free_was_empty pages taken free capacity k none = all_taken pages taken k.same (omega (arith, k.all))

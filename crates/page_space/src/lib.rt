@@ -17,7 +17,9 @@ const MAX_PAGES: usize = 16_777_216;
 /// Pages by their numbers, which begin at 0. A page keeps its bytes while it is taken.
 #[derive(Drop)]
 pub struct Space {
-    pages: Vec<Page>,
+    alloc: Global,
+    // Each in a block of its own, which stays where it is as the space grows.
+    pages: Vec<Box<Page>>,
     taken: Vec<bool>,
     // The numbers of the free pages, with room for all, so that giving back takes no memory.
     free: Vec<u32>,
@@ -41,6 +43,7 @@ impl Space {
         ensures { result ≡ [] }
     {
         Space {
+            alloc,
             pages: Vec::new(alloc),
             taken: Vec::new(alloc),
             free: Vec::new(alloc),
@@ -89,7 +92,7 @@ impl Space {
     {
         match self.free.pop() {
             Some(page) => {
-                self.pages[page as usize] = Page::empty(page, LEAF);
+                *self.pages[page as usize] = Page::empty(page, LEAF);
                 self.taken[page as usize] = true;
                 Ok(page)
             }
@@ -110,7 +113,8 @@ impl Space {
         let page = count as u32;
         self.free.reserve(count + 1)?;
         self.taken.reserve(1)?;
-        self.pages.push(Page::empty(page, LEAF))?;
+        let block = Box::new(self.alloc, Page::empty(page, LEAF))?;
+        self.pages.push(block)?;
         self.taken.push(true)?;
         Ok(page)
     }
