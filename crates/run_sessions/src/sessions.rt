@@ -1,6 +1,6 @@
 //! Sessions by label.
 
-ghost use Rattle.std.specs.Prelude.{◌≡◌, length, IfOk, if◌then◌else◌};
+ghost use Rattle.std.specs.Prelude.{◌≡◌, ◌≤◌, length, IfOk, if◌then◌else◌};
 ghost use Rattle.std.specs.Borrow.{sem};
 ghost use Rattle.run_sessions.specs.Sessions.{last_label, session_at, HasPlace, AreFresh, with_last};
 ghost use Rattle.run_sessions.specs.Lending.{LendsLocal};
@@ -56,10 +56,10 @@ impl RunSessions {
         Ok(RunSessions { sessions })
     }
 
-    /// The bytes of a session's reply buffer: none of a session that was not begun.
+    /// The bytes of a session's reply buffer: 1,048,576 at most, and none of a session that was not begun.
     pub fn reply(&self, session: Session) -> &[u8]
         ensures bytes { result.now ≡ (session_at self.now session.0).local.reply }
-        ensures count { length (session_at self.now session.0).local.reply ≡ (if (session_at self.now session.0).local.state.begun then 1048576 else 0) }
+        ensures count { length (session_at self.now session.0).local.reply ≤ (if (session_at self.now session.0).local.state.begun then 1048576 else 0) }
     {
         match self.sessions.get(session.0 as usize) {
             Some(found) => found.local.reply(),

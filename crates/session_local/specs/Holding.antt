@@ -3,6 +3,7 @@ use Rattle.std.specs.Prelude.{◌≡◌, ℕ, ◌≤◌, ◌==◌, true, List, [
 use Rattle.session_local.specs.declared.local.Local.TheInside.{Inside}
 use Rattle.session_local.specs.declared.begun.Begun.TheInside as begun
 use Rattle.session_local.specs.declared.buffers.Buffers.TheInside as buffers
+use Rattle.session_local.specs.declared.reply_buffer.ReplyBuffer.TheInside as buffer
 use Rattle.session_local.specs.Local.{LocalState, OpenCursor, no_session}
 use Rattle.session_local.specs.SessionSide.{SessionSide, HeldState, label_of, are_distinct}
 
@@ -18,20 +19,23 @@ abbrev pub side : Inside → SessionSide
 side local = side_with local.session.0 local.begun
 
 abbrev pub held : begun.Inside → HeldState
-held inside = record { cursors = inside.cursors.items; reply = inside.reply.items }
+held inside = record { cursors = inside.cursors.items; reply = inside.reply }
 
--- No label stands twice, there is room for 16 cursors and no more of them, and the reply buffer has its bytes.
+-- A reply buffer has room for 1,048,576 bytes, and no more of them.
+pub record HasItsRoom (inside : buffer.Inside) : Type 0 where
+  pub room : 1048576 ≤ vec_capacity inside.bytes
+  pub few : vec_len inside.bytes ≤ 1048576
+
+-- No label stands twice, and there is room for 16 cursors and no more of them.
 pub record IsHeld (inside : begun.Inside) : Type 0 where
   pub distinct : are_distinct (map label_of inside.cursors.items) ≡ true
   pub few : vec_len inside.cursors ≤ 16
   pub room : 16 ≤ vec_capacity inside.cursors
-  pub bytes : vec_len inside.reply ≡ 1048576
 
--- There is room for 16 cursors and none of them, and the reply buffer has its bytes.
+-- There is room for 16 cursors and none of them.
 pub record AreTaken (inside : buffers.Inside) : Type 0 where
   pub none : vec_len inside.cursors ≡ 0
   pub room : 16 ≤ vec_capacity inside.cursors
-  pub bytes : vec_len inside.reply ≡ 1048576
 
 -- the place of the first cursor with this label
 abbrev pub position_of : ℕ → List OpenCursor → Option ℕ

@@ -10,11 +10,12 @@ ghost use Rattle.session_local.specs.RecordCalls.{retrieve_copy};
 ghost use Rattle.session_local.specs.Showing.{answered_with, bytes_answered, names_within, HasRoom, NamesWithin};
 ghost use Rattle.session_local.specs.WellFormed.{IsWellFormed, is_well_formed_cursor};
 
-use crate::begun::{Begun, write_front};
+use crate::begun::Begun;
 use crate::calls::{cursor_of, is_always_local};
 use crate::local::Local;
 use crate::open_cursor::OpenCursor;
 use crate::reply::{Reply, Value};
+use crate::reply_buffer::ReplyBuffer;
 use crate::request::Request;
 use crate::showing::Shown;
 use jet_base::{CursorId, Jet, Name, OutOfMemory, Prepare};
@@ -163,9 +164,8 @@ impl OpenCursor {
 }
 
 // Writes what is shown of the value to the front of the reply buffer.
-fn show_value(buffer: &mut [u8], value: Shown<'_>, most: u32) -> Reply
-    requires room { HasRoom value }
-    requires size { 1048576 ≤ length buffer.old }
+fn show_value(buffer: &mut ReplyBuffer, value: Shown<'_>, most: u32) -> Reply
+    requires { HasRoom value }
     ensures answer { answered_by result buffer.new ≡ answered_with most value.entry }
     ensures named { IsTrue (names_within result.value (length buffer.new)) }
 {
@@ -179,20 +179,17 @@ fn show_value(buffer: &mut [u8], value: Shown<'_>, most: u32) -> Reply
 }
 
 // Writes the bytes to the front of the reply buffer, up to the most that was asked for.
-fn show_bytes(buffer: &mut [u8], bytes: &[u8], most: usize) -> Reply
-    requires { length bytes.now ≤ length buffer.old }
+fn show_bytes(buffer: &mut ReplyBuffer, bytes: &[u8], most: usize) -> Reply
+    requires { length bytes.now ≤ 1048576 }
     ensures answer { answered_by result buffer.new ≡ bytes_answered most bytes.now }
     ensures named { IsTrue (names_within result.value (length buffer.new)) }
 {
     let (front, _) = bytes.split_at(most.min(bytes.len()));
-    write_front(buffer, front);
+    let value = buffer.show(front, bytes.len() as u64);
     let jet = if most < bytes.len() {
         Jet::BufferTruncated
     } else {
         Jet::Success
     };
-    Reply {
-        jet,
-        value: Value::Bytes(front.len(), bytes.len() as u64),
-    }
+    Reply { jet, value }
 }

@@ -1,6 +1,6 @@
 //! What a session holds from its begin to its end.
 
-ghost use Rattle.std.specs.Prelude.{◌≡◌, ◌≤◌, ◌<◌, ◌==◌, ◌||◌, ◌++◌, [], ◌∷◌, true, Option, Some, None, IfSome, IsTrue, MatchOption, length, nat_le, find, filter, map, not, is_some, option_map, drop, remove, vec_len, vec_capacity, if◌then◌else◌};
+ghost use Rattle.std.specs.Prelude.{◌≡◌, ◌≤◌, ◌<◌, ◌==◌, ◌||◌, ◌++◌, [], ◌∷◌, true, Option, Some, None, IfSome, IsTrue, MatchOption, length, nat_le, find, filter, map, not, is_some, option_map, remove, vec_len, vec_capacity, if◌then◌else◌};
 ghost use Rattle.session_local.specs.Answer.{Bytes, answered_by, shown_by};
 ghost use Rattle.session_local.specs.declared.reply.Value.TheVariants as value;
 ghost use Rattle.session_local.specs.Local.{unprepared};
@@ -14,7 +14,8 @@ use crate::buffers::{Buffers, MOST_CURSORS};
 use crate::open_cursor::OpenCursor;
 use crate::prepared::Prepared;
 use crate::reply::{Reply, Value};
-use crate::retrieved_value::{RetrievedValue, show_front};
+use crate::reply_buffer::ReplyBuffer;
+use crate::retrieved_value::RetrievedValue;
 use jet_base::CursorId;
 use std::marker::Model;
 
@@ -22,7 +23,7 @@ use std::marker::Model;
 #[derive(Debug, Drop)]
 pub(crate) struct Begun {
     pub(crate) cursors: Vec<OpenCursor>,
-    pub(crate) reply: Vec<u8>,
+    pub(crate) reply: ReplyBuffer,
 }
 
 impl Model for Begun {
@@ -49,9 +50,9 @@ impl Begun {
     /// The bytes of the reply buffer.
     pub(crate) fn reply(&self) -> &[u8]
         ensures bytes { result.now ≡ self.now.reply }
-        ensures count { length self.now.reply ≡ 1048576 }
+        ensures short { length self.now.reply ≤ 1048576 }
     {
-        self.reply.as_slice()
+        self.reply.as_bytes()
     }
 
     /// The cursors, in the order in which they were opened.
@@ -138,13 +139,11 @@ impl Begun {
     pub(crate) fn show(&mut self, front: &[u8], whole: u64) -> Value
         requires { length front.now ≤ 1048576 }
         ensures shown { shown_by result self.new.reply ≡ Bytes front.now whole }
+        ensures named { IsTrue (names_within result (length self.new.reply)) }
         ensures value { result ≡ value.Bytes (length front.now) whole }
-        ensures room { length self.new.reply ≡ 1048576 }
-        ensures held { length self.old.reply ≡ 1048576 }
         ensures cursors { self.new.cursors ≡ self.old.cursors }
     {
-        write_front(&mut self.reply, front);
-        Value::Bytes(front.len(), whole)
+        self.reply.show(front, whole)
     }
 
     /// Reads the first bytes of a value, up to the most that was asked for, to the front of the reply buffer.
@@ -152,11 +151,9 @@ impl Begun {
         requires { IfSome (V.bytes value.now) (λ bytes. length bytes ≤ 1048576) }
         ensures shown { answered_by result self.new.reply ≡ value_answered most (V.bytes value.now) }
         ensures named { IsTrue (names_within result.value (length self.new.reply)) }
-        ensures room { length self.new.reply ≡ 1048576 }
-        ensures held { length self.old.reply ≡ 1048576 }
         ensures cursors { self.new.cursors ≡ self.old.cursors }
     {
-        show_front(&mut self.reply, value, most as usize)
+        self.reply.show_value(value, most)
     }
 }
 
@@ -177,13 +174,4 @@ fn take_out(cursors: &mut Vec<OpenCursor>, at: usize)
     ensures capacity { vec_capacity cursors.new ≡ vec_capacity cursors.old }
 {
     let _ = cursors.remove(at);
-}
-
-// Writes the piece over the first bytes.
-pub(crate) fn write_front(bytes: &mut [u8], piece: &[u8])
-    requires { length piece.now ≤ length bytes.old }
-    ensures { bytes.new ≡ piece.now ++ drop (length piece.now) bytes.old }
-{
-    let (front, _) = bytes.split_at_mut(piece.len());
-    front.copy_from_slice(piece);
 }

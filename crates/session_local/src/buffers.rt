@@ -1,24 +1,22 @@
 //! What a session takes as it begins.
 
-ghost use Rattle.std.specs.Prelude.{◌≡◌, IfOk, length};
+ghost use Rattle.std.specs.Prelude.{◌≡◌, [], IfOk};
 
 use crate::open_cursor::OpenCursor;
+use crate::reply_buffer::ReplyBuffer;
 use jet_base::OutOfMemory;
 use std::alloc::Global;
 use std::marker::Model;
 
-/// How many bytes the reply buffer has: as many as the largest value.
-pub(crate) const REPLY_SIZE: usize = 1_048_576;
-
 /// How many cursors a session may have open.
 pub const MOST_CURSORS: usize = 16;
 
-/// The memory that a session takes as it begins: its reply buffer, and room for its cursors. Contracts see the bytes
-/// of the reply buffer.
+/// The memory that a session takes as it begins: its reply buffer, with room for 1,048,576 bytes, and room for its cursors.
+/// Contracts see the bytes of the reply buffer.
 #[derive(Debug, Drop)]
 pub struct Buffers {
     pub(crate) cursors: Vec<OpenCursor>,
-    pub(crate) reply: Vec<u8>,
+    pub(crate) reply: ReplyBuffer,
 }
 
 impl Model for Buffers {
@@ -28,18 +26,18 @@ impl Model for Buffers {
 
     ghost use Rattle.session_local.specs.Holding.{AreTaken};
 
-    ghost view = { λ a. a.reply.items };
+    ghost view = { λ a. a.reply };
 
     ghost invariant = { AreTaken };
 }
 
 impl Buffers {
-    /// Takes the memory.
+    /// Takes the memory. The reply buffer is empty.
     pub fn take(alloc: Global) -> Result<Buffers, OutOfMemory>
-        ensures { IfOk result (λ taken. length taken ≡ 1048576) }
+        ensures { IfOk result (λ taken. taken ≡ []) }
     {
         let cursors = Vec::with_capacity(alloc, MOST_CURSORS)?;
-        let reply = Vec::from_elem(alloc, 0, REPLY_SIZE)?;
+        let reply = ReplyBuffer::take(alloc)?;
         Ok(Buffers { cursors, reply })
     }
 }

@@ -16,6 +16,7 @@ mod open_cursor;
 mod prepared;
 mod preparing;
 mod reply;
+mod reply_buffer;
 mod request;
 mod retrieved_value;
 mod retrieving_copies;

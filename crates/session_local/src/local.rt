@@ -22,8 +22,9 @@ use std::marker::Model;
 
 /// One session's own state: whether it was begun, its cursors with their prepared updates, and its reply buffer.
 ///
-/// Contracts see the session's label, the state of the definitions, and the bytes of the reply buffer, which has
-/// 1,048,576 of them from BeginSession to EndSession. The value of a reply that shows bytes lies at their front.
+/// Contracts see the session's label, the state of the definitions, and the bytes of the reply buffer. It has room for
+/// 1,048,576 of them from BeginSession to EndSession, and has as many as the replies so far may have shown. The value of a
+/// reply that shows bytes lies at their front.
 #[derive(Debug, Drop)]
 pub struct Local {
     session: Session,
@@ -58,10 +59,10 @@ impl Local {
         self.session
     }
 
-    /// The reply buffer, empty before BeginSession.
+    /// The reply buffer: 1,048,576 bytes at most, and none before BeginSession.
     pub fn reply(&self) -> &[u8]
         ensures bytes { result.now ≡ self.now.reply }
-        ensures count { length self.now.reply ≡ (if self.now.state.begun then 1048576 else 0) }
+        ensures count { length self.now.reply ≤ (if self.now.state.begun then 1048576 else 0) }
     {
         match &self.begun {
             Some(begun) => begun.reply(),
@@ -96,9 +97,8 @@ impl Local {
         requires begun { IsTrue self.old.state.begun }
         requires room { length front.now ≤ 1048576 }
         ensures shown { shown_by result self.new.reply ≡ Bytes front.now whole }
+        ensures named { IsTrue (names_within result (length self.new.reply)) }
         ensures value { result ≡ value.Bytes (length front.now) whole }
-        ensures room { length self.new.reply ≡ 1048576 }
-        ensures held { length self.old.reply ≡ 1048576 }
         ensures state { self.new.state ≡ self.old.state }
         ensures session { self.new.session ≡ self.old.session }
     {
@@ -115,8 +115,6 @@ impl Local {
         requires room { IfSome (V.bytes value.now) (λ bytes. length bytes ≤ 1048576) }
         ensures shown { answered_by result self.new.reply ≡ value_answered most (V.bytes value.now) }
         ensures named { IsTrue (names_within result.value (length self.new.reply)) }
-        ensures room { length self.new.reply ≡ 1048576 }
-        ensures held { length self.old.reply ≡ 1048576 }
         ensures state { self.new.state ≡ self.old.state }
         ensures session { self.new.session ≡ self.old.session }
     {

@@ -1,6 +1,6 @@
 //! Values that are read into the reply buffer where they lie.
 
-ghost use Rattle.std.specs.Prelude.{List, ℕ, ◌≡◌, ◌≤◌, IfSome, IsTrue, length, Option};
+ghost use Rattle.std.specs.Prelude.{List, ℕ, ◌≡◌, ◌≤◌, IfSome, IsTrue, length, min, Option};
 ghost use Rattle.session_local.specs.Answer.{answered_by};
 ghost use Rattle.session_local.specs.Showing.{IsRead, names_within, value_answered};
 
@@ -18,9 +18,10 @@ pub trait RetrievedValue {
         ensures { IsRead (bytes self.now) result into.old into.new };
 }
 
-/// Reads the first bytes of a value, up to the most that was asked for, to the front of the reply buffer.
+/// Reads the first bytes of a value, up to the most that was asked for, to the front of a buffer that is long enough.
 pub(crate) fn show_front<V: RetrievedValue>(buffer: &mut [u8], value: &V, most: usize) -> Reply
-    requires { IfSome (V.bytes value.now) (λ bytes. length bytes ≤ length buffer.old) }
+    requires long { min most 1048576 ≤ length buffer.old }
+    requires short { IfSome (V.bytes value.now) (λ bytes. length bytes ≤ 1048576) }
     ensures answer { answered_by result buffer.new ≡ value_answered most (V.bytes value.now) }
     ensures named { IsTrue (names_within result.value (length buffer.new)) }
 {

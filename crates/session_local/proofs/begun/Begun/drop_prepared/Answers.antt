@@ -15,5 +15,4 @@ invariant_of-self c =
       distinct = rw (items, labels-unprepared c.self.inside.cursors.items) c.self.invariant.distinct;
       few = search rules;
       room = search rules;
-      bytes = c.self.invariant.bytes;
     }

@@ -12,7 +12,6 @@ invariant_of-self g c =
       distinct = rw (labels-set c.self.inside.cursors.items c.in-Some.at c.navigate.new.self c.index_mut-cursor.result.now (ap (λ (o : OpenCursor). o.label) c.navigate.ensures.cursor ∙ ap (λ (o : OpenCursor). o.label) c.index_mut-cursor.ensures.value)) c.self.invariant.distinct;
       few = c.self.invariant.few;
       room = c.self.invariant.room;
-      bytes = c.self.invariant.bytes;
     }
 
 pub returns-in-Some-clause-answer : goal.returns-in-Some-clause-answer

@@ -20,7 +20,6 @@ invariant_of-self c =
       distinct = rw (labels-set c.self.inside.cursors.items c.in-Some.at c.prepare.new.self c.index_mut-cursor.result.now (ap (λ (o : OpenCursor). o.label) c.prepare.ensures ∙ ap (λ (o : OpenCursor). o.label) c.index_mut-cursor.ensures.value)) c.self.invariant.distinct;
       few = c.self.invariant.few;
       room = c.self.invariant.room;
-      bytes = c.self.invariant.bytes;
     }
 
 pub returns-in-Some-clause-cursors : goal.returns-in-Some-clause-cursors

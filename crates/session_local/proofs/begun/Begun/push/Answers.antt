@@ -10,5 +10,4 @@ invariant_of-self c =
       distinct = rw c.in-Ok.ensures.items (are_distinct-push c.self.inside.cursors.items c.args.cursor c.self.invariant.distinct (rw same c.requires.free));
       few = search rules;
       room = search rules;
-      bytes = c.self.invariant.bytes;
     }

@@ -20,7 +20,6 @@ invariant_of-self c =
       distinct = rw (c.take_out.ensures.items, kept) (are_distinct-filter (λ (o : OpenCursor). not (o.label == c.args.label.0)) c.self.inside.cursors.items distinct);
       few = search rules;
       room = search rules;
-      bytes = c.self.invariant.bytes;
     }
 
 pub returns-in-Some-clause-cursors : goal.returns-in-Some-clause-cursors

@@ -1,12 +1,10 @@
-use Rattle.std.proofs.Common.{◌==◌, ℕ, List, Option, length, get_or, sym, subst, ◌∙◌, ap, arith, IsTrue}
-use Rattle.std.proofs.lemmas.List.{with_items_is}
+use Rattle.std.proofs.Common.{◌==◌, List, Option, get_or, sym, ◌∙◌, ap}
 use Rattle.session_local.specs.Local.{OpenCursor}
 use Rattle.session_local.specs.SessionSide.{HeldState}
 use Rattle.session_local.specs.declared.reply.Reply.{Reply}
 use Rattle.session_local.specs.Answer.{answered_by}
 use Rattle.session_local.specs.Outcome.{on_cursor}
 use Rattle.session_local.specs.RecordCalls.{retrieve_copy}
-use Rattle.session_local.specs.Showing.{names_within}
 use Rattle.session_local.proofs.Distinct.{found-position, missing-position}
 use Rattle.session_local.proofs.begun.Begun.show_copy.Goals as goal
 
@@ -23,9 +21,7 @@ returns-in-Ok-clause-shown c =
     let cursor = c.index.result.now in
     let is = c.index.ensures ∙ ap (λ (cs : List OpenCursor). get_or cs at cursor) same in
     let known = found-position (λ (o : OpenCursor). o.label == c.args.label.0) c.args.self.now.cursors at cursor (sym c.position.ensures ∙ c.in-Some.is) is in
-    let whole = with_items_is c.self.inside.reply c.show_value.new.buffer (omega (arith, c.show_value.auto.buffer, c.deref_mut.ensures.len)) in
-    λ asked. ap (λ b. answered_by c.show_value.result b) whole
-    ∙ c.show_value.ensures.answer
+    λ asked. c.show_value.ensures.answer
     ∙ sym (c.in-Ok.ensures.answer asked c.args.most)
     ∙ ap (λ (o : Option OpenCursor). (on_cursor asked o (λ x. retrieve_copy asked x c.args.column.now c.args.sequence c.args.most)).answered) (sym known)
 
@@ -39,8 +35,3 @@ returns-in-Err-clause-shown c =
     λ asked. ap (λ (r : Reply). answered_by r c.args.self.now.reply) c.without_value-in-Err.ensures
     ∙ sym (c.in-Err.ensures.answer asked c.args.most)
     ∙ ap (λ (o : Option OpenCursor). (on_cursor asked o (λ x. retrieve_copy asked x c.args.column.now c.args.sequence c.args.most)).answered) (sym known)
-
-pub returns-in-Ok-clause-named : goal.returns-in-Ok-clause-named
-returns-in-Ok-clause-named c =
-    let whole = with_items_is c.self.inside.reply c.show_value.new.buffer (omega (arith, c.show_value.auto.buffer, c.deref_mut.ensures.len)) in
-    subst (λ (b : List ℕ). IsTrue (names_within c.show_value.result.value (length b))) (sym whole) c.show_value.ensures.named
