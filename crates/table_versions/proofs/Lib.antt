@@ -20,6 +20,7 @@ pub mod KeyWalks
 pub mod AskedOfTheState
 pub mod PrimaryKeys
 pub mod LastUndone
+pub mod UntouchedRecords
 pub mod UndoneLevel
 pub mod UndoneInTurns
 pub mod UndoneSession

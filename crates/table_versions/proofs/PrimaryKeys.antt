@@ -13,12 +13,13 @@ use Rattle.index_derive.specs.declared.rules.IndexRule.{IndexRule}
 use Rattle.index_derive.specs.declared.rules.Schema.{Schema}
 use Rattle.index_derive.specs.Entries.{derive, own_order}
 use Rattle.version_store.specs.declared.calls.Reader.{Reader}
-use Rattle.versioned_tables.specs.HeldRecords.{seen_record}
+use Rattle.versioned_tables.specs.HeldRecords.{is_change_at, seen_record}
 use Rattle.versioned_tables.specs.VersionedTables.{VersionedTables, seen_rows, seen_table, seen_tables}
 use Rattle.versioned_tables.proofs.SeenTables.{seen_at_id}
 use Rattle.table_versions.specs.KeyConflicts.{is_taken_for}
 use Rattle.stored_variants.specs.StoredVersions.{entries_in}
 use Rattle.table_versions.specs.Shown.{FindsShown}
+use Rattle.table_versions.proofs.UntouchedRecords.{sees_newest}
 
 taken_rows : (own : Option (List ℕ)) (key : List ℕ) (rows : Rows) → list_any (λ (entry : Pair). bytes_eq entry.0 key && not (is_replaced own entry.1)) (own_order rows) ≡ (is_some (row_at rows key) && not (is_replaced own key))
 taken_rows own key [] = refl
@@ -70,6 +71,14 @@ taken_in_primary finds reader store table schema known rule found primary own ke
 
         shown : table_with_id (seen_tables reader store) table ≡ Some (seen_table reader store.held t)
         shown = seen_at_id reader store.held store.tables table ∙ ap (option_map (seen_table reader store.held)) e
+
+-- and where no change of the record under it is held, where there is a newest one
+pub taken_newest : FindsShown → (reader : Reader) (store : VersionedTables) (table : ℕ) (schema : Schema) → IsSomeAnd (table_with_id store.tables table) (λ t. schema ≡ schema_of t)
+    → (rule : IndexRule) → rule_with_id schema rule.id.0 ≡ Some rule → rule.flags.primary ≡ true → (own : Option (List ℕ)) (key : List ℕ) → list_any (is_change_at table key) store.held ≡ false
+    → is_taken_for reader store table rule.id.0 own key ≡ (is_some (record_in store.tables table key) && not (is_replaced own key))
+taken_newest finds reader store table schema known rule found primary own key untouched =
+    taken_in_primary finds reader store table schema known rule found primary own key
+    ∙ ap (λ (o : Option RecordFields). is_some o && not (is_replaced own key)) (sees_newest table key reader (record_in store.tables table key) store.held untouched)
 
 pub and_true : (b : Bool) → (b && true) ≡ b
 and_true true = refl

@@ -1,14 +1,16 @@
 //! Keys of records: conflicts over them with the changes of other sessions, and keys that another record of the view has.
 
 ghost use Rattle.std.specs.Prelude.{◌≡◌, ℕ, Bool, List, ◌≤◌, ◌<◌, ◌&&◌, ◌||◌, false, length, map, slice_get, true, IsSomeAnd, Some, option_copied};
+ghost use Rattle.std.specs.List.{list_any};
 ghost use Rattle.database_state.specs.Conflicts.{yields_key};
 ghost use Rattle.database_state.specs.Puts.{is_replaced};
 ghost use Rattle.database_state.specs.Table.{record_in, rule_with_id, schema_of, table_with_id};
 ghost use Rattle.index_derive.specs.declared.rules.IndexRule.{IndexRule};
 ghost use Rattle.index_derive.specs.declared.rules.Schema.{Schema};
 ghost use Rattle.index_derive.specs.Entries.{is_legal};
+ghost use Rattle.version_store.specs.declared.calls.Reader.{Reader};
 ghost use Rattle.version_store.specs.HeldChanges.{HeldChange};
-ghost use Rattle.versioned_tables.specs.HeldRecords.{has_key_conflict};
+ghost use Rattle.versioned_tables.specs.HeldRecords.{has_key_conflict, is_change_at};
 ghost use Rattle.table_versions.specs.KeyConflicts.{AreRowsBefore, conflicts_under, is_taken_for, yields_before_change};
 ghost use Rattle.stored_variants.specs.RecordRows.{TableValues, held_record_in};
 ghost use Rattle.table_trees.specs.StoredTables.{table_long_values};
@@ -50,6 +52,23 @@ impl TableVersions {
         } else {
             self.conflict_at_entries(reader, table, schema, rule, key)
         }
+    }
+
+    /// A key of the primary index is in conflict with changes of the record under it alone.
+    pub(crate) fn keys_of_a_primary_index_conflict_by_their_record(&self)
+        ensures { (reader : Reader) (table : ℕ) (schema : Schema) (rule : IndexRule) (key : List ℕ) → IsSomeAnd (table_with_id self.now.store.tables table) (λ t. schema ≡ schema_of t)
+            → rule_with_id schema rule.id.0 ≡ Some rule → rule.flags.primary ≡ true
+            → conflicts_under reader rule schema key (yields_key rule schema key (record_in self.now.store.tables table key)) table key self.now.store.held ≡ has_key_conflict reader (record_in self.now.store.tables) table rule schema key self.now.store.held }
+    {
+        a_primary_index_has_one_entry();
+        self.trees.nodes_are_in_order();
+    }
+
+    /// Whether a change of a record is held.
+    pub(crate) fn has_changes(&self, table: TableId, bookmark: &[u8]) -> bool
+        ensures { result ≡ list_any (is_change_at table.0 bookmark.now) self.now.store.held }
+    {
+        self.versions.newest_change(table, bookmark).is_some()
     }
 
     // The same for an index that has a tree.

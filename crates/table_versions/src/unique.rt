@@ -1,6 +1,6 @@
 //! What an update asks of a unique index.
 
-ghost use Rattle.std.specs.Prelude.{◌≡◌, ℕ, ◌≤◌, ◌&&◌, not, true, List, [], ◌∷◌, IsOk, IsSomeAnd, Option, Some, option_copied};
+ghost use Rattle.std.specs.Prelude.{◌≡◌, ℕ, ◌≤◌, ◌&&◌, not, false, true, List, [], ◌∷◌, IsOk, IsSomeAnd, Option, Some, option_copied};
 ghost use Rattle.std.specs.List.{AllByRecursion, list_any};
 ghost use Rattle.jet_base.specs.declared.replies.Jet.TheVariants as jet;
 ghost use Rattle.column_set.specs.RecordValues.{RecordFields};
@@ -15,6 +15,7 @@ ghost use Rattle.index_derive.specs.Entries.{entries, is_legal, key_list, primar
 ghost use Rattle.record_changes.specs.Records.{Records};
 ghost use Rattle.version_keys.specs.KeySums.{HasKeyBefores, SeesNoSum};
 ghost use Rattle.version_store.specs.declared.calls.Reader.{Reader};
+ghost use Rattle.versioned_tables.specs.HeldRecords.{is_change_at};
 ghost use Rattle.versioned_tables.specs.Holding.{Holds, begin_of};
 ghost use Rattle.versioned_tables.specs.VersionedTables.{VersionedTables};
 ghost use Rattle.table_versions.specs.KeyConflicts.{has_conflict_over, is_taken_for, replaced_seen, unique_refusals};
@@ -104,6 +105,34 @@ impl TableVersions {
     {
         self.rules_are_legal();
         a_primary_index_has_one_entry();
+        self.keys_of_a_primary_index_conflict_by_their_record();
+        // Most often no change of the record under the key is held, and its newest row tells all.
+        if self.has_changes(table, key.as_bytes()) {
+            self.refusal_beside_changes(reader, table, schema, rule, own, key)
+        } else if self.has_newest_other(table, schema, rule, own, key) {
+            Some(Jet::KeyDuplicate)
+        } else {
+            None
+        }
+    }
+
+    // The same where changes of the record under the key are held.
+    fn refusal_beside_changes(
+        &self,
+        reader: Reader,
+        table: TableId,
+        schema: &Schema,
+        rule: &IndexRule,
+        own: Option<&[u8]>,
+        key: &Key,
+    ) -> Option<Jet>
+        requires named { IsSomeAnd (table_with_id self.now.store.tables table.0) (λ t. schema.now ≡ schema_of t) }
+        requires rule { rule_with_id schema.now rule.now.id.0 ≡ Some rule.now }
+        requires primary { rule.now.flags.primary ≡ true }
+        ensures { (values : RecordFields) → IsOk (entries rule.now schema.now values) → key.now ≡ primary_key rule.now schema.now values → result ≡ first_refusal (unique_refusals reader self.now.store table.0 schema.now rule.now (option_copied own.entry) values) }
+    {
+        self.rules_are_legal();
+        a_primary_index_has_one_entry();
         if self.is_conflict_of_new(reader, table, schema, rule, own, key) {
             Some(Jet::WriteConflict)
         } else if self.has_other(reader, table, schema, rule, own, key) {
@@ -156,6 +185,29 @@ impl TableVersions {
         a_reader_finds_the_records_that_it_is_shown();
         let bookmark = key.as_bytes();
         match self.look_up(table, bookmark, reader) {
+            Some(_) => !is_replaced(own, bookmark),
+            None => false,
+        }
+    }
+
+    // The same for each reader, where no change of the record under the key is held: all see the newest one.
+    fn has_newest_other(
+        &self,
+        table: TableId,
+        schema: &Schema,
+        rule: &IndexRule,
+        own: Option<&[u8]>,
+        key: &Key,
+    ) -> bool
+        requires named { IsSomeAnd (table_with_id self.now.store.tables table.0) (λ t. schema.now ≡ schema_of t) }
+        requires rule { rule_with_id schema.now rule.now.id.0 ≡ Some rule.now }
+        requires primary { rule.now.flags.primary ≡ true }
+        requires untouched { list_any (is_change_at table.0 key.now) self.now.store.held ≡ false }
+        ensures { (reader : Reader) → result ≡ is_taken_for reader self.now.store table.0 rule.now.id.0 (option_copied own.entry) key.now }
+    {
+        a_reader_finds_the_records_that_it_is_shown();
+        let bookmark = key.as_bytes();
+        match self.newest(table, bookmark) {
             Some(_) => !is_replaced(own, bookmark),
             None => false,
         }

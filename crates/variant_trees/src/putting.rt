@@ -4,7 +4,7 @@ ghost use Rattle.std.specs.Prelude.{◌≡◌, ℕ, ◌≤◌, ◌<◌, ◌++◌
 ghost use Rattle.std.specs.List.{AllByRecursion};
 ghost use Rattle.btree_inplace.specs.Order.{extent_in, get_in};
 ghost use Rattle.column_set.specs.RecordValues.{record_fits};
-ghost use Rattle.column_set.specs.Rows.{IsRowBytes, is_row_of, largest_row, row_bytes};
+ghost use Rattle.column_set.specs.Rows.{IsRowBytes, is_all_here, is_row_of, largest_row, row_bytes};
 ghost use Rattle.column_set.specs.RowReading.{row_in};
 ghost use Rattle.index_tree.specs.Entries.{IsApartFromAll};
 ghost use Rattle.kept_rows.specs.ValuesChanged.{HasLongValues};
@@ -71,7 +71,8 @@ fn put_keys(
     Ok(())
 }
 
-// The same of one index.
+// The same of one index. Apart, since a key is large and a table without such an index makes none.
+#[inline(never)]
 fn put_keys_of(
     alloc: Global,
     trees: &mut TableTrees,
@@ -294,13 +295,17 @@ pub fn put_record(
     form_of_a_kept_row();
     kept_rows_stand_for_their_records();
     rows_are_read_back();
-    let row = match row_to_put(alloc, trees, table, bookmark, copied, by.number, values) {
+    // Whether the row has every value itself: asked once, since it goes over them all.
+    let is_here = is_all_here(values);
+    let row = match row_to_put(
+        alloc, trees, table, bookmark, copied, by.number, values, is_here,
+    ) {
         Ok(row) => row,
         Err(_) => return Err(VersionFault::OutOfMemory),
     };
     let bytes = row.as_slice();
     put_row(
-        alloc, trees, versions, by, change, table, schema, bookmark, values, bytes,
+        alloc, trees, versions, by, change, table, schema, bookmark, values, bytes, is_here,
     )
 }
 
@@ -313,7 +318,9 @@ fn row_to_put(
     copied: Option<&[u8]>,
     number: u64,
     values: &Record,
+    is_here: bool,
 ) -> Result<Vec<u8>, OutOfMemory>
+    requires here { is_here ≡ is_all_here values.now }
     requires newest { IfSome (row_under (table_nodes trees.now.tables table.0) bookmark.now) (IsRecordRow (table_long_values trees.now.tables table.0)) }
     requires copied { IfSome (option_copied copied) IsRowBytes }
     requires may { MayKeep (put_found number trees.now.tables table.0 bookmark.now (option_copied copied)) values.now }
@@ -321,7 +328,7 @@ fn row_to_put(
     ensures small { IfOk result (λ bytes. length bytes.items ≤ largest_row) }
 {
     rows_without_long_values();
-    if is_all_here(values) {
+    if is_here {
         return match encode_record(alloc, values) {
             Ok(row) => Ok(row),
             Err(_) => Err(OutOfMemory),
@@ -341,7 +348,8 @@ fn row_to_put(
 }
 
 // Takes the long values that a row of a record names, and holds the put: with the row in the node under its bookmark, or with
-// none where the node is new. Where memory fails the long values are as they were.
+// none where the node is new. Where memory fails the long values are as they were. Inlined, since each put comes through it.
+#[inline(always)]
 fn take_and_hold(
     trees: &mut TableTrees,
     versions: &mut Versions,
@@ -351,8 +359,10 @@ fn take_and_hold(
     bookmark: &[u8],
     values: &Record,
     row: &[u8],
+    is_here: bool,
     is_new: bool,
 ) -> Result<(), OutOfMemory>
+    requires here { is_here ≡ is_all_here values.now }
     requires there { has_table trees.old.tables table.0 ≡ true }
     requires row { IsRowBytes row.now }
     requires form { IsTrue (is_row_of (row_in row.now) values.now) }
@@ -369,7 +379,7 @@ fn take_and_hold(
     values_after_a_change();
     values_that_are_given_back();
     trees.long_values_are_whole();
-    match take_long_values(trees, table, row, values) {
+    match take_long_values(trees, table, row, values, is_here) {
         Ok(()) => {}
         Err(fault) => return Err(fault),
     }
@@ -388,7 +398,9 @@ fn take_long_values(
     table: TableId,
     row: &[u8],
     values: &Record,
+    is_here: bool,
 ) -> Result<(), OutOfMemory>
+    requires here { is_here ≡ is_all_here values.now }
     requires there { has_table trees.old.tables table.0 ≡ true }
     requires row { IsRowBytes row.now }
     requires form { IsTrue (is_row_of (row_in row.now) values.now) }
@@ -397,7 +409,7 @@ fn take_long_values(
     ensures err { OnErr result (HasLongValues table.0 (table_long_values trees.old.tables table.0) trees.old.tables trees.new.tables) }
     ensures catalog { trees.new.catalog ≡ trees.old.catalog }
 {
-    if is_all_here(values) {
+    if is_here {
         Ok(())
     } else {
         take_row(trees, table, row, values)
@@ -434,7 +446,9 @@ fn put_row(
     bookmark: &[u8],
     values: &Record,
     row: &[u8],
+    is_here: bool,
 ) -> Result<(), VersionFault>
+    requires here { is_here ≡ is_all_here values.now }
     requires there { has_table trees.old.tables table.0 ≡ true }
     requires rules { AllByRecursion (CanTake schema.now values.now table.0 trees.old.tables) schema.now.indexes }
     requires fits { record_fits schema.now.columns values.now ≡ true }
@@ -464,7 +478,8 @@ fn put_row(
         None => {}
         Some(extent) => {
             return put_over(
-                alloc, trees, versions, by, change, table, schema, bookmark, values, row, extent,
+                alloc, trees, versions, by, change, table, schema, bookmark, values, row, is_here,
+                extent,
             );
         }
     }
@@ -476,7 +491,7 @@ fn put_row(
         }
     }
     match take_and_hold(
-        trees, versions, by, change, table, bookmark, values, row, true,
+        trees, versions, by, change, table, bookmark, values, row, is_here, true,
     ) {
         Ok(()) => Ok(()),
         Err(_) => {
@@ -486,7 +501,8 @@ fn put_row(
     }
 }
 
-// The same under a bookmark that has a node, for which so many bytes are kept.
+// The same under a bookmark that has a node, for which so many bytes are kept. Apart, since a new record has none.
+#[inline(never)]
 fn put_over(
     alloc: Global,
     trees: &mut TableTrees,
@@ -498,8 +514,10 @@ fn put_over(
     bookmark: &[u8],
     values: &Record,
     row: &[u8],
+    is_here: bool,
     extent: usize,
 ) -> Result<(), VersionFault>
+    requires here { is_here ≡ is_all_here values.now }
     requires there { has_table trees.old.tables table.0 ≡ true }
     requires rules { AllByRecursion (CanTake schema.now values.now table.0 trees.old.tables) schema.now.indexes }
     requires fits { record_fits schema.now.columns values.now ≡ true }
@@ -535,7 +553,7 @@ fn put_over(
         }
     }
     match take_and_hold(
-        trees, versions, by, change, table, bookmark, values, row, false,
+        trees, versions, by, change, table, bookmark, values, row, is_here, false,
     ) {
         Ok(()) => {
             trees.replace(table, bookmark, row);

@@ -12,7 +12,7 @@ use Rattle.variant_trees.proofs.putting.row_to_put.Goals as goal
 pub returns-in-Ok-clause-row : goal.returns-in-Ok-clause-row
 returns-in-Ok-clause-row c =
     c.in-Ok.ensures.ok.1
-    ∙ sym (ap row_bytes (c.rows_without_long_values.ensures.kept (put_found c.args.number c.args.trees.now.tables c.args.table.0 c.args.bookmark.now (option_copied c.args.copied)) c.args.values.now (sym c.is_all_here.ensures ∙ c.if-is_all_here.true)))
+    ∙ sym (ap row_bytes (c.rows_without_long_values.ensures.kept (put_found c.args.number c.args.trees.now.tables c.args.table.0 c.args.bookmark.now (option_copied c.args.copied)) c.args.values.now (sym c.requires.here ∙ c.if-is_here.true)))
 
 pub keep_row-requires-clause-rows : goal.keep_row-requires-clause-rows
 keep_row-requires-clause-rows c =
