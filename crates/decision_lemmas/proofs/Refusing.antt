@@ -23,7 +23,6 @@ pub decision-refused : (engine : EngineState) (side : SessionSide) (request : Re
 decision-refused engine side request reply = record {
   session = refl;
   still = λ _. refl;
-  room = refl;
   named = refl;
   fits = copied_none side.state request;
   flush = refl;
@@ -51,7 +50,6 @@ pub decision-stepped : (engine : EngineState) (side : SessionSide) (request : Re
 decision-stepped engine side request step buffers flush decides lawful flushes = record {
   session = refl;
   still = λ _. refl;
-  room = refl;
   named = refl;
   fits = copied_none side.state request;
   flush = flushes;

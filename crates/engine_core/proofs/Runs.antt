@@ -99,6 +99,5 @@ beside-run limit engine run side last told formed held is =
     let in_step : IsInStep run.state side.session side.state = subst (IsInStep run.state side.session) (ap (λ (s : SessionRun). s.local) is.part) (held.in_step side.session) in record {
       held = record { state = run.state; holds = held.holds; in_step = in_step };
       begun = in_step.agrees.begun ∙ sym (told side.session);
-      reply = is.reply;
       formed = formed side.session side.state in_step;
     }

@@ -1,5 +1,5 @@
 -- When the engine is where the run of a script has come to, and what its sessions hold.
-use Rattle.std.specs.Prelude.{◌≡◌, ℕ, true, length}
+use Rattle.std.specs.Prelude.{◌≡◌, ℕ}
 use Rattle.session_local.specs.Local.{LocalState}
 use Rattle.session_local.specs.Run.{RunState, session_run}
 use Rattle.session_local.specs.SessionSide.{SessionSide}
@@ -20,7 +20,6 @@ pub record HoldsRun (limit : ℕ) (engine : EngineState) (run : RunState) : Type
   pub in_step : (session : ℕ) → IsInStep run.state session (locals_of run session)
 
 -- What a session holds by itself is its part of the run: its own state, and the count of entries after its last call that looked
--- at the shared state. The reply buffer of a session that was begun has 1,048,576 bytes.
+-- at the shared state.
 pub record IsInRun (run : RunState) (side : SessionSide) (last : ℕ) : Type 0 where
   pub part : session_run run side.session ≡ record { local = side.state; last = last }
-  pub reply : side.state.begun ≡ true → length side.reply ≡ 1048576

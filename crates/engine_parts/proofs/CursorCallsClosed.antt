@@ -20,7 +20,7 @@ use Rattle.lawful_answers.specs.LawfulSteps.{HasLawfulStep}
 use Rattle.engine_versions.specs.EngineState.{EngineState}
 use Rattle.engine_versions.specs.HoldsState.{asked_of}
 use Rattle.engine_parts.specs.Deciding.{Decides, IsDecision}
-use Rattle.engine_parts.proofs.CursorCallsShown.{at_if}
+use Rattle.engine_parts.specs.SharedCalls.{at_if}
 use Rattle.engine_versions.proofs.Decisions.{stepped_with, one_by, answer-begun, answer-is, copied_none}
 
 -- the session was begun, and has the cursor
@@ -47,7 +47,6 @@ pub close_table-lawful : ClosesLawfully → (engine : EngineState) (side : Sessi
 close_table-lawful closes engine side cursor c shared found = record {
   session = refl;
   still = λ _. refl;
-  room = refl;
   named = refl;
   fits = copied_none side.state (call.CloseTable cursor);
   flush = refl;

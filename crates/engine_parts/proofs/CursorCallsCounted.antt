@@ -30,8 +30,9 @@ use Rattle.engine_versions.specs.EngineState.{EngineState}
 use Rattle.engine_versions.specs.HoldsState.{HoldsState, asked_of}
 use Rattle.engine_parts.specs.Deciding.{Decides}
 use Rattle.engine_parts.specs.Reading.{entries_for, has_shown, records_for}
+use Rattle.engine_parts.specs.SharedCalls.{at_if}
 use Rattle.engine_versions.proofs.Decisions.{answer-begun, answer-is}
-use Rattle.engine_parts.proofs.CursorCallsShown.{at_if, shown_as}
+use Rattle.engine_parts.proofs.CursorCallsShown.{shown_as}
 use Rattle.engine_parts.proofs.CursorCallsNavigated.{ReadsView, sees}
 
 -- ---- a count needs few entries

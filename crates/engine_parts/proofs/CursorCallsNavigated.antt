@@ -9,7 +9,7 @@ use Rattle.session_local.specs.declared.request.Request.TheVariants as call
 use Rattle.session_local.specs.SessionSide.{SessionSide}
 use Rattle.session_local.specs.Answer.{Answered, Nothing}
 use Rattle.session_local.specs.Local.{LocalState, OpenCursor, cursor_labelled}
-use Rattle.session_local.specs.Outcome.{entries_seen, navigated}
+use Rattle.session_local.specs.Outcome.{navigated}
 use Rattle.session_local.specs.LocalCalls.{is_answered_locally}
 use Rattle.session_local.specs.Finishing.{Decided, finished}
 use Rattle.session_local.specs.Navigating.{navigated_by, navigated_on}
@@ -21,21 +21,18 @@ use Rattle.version_cleanup.specs.Cleaning.{reader_in}
 use Rattle.engine_versions.specs.EngineState.{EngineState}
 use Rattle.engine_versions.specs.HoldsState.{HoldsState, asked_of}
 use Rattle.engine_parts.specs.Deciding.{Decides, is_navigation}
+use Rattle.engine_parts.specs.HeldLaws.{SeesEntries, SeesRecords}
 use Rattle.engine_parts.specs.Reading.{entries_for, has_shown, records_for}
+use Rattle.engine_parts.specs.SharedCalls.{at_if}
 use Rattle.engine_versions.proofs.Decisions.{refused_with, answer-is}
-use Rattle.engine_parts.proofs.CursorCallsShown.{ReadsRecords, at_if, has_read}
+use Rattle.engine_parts.proofs.CursorCallsShown.{has_read}
 use Rattle.engine_parts.proofs.CursorNavigates.{Sees, with_cursor-found, navigates}
 
 -- ---- what a session reads is its view
 
-abbrev pub ReadsEntries : Type 0
-ReadsEntries =
-    (engine : EngineState) (state : DatabaseState) (session : ℕ) (local : LocalState) (label : ℕ) (c : OpenCursor) → HoldsState engine state → IsInStep state session local → cursor_labelled local label ≡ Some c
-    → (index : ℕ) → entries_for engine session c.cursor.table index ≡ entries_seen (asked_of engine state session local) c index
-
 pub record ReadsView : Type 0 where
-  pub entries : ReadsEntries
-  pub records : ReadsRecords
+  pub entries : SeesEntries
+  pub records : SeesRecords
 
 pub sees : ReadsView → (engine : EngineState) (state : DatabaseState) (side : SessionSide) (label : ℕ) (c : OpenCursor) → HoldsState engine state → IsInStep state side.session side.state → cursor_labelled side.state label ≡ Some c
     → Sees (entries_for engine side.session) (records_for engine side.session) (asked_of engine state side.session side.state) c

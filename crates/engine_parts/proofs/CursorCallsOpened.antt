@@ -155,7 +155,6 @@ pub open_table-lawful : OpensLawfully → (engine : EngineState) (side : Session
 open_table-lawful opens engine side cursor name t shared room found early = record {
   session = refl;
   still = λ _. refl;
-  room = refl;
   named = refl;
   fits = copied_none side.state (call.OpenTable cursor name);
   flush = refl;

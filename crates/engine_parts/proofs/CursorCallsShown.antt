@@ -16,7 +16,7 @@ use Rattle.session_local.specs.declared.request.Request.{Request}
 use Rattle.session_local.specs.declared.request.Request.TheVariants as call
 use Rattle.session_local.specs.SessionSide.{SessionSide}
 use Rattle.session_local.specs.Answer.{Answered, Nothing, answered_by}
-use Rattle.session_local.specs.Local.{LocalState, OpenCursor, cursor_labelled, place_key, place_bookmark}
+use Rattle.session_local.specs.Local.{OpenCursor, cursor_labelled, place_key, place_bookmark}
 use Rattle.session_local.specs.Outcome.{Asked, Outcome, said, unless, on_cursor, rows_seen, current_refusals}
 use Rattle.session_local.specs.Calls.{answer}
 use Rattle.session_local.specs.CursorCalls.{whole, retrieve_key, get_bookmark}
@@ -27,14 +27,10 @@ use Rattle.agreeing_sessions.specs.InStep.{IsInStep}
 use Rattle.engine_versions.specs.EngineState.{EngineState}
 use Rattle.engine_versions.specs.HoldsState.{HoldsState, asked_of}
 use Rattle.engine_parts.specs.Deciding.{Decides}
-use Rattle.engine_parts.specs.Reading.{CurrentEntry, entry_at, record_for, records_for, shown_for}
+use Rattle.engine_parts.specs.HeldLaws.{SeesRecords}
+use Rattle.engine_parts.specs.SharedCalls.{at_if}
+use Rattle.engine_parts.specs.Reading.{CurrentEntry, entry_at, records_for, shown_for}
 use Rattle.engine_versions.proofs.Decisions.{answer-begun, answer-is}
-
--- ---- a call that is decided on the shared state
-
-pub at_if : (b : Bool) (found : Option OpenCursor) → elim b [ true ↦ is_none found | false ↦ true ] ≡ false → (b ≡ true) × (is_none found ≡ false)
-at_if true found e = (refl, e)
-at_if false found e = absurd (cc)
 
 -- ---- the entry at a place
 
@@ -63,13 +59,7 @@ shown_at asked part has rows (On key bookmark) seen = on_entry asked part (key, 
 
 -- ---- RetrieveKey and GetBookmark
 
--- the records that a session reads are those of its view
-abbrev pub ReadsRecords : Type 0
-ReadsRecords =
-    (engine : EngineState) (state : DatabaseState) (session : ℕ) (local : LocalState) (label : ℕ) (c : OpenCursor) → HoldsState engine state → IsInStep state session local → cursor_labelled local label ≡ Some c
-    → (bookmark : List ℕ) → record_for engine session c.cursor.table bookmark ≡ row_at (rows_seen (asked_of engine state session local) c) bookmark
-
-pub has_read : ReadsRecords → (engine : EngineState) (state : DatabaseState) (side : SessionSide) (label : ℕ) (c : OpenCursor) → HoldsState engine state → IsInStep state side.session side.state → cursor_labelled side.state label ≡ Some c
+pub has_read : SeesRecords → (engine : EngineState) (state : DatabaseState) (side : SessionSide) (label : ℕ) (c : OpenCursor) → HoldsState engine state → IsInStep state side.session side.state → cursor_labelled side.state label ≡ Some c
     → (bookmark : List ℕ) → records_for engine side.session c.cursor.table bookmark ≡ is_some (row_at (rows_seen (asked_of engine state side.session side.state) c) bookmark)
 has_read reads engine state side label c h step found bookmark = sym (is_some-map _ (shown_for engine side.session c.cursor.table bookmark)) ∙ ap (λ (o : Option RecordFields). is_some o) (reads engine state side.session side.state label c h step found bookmark)
 
@@ -79,13 +69,13 @@ IsShownAs engine side request cursor part =
     (state : DatabaseState) (c : OpenCursor) → HoldsState engine state → IsInStep state side.session side.state → cursor_labelled side.state cursor.0 ≡ Some c
     → answer (asked_of engine state side.session side.state) request ≡ shown_as (asked_of engine state side.session side.state) (shown_of part (entry_at (records_for engine side.session c.cursor.table) c.cursor.place))
 
-retrieve_key-is : ReadsRecords → (engine : EngineState) (side : SessionSide) (cursor : CursorId) → side.state.begun ≡ true → IsShownAs engine side (call.RetrieveKey cursor) cursor (λ entry. entry.0)
+retrieve_key-is : SeesRecords → (engine : EngineState) (side : SessionSide) (cursor : CursorId) → side.state.begun ≡ true → IsShownAs engine side (call.RetrieveKey cursor) cursor (λ entry. entry.0)
 retrieve_key-is reads engine side cursor begun state c h step found =
     let asked = asked_of engine state side.session side.state in
     answer-begun asked (call.RetrieveKey cursor) begun ∙ ap (λ o. on_cursor asked o (retrieve_key asked)) found
     ∙ shown_at asked (λ entry. entry.0) (records_for engine side.session c.cursor.table) (rows_seen asked c) c.cursor.place (has_read reads engine state side cursor.0 c h step found)
 
-get_bookmark-is : ReadsRecords → (engine : EngineState) (side : SessionSide) (cursor : CursorId) → side.state.begun ≡ true → IsShownAs engine side (call.GetBookmark cursor) cursor (λ entry. entry.1)
+get_bookmark-is : SeesRecords → (engine : EngineState) (side : SessionSide) (cursor : CursorId) → side.state.begun ≡ true → IsShownAs engine side (call.GetBookmark cursor) cursor (λ entry. entry.1)
 get_bookmark-is reads engine side cursor begun state c h step found =
     let asked = asked_of engine state side.session side.state in
     answer-begun asked (call.GetBookmark cursor) begun ∙ ap (λ o. on_cursor asked o (get_bookmark asked)) found
@@ -106,13 +96,13 @@ decides_at engine side new request cursor part decision entry (Some c) shown lef
     answer-is asked request new decision (shown_as asked (shown_of part (entry_at (records_for engine side.session c.cursor.table) c.cursor.place))) (shown state c h step is)
     (shows.reply ∙ ap (shown_of part) told) shows.step (left ∙ shows.state)
 
-pub retrieve_key-decides : ReadsRecords → (engine : EngineState) (side new : SessionSide) (cursor : CursorId) (decision : Decision) (entry : Result Pair Jet) → is_answered_locally side.state (call.RetrieveKey cursor) ≡ false
+pub retrieve_key-decides : SeesRecords → (engine : EngineState) (side new : SessionSide) (cursor : CursorId) (decision : Decision) (entry : Result Pair Jet) → is_answered_locally side.state (call.RetrieveKey cursor) ≡ false
     → IfSome (cursor_labelled side.state cursor.0) (λ c. CurrentEntry (records_for engine side.session c.cursor.table) c.cursor.place entry) → Shows side new decision (shown_of (λ e. e.0) entry) → Decides engine side (call.RetrieveKey cursor) new decision
 retrieve_key-decides reads engine side new cursor decision entry shared told shows =
     let known = at_if side.state.begun (cursor_labelled side.state cursor.0) shared in
     decides_at engine side new (call.RetrieveKey cursor) cursor (λ e. e.0) decision entry (cursor_labelled side.state cursor.0) (retrieve_key-is reads engine side cursor known.0) refl refl known.1 told shows
 
-pub get_bookmark-decides : ReadsRecords → (engine : EngineState) (side new : SessionSide) (cursor : CursorId) (decision : Decision) (entry : Result Pair Jet) → is_answered_locally side.state (call.GetBookmark cursor) ≡ false
+pub get_bookmark-decides : SeesRecords → (engine : EngineState) (side new : SessionSide) (cursor : CursorId) (decision : Decision) (entry : Result Pair Jet) → is_answered_locally side.state (call.GetBookmark cursor) ≡ false
     → IfSome (cursor_labelled side.state cursor.0) (λ c. CurrentEntry (records_for engine side.session c.cursor.table) c.cursor.place entry) → Shows side new decision (shown_of (λ e. e.1) entry) → Decides engine side (call.GetBookmark cursor) new decision
 get_bookmark-decides reads engine side new cursor decision entry shared told shows =
     let known = at_if side.state.begun (cursor_labelled side.state cursor.0) shared in

@@ -37,7 +37,8 @@ use Rattle.engine_versions.specs.EngineState.{EngineState}
 use Rattle.engine_versions.specs.HoldsState.{HoldsState}
 use Rattle.engine_versions.proofs.SameTables.{numbered_alike}
 use Rattle.engine_versions.proofs.Telling.{begin_told}
-use Rattle.engine_parts.specs.Reading.{IsRowOf, entries_for, record_for, shown_for, unseen_amounts}
+use Rattle.engine_parts.specs.HeldLaws.{SeesRows}
+use Rattle.engine_parts.specs.Reading.{IsRowOf, entries_for, record_for, unseen_amounts}
 use Rattle.engine_parts.proofs.RowSums.{row_of}
 
 -- ---- what it is shown
@@ -161,9 +162,7 @@ pub record ReadsRows : Type 0 where
   pub stored : SeesStored
   pub numbers : SeesEach HoldsNumbers
 
-pub row_read : ReadsRows → (engine : EngineState) (state : DatabaseState) (session : ℕ) (local : LocalState) (label : ℕ) (c : OpenCursor) → HoldsState engine state → IsInStep state session local → cursor_labelled local label ≡ Some c
-    → (bookmark : List ℕ) (row seen : RecordFields) → shown_for engine session c.cursor.table bookmark ≡ Some row → record_for engine session c.cursor.table bookmark ≡ Some seen
-    → IsRowOf c.schema (unseen_amounts engine session c.cursor.table bookmark) row seen
+pub row_read : ReadsRows → SeesRows
 row_read laws engine state session local label c h step found bookmark row seen shown is =
     subst (λ (r : RecordFields). IsRowOf c.schema (unseen_amounts engine session id bookmark) r seen) (sym same)
     (row_of c.schema state.number bookmark sums (added engine state session c h (table_with_id state.tables id) refl has bookmark) seen

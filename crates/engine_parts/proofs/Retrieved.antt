@@ -33,10 +33,10 @@ use Rattle.engine_parts.specs.Deciding.{Decides, IsBeside}
 use Rattle.version_cleanup.specs.Cleaning.{reader_in}
 use Rattle.versioned_tables.specs.HeldSums.{unseen_sums}
 use Rattle.versioned_tables.specs.ViewedRecords.{without_sums}
-use Rattle.engine_parts.specs.Reading.{IsRowAt, IsRowOf, fields_at, record_for, shown_for, unseen_amounts}
+use Rattle.engine_parts.specs.HeldLaws.{SeesRecords, SeesRows}
+use Rattle.engine_parts.specs.Reading.{IsRowAt, fields_at, record_for, shown_for}
 use Rattle.engine_parts.specs.Retrieving.{AreReadable, IsColumnOf, IsRecordAt, place_refusals}
 use Rattle.engine_parts.proofs.Views.{is_none-map}
-use Rattle.engine_parts.proofs.CursorCallsShown.{ReadsRecords}
 use Rattle.common_lemmas.proofs.Found.{all_found}
 use Rattle.common_lemmas.proofs.Booleans.{and_left, and_right, impossible}
 use Rattle.session_local.specs.FoundLaws.{by_number}
@@ -73,7 +73,7 @@ retrieve-is : (asked : Asked) (cursor : CursorId) (name : List ℕ) (sequence mo
 unfolding answer
 retrieve-is asked cursor name sequence most c begun found = rw (begun, found) refl
 
-retrieve-row_refused : ReadsRecords → (engine : EngineState) (state : DatabaseState) (side : SessionSide) (label : ℕ) (c : OpenCursor) (name : List ℕ) (sequence most : ℕ) (refusal : Jet) → HoldsState engine state → IsInStep state side.session side.state
+retrieve-row_refused : SeesRecords → (engine : EngineState) (state : DatabaseState) (side : SessionSide) (label : ℕ) (c : OpenCursor) (name : List ℕ) (sequence most : ℕ) (refusal : Jet) → HoldsState engine state → IsInStep state side.session side.state
     → cursor_labelled side.state label ≡ Some c → first_refusal (place_refusals (shown_for engine side.session c.cursor.table) c.cursor.place) ≡ Some refusal
     → retrieve_column (asked_of engine state side.session side.state) c name sequence most ≡ refused (asked_of engine state side.session side.state) refusal
 retrieve-row_refused reads engine state side label c name sequence most refusal h step found e =
@@ -104,7 +104,7 @@ seen_at engine session c row e = by (shown_for engine session c.cursor.table (pl
     by (Some values) e = refl
 
 -- what is found at a row
-retrieve-found : ReadsRecords → (engine : EngineState) (state : DatabaseState) (side : SessionSide) (cursor : CursorId) (name : List ℕ) (sequence most : ℕ) (c : OpenCursor) (row : RecordFields) (column : Option Column)
+retrieve-found : SeesRecords → (engine : EngineState) (state : DatabaseState) (side : SessionSide) (cursor : CursorId) (name : List ℕ) (sequence most : ℕ) (c : OpenCursor) (row : RecordFields) (column : Option Column)
     → HoldsState engine state → IsInStep state side.session side.state → side.state.begun ≡ true → cursor_labelled side.state cursor.0 ≡ Some c → IsRecordAt (shown_for engine side.session c.cursor.table) c.cursor.place (Ok row)
     → column_named c.schema.columns name ≡ column
     → answer (asked_of engine state side.session side.state) (call.RetrieveColumn cursor name sequence false most)
@@ -118,7 +118,7 @@ retrieve-found reads engine state side cursor name sequence most c row column h 
 
 -- ---- decisions
 
-pub retrieve-refused : ReadsRecords → (engine : EngineState) (side : SessionSide) (cursor : CursorId) (name : List ℕ) (sequence most : ℕ) (c : OpenCursor) (refusal : Jet)
+pub retrieve-refused : SeesRecords → (engine : EngineState) (side : SessionSide) (cursor : CursorId) (name : List ℕ) (sequence most : ℕ) (c : OpenCursor) (refusal : Jet)
     → side.state.begun ≡ true → cursor_labelled side.state cursor.0 ≡ Some c → IsRecordAt (shown_for engine side.session c.cursor.table) c.cursor.place (Err refusal)
     → Decides engine side (call.RetrieveColumn cursor name sequence false most) side (refused_with refusal)
 retrieve-refused reads engine side cursor name sequence most c refusal begun found at = λ state h step.
@@ -126,7 +126,7 @@ retrieve-refused reads engine side cursor name sequence most c refusal begun fou
     answer-refused asked (call.RetrieveColumn cursor name sequence false most) side refusal refl
     (retrieve-is asked cursor name sequence most c begun found ∙ retrieve-row_refused reads engine state side cursor.0 c name sequence most refusal h step found at)
 
-pub retrieve-no_column : ReadsRecords → (engine : EngineState) (side : SessionSide) (cursor : CursorId) (name : List ℕ) (sequence most : ℕ) (c : OpenCursor) (row : RecordFields)
+pub retrieve-no_column : SeesRecords → (engine : EngineState) (side : SessionSide) (cursor : CursorId) (name : List ℕ) (sequence most : ℕ) (c : OpenCursor) (row : RecordFields)
     → side.state.begun ≡ true → cursor_labelled side.state cursor.0 ≡ Some c → IsRecordAt (shown_for engine side.session c.cursor.table) c.cursor.place (Ok row)
     → column_named c.schema.columns name ≡ None
     → Decides engine side (call.RetrieveColumn cursor name sequence false most) side (refused_with jet.ColumnNotFound)
@@ -155,7 +155,7 @@ pub column_shown-value : (asked : Asked) (sequence most : ℕ) (fields : RecordF
     → column_shown asked sequence most fields column ≡ value_shown asked column most (slice_get (values_of fields column.id.0) (sequence - 1))
 column_shown-value asked sequence most fields column ne = rw ne refl
 
-pub retrieve-shown : ReadsRecords → (engine : EngineState) (side new : SessionSide) (cursor : CursorId) (name : List ℕ) (sequence most : ℕ) (c : OpenCursor) (row : RecordFields) (column : Column) (decision : Decision)
+pub retrieve-shown : SeesRecords → (engine : EngineState) (side new : SessionSide) (cursor : CursorId) (name : List ℕ) (sequence most : ℕ) (c : OpenCursor) (row : RecordFields) (column : Column) (decision : Decision)
     → side.state.begun ≡ true → cursor_labelled side.state cursor.0 ≡ Some c → IsRecordAt (shown_for engine side.session c.cursor.table) c.cursor.place (Ok row)
     → column_named c.schema.columns name ≡ Some column
     → ((asked : Asked) → answered_by decision.reply new.reply ≡ (column_shown asked sequence most (fields_at engine side.session c) column).answered)
@@ -173,20 +173,13 @@ retrieve-shown reads engine side new cursor name sequence most c row column deci
 
 -- ---- the values are readable
 
--- what a session reads tells its record
-abbrev pub ReadsRows : Type 0
-ReadsRows =
-    (engine : EngineState) (state : DatabaseState) (session : ℕ) (local : LocalState) (label : ℕ) (c : OpenCursor) → HoldsState engine state → IsInStep state session local → cursor_labelled local label ≡ Some c
-    → (bookmark : List ℕ) (row seen : RecordFields) → shown_for engine session c.cursor.table bookmark ≡ Some row → record_for engine session c.cursor.table bookmark ≡ Some seen
-    → IsRowOf c.schema (unseen_amounts engine session c.cursor.table bookmark) row seen
-
-pub row_read_at : ReadsRows → (engine : EngineState) (side : SessionSide) (label : ℕ) (c : OpenCursor) (row : RecordFields)
+pub row_read_at : SeesRows → (engine : EngineState) (side : SessionSide) (label : ℕ) (c : OpenCursor) (row : RecordFields)
     → IsBeside engine side → cursor_labelled side.state label ≡ Some c → IsRecordAt (shown_for engine side.session c.cursor.table) c.cursor.place (Ok row) → IsRowAt engine side.session c row
 row_read_at rows engine side label c row beside found at =
     let held = beside.held in
     rows engine held.state side.session side.state label c held.holds held.in_step found (place_bookmark c.cursor.place) row (fields_at engine side.session c) at.1 (seen_at engine side.session c row at.1)
 
-pub readable_at : ReadsRows → (engine : EngineState) (side : SessionSide) (label : ℕ) (name : List ℕ) (c : OpenCursor) (row : RecordFields) (column : Column)
+pub readable_at : SeesRows → (engine : EngineState) (side : SessionSide) (label : ℕ) (name : List ℕ) (c : OpenCursor) (row : RecordFields) (column : Column)
     → IsBeside engine side → cursor_labelled side.state label ≡ Some c → IsRecordAt (shown_for engine side.session c.cursor.table) c.cursor.place (Ok row) → column_named c.schema.columns name ≡ Some column
     → AreReadable column.kind (values_of row column.id.0)
 readable_at rows engine side label name c row column beside found at named =

@@ -1,5 +1,5 @@
 -- When a decision of the engine is the answer of the database state.
-use Rattle.std.specs.Prelude.{◌≡◌, ◌≢◌, ℕ, ◌==◌, Bool, true, false, length, None, IsTrue}
+use Rattle.std.specs.Prelude.{◌≡◌, ◌≢◌, ℕ, ◌==◌, Bool, false, length, None, IsTrue}
 use Rattle.database_state.specs.State.{DatabaseState}
 use Rattle.index_derive.specs.Steps.{entries_of_step}
 use Rattle.session_local.specs.declared.decision.Decision.{Decision}
@@ -20,12 +20,10 @@ use Rattle.engine_versions.specs.HoldsState.{HoldsState, HoldsInStep, asked_of}
 
 -- ---- what a call asks of its caller
 
--- The engine holds a state with which the session's own state is in step. The reply buffer of a session that was begun has
--- 1,048,576 bytes.
+-- The engine holds a state with which the session's own state is in step.
 pub record IsBeside (engine : EngineState) (side : SessionSide) : Type 0 where
   pub held : HoldsInStep engine side.session side.state
   pub begun : side.state.begun ≡ is_live side.session engine.sessions
-  pub reply : side.state.begun ≡ true → length side.reply ≡ 1048576
   pub formed : IsWellFormed side.state
 
 -- ---- which calls move a cursor
@@ -59,7 +57,6 @@ IsLawfulStep engine old decision =
 pub record IsDecision (engine : EngineState) (old : SessionSide) (request : Request) (new : SessionSide) (decision : Decision) : Type 0 where
   pub session : new.session ≡ old.session
   pub still : decision.step ≢ None → new.state ≡ old.state
-  pub room : length new.reply ≡ length old.reply
   pub named : IsTrue (names_within decision.reply.value (length new.reply))
   pub fits : CopiedFits new.state request decision.copied
   pub flush : decision.flush ≡ flushes_step request decision.step

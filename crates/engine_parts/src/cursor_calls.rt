@@ -180,7 +180,6 @@ impl Engine {
 fn show_key(local: &mut Local, key: &Key) -> Reply
     requires { IsTrue local.old.state.begun }
     ensures shown { answered_by result local.new.reply ≡ record { jet = Jet.Success; shown = Bytes key.now (length key.now) } }
-    ensures room { length local.new.reply ≡ length local.old.reply }
     ensures named { IsTrue (names_within result.value (length local.new.reply)) }
     ensures state { local.new.state ≡ local.old.state }
     ensures session { local.new.session ≡ local.old.session }

@@ -3,13 +3,12 @@
 ghost use Rattle.std.specs.Prelude.{◌≡◌, ◌≤◌, ℕ, List, Some, IsTrue, is_some};
 ghost use Rattle.column_set.specs.RecordValues.{RecordFields, record_fits, record_size};
 ghost use Rattle.database_state.specs.State.{DatabaseState};
-ghost use Rattle.database_state.specs.Table.{row_at};
 ghost use Rattle.session_local.specs.Local.{LocalState, OpenCursor, cursor_labelled};
-ghost use Rattle.session_local.specs.Outcome.{entries_seen, rows_seen};
 ghost use Rattle.agreeing_sessions.specs.InStep.{IsInStep};
 ghost use Rattle.engine_versions.specs.EngineState.{EngineState};
-ghost use Rattle.engine_versions.specs.HoldsState.{HoldsState, asked_of};
-ghost use Rattle.engine_parts.specs.Reading.{IsRowOf, entries_for, record_for, shown_for, unseen_amounts};
+ghost use Rattle.engine_versions.specs.HoldsState.{HoldsState};
+ghost use Rattle.engine_parts.specs.HeldLaws.{SeesEntries, SeesRecords, SeesRows};
+ghost use Rattle.engine_parts.specs.Reading.{record_for};
 
 use engine_versions::a_session_views_its_very_record;
 use version_records::{every_record_seen_holds_numbers, every_record_seen_is_stored};
@@ -21,15 +20,11 @@ use versioned_tables::{
 /// The entries of each index of a cursor's table, and its records, are for the session those of its view. Each record fits its
 /// row and its columns. The row that the session is shown tells its record.
 pub fn a_session_reads_its_view()
-    ensures entries { (engine : EngineState) (state : DatabaseState) (session : ℕ) (local : LocalState) (label : ℕ) (c : OpenCursor) → HoldsState engine state → IsInStep state session local → cursor_labelled local label ≡ Some c
-        → (index : ℕ) → entries_for engine session c.cursor.table index ≡ entries_seen (asked_of engine state session local) c index }
-    ensures records { (engine : EngineState) (state : DatabaseState) (session : ℕ) (local : LocalState) (label : ℕ) (c : OpenCursor) → HoldsState engine state → IsInStep state session local → cursor_labelled local label ≡ Some c
-        → (bookmark : List ℕ) → record_for engine session c.cursor.table bookmark ≡ row_at (rows_seen (asked_of engine state session local) c) bookmark }
+    ensures entries { SeesEntries }
+    ensures records { SeesRecords }
     ensures stored { (engine : EngineState) (state : DatabaseState) (session : ℕ) (local : LocalState) (label : ℕ) (c : OpenCursor) → HoldsState engine state → IsInStep state session local → cursor_labelled local label ≡ Some c
         → (bookmark : List ℕ) (values : RecordFields) → record_for engine session c.cursor.table bookmark ≡ Some values → (record_size values ≤ 1700) × IsTrue (record_fits c.schema.columns values) }
-    ensures rows { (engine : EngineState) (state : DatabaseState) (session : ℕ) (local : LocalState) (label : ℕ) (c : OpenCursor) → HoldsState engine state → IsInStep state session local → cursor_labelled local label ≡ Some c
-        → (bookmark : List ℕ) (row seen : RecordFields) → shown_for engine session c.cursor.table bookmark ≡ Some row → record_for engine session c.cursor.table bookmark ≡ Some seen
-        → IsRowOf c.schema (unseen_amounts engine session c.cursor.table bookmark) row seen }
+    ensures rows { SeesRows }
 {
     a_reader_is_shown_the_entries_of_its_view();
     a_session_views_its_very_record();

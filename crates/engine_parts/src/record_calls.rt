@@ -181,7 +181,6 @@ fn show_value(local: &mut Local, value: Shown<'_>, most: u32) -> Reply
     requires room { HasRoom value }
     ensures shown { answered_by result local.new.reply ≡ answered_with most value.entry }
     ensures named { IsTrue (names_within result.value (length local.new.reply)) }
-    ensures room { length local.new.reply ≡ length local.old.reply }
     ensures state { local.new.state ≡ local.old.state }
     ensures session { local.new.session ≡ local.old.session }
 {

@@ -37,6 +37,7 @@ use Rattle.engine_versions.specs.EngineState.{EngineState}
 use Rattle.engine_versions.specs.HoldsState.{HoldsState}
 use Rattle.stored_variants.specs.PutRecords.{IsStorable}
 use Rattle.stored_variants.specs.VersionsKept.{HoldsNumbers}
+use Rattle.engine_parts.specs.HeldLaws.{TellsNewest}
 use Rattle.engine_steps.specs.Changing.{CanChange, IsFormed}
 use Rattle.engine_steps.specs.Steps.{MayCome}
 use Rattle.engine_steps.proofs.Fitting.{lawful_by_kind}
@@ -202,10 +203,6 @@ some_found (Some u) found e h = refl
 -- the law that the engine tells the schemas of tables
 abbrev pub TellsSchema : Type 0
 TellsSchema = (engine : EngineState) (state : DatabaseState) → HoldsState engine state → (table : ℕ) → option_map schema_of (table_with_id engine.store.tables table) ≡ option_map schema_of (table_with_id state.tables table)
-
--- the law that its records are the newest ones
-abbrev pub TellsNewest : Type 0
-TellsNewest = (engine : EngineState) (state : DatabaseState) → HoldsState engine state → (table : ℕ) (bookmark : List ℕ) → record_in engine.store.tables table bookmark ≡ record_in (newest state) table bookmark
 
 pub record ChangeLaws : Type 0 where
   pub schema : TellsSchema

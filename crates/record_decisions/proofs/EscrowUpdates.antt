@@ -39,13 +39,15 @@ use Rattle.agreeing_sessions.specs.InStep.{IsInStep}
 use Rattle.engine_versions.specs.EngineState.{EngineState}
 use Rattle.engine_versions.specs.HoldsState.{HoldsState}
 use Rattle.engine_parts.specs.Deciding.{Decides, IsBeside, IsDecision}
+use Rattle.engine_parts.specs.HeldLaws.{SeesRecords, SeesRows}
 use Rattle.engine_parts.specs.Reading.{IsRowAt}
-use Rattle.record_decisions.specs.Changing.{SeesRecords, TellsConflicts, TellsRoom, change_in, current_in, is_outside_in, own_in, shown_for, step_by}
+use Rattle.engine_parts.specs.SharedCalls.{at_if}
+use Rattle.record_decisions.specs.Changing.{TellsConflicts, TellsRoom, change_in, current_in, is_outside_in, own_in, shown_for, step_by}
 use Rattle.record_decisions.specs.EscrowUpdates.{place_in, sum_at, sum_in}
 use Rattle.record_decisions.specs.Preparing.{values_seen}
 use Rattle.decision_lemmas.proofs.Chains.{unless-passed, unless-refused}
-use Rattle.record_decisions.proofs.LocksAndDeletes.{at_if, change-told, changed_by, current-told, outside-told, step_of_change-told}
-use Rattle.record_decisions.proofs.PreparedCopies.{SeesRows, seen_at, values-told}
+use Rattle.record_decisions.proofs.LocksAndDeletes.{change-told, changed_by, current-told, outside-told, step_of_change-told}
+use Rattle.record_decisions.proofs.PreparedCopies.{seen_at, values-told}
 use Rattle.engine_versions.proofs.Decisions.{answer-begun, answer-is, answer-refused, copied_none, refused_with}
 use Rattle.decision_lemmas.proofs.Refusing.{AnswersLawfully, asked_by, lawful-step}
 
@@ -160,7 +162,6 @@ pub escrow-decided : (engine : EngineState) (side : SessionSide) (request : Requ
 escrow-decided engine side request made number decides lawful = record {
   session = refl;
   still = λ _. refl;
-  room = refl;
   named = refl;
   fits = copied_none side.state request;
   flush = refl;

@@ -36,17 +36,13 @@ use Rattle.agreeing_sessions.specs.InStep.{IsInStep}
 use Rattle.engine_versions.specs.EngineState.{EngineState}
 use Rattle.engine_versions.specs.HoldsState.{HoldsState}
 use Rattle.engine_parts.specs.Deciding.{Decides}
-use Rattle.record_decisions.specs.Changing.{SeesRecords, TellsConflicts, TellsRoom, change_in, current_in, delete_in, is_outside_in, lock_in, own_in, room_in, shown_for, step_by}
+use Rattle.engine_parts.specs.HeldLaws.{SeesRecords}
+use Rattle.engine_parts.specs.SharedCalls.{at_if}
+use Rattle.record_decisions.specs.Changing.{TellsConflicts, TellsRoom, change_in, current_in, delete_in, is_outside_in, lock_in, own_in, room_in, shown_for, step_by}
 use Rattle.decision_lemmas.proofs.Chains.{unless-refused, unless-passed}
 use Rattle.engine_versions.proofs.Decisions.{refused_with, stepped_with, answer-begun, answer-is, answer-refused}
 use Rattle.decision_lemmas.proofs.Refusing.{asked_by}
 use Rattle.decision_lemmas.proofs.Told.{levels-told}
-
--- ---- a call that is decided on the shared state
-
-pub at_if : (b : Bool) (found : Option OpenCursor) → elim b [ true ↦ is_none found | false ↦ true ] ≡ false → (b ≡ true) × (is_none found ≡ false)
-at_if true found e = (refl, e)
-at_if false found e = absurd (cc)
 
 -- ---- refusals that the engine tells
 

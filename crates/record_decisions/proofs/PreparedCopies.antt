@@ -36,26 +36,20 @@ use Rattle.agreeing_sessions.specs.InStep.{IsInStep}
 use Rattle.engine_versions.specs.EngineState.{EngineState}
 use Rattle.engine_versions.specs.HoldsState.{HoldsState}
 use Rattle.engine_parts.specs.Deciding.{Decides, IsBeside, IsDecision, IsLawfulStep}
-use Rattle.engine_parts.specs.Reading.{IsRowOf, unseen_amounts}
+use Rattle.engine_parts.specs.HeldLaws.{SeesRecords, SeesRows}
+use Rattle.engine_parts.specs.SharedCalls.{at_if}
 use Rattle.version_cleanup.specs.Cleaning.{reader_in}
 use Rattle.versioned_tables.specs.HeldSums.{unseen_sums}
 use Rattle.versioned_tables.specs.ViewedRecords.{without_sums}
-use Rattle.record_decisions.specs.Changing.{SeesRecords, TellsConflicts, TellsRoom, change_in, current_in, is_outside_in, own_in, record_for, shown_for, step_by}
+use Rattle.record_decisions.specs.Changing.{TellsConflicts, TellsRoom, change_in, current_in, is_outside_in, own_in, record_for, shown_for, step_by}
 use Rattle.record_decisions.specs.Preparing.{HasFormedRecords, IsCopied, IsCopiedAs, copy_in, copy_of, replace_in, replace_of, values_seen}
 use Rattle.decision_lemmas.proofs.Chains.{unless-refused, unless-passed}
-use Rattle.record_decisions.proofs.LocksAndDeletes.{at_if, change-told, changed_by, current-told, outside-told, step_of_change-told}
+use Rattle.record_decisions.proofs.LocksAndDeletes.{change-told, changed_by, current-told, outside-told, step_of_change-told}
 use Rattle.record_decisions.proofs.SeenRecords.{sums_formed}
 use Rattle.engine_versions.proofs.Decisions.{answer-begun, answer-is, answer-refused, refused_with}
 use Rattle.decision_lemmas.proofs.Refusing.{asked_by}
 
 -- ---- a record that is copied
-
--- the law that it rests on: each record fits its columns
-abbrev pub SeesRows : Type 0
-SeesRows =
-    (engine : EngineState) (state : DatabaseState) (session : ℕ) (local : LocalState) (label : ℕ) (c : OpenCursor) → HoldsState engine state → IsInStep state session local → cursor_labelled local label ≡ Some c
-    → (bookmark : List ℕ) (row seen : RecordFields) → shown_for engine session c.cursor.table bookmark ≡ Some row → record_for engine session c.cursor.table bookmark ≡ Some seen
-    → IsRowOf c.schema (unseen_amounts engine session c.cursor.table bookmark) row seen
 
 field_named : (columns : List Column) (number : ℕ) (values : List (List ℕ)) → stands_in columns (number, values) ≡ true → is_some (column_of_id columns number) ≡ true
 field_named columns number values stands = by (column_of_id columns number) stands
@@ -147,7 +141,6 @@ pub prepare-decided : (engine : EngineState) (side : SessionSide) (cursor : Curs
 prepare-decided engine side cursor how c step prepared found columns still lawful = record {
   session = refl;
   still = λ _. refl;
-  room = refl;
   named = refl;
   fits = subst (λ (o : Option OpenCursor). FitsCursor o (Some prepared)) (sym found) columns;
   flush = still;

@@ -1,23 +1,20 @@
 -- What room a change has in a state that the engine holds.
-use Rattle.std.proofs.Common.{◌≡◌, ℕ, ◌+◌, List, Option, ap, ◌∙◌}
+use Rattle.std.proofs.Common.{◌≡◌, ◌+◌, Option, ap, ◌∙◌}
 use Rattle.column_set.specs.RecordValues.{RecordFields}
 use Rattle.database_state.specs.Changes.{changed_table, changed_bookmark}
 use Rattle.database_state.specs.State.{DatabaseState}
 use Rattle.database_state.specs.Table.{record_in}
 use Rattle.database_state.specs.VersionStore.{cost_of, version_span}
-use Rattle.database_state.specs.View.{newest}
 use Rattle.version_cleanup.specs.LiveSessions.{oldest_begin}
 use Rattle.versioned_tables.specs.HeldRecords.{span}
 use Rattle.engine_versions.specs.EngineState.{EngineState}
 use Rattle.engine_versions.specs.HoldsState.{HoldsState}
+use Rattle.engine_parts.specs.HeldLaws.{TellsNewest}
 use Rattle.record_decisions.specs.Changing.{TellsRoom}
 
 -- the laws that it rests on
 abbrev pub TellsSpan : Type 0
 TellsSpan = (engine : EngineState) (state : DatabaseState) → HoldsState engine state → span (oldest_begin engine.sessions) engine.store.held ≡ version_span state
-
-abbrev pub TellsNewest : Type 0
-TellsNewest = (engine : EngineState) (state : DatabaseState) → HoldsState engine state → (table : ℕ) (bookmark : List ℕ) → record_in engine.store.tables table bookmark ≡ record_in (newest state) table bookmark
 
 pub room-told : TellsSpan → TellsNewest → TellsRoom
 room-told spans records engine state h made =

@@ -35,12 +35,14 @@ use Rattle.agreeing_sessions.specs.InStep.{IsInStep}
 use Rattle.engine_versions.specs.EngineState.{EngineState}
 use Rattle.engine_versions.specs.HoldsState.{HoldsState}
 use Rattle.engine_parts.specs.Deciding.{Decides, IsDecision}
-use Rattle.record_decisions.specs.Changing.{SeesRecords, TellsRoom, is_outside_in, shown_for, step_by}
+use Rattle.engine_parts.specs.HeldLaws.{SeesRecords}
+use Rattle.engine_parts.specs.SharedCalls.{at_if}
+use Rattle.record_decisions.specs.Changing.{TellsRoom, is_outside_in, shown_for, step_by}
 use Rattle.record_decisions.specs.Updating.{IsMade, IsMadeOf, TellsKeys, bookmark_by, copied_by, keys_in, new_bookmark, number_of_change, put_by, update_in}
 use Rattle.decision_lemmas.proofs.Chains.{unless-refused, unless-passed}
 use Rattle.engine_versions.proofs.Decisions.{refused_with, answer-begun, answer-is, answer-refused, copied_none}
 use Rattle.decision_lemmas.proofs.Refusing.{AnswersLawfully, asked_by, lawful-step}
-use Rattle.record_decisions.proofs.LocksAndDeletes.{at_if, changed_by, flushes-change, outside-told, room_told, step_of_change-told}
+use Rattle.record_decisions.proofs.LocksAndDeletes.{changed_by, flushes-change, outside-told, room_told, step_of_change-told}
 
 pub update-shared : (side : SessionSide) (cursor : CursorId) → is_answered_locally side.state (call.Update cursor) ≡ false → (side.state.begun ≡ true) × (is_none (cursor_labelled side.state cursor.0) ≡ false)
 update-shared side cursor shared = at_if side.state.begun (cursor_labelled side.state cursor.0) shared
@@ -187,12 +189,11 @@ update-done sees rooms tells engine side new cursor put value alone shared made 
 -- what can be said besides
 pub decision-shown : (engine : EngineState) (side new : SessionSide) (cursor : CursorId) (put : Change) (value : Value) (alone : Bool)
     → Decides engine side (call.Update cursor) new (shown_by_step (step_by alone (changed_by side.session put)) value alone) → AnswersLawfully engine side (call.Update cursor)
-    → new.session ≡ side.session → new.state ≡ side.state → length new.reply ≡ length side.reply → IsTrue (names_within value (length new.reply))
+    → new.session ≡ side.session → new.state ≡ side.state → IsTrue (names_within value (length new.reply))
     → IsDecision engine side (call.Update cursor) new (shown_by_step (step_by alone (changed_by side.session put)) value alone)
-decision-shown engine side new cursor put value alone decides lawful session state room named = record {
+decision-shown engine side new cursor put value alone decides lawful session state named = record {
   session = session;
   still = λ _. state;
-  room = room;
   named = named;
   fits = copied_none new.state (call.Update cursor);
   flush = flushes-change (call.Update cursor) side.session put alone;

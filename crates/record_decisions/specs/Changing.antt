@@ -1,28 +1,26 @@
 -- Why the engine refuses a change of a record, by what it holds.
-use Rattle.std.specs.Prelude.{ℕ, ◌+◌, ◌==◌, Bool, true, false, not, nat_le, nat_lt, List, [], ◌∷◌, ◌++◌, ◌≡◌, Some, is_none}
+use Rattle.std.specs.Prelude.{ℕ, ◌+◌, ◌==◌, Bool, true, false, not, nat_le, nat_lt, [], ◌∷◌, ◌++◌, ◌≡◌, is_none}
 use Rattle.jet_base.specs.declared.replies.Jet.TheVariants as jet
 use Rattle.column_set.specs.declared.changes.Change.{Change}
 use Rattle.index_derive.specs.declared.log.Entry.{Entry}
 use Rattle.index_derive.specs.declared.log.Step.{Step}
 use Rattle.index_derive.specs.declared.log.Step.TheVariants.{One, Alone}
 use Rattle.database_state.specs.Refusals.{Refusals}
-use Rattle.database_state.specs.Table.{record_in, row_at}
+use Rattle.database_state.specs.Table.{record_in}
 use Rattle.database_state.specs.Changes.{changed_table, changed_bookmark}
 use Rattle.database_state.specs.VersionStore.{cost_of, version_span}
 use Rattle.database_state.specs.Conflicts.{has_write_conflict}
 use Rattle.database_state.specs.State.{DatabaseState}
 use Rattle.database_state.specs.View.{newest}
 use Rattle.database_state.specs.Lawful.{log_limit}
-use Rattle.session_local.specs.Local.{LocalState, OpenCursor, cursor_labelled, has_replace_of, is_on, place_bookmark}
+use Rattle.session_local.specs.Local.{LocalState, OpenCursor, has_replace_of, is_on, place_bookmark}
 use Rattle.session_local.specs.RecordCalls.{bookmark_at, drop_at, hold_at}
 use Rattle.version_cleanup.specs.Cleaning.{reader_in}
 use Rattle.version_cleanup.specs.LiveSessions.{levels_in, oldest_begin}
 use Rattle.versioned_tables.specs.HeldRecords.{has_conflict, span}
 use Rattle.engine_versions.specs.EngineState.{EngineState}
-use Rattle.engine_versions.specs.HoldsState.{HoldsState, asked_of}
+use Rattle.engine_versions.specs.HoldsState.{HoldsState}
 pub use Rattle.engine_parts.specs.Reading.{record_for, shown_for}
-use Rattle.agreeing_sessions.specs.InStep.{IsInStep}
-use Rattle.session_local.specs.Outcome.{rows_seen}
 
 abbrev pub is_outside_in : EngineState → ℕ → Bool
 is_outside_in engine session = levels_in session engine.sessions == 0
@@ -71,12 +69,6 @@ step_by true made = Alone made
 step_by false made = One made
 
 -- ---- what the definitions ask of a state that the engine holds
-
--- each record is for the session that of its view
-abbrev pub SeesRecords : Type 0
-SeesRecords =
-    (engine : EngineState) (state : DatabaseState) (session : ℕ) (local : LocalState) (label : ℕ) (c : OpenCursor) → HoldsState engine state → IsInStep state session local → cursor_labelled local label ≡ Some c
-    → (bookmark : List ℕ) → record_for engine session c.cursor.table bookmark ≡ row_at (rows_seen (asked_of engine state session local) c) bookmark
 
 abbrev pub TellsConflicts : Type 0
 TellsConflicts =

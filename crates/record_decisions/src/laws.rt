@@ -1,6 +1,7 @@
 //! Laws: what the engine holds tells what the definitions ask of a state that it holds. The functions do nothing.
 
-ghost use Rattle.record_decisions.specs.Changing.{SeesRecords, TellsConflicts, TellsRoom};
+ghost use Rattle.engine_parts.specs.HeldLaws.{SeesRecords};
+ghost use Rattle.record_decisions.specs.Changing.{TellsConflicts, TellsRoom};
 ghost use Rattle.record_decisions.specs.Preparing.{HasFormedRecords};
 
 use engine_parts::{Engine, a_session_reads_its_view};

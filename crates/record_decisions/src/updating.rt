@@ -41,16 +41,15 @@ pub fn update(engine: &Engine, local: &mut Local, cursor: CursorId) -> Result<De
     changes_are_refused_alike();
     unique_keys_are_refused_alike();
     the_step_of_an_update_is_lawful();
-    match made_put(engine, local, cursor) {
-        Ok(Ok(put)) => {
-            let session = local.session();
-            let outside = engine.is_outside(session);
-            let value = show_bookmark(local, &put);
-            Ok(shown_with(change_step(session, put, outside), value, outside))
-        }
-        Ok(Err(refusal)) => Ok(refused(refusal)),
-        Err(fault) => Err(fault),
-    }
+    let put = match made_put(engine, local, cursor) {
+        Ok(Ok(put)) => put,
+        Ok(Err(refusal)) => return Ok(refused(refusal)),
+        Err(fault) => return Err(fault),
+    };
+    let session = local.session();
+    let outside = engine.is_outside(session);
+    let value = show_bookmark(local, &put);
+    Ok(shown_with(change_step(session, put, outside), value, outside))
 }
 
 // What is put by the update that is prepared on the cursor, or why nothing is.
@@ -111,16 +110,14 @@ fn put_or_refusal_by(
     ensures { IfOk result (IsMade (update_in engine.now session.0 found.now (update_of prepared.now)) (put_by engine.now session.0 found.now (update_of prepared.now))) }
 {
     match record_refusal(engine, session, found, prepared, key) {
-        Ok(Some(refusal)) => Ok(Err(refusal)),
-        Ok(None) => {
-            if engine.is_full() {
-                Ok(Err(Jet::LogSequenceEnd))
-            } else {
-                put_with_room(engine, session, found, prepared, key)
-            }
-        }
-        Err(fault) => Err(fault),
+        Ok(None) => {}
+        Ok(Some(refusal)) => return Ok(Err(refusal)),
+        Err(fault) => return Err(fault),
     }
+    if engine.is_full() {
+        return Ok(Err(Jet::LogSequenceEnd));
+    }
+    put_with_room(engine, session, found, prepared, key)
 }
 
 // What is put where the version store has room for it. The log takes it.
@@ -135,16 +132,14 @@ fn put_with_room(
     requires space { nat_le log_limit engine.now.number ≡ false }
     ensures { IfOk result (IsMade (span_in engine.now (put_by engine.now session.0 found.now (update_of prepared.now))) (put_by engine.now session.0 found.now (update_of prepared.now))) }
 {
-    match put_by(engine, session, found, prepared, key) {
-        Ok(put) => {
-            if lacks_room(engine, session, &put) {
-                Ok(Err(Jet::VersionStoreOutOfMemory))
-            } else {
-                Ok(Ok(put))
-            }
-        }
-        Err(fault) => Err(fault),
+    let put = match put_by(engine, session, found, prepared, key) {
+        Ok(put) => put,
+        Err(fault) => return Err(fault),
+    };
+    if lacks_room(engine, session, &put) {
+        return Ok(Err(Jet::VersionStoreOutOfMemory));
     }
+    Ok(Ok(put))
 }
 
 // The value that shows the bookmark under which the change is made, which is written to the front of the reply buffer.
@@ -153,7 +148,6 @@ fn show_bookmark(local: &mut Local, put: &Change) -> Value
     requires short { length (changed_bookmark put.now) ≤ 255 }
     ensures shown { shown_by result local.new.reply ≡ whole (changed_bookmark put.now) }
     ensures named { IsTrue (names_within result (length local.new.reply)) }
-    ensures room { length local.new.reply ≡ length local.old.reply }
     ensures state { local.new.state ≡ local.old.state }
     ensures session { local.new.session ≡ local.old.session }
 {

@@ -16,8 +16,8 @@ returns-then-is_full c =
     full-refused (record_in engine c.args.session.0 c.args.found.now (update_of c.args.prepared.now)) engine (put_by engine c.args.session.0 c.args.found.now (update_of c.args.prepared.now)) c.is_full.result
     (rw c.in-Ok-None.field-0-is at c.in-Ok-None.ensures) c.is_full.ensures c.if-is_full.true
 
-pub returns-else-is_full : goal.returns-else-is_full
-returns-else-is_full c =
+pub returns : goal.returns
+returns c =
     let engine = c.args.engine.now in
     with-room (record_in engine c.args.session.0 c.args.found.now (update_of c.args.prepared.now)) engine (put_by engine c.args.session.0 c.args.found.now (update_of c.args.prepared.now)) c.is_full.result c.put_with_room.result
     (rw c.in-Ok-None.field-0-is at c.in-Ok-None.ensures) c.is_full.ensures c.if-is_full.false c.put_with_room.ensures

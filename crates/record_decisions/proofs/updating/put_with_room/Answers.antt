@@ -7,6 +7,6 @@ pub returns-then-lacks_room : goal.returns-then-lacks_room
 returns-then-lacks_room c =
     span-refused c.args.engine.now (put_by c.args.engine.now c.args.session.0 c.args.found.now (update_of c.args.prepared.now)) c.in-Ok.put c.lacks_room.result c.in-Ok.ensures c.lacks_room.ensures c.if-lacks_room.true
 
-pub returns-else-lacks_room : goal.returns-else-lacks_room
-returns-else-lacks_room c =
+pub returns : goal.returns
+returns c =
     span-made c.args.engine.now (put_by c.args.engine.now c.args.session.0 c.args.found.now (update_of c.args.prepared.now)) c.in-Ok.put c.lacks_room.result c.in-Ok.ensures c.lacks_room.ensures c.if-lacks_room.false

@@ -23,8 +23,8 @@ returns-in-Ok-Err-clause-answer c =
     (update-refused c.sessions_see_their_records.ensures c.changes_are_refused_alike.ensures.room c.unique_keys_are_refused_alike.ensures c.args.engine.now c.args.local.now c.args.cursor c.in-Ok-Err.refusal c.requires.shared
     (rw c.in-Ok-Err.field-0-is at c.in-Ok-Err.ensures.made))
 
-pub returns-in-Ok-Ok-clause-answer : goal.returns-in-Ok-Ok-clause-answer
-returns-in-Ok-Ok-clause-answer c =
+pub returns-clause-answer : goal.returns-clause-answer
+returns-clause-answer c =
     let engine = c.args.engine.now in
     let side = c.args.local.now in
     let new = c.show_bookmark-value.new.local in
@@ -38,8 +38,8 @@ returns-in-Ok-Ok-clause-answer c =
     (update-done c.sessions_see_their_records.ensures c.changes_are_refused_alike.ensures.room c.unique_keys_are_refused_alike.ensures engine side new c.args.cursor put value alone c.requires.shared
     (rw c.in-Ok-Ok.field-0-is at c.in-Ok-Ok.ensures.made) outside c.show_bookmark-value.ensures.shown c.show_bookmark-value.ensures.state)
 
-pub returns-in-Ok-Ok-clause-decided : goal.returns-in-Ok-Ok-clause-decided
-returns-in-Ok-Ok-clause-decided c =
+pub returns-clause-decided : goal.returns-clause-decided
+returns-clause-decided c =
     let engine = c.args.engine.now in
     let side = c.args.local.now in
     let new = c.show_bookmark-value.new.local in
@@ -54,4 +54,4 @@ returns-in-Ok-Ok-clause-decided c =
     (update-done c.sessions_see_their_records.ensures c.changes_are_refused_alike.ensures.room c.unique_keys_are_refused_alike.ensures engine side new c.args.cursor put value alone c.requires.shared
     (rw c.in-Ok-Ok.field-0-is at c.in-Ok-Ok.ensures.made) outside c.show_bookmark-value.ensures.shown c.show_bookmark-value.ensures.state)
     (λ state h step. c.the_step_of_an_update_is_lawful.ensures h.base h.dropped h.kept (asked_by engine state side) c.args.cursor h.reached step.agrees)
-    c.show_bookmark-value.ensures.session c.show_bookmark-value.ensures.state c.show_bookmark-value.ensures.room c.show_bookmark-value.ensures.named)
+    c.show_bookmark-value.ensures.session c.show_bookmark-value.ensures.state c.show_bookmark-value.ensures.named)
