@@ -1,5 +1,5 @@
 -- A run over the pieces of its lines.
-use Rattle.std.proofs.Common.{◌≡◌, ℕ, ◌<◌, List, [], ◌∷◌, ◌++◌, length, take, drop, Option, Some, None, Vec, Global, refl, sym, ap, subst, ◌∙◌, append_assoc, arith}
+use Rattle.std.proofs.Common.{◌≡◌, ℕ, ◌<◌, List, [], ◌∷◌, ◌++◌, length, take, drop, Option, Some, None, refl, sym, ap, subst, ◌∙◌, append_assoc, arith}
 use Rattle.std.specs.Io.KnownBytes.{append_known}
 use Rattle.std.proofs.Math.Seq.{take-append_seam, drop-append_seam, take-length, drop-length}
 use Rattle.std.proofs.lemmas.List.{append-nil, map-append, take-append-drop}
@@ -17,14 +17,14 @@ use Rattle.ordered_run.specs.RunSoFar.{SoFar, BrokenOff, RunsOn, BreaksOff}
 use Rattle.ordered_run.proofs.RunLaws.{take_calls_of, drop_calls_of}
 
 abbrev pub Piece : Type 0
-Piece = Vec (Session × Request) Global
+Piece = List (Session × Request)
 
 -- the lines of some pieces
 abbrev pub lines_in : List Piece → List Line
 lines_in pieces = calls_of (calls_in pieces)
 
 abbrev pub lines_of_piece : Piece → List Line
-lines_of_piece piece = calls_of piece.items
+lines_of_piece piece = calls_of piece
 
 append_nothing : (known : Option (List ℕ)) → append_known known [] ≡ known
 append_nothing None = refl
@@ -38,12 +38,12 @@ none_so_far limit engine lines taken ready = record { pairs = []; outcomes = (re
 -- ---- the lines of pieces
 
 lines_in-first : (piece : Piece) (rest : List Piece) → lines_in (piece ∷ rest) ≡ lines_of_piece piece ++ lines_in rest
-lines_in-first piece rest = map-append call_of piece.items (calls_in rest)
+lines_in-first piece rest = map-append call_of piece (calls_in rest)
 
 lines_in-append : (pieces : List Piece) (piece : Piece) → lines_in (pieces ++ piece ∷ []) ≡ lines_in pieces ++ lines_of_piece piece
 lines_in-append pieces piece =
-    ap calls_of (flat_map-append piece_calls pieces (piece ∷ []) ∙ ap (λ (calls : List (Session × Request)). calls_in pieces ++ calls) (append-nil piece.items))
-    ∙ map-append call_of (calls_in pieces) piece.items
+    ap calls_of (flat_map-append piece_calls pieces (piece ∷ []) ∙ ap (λ (calls : List (Session × Request)). calls_in pieces ++ calls) (append-nil piece))
+    ∙ map-append call_of (calls_in pieces) piece
 
 -- the lines that are left begin with those of the next piece
 pub at_piece : (limit : ℕ) (engine : SessionEngine) (gone : List Line) (left rest : List Piece) (piece : Piece) (start taken : Option (List ℕ)) → left ≡ piece ∷ rest
@@ -59,15 +59,15 @@ none_left calls = sym (drop_calls_of calls (length calls)) ∙ ap calls_of (drop
 
 -- a piece that has run is behind the others
 pub piece_done : (limit : ℕ) (engine after : SessionEngine) (gone left rest : List Piece) (piece : Piece) (start taken_now taken_after : Option (List ℕ)) → left ≡ piece ∷ rest
-    → SoFar limit engine (lines_in gone) (lines_in left) start taken_now → RunsOn engine after (lines_of_piece piece) (length piece.items) taken_now taken_after
+    → SoFar limit engine (lines_in gone) (lines_in left) start taken_now → RunsOn engine after (lines_of_piece piece) (length piece) taken_now taken_after
     → SoFar limit after (lines_in (gone ++ piece ∷ [])) (lines_in rest) start taken_after
 piece_done limit engine after gone left rest piece start taken_now taken_after is so_far on =
-    let n = length piece.items in
+    let n = length piece in
     let lines = lines_of_piece piece in
     let ran = on limit (lines_in gone) (lines_in rest) start (at_piece limit engine (lines_in gone) left rest piece start taken_now is so_far) in
     subst (λ (front : List Line). SoFar limit after front (lines_in rest) start taken_after)
-    (ap (λ (l : List Line). lines_in gone ++ l) (all_taken piece.items) ∙ sym (lines_in-append gone piece))
-    (subst (λ (l : List Line). SoFar limit after (lines_in gone ++ take n lines) (l ++ lines_in rest) start taken_after) (none_left piece.items) ran)
+    (ap (λ (l : List Line). lines_in gone ++ l) (all_taken piece) ∙ sym (lines_in-append gone piece))
+    (subst (λ (l : List Line). SoFar limit after (lines_in gone ++ take n lines) (l ++ lines_in rest) start taken_after) (none_left piece) ran)
 
 -- all lines, cut within a piece
 pub cut_in_piece : (gone left rest all : List Piece) (piece : Piece) (count : ℕ) → gone ++ left ≡ all → left ≡ piece ∷ rest

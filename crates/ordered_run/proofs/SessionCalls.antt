@@ -62,7 +62,6 @@ pub part_of : (limit : ℕ) (engine : EngineState) (sessions : List RunSession) 
     → IsPartOf run (session_at sessions label).local (session_at sessions label).last
 part_of limit engine sessions run label is = record {
   part = ap (λ (l : ℕ). session_run run l) (is.labels label) ∙ is.parts label;
-  reply = is.buffers label;
 }
 
 -- a call that a session is asked is asked of the state that the run has of it

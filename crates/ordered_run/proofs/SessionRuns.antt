@@ -20,7 +20,7 @@ use Rattle.run_sessions.specs.Sessions.{last_label, session_at, HasPlace, Others
 use Rattle.engine_versions.specs.EngineState.{EngineState}
 use Rattle.engine_versions.specs.EngineSteps.{engine_after, engine_after_all, engine_after_answer, cleaned_for, step_cleans}
 use Rattle.engine_core.specs.Runs.{HoldsRun}
-use Rattle.ordered_run.specs.SessionRun.{no_memory_reply, outcome_of_jet, outcome_told, reply_bytes, HasItsBuffer, IsInRun, GoesOn}
+use Rattle.ordered_run.specs.SessionRun.{no_memory_reply, outcome_of_jet, outcome_told, reply_bytes, IsInRun, GoesOn}
 
 -- ---- one session of all
 
@@ -37,7 +37,6 @@ each_session Q label before after stay own known other =
 pub record IsBrought (before after : List RunSession) (label : ℕ) : Type 0 where
   pub others : OthersStay label before after
   pub label_is : (session_at after label).local.session ≡ label
-  pub buffer : HasItsBuffer (session_at after label).local
   pub places : HasPlace after last_label
 
 pub in_run-brought : (limit : ℕ) (engine after_engine : EngineState) (before after : List RunSession) (run after_run : RunState) (label : ℕ)
@@ -47,7 +46,6 @@ in_run-brought limit engine after_engine before after run after_run label is bro
   holds = holds;
   parts = are;
   labels = each_session (λ (l : ℕ) (s : RunSession). s.local.session ≡ l) label before after brought.others brought.label_is is.labels;
-  buffers = each_session (λ (l : ℕ) (s : RunSession). HasItsBuffer s.local) label before after brought.others brought.buffer is.buffers;
   places = brought.places;
 }
 

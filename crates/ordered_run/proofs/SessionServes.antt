@@ -8,10 +8,10 @@ use Rattle.session_local.specs.Run.{run_from}
 use Rattle.session_local.specs.declared.reply.Reply.{Reply}
 use Rattle.script_transcript.specs.TranscriptLine.{NamesNoMore}
 use Rattle.run_sessions.specs.declared.sessions.RunSession.{RunSession}
-use Rattle.run_sessions.specs.Sessions.{fresh_session, last_label, AreFresh, AreSessionsOf, HasPlace}
+use Rattle.run_sessions.specs.Sessions.{last_label, AreFresh, AreSessionsOf, HasPlace}
 use Rattle.engine_versions.specs.EngineState.{EngineState, empty_engine}
 use Rattle.engine_core.specs.Runs.{HoldsRun}
-use Rattle.ordered_run.specs.SessionRun.{no_memory_reply, HasItsBuffer, IsInRun}
+use Rattle.ordered_run.specs.SessionRun.{no_memory_reply, IsInRun}
 
 -- before the first line
 pub in_run-first : (limit : ℕ) (engine : EngineState) (sessions : List RunSession) → engine ≡ empty_engine limit → HoldsRun limit (empty_engine limit) (run_from empty_state)
@@ -20,17 +20,13 @@ in_run-first limit engine sessions engine_is holds fresh parts places = record {
   holds = subst (λ (e : EngineState). HoldsRun limit e (run_from empty_state)) (sym engine_is) holds;
   parts = parts;
   labels = λ label. subst (λ (s : RunSession). s.local.session ≡ label) (sym (fresh label)) refl;
-  buffers = λ label. subst (λ (s : RunSession). HasItsBuffer s.local) (sym (fresh label)) (no_buffer label);
   places = places;
 }
-  where
-    no_buffer : (label : ℕ) → HasItsBuffer (fresh_session label).local
-    no_buffer label = λ begun. absurd (false≢true begun)
 
 -- ---- replies
 
 -- a reply is of the buffer that a session has, or of none
-pub short_buffer : (begun : Bool) (count : ℕ) → count ≡ (if begun then 1048576 else 0) → count ≤ 1048576
+pub short_buffer : (begun : Bool) (count : ℕ) → count ≤ (if begun then 1048576 else 0) → count ≤ 1048576
 short_buffer true count is = omega (arith, is)
 short_buffer false count is = omega (arith, is)
 

@@ -1,5 +1,5 @@
 -- What a session's own state that is written leaves of the run.
-use Rattle.std.proofs.Common.{◌≡◌, ◌≢◌, ◌≤◌, ℕ, Bool, List, length, Option, Some, None, refl, sym, ap, subst, ◌∙◌}
+use Rattle.std.proofs.Common.{◌≡◌, ◌≢◌, ◌≤◌, ℕ, Bool, List, Option, Some, None, refl, sym, ap, subst, ◌∙◌}
 use Rattle.std.specs.Prelude.{if◌then◌else◌}
 use Rattle.jet_base.specs.declared.ids.Session.{Session}
 use Rattle.index_derive.specs.declared.log.Step.{Step}
@@ -19,50 +19,39 @@ use Rattle.engine_versions.specs.EngineState.{EngineState}
 use Rattle.engine_versions.specs.EngineSteps.{engine_after_answer}
 use Rattle.engine_parts.specs.Deciding.{Decides, IsAnswer, IsBeside, IsDecision, only_reply}
 use Rattle.engine_core.specs.Runs.{HoldsRun, IsInRun as IsPartOf}
-use Rattle.ordered_run.specs.SessionRun.{HasItsBuffer, LacksMemory, IsInRun}
+use Rattle.ordered_run.specs.SessionRun.{LacksMemory, IsInRun}
 use Rattle.ordered_run.proofs.SessionRuns.{IsBrought, in_run-kept}
 use Rattle.ordered_run.proofs.SessionCalls.{WasMade, part_of}
 use Rattle.ordered_run.proofs.WrittenSessions.{IsPut, place_of, place-put, place-with_local, put-all, put-local, put-read}
 
 -- ---- one session is written
 
--- a reply buffer of as many bytes as it is to have
-pub its_buffer : (side : SessionSide) → length side.reply ≡ (if side.state.begun then 1048576 else 0) → HasItsBuffer side
-its_buffer side count begun = count ∙ ap (λ (b : Bool). if b then 1048576 else 0) begun
-
-pub brought-put : (before after : List RunSession) (label : ℕ) (left : RunSession) → IsPut before after label left → HasPlace before last_label → left.local.session ≡ label → HasItsBuffer left.local
-    → IsBrought before after label
-brought-put before after label left put places label_is buffer = record {
+pub brought-put : (before after : List RunSession) (label : ℕ) (left : RunSession) → IsPut before after label left → HasPlace before last_label → left.local.session ≡ label → IsBrought before after label
+brought-put before after label left put places label_is = record {
   others = put.1;
   label_is = subst (λ (s : RunSession). s.local.session ≡ label) (sym put.0) label_is;
-  buffer = subst (λ (s : RunSession). HasItsBuffer s.local) (sym put.0) buffer;
   places = place-put before after label last_label left put places;
 }
 
--- the own state of a session is the same, and so is the length of its reply buffer
+-- the own state of a session is the same
 pub record IsSame (old new : SessionSide) : Type 0 where
   pub session : new.session ≡ old.session
   pub state : new.state ≡ old.state
-  pub room : length new.reply ≡ length old.reply
 
 pub same-self : (old new : SessionSide) → new ≡ old → IsSame old new
 same-self old new is = record {
   session = ap (λ (s : SessionSide). s.session) is;
   state = ap (λ (s : SessionSide). s.state) is;
-  room = ap (λ (s : SessionSide). length s.reply) is;
 }
 
-same_buffer : (old new : SessionSide) → IsSame old new → HasItsBuffer old → HasItsBuffer new
-same_buffer old new same has begun = same.room ∙ has (ap (λ (l : LocalState). l.begun) (sym same.state) ∙ begun)
-
--- nothing but bytes of the reply buffer differs, and the engine holds the run still
+-- nothing but the reply buffer differs, and the engine holds the run still
 pub in_run-same : (limit : ℕ) (engine after_engine : EngineState) (sessions : List RunSession) (run : RunState) (label : ℕ) (new : SessionSide)
     → IsInRun limit engine sessions run → label ≤ last_label → IsSame (session_at sessions label).local new → HoldsRun limit after_engine run
     → IsInRun limit after_engine (with_local sessions label new) run
 in_run-same limit engine after_engine sessions run label new is within same holds =
     let old = session_at sessions label in
     let put = put-local sessions label new (place_of sessions label within is.places) in
-    let brought = brought-put sessions (with_local sessions label new) label (record old { local = new }) put is.places (same.session ∙ is.labels label) (same_buffer old.local new same (is.buffers label)) in
+    let brought = brought-put sessions (with_local sessions label new) label (record old { local = new }) put is.places (same.session ∙ is.labels label) in
     in_run-kept limit engine after_engine sessions (with_local sessions label new) run label is brought
     (ap in_run put.0 ∙ ap (λ (l : LocalState). record { local = l; last = old.last }) same.state) holds
 
@@ -110,7 +99,6 @@ pub record IsFinished (engine after_engine : EngineState) (before : List RunSess
   pub state : left.state ≡ finished made.state request (decided_in decision)
   pub session_is : left.session ≡ made.session
   pub buffer : left.reply ≡ reply_after made.reply request decision.step decision.buffers
-  pub count : length left.reply ≡ (if left.state.begun then 1048576 else 0)
   pub engine_is : after_engine ≡ engine_after_answer engine decision.step
   pub number : n ≡ (if is_local request decision.reply.jet then (session_at (with_local before session.0 made) session.0).last else engine.number)
   pub counts : counted ≡ (if is_local request decision.reply.jet then (session_at (with_local (with_local before session.0 made) session.0 left) session.0).last else after_engine.number)
@@ -133,7 +121,7 @@ was_made limit engine after_engine before run session request side made left cou
     record {
       answers = answers;
       named = decided.named;
-      brought = brought-put before (after_finish before session made left counted) label (record { local = left; last = counted }) put is.places label_is (its_buffer left f.count);
+      brought = brought-put before (after_finish before session made left counted) label (record { local = left; last = counted }) put is.places label_is;
       local = ap (λ (s : RunSession). s.local.state) put.0 ∙ f.state;
       buffer = ap (λ (s : RunSession). s.local.reply) put.0 ∙ f.buffer;
       engine_is = f.engine_is;
@@ -168,10 +156,9 @@ after_read before session made n = with_last (with_local before session.0 made) 
 pub was_read : (limit : ℕ) (engine : EngineState) (before : List RunSession) (run : RunState) (session : Session) (request : Request) (side made : SessionSide) (n : ℕ) (reply : Reply)
     → IsInRun limit engine before run → session.0 ≤ last_label → side ≡ (session_at before session.0).local
     → IsAnswer (asked_in limit run session.0) request made (only_reply reply) → IsDecision engine side request made (only_reply reply)
-    → length made.reply ≡ (if made.state.begun then 1048576 else 0)
     → n ≡ (if is_local request reply.jet then (session_at (with_local before session.0 made) session.0).last else engine.number)
     → WasMade limit engine engine before (after_read before session made n) run session request made n (only_reply reply)
-was_read limit engine before run session request side made n reply is within same answers decided count number =
+was_read limit engine before run session request side made n reply is within same answers decided number =
     let label = session.0 in
     let place = place_of before label within is.places in
     let put = put-read before label n made place in
@@ -180,7 +167,7 @@ was_read limit engine before run session request side made n reply is within sam
     record {
       answers = answers;
       named = decided.named;
-      brought = brought-put before (after_read before session made n) label (record { local = made; last = n }) put is.places label_is (its_buffer made count);
+      brought = brought-put before (after_read before session made n) label (record { local = made; last = n }) put is.places label_is;
       local = ap (λ (s : RunSession). s.local.state) put.0 ∙ sym (finished-reply made.state request reply);
       buffer = ap (λ (s : RunSession). s.local.reply) put.0 ∙ sym (buffer-reply made.reply request);
       engine_is = refl;

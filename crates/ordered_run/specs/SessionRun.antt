@@ -1,5 +1,5 @@
 -- When the engine and the sessions of a script are in the state that a run has come to, and what a line leaves of them.
-use Rattle.std.specs.Prelude.{◌≡◌, ℕ, Bool, true, List, [], ◌∷◌, length, Option, Some}
+use Rattle.std.specs.Prelude.{◌≡◌, ℕ, Bool, true, List, [], ◌∷◌, Option, Some}
 use Rattle.jet_base.specs.declared.replies.Jet.{Jet}
 use Rattle.jet_base.specs.declared.replies.Jet.TheVariants as jet
 use Rattle.jet_base.specs.declared.ids.Session.{Session}
@@ -9,7 +9,6 @@ use Rattle.session_local.specs.declared.reply.Reply.{Reply}
 use Rattle.session_local.specs.declared.reply.Value.TheVariants as value
 use Rattle.session_local.specs.Answer.{Answered, Row, answered_by}
 use Rattle.session_local.specs.Run.{RunState, LineOutcome, served, no_memory, rows_of_line, run_after, may_come}
-use Rattle.session_local.specs.SessionSide.{SessionSide}
 use Rattle.run_sessions.specs.declared.sessions.RunSession.{RunSession}
 use Rattle.run_sessions.specs.Sessions.{last_label, session_at, HasPlace, AreSessionsOf}
 use Rattle.engine_versions.specs.EngineState.{EngineState}
@@ -39,17 +38,12 @@ row_told number session request answered = record { n = number; session = sessio
 abbrev pub reply_bytes : List RunSession → Session → List ℕ
 reply_bytes sessions session = (session_at sessions session.0).local.reply
 
--- a session that was begun has its reply buffer
-abbrev pub HasItsBuffer : SessionSide → Type 0
-HasItsBuffer side = side.state.begun ≡ true → length side.reply ≡ 1048576
-
 -- The engine holds the run, with this limit of its span. Each session is as the run has it and stands under its label, and there
 -- is a place for every label.
 pub record IsInRun (limit : ℕ) (engine : EngineState) (sessions : List RunSession) (run : RunState) : Type 0 where
   pub holds : HoldsRun limit engine run
   pub parts : AreSessionsOf sessions run
   pub labels : (label : ℕ) → (session_at sessions label).local.session ≡ label
-  pub buffers : (label : ℕ) → HasItsBuffer (session_at sessions label).local
   pub places : HasPlace sessions last_label
 
 -- A line had this outcome: its row has this number and this reply, and the engine has gone on with the run.

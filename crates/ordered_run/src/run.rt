@@ -14,7 +14,7 @@ ghost use Rattle.ordered_run.specs.RunSoFar.{SoFar, RunsOn, BreaksOff};
 use crate::session_engine::SessionEngine;
 use jet_base::{OutOfMemory, Session};
 use jet_io::{Failed, Sink, write_all};
-use script_text::ScriptCalls;
+use script_text::{CallPiece, ScriptCalls};
 use script_transcript::Transcript;
 use session_local::Request;
 use std::alloc::Global;
@@ -88,7 +88,7 @@ fn run_line<K: Sink>(
 fn run_piece<K: Sink>(
     engine: &mut SessionEngine,
     transcript: &mut Transcript,
-    lines: &[(Session, Request)],
+    lines: &CallPiece,
     out: &mut K,
 ) -> Result<(), LineFault>
     requires so_far { (limit : ℕ) × (gone rest : List Line) × (start : Option (List ℕ)) × SoFar limit engine.old gone (calls_of lines.now ++ rest) start (K.taken out.old) }
@@ -101,7 +101,8 @@ fn run_piece<K: Sink>(
     ensures sink { IsErrOf result LineFault.Sink → (count : ℕ) × BreaksOff engine.old engine.new (calls_of lines.now) count (K.taken out.old) (K.taken out.new) }
     ensures failed { IsErrOf result LineFault.Sink → K.faults out.old < K.faults out.new }
 {
-    for line in lines {
+    for index in 0..lines.len() {
+        let line = lines.call(index);
         match run_line(engine, transcript, line.0, &line.1, out) {
             Ok(()) => {}
             Err(fault) => return Err(fault),

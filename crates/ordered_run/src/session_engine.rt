@@ -98,7 +98,7 @@ impl SessionEngine {
         no_answer_is_want_of_memory();
         sessions_follow_a_line();
         match local_step(self.sessions.local_mut(session), request) {
-            Ok(Some(reply)) => self.tell(session, self.sessions.last(session), reply),
+            Ok(Some(reply)) => tell(self.sessions.last(session), reply),
             Ok(None) => self.serve_shared(session, request),
             Err(OutOfMemory) => self.without_memory(session),
         }
@@ -138,7 +138,7 @@ impl SessionEngine {
         let reply = read(&self.engine, self.sessions.local_mut(session), request);
         let number = self.number_for(session, request, reply.jet);
         self.sessions.set_last(session, number);
-        self.tell(session, number, reply)
+        tell(number, reply)
     }
 
     // Serves any other call that looks at the shared state. Apart, since its decision is large and most calls need none.
@@ -169,16 +169,7 @@ impl SessionEngine {
         finish(self.sessions.local_mut(session), request, decision);
         let last = self.number_for(session, request, reply.jet);
         self.sessions.set_last(session, last);
-        self.tell(session, n, reply)
-    }
-
-    // A line that was served. The reply buffer has its bytes where the session was begun.
-    fn tell(&self, session: Session, n: u64, reply: Reply) -> Served
-        ensures line { result ≡ record { n = n; reply = reply } }
-        ensures buffer { length (reply_of self.now session) ≡ (if (session_at self.now.sessions session.0).local.state.begun then 1048576 else 0) }
-    {
-        let _buffer = self.sessions.reply(session);
-        Served { n, reply }
+        tell(n, reply)
     }
 
     // The number of the line of a call that was answered so: for a local call that after the session's last look at the
@@ -206,6 +197,13 @@ impl SessionEngine {
             },
         }
     }
+}
+
+// A line that was served.
+fn tell(n: u64, reply: Reply) -> Served
+    ensures line { result ≡ record { n = n; reply = reply } }
+{
+    Served { n, reply }
 }
 
 // Makes the step of a call, if it has one. Where there is no memory the engine holds what it held.

@@ -9,3 +9,4 @@ pub mod Labels
 pub mod Served
 pub mod SpacedValues
 pub mod LastWords
+pub mod PieceLaws

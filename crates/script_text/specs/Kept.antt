@@ -12,7 +12,7 @@ pub record KeptCalls : Type 0 where
   pub calls : List (Session × Request)
 
 abbrev pub kept_calls : kept.Inside → KeptCalls
-kept_calls inside = record { session = inside.session; calls = calls_in inside.full.items ++ inside.last.items }
+kept_calls inside = record { session = inside.session; calls = calls_in inside.full.items ++ inside.last.calls }
 
 -- the calls so far with one more behind them
 abbrev pub kept_behind : KeptCalls → Request → Option KeptCalls

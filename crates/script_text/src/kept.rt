@@ -1,10 +1,13 @@
 //! The calls of the lines that are read so far.
 
-ghost use Rattle.std.specs.Prelude.{◌≡◌, ◌<◌, ◌++◌, [], Some, IfOk, OnOk, vec_len, vec_capacity};
+ghost use Rattle.std.specs.Prelude.{◌≡◌, ◌++◌, [], false, Some, IfOk, IsFalse, IsTrue, OnOk};
 ghost use Rattle.script_words.specs.Reading.{Reads};
-ghost use Rattle.script_text.specs.Kept.{kept_behind};
+ghost use Rattle.script_text.specs.Grammar.{line_request};
+ghost use Rattle.script_text.specs.Kept.{KeptCalls, calls_with_line, kept_behind};
 ghost use Rattle.script_text.specs.Pieces.{calls_in};
 
+use crate::open_piece::OpenPiece;
+use crate::piece::CallPiece;
 use crate::script_calls::ScriptCalls;
 use jet_base::Session;
 use script_words::Refusal;
@@ -12,10 +15,6 @@ use session_local::Request;
 use std::alloc::{AllocError, Global};
 use std::marker::Model;
 use std::mem;
-
-/// The calls of a piece, in 80 KiB. A block of 128 KiB and more is mapped by itself and unmapped when it is freed; the memory
-/// of a smaller one serves what comes later.
-const PIECE_CALLS: usize = 1024;
 
 /// The full pieces that there is room for at first. A list that grew between two pieces would leave small blocks there, and the
 /// memory of the two would not become one when they are freed.
@@ -26,8 +25,8 @@ const PIECES_AT_FIRST: usize = 256;
 pub struct Calls {
     alloc: Global,
     session: Session,
-    full: Vec<Vec<(Session, Request)>>,
-    last: Vec<(Session, Request)>,
+    full: Vec<CallPiece>,
+    last: OpenPiece,
 }
 
 impl Model for Calls {
@@ -49,7 +48,7 @@ impl Calls {
             alloc,
             session: Session(1),
             full: Vec::with_capacity(alloc, PIECES_AT_FIRST)?,
-            last: Vec::with_capacity(alloc, PIECE_CALLS)?,
+            last: OpenPiece::new(alloc)?,
         })
     }
 
@@ -60,42 +59,62 @@ impl Calls {
         self.session = session;
     }
 
+    /// Puts the call of a line behind the others, where the same line was read not long before. Answers whether it was.
+    #[inline(always)]
+    pub fn repeat(&mut self, line: &[u8]) -> bool
+        ensures found { IsTrue result → calls_with_line self.old (line_request line.now) ≡ Some self.new }
+        ensures none { IsFalse result → self.new ≡ self.old }
+    {
+        match self.last.repeat(line) {
+            Some(session) => {
+                self.session = session;
+                true
+            }
+            None => false,
+        }
+    }
+
+    /// Remembers a line, whose call is the last.
+    #[inline(always)]
+    pub fn remember(&mut self, line: &[u8])
+        requires { (before : KeptCalls) × (calls_with_line before (line_request line.now) ≡ Some self.old) }
+        ensures { self.new ≡ self.old }
+    {
+        self.last.remember(line);
+    }
+
     /// The calls.
     pub fn into_calls(self) -> Result<ScriptCalls, AllocError>
         ensures { IfOk result (λ calls. calls ≡ self.calls) }
     {
         let mut pieces = self.full;
-        pieces.push(self.last)?;
+        pieces.push(self.last.into_piece())?;
         Ok(ScriptCalls::of_pieces(pieces))
     }
 }
 
-/// Takes the room for the next piece.
+/// Begins the next piece.
 #[cold]
 fn begin_piece(
     alloc: Global,
-    full: &mut Vec<Vec<(Session, Request)>>,
-    last: &mut Vec<(Session, Request)>,
+    full: &mut Vec<CallPiece>,
+    last: &mut OpenPiece,
 ) -> Result<(), Refusal>
-    ensures calls { Reads (λ _. calls_in full.new.items ++ last.new.items) result (Some (calls_in full.old.items ++ last.old.items)) }
-    ensures room { OnOk result (vec_len last.new < vec_capacity last.new) }
+    ensures calls { Reads (λ _. calls_in full.new.items ++ last.new.calls) result (Some (calls_in full.old.items ++ last.old.calls)) }
+    ensures room { OnOk result (last.new.is_full ≡ false) }
 {
-    let room = Vec::with_capacity(alloc, PIECE_CALLS)?;
-    full.push(mem::replace(last, room))?;
+    let next = OpenPiece::new(alloc)?;
+    full.push(mem::replace(last, next).into_piece())?;
     Ok(())
 }
 
 /// Makes room for one more call in the last piece.
 #[inline(always)]
-fn make_room(
-    alloc: Global,
-    full: &mut Vec<Vec<(Session, Request)>>,
-    last: &mut Vec<(Session, Request)>,
-) -> Result<(), Refusal>
-    ensures calls { Reads (λ _. calls_in full.new.items ++ last.new.items) result (Some (calls_in full.old.items ++ last.old.items)) }
-    ensures room { OnOk result (vec_len last.new < vec_capacity last.new) }
+fn make_room(alloc: Global, full: &mut Vec<CallPiece>, last: &mut OpenPiece) -> Result<(), Refusal>
+    ensures calls { Reads (λ _. calls_in full.new.items ++ last.new.calls) result (Some (calls_in full.old.items ++ last.old.calls)) }
+    ensures room { OnOk result (last.new.is_full ≡ false) }
 {
-    if last.len() < last.capacity() {
+    if !last.is_full() {
         return Ok(());
     }
     begin_piece(alloc, full, last)
@@ -109,6 +128,6 @@ pub fn keep(kept: &mut Calls, request: Request) -> Result<(), Refusal>
     ensures { Reads (λ _. kept.new) result (kept_behind kept.old request) }
 {
     make_room(kept.alloc, &mut kept.full, &mut kept.last)?;
-    kept.last.push_reserved((kept.session, request));
+    kept.last.push((kept.session, request));
     Ok(())
 }

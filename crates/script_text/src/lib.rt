@@ -14,11 +14,15 @@ mod kept;
 mod laws;
 mod leading;
 mod line;
+mod open_piece;
 mod parser;
+mod piece;
+mod recent;
 mod script;
 mod script_calls;
 
 pub use laws::a_call_of_the_grammar_is_answered;
 pub use parser::ScriptParser;
+pub use piece::CallPiece;
 pub use script::{ScriptFault, parse};
 pub use script_calls::ScriptCalls;

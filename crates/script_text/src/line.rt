@@ -26,6 +26,19 @@ use std::alloc::Global;
 pub fn keep_line(alloc: Global, line: &[u8], kept: &mut Calls) -> Result<(), Refusal>
     ensures { Reads (λ _. kept.new) result (calls_with_line kept.old (line_request line.now)) }
 {
+    if kept.repeat(line) {
+        return Ok(());
+    }
+    keep_new_line(alloc, line, kept)?;
+    kept.remember(line);
+    Ok(())
+}
+
+/// The same of a line that was not read before.
+#[inline(always)]
+fn keep_new_line(alloc: Global, line: &[u8], kept: &mut Calls) -> Result<(), Refusal>
+    ensures { Reads (λ _. kept.new) result (calls_with_line kept.old (line_request line.now)) }
+{
     match frequent_head(line) {
         Some(head) => keep_headed(alloc, &head, kept),
         None => keep_any_line(alloc, line, kept),

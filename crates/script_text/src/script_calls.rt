@@ -3,8 +3,7 @@
 ghost use Rattle.std.specs.Prelude.{◌≡◌};
 ghost use Rattle.script_text.specs.Pieces.{calls_in};
 
-use jet_base::Session;
-use session_local::Request;
+use crate::piece::CallPiece;
 use std::marker::Model;
 
 /// The calls of a script in the order of their lines, each with the session that makes it.
@@ -12,7 +11,7 @@ use std::marker::Model;
 /// They stand in pieces, so that a piece can be freed when its calls have run, and its memory serves those that follow.
 #[derive(Drop)]
 pub struct ScriptCalls {
-    pieces: Vec<Vec<(Session, Request)>>,
+    pieces: Vec<CallPiece>,
 }
 
 impl Model for ScriptCalls {
@@ -29,14 +28,14 @@ impl Model for ScriptCalls {
 
 impl ScriptCalls {
     /// The calls of the pieces, one behind the other.
-    pub(crate) fn of_pieces(pieces: Vec<Vec<(Session, Request)>>) -> ScriptCalls
+    pub(crate) fn of_pieces(pieces: Vec<CallPiece>) -> ScriptCalls
         ensures { result ≡ calls_in pieces.items }
     {
         ScriptCalls { pieces }
     }
 
     /// The pieces that they stand in, in their order.
-    pub fn into_pieces(self) -> Vec<Vec<(Session, Request)>>
+    pub fn into_pieces(self) -> Vec<CallPiece>
         ensures { calls_in result.items ≡ self }
     {
         self.pieces

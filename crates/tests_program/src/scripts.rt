@@ -68,11 +68,11 @@ fn a_script_gives_its_calls(rt: HostRuntime) -> Result<(), Fail> {
     assert_eq!(rt; pieces.len(), 1);
     let calls = &pieces[0];
     assert_eq!(rt; calls.len(), 51);
-    assert!(rt; calls[0] == (Session(1), Request::BeginSession));
+    assert!(rt; *calls.call(0) == (Session(1), Request::BeginSession));
     let last = Request::RetrieveKey {
         cursor: CursorId(2),
     };
-    assert!(rt; calls[50] == (Session(1), last));
+    assert!(rt; *calls.call(50) == (Session(1), last));
     Ok(())
 }
 
@@ -87,9 +87,9 @@ fn a_call_keeps_the_label_of_its_line(rt: HostRuntime) -> Result<(), Fail> {
     let lock = Request::GetLock {
         cursor: CursorId(3),
     };
-    assert!(rt; calls[0] == (Session(2), Request::BeginSession));
-    assert!(rt; calls[1] == (Session(99), lock));
-    assert!(rt; calls[2] == (Session(1), Request::Rollback { all: true }));
+    assert!(rt; *calls.call(0) == (Session(2), Request::BeginSession));
+    assert!(rt; *calls.call(1) == (Session(99), lock));
+    assert!(rt; *calls.call(2) == (Session(1), Request::Rollback { all: true }));
     Ok(())
 }
 

@@ -34,8 +34,7 @@ run_piece-requires-clause-so_far g c =
       lines_in at.yielded,
       lines_in rest,
       g.K.Sink.taken c.args.out.now,
-      subst (λ (calls : List (Session × Request)). SoFar limit at.engine (lines_in at.yielded) (calls_of calls ++ lines_in rest) (g.K.Sink.taken c.args.out.now) (g.K.Sink.taken at.out)) (sym c.deref.ensures.value)
-          (at_piece limit at.engine (lines_in at.yielded) (into_iter_items at.piece-iterator) rest piece (g.K.Sink.taken c.args.out.now) (g.K.Sink.taken at.out) c.in-Some.ensures.steps.0 at.invariant.so_far),
+      at_piece limit at.engine (lines_in at.yielded) (into_iter_items at.piece-iterator) rest piece (g.K.Sink.taken c.args.out.now) (g.K.Sink.taken at.out) c.in-Some.ensures.steps.0 at.invariant.so_far,
     )
 
 pub loop-piece-preserved : goal.loop-piece-preserved
@@ -52,7 +51,7 @@ loop-piece-preserved g c =
       count = let was = at.invariant.count in omega arith;
       so_far = piece_done limit at.engine c.run_piece.new.engine at.yielded (into_iter_items at.piece-iterator) rest piece
           (g.K.Sink.taken c.args.out.now) (g.K.Sink.taken at.out) (g.K.Sink.taken c.run_piece.new.out) steps at.invariant.so_far
-          (subst (λ (calls : List (Session × Request)). RunsOn at.engine c.run_piece.new.engine (calls_of calls) (length calls) (g.K.Sink.taken at.out) (g.K.Sink.taken c.run_piece.new.out)) c.deref.ensures.value c.in-Ok.ensures.done);
+          c.in-Ok.ensures.done;
       sound = c.in-Ok.ensures.sound ∙ at.invariant.sound;
       empty = c.in-Ok.ensures.empty;
     }
@@ -75,7 +74,7 @@ returns-in-Err-clause-memory g c = λ is.
     ended_in_piece (span_limit c.args.engine.now) at.engine c.run_piece.new.engine at.yielded (into_iter_items at.piece-iterator) (into_iter_items c.next.new.self) c.into_pieces-piece-items.result.items c.in-Some.piece
     (calls_of c.args.calls) ran.0 (g.K.Sink.taken c.args.out.now) (g.K.Sink.taken at.out) (g.K.Sink.taken c.run_piece.new.out)
     (at.invariant.pieces ∙ c.into_iter-piece-iterator.ensures.into_iter_gives.0) (ap calls_of c.into_pieces-piece-items.ensures) c.in-Some.ensures.steps.0 at.invariant.so_far
-    (subst (λ (calls : List (Session × Request)). RunsOn at.engine c.run_piece.new.engine (calls_of calls) ran.0 (g.K.Sink.taken at.out) (g.K.Sink.taken c.run_piece.new.out)) c.deref.ensures.value ran.1)
+    ran.1
 
 pub returns-in-Err-clause-sink : goal.returns-in-Err-clause-sink
 returns-in-Err-clause-sink g c = λ is.
@@ -84,4 +83,4 @@ returns-in-Err-clause-sink g c = λ is.
     broke_off_in_piece (span_limit c.args.engine.now) at.engine c.run_piece.new.engine at.yielded (into_iter_items at.piece-iterator) (into_iter_items c.next.new.self) c.into_pieces-piece-items.result.items c.in-Some.piece
     (calls_of c.args.calls) broke.0 (g.K.Sink.taken c.args.out.now) (g.K.Sink.taken at.out) (g.K.Sink.taken c.run_piece.new.out)
     (at.invariant.pieces ∙ c.into_iter-piece-iterator.ensures.into_iter_gives.0) (ap calls_of c.into_pieces-piece-items.ensures) c.in-Some.ensures.steps.0 at.invariant.so_far
-    (subst (λ (calls : List (Session × Request)). BreaksOff at.engine c.run_piece.new.engine (calls_of calls) broke.0 (g.K.Sink.taken at.out) (g.K.Sink.taken c.run_piece.new.out)) c.deref.ensures.value broke.1)
+    broke.1

@@ -3,9 +3,9 @@ use Rattle.script_text.specs.Parsed.{calls_of}
 use Rattle.ordered_run.specs.RunSoFar.{RunsOn}
 use Rattle.ordered_run.proofs.run.run_piece.Given as goal
 
-abbrev pub invariant-loop-line : goal.invariant-loop-line
-invariant-loop-line g l = record {
-  on : RunsOn l.fn.engine l.engine (calls_of l.lines) l.line-index (g.K.Sink.taken l.fn.out) (g.K.Sink.taken l.out);
+abbrev pub invariant-loop-index : goal.invariant-loop-index
+invariant-loop-index g l = record {
+  on : RunsOn l.fn.engine l.engine (calls_of l.lines) l.index (g.K.Sink.taken l.fn.out) (g.K.Sink.taken l.out);
   sound : g.K.Sink.faults l.out ≡ g.K.Sink.faults l.fn.out;
   empty : l.transcript.text ≡ [];
 }

@@ -1,5 +1,4 @@
 use Rattle.std.proofs.Common.{◌≡◌, true, false, length, sym, ap, subst, ◌∙◌}
-use Rattle.std.specs.Prelude.{if◌then◌else◌}
 use Rattle.session_local.specs.LocalCalls.{is_answered_locally, IsAnswer}
 use Rattle.session_local.specs.Answer.{answered_by}
 use Rattle.session_local.specs.SessionSide.{SessionSide}
@@ -11,7 +10,7 @@ use Rattle.ordered_run.specs.SessionRun.{GoesOn, outcome_told, reply_bytes}
 use Rattle.ordered_run.proofs.SessionCalls.{local-goes_on, takes_some}
 use Rattle.ordered_run.proofs.SessionRuns.{goes_on-none}
 use Rattle.ordered_run.proofs.SessionServes.{named-none}
-use Rattle.ordered_run.proofs.SessionWrites.{beside_of, brought-put, in_run-same, its_buffer, same-self}
+use Rattle.ordered_run.proofs.SessionWrites.{beside_of, brought-put, in_run-same, same-self}
 use Rattle.ordered_run.proofs.WrittenSessions.{place_of, put-local}
 use Rattle.ordered_run.proofs.session_engine.SessionEngine.serve_call.Goals as goal
 
@@ -59,9 +58,8 @@ returns-in-Ok-Some-clause-line c = λ limit run is.
     let itself : true ≡ is_answered_locally c.local_mut.result.now.state request = rw c.in-Ok-Some.field-0-is at c.in-Ok-Some.ensures.by_itself in
     let answers : IsAnswer c.local_mut.result.now.state request (answered_by c.in-Ok-Some.reply new.reply) new.state = rw c.in-Ok-Some.field-0-is at c.in-Ok-Some.ensures.answer in
     let put = put-local old.sessions label new (place_of old.sessions label c.requires.labelled is.places) in
-    let count = subst (λ (s : RunSession). length s.local.reply ≡ (if s.local.state.begun then 1048576 else 0)) put.0 c.tell.ensures.buffer in
     let label_is = c.local_step.ensures.session ∙ ap (λ (s : SessionSide). s.session) c.local_mut.ensures.value ∙ is.labels label in
-    let brought = brought-put old.sessions after label (record (session_at old.sessions label) { local = new }) put is.places label_is (its_buffer new count) in
+    let brought = brought-put old.sessions after label (record (session_at old.sessions label) { local = new }) put is.places label_is in
     subst (λ (s : Served). GoesOn limit old.engine after run c.args.session request s.n s.reply (outcome_told s.reply)) (sym c.tell.ensures.line)
     (local-goes_on c.sessions_follow_a_line.ensures c.a_run_is_held_after_its_lines.ensures.served c.no_answer_is_want_of_memory.ensures
     c.local_calls_take_no_step.ensures.step c.local_calls_take_no_step.ensures.local

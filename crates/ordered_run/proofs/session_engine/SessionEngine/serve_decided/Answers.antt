@@ -1,5 +1,4 @@
-use Rattle.std.proofs.Common.{◌≡◌, ℕ, List, length, sym, ap, subst, ◌∙◌}
-use Rattle.std.specs.Prelude.{if◌then◌else◌}
+use Rattle.std.proofs.Common.{ℕ, List, length, sym, ap, subst, ◌∙◌}
 use Rattle.session_local.specs.Deciding.{CopiedFits, decided_in, reply_after}
 use Rattle.session_local.specs.Finishing.{finished}
 use Rattle.session_local.specs.LocalCalls.{is_answered_locally}
@@ -14,7 +13,7 @@ use Rattle.ordered_run.proofs.SessionCalls.{WasMade, decided-goes_on, takes_some
 use Rattle.ordered_run.proofs.SessionRuns.{goes_on-none}
 use Rattle.ordered_run.proofs.SessionServes.{named-none, from_err, from_ok}
 use Rattle.ordered_run.proofs.SessionWrites.{IsFinished, IsSame, after_finish, answers_of, beside_of, in_run-same, is_step, same-self, was_made}
-use Rattle.ordered_run.proofs.WrittenSessions.{found_again, place_of, place-with_local, put-all}
+use Rattle.ordered_run.proofs.WrittenSessions.{found_again, place_of, place-with_local}
 use Rattle.ordered_run.specs.declared.served.Served.{Served}
 use Rattle.ordered_run.specs.SessionRun.{GoesOn, IsInRun, outcome_told, reply_bytes}
 use Rattle.ordered_run.proofs.session_engine.SessionEngine.serve_decided.Goals as goal
@@ -72,7 +71,6 @@ returns-then-is_err-clause-line c = λ limit run is.
     let as_before : IsSame (session_at old.sessions label).local made = record {
       session = decided.session ∙ ap (λ (s : SessionSide). s.session) same;
       state = decided.still (is_step decision.step lacks) ∙ ap (λ (s : SessionSide). s.state) same;
-      room = decided.room ∙ ap (λ (s : SessionSide). length s.reply) same;
     } in
     let told = c.without_memory-then-is_err in
     goes_on-none limit c.make_step.new.engine (with_local old.sessions label made) run c.args.session c.args.request.now told.result.n told.result.reply told.ensures.n told.ensures.reply
@@ -123,13 +121,10 @@ was_made_so c limit run is =
     let after_engine = c.make_step.new.engine in
     let place = place_of old.sessions label c.requires.labelled is.places in
     let again = found_again old.sessions label made c.local_mut-2.result.now place c.local_mut-2.ensures.value in
-    let put = put-all old.sessions label counted made left place in
     let f : IsFinished old.engine after_engine old.sessions c.args.session request made left counted n decision = record {
       state = c.finish.ensures.state ∙ ap (λ (s : SessionSide). finished s.state request (decided_in decision)) again;
       session_is = c.finish.ensures.session ∙ ap (λ (s : SessionSide). s.session) again;
       buffer = c.finish.ensures.reply ∙ ap (λ (s : SessionSide). reply_after s.reply request decision.step decision.buffers) again;
-      count = subst (λ (s : RunSession). length s.local.reply ≡ (if s.local.state.begun then 1048576 else 0)) put.0
-          (subst (λ (all : List RunSession). length (session_at all label).local.reply ≡ (if (session_at all label).local.state.begun then 1048576 else 0)) c.set_last.ensures c.tell.ensures.buffer);
       engine_is = from_ok c.make_step.result (sym c.is_err.ensures.value ∙ c.if-is_err.false) c.make_step.ensures.done;
       number = c.number_for-n.ensures;
       counts = c.number_for-last.ensures;

@@ -1,15 +1,13 @@
-use Rattle.std.proofs.Common.{◌≡◌, ℕ, List, length, sym, ap, subst, ◌∙◌}
-use Rattle.std.specs.Prelude.{if◌then◌else◌}
+use Rattle.std.proofs.Common.{ℕ, List, length, sym, ap, subst, ◌∙◌}
 use Rattle.session_local.specs.LocalCalls.{is_answered_locally}
 use Rattle.session_local.specs.SessionSide.{SessionSide}
 use Rattle.session_local.specs.Run.{RunState}
 use Rattle.script_transcript.specs.TranscriptLine.{NamesNoMore}
 use Rattle.run_sessions.specs.declared.sessions.RunSession.{RunSession}
-use Rattle.run_sessions.specs.Sessions.{session_at}
 use Rattle.engine_parts.specs.Deciding.{only_reply}
 use Rattle.ordered_run.proofs.SessionCalls.{WasMade, decided-goes_on, told_after}
 use Rattle.ordered_run.proofs.SessionWrites.{after_read, answers_of, beside_of, was_read}
-use Rattle.ordered_run.proofs.WrittenSessions.{place_of, place-with_local, put-read}
+use Rattle.ordered_run.proofs.WrittenSessions.{place_of, place-with_local}
 use Rattle.ordered_run.specs.declared.served.Served.{Served}
 use Rattle.ordered_run.specs.SessionRun.{GoesOn, IsInRun, outcome_told, reply_bytes}
 use Rattle.ordered_run.proofs.session_engine.SessionEngine.serve_reading.Goals as goal
@@ -46,11 +44,8 @@ was_read_so c limit run is =
     let side = c.local_mut.result.now in
     let made = c.read-reply.new.local in
     let n = c.number_for-number.result in
-    let put = put-read old.sessions label n made (place_of old.sessions label c.requires.labelled is.places) in
     let answers = answers_of c.a_run_is_held_after_its_lines.ensures.decided limit old.engine old.sessions run label side request made (only_reply c.read-reply.result) is c.local_mut.ensures.value c.read-reply.ensures.answer in
     was_read limit old.engine old.sessions run c.args.session request side made n c.read-reply.result is c.requires.labelled c.local_mut.ensures.value answers c.read-reply.ensures.decided
-    (subst (λ (s : RunSession). length s.local.reply ≡ (if s.local.state.begun then 1048576 else 0)) put.0
-    (subst (λ (all : List RunSession). length (session_at all label).local.reply ≡ (if (session_at all label).local.state.begun then 1048576 else 0)) c.set_last.ensures c.tell.ensures.buffer))
     c.number_for-number.ensures
 
 pub returns-clause-line : goal.returns-clause-line
