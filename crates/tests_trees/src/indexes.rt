@@ -1,12 +1,10 @@
 //! Indexes beside plain marks of which entries they have.
 
-ghost use Rattle.std.specs.Prelude.{◌≡◌, ◌+◌, ◌≤◌, ◌<◌, ℕ, true, All, Contains, IfOk, length, slice_index};
-ghost use Rattle.btree_inplace.specs.Trees.{Exchanges};
-ghost use Rattle.index_tree.specs.IndexTrees.{IsIndexTree, entries_of, own_pages};
+ghost use Rattle.std.specs.Prelude.{◌≡◌, ◌+◌, ◌≤◌, ◌<◌, All, length, slice_index};
+ghost use Rattle.index_tree.specs.IndexTrees.{IsIndexTree, entries_of};
 
 use index_derive::{IndexEntry, Place};
-use index_tree::{IndexTree, entries_fit_their_space, other_index_entries_stay};
-use jet_base::OutOfMemory;
+use index_tree::{IndexTree, entries_fit_their_space};
 use key_normal::Key;
 use page_space::Space;
 use std::alloc::{AllocError, Global};
@@ -160,7 +158,6 @@ fn change_one(space: &mut Space, index: &mut IndexTree, number: usize, puts: boo
     requires sized { All (λ entry. slice_index entry.0 0 + 1 ≡ length entry.0) (entries_of space.old index.old) }
     ensures index { IsIndexTree space.new index.new }
     ensures sized { All (λ entry. slice_index entry.0 0 + 1 ≡ length entry.0) (entries_of space.new index.new) }
-    ensures pages { Exchanges space.old space.new (own_pages space.old index.old) (own_pages space.new index.new) }
 {
     let (key, bookmark) = (key_of(number / 4), bookmark_of(number));
     let (key, bookmark) = (key.as_bytes(), bookmark.as_bytes());
@@ -175,44 +172,6 @@ fn change_one(space: &mut Space, index: &mut IndexTree, number: usize, puts: boo
         return true;
     }
     puts && index.insert(space, key, bookmark).is_ok()
-}
-
-/// Changes an index beside another one, and says whether it did. No page is of both.
-fn change_beside(
-    space: &mut Space,
-    index: &mut IndexTree,
-    other: &IndexTree,
-    number: usize,
-    puts: bool,
-) -> bool
-    requires index { IsIndexTree space.old index.old }
-    requires sized { All (λ entry. slice_index entry.0 0 + 1 ≡ length entry.0) (entries_of space.old index.old) }
-    requires other { IsIndexTree space.old other.now }
-    requires others_sized { All (λ entry. slice_index entry.0 0 + 1 ≡ length entry.0) (entries_of space.old other.now) }
-    requires apart { (p : ℕ) → Contains (own_pages space.old other.now) p → ¬ Contains (own_pages space.old index.old) p }
-    ensures index { IsIndexTree space.new index.new }
-    ensures sized { All (λ entry. slice_index entry.0 0 + 1 ≡ length entry.0) (entries_of space.new index.new) }
-    ensures other { IsIndexTree space.new other.now }
-    ensures others_sized { All (λ entry. slice_index entry.0 0 + 1 ≡ length entry.0) (entries_of space.new other.now) }
-    ensures apart { (p : ℕ) → Contains (own_pages space.new index.new) p → ¬ Contains (own_pages space.new other.now) p }
-{
-    other_index_entries_stay();
-    change_one(space, index, number, puts)
-}
-
-/// A second index in the space of a first one.
-fn second_index(space: &mut Space, first: &IndexTree) -> Result<IndexTree, OutOfMemory>
-    requires index { IsIndexTree space.old first.now }
-    requires sized { All (λ entry. slice_index entry.0 0 + 1 ≡ length entry.0) (entries_of space.old first.now) }
-    ensures made { IfOk result (λ made. IsIndexTree space.new made × All (λ entry. slice_index entry.0 0 + 1 ≡ length entry.0) (entries_of space.new made)) }
-    ensures first { IfOk result (λ made. IsIndexTree space.new first.now × All (λ entry. slice_index entry.0 0 + 1 ≡ length entry.0) (entries_of space.new first.now)) }
-    ensures apart { IfOk result (λ made. (p : ℕ) → Contains (own_pages space.new made) p → ¬ Contains (own_pages space.new first.now) p) }
-{
-    other_index_entries_stay();
-    match IndexTree::new(space) {
-        Ok(made) => Ok(made),
-        Err(fault) => Err(fault),
-    }
 }
 
 /// How many pages are taken.
@@ -291,6 +250,42 @@ fn check_cuts(rt: &impl Abort, space: &Space, index: &IndexTree)
     assert!(rt; !index.has_key(space, whole.as_bytes()));
 }
 
+/// Puts an entry that is not there, or takes out one that is there, which is done only once, and marks it so.
+fn change_and_mark(
+    rt: &impl Abort,
+    space: &mut Space,
+    index: &mut IndexTree,
+    marks: &mut [bool; COUNT],
+    number: usize,
+    puts: bool,
+)
+    requires index { IsIndexTree space.old index.old }
+    requires sized { All (λ entry. slice_index entry.0 0 + 1 ≡ length entry.0) (entries_of space.old index.old) }
+    requires number { number < 320 }
+    ensures index { IsIndexTree space.new index.new }
+    ensures sized { All (λ entry. slice_index entry.0 0 + 1 ≡ length entry.0) (entries_of space.new index.new) }
+{
+    assert!(rt; change_one(space, index, number, puts));
+    assert!(rt; !change_one(space, index, number, puts));
+    marks[number] = puts;
+}
+
+/// Compares an index with the marks in one of 64 turns.
+fn check_at_times(
+    rt: &impl Abort,
+    space: &Space,
+    index: &IndexTree,
+    entries: &[IndexEntry],
+    marks: &[bool; COUNT],
+    turn: usize,
+)
+    requires { IsIndexTree space.now index.now }
+{
+    if turn % 64 == 9 {
+        check_same(rt, space, index, entries, marks, 23);
+    }
+}
+
 #[test]
 fn an_index_has_the_entries_that_were_put(rt: HostRuntime) {
     let mut space = Space::new(rt.alloc());
@@ -301,119 +296,19 @@ fn an_index_has_the_entries_that_were_put(rt: HostRuntime) {
     check_same(&rt, &space, &index, entries.as_slice(), &marks, 40);
     for turn in 0..COUNT {
         let number = turn * 77 % COUNT;
-        assert!(&rt; change_one(&mut space, &mut index, number, true));
-        assert!(&rt; !change_one(&mut space, &mut index, number, true));
-        marks[number] = true;
-        if turn % 64 == 9 {
-            check_same(&rt, &space, &index, entries.as_slice(), &marks, 23);
-        }
+        change_and_mark(&rt, &mut space, &mut index, &mut marks, number, true);
+        check_at_times(&rt, &space, &index, entries.as_slice(), &marks, turn);
     }
     check_same(&rt, &space, &index, entries.as_slice(), &marks, 3);
     check_cuts(&rt, &space, &index);
     assert!(&rt; taken(&space) > 10);
     for turn in 0..COUNT {
         let number = turn * 121 % COUNT;
-        assert!(&rt; change_one(&mut space, &mut index, number, false));
-        assert!(&rt; !change_one(&mut space, &mut index, number, false));
-        marks[number] = false;
-        if turn % 64 == 9 {
-            check_same(&rt, &space, &index, entries.as_slice(), &marks, 23);
-        }
+        change_and_mark(&rt, &mut space, &mut index, &mut marks, number, false);
+        check_at_times(&rt, &space, &index, entries.as_slice(), &marks, turn);
     }
     check_same(&rt, &space, &index, entries.as_slice(), &marks, 40);
     assert!(&rt; taken(&space) == 1);
-}
-
-/// Puts an entry beside another index, or takes it out, and marks it so.
-fn change_both(
-    rt: &impl Abort,
-    space: &mut Space,
-    index: &mut IndexTree,
-    other: &IndexTree,
-    marks: &mut [bool; COUNT],
-    number: usize,
-    puts: bool,
-)
-    requires index { IsIndexTree space.old index.old }
-    requires sized { All (λ entry. slice_index entry.0 0 + 1 ≡ length entry.0) (entries_of space.old index.old) }
-    requires other { IsIndexTree space.old other.now }
-    requires others_sized { All (λ entry. slice_index entry.0 0 + 1 ≡ length entry.0) (entries_of space.old other.now) }
-    requires apart { (p : ℕ) → Contains (own_pages space.old other.now) p → ¬ Contains (own_pages space.old index.old) p }
-    requires number { number < 320 }
-    ensures index { IsIndexTree space.new index.new }
-    ensures sized { All (λ entry. slice_index entry.0 0 + 1 ≡ length entry.0) (entries_of space.new index.new) }
-    ensures other { IsIndexTree space.new other.now }
-    ensures others_sized { All (λ entry. slice_index entry.0 0 + 1 ≡ length entry.0) (entries_of space.new other.now) }
-    ensures apart { (p : ℕ) → Contains (own_pages space.new index.new) p → ¬ Contains (own_pages space.new other.now) p }
-{
-    let changes = marks[number] != puts;
-    assert!(rt; change_beside(space, index, other, number, puts) == changes);
-    marks[number] = puts;
-}
-
-#[test]
-fn two_indexes_in_one_space_have_their_own_entries(rt: HostRuntime) {
-    let mut space = Space::new(rt.alloc());
-    let mut first = IndexTree::new(&mut space).expect(&rt, "memory");
-    let mut second = second_index(&mut space, &first).expect(&rt, "memory");
-    let entries = all_entries(rt.alloc()).expect(&rt, "memory");
-    let mut first_marks = [false; COUNT];
-    let mut second_marks = [false; COUNT];
-    let mut random = 1u32;
-    for turn in 0..600u32 {
-        random = random.wrapping_mul(1_664_525).wrapping_add(1_013_904_223);
-        let number = (random / 256) as usize % COUNT;
-        let puts = !first_marks[number];
-        change_both(
-            &rt,
-            &mut space,
-            &mut first,
-            &second,
-            &mut first_marks,
-            number,
-            puts,
-        );
-        let number = (random / 65_536) as usize % COUNT;
-        let puts = !second_marks[number];
-        change_both(
-            &rt,
-            &mut space,
-            &mut second,
-            &first,
-            &mut second_marks,
-            number,
-            puts,
-        );
-        if turn % 100 == 50 {
-            check_same(&rt, &space, &first, entries.as_slice(), &first_marks, 23);
-            check_same(&rt, &space, &second, entries.as_slice(), &second_marks, 23);
-        }
-    }
-    assert!(&rt; taken(&space) > 10);
-    for turn in 0..COUNT {
-        let number = turn * 77 % COUNT;
-        change_both(
-            &rt,
-            &mut space,
-            &mut first,
-            &second,
-            &mut first_marks,
-            number,
-            false,
-        );
-        change_both(
-            &rt,
-            &mut space,
-            &mut second,
-            &first,
-            &mut second_marks,
-            number,
-            false,
-        );
-    }
-    check_same(&rt, &space, &first, entries.as_slice(), &first_marks, 40);
-    check_same(&rt, &space, &second, entries.as_slice(), &second_marks, 40);
-    assert!(&rt; taken(&space) == 2);
 }
 
 /// Whichever allocation fails, an entry that was refused is not there, and all others are.

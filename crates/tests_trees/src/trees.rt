@@ -1,10 +1,9 @@
-//! Trees in one space.
+//! A tree and a plain list of its nodes.
 
-ghost use Rattle.std.specs.Prelude.{ℕ, ◌<◌, Contains, IfOk};
-ghost use Rattle.btree_inplace.specs.Trees.{Exchanges, IsTree, pages_of};
+ghost use Rattle.std.specs.Prelude.{◌<◌};
+ghost use Rattle.btree_inplace.specs.Trees.{IsTree};
 
-use btree_inplace::{Tree, no_page_is_empty, nodes_fit_their_space, other_tree_stays};
-use jet_base::OutOfMemory;
+use btree_inplace::{Tree, no_page_is_empty, nodes_fit_their_space};
 use page_space::Space;
 use std::alloc::Global;
 use std::process::Abort;
@@ -56,8 +55,7 @@ fn data_of(alloc: Global, kept: Kept) -> Vec<u8> {
 /// Puts a node in, unless the key is there, by one of the two calls, and says whether it did.
 fn put(space: &mut Space, tree: &mut Tree, key: &[u8], data: &[u8], extent: usize) -> bool
     requires { IsTree space.old tree.old }
-    ensures tree { IsTree space.new tree.new }
-    ensures pages { Exchanges space.old space.new (pages_of space.old tree.old) (pages_of space.new tree.new) }
+    ensures { IsTree space.new tree.new }
 {
     if key.len() > 755 || data.len() > extent || extent > 1_200 {
         return false;
@@ -109,8 +107,7 @@ fn rewrite(space: &mut Space, tree: &mut Tree, key: &[u8], data: &[u8], extent: 
 /// Takes a key out, if it is there, and says whether it did.
 fn take(space: &mut Space, tree: &mut Tree, key: &[u8]) -> bool
     requires { IsTree space.old tree.old }
-    ensures tree { IsTree space.new tree.new }
-    ensures pages { Exchanges space.old space.new (pages_of space.old tree.old) (pages_of space.new tree.new) }
+    ensures { IsTree space.new tree.new }
 {
     if tree.get(space, key).is_none() {
         return false;
@@ -237,64 +234,4 @@ fn a_tree_is_its_list(rt: HostRuntime) {
     assert!(&rt; pages_taken(&space) == 1);
     assert!(&rt; space.is_taken(root) && tree.root() == root);
     assert!(&rt; tree.first(&space).is_none());
-}
-
-/// A second tree in the space of a first one.
-fn second_tree(space: &mut Space, first: &Tree) -> Result<Tree, OutOfMemory>
-    requires { IsTree space.old first.now }
-    ensures { IfOk result (λ made. IsTree space.new made × IsTree space.new first.now × ((p : ℕ) → Contains (pages_of space.new made) p → ¬ Contains (pages_of space.new first.now) p)) }
-{
-    other_tree_stays();
-    match Tree::new(space) {
-        Ok(made) => Ok(made),
-        Err(fault) => Err(fault),
-    }
-}
-
-/// Puts a node into a tree beside another one, and says whether it did. No page is of both.
-fn put_beside(space: &mut Space, tree: &mut Tree, other: &Tree, key: &[u8], data: &[u8]) -> bool
-    requires tree { IsTree space.old tree.old }
-    requires other { IsTree space.old other.now }
-    requires apart { (p : ℕ) → Contains (pages_of space.old other.now) p → ¬ Contains (pages_of space.old tree.old) p }
-    ensures tree { IsTree space.new tree.new }
-    ensures other { IsTree space.new other.now }
-    ensures apart { (p : ℕ) → Contains (pages_of space.new tree.new) p → ¬ Contains (pages_of space.new other.now) p }
-{
-    other_tree_stays();
-    put(space, tree, key, data, data.len())
-}
-
-/// Gives a tree back beside another one. No page is of both.
-fn give_back_beside(tree: Tree, space: &mut Space, other: &Tree)
-    requires tree { IsTree space.old tree }
-    requires other { IsTree space.old other.now }
-    requires apart { (p : ℕ) → Contains (pages_of space.old other.now) p → ¬ Contains (pages_of space.old tree) p }
-    ensures { IsTree space.new other.now }
-{
-    other_tree_stays();
-    tree.give_back(space);
-}
-
-#[test]
-fn a_tree_gives_its_pages_back(rt: HostRuntime) {
-    let mut space = Space::new(rt.alloc());
-    let mut first = Tree::new(&mut space).expect(&rt, "memory");
-    let mut second = second_tree(&mut space, &first).expect(&rt, "memory");
-    for number in 0..4_000 {
-        let key = key_of(rt.alloc(), number);
-        let data = data_of(rt.alloc(), Kept { len: 90, byte: 1 });
-        assert!(&rt; put_beside(&mut space, &mut first, &second, &key, &data));
-        assert!(&rt; put_beside(&mut space, &mut second, &first, &key, b"second"));
-    }
-    let before = pages_taken(&space);
-    give_back_beside(first, &mut space, &second);
-    assert!(&rt; pages_taken(&space) < before / 2);
-    for number in 0..4_000 {
-        let key = key_of(rt.alloc(), number);
-        let data = second.get(&space, &key);
-        assert!(&rt; data == Some(b"second".as_slice()), "{number}");
-        assert!(&rt; take(&mut space, &mut second, &key));
-    }
-    // What is left is the empty tree's root: each page of the first tree is free.
-    assert!(&rt; pages_taken(&space) == 1);
 }

@@ -295,15 +295,21 @@ fn add(rt: &impl Abort, alloc: Global) -> Change {
     }
 }
 
+/// Whether a held change stands against a change of session 2.
+fn is_conflict(versions: &Versions, change: &Change) -> bool {
+    let reader = Reader {
+        session: Session(2),
+        begin: None,
+    };
+    versions.conflict(reader, change)
+}
+
 #[test]
 fn two_sums_are_no_conflict(rt: HostRuntime) {
     let mut versions = Versions::new(rt.alloc());
     let add = add(&rt, rt.alloc());
     push(&rt, &mut versions, by(1, 1, u64::MAX, None), &add, Some(40));
-    let reader = Reader {
-        session: Session(2),
-        begin: None,
-    };
-    assert!(&rt; !versions.conflict(reader, &add));
-    assert!(&rt; versions.conflict(reader, &change(&rt, rt.alloc(), 4, false)));
+    assert!(&rt; !is_conflict(&versions, &add));
+    let hold = change(&rt, rt.alloc(), 4, false);
+    assert!(&rt; is_conflict(&versions, &hold));
 }

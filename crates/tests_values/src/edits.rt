@@ -12,14 +12,15 @@ const TOTAL: ColumnId = ColumnId(1);
 const TAGS: ColumnId = ColumnId(256);
 
 fn column(rt: &impl Abort, alloc: Global, id: ColumnId, kind: ColType) -> Column {
+    let (multi, escrow) = (id == TAGS, id == TOTAL);
     Column {
         id,
         name: Name::new(alloc, "c").expect(rt, "memory"),
         kind,
         tagged: false,
-        multi: id == TAGS,
+        multi,
         not_null: false,
-        escrow: id == TOTAL,
+        escrow,
         version: false,
         auto: false,
     }

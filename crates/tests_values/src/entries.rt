@@ -2,8 +2,9 @@
 
 mod cases;
 
-ghost use Rattle.std.specs.Prelude.{◌≡◌, ◌≤◌, ◌∷◌, [], map};
+ghost use Rattle.std.specs.Prelude.{◌≡◌, ◌≤◌, ◌∷◌, [], true, map, IsOk};
 ghost use Rattle.column_set.specs.RecordValues.{values_of};
+ghost use Rattle.index_derive.specs.Entries.{entries, is_legal};
 
 use crate::entries::cases::{CASES, Case, PLAIN};
 use column_set::{Column, Columns, Values};
@@ -12,7 +13,7 @@ use index_derive::{
     Condition, DeriveFault, IndexFlags, IndexRule, Schema, Segment, entries_rise, legal,
     next_entries_are_entries,
 };
-use jet_base::{ColType, ColumnId, IndexId, Items, Name, OutOfMemory};
+use jet_base::{ColType, ColumnId, IndexId, Items, Name};
 use key_normal::Key;
 use std::alloc::Global;
 use std::process::Abort;
@@ -50,10 +51,10 @@ impl<'a> Values for Pair<'a> {
 }
 
 /// A column of the type, which may be multi-valued.
-fn column(alloc: Global, id: u16, kind: ColType, multi: bool) -> Result<Column, OutOfMemory> {
-    Ok(Column {
+fn column(rt: &impl Abort, alloc: Global, id: u16, kind: ColType, multi: bool) -> Column {
+    Column {
         id: ColumnId(id),
-        name: Name::new(alloc, "column")?,
+        name: Name::new(alloc, "column").expect(rt, "memory"),
         kind,
         tagged: true,
         multi,
@@ -61,50 +62,87 @@ fn column(alloc: Global, id: u16, kind: ColType, multi: bool) -> Result<Column, 
         escrow: false,
         version: false,
         auto: false,
-    })
+    }
 }
 
 /// Columns 256 and 257 of the type, which may be multi-valued.
-fn schema(alloc: Global, kind: ColType, multi: bool) -> Result<Schema, OutOfMemory> {
+fn columns(rt: &impl Abort, alloc: Global, kind: ColType, multi: bool) -> Columns {
     let mut columns = Columns::empty(alloc);
-    columns.push(column(alloc, 256, kind, multi)?)?;
-    columns.push(column(alloc, 257, kind, multi)?)?;
-    Ok(Schema {
-        columns,
-        indexes: Items::empty(alloc),
-    })
+    columns
+        .push(column(rt, alloc, 256, kind, multi))
+        .expect(rt, "memory");
+    columns
+        .push(column(rt, alloc, 257, kind, multi))
+        .expect(rt, "memory");
+    columns
 }
 
-/// The rule over these columns, descending where the flag is set, under these conditions.
-fn rule(
-    alloc: Global,
-    flags: IndexFlags,
-    columns: &[(u16, bool)],
-    conditions: &[(u16, bool)],
-) -> Result<IndexRule, OutOfMemory> {
+/// The schema of a table with these columns and no index.
+fn schema(rt: &impl Abort, alloc: Global, kind: ColType, multi: bool) -> Schema {
+    Schema {
+        columns: columns(rt, alloc, kind, multi),
+        indexes: Items::empty(alloc),
+    }
+}
+
+/// Segments over the columns, descending where the flag is set.
+fn segments(rt: &impl Abort, alloc: Global, columns: &[(u16, bool)]) -> Items<Segment> {
     let mut segments = Items::empty(alloc);
     for (id, descending) in columns {
-        segments.push(Segment {
+        let segment = Segment {
             column: ColumnId(*id),
             descending: *descending,
-        })?;
+        };
+        segments.push(segment).expect(rt, "memory");
     }
-    let mut asked = Items::empty(alloc);
-    for (id, must_be_null) in conditions {
-        asked.push(Condition {
+    segments
+}
+
+/// Conditions on the columns: that they have no value where the flag is set, else that they have one.
+fn conditions(rt: &impl Abort, alloc: Global, columns: &[(u16, bool)]) -> Items<Condition> {
+    let mut conditions = Items::empty(alloc);
+    for (id, must_be_null) in columns {
+        let condition = Condition {
             column: ColumnId(*id),
             must_be_null: *must_be_null,
-        })?;
+        };
+        conditions.push(condition).expect(rt, "memory");
     }
-    Ok(IndexRule {
+    conditions
+}
+
+/// The rule over these segments under these conditions.
+fn rule(
+    rt: &impl Abort,
+    alloc: Global,
+    flags: IndexFlags,
+    segments: Items<Segment>,
+    conditions: Items<Condition>,
+) -> IndexRule {
+    IndexRule {
         id: IndexId(1),
-        name: Name::new(alloc, "index")?,
+        name: Name::new(alloc, "index").expect(rt, "memory"),
         order: 1,
         segments,
         flags,
-        conditions: asked,
+        conditions,
         key_most: 255,
-    })
+    }
+}
+
+/// Compares the keys with what `yields` and `next_entry` tell, one behind the other.
+fn check_keys(rt: &impl Abort, rule: &IndexRule, schema: &Schema, pair: &Pair, keys: &[Key])
+    requires legal { is_legal rule.now schema.now ≡ true }
+    requires short { rule.now.key_most ≤ 255 }
+    requires taken { IsOk (entries rule.now schema.now ((256, map (λ value. value.now) pair.now.first.now) ∷ (257, map (λ value. value.now) pair.now.second.now) ∷ [])) }
+{
+    let mut after = None;
+    for key in keys {
+        let next = next_entry(rule, schema, pair, after);
+        assert!(rt; next.as_ref() == Some(key) && yields(rule, schema, pair, key));
+        after = Some(key);
+    }
+    assert!(rt; next_entry(rule, schema, pair, after).is_none());
 }
 
 /// The keys, which `yields` and `next_entry` tell of too.
@@ -116,18 +154,13 @@ fn keys_of(
     pair: &Pair,
 ) -> Result<Items<Key>, DeriveFault> {
     assert!(rt; legal(rule, schema) && rule.key_most <= 255);
-    let keys = match entries(alloc, rule, schema, pair) {
-        Ok(keys) => keys,
-        Err(fault) => return Err(fault),
-    };
-    let mut after = None;
-    for key in keys.as_slice() {
-        let next = next_entry(rule, schema, pair, after);
-        assert!(rt; next.as_ref() == Some(key) && yields(rule, schema, pair, key));
-        after = Some(key);
+    match entries(alloc, rule, schema, pair) {
+        Ok(keys) => {
+            check_keys(rt, rule, schema, pair, keys.as_slice());
+            Ok(keys)
+        }
+        Err(fault) => Err(fault),
     }
-    assert!(rt; next_entry(rule, schema, pair, after).is_none());
-    Ok(keys)
 }
 
 /// Whether the keys are these bytes.
@@ -141,8 +174,10 @@ fn are(keys: &[Key], expected: &[&[u8]]) -> bool {
 
 /// Whether the record has what is expected.
 fn holds(rt: &impl Abort, alloc: Global, case: &Case) -> bool {
-    let schema = schema(alloc, case.kind, case.multi).expect(rt, "memory");
-    let rule = rule(alloc, case.flags, case.columns, case.conditions).expect(rt, "memory");
+    let schema = schema(rt, alloc, case.kind, case.multi);
+    let segments = segments(rt, alloc, case.columns);
+    let conditions = conditions(rt, alloc, case.conditions);
+    let rule = rule(rt, alloc, case.flags, segments, conditions);
     let pair = Pair {
         first: case.first,
         second: case.second,
@@ -190,19 +225,20 @@ static TEXTS: &[(&[&[u8]], usize)] = &[
 ];
 
 /// The rule of an index on the parts of column 256.
-fn rule_of_parts(alloc: Global) -> Result<IndexRule, OutOfMemory> {
+fn rule_of_parts(rt: &impl Abort, alloc: Global) -> IndexRule {
     let flags = IndexFlags {
         tuples: true,
         disallownull: true,
         ..PLAIN
     };
-    rule(alloc, flags, &[(256, false)], &[])
+    let segments = segments(rt, alloc, &[(256, false)]);
+    rule(rt, alloc, flags, segments, Items::empty(alloc))
 }
 
 /// How many keys the parts of the texts have.
 fn count_of_parts(rt: &impl Abort, alloc: Global, texts: &[&[u8]]) -> usize {
-    let schema = schema(alloc, ColType::LongText, true).expect(rt, "memory");
-    let rule = rule_of_parts(alloc).expect(rt, "memory");
+    let schema = schema(rt, alloc, ColType::LongText, true);
+    let rule = rule_of_parts(rt, alloc);
     let pair = Pair {
         first: texts,
         second: &[],
@@ -230,20 +266,31 @@ fn parts_begin_in_the_first_1024_bytes(rt: HostRuntime) {
     assert!(&rt; count_of_parts(&rt, rt.alloc(), &[&long]) == 1022);
 }
 
-#[test]
-fn parts_of_texts_are_keys(rt: HostRuntime) {
-    let schema = schema(rt.alloc(), ColType::LongText, true).expect(&rt, "memory");
-    let rule = rule_of_parts(rt.alloc()).expect(&rt, "memory");
+/// The keys of the parts of the texts.
+fn keys_of_parts(rt: &impl Abort, alloc: Global, texts: &[&[u8]]) -> Items<Key> {
+    let schema = schema(rt, alloc, ColType::LongText, true);
+    let rule = rule_of_parts(rt, alloc);
     let pair = Pair {
-        first: &[b"abcdefghijk", b"XbcdefghijZ"],
+        first: texts,
         second: &[],
     };
-    let keys = keys_of(&rt, rt.alloc(), &rule, &schema, &pair).expect(&rt, "not refused");
-    assert!(&rt; keys.as_slice().len() == 18);
-    match keys.as_slice().first() {
-        Some(key) => {
-            assert!(&rt; key.as_bytes() == b"\x7fABCDEFGH\x09IJ\0\0\0\0\0\0\x02".as_slice());
-        }
-        None => assert!(&rt; false),
+    match keys_of(rt, alloc, &rule, &schema, &pair) {
+        Ok(keys) => keys,
+        Err(_) => Items::empty(alloc),
     }
+}
+
+/// Whether there are so many keys, the first of them of these bytes.
+fn begin_with(keys: &[Key], count: usize, bytes: &[u8]) -> bool {
+    match keys {
+        [first, ..] => keys.len() == count && first.as_bytes() == bytes,
+        [] => false,
+    }
+}
+
+#[test]
+fn parts_of_texts_are_keys(rt: HostRuntime) {
+    let keys = keys_of_parts(&rt, rt.alloc(), &[b"abcdefghijk", b"XbcdefghijZ"]);
+    let first = b"\x7fABCDEFGH\x09IJ\0\0\0\0\0\0\x02";
+    assert!(&rt; begin_with(keys.as_slice(), 18, first));
 }
