@@ -4,7 +4,7 @@ use Rattle.std.specs.Prelude.{is_none}
 use Rattle.std.specs.List.{AllByRecursion}
 use Rattle.jet_base.specs.declared.replies.Jet.{Jet}
 use Rattle.database_state.specs.Refusals.{Refusals, first_refusal}
-use Rattle.version_keys.proofs.SchemaKeys.{unrefused}
+use Rattle.lawful_answers.proofs.version_keys_proofs.SchemaKeys.{unrefused}
 use Rattle.session_local.specs.declared.request.Request.{Request}
 use Rattle.session_local.specs.Calls.{answer, answer_begun, answer_not_begun}
 use Rattle.session_local.specs.Local.{OpenCursor, cursor_labelled}

@@ -16,7 +16,7 @@ use Rattle.derived_index.proofs.Adding.{KeysRise}
 use Rattle.record_changes.specs.Records.{Records}
 use Rattle.version_history.specs.History.{IsHistory}
 use Rattle.version_history.specs.KeptSteps.{with_next_number}
-use Rattle.version_keys.proofs.BookmarkKeys.{HasOneEntry}
+use Rattle.lawful_answers.proofs.version_keys_proofs.BookmarkKeys.{HasOneEntry}
 use Rattle.common_lemmas.proofs.Found.{of_found}
 use Rattle.session_local.specs.declared.request.Request.TheVariants as call
 use Rattle.session_local.specs.Agreement.{IsStorable}

@@ -14,3 +14,4 @@ pub mod ChangeCalls
 pub mod Replacing
 pub mod AllSessions
 pub mod RisingColumns
+pub use Rattle.lawful_answers.proofs as lawful_answers_proofs

@@ -31,9 +31,9 @@ use Rattle.record_changes.proofs.Projecting.{projected}
 use Rattle.version_history.specs.History.{IsHistory}
 use Rattle.version_history.specs.KeptSteps.{new_change, with_next_number}
 use Rattle.version_history.proofs.Lists.{all_both}
-use Rattle.version_keys.proofs.IndexNumbers.{none_of}
-use Rattle.version_keys.proofs.SchemaKeys.{other_table}
-use Rattle.version_keys.proofs.UniqueKept.{id_of}
+use Rattle.lawful_answers.proofs.version_keys_proofs.IndexNumbers.{none_of}
+use Rattle.lawful_answers.proofs.version_keys_proofs.SchemaKeys.{other_table}
+use Rattle.lawful_answers.proofs.version_keys_proofs.UniqueKept.{id_of}
 use Rattle.session_local.specs.Agreement.{HasSchemaOf, IsStorable, MayReplace, has_lock, is_lock_on, replaced_in}
 use Rattle.session_local.specs.Local.{OpenCursor, PreparedFor, PreparedUpdate, inserting, is_replace_of, replacing}
 use Rattle.session_local.specs.Outcome.{Asked, entry_of, is_outside, step_of_change}

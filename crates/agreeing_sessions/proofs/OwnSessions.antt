@@ -20,8 +20,8 @@ use Rattle.version_history.specs.History.{IsHistory}
 use Rattle.version_history.specs.KeptSteps.{with_next_number}
 use Rattle.version_history.proofs.LawfulEntries.{all_outside, outside}
 use Rattle.version_history.proofs.Transactions.{found-left, same-with, transaction-levels}
-use Rattle.version_keys.specs.TableOrder.{HasTablesInOrder}
-use Rattle.version_keys.proofs.OrderedTables.{found_each}
+use Rattle.lawful_answers.specs.version_keys.TableOrder.{HasTablesInOrder}
+use Rattle.lawful_answers.proofs.version_keys_proofs.OrderedTables.{found_each}
 use Rattle.common_lemmas.proofs.Found.{found_passes, of_found}
 use Rattle.common_lemmas.proofs.Lists.{all_append, all_each, all_map, all_weaker}
 use Rattle.common_lemmas.proofs.Numbers.{self_equal}

@@ -25,10 +25,10 @@ use Rattle.database_state.specs.Lawful.{keeps_escrow}
 use Rattle.record_changes.specs.Records.{Records, is_change_of, records_of}
 use Rattle.version_history.specs.History.{IsHistory}
 use Rattle.version_history.specs.KeptSteps.{new_change, with_next_number}
-use Rattle.version_sums.specs.EscrowNumbers.{ColumnsRise}
-use Rattle.version_records.specs.RecordNumbers.{HoldsNumbers}
-use Rattle.version_records.specs.StoredRecords.{IsStored}
-use Rattle.version_records.proofs.EscrowRecords.{numbers_seen}
+use Rattle.lawful_answers.specs.version_sums.EscrowNumbers.{ColumnsRise}
+use Rattle.lawful_answers.specs.version_records.RecordNumbers.{HoldsNumbers}
+use Rattle.lawful_answers.specs.version_records.StoredRecords.{IsStored}
+use Rattle.lawful_answers.proofs.version_records_proofs.EscrowRecords.{numbers_seen}
 use Rattle.session_local.specs.declared.request.Request.TheVariants as call
 use Rattle.session_local.specs.Agreement.{IsStorable, has_lock, is_lock_on}
 use Rattle.session_local.specs.Calls.{answer}

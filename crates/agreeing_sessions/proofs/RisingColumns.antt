@@ -7,7 +7,7 @@ use Rattle.std.specs.FinMap.Entries.{is_sorted-put, is_sorted-where_key}
 use Rattle.column_set.specs.declared.columns.Column.{Column}
 use Rattle.column_set.specs.RecordValues.{RecordFields, with_values}
 use Rattle.session_local.specs.RecordCalls.{with_sums_at_zero}
-use Rattle.version_sums.specs.EscrowNumbers.{ColumnsRise}
+use Rattle.lawful_answers.specs.version_sums.EscrowNumbers.{ColumnsRise}
 
 -- where the values of a column are set
 pub values_rise : (fields : RecordFields) (column : ℕ) (values : List (List ℕ)) → ColumnsRise fields → ColumnsRise (with_values fields column values)

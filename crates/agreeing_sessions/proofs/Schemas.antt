@@ -13,9 +13,9 @@ use Rattle.database_state.specs.State.{DatabaseState, LiveSession, levels, live_
 use Rattle.record_changes.proofs.Tests.{or_second}
 use Rattle.version_history.specs.History.{without_rows}
 use Rattle.version_history.proofs.Lists.{all_both}
-use Rattle.version_keys.proofs.IndexNumbers.{found_in_filter, none_of}
-use Rattle.version_keys.proofs.SchemaKeys.{other_table, unrefused}
-use Rattle.version_keys.proofs.UniqueKept.{id_of}
+use Rattle.lawful_answers.proofs.version_keys_proofs.IndexNumbers.{found_in_filter, none_of}
+use Rattle.lawful_answers.proofs.version_keys_proofs.SchemaKeys.{other_table, unrefused}
+use Rattle.lawful_answers.proofs.version_keys_proofs.UniqueKept.{id_of}
 use Rattle.common_lemmas.proofs.Found.{of_found}
 use Rattle.common_lemmas.proofs.Lists.{all_each, all_weaker}
 use Rattle.common_lemmas.proofs.Numbers.{self_equal}

@@ -6,7 +6,7 @@ use Rattle.database_state.specs.State.{DatabaseState}
 use Rattle.database_state.specs.View.{view}
 use Rattle.database_state.specs.Step.{state_after_all}
 use Rattle.record_changes.specs.Records.{records_of}
-use Rattle.version_records.specs.StoredRecords.{IsStored}
+use Rattle.lawful_answers.specs.version_records.StoredRecords.{IsStored}
 use Rattle.session_local.specs.Agreement.{Agrees}
 use Rattle.session_local.specs.Local.{LocalState}
 use Rattle.session_local.specs.Outcome.{Asked, Outcome}

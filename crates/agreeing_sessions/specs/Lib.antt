@@ -1,1 +1,2 @@
 pub mod InStep
+pub use Rattle.lawful_answers.specs as lawful_answers

@@ -6,7 +6,7 @@ ghost use Rattle.jet_base.specs.declared.words.Given.{Given};
 ghost use Rattle.jet_base.specs.declared.words.Prepare.TheVariants as prepare;
 ghost use Rattle.jet_base.specs.declared.words.Way.{Way};
 ghost use Rattle.cursor_nav.specs.declared.seek_by.SeekBy.{SeekBy};
-ghost use Rattle.version_keys.specs.TableOrder.{HasTablesInOrder};
+ghost use Rattle.lawful_answers.specs.version_keys.TableOrder.{HasTablesInOrder};
 ghost use Rattle.session_local.specs.declared.request.Request.TheVariants as call;
 ghost use Rattle.session_local.specs.Calls.{answer};
 ghost use Rattle.session_local.specs.Outcome.{Asked};

@@ -1,6 +1,8 @@
 //! The nodes of the catalog, in a B-tree of a space that other trees share.
 #![tactic(auto)]
 
+pub use catalog_record;
+
 mod steps;
 mod tree;
 

@@ -10,8 +10,8 @@ use Rattle.session_local.specs.Calls.{answer}
 use Rattle.session_local.specs.Run.{flushes_step}
 use Rattle.index_derive.specs.Steps.{entries_of_step}
 use Rattle.database_state.specs.State.{DatabaseState}
-use Rattle.lawful_answers.specs.LawfulSteps.{AreLawful, HasLawfulStep}
-use Rattle.agreeing_sessions.specs.InStep.{IsInStep}
+use Rattle.engine_versions.specs.lawful_answers.LawfulSteps.{AreLawful, HasLawfulStep}
+use Rattle.engine_versions.specs.agreeing_sessions.InStep.{IsInStep}
 use Rattle.engine_versions.specs.EngineState.{EngineState}
 use Rattle.engine_versions.specs.HoldsState.{HoldsState, asked_of}
 use Rattle.engine_versions.proofs.Decisions.{copied_none, refused_with, stepped_with}

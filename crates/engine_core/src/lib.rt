@@ -1,11 +1,14 @@
 //! The engine: what every call is answered, and what its step does.
 #![tactic(auto)]
 
+pub use engine_steps;
+pub use engine_steps::table_versions;
+
 mod deciding;
 mod laws;
 
 pub use deciding::{decide, is_reading, read};
-pub use engine_parts::Engine;
+pub use engine_steps::engine_parts::Engine;
 pub use engine_steps::{apply, clean};
 pub use laws::{
     a_run_is_held_after_its_lines, a_session_of_a_run_is_beside,

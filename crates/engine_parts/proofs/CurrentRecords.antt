@@ -9,7 +9,7 @@ use Rattle.database_state.specs.Refusals.{first_refusal}
 use Rattle.index_derive.specs.declared.entries.Place.{Place}
 use Rattle.index_derive.specs.declared.entries.Place.TheVariants.{On}
 use Rattle.session_local.specs.Local.{OpenCursor}
-use Rattle.stored_variants.specs.StoredVersions.{StoredVersions}
+use Rattle.table_versions.specs.stored_variants.StoredVersions.{StoredVersions}
 use Rattle.version_cleanup.specs.Cleaning.{reader_in}
 use Rattle.version_store.specs.declared.calls.Reader.{Reader}
 use Rattle.engine_versions.specs.EngineState.{EngineState}

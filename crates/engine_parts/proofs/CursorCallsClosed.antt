@@ -16,7 +16,7 @@ use Rattle.session_local.specs.Calls.{answer}
 use Rattle.session_local.specs.CursorCalls.{close_table}
 use Rattle.session_local.specs.LocalCalls.{is_answered_locally}
 use Rattle.session_local.specs.FoundLaws.{labelled}
-use Rattle.lawful_answers.specs.LawfulSteps.{HasLawfulStep}
+use Rattle.engine_versions.specs.lawful_answers.LawfulSteps.{HasLawfulStep}
 use Rattle.engine_versions.specs.EngineState.{EngineState}
 use Rattle.engine_versions.specs.HoldsState.{asked_of}
 use Rattle.engine_parts.specs.Deciding.{Decides, IsDecision}

@@ -21,10 +21,10 @@ use Rattle.session_local.specs.Calls.{answer}
 use Rattle.session_local.specs.CursorCalls.{index_record_count}
 use Rattle.session_local.specs.LocalCalls.{is_answered_locally}
 use Rattle.session_local.specs.Navigating.{EntriesOf, RecordsOf}
-use Rattle.agreeing_sessions.specs.InStep.{IsInStep}
-use Rattle.stored_variants.specs.StoredVersions.{seen_entries}
+use Rattle.engine_versions.specs.agreeing_sessions.InStep.{IsInStep}
+use Rattle.table_versions.specs.stored_variants.StoredVersions.{seen_entries}
 use Rattle.version_store.specs.declared.calls.Reader.{Reader}
-use Rattle.versioned_tables.specs.VersionedTables.{VersionedTables}
+use Rattle.engine_versions.specs.versioned_tables.VersionedTables.{VersionedTables}
 use Rattle.version_cleanup.specs.Cleaning.{reader_in}
 use Rattle.engine_versions.specs.EngineState.{EngineState}
 use Rattle.engine_versions.specs.HoldsState.{HoldsState, asked_of}

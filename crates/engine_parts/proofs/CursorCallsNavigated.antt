@@ -13,10 +13,10 @@ use Rattle.session_local.specs.Outcome.{navigated}
 use Rattle.session_local.specs.LocalCalls.{is_answered_locally}
 use Rattle.session_local.specs.Finishing.{Decided, finished}
 use Rattle.session_local.specs.Navigating.{navigated_by, navigated_on}
-use Rattle.agreeing_sessions.specs.InStep.{IsInStep}
-use Rattle.stored_variants.specs.StoredVersions.{seen_entries}
+use Rattle.engine_versions.specs.agreeing_sessions.InStep.{IsInStep}
+use Rattle.table_versions.specs.stored_variants.StoredVersions.{seen_entries}
 use Rattle.version_store.specs.declared.calls.Reader.{Reader}
-use Rattle.versioned_tables.specs.VersionedTables.{VersionedTables}
+use Rattle.engine_versions.specs.versioned_tables.VersionedTables.{VersionedTables}
 use Rattle.version_cleanup.specs.Cleaning.{reader_in}
 use Rattle.engine_versions.specs.EngineState.{EngineState}
 use Rattle.engine_versions.specs.HoldsState.{HoldsState, asked_of}

@@ -27,7 +27,7 @@ use Rattle.session_local.specs.CursorCalls.{opened}
 use Rattle.session_local.specs.LocalCalls.{is_answered_locally}
 use Rattle.session_local.specs.Finishing.{opened_cursor, finished}
 use Rattle.session_local.specs.Deciding.{decided_in}
-use Rattle.lawful_answers.specs.LawfulSteps.{HasLawfulStep}
+use Rattle.engine_versions.specs.lawful_answers.LawfulSteps.{HasLawfulStep}
 use Rattle.engine_versions.specs.EngineState.{EngineState}
 use Rattle.engine_versions.specs.HoldsState.{HoldsState, asked_of}
 use Rattle.engine_versions.proofs.SameTables.{named_alike}

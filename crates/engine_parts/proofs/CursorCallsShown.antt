@@ -23,7 +23,7 @@ use Rattle.session_local.specs.CursorCalls.{whole, retrieve_key, get_bookmark}
 use Rattle.session_local.specs.LocalCalls.{is_answered_locally}
 use Rattle.session_local.specs.Finishing.{finished}
 use Rattle.session_local.specs.Deciding.{decided_in}
-use Rattle.agreeing_sessions.specs.InStep.{IsInStep}
+use Rattle.engine_versions.specs.agreeing_sessions.InStep.{IsInStep}
 use Rattle.engine_versions.specs.EngineState.{EngineState}
 use Rattle.engine_versions.specs.HoldsState.{HoldsState, asked_of}
 use Rattle.engine_parts.specs.Deciding.{Decides}

@@ -11,28 +11,28 @@ use Rattle.database_state.specs.View.{view}
 use Rattle.index_derive.specs.declared.rules.Schema.{Schema}
 use Rattle.record_changes.specs.Records.{Records, records_of}
 use Rattle.version_history.specs.History.{IsHistory, without_rows}
-use Rattle.version_sums.specs.EscrowSums.{with_sums}
-use Rattle.version_keys.specs.KeySums.{SeesNoSum}
-use Rattle.version_keys.proofs.EscrowSums.{unseen_now}
-use Rattle.version_keys.proofs.IndexNumbers.{all_primary_first}
-use Rattle.version_keys.proofs.UniqueKept.{id_of}
-use Rattle.version_records.specs.EachRecord.{EachRecordHas}
-use Rattle.version_records.specs.RecordNumbers.{HasEscrowNumbers, HoldsNumbers}
-use Rattle.version_records.specs.StoredRecords.{IsStored}
+use Rattle.engine_versions.specs.version_sums.EscrowSums.{with_sums}
+use Rattle.engine_versions.specs.version_keys.KeySums.{SeesNoSum}
+use Rattle.engine_versions.proofs.version_keys_proofs.EscrowSums.{unseen_now}
+use Rattle.engine_versions.proofs.version_keys_proofs.IndexNumbers.{all_primary_first}
+use Rattle.engine_versions.proofs.version_keys_proofs.UniqueKept.{id_of}
+use Rattle.engine_versions.specs.version_records.EachRecord.{EachRecordHas}
+use Rattle.engine_versions.specs.version_records.RecordNumbers.{HasEscrowNumbers, HoldsNumbers}
+use Rattle.engine_versions.specs.version_records.StoredRecords.{IsStored}
 use Rattle.version_store.specs.declared.calls.Reader.{Reader}
 use Rattle.version_cleanup.specs.Cleaning.{reader_in}
-use Rattle.versioned_tables.proofs.HeldSums.{same_sums}
-use Rattle.versioned_tables.proofs.SeenTables.{seen_at_id}
-use Rattle.versioned_tables.proofs.ViewedRecords.{AreAdded, unseen_added}
-use Rattle.versioned_tables.specs.HeldRecords.{HeldRecord}
-use Rattle.versioned_tables.specs.HeldSums.{unseen_sums}
-use Rattle.versioned_tables.specs.VersionedTables.{VersionedTables, seen_table, seen_tables}
-use Rattle.versioned_tables.specs.Holding.{Holds, begin_of}
-use Rattle.stored_variants.specs.StoredVersions.{entries_in}
+use Rattle.engine_versions.proofs.versioned_tables_proofs.HeldSums.{same_sums}
+use Rattle.engine_versions.proofs.versioned_tables_proofs.SeenTables.{seen_at_id}
+use Rattle.engine_versions.proofs.versioned_tables_proofs.ViewedRecords.{AreAdded, unseen_added}
+use Rattle.engine_versions.specs.versioned_tables.HeldRecords.{HeldRecord}
+use Rattle.engine_versions.specs.versioned_tables.HeldSums.{unseen_sums}
+use Rattle.engine_versions.specs.versioned_tables.VersionedTables.{VersionedTables, seen_table, seen_tables}
+use Rattle.engine_versions.specs.versioned_tables.Holding.{Holds, begin_of}
+use Rattle.table_versions.specs.stored_variants.StoredVersions.{entries_in}
 use Rattle.table_versions.specs.Shown.{FindsShown, ShowsEntries}
 use Rattle.session_local.specs.Agreement.{HasSchemaOf}
 use Rattle.session_local.specs.Local.{LocalState, OpenCursor, cursor_labelled}
-use Rattle.agreeing_sessions.specs.InStep.{IsInStep}
+use Rattle.engine_versions.specs.agreeing_sessions.InStep.{IsInStep}
 use Rattle.engine_versions.specs.EngineState.{EngineState}
 use Rattle.engine_versions.specs.HoldsState.{HoldsState}
 use Rattle.engine_versions.proofs.SameTables.{numbered_alike}

@@ -26,13 +26,13 @@ use Rattle.session_local.specs.RecordCalls.{column_shown, on_column, retrieve_co
 use Rattle.session_local.specs.SessionSide.{SessionSide, are_distinct}
 use Rattle.session_local.specs.WellFormed.{IsWellFormed, is_well_formed_cursor, is_well_formed_schema, is_long_if_sum, is_well_formed_update, number_of_column}
 use Rattle.session_local.specs.Calls.{answer}
-use Rattle.agreeing_sessions.specs.InStep.{IsInStep}
+use Rattle.engine_versions.specs.agreeing_sessions.InStep.{IsInStep}
 use Rattle.engine_versions.specs.EngineState.{EngineState}
 use Rattle.engine_versions.specs.HoldsState.{HoldsState, asked_of}
 use Rattle.engine_parts.specs.Deciding.{Decides, IsBeside}
 use Rattle.version_cleanup.specs.Cleaning.{reader_in}
-use Rattle.versioned_tables.specs.HeldSums.{unseen_sums}
-use Rattle.versioned_tables.specs.ViewedRecords.{without_sums}
+use Rattle.engine_versions.specs.versioned_tables.HeldSums.{unseen_sums}
+use Rattle.engine_versions.specs.versioned_tables.ViewedRecords.{without_sums}
 use Rattle.engine_parts.specs.HeldLaws.{SeesRecords, SeesRows}
 use Rattle.engine_parts.specs.Reading.{IsRowAt, fields_at, record_for, shown_for}
 use Rattle.engine_parts.specs.Retrieving.{AreReadable, IsColumnOf, IsRecordAt, place_refusals}

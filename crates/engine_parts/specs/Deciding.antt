@@ -11,8 +11,8 @@ use Rattle.session_local.specs.Run.{flushes_step}
 use Rattle.session_local.specs.SessionSide.{SessionSide}
 use Rattle.session_local.specs.Showing.{names_within}
 use Rattle.session_local.specs.WellFormed.{IsWellFormed}
-use Rattle.lawful_answers.specs.LawfulSteps.{AreLawful}
-use Rattle.agreeing_sessions.specs.InStep.{IsInStep}
+use Rattle.engine_versions.specs.lawful_answers.LawfulSteps.{AreLawful}
+use Rattle.engine_versions.specs.agreeing_sessions.InStep.{IsInStep}
 use Rattle.version_cleanup.specs.LiveSessions.{is_live}
 pub use Rattle.engine_versions.specs.Answers.{IsAnswer}
 use Rattle.engine_versions.specs.EngineState.{EngineState}

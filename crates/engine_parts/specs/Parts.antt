@@ -1,5 +1,5 @@
 -- What the parts of an engine show together.
-use Rattle.stored_variants.specs.StoredVersions.{StoredVersions}
+use Rattle.table_versions.specs.stored_variants.StoredVersions.{StoredVersions}
 use Rattle.engine_versions.specs.EngineState.{EngineState}
 use Rattle.engine_parts.specs.declared.engine.Engine.TheInside as engine
 

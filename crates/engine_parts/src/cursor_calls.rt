@@ -17,10 +17,12 @@ use crate::answers::{done, one, refusal, refused};
 use crate::engine::{Engine, LOG_LIMIT};
 use crate::laws::a_session_reads_its_view;
 use crate::view::EngineView;
+use engine_versions::lawful_answers::{
+    the_step_of_a_close_is_lawful, the_step_of_an_open_is_lawful,
+};
 use index_derive::{EntryKind, Place, Schema, Step};
 use jet_base::{CursorId, Jet, Name, OutOfMemory, Session, TableId};
 use key_normal::Key;
-use lawful_answers::{the_step_of_a_close_is_lawful, the_step_of_an_open_is_lawful};
 use session_local::{Decision, Local, MOST_CURSORS, OpenCursor, Reply, Request, Value};
 
 // A cursor is opened on a table of this schema.

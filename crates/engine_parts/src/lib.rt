@@ -2,6 +2,9 @@
 //! answered.
 #![tactic(auto)]
 
+pub use table_versions;
+pub use table_versions::kept_rows;
+
 mod answers;
 mod cursor_calls;
 mod engine;

@@ -6,20 +6,20 @@ use Rattle.database_state.specs.State.{DatabaseState, PastChange}
 use Rattle.database_state.specs.VersionStore.{is_needed}
 use Rattle.record_changes.specs.Records.{Records, after_item}
 use Rattle.version_history.specs.Readers.{is_standing}
-use Rattle.version_records.specs.EachRecord.{EachRecordHas}
-use Rattle.version_records.specs.StoredRecords.{IsStored}
-use Rattle.version_records.proofs.StoredSums.{stored_cleaned_with_sums}
+use Rattle.loggable_steps.specs.version_records.EachRecord.{EachRecordHas}
+use Rattle.loggable_steps.specs.version_records.StoredRecords.{IsStored}
+use Rattle.loggable_steps.proofs.version_records_proofs.StoredSums.{stored_cleaned_with_sums}
 use Rattle.version_store.specs.HeldChanges.{is_kept_status}
 use Rattle.version_cleanup.specs.LiveSessions.{oldest_begin}
-use Rattle.versioned_tables.specs.HeldRecords.{HeldRecord}
-use Rattle.versioned_tables.specs.VersionedTables.{VersionedTables}
-use Rattle.versioned_tables.specs.Holding.{Holds, Matches}
-use Rattle.versioned_tables.proofs.Changing.{cleaned as held_cleaned}
-use Rattle.lawful_answers.specs.LawfulSteps.{IsReached}
-use Rattle.lawful_answers.proofs.ReachedStates.{cleaned as reached_cleaned}
-use Rattle.engine_versions.specs.EngineState.{EngineState}
-use Rattle.engine_versions.specs.HoldsState.{HoldsState}
-use Rattle.engine_versions.proofs.Cleans.{KeepsNeeded}
+use Rattle.loggable_steps.specs.versioned_tables.HeldRecords.{HeldRecord}
+use Rattle.loggable_steps.specs.versioned_tables.VersionedTables.{VersionedTables}
+use Rattle.loggable_steps.specs.versioned_tables.Holding.{Holds, Matches}
+use Rattle.loggable_steps.proofs.versioned_tables_proofs.Changing.{cleaned as held_cleaned}
+use Rattle.loggable_steps.specs.lawful_answers.LawfulSteps.{IsReached}
+use Rattle.loggable_steps.proofs.lawful_answers_proofs.ReachedStates.{cleaned as reached_cleaned}
+use Rattle.loggable_steps.specs.engine_versions.EngineState.{EngineState}
+use Rattle.loggable_steps.specs.engine_versions.HoldsState.{HoldsState}
+use Rattle.loggable_steps.proofs.engine_versions_proofs.Cleans.{KeepsNeeded}
 use Rattle.engine_steps.specs.Cleans.{AreUnneeded, CanGo, without_oldest_held}
 
 -- what the engine's store says of a state, whichever history it has

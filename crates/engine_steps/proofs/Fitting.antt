@@ -9,8 +9,8 @@ use Rattle.database_state.specs.State.{DatabaseState, levels}
 use Rattle.database_state.specs.Lawful.{has_number, is_lawful, is_lawful_kind, is_live as is_live_in}
 use Rattle.database_state.specs.Step.{entry_by}
 use Rattle.version_cleanup.specs.LiveSessions.{is_live, levels_in}
-use Rattle.engine_versions.specs.EngineState.{EngineState}
-use Rattle.engine_versions.specs.HoldsState.{HoldsState}
+use Rattle.loggable_steps.specs.engine_versions.EngineState.{EngineState}
+use Rattle.loggable_steps.specs.engine_versions.HoldsState.{HoldsState}
 use Rattle.engine_steps.specs.Steps.{MayCome}
 
 -- what is lawful at all, by its kind

@@ -4,8 +4,8 @@ use Rattle.std.specs.Prelude.{drop, is_some, nat_lt}
 use Rattle.std.proofs.lemmas.Bool.Decides.{nat_tests}
 use Rattle.common_lemmas.proofs.Booleans.{impossible}
 use Rattle.version_store.specs.HeldChanges.{is_kept_status}
-use Rattle.versioned_tables.specs.HeldRecords.{HeldRecord, from_oldest_kept}
-use Rattle.stored_variants.specs.StoredVersions.{next_to_forget}
+use Rattle.loggable_steps.specs.versioned_tables.HeldRecords.{HeldRecord, from_oldest_kept}
+use Rattle.engine_parts.specs.stored_variants.StoredVersions.{next_to_forget}
 use Rattle.engine_steps.specs.Cleans.{AreUnneeded}
 
 pub drop_later : {X : Type 0} (n : ℕ) (xs : List X) → drop 1 (drop n xs) ≡ drop (suc n) xs

@@ -8,7 +8,7 @@ use Rattle.jet_base.specs.declared.words.ColType.{ColType}
 use Rattle.column_set.specs.declared.columns.Column.{Column}
 use Rattle.database_state.specs.SchemaChanges.{has_column, has_column_id, is_long_type, is_variable_type, next_column_id}
 use Rattle.database_state.specs.Table.{GreatestColumns, Table}
-use Rattle.lawful_answers.specs.ColumnNumbers.{are_in_range, is_given_number}
+use Rattle.loggable_steps.specs.lawful_answers.ColumnNumbers.{are_in_range, is_given_number}
 
 -- ---- numbers
 

@@ -18,25 +18,25 @@ use Rattle.database_state.specs.SchemaChanges.{greatest_order, has_column, least
 use Rattle.database_state.specs.Lawful.{is_name}
 use Rattle.database_state.specs.Step.{entry_by}
 use Rattle.record_changes.proofs.Tests.{and_second}
-use Rattle.version_keys.proofs.FreeKeys.{in_any_order}
-use Rattle.version_keys.proofs.IndexNumbers.{all_primary_first, none_of}
-use Rattle.version_keys.proofs.SchemaKeys.{IsNewIndex, at_found, new_index}
+use Rattle.loggable_steps.proofs.version_keys_proofs.FreeKeys.{in_any_order}
+use Rattle.loggable_steps.proofs.version_keys_proofs.IndexNumbers.{all_primary_first, none_of}
+use Rattle.loggable_steps.proofs.version_keys_proofs.SchemaKeys.{IsNewIndex, at_found, new_index}
 use Rattle.common_lemmas.proofs.Found.{found_passes, of_found}
 use Rattle.common_lemmas.proofs.Booleans.{and_left, and_right, impossible}
-use Rattle.built_calls.specs.BuiltTables.{is_unnumbered_column, makes_built}
-use Rattle.built_calls.proofs.BuiltColumns.{kept_is_sum}
+use Rattle.loggable_steps.specs.built_calls.BuiltTables.{is_unnumbered_column, makes_built}
+use Rattle.loggable_steps.proofs.built_calls_proofs.BuiltColumns.{kept_is_sum}
 use Rattle.engine_parts.specs.Parts.{tables_of}
-use Rattle.engine_versions.specs.EngineState.{EngineState}
-use Rattle.engine_versions.proofs.Telling.{tables_settled}
-use Rattle.versioned_tables.specs.HeldRecords.{HeldRecord}
-use Rattle.stored_variants.specs.SchemaSteps.{CanMake, IsColumnFor, IsIndexFor, TakesColumn}
-use Rattle.stored_variants.specs.StoredVersions.{StoredVersions}
-use Rattle.stored_variants.specs.VersionsKept.{only_secondary, secondary_rule}
+use Rattle.loggable_steps.specs.engine_versions.EngineState.{EngineState}
+use Rattle.loggable_steps.proofs.engine_versions_proofs.Telling.{tables_settled}
+use Rattle.loggable_steps.specs.versioned_tables.HeldRecords.{HeldRecord}
+use Rattle.engine_parts.specs.stored_variants.SchemaSteps.{CanMake, IsColumnFor, IsIndexFor, TakesColumn}
+use Rattle.engine_parts.specs.stored_variants.StoredVersions.{StoredVersions}
+use Rattle.engine_parts.specs.stored_variants.VersionsKept.{only_secondary, secondary_rule}
 use Rattle.log_grammar.specs.EntryBytes.{column_fits, index_fits, schema_fits}
 use Rattle.loggable_steps.specs.Loggable.{schema_fits_types}
 use Rattle.loggable_steps.proofs.ChangeBytes.{IsAsked, columns_of}
 use Rattle.loggable_steps.proofs.SchemaBytes.{schema_spelled, table_there}
-use Rattle.version_keys.proofs.BookmarkKeys.{HasOneEntry}
+use Rattle.loggable_steps.proofs.version_keys_proofs.BookmarkKeys.{HasOneEntry}
 use Rattle.engine_steps.proofs.NewColumns.{column_is_new, next_is_some}
 use Rattle.engine_steps.specs.Steps.{MayCome}
 use Rattle.engine_steps.proofs.Settled.{IsLawfulStep, lawful_step, none_open}

@@ -22,11 +22,11 @@ use Rattle.version_history.proofs.Transactions.{transaction-begun}
 use Rattle.version_store.specs.HeldChanges.{is_kept_status}
 use Rattle.version_cleanup.specs.declared.live.Transaction.{Transaction}
 use Rattle.version_cleanup.specs.LiveSessions.{lesser, live_state, oldest_begin, without_snapshot}
-use Rattle.versioned_tables.specs.HeldRecords.{HeldRecord, from_oldest_kept}
-use Rattle.versioned_tables.specs.Holding.{AllMatch}
-use Rattle.engine_versions.specs.EngineState.{EngineState, cleaned}
-use Rattle.engine_versions.specs.EngineSteps.{cleaned_for, cleans_first, step_cleans}
-use Rattle.engine_versions.specs.HoldsState.{HoldsState}
+use Rattle.loggable_steps.specs.versioned_tables.HeldRecords.{HeldRecord, from_oldest_kept}
+use Rattle.loggable_steps.specs.versioned_tables.Holding.{AllMatch}
+use Rattle.loggable_steps.specs.engine_versions.EngineState.{EngineState, cleaned}
+use Rattle.loggable_steps.specs.engine_versions.EngineSteps.{cleaned_for, cleans_first, step_cleans}
+use Rattle.loggable_steps.specs.engine_versions.HoldsState.{HoldsState}
 use Rattle.engine_steps.specs.Steps.{IsSettledFor, IsSettledForStep, MayTake}
 use Rattle.engine_steps.proofs.Fitting.{lawful_by_kind}
 use Rattle.engine_steps.proofs.Turns.{apart}

@@ -24,19 +24,19 @@ use Rattle.database_state.specs.Step.{entry_by}
 use Rattle.record_changes.specs.Records.{records_of}
 use Rattle.long_rows.specs.KeptRows.{are_values}
 use Rattle.version_history.proofs.Unhindered.{finds_newest}
-use Rattle.version_keys.proofs.EscrowSums.{unseen_now}
-use Rattle.version_records.specs.Bookmarks.{is_bookmark}
-use Rattle.version_records.specs.RecordNumbers.{HoldsNumbers as HoldsNumbersUnder}
-use Rattle.version_records.proofs.EntryNumbers.{entry_number-own}
-use Rattle.version_records.proofs.EscrowRecords.{numbers_seen, put_numbers}
+use Rattle.loggable_steps.proofs.version_keys_proofs.EscrowSums.{unseen_now}
+use Rattle.loggable_steps.specs.version_records.Bookmarks.{is_bookmark}
+use Rattle.loggable_steps.specs.version_records.RecordNumbers.{HoldsNumbers as HoldsNumbersUnder}
+use Rattle.loggable_steps.proofs.version_records_proofs.EntryNumbers.{entry_number-own}
+use Rattle.loggable_steps.proofs.version_records_proofs.EscrowRecords.{numbers_seen, put_numbers}
 use Rattle.common_lemmas.proofs.Found.{found_passes}
 use Rattle.common_lemmas.proofs.Booleans.{and_left, and_right, impossible}
 use Rattle.common_lemmas.proofs.Numbers.{same_bytes}
-use Rattle.version_records.proofs.Standing.{bookmarks_seen}
-use Rattle.engine_versions.specs.EngineState.{EngineState}
-use Rattle.engine_versions.specs.HoldsState.{HoldsState}
-use Rattle.stored_variants.specs.PutRecords.{IsStorable}
-use Rattle.stored_variants.specs.VersionsKept.{HoldsNumbers}
+use Rattle.loggable_steps.proofs.version_records_proofs.Standing.{bookmarks_seen}
+use Rattle.loggable_steps.specs.engine_versions.EngineState.{EngineState}
+use Rattle.loggable_steps.specs.engine_versions.HoldsState.{HoldsState}
+use Rattle.engine_parts.specs.stored_variants.PutRecords.{IsStorable}
+use Rattle.engine_parts.specs.stored_variants.VersionsKept.{HoldsNumbers}
 use Rattle.engine_parts.specs.HeldLaws.{TellsNewest}
 use Rattle.engine_steps.specs.Changing.{CanChange, IsFormed}
 use Rattle.engine_steps.specs.Steps.{MayCome}

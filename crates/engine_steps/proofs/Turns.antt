@@ -18,11 +18,11 @@ use Rattle.version_history.specs.History.{EachTwo, LabelsRise}
 use Rattle.version_history.proofs.LawfulEntries.{outside}
 use Rattle.version_cleanup.specs.declared.live.Transaction.{Transaction}
 use Rattle.version_cleanup.specs.LiveSessions.{LiveState, began, ended, live_state, with_session, without_snapshot}
-use Rattle.engine_versions.specs.EngineState.{EngineState, HasRoomForEnds}
-use Rattle.engine_versions.specs.EngineSteps.{cleaned_for, effect_on, engine_after, step_cleans}
-use Rattle.engine_versions.specs.HoldsState.{HoldsAllInStep, HoldsState}
-use Rattle.engine_versions.proofs.Cleans.{CleanHolds, clean_for_holds}
-use Rattle.engine_versions.proofs.Room.{EntryHolds}
+use Rattle.loggable_steps.specs.engine_versions.EngineState.{EngineState, HasRoomForEnds}
+use Rattle.loggable_steps.specs.engine_versions.EngineSteps.{cleaned_for, effect_on, engine_after, step_cleans}
+use Rattle.loggable_steps.specs.engine_versions.HoldsState.{HoldsAllInStep, HoldsState}
+use Rattle.loggable_steps.proofs.engine_versions_proofs.Cleans.{CleanHolds, clean_for_holds}
+use Rattle.loggable_steps.proofs.engine_versions_proofs.Room.{EntryHolds}
 use Rattle.engine_steps.specs.Steps.{MayCome, MayTake, begin_taken_back}
 use Rattle.engine_steps.proofs.Fitting.{lawful_by_kind}
 

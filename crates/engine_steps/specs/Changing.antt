@@ -6,10 +6,10 @@ use Rattle.column_set.specs.declared.changes.Change.TheVariants.{Put, Drop, Hold
 use Rattle.database_state.specs.Table.{record_in, schema_of, table_with_id}
 use Rattle.index_derive.specs.Entries.{is_escrow_column}
 use Rattle.version_store.specs.declared.calls.By.{By}
-use Rattle.versioned_tables.specs.VersionedTables.{VersionedTables, with_change}
-use Rattle.stored_variants.specs.PutRecords.{IsStorable}
-use Rattle.stored_variants.specs.StoredVersions.{StoredVersions}
-use Rattle.engine_versions.specs.EngineSteps.{newest_with}
+use Rattle.loggable_steps.specs.versioned_tables.VersionedTables.{VersionedTables, with_change}
+use Rattle.engine_parts.specs.stored_variants.PutRecords.{IsStorable}
+use Rattle.engine_parts.specs.stored_variants.StoredVersions.{StoredVersions}
+use Rattle.loggable_steps.specs.engine_versions.EngineSteps.{newest_with}
 
 -- A record that is put can be stored in its table, one that is dropped is there, a lock is in a table, and a sum is one of an
 -- escrow column of a table.

@@ -3,9 +3,9 @@ use Rattle.std.specs.Prelude.{◌≡◌, ℕ, false, List, drop, take, Option}
 use Rattle.std.specs.List.{AllByRecursion}
 use Rattle.version_cleanup.specs.LiveSessions.{oldest_begin}
 use Rattle.version_store.specs.HeldChanges.{is_kept_status}
-use Rattle.versioned_tables.specs.HeldRecords.{HeldRecord, from_oldest_kept}
-use Rattle.versioned_tables.specs.VersionedTables.{VersionedTables}
-use Rattle.engine_versions.specs.EngineState.{EngineState}
+use Rattle.loggable_steps.specs.versioned_tables.HeldRecords.{HeldRecord, from_oldest_kept}
+use Rattle.loggable_steps.specs.versioned_tables.VersionedTables.{VersionedTables}
+use Rattle.loggable_steps.specs.engine_versions.EngineState.{EngineState}
 
 -- a held change that no reader needs, given where the oldest open transaction began
 abbrev pub IsUnneeded : Option ℕ → HeldRecord → Type 0

@@ -8,14 +8,14 @@ use Rattle.index_derive.specs.declared.log.Step.TheVariants.{One, Alone}
 use Rattle.index_derive.specs.Steps.{entries_of_step}
 use Rattle.database_state.specs.State.{DatabaseState}
 use Rattle.database_state.specs.Lawful.{is_lawful}
-use Rattle.version_records.specs.RecordNumbers.{HasItsType}
-use Rattle.lawful_answers.specs.EntryTypes.{AreOfTheirTypes}
-use Rattle.lawful_answers.specs.LawfulSteps.{AreLawful}
+use Rattle.loggable_steps.specs.version_records.RecordNumbers.{HasItsType}
+use Rattle.loggable_steps.specs.lawful_answers.EntryTypes.{AreOfTheirTypes}
+use Rattle.loggable_steps.specs.lawful_answers.LawfulSteps.{AreLawful}
 use Rattle.version_cleanup.specs.LiveSessions.{ended, with_session}
-use Rattle.versioned_tables.specs.HeldRecords.{HeldRecord}
-use Rattle.built_calls.specs.BuiltTables.{AllMakeBuilt, makes_built}
-use Rattle.engine_versions.specs.EngineState.{EngineState}
-use Rattle.engine_versions.specs.HoldsState.{HoldsState}
+use Rattle.loggable_steps.specs.versioned_tables.HeldRecords.{HeldRecord}
+use Rattle.loggable_steps.specs.built_calls.BuiltTables.{AllMakeBuilt, makes_built}
+use Rattle.loggable_steps.specs.engine_versions.EngineState.{EngineState}
+use Rattle.loggable_steps.specs.engine_versions.HoldsState.{HoldsState}
 
 -- The entry is lawful in a state that the engine holds, makes only what is built, and is as its type has it.
 pub record MayCome (engine : EngineState) (made : Entry) : Type 0 where

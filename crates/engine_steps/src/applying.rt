@@ -4,8 +4,8 @@ ghost use Rattle.std.specs.Prelude.{◌≡◌, ◌+◌, ◌^◌, ◌≤◌, true
 ghost use Rattle.index_derive.specs.declared.log.EntryKind.TheVariants as entry;
 ghost use Rattle.index_derive.specs.declared.log.Step.TheVariants.{Alone};
 ghost use Rattle.index_derive.specs.Steps.{entries_of_step};
-ghost use Rattle.engine_versions.specs.EngineState.{HasRoomForEnds};
-ghost use Rattle.engine_versions.specs.EngineSteps.{cleaned_for, cleans_first, effect_on, engine_after_all, engine_after_step, step_cleans};
+ghost use Rattle.loggable_steps.specs.engine_versions.EngineState.{HasRoomForEnds};
+ghost use Rattle.loggable_steps.specs.engine_versions.EngineSteps.{cleaned_for, cleans_first, effect_on, engine_after_all, engine_after_step, step_cleans};
 ghost use Rattle.database_state.specs.Step.{entry_by};
 ghost use Rattle.engine_steps.specs.Steps.{IsSettledFor, IsSettledForStep, MayCome, MayTake, begin_taken_back, may_lack_memory, step_may_lack_memory};
 
@@ -22,9 +22,9 @@ use crate::session_steps::{
 };
 use crate::types::numbers_fit_their_types;
 use engine_parts::Engine;
-use engine_versions::ends_always_find_room;
 use index_derive::{EntryKind, Step};
 use jet_base::{OutOfMemory, Session};
+use loggable_steps::engine_versions::ends_always_find_room;
 
 /// Makes a step that was decided in this state, or that is lawful in a replay: a change of a record and a schema step clean
 /// first, and then the entries take effect in their order, each with the next number. After want of memory all is as it was, but

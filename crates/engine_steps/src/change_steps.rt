@@ -2,13 +2,13 @@
 
 ghost use Rattle.std.specs.Prelude.{◌≡◌, ◌+◌, ◌^◌, ◌≤◌, ◌<◌, OnOk, OnErr};
 ghost use Rattle.index_derive.specs.declared.log.EntryKind.TheVariants as entry;
-ghost use Rattle.engine_versions.specs.EngineSteps.{begin_or_none, effect_on, maker};
+ghost use Rattle.loggable_steps.specs.engine_versions.EngineSteps.{begin_or_none, effect_on, maker};
 ghost use Rattle.engine_steps.specs.Changing.{CanChange, IsFormed, changed};
 
 use column_set::Change;
 use engine_parts::Engine;
+use engine_parts::table_versions::TableVersions;
 use jet_base::{OutOfMemory, Session};
-use table_versions::TableVersions;
 use version_cleanup::Transaction;
 use version_store::{By, VersionFault};
 

@@ -2,14 +2,14 @@
 
 ghost use Rattle.std.specs.Prelude.{◌≡◌, ◌≤◌, ◌<◌, ◌&&◌, nat_lt, is_some};
 ghost use Rattle.database_state.specs.State.{DatabaseState};
-ghost use Rattle.engine_versions.specs.EngineState.{cleaned};
-ghost use Rattle.engine_versions.specs.HoldsState.{HoldsState};
-ghost use Rattle.stored_variants.specs.StoredVersions.{next_to_forget};
+ghost use Rattle.loggable_steps.specs.engine_versions.EngineState.{cleaned};
+ghost use Rattle.loggable_steps.specs.engine_versions.HoldsState.{HoldsState};
+ghost use Rattle.engine_parts.specs.stored_variants.StoredVersions.{next_to_forget};
 ghost use Rattle.engine_steps.specs.Cleans.{AreUnneeded, CanGo, without_first, without_oldest_held, without_unneeded};
 
 use crate::laws::changes_that_are_not_needed_may_go;
 use engine_parts::Engine;
-use table_versions::TableVersions;
+use engine_parts::table_versions::TableVersions;
 
 /// Gives up held changes from the oldest on that no reader needs, at most so many, and tells how many. It takes no memory. The
 /// state that the engine holds stays the very same. Where fewer are given up than asked for, all are that may be.

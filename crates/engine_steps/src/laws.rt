@@ -11,22 +11,22 @@ ghost use Rattle.database_state.specs.State.{DatabaseState};
 ghost use Rattle.session_local.specs.Local.{LocalState};
 ghost use Rattle.version_cleanup.specs.LiveSessions.{is_live, levels_in};
 ghost use Rattle.engine_parts.specs.Parts.{tables_of};
-ghost use Rattle.engine_versions.specs.EngineState.{EngineState, HasRoomForEnds};
-ghost use Rattle.engine_versions.specs.EngineSteps.{cleaned_for, effect_on, step_cleans};
-ghost use Rattle.engine_versions.specs.HoldsState.{HoldsAllInStep, HoldsState};
+ghost use Rattle.loggable_steps.specs.engine_versions.EngineState.{EngineState, HasRoomForEnds};
+ghost use Rattle.loggable_steps.specs.engine_versions.EngineSteps.{cleaned_for, effect_on, step_cleans};
+ghost use Rattle.loggable_steps.specs.engine_versions.HoldsState.{HoldsAllInStep, HoldsState};
 ghost use Rattle.engine_steps.specs.Changing.{CanChange, IsFormed};
 ghost use Rattle.engine_steps.specs.Cleans.{CanGo, without_oldest_held};
 ghost use Rattle.database_state.specs.Step.{entry_by};
 ghost use Rattle.engine_steps.specs.Steps.{IsSettledForStep, MayCome, MayTake, begin_taken_back};
 ghost use Rattle.loggable_steps.specs.Loggable.{schema_fits_types};
-ghost use Rattle.stored_variants.specs.SchemaSteps.{CanMake};
+ghost use Rattle.engine_parts.specs.stored_variants.SchemaSteps.{CanMake};
 
-use engine_versions::{
+use loggable_steps::engine_versions::{
     a_clean_leaves_the_state, a_lawful_entry_makes_the_next_state, ends_always_find_room,
     newest_records_are_told, sessions_are_told, tables_are_told,
 };
+use loggable_steps::version_keys::a_primary_index_has_one_entry;
 use version_cleanup::needed_changes_are_kept;
-use version_keys::a_primary_index_has_one_entry;
 
 /// The oldest held changes, none of which a reader needs, go without a change of the state.
 pub(crate) fn changes_that_are_not_needed_may_go()

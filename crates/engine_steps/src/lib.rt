@@ -1,6 +1,10 @@
 //! What the step of a decided call does to an engine with versions.
 #![tactic(auto)]
 
+pub use engine_parts;
+pub use engine_parts::table_versions;
+pub use loggable_steps::{agreeing_sessions, engine_versions};
+
 mod applying;
 mod change_steps;
 mod cleaning;

@@ -3,8 +3,8 @@
 ghost use Rattle.std.specs.Prelude.{◌≡◌, ◌+◌, ◌^◌, ◌≤◌, ℕ, [], OnOk, OnErr};
 ghost use Rattle.index_derive.specs.declared.log.EntryKind.TheVariants as entry;
 ghost use Rattle.engine_parts.specs.Parts.{tables_of};
-ghost use Rattle.engine_versions.specs.EngineSteps.{effect_on};
-ghost use Rattle.stored_variants.specs.SchemaSteps.{CanMake};
+ghost use Rattle.loggable_steps.specs.engine_versions.EngineSteps.{effect_on};
+ghost use Rattle.engine_parts.specs.stored_variants.SchemaSteps.{CanMake};
 
 use engine_parts::Engine;
 use index_derive::SchemaStep;

@@ -4,14 +4,14 @@ ghost use Rattle.std.specs.Prelude.{◌≡◌, ◌+◌, ◌^◌, ◌≤◌, ◌<
 ghost use Rattle.index_derive.specs.declared.log.EntryKind.TheVariants as entry;
 ghost use Rattle.database_state.specs.State.{DatabaseState};
 ghost use Rattle.version_cleanup.specs.LiveSessions.{is_live, levels_in};
-ghost use Rattle.versioned_tables.specs.HeldRecords.{is_open_of};
-ghost use Rattle.versioned_tables.specs.VersionedTables.{with_changes_undone};
-ghost use Rattle.engine_versions.specs.EngineSteps.{effect_on};
-ghost use Rattle.engine_versions.specs.HoldsState.{HoldsState};
+ghost use Rattle.loggable_steps.specs.versioned_tables.HeldRecords.{is_open_of};
+ghost use Rattle.loggable_steps.specs.versioned_tables.VersionedTables.{with_changes_undone};
+ghost use Rattle.loggable_steps.specs.engine_versions.EngineSteps.{effect_on};
+ghost use Rattle.loggable_steps.specs.engine_versions.HoldsState.{HoldsState};
 
 use engine_parts::Engine;
-use engine_versions::open_changes_stand_by_rising_levels;
 use jet_base::{OutOfMemory, Session, TableId};
+use loggable_steps::engine_versions::open_changes_stand_by_rising_levels;
 use version_cleanup::EnterFault;
 
 /// A session begins. It is not live before, and fewer than 64 are. Where memory fails all is as it was.

@@ -12,10 +12,10 @@ use Rattle.database_state.specs.Step.{applied, entry_by, innermost_undone, is_at
 use Rattle.database_state.specs.Lawful.{is_lawful}
 use Rattle.version_history.specs.KeptSteps.{base_after, dropped_after, kept_after, with_next_number}
 use Rattle.version_history.proofs.Labels.{labels_rise}
-use Rattle.version_keys.proofs.OneEntry.{one_entry}
-use Rattle.version_records.specs.RecordNumbers.{HasItsType}
-use Rattle.version_records.specs.StoredRecords.{leaves_records_short}
-use Rattle.version_records.proofs.StoredSums.{stored_kept_with_sums}
+use Rattle.versioned_tables.proofs.version_keys_proofs.OneEntry.{one_entry}
+use Rattle.versioned_tables.specs.version_records.RecordNumbers.{HasItsType}
+use Rattle.versioned_tables.specs.version_records.StoredRecords.{leaves_records_short}
+use Rattle.versioned_tables.proofs.version_records_proofs.StoredSums.{stored_kept_with_sums}
 use Rattle.version_cleanup.specs.LiveSessions.{levels_in, sessions_after}
 use Rattle.version_cleanup.specs.SessionLaws.{entries-alike}
 use Rattle.versioned_tables.specs.HeldRecords.{is_open_at}
@@ -25,9 +25,9 @@ use Rattle.versioned_tables.proofs.Changing.{changed_holds, committed_holds, rel
 use Rattle.versioned_tables.proofs.SchemaStepping.{stepped_holds}
 use Rattle.versioned_tables.proofs.Unchanged.{unchanged_holds}
 use Rattle.versioned_tables.proofs.Undoing.{all_undone_holds, left_holds, undone_holds}
-use Rattle.lawful_answers.specs.EntryTypes.{AreOfTheirTypes}
-use Rattle.lawful_answers.specs.LawfulSteps.{AreLawful, IsReached}
-use Rattle.lawful_answers.proofs.ReachedStates.{reaches}
+use Rattle.agreeing_sessions.specs.lawful_answers.EntryTypes.{AreOfTheirTypes}
+use Rattle.agreeing_sessions.specs.lawful_answers.LawfulSteps.{AreLawful, IsReached}
+use Rattle.agreeing_sessions.proofs.lawful_answers_proofs.ReachedStates.{reaches}
 use Rattle.built_calls.specs.BuiltTables.{AllMakeBuilt, makes_built}
 use Rattle.built_calls.proofs.BuiltColumns.{not_numbered}
 use Rattle.engine_versions.specs.EngineState.{EngineState}

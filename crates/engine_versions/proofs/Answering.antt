@@ -9,21 +9,21 @@ use Rattle.database_state.specs.Lawful.{is_name}
 use Rattle.database_state.specs.State.{DatabaseState}
 use Rattle.database_state.specs.Step.{state_after_all}
 use Rattle.derived_index.proofs.Adding.{KeysRise}
-use Rattle.version_keys.proofs.BookmarkKeys.{HasOneEntry}
-use Rattle.version_records.proofs.StoredSums.{stored_seen_with_sums}
+use Rattle.versioned_tables.proofs.version_keys_proofs.BookmarkKeys.{HasOneEntry}
+use Rattle.versioned_tables.proofs.version_records_proofs.StoredSums.{stored_seen_with_sums}
 use Rattle.session_local.specs.declared.request.Request.{Request}
 use Rattle.session_local.specs.declared.request.Request.TheVariants as call
 use Rattle.session_local.specs.Calls.{answer}
 use Rattle.session_local.specs.Local.{LocalState}
 use Rattle.session_local.specs.Outcome.{Asked, Outcome}
-use Rattle.lawful_answers.specs.EntryTypes.{AreOfTheirTypes}
-use Rattle.lawful_answers.specs.LawfulSteps.{AreLawful, HasLawfulStep}
-use Rattle.lawful_answers.proofs.ChangeSteps as lawful_changes
-use Rattle.lawful_answers.proofs.Replies.{takes_no_step, without_step}
-use Rattle.lawful_answers.proofs.SchemaCallSteps as lawful_schema
-use Rattle.lawful_answers.proofs.SessionSteps as lawful_sessions
-use Rattle.lawful_answers.proofs.SumSteps as lawful_sums
-use Rattle.lawful_answers.proofs.UpdateSteps as lawful_updates
+use Rattle.agreeing_sessions.specs.lawful_answers.EntryTypes.{AreOfTheirTypes}
+use Rattle.agreeing_sessions.specs.lawful_answers.LawfulSteps.{AreLawful, HasLawfulStep}
+use Rattle.agreeing_sessions.proofs.lawful_answers_proofs.ChangeSteps as lawful_changes
+use Rattle.agreeing_sessions.proofs.lawful_answers_proofs.Replies.{takes_no_step, without_step}
+use Rattle.agreeing_sessions.proofs.lawful_answers_proofs.SchemaCallSteps as lawful_schema
+use Rattle.agreeing_sessions.proofs.lawful_answers_proofs.SessionSteps as lawful_sessions
+use Rattle.agreeing_sessions.proofs.lawful_answers_proofs.SumSteps as lawful_sums
+use Rattle.agreeing_sessions.proofs.lawful_answers_proofs.UpdateSteps as lawful_updates
 use Rattle.agreeing_sessions.specs.InStep.{IsInStep, StaysInStep}
 use Rattle.agreeing_sessions.proofs.AllSessions.{all_in_step}
 use Rattle.agreeing_sessions.proofs.ChangeCalls as own_changes

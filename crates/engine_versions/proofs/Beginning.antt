@@ -9,19 +9,19 @@ use Rattle.database_state.specs.SchemaChanges.{is_type_long}
 use Rattle.database_state.specs.State.{DatabaseState, empty_state}
 use Rattle.record_changes.specs.Records.{records_of}
 use Rattle.version_history.specs.History.{EachTwo, LabelsRise}
-use Rattle.version_keys.specs.KeySums.{IsPlainIndex}
-use Rattle.version_keys.specs.TableOrder.{HasTablesInOrder}
-use Rattle.version_keys.specs.UniqueKeys.{IsUniqueTable}
-use Rattle.version_records.specs.Bookmarks.{StandsUnder}
-use Rattle.version_records.specs.RecordNumbers.{HasSingleSums, HoldsNumbers}
-use Rattle.version_records.specs.StoredRecords.{IsStored}
-use Rattle.version_records.proofs.EachRecord.{each_begun}
+use Rattle.versioned_tables.specs.version_keys.KeySums.{IsPlainIndex}
+use Rattle.versioned_tables.specs.version_keys.TableOrder.{HasTablesInOrder}
+use Rattle.versioned_tables.specs.version_keys.UniqueKeys.{IsUniqueTable}
+use Rattle.versioned_tables.specs.version_records.Bookmarks.{StandsUnder}
+use Rattle.versioned_tables.specs.version_records.RecordNumbers.{HasSingleSums, HoldsNumbers}
+use Rattle.versioned_tables.specs.version_records.StoredRecords.{IsStored}
+use Rattle.versioned_tables.proofs.version_records_proofs.EachRecord.{each_begun}
 use Rattle.version_cleanup.specs.LiveSessions.{live_state}
 use Rattle.versioned_tables.proofs.Alone.{alone_holds}
 use Rattle.versioned_tables.proofs.TablesInOrder.{in_order_rise}
-use Rattle.lawful_answers.specs.ColumnNumbers.{have_own_numbers}
-use Rattle.lawful_answers.proofs.ReachedStates.{begins}
-use Rattle.lawful_answers.proofs.TableTests.{all_found}
+use Rattle.agreeing_sessions.specs.lawful_answers.ColumnNumbers.{have_own_numbers}
+use Rattle.agreeing_sessions.proofs.lawful_answers_proofs.ReachedStates.{begins}
+use Rattle.agreeing_sessions.proofs.lawful_answers_proofs.TableTests.{all_found}
 use Rattle.built_calls.specs.BuiltTables.{are_built, is_built_column, is_built_rule, is_built_table}
 use Rattle.built_calls.proofs.BuiltColumns.{its_sum}
 use Rattle.engine_versions.specs.EngineState.{HasRoomForEnds, empty_engine, engine_of}

@@ -8,9 +8,9 @@ use Rattle.database_state.specs.Step.{state_after_all}
 use Rattle.database_state.specs.VersionStore.{is_needed, is_needed_status}
 use Rattle.record_changes.specs.Records.{Records, after_item}
 use Rattle.version_history.specs.Readers.{is_standing}
-use Rattle.version_records.specs.EachRecord.{EachRecordHas}
-use Rattle.version_records.specs.StoredRecords.{IsStored}
-use Rattle.version_records.proofs.StoredSums.{stored_cleaned_with_sums}
+use Rattle.versioned_tables.specs.version_records.EachRecord.{EachRecordHas}
+use Rattle.versioned_tables.specs.version_records.StoredRecords.{IsStored}
+use Rattle.versioned_tables.proofs.version_records_proofs.StoredSums.{stored_cleaned_with_sums}
 use Rattle.version_store.specs.HeldChanges.{is_kept_status}
 use Rattle.version_cleanup.specs.LiveSessions.{live_state, oldest_begin}
 use Rattle.version_cleanup.specs.NeededLaws.{needed-kept}
@@ -18,9 +18,9 @@ use Rattle.versioned_tables.specs.HeldRecords.{HeldRecord, from_oldest_kept}
 use Rattle.versioned_tables.specs.VersionedTables.{VersionedTables}
 use Rattle.versioned_tables.specs.Holding.{Holds, Matches}
 use Rattle.versioned_tables.proofs.Changing.{cleaned as held_cleaned}
-use Rattle.lawful_answers.specs.EntryTypes.{AreOfTheirTypes}
-use Rattle.lawful_answers.specs.LawfulSteps.{AreLawful, IsReached}
-use Rattle.lawful_answers.proofs.ReachedStates.{cleaned as reached_cleaned}
+use Rattle.agreeing_sessions.specs.lawful_answers.EntryTypes.{AreOfTheirTypes}
+use Rattle.agreeing_sessions.specs.lawful_answers.LawfulSteps.{AreLawful, IsReached}
+use Rattle.agreeing_sessions.proofs.lawful_answers_proofs.ReachedStates.{cleaned as reached_cleaned}
 use Rattle.built_calls.specs.BuiltTables.{AllMakeBuilt}
 use Rattle.engine_versions.specs.EngineState.{EngineState, cleaned}
 use Rattle.engine_versions.specs.EngineSteps.{cleaned_for, engine_after_step, step_cleans}

@@ -15,11 +15,11 @@ use Rattle.database_state.specs.Lawful.{keeps_escrow}
 use Rattle.database_state.specs.State.{DatabaseState}
 use Rattle.database_state.specs.View.{view}
 use Rattle.record_changes.specs.Records.{records_of}
-use Rattle.version_sums.specs.EscrowNumbers.{ColumnsRise}
-use Rattle.version_records.specs.StoredRecords.{IsStored}
-use Rattle.version_records.specs.RecordNumbers.{HoldsNumbers}
-use Rattle.version_records.proofs.EscrowRecords.{numbers_seen}
-use Rattle.version_records.proofs.StoredSums.{IsStoredWithNumbers, stored_seen_with_sums}
+use Rattle.versioned_tables.specs.version_sums.EscrowNumbers.{ColumnsRise}
+use Rattle.versioned_tables.specs.version_records.StoredRecords.{IsStored}
+use Rattle.versioned_tables.specs.version_records.RecordNumbers.{HoldsNumbers}
+use Rattle.versioned_tables.proofs.version_records_proofs.EscrowRecords.{numbers_seen}
+use Rattle.versioned_tables.proofs.version_records_proofs.StoredSums.{IsStoredWithNumbers, stored_seen_with_sums}
 use Rattle.common_lemmas.proofs.Found.{of_found}
 use Rattle.common_lemmas.proofs.Booleans.{and_left, and_right, impossible}
 use Rattle.common_lemmas.proofs.Lists.{all_stronger}
@@ -33,10 +33,10 @@ use Rattle.session_local.specs.FormedLaws.{new_is_well_formed, set_is_well_forme
 use Rattle.session_local.specs.FoundLaws.{by_number}
 use Rattle.session_local.specs.SessionSide.{are_distinct}
 use Rattle.session_local.specs.WellFormed.{is_well_formed_record, is_well_formed_schema, number_of_column}
-use Rattle.lawful_answers.specs.ColumnNumbers.{are_in_range, has_own_numbers, is_given_number}
-use Rattle.lawful_answers.proofs.ChangeSteps.{IsAtTable, at_its_table}
-use Rattle.lawful_answers.specs.EntryTypes.{HasRisingColumns}
-use Rattle.lawful_answers.proofs.TableTests.{all_found}
+use Rattle.agreeing_sessions.specs.lawful_answers.ColumnNumbers.{are_in_range, has_own_numbers, is_given_number}
+use Rattle.agreeing_sessions.proofs.lawful_answers_proofs.ChangeSteps.{IsAtTable, at_its_table}
+use Rattle.agreeing_sessions.specs.lawful_answers.EntryTypes.{HasRisingColumns}
+use Rattle.agreeing_sessions.proofs.lawful_answers_proofs.TableTests.{all_found}
 use Rattle.agreeing_sessions.specs.InStep.{IsInStep, StaysInStep}
 use Rattle.agreeing_sessions.proofs.Answering.{at_found, past, when_begun}
 use Rattle.agreeing_sessions.proofs.OpenCursors.{prepared_in_step}

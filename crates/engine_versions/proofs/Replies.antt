@@ -29,8 +29,8 @@ use Rattle.session_local.specs.Local.{OpenCursor, PreparedUpdate, cursor_labelle
 use Rattle.session_local.specs.Outcome.{Asked, Outcome, is_outside, number_refusals, one, rows_seen, span_refusals, step_of_change}
 use Rattle.session_local.specs.RecordCalls.{bookmark_at, bookmark_for, conflict_refusals, current, delete, drop_at, escrow_update, get_lock, hold_at, is_primary_changed, own_refusals, prepare_replace, prepared_refusals, put_of, replaced_by, transaction_refusals, update, update_with, sum_in}
 use Rattle.session_local.specs.SchemaCalls.{schema_changed}
-use Rattle.lawful_answers.specs.EntryTypes.{HasItsAmount}
-use Rattle.lawful_answers.proofs.Replies.{Quiet, passed_each, unless_each, cursor_each, begun_each, column_each, prepared_each, either, takes_no_step, without_step}
+use Rattle.agreeing_sessions.specs.lawful_answers.EntryTypes.{HasItsAmount}
+use Rattle.agreeing_sessions.proofs.lawful_answers_proofs.Replies.{Quiet, passed_each, unless_each, cursor_each, begun_each, column_each, prepared_each, either, takes_no_step, without_step}
 use Rattle.built_calls.specs.BuiltCalls.{is_built_request}
 use Rattle.built_calls.proofs.BuiltAmounts.{amount_fits}
 use Rattle.built_calls.specs.BuiltTables.{AllMakeBuilt, is_unnumbered, is_built_limit, makes_built}

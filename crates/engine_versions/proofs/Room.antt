@@ -15,9 +15,9 @@ use Rattle.version_history.specs.History.{EachTwo}
 use Rattle.version_cleanup.specs.declared.live.Transaction.{Transaction}
 use Rattle.version_cleanup.specs.LiveSessions.{LiveState, at_levels, began, ended, entered, left, levels_in, levels_of, live_state, lowered, new_session, opened, saved, session_in, sessions_after, shut, with_session}
 use Rattle.version_cleanup.specs.NeededLaws.{needed-kept}
-use Rattle.lawful_answers.specs.LawfulSteps.{AreLawful}
-use Rattle.version_records.specs.RecordNumbers.{HasItsType}
-use Rattle.lawful_answers.specs.EntryTypes.{AreOfTheirTypes}
+use Rattle.agreeing_sessions.specs.lawful_answers.LawfulSteps.{AreLawful}
+use Rattle.versioned_tables.specs.version_records.RecordNumbers.{HasItsType}
+use Rattle.agreeing_sessions.specs.lawful_answers.EntryTypes.{AreOfTheirTypes}
 use Rattle.built_calls.specs.BuiltTables.{AllMakeBuilt, makes_built}
 use Rattle.engine_versions.specs.EngineState.{EngineState, HasRoomForEnds, ends_in, ends_of}
 use Rattle.engine_versions.specs.EngineSteps.{cleaned_for, engine_after, engine_after_all, engine_after_step, step_cleans}

@@ -5,8 +5,8 @@ use Rattle.std.specs.List.{AllByRecursion}
 use Rattle.common_lemmas.proofs.Options.{same_some}
 use Rattle.database_state.specs.Table.{Table, schema_of, table_named, table_with_id}
 use Rattle.version_history.specs.History.{EachTwo, without_rows}
-use Rattle.version_keys.specs.TableOrder.{IdsRise}
-use Rattle.version_keys.proofs.OrderedTables.{found_each}
+use Rattle.versioned_tables.specs.version_keys.TableOrder.{IdsRise}
+use Rattle.versioned_tables.proofs.version_keys_proofs.OrderedTables.{found_each}
 use Rattle.versioned_tables.proofs.Rising.{found_without}
 
 -- ---- rising ids

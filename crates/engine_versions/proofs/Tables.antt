@@ -21,9 +21,9 @@ use Rattle.database_state.specs.Step.{applied, state_after}
 use Rattle.database_state.proofs.Columns.{list_all-columns_with}
 use Rattle.version_history.specs.History.{EachTwo}
 use Rattle.version_history.specs.KeptSteps.{with_next_number}
-use Rattle.version_keys.specs.TableOrder.{IdsRise}
-use Rattle.version_keys.proofs.SchemaKeys.{at_found, at_table, with_last, without_table}
-use Rattle.lawful_answers.proofs.TableTests.{all_found, all_listed, definitions_stay, is_schema_entry, tested_alike}
+use Rattle.versioned_tables.specs.version_keys.TableOrder.{IdsRise}
+use Rattle.versioned_tables.proofs.version_keys_proofs.SchemaKeys.{at_found, at_table, with_last, without_table}
+use Rattle.agreeing_sessions.proofs.lawful_answers_proofs.TableTests.{all_found, all_listed, definitions_stay, is_schema_entry, tested_alike}
 use Rattle.built_calls.specs.BuiltTables.{are_built, is_unnumbered_column, is_built_column, is_built_rule, is_built_sum, is_built_table, makes_built}
 
 -- ---- schema steps

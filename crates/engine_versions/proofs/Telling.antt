@@ -15,9 +15,9 @@ use Rattle.version_history.specs.Readers.{is_standing, was_committed, was_commit
 use Rattle.version_history.proofs.LawfulEntries.{outside}
 use Rattle.version_history.proofs.SeenRecords.{newest_records}
 use Rattle.version_history.proofs.Lists.{all_both}
-use Rattle.version_keys.specs.KeySums.{HasKeyBefores, SeesNoSum}
-use Rattle.version_keys.proofs.EscrowSums.{key_befores_at, unseen_now}
-use Rattle.version_keys.proofs.UniqueKept.{id_of}
+use Rattle.versioned_tables.specs.version_keys.KeySums.{HasKeyBefores, SeesNoSum}
+use Rattle.versioned_tables.proofs.version_keys_proofs.EscrowSums.{key_befores_at, unseen_now}
+use Rattle.versioned_tables.proofs.version_keys_proofs.UniqueKept.{id_of}
 use Rattle.version_cleanup.specs.Cleaning.{reader_in}
 use Rattle.version_cleanup.specs.LiveSessions.{has_other_transaction}
 use Rattle.versioned_tables.specs.HeldRecords.{has_key_conflict, seen_record}

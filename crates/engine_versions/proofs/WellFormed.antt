@@ -19,8 +19,8 @@ use Rattle.session_local.specs.Agreement.{HasSchemaOf, IsStorable}
 use Rattle.session_local.specs.Local.{LocalState, OpenCursor, PreparedUpdate}
 use Rattle.session_local.specs.SessionSide.{are_distinct}
 use Rattle.session_local.specs.WellFormed.{has_short_keys, is_long_if_sum, is_sum, is_well_formed_cursor, is_well_formed_schema, is_well_formed_update, number_of_column}
-use Rattle.lawful_answers.specs.ColumnNumbers.{are_in_range, has_own_numbers, is_given_number}
-use Rattle.lawful_answers.proofs.TableTests.{all_found}
+use Rattle.agreeing_sessions.specs.lawful_answers.ColumnNumbers.{are_in_range, has_own_numbers, is_given_number}
+use Rattle.agreeing_sessions.proofs.lawful_answers_proofs.TableTests.{all_found}
 use Rattle.agreeing_sessions.specs.InStep.{IsInStep}
 use Rattle.built_calls.specs.BuiltTables.{is_built_column, is_built_rule, is_built_sum, is_built_table}
 use Rattle.built_calls.proofs.BuiltColumns.{its_sum}

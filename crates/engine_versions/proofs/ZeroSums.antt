@@ -19,10 +19,10 @@ use Rattle.database_state.specs.Changes.{escrow_bytes}
 use Rattle.database_state.specs.Lawful.{keeps_escrow}
 use Rattle.database_state.specs.SchemaChanges.{is_type_long}
 use Rattle.record_changes.proofs.Tests.{or_first, or_second}
-use Rattle.version_sums.specs.EscrowNumbers.{is_number, is_one_number}
-use Rattle.version_sums.proofs.Puts.{all_put, sum_put}
-use Rattle.version_sums.proofs.VeryRecords.{one_value}
-use Rattle.version_records.proofs.StoredSums.{IsStoredWithNumbers}
+use Rattle.versioned_tables.specs.version_sums.EscrowNumbers.{is_number, is_one_number}
+use Rattle.versioned_tables.proofs.version_sums_proofs.Puts.{all_put, sum_put}
+use Rattle.versioned_tables.proofs.version_sums_proofs.VeryRecords.{one_value}
+use Rattle.versioned_tables.proofs.version_records_proofs.StoredSums.{IsStoredWithNumbers}
 use Rattle.session_local.specs.RecordCalls.{with_sums_at_zero}
 use Rattle.session_local.specs.SessionSide.{are_distinct}
 use Rattle.session_local.specs.WellFormed.{is_sum, number_of_column}

@@ -3,11 +3,11 @@ use Rattle.std.specs.Prelude.{◌≡◌, ℕ, ◌==◌, ◌≤◌, true, List, m
 use Rattle.database_state.specs.State.{DatabaseState, PastChange}
 use Rattle.record_changes.specs.Records.{Records}
 use Rattle.version_history.specs.History.{EachTwo, LabelsRise}
-use Rattle.version_records.specs.EachRecord.{EachRecordHas}
-use Rattle.version_records.specs.StoredRecords.{IsStored}
+use Rattle.versioned_tables.specs.version_records.EachRecord.{EachRecordHas}
+use Rattle.versioned_tables.specs.version_records.StoredRecords.{IsStored}
 use Rattle.version_cleanup.specs.LiveSessions.{live_state}
 use Rattle.versioned_tables.specs.Holding.{Holds}
-use Rattle.lawful_answers.specs.LawfulSteps.{IsReached}
+use Rattle.agreeing_sessions.specs.lawful_answers.LawfulSteps.{IsReached}
 use Rattle.session_local.specs.Local.{LocalState}
 use Rattle.session_local.specs.Outcome.{Asked}
 use Rattle.agreeing_sessions.specs.InStep.{IsInStep}

@@ -2,6 +2,11 @@
 //! it goes on to hold the state. The functions do nothing: their contracts are the laws.
 #![tactic(auto)]
 
+pub use agreeing_sessions;
+pub use agreeing_sessions::lawful_answers;
+pub use versioned_tables;
+pub use versioned_tables::version_records;
+
 mod answers;
 mod begin;
 mod entries;

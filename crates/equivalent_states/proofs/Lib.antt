@@ -8,3 +8,4 @@ pub mod Unneeded
 pub mod Lawful
 pub mod LawfulSteps
 pub mod Answering
+pub use Rattle.version_keys.proofs as version_keys_proofs

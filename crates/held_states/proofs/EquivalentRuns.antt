@@ -12,8 +12,8 @@ use Rattle.session_local.specs.declared.request.Request.{Request}
 use Rattle.session_local.specs.Agreement.{Agrees}
 use Rattle.session_local.specs.Calls.{answer}
 use Rattle.session_local.specs.Local.{LocalState}
-use Rattle.lawful_answers.specs.LawfulSteps.{AreLawful}
-use Rattle.agreeing_sessions.specs.InStep.{IsInStep}
+use Rattle.engine_versions.specs.lawful_answers.LawfulSteps.{AreLawful}
+use Rattle.engine_versions.specs.agreeing_sessions.InStep.{IsInStep}
 use Rattle.engine_versions.specs.EngineState.{EngineState}
 use Rattle.engine_versions.specs.HoldsState.{HoldsState, asked_of}
 use Rattle.equivalent_states.specs.PlainIndexes.{read_no_sums}

@@ -7,9 +7,9 @@ use Rattle.index_derive.specs.declared.rules.IndexRule.{IndexRule}
 use Rattle.database_state.specs.Table.{Table, table_with_id}
 use Rattle.database_state.specs.SchemaChanges.{rule_columns}
 use Rattle.database_state.specs.State.{DatabaseState}
-use Rattle.version_keys.specs.KeySums.{IsApartFromSums}
+use Rattle.equivalent_states.specs.version_keys.KeySums.{IsApartFromSums}
 use Rattle.equivalent_states.specs.PlainIndexes.{read_no_sums}
-use Rattle.lawful_answers.proofs.TableTests.{all_listed}
+use Rattle.engine_versions.proofs.lawful_answers_proofs.TableTests.{all_listed}
 use Rattle.engine_versions.specs.EngineState.{EngineState}
 use Rattle.engine_versions.specs.HoldsState.{HoldsState}
 use Rattle.held_states.specs.PlainColumns.{HasPlainIndexes, has_plain_indexes, is_plain_column, names_plain_columns}

@@ -19,18 +19,18 @@ use Rattle.record_changes.proofs.Folds.{folded-cons}
 use Rattle.version_history.specs.History.{HasBefores}
 use Rattle.version_history.specs.Readers.{is_rewrite, is_standing}
 use Rattle.version_history.proofs.Keeping.{some_map}
-use Rattle.version_keys.proofs.UniqueKept.{id_of}
-use Rattle.version_records.specs.RecordNumbers.{AddsToEscrow}
-use Rattle.version_records.specs.SumBefores.{AreSameButForSums, HasSumBefores}
-use Rattle.version_records.proofs.ClearedSums.{IsOfEscrow, sum_same}
+use Rattle.equivalent_states.proofs.version_keys_proofs.UniqueKept.{id_of}
+use Rattle.engine_versions.specs.version_records.RecordNumbers.{AddsToEscrow}
+use Rattle.engine_versions.specs.version_records.SumBefores.{AreSameButForSums, HasSumBefores}
+use Rattle.engine_versions.proofs.version_records_proofs.ClearedSums.{IsOfEscrow, sum_same}
 use Rattle.version_store.specs.declared.calls.ChangeKind.{ChangeKind}
 use Rattle.version_store.specs.declared.calls.ChangeKind.TheVariants as kind
 use Rattle.version_store.specs.HeldChanges.{kind_of, is_rewrite as rewrites}
-use Rattle.versioned_tables.specs.HeldRecords.{HeldRecord}
-use Rattle.versioned_tables.specs.Holding.{AllMatch, Matches}
-use Rattle.versioned_tables.proofs.TakingBack.{GoesBack, TakesBack, at_itself}
+use Rattle.engine_versions.specs.versioned_tables.HeldRecords.{HeldRecord}
+use Rattle.engine_versions.specs.versioned_tables.Holding.{AllMatch, Matches}
+use Rattle.engine_versions.proofs.versioned_tables_proofs.TakingBack.{GoesBack, TakesBack, at_itself}
 use Rattle.equivalent_states.proofs.Essential.{forgotten, summed}
-use Rattle.lawful_answers.specs.UncopiedPast.{AreUncopied, IsUncopied}
+use Rattle.engine_versions.specs.lawful_answers.UncopiedPast.{AreUncopied, IsUncopied}
 
 -- ---- a change, by its kind, its record, and what it leaves
 

@@ -18,11 +18,11 @@ use Rattle.version_history.specs.Readers.{is_standing, was_committed, was_commit
 use Rattle.version_history.proofs.Labels.{are_labelled}
 use Rattle.version_history.proofs.Lists.{all_both}
 use Rattle.version_history.proofs.SeenRecords.{newest_records as newest_of_kept}
-use Rattle.version_keys.specs.TableOrder.{IdsRise}
+use Rattle.equivalent_states.specs.version_keys.TableOrder.{IdsRise}
 use Rattle.version_cleanup.specs.LiveSessions.{live_state, without_snapshot}
-use Rattle.versioned_tables.specs.Holding.{AllRise, SnapshotRises}
-use Rattle.versioned_tables.proofs.ExactSums.{Numbers, first_numbers, numbers_back}
-use Rattle.versioned_tables.proofs.Rising.{same_table}
+use Rattle.engine_versions.specs.versioned_tables.Holding.{AllRise, SnapshotRises}
+use Rattle.engine_versions.proofs.versioned_tables_proofs.ExactSums.{Numbers, first_numbers, numbers_back}
+use Rattle.engine_versions.proofs.versioned_tables_proofs.Rising.{same_table}
 use Rattle.engine_versions.specs.EngineState.{EngineState}
 use Rattle.engine_versions.specs.HoldsState.{HoldsState}
 use Rattle.engine_versions.proofs.SameTables.{ids_rise_alike, numbered_alike, same_tables}

@@ -18,7 +18,7 @@ use Rattle.session_local.specs.Run.{Line, LineOutcome, RunState, SessionRun, aft
 use Rattle.version_history.specs.History.{EachTwo, HasHistory, LabelsRise}
 use Rattle.version_history.proofs.Labels.{labels_rise}
 use Rattle.version_history.proofs.LawfulEntries.{keeps_some}
-use Rattle.lawful_answers.specs.LawfulSteps.{AreLawful, HasLawfulStep}
+use Rattle.engine_versions.specs.lawful_answers.LawfulSteps.{AreLawful, HasLawfulStep}
 use Rattle.equivalent_states.specs.PlainIndexes.{read_no_sums}
 use Rattle.equivalent_states.proofs.Answering.{answers_alike}
 use Rattle.equivalent_states.proofs.Reading.{by_past}

@@ -25,13 +25,13 @@ use Rattle.session_local.specs.SessionSide.{are_distinct}
 use Rattle.session_local.specs.WellFormed.{number_of_column}
 use Rattle.version_history.specs.History.{EachTwo}
 use Rattle.version_history.specs.KeptSteps.{with_next_number}
-use Rattle.version_keys.specs.TableOrder.{IdsRise}
-use Rattle.version_keys.proofs.IndexNumbers.{found_in_filter}
-use Rattle.version_keys.proofs.OrderedTables.{order_kept}
-use Rattle.version_keys.proofs.SchemaKeys.{at_found, at_table, unused_by, with_last, without_table}
-use Rattle.lawful_answers.specs.ColumnNumbers.{are_in_range, has_own_numbers, have_own_numbers, is_given_number}
-use Rattle.lawful_answers.proofs.OwnNumbers.{numbers_kept}
-use Rattle.lawful_answers.proofs.TableTests.{all_found, all_listed, definitions_stay, is_schema_entry, tested_alike}
+use Rattle.equivalent_states.specs.version_keys.TableOrder.{IdsRise}
+use Rattle.equivalent_states.proofs.version_keys_proofs.IndexNumbers.{found_in_filter}
+use Rattle.equivalent_states.proofs.version_keys_proofs.OrderedTables.{order_kept}
+use Rattle.equivalent_states.proofs.version_keys_proofs.SchemaKeys.{at_found, at_table, unused_by, with_last, without_table}
+use Rattle.engine_versions.specs.lawful_answers.ColumnNumbers.{are_in_range, has_own_numbers, have_own_numbers, is_given_number}
+use Rattle.engine_versions.proofs.lawful_answers_proofs.OwnNumbers.{numbers_kept}
+use Rattle.engine_versions.proofs.lawful_answers_proofs.TableTests.{all_found, all_listed, definitions_stay, is_schema_entry, tested_alike}
 use Rattle.equivalent_states.specs.PlainIndexes.{is_sum_number, read_no_sums, reads_no_sum}
 use Rattle.held_states.specs.PlainColumns.{HasPlainIndexes, has_plain_indexes, is_plain_column, names_plain_columns}
 

@@ -7,8 +7,8 @@ use Rattle.index_derive.specs.declared.rules.IndexRule.{IndexRule}
 use Rattle.database_state.specs.Table.{Table}
 use Rattle.database_state.specs.SchemaChanges.{rule_columns}
 use Rattle.database_state.specs.State.{DatabaseState}
-use Rattle.version_keys.specs.TableOrder.{HasTablesInOrder}
-use Rattle.lawful_answers.specs.ColumnNumbers.{have_own_numbers}
+use Rattle.equivalent_states.specs.version_keys.TableOrder.{HasTablesInOrder}
+use Rattle.engine_versions.specs.lawful_answers.ColumnNumbers.{have_own_numbers}
 
 -- whether there is a column of the number, and it is no sum
 abbrev pub is_plain_column : List Column → ℕ → Bool

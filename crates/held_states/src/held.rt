@@ -8,7 +8,7 @@ ghost use Rattle.database_state.specs.Lawful.{is_lawful};
 ghost use Rattle.session_local.specs.declared.request.Request.{Request};
 ghost use Rattle.session_local.specs.Calls.{answer};
 ghost use Rattle.session_local.specs.Local.{LocalState};
-ghost use Rattle.agreeing_sessions.specs.InStep.{IsInStep};
+ghost use Rattle.engine_versions.specs.agreeing_sessions.InStep.{IsInStep};
 ghost use Rattle.engine_versions.specs.EngineState.{EngineState};
 ghost use Rattle.engine_versions.specs.HoldsState.{HoldsState, asked_of};
 ghost use Rattle.equivalent_states.specs.PlainIndexes.{read_no_sums};

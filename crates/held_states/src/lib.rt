@@ -2,6 +2,10 @@
 //! states so. The functions do nothing: their contracts are the laws.
 #![tactic(auto)]
 
+pub use engine_versions;
+pub use engine_versions::agreeing_sessions;
+pub use equivalent_states::version_keys;
+
 mod held;
 mod runs;
 mod steps;

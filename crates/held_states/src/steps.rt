@@ -7,7 +7,7 @@ ghost use Rattle.database_state.specs.Step.{state_after, state_after_all};
 ghost use Rattle.database_state.specs.Lawful.{is_lawful};
 ghost use Rattle.database_state.specs.Equivalence.{AreEquivalent};
 ghost use Rattle.version_history.specs.History.{EachTwo, LabelsRise, HasHistory};
-ghost use Rattle.lawful_answers.specs.LawfulSteps.{AreLawful};
+ghost use Rattle.engine_versions.specs.lawful_answers.LawfulSteps.{AreLawful};
 ghost use Rattle.equivalent_states.specs.PlainIndexes.{read_no_sums};
 ghost use Rattle.held_states.specs.PlainColumns.{HasPlainIndexes};
 

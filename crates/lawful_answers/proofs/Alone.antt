@@ -31,11 +31,11 @@ use Rattle.version_history.proofs.LawfulEntries.{keeps_lawful, outside}
 use Rattle.version_history.proofs.SeenRecords.{of_kept}
 use Rattle.version_history.proofs.Transactions.{transaction-begun}
 use Rattle.version_history.proofs.Viewing.{none_open}
-use Rattle.version_keys.proofs.BookmarkKeys.{HasOneEntry}
-use Rattle.version_keys.proofs.EscrowSums.{sums_kept, unseen_next, unseen_now}
-use Rattle.version_keys.proofs.LawfulCommits.{commit_lawful}
-use Rattle.version_keys.proofs.OrderedTables.{order_kept}
-use Rattle.version_keys.proofs.UniqueLaws.{keys_kept}
+use Rattle.version_records.proofs.version_keys_proofs.BookmarkKeys.{HasOneEntry}
+use Rattle.version_records.proofs.version_keys_proofs.EscrowSums.{sums_kept, unseen_next, unseen_now}
+use Rattle.version_records.proofs.version_keys_proofs.LawfulCommits.{commit_lawful}
+use Rattle.version_records.proofs.version_keys_proofs.OrderedTables.{order_kept}
+use Rattle.version_records.proofs.version_keys_proofs.UniqueLaws.{keys_kept}
 use Rattle.lawful_answers.specs.LawfulSteps.{AreLawful, IsReached, begin_of}
 use Rattle.lawful_answers.proofs.ReachedStates.{reaches}
 

@@ -15,3 +15,5 @@ pub mod SumSteps
 pub mod UncopiedChanges
 pub mod Replies
 pub mod TypedAnswers
+pub use Rattle.version_records.proofs as version_records_proofs
+pub use Rattle.version_records.proofs.version_keys_proofs as version_keys_proofs

@@ -23,9 +23,9 @@ use Rattle.record_changes.proofs.Tests.{or_first, or_second}
 use Rattle.version_history.proofs.Concurrent.{key_conflict_kept, write_conflict_kept}
 use Rattle.version_history.proofs.EndEntries.{no_conflict}
 use Rattle.version_history.proofs.Lists.{all_both}
-use Rattle.version_keys.proofs.BookmarkKeys.{HasOneEntry}
-use Rattle.version_keys.proofs.EscrowSums.{unseen_now}
-use Rattle.version_keys.proofs.FreeKeys.{unfiltered}
+use Rattle.version_records.proofs.version_keys_proofs.BookmarkKeys.{HasOneEntry}
+use Rattle.version_records.proofs.version_keys_proofs.EscrowSums.{unseen_now}
+use Rattle.version_records.proofs.version_keys_proofs.FreeKeys.{unfiltered}
 use Rattle.version_records.specs.Bookmarks.{StandsUnder, TouchesRecord, is_bookmark, is_entry_number}
 use Rattle.version_records.specs.EachRecord.{HasBoth}
 use Rattle.version_records.proofs.EachRecord.{AtChange}

@@ -20,8 +20,8 @@ use Rattle.session_local.specs.SessionSide.{are_distinct}
 use Rattle.session_local.specs.WellFormed.{number_of_column}
 use Rattle.version_history.specs.History.{EachTwo}
 use Rattle.version_history.specs.KeptSteps.{with_next_number}
-use Rattle.version_keys.specs.TableOrder.{HasTablesInOrder, IdsRise}
-use Rattle.version_keys.proofs.SchemaKeys.{at_found, at_table, with_last, without_table}
+use Rattle.version_records.specs.version_keys.TableOrder.{HasTablesInOrder, IdsRise}
+use Rattle.version_records.proofs.version_keys_proofs.SchemaKeys.{at_found, at_table, with_last, without_table}
 use Rattle.lawful_answers.specs.ColumnNumbers.{are_in_range, has_own_numbers, have_own_numbers, is_given_number}
 use Rattle.lawful_answers.proofs.ColumnNumbers.{has_own_numbers-with_column}
 use Rattle.lawful_answers.proofs.TableTests.{all_found, all_listed, definitions_stay, is_schema_entry, tested_alike}

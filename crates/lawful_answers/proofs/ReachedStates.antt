@@ -13,13 +13,13 @@ use Rattle.version_history.specs.Readers.{is_standing}
 use Rattle.version_history.specs.KeptSteps.{base_after, dropped_after, kept_after}
 use Rattle.version_history.proofs.EndEntries.{history_cleaned}
 use Rattle.version_history.proofs.LawfulEntries.{history_alone, keeps_lawful}
-use Rattle.version_keys.specs.TableOrder.{HasTablesInOrder}
-use Rattle.version_keys.specs.UniqueKeys.{IsUniqueTable}
-use Rattle.version_keys.specs.KeySums.{IsPlainIndex}
-use Rattle.version_keys.proofs.BookmarkKeys.{HasOneEntry}
-use Rattle.version_keys.proofs.EscrowSums.{sums_begin, sums_cleaned, sums_kept, unseen_next, unseen_now}
-use Rattle.version_keys.proofs.OrderedTables.{order_kept}
-use Rattle.version_keys.proofs.UniqueLaws.{keys_begin, keys_cleaned, keys_kept}
+use Rattle.version_records.specs.version_keys.TableOrder.{HasTablesInOrder}
+use Rattle.version_records.specs.version_keys.UniqueKeys.{IsUniqueTable}
+use Rattle.version_records.specs.version_keys.KeySums.{IsPlainIndex}
+use Rattle.version_records.proofs.version_keys_proofs.BookmarkKeys.{HasOneEntry}
+use Rattle.version_records.proofs.version_keys_proofs.EscrowSums.{sums_begin, sums_cleaned, sums_kept, unseen_next, unseen_now}
+use Rattle.version_records.proofs.version_keys_proofs.OrderedTables.{order_kept}
+use Rattle.version_records.proofs.version_keys_proofs.UniqueLaws.{keys_begin, keys_cleaned, keys_kept}
 use Rattle.version_records.specs.Bookmarks.{StandsUnder}
 use Rattle.version_records.specs.RecordNumbers.{HasItsType, HasSingleSums, HoldsNumbers}
 use Rattle.version_records.proofs.EachRecord.{RowsHave}

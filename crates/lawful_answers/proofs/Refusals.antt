@@ -3,7 +3,7 @@ use Rattle.std.proofs.Common.{◌≡◌, ℕ, true, false, Some, None, refl, ap}
 use Rattle.std.specs.Prelude.{is_none}
 use Rattle.std.specs.List.{AllByRecursion}
 use Rattle.database_state.specs.Refusals.{Refusals, first_refusal}
-use Rattle.version_keys.proofs.SchemaKeys.{unrefused}
+use Rattle.version_records.proofs.version_keys_proofs.SchemaKeys.{unrefused}
 use Rattle.session_local.specs.declared.request.Request.{Request}
 use Rattle.session_local.specs.Calls.{answer, answer_begun, answer_not_begun}
 use Rattle.session_local.specs.Local.{OpenCursor, cursor_labelled}

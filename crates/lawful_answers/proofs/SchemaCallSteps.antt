@@ -16,8 +16,8 @@ use Rattle.database_state.specs.State.{DatabaseState}
 use Rattle.database_state.specs.SchemaChanges.{greatest_order, new_table, next_column_id, next_index_id, schema_refusal}
 use Rattle.database_state.specs.SchemaSteps.{column_step, deleted_column_step, deleted_index_step, deleted_table_step, index_step, table_or_none, table_step}
 use Rattle.database_state.specs.Lawful.{has_next_numbers, is_lawful, is_name, log_limit}
-use Rattle.version_keys.specs.TableOrder.{HasTablesInOrder}
-use Rattle.version_keys.proofs.OrderedTables.{found_each}
+use Rattle.version_records.specs.version_keys.TableOrder.{HasTablesInOrder}
+use Rattle.version_records.proofs.version_keys_proofs.OrderedTables.{found_each}
 use Rattle.session_local.specs.declared.request.Request.TheVariants as call
 use Rattle.session_local.specs.Agreement.{Agrees}
 use Rattle.session_local.specs.Answer.{Nothing}

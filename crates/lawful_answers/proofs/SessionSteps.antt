@@ -15,8 +15,8 @@ use Rattle.database_state.specs.Lawful.{has_open, is_lawful, log_limit}
 use Rattle.derived_index.proofs.Adding.{KeysRise}
 use Rattle.record_changes.specs.Records.{Records}
 use Rattle.record_changes.proofs.Tests.{or_first, or_second}
-use Rattle.version_keys.proofs.EscrowSums.{unseen_now}
-use Rattle.version_keys.proofs.LawfulCommits.{commit_lawful}
+use Rattle.version_records.proofs.version_keys_proofs.EscrowSums.{unseen_now}
+use Rattle.version_records.proofs.version_keys_proofs.LawfulCommits.{commit_lawful}
 use Rattle.session_local.specs.declared.request.Request.TheVariants as call
 use Rattle.session_local.specs.Agreement.{Agrees, cursor_table, open_tables_of}
 use Rattle.session_local.specs.Calls.{answer}

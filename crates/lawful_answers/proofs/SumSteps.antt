@@ -18,8 +18,8 @@ use Rattle.database_state.specs.View.{view}
 use Rattle.database_state.specs.Lawful.{is_lawful_at}
 use Rattle.derived_index.proofs.Adding.{KeysRise}
 use Rattle.record_changes.specs.Records.{Records}
-use Rattle.version_keys.proofs.BookmarkKeys.{HasOneEntry}
-use Rattle.version_keys.proofs.UniqueKept.{id_of}
+use Rattle.version_records.proofs.version_keys_proofs.BookmarkKeys.{HasOneEntry}
+use Rattle.version_records.proofs.version_keys_proofs.UniqueKept.{id_of}
 use Rattle.session_local.specs.declared.request.Request.TheVariants as call
 use Rattle.session_local.specs.Agreement.{Agrees}
 use Rattle.session_local.specs.Calls.{answer}

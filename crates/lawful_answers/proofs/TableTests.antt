@@ -12,8 +12,8 @@ use Rattle.database_state.specs.Step.{applied, is_at_level, with_changes_at, wit
 use Rattle.version_history.specs.History.{EachTwo, without_rows}
 use Rattle.version_history.specs.KeptSteps.{with_next_number}
 use Rattle.version_history.proofs.EndEntries.{same_definitions}
-use Rattle.version_keys.specs.TableOrder.{IdsRise}
-use Rattle.version_keys.proofs.OrderedTables.{found_each}
+use Rattle.version_records.specs.version_keys.TableOrder.{IdsRise}
+use Rattle.version_records.proofs.version_keys_proofs.OrderedTables.{found_each}
 
 -- ---- tests of all tables
 

@@ -16,7 +16,7 @@ use Rattle.database_state.specs.SchemaChanges.{schema_refusal}
 use Rattle.database_state.specs.SchemaSteps.{column_step, deleted_column_step, deleted_index_step, deleted_table_step, index_step, table_step}
 use Rattle.database_state.specs.State.{levels}
 use Rattle.database_state.specs.Table.{Table, table_named}
-use Rattle.version_sums.specs.EscrowNumbers.{IsOfItsType}
+use Rattle.version_records.specs.version_sums.EscrowNumbers.{IsOfItsType}
 use Rattle.common_lemmas.proofs.Found.{of_found}
 use Rattle.common_lemmas.proofs.Booleans.{impossible}
 use Rattle.session_local.specs.declared.request.Request.{Request}

@@ -23,10 +23,10 @@ use Rattle.database_state.specs.Step.{state_after}
 use Rattle.database_state.specs.Lawful.{has_free_keys, is_bookmark_of, is_copied_in, is_indexable, is_lawful_at, is_live, keeps_escrow}
 use Rattle.derived_index.proofs.Adding.{KeysRise}
 use Rattle.record_changes.specs.Records.{Records}
-use Rattle.version_keys.specs.UniqueKeys.{HasUniqueIndexes, IsSoundIndex, IsUniqueIndex}
-use Rattle.version_keys.proofs.BookmarkKeys.{HasOneEntry}
-use Rattle.version_keys.proofs.IndexNumbers.{all_primary_first}
-use Rattle.version_keys.proofs.UniqueKept.{id_of}
+use Rattle.version_records.specs.version_keys.UniqueKeys.{HasUniqueIndexes, IsSoundIndex, IsUniqueIndex}
+use Rattle.version_records.proofs.version_keys_proofs.BookmarkKeys.{HasOneEntry}
+use Rattle.version_records.proofs.version_keys_proofs.IndexNumbers.{all_primary_first}
+use Rattle.version_records.proofs.version_keys_proofs.UniqueKept.{id_of}
 use Rattle.session_local.specs.declared.request.Request.TheVariants as call
 use Rattle.session_local.specs.Agreement.{Agrees, IsStorable, MayReplace, replaced_in}
 use Rattle.session_local.specs.Calls.{answer}

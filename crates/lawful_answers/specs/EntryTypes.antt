@@ -4,7 +4,7 @@ use Rattle.std.specs.Prelude.{List, Option, IfSome, FitsSigned}
 use Rattle.std.specs.Int.{w32}
 use Rattle.std.specs.List.{AllByRecursion}
 use Rattle.index_derive.specs.declared.log.Entry.{Entry}
-use Rattle.version_sums.specs.EscrowNumbers.{ColumnsRise}
+use Rattle.version_records.specs.version_sums.EscrowNumbers.{ColumnsRise}
 use Rattle.version_records.specs.RecordNumbers.{HasItsType}
 use Rattle.session_local.specs.declared.request.Request.{Request}
 use Rattle.session_local.specs.declared.request.Request.TheVariants as call

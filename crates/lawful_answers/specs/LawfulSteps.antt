@@ -8,9 +8,9 @@ use Rattle.database_state.specs.Step.{state_after}
 use Rattle.database_state.specs.Lawful.{is_lawful}
 use Rattle.record_changes.specs.Records.{Records}
 use Rattle.version_history.specs.History.{IsHistory}
-use Rattle.version_keys.specs.KeySums.{HasEscrowSums}
-use Rattle.version_keys.specs.TableOrder.{HasTablesInOrder}
-use Rattle.version_keys.specs.UniqueKeys.{HasUniqueKeys}
+use Rattle.version_records.specs.version_keys.KeySums.{HasEscrowSums}
+use Rattle.version_records.specs.version_keys.TableOrder.{HasTablesInOrder}
+use Rattle.version_records.specs.version_keys.UniqueKeys.{HasUniqueKeys}
 use Rattle.version_records.specs.Bookmarks.{HasBookmarks}
 use Rattle.version_records.specs.RecordNumbers.{HasEscrowNumbers}
 use Rattle.version_records.specs.SumBefores.{HaveSumBefores}

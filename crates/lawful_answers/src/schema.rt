@@ -7,7 +7,7 @@ ghost use Rattle.index_derive.specs.declared.rules.IndexFlags.{IndexFlags};
 ghost use Rattle.index_derive.specs.declared.schema_calls.NamedCondition.{NamedCondition};
 ghost use Rattle.index_derive.specs.declared.schema_calls.NamedSegment.{NamedSegment};
 ghost use Rattle.database_state.specs.Lawful.{is_name};
-ghost use Rattle.version_keys.specs.TableOrder.{HasTablesInOrder};
+ghost use Rattle.version_records.specs.version_keys.TableOrder.{HasTablesInOrder};
 ghost use Rattle.session_local.specs.declared.request.Request.TheVariants as call;
 ghost use Rattle.session_local.specs.Agreement.{Agrees};
 ghost use Rattle.session_local.specs.Calls.{answer};

@@ -17,18 +17,18 @@ use Rattle.database_state.specs.State.{DatabaseState, PastChange, transaction_of
 use Rattle.database_state.specs.View.{view}
 use Rattle.database_state.specs.Lawful.{is_bookmark_of}
 use Rattle.record_changes.specs.Records.{Records, records_of}
-use Rattle.version_keys.specs.UniqueKeys.{HasUniqueIndexes, IsSoundIndex, IsUniqueIndex}
-use Rattle.version_keys.proofs.BookmarkKeys.{HasOneEntry, own_key}
-use Rattle.version_keys.proofs.EscrowSums.{unseen_now}
-use Rattle.version_keys.proofs.IndexNumbers.{all_primary_first}
-use Rattle.version_records.specs.Bookmarks.{is_bookmark}
-use Rattle.version_records.proofs.EntryNumbers.{entry_number-own}
+use Rattle.held_states.specs.version_keys.UniqueKeys.{HasUniqueIndexes, IsSoundIndex, IsUniqueIndex}
+use Rattle.held_states.proofs.version_keys_proofs.BookmarkKeys.{HasOneEntry, own_key}
+use Rattle.held_states.proofs.version_keys_proofs.EscrowSums.{unseen_now}
+use Rattle.held_states.proofs.version_keys_proofs.IndexNumbers.{all_primary_first}
+use Rattle.held_states.specs.version_records.Bookmarks.{is_bookmark}
+use Rattle.held_states.proofs.version_records_proofs.EntryNumbers.{entry_number-own}
 use Rattle.common_lemmas.proofs.Found.{found_passes, of_found}
 use Rattle.common_lemmas.proofs.Booleans.{and_left, and_right, impossible}
 use Rattle.common_lemmas.proofs.Lists.{all_weaker}
 use Rattle.common_lemmas.proofs.Numbers.{equal_bytes, same_bytes}
-use Rattle.version_records.proofs.Standing.{bookmarks_seen}
-use Rattle.lawful_answers.specs.LawfulSteps.{IsReached}
+use Rattle.held_states.proofs.version_records_proofs.Standing.{bookmarks_seen}
+use Rattle.held_states.specs.lawful_answers.LawfulSteps.{IsReached}
 use Rattle.log_grammar.specs.EntryBytes.{bookmark_fits}
 
 -- ---- what is legal

@@ -18,24 +18,24 @@ use Rattle.database_state.specs.View.{view, view_in}
 use Rattle.record_changes.specs.Records.{Records, records_of}
 use Rattle.common_lemmas.proofs.Numbers.{equal_bytes}
 use Rattle.version_history.proofs.Lists.{all_both}
-use Rattle.version_keys.specs.KeySums.{IsApartFromSums, IsPlainIndex, SeesNoSum}
-use Rattle.version_keys.specs.TableOrder.{HasTablesInOrder}
-use Rattle.version_keys.specs.UniqueKeys.{AreUnique, HasFreeKeys, HasOwnKey, HasUniqueIndexes, IsSoundIndex, IsUniqueIndex, IsUniqueTable}
-use Rattle.version_keys.proofs.BookmarkKeys.{HasOneEntry, own_key}
-use Rattle.version_keys.proofs.CommitKeys.{no_double_key}
-use Rattle.version_keys.proofs.EscrowSums.{unseen_now}
-use Rattle.version_keys.proofs.Finding.{unique_in_view}
-use Rattle.version_keys.proofs.KeySums.{seen_by}
-use Rattle.version_keys.proofs.SchemaKeys.{AreUniqueRows}
-use Rattle.version_keys.proofs.UniqueKept.{some_at}
-use Rattle.version_keys.proofs.UniqueLaws.{rows_found}
-use Rattle.version_records.specs.Bookmarks.{StandsUnder, is_bookmark}
-use Rattle.version_records.proofs.EachRecord.{RowsHave}
+use Rattle.held_states.specs.version_keys.KeySums.{IsApartFromSums, IsPlainIndex, SeesNoSum}
+use Rattle.held_states.specs.version_keys.TableOrder.{HasTablesInOrder}
+use Rattle.held_states.specs.version_keys.UniqueKeys.{AreUnique, HasFreeKeys, HasOwnKey, HasUniqueIndexes, IsSoundIndex, IsUniqueIndex, IsUniqueTable}
+use Rattle.held_states.proofs.version_keys_proofs.BookmarkKeys.{HasOneEntry, own_key}
+use Rattle.held_states.proofs.version_keys_proofs.CommitKeys.{no_double_key}
+use Rattle.held_states.proofs.version_keys_proofs.EscrowSums.{unseen_now}
+use Rattle.held_states.proofs.version_keys_proofs.Finding.{unique_in_view}
+use Rattle.held_states.proofs.version_keys_proofs.KeySums.{seen_by}
+use Rattle.held_states.proofs.version_keys_proofs.SchemaKeys.{AreUniqueRows}
+use Rattle.held_states.proofs.version_keys_proofs.UniqueKept.{some_at}
+use Rattle.held_states.proofs.version_keys_proofs.UniqueLaws.{rows_found}
+use Rattle.held_states.specs.version_records.Bookmarks.{StandsUnder, is_bookmark}
+use Rattle.held_states.proofs.version_records_proofs.EachRecord.{RowsHave}
 use Rattle.common_lemmas.proofs.Found.{found_passes, of_found}
 use Rattle.common_lemmas.proofs.Lists.{all_weaker}
 use Rattle.common_lemmas.proofs.Booleans.{impossible}
-use Rattle.version_records.proofs.Standing.{bookmarks_seen}
-use Rattle.lawful_answers.specs.LawfulSteps.{IsReached}
+use Rattle.held_states.proofs.version_records_proofs.Standing.{bookmarks_seen}
+use Rattle.held_states.specs.lawful_answers.LawfulSteps.{IsReached}
 use Rattle.loggable_steps.specs.Replays.{closed}
 
 -- ---- a label that no session has

@@ -8,11 +8,11 @@ use Rattle.database_state.specs.State.{DatabaseState, LiveSession, PastChange, S
 use Rattle.version_history.specs.History.{IsOpenIn, IsPlaced, IsPlacedBy}
 use Rattle.version_store.specs.HeldChanges.{is_kept_status}
 use Rattle.version_cleanup.specs.LiveSessions.{LiveState, live_state, oldest_begin}
-use Rattle.versioned_tables.specs.HeldRecords.{HeldRecord, from_oldest_kept}
-use Rattle.versioned_tables.specs.Holding.{AllMatch}
-use Rattle.engine_versions.specs.EngineState.{EngineState, cleaned, engine_of}
-use Rattle.engine_versions.specs.HoldsState.{HoldsState}
-use Rattle.engine_versions.proofs.Telling.{tables_settled}
+use Rattle.held_states.specs.versioned_tables.HeldRecords.{HeldRecord, from_oldest_kept}
+use Rattle.held_states.specs.versioned_tables.Holding.{AllMatch}
+use Rattle.held_states.specs.engine_versions.EngineState.{EngineState, cleaned, engine_of}
+use Rattle.held_states.specs.engine_versions.HoldsState.{HoldsState}
+use Rattle.held_states.proofs.engine_versions_proofs.Telling.{tables_settled}
 use Rattle.loggable_steps.specs.Replays.{closed, opened_state}
 
 no_sessions : (sessions : List LiveSession) → map live_state sessions ≡ [] → sessions ≡ []

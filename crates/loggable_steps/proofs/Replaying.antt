@@ -10,15 +10,15 @@ use Rattle.index_derive.specs.Steps.{entries_of_step}
 use Rattle.database_state.specs.State.{DatabaseState}
 use Rattle.database_state.specs.Step.{state_after, state_after_all}
 use Rattle.database_state.specs.Lawful.{is_lawful}
-use Rattle.version_records.specs.RecordNumbers.{HasItsType}
-use Rattle.lawful_answers.specs.EntryTypes.{AreOfTheirTypes}
-use Rattle.lawful_answers.specs.LawfulSteps.{AreLawful}
-use Rattle.built_calls.specs.BuiltTables.{AllMakeBuilt, makes_built}
-use Rattle.engine_versions.specs.EngineState.{EngineState}
-use Rattle.engine_versions.specs.EngineSteps.{engine_after, engine_after_step}
-use Rattle.engine_versions.specs.HoldsState.{HoldsState}
-use Rattle.engine_versions.proofs.AfterEntries.{entry_holds}
-use Rattle.engine_versions.proofs.Cleans.{step_holds}
+use Rattle.held_states.specs.version_records.RecordNumbers.{HasItsType}
+use Rattle.held_states.specs.lawful_answers.EntryTypes.{AreOfTheirTypes}
+use Rattle.held_states.specs.lawful_answers.LawfulSteps.{AreLawful}
+use Rattle.held_states.specs.built_calls.BuiltTables.{AllMakeBuilt, makes_built}
+use Rattle.held_states.specs.engine_versions.EngineState.{EngineState}
+use Rattle.held_states.specs.engine_versions.EngineSteps.{engine_after, engine_after_step}
+use Rattle.held_states.specs.engine_versions.HoldsState.{HoldsState}
+use Rattle.held_states.proofs.engine_versions_proofs.AfterEntries.{entry_holds}
+use Rattle.held_states.proofs.engine_versions_proofs.Cleans.{step_holds}
 use Rattle.held_states.proofs.EquivalentRuns.{held_entries}
 use Rattle.log_grammar.specs.EntryBytes.{BeginsWithNone, entry_bytes, has_spelling}
 use Rattle.log_grammar.specs.EntryStreams.{Holds, stream_bytes, stream_fits}

@@ -24,9 +24,9 @@ use Rattle.database_state.specs.State.{DatabaseState, levels}
 use Rattle.database_state.specs.SchemaChanges.{greatest_order, has_column, is_in_use, makes_table, new_table, next_column_id, next_index_id, rule_columns, schema_refusal, step_refusals, step_table}
 use Rattle.database_state.specs.Lawful.{has_next_numbers, is_name}
 use Rattle.record_changes.proofs.Tests.{and_second}
-use Rattle.version_keys.proofs.SchemaKeys.{IsNewIndex, at_found, new_index, unrefused}
-use Rattle.built_calls.specs.BuiltTables.{is_unnumbered_column, is_built_rule, makes_built}
-use Rattle.built_calls.proofs.BuiltColumns.{not_numbered}
+use Rattle.held_states.proofs.version_keys_proofs.SchemaKeys.{IsNewIndex, at_found, new_index, unrefused}
+use Rattle.held_states.specs.built_calls.BuiltTables.{is_unnumbered_column, is_built_rule, makes_built}
+use Rattle.held_states.proofs.built_calls_proofs.BuiltColumns.{not_numbered}
 use Rattle.log_grammar.specs.EntryBytes.{column_bytes, column_fits, condition_bytes, condition_fits, index_bytes, index_fits, index_flags, name_bytes, name_fits, schema_bytes, schema_fits, segment_bytes, segment_fits}
 use Rattle.loggable_steps.specs.Loggable.{schema_fits_types}
 use Rattle.loggable_steps.proofs.Bookmarks.{IsLegalRule, legal_rule}

@@ -11,11 +11,11 @@ use Rattle.database_state.specs.Lawful.{has_open as has_open_in, is_lawful, is_l
 use Rattle.version_history.specs.History.{EachTwo}
 use Rattle.version_cleanup.specs.declared.live.Transaction.{Transaction}
 use Rattle.version_cleanup.specs.LiveSessions.{LiveState, at_levels, began, ended, entered, left, levels_in, levels_of, live_state, lowered, new_session, opened, saved, session_in, sessions_after, shut, with_session}
-use Rattle.engine_versions.specs.EngineState.{EngineState}
-use Rattle.engine_versions.specs.EngineSteps.{engine_after}
-use Rattle.engine_versions.specs.HoldsState.{HoldsState}
-use Rattle.engine_versions.proofs.SessionTotals.{EndsBy, RisesTo, ends_by, grows, in_levels, inserted, le_self, left_fewer, level_of, levels_there, one_level, one_more_open, rise_told, shut_fewer, shut_no_more, two_levels}
-use Rattle.engine_versions.proofs.Sessions.{live_alike, session_alike}
+use Rattle.loggable_steps.specs.engine_versions.EngineState.{EngineState}
+use Rattle.loggable_steps.specs.engine_versions.EngineSteps.{engine_after}
+use Rattle.loggable_steps.specs.engine_versions.HoldsState.{HoldsState}
+use Rattle.loggable_steps.proofs.engine_versions_proofs.SessionTotals.{EndsBy, RisesTo, ends_by, grows, in_levels, inserted, le_self, left_fewer, level_of, levels_there, one_level, one_more_open, rise_told, shut_fewer, shut_no_more, two_levels}
+use Rattle.loggable_steps.proofs.engine_versions_proofs.Sessions.{live_alike, session_alike}
 use Rattle.logged_engine.specs.Ends.{begun_bytes, end_bytes, end_bytes_of, ended_bytes}
 use Rattle.loggable_steps.proofs.Spelled.{kind_of}
 

@@ -5,13 +5,13 @@ ghost use Rattle.index_derive.specs.Steps.{entries_of_step};
 ghost use Rattle.database_state.specs.State.{DatabaseState};
 ghost use Rattle.session_local.specs.LocalCalls.{is_answered_locally};
 ghost use Rattle.session_local.specs.Run.{takes_no_memory};
-ghost use Rattle.built_calls.specs.BuiltCalls.{is_built_request};
-ghost use Rattle.engine_versions.specs.EngineState.{HasRoomForEnds, cleaned, engine_of};
-ghost use Rattle.engine_versions.specs.EngineSteps.{engine_after_step, step_cleans};
-ghost use Rattle.engine_versions.specs.HoldsState.{HoldsState};
-ghost use Rattle.engine_parts.specs.Deciding.{Decides, IsBeside, IsDecision};
-ghost use Rattle.engine_steps.specs.Cleans.{CanGo, without_oldest_held};
-ghost use Rattle.engine_steps.specs.Steps.{MayTake};
+ghost use Rattle.loggable_steps.specs.built_calls.BuiltCalls.{is_built_request};
+ghost use Rattle.loggable_steps.specs.engine_versions.EngineState.{HasRoomForEnds, cleaned, engine_of};
+ghost use Rattle.loggable_steps.specs.engine_versions.EngineSteps.{engine_after_step, step_cleans};
+ghost use Rattle.loggable_steps.specs.engine_versions.HoldsState.{HoldsState};
+ghost use Rattle.engine_core.specs.engine_parts.Deciding.{Decides, IsBeside, IsDecision};
+ghost use Rattle.engine_core.specs.engine_steps.Cleans.{CanGo, without_oldest_held};
+ghost use Rattle.engine_core.specs.engine_steps.Steps.{MayTake};
 ghost use Rattle.log_grammar.specs.EntryStreams.{stream_bytes};
 ghost use Rattle.entry_log.specs.LogState.{appended, bytes_from, empty_stream, stream_end, trimmed_to};
 ghost use Rattle.loggable_steps.specs.Loggable.{is_label, is_loggable, made_by};
@@ -25,10 +25,10 @@ use crate::laws::{ends_follow_their_steps, what_is_begun_keeps_the_bytes_of_its_
 use crate::types::the_step_can_be_logged;
 use crate::writing::{ends_after, step_size, write};
 use engine_core::Engine;
-use engine_versions::ends_always_find_room;
 use entry_log::EntryLog;
 use index_derive::Step;
 use jet_base::OutOfMemory;
+use loggable_steps::engine_versions::ends_always_find_room;
 use loggable_steps::{
     a_closed_state_is_held_by_its_tables, an_engine_without_sessions_tells_its_state,
 };

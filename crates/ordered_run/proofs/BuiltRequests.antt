@@ -4,7 +4,7 @@ use Rattle.std.specs.Prelude.{nat_le}
 use Rattle.std.proofs.lemmas.Bool.{and_parts}
 use Rattle.std.proofs.lemmas.Bool.Decides.{nat_tests}
 use Rattle.session_local.specs.Run.{Line}
-use Rattle.built_calls.specs.BuiltCalls.{is_built_request}
+use Rattle.script_text.specs.built_calls.BuiltCalls.{is_built_request}
 use Rattle.script_text.specs.Built.{is_built, is_label, are_built}
 use Rattle.run_sessions.specs.Sessions.{last_label}
 

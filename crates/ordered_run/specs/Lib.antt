@@ -3,3 +3,4 @@ pub mod Serving
 pub mod Outcomes
 pub mod Lines
 pub mod RunSoFar
+pub use Rattle.script_text.specs as script_text

@@ -2,6 +2,8 @@
 //! is served.
 #![tactic(auto)]
 
+pub use script_text;
+
 mod run;
 mod served;
 mod session_engine;

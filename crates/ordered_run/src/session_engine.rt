@@ -7,14 +7,14 @@ ghost use Rattle.session_local.specs.Calls.{is_local};
 ghost use Rattle.session_local.specs.LocalCalls.{is_answered_locally};
 ghost use Rattle.session_local.specs.Answer.{answered_by};
 ghost use Rattle.session_local.specs.Run.{RunState, Line, run_from, rows_of_line, run_after, may_come};
-ghost use Rattle.built_calls.specs.BuiltCalls.{is_built_request};
+ghost use Rattle.script_text.specs.built_calls.BuiltCalls.{is_built_request};
 ghost use Rattle.script_text.specs.Built.{are_built};
 ghost use Rattle.script_transcript.specs.TranscriptLine.{NamesNoMore};
 ghost use Rattle.run_sessions.specs.Sessions.{last_label, session_at};
-ghost use Rattle.engine_versions.specs.EngineState.{HasRoomForEnds};
-ghost use Rattle.engine_versions.specs.EngineSteps.{engine_after_answer};
+ghost use Rattle.engine_core.specs.engine_versions.EngineState.{HasRoomForEnds};
+ghost use Rattle.engine_core.specs.engine_versions.EngineSteps.{engine_after_answer};
 ghost use Rattle.engine_core.specs.Reading.{is_reading};
-ghost use Rattle.engine_steps.specs.Steps.{MayTake};
+ghost use Rattle.engine_core.specs.engine_steps.Steps.{MayTake};
 ghost use Rattle.ordered_run.specs.SessionRun.{no_memory_reply, outcome_told, row_told, LacksMemory, StaysOrCleans};
 ghost use Rattle.ordered_run.specs.Serving.{span_limit, reply_of, IsAt, IsReady, Goes};
 

@@ -16,8 +16,8 @@ use Rattle.database_state.specs.Refusals.{Refusals, first_refusal}
 use Rattle.database_state.specs.Table.{rule_with_id, schema_of, table_with_id}
 use Rattle.session_local.specs.Local.{OpenCursor, PreparedUpdate}
 use Rattle.session_local.specs.RecordCalls.{is_primary_changed, replaced_by}
-use Rattle.versioned_tables.specs.VersionedTables.{VersionedTables}
-use Rattle.engine_versions.specs.EngineState.{EngineState}
+use Rattle.decision_lemmas.specs.versioned_tables.VersionedTables.{VersionedTables}
+use Rattle.decision_lemmas.specs.engine_versions.EngineState.{EngineState}
 use Rattle.record_decisions.specs.Changing.{room_in, span_with}
 use Rattle.record_decisions.specs.Updating.{HasLegalRules, IsMade, IsMadeOf, IsSchemaOf, keys_in, put_by, record_in, span_in, update_in, values_in}
 use Rattle.decision_lemmas.proofs.Chains.{passed-one, refused-front, refused-rest, stopped-one}

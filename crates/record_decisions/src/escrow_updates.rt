@@ -7,9 +7,9 @@ ghost use Rattle.session_local.specs.declared.request.Request.TheVariants as cal
 ghost use Rattle.session_local.specs.declared.reply.Value.TheVariants.{Number};
 ghost use Rattle.session_local.specs.LocalCalls.{is_answered_locally};
 ghost use Rattle.session_local.specs.RecordCalls.{bookmark_at};
-ghost use Rattle.version_sums.specs.EscrowSums.{escrow_value};
-ghost use Rattle.engine_parts.specs.Deciding.{Decides, IsBeside, IsDecision};
-ghost use Rattle.engine_parts.specs.Reading.{IsRowAt};
+ghost use Rattle.decision_lemmas.specs.version_sums.EscrowSums.{escrow_value};
+ghost use Rattle.decision_lemmas.specs.engine_parts.Deciding.{Decides, IsBeside, IsDecision};
+ghost use Rattle.decision_lemmas.specs.engine_parts.Reading.{IsRowAt};
 ghost use Rattle.record_decisions.specs.Changing.{shown_for};
 ghost use Rattle.record_decisions.specs.EscrowUpdates.{place_in, sum_at, sum_in};
 ghost use Rattle.record_decisions.specs.Preparing.{values_seen};
@@ -17,10 +17,10 @@ ghost use Rattle.record_decisions.specs.Preparing.{values_seen};
 use crate::changing::{bookmark_at, change_refusal, change_step, current_refusal, has_own_replace};
 use crate::laws::changes_are_refused_alike;
 use column_set::{Bookmark, Change, Column, column_named};
-use engine_parts::{Engine, a_session_reads_its_view, refused};
+use decision_lemmas::engine_parts::{Engine, a_session_reads_its_view, refused};
+use decision_lemmas::lawful_answers::the_step_of_a_sum_is_lawful;
 use index_derive::Step;
 use jet_base::{ColumnId, CursorId, Jet, Name, OutOfMemory, Session};
-use lawful_answers::the_step_of_a_sum_is_lawful;
 use session_local::{Decision, Local, OpenCursor, Reply, Value};
 use std::alloc::Global;
 

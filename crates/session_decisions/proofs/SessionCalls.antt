@@ -13,10 +13,10 @@ use Rattle.session_local.specs.Local.{without_prepared}
 use Rattle.session_local.specs.Outcome.{Asked, Outcome, done, unless, one}
 use Rattle.session_local.specs.Calls.{answer}
 use Rattle.version_cleanup.specs.LiveSessions.{levels_in}
-use Rattle.engine_versions.specs.EngineState.{EngineState}
-use Rattle.engine_versions.specs.HoldsState.{HoldsState}
-use Rattle.engine_parts.specs.Deciding.{Decides}
-use Rattle.engine_versions.proofs.Decisions.{refused_with, stepped_with, one_by, answer-begun, answer-not_begun, answer-is, answer-refused}
+use Rattle.decision_lemmas.specs.engine_versions.EngineState.{EngineState}
+use Rattle.decision_lemmas.specs.engine_versions.HoldsState.{HoldsState}
+use Rattle.decision_lemmas.specs.engine_parts.Deciding.{Decides}
+use Rattle.decision_lemmas.proofs.engine_versions_proofs.Decisions.{refused_with, stepped_with, one_by, answer-begun, answer-not_begun, answer-is, answer-refused}
 use Rattle.decision_lemmas.proofs.Refusing.{asked_by}
 use Rattle.decision_lemmas.proofs.Told.{levels-told, sessions-told}
 

@@ -18,14 +18,14 @@ use Rattle.jet_base.specs.declared.replies.Jet.TheVariants as jet
 use Rattle.record_changes.specs.Records.{Records, records_of}
 use Rattle.version_history.specs.History.{without_rows}
 use Rattle.version_history.proofs.Viewing.{same_there}
-use Rattle.version_keys.specs.KeySums.{HasKeyBefores, SeesNoSum}
+use Rattle.stored_variants.specs.version_keys.KeySums.{HasKeyBefores, SeesNoSum}
 use Rattle.version_store.specs.declared.calls.Reader.{Reader}
-use Rattle.versioned_tables.specs.HeldRecords.{has_key_conflict}
-use Rattle.versioned_tables.specs.Holding.{Holds, begin_of}
-use Rattle.versioned_tables.specs.VersionedTables.{VersionedTables, seen_tables}
-use Rattle.versioned_tables.proofs.HeldSums.{keys_shown}
-use Rattle.versioned_tables.proofs.Rising.{found_without}
-use Rattle.versioned_tables.proofs.Views.{seen_defined, view_defined}
+use Rattle.stored_variants.specs.versioned_tables.HeldRecords.{has_key_conflict}
+use Rattle.stored_variants.specs.versioned_tables.Holding.{Holds, begin_of}
+use Rattle.stored_variants.specs.versioned_tables.VersionedTables.{VersionedTables, seen_tables}
+use Rattle.stored_variants.proofs.versioned_tables_proofs.HeldSums.{keys_shown}
+use Rattle.stored_variants.proofs.versioned_tables_proofs.Rising.{found_without}
+use Rattle.stored_variants.proofs.versioned_tables_proofs.Views.{seen_defined, view_defined}
 use Rattle.table_versions.specs.KeyConflicts.{has_conflict_over, replaced_seen, unique_refusals}
 use Rattle.table_versions.specs.Shown.{FindsShown, ShowsEntries}
 use Rattle.stored_variants.specs.StoredVersions.{entries_in}

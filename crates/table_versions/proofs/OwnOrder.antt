@@ -13,17 +13,17 @@ use Rattle.database_state.specs.Table.{Rows, row_at}
 use Rattle.derived_index.specs.KeptEntries.{has_entry}
 use Rattle.index_derive.specs.Entries.{own_order}
 use Rattle.page_image.specs.Page.{Node}
-use Rattle.table_trees.specs.StoredNodes.{bookmark_entries}
+use Rattle.stored_variants.specs.table_trees.StoredNodes.{bookmark_entries}
 use Rattle.version_store.specs.declared.calls.Reader.{Reader}
 use Rattle.version_store.specs.HeldChanges.{is_rewrite}
-use Rattle.versioned_tables.specs.HeldRecords.{HeldRecord, before_or, hides, is_change_at, is_standing_rewrite, seen_record}
-use Rattle.versioned_tables.specs.VersionedTables.{seen_rows}
-use Rattle.versioned_tables.specs.Variants.{has_variant}
-use Rattle.versioned_tables.proofs.Rising.{seen_rise}
+use Rattle.stored_variants.specs.versioned_tables.HeldRecords.{HeldRecord, before_or, hides, is_change_at, is_standing_rewrite, seen_record}
+use Rattle.stored_variants.specs.versioned_tables.VersionedTables.{seen_rows}
+use Rattle.stored_variants.specs.versioned_tables.Variants.{has_variant}
+use Rattle.stored_variants.proofs.versioned_tables_proofs.Rising.{seen_rise}
 use Rattle.stored_variants.specs.RecordRows.{rows_of_nodes}
 use Rattle.stored_variants.proofs.RisingRows.{rows_rise}
 use Rattle.long_value.specs.Values.{Values}
-use Rattle.versioned_tables.proofs.Walking.{order_is, unseen_stands}
+use Rattle.stored_variants.proofs.versioned_tables_proofs.Walking.{order_is, unseen_stands}
 
 -- ---- a record that is seen has a node
 

@@ -15,11 +15,11 @@ use Rattle.derived_index.specs.KeptEntries.{has_entry}
 use Rattle.index_derive.specs.declared.rules.IndexRule.{IndexRule}
 use Rattle.index_derive.specs.Entries.{entries}
 use Rattle.page_image.specs.Page.{Node}
-use Rattle.table_trees.specs.StoredNodes.{bookmark_entries}
-use Rattle.table_trees.specs.StoredTables.{StoredIndex, StoredTable, index_entries, is_table, table_indexes, table_nodes}
+use Rattle.stored_variants.specs.table_trees.StoredNodes.{bookmark_entries}
+use Rattle.stored_variants.specs.table_trees.StoredTables.{StoredIndex, StoredTable, index_entries, is_table, table_indexes, table_nodes}
 use Rattle.version_store.specs.HeldChanges.{HeldChange, is_rewrite, is_standing}
-use Rattle.versioned_tables.specs.HeldRecords.{HeldRecord, is_change_at, is_standing_rewrite}
-use Rattle.versioned_tables.specs.Variants.{HoldsVariants, is_variant_key}
+use Rattle.stored_variants.specs.versioned_tables.HeldRecords.{HeldRecord, is_change_at, is_standing_rewrite}
+use Rattle.stored_variants.specs.versioned_tables.Variants.{HoldsVariants, is_variant_key}
 use Rattle.stored_variants.specs.PutRecords.{HasKeysOf}
 use Rattle.variant_trees.specs.GoneKeys.{AreRows, held_from, index_numbers}
 use Rattle.variant_trees.specs.PutStages.{AreKeysOfRecords, CanTake, HasVariantKeys, IsKeyOfRecord}

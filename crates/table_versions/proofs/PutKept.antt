@@ -22,15 +22,15 @@ use Rattle.index_derive.specs.declared.rules.IndexRule.{IndexRule}
 use Rattle.index_derive.specs.declared.rules.Schema.{Schema}
 use Rattle.jet_base.specs.declared.ids.TableId.{TableId}
 use Rattle.jet_catalog.specs.Catalog.{ids_rise}
-use Rattle.table_trees.specs.StoredNodes.{IsShortNode}
-use Rattle.table_trees.specs.StoredTables.{StoredIndex, StoredTable, index_entries, is_table, table_nodes}
+use Rattle.stored_variants.specs.table_trees.StoredNodes.{IsShortNode}
+use Rattle.stored_variants.specs.table_trees.StoredTables.{StoredIndex, StoredTable, index_entries, is_table, table_nodes}
 use Rattle.version_store.specs.declared.calls.By.{By}
 use Rattle.version_store.specs.declared.calls.ChangeKind.TheVariants as kind
 use Rattle.version_store.specs.HeldChanges.{HeldChange, new_change}
-use Rattle.versioned_tables.specs.HeldRecords.{HeldRecord, is_standing_rewrite, new_change as new_record}
-use Rattle.versioned_tables.specs.Holding.{RowsRise}
-use Rattle.versioned_tables.specs.VersionedTables.{with_change}
-use Rattle.versioned_tables.specs.Variants.{HoldsVariants, has_variant, is_variant_key}
+use Rattle.stored_variants.specs.versioned_tables.HeldRecords.{HeldRecord, is_standing_rewrite, new_change as new_record}
+use Rattle.stored_variants.specs.versioned_tables.Holding.{RowsRise}
+use Rattle.stored_variants.specs.versioned_tables.VersionedTables.{with_change}
+use Rattle.stored_variants.specs.versioned_tables.Variants.{HoldsVariants, has_variant, is_variant_key}
 use Rattle.stored_variants.specs.PutRecords.{HasKeysOf, record_keys}
 use Rattle.stored_variants.specs.RecordRows.{TableValues, IsRecordRow, held_record_in, record_of, row_in_node, row_under, rows_of_nodes}
 use Rattle.variant_trees.specs.GoneKeys.{index_numbers, table_numbers}

@@ -6,11 +6,11 @@ use Rattle.database_state.specs.Table.{index_entries, record_in, rows_of, table_
 use Rattle.database_state.specs.View.{view}
 use Rattle.index_derive.specs.declared.rules.Schema.{Schema}
 use Rattle.record_changes.specs.Records.{Records}
-use Rattle.version_keys.specs.KeySums.{SeesNoSum}
+use Rattle.stored_variants.specs.version_keys.KeySums.{SeesNoSum}
 use Rattle.version_store.specs.declared.calls.Reader.{Reader}
-use Rattle.versioned_tables.specs.HeldRecords.{seen_record}
-use Rattle.versioned_tables.specs.Holding.{Holds, begin_of}
-use Rattle.versioned_tables.specs.VersionedTables.{VersionedTables, seen_tables}
+use Rattle.stored_variants.specs.versioned_tables.HeldRecords.{seen_record}
+use Rattle.stored_variants.specs.versioned_tables.Holding.{Holds, begin_of}
+use Rattle.stored_variants.specs.versioned_tables.VersionedTables.{VersionedTables, seen_tables}
 
 -- an index whose keys no sum changes has the entries that the view of the reader's session has
 abbrev pub ShowsEntries : Type 0

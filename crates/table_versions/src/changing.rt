@@ -5,7 +5,7 @@ ghost use Rattle.column_set.specs.Rows.{IsRowBytes};
 ghost use Rattle.database_state.specs.Changes.{changed_bookmark, changed_table, is_sum};
 ghost use Rattle.database_state.specs.Table.{record_in, table_with_id, schema_of};
 ghost use Rattle.version_store.specs.HeldChanges.{kind_of};
-ghost use Rattle.versioned_tables.specs.VersionedTables.{with_change};
+ghost use Rattle.stored_variants.specs.versioned_tables.VersionedTables.{with_change};
 ghost use Rattle.stored_variants.specs.PutRecords.{IsStorable, put_values};
 ghost use Rattle.stored_variants.specs.StoredVersions.{has_room};
 ghost use Rattle.stored_variants.specs.VersionsKept.{AddsToEscrow};
@@ -22,7 +22,7 @@ use long_rows::{
     form_of_a_kept_row, kept_rows_stand_for_their_records, rows_stand_as_values_change,
 };
 use row_edit::append;
-use table_trees::{nodes_after_a_change, nodes_by_bookmark};
+use stored_variants::table_trees::{nodes_after_a_change, nodes_by_bookmark};
 use variant_trees::{add_sum, put_record, row_in_node};
 use version_store::{By, Reader, VersionFault};
 

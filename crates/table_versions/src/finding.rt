@@ -15,11 +15,11 @@ use index_derive::derive::next_entry;
 use index_derive::{IndexEntry, Schema};
 use jet_base::{IndexId, TableId};
 use key_normal::Key;
-use variant_trees::own_entry;
-use version_store::Reader;
-use versioned_tables::{
+use stored_variants::versioned_tables::{
     a_reader_is_shown_the_records_that_it_sees, a_reader_walks_the_index_of_what_it_sees,
 };
+use variant_trees::own_entry;
+use version_store::Reader;
 
 impl TableVersions {
     /// The least entry with a bookmark in an index, as the reader sees the table; else as `walk`. It is made from the record

@@ -3,7 +3,7 @@
 ghost use Rattle.std.specs.Prelude.{◌≡◌, length};
 ghost use Rattle.column_set.specs.Rows.{largest_row};
 ghost use Rattle.database_state.specs.Changes.{changed_bookmark, changed_table};
-ghost use Rattle.versioned_tables.specs.HeldRecords.{has_conflict};
+ghost use Rattle.stored_variants.specs.versioned_tables.HeldRecords.{has_conflict};
 ghost use Rattle.stored_variants.specs.StoredVersions.{has_room, next_to_forget};
 
 use crate::reading::newest_row;

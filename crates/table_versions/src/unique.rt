@@ -13,11 +13,11 @@ ghost use Rattle.database_state.specs.View.{view};
 ghost use Rattle.index_derive.specs.declared.rules.IndexRule.{IndexRule};
 ghost use Rattle.index_derive.specs.Entries.{entries, is_legal, key_list, primary_key};
 ghost use Rattle.record_changes.specs.Records.{Records};
-ghost use Rattle.version_keys.specs.KeySums.{HasKeyBefores, SeesNoSum};
+ghost use Rattle.stored_variants.specs.version_keys.KeySums.{HasKeyBefores, SeesNoSum};
 ghost use Rattle.version_store.specs.declared.calls.Reader.{Reader};
-ghost use Rattle.versioned_tables.specs.HeldRecords.{is_change_at};
-ghost use Rattle.versioned_tables.specs.Holding.{Holds, begin_of};
-ghost use Rattle.versioned_tables.specs.VersionedTables.{VersionedTables};
+ghost use Rattle.stored_variants.specs.versioned_tables.HeldRecords.{is_change_at};
+ghost use Rattle.stored_variants.specs.versioned_tables.Holding.{Holds, begin_of};
+ghost use Rattle.stored_variants.specs.versioned_tables.VersionedTables.{VersionedTables};
 ghost use Rattle.table_versions.specs.KeyConflicts.{has_conflict_over, is_taken_for, replaced_seen, unique_refusals};
 
 use crate::conflicting_keys::is_replaced;
@@ -26,14 +26,14 @@ use column_set::Values;
 use index_derive::derive::{next_entry, yields};
 use index_derive::{IndexRule, Schema, entries_rise, primary_key};
 use jet_base::{Jet, TableId};
-use kept_rows::ShownRow;
 use key_normal::Key;
-use version_keys::a_primary_index_has_one_entry;
-use version_store::Reader;
-use versioned_tables::{
+use stored_variants::version_keys::a_primary_index_has_one_entry;
+use stored_variants::versioned_tables::{
     a_reader_finds_the_records_that_it_is_shown, a_reader_is_shown_the_entries_of_its_view,
     held_changes_tell_key_conflicts,
 };
+use variant_trees::kept_rows::ShownRow;
+use version_store::Reader;
 
 impl TableVersions {
     /// Why a record may not be put for its keys in a unique index, which does not refuse the record itself: first a key conflict

@@ -2,7 +2,7 @@
 use Rattle.std.specs.Prelude.{[], ◌∷◌, codes}
 use Rattle.database_state.specs.SchemaChanges.{new_table}
 use Rattle.jet_catalog.specs.Catalog.{CatalogState}
-use Rattle.catalog_changes.specs.CatalogSteps.{Roots}
+use Rattle.catalog_tree.specs.catalog_changes.CatalogSteps.{Roots}
 
 -- an empty catalog, and one of one table
 abbrev pub no_table : CatalogState

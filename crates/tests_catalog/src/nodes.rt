@@ -1,7 +1,7 @@
 //! Nodes that are written out by hand are read and written again, and others are refused.
 
 use catalog_grammar::CatalogItem;
-use catalog_record::{CatalogFault, NodeBuffer, decode};
+use catalog_tree::catalog_record::{CatalogFault, NodeBuffer, decode};
 use log_record::{column_fits, index_fits, name_fits};
 use std::alloc::Global;
 use std::process::Abort;

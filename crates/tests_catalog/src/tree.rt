@@ -1,7 +1,7 @@
 //! A catalog's tree, with ample memory.
 
-use catalog_record::NodeBuffer;
 use catalog_tree::CatalogTree;
+use catalog_tree::catalog_record::NodeBuffer;
 use page_space::Space;
 use std::test::Fail;
 

@@ -9,10 +9,10 @@ use Rattle.index_derive.specs.Steps.{entries_of_step}
 use Rattle.database_state.specs.State.{DatabaseState, empty_state}
 use Rattle.database_state.specs.Step.{state_after_all}
 use Rattle.database_state.specs.Lawful.{is_lawful}
-use Rattle.engine_versions.specs.EngineState.{EngineState, empty_engine}
-use Rattle.engine_versions.specs.EngineSteps.{engine_after_step}
-use Rattle.engine_versions.specs.HoldsState.{HoldsState}
-use Rattle.engine_steps.specs.Steps.{MayTake}
+use Rattle.logged_engine.specs.engine_versions.EngineState.{EngineState, empty_engine}
+use Rattle.logged_engine.specs.engine_versions.EngineSteps.{engine_after_step}
+use Rattle.logged_engine.specs.engine_versions.HoldsState.{HoldsState}
+use Rattle.logged_engine.specs.engine_steps.Steps.{MayTake}
 
 abbrev pub first : Entry
 first = record { session = session_id 1; kind = Enter }

@@ -5,13 +5,15 @@ ghost use Rattle.jet_base.specs.Ids.{session_id};
 ghost use Rattle.index_derive.specs.declared.log.EntryKind.TheVariants.{Enter};
 ghost use Rattle.index_derive.specs.declared.log.Step.TheVariants.{One};
 ghost use Rattle.database_state.specs.State.{DatabaseState};
-ghost use Rattle.engine_versions.specs.EngineState.{empty_engine};
-ghost use Rattle.engine_versions.specs.HoldsState.{HoldsState};
+ghost use Rattle.logged_engine.specs.engine_versions.EngineState.{empty_engine};
+ghost use Rattle.logged_engine.specs.engine_versions.HoldsState.{HoldsState};
 
-use engine_core::Engine;
-use engine_versions::{a_lawful_step_makes_the_next_state, an_empty_engine_holds_the_empty_state};
 use index_derive::{Entry, EntryKind, Step};
 use jet_base::Session;
+use logged_engine::engine_core::Engine;
+use logged_engine::engine_versions::{
+    a_lawful_step_makes_the_next_state, an_empty_engine_holds_the_empty_state,
+};
 use logged_engine::{LoggedEngine, has_label};
 use std::alloc::Global;
 use std::process::Abort;

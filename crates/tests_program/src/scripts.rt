@@ -1,7 +1,7 @@
 //! Scripts, parsed.
 
+use esentutl::script_text::{ScriptFault, parse};
 use jet_base::{CursorId, Session};
-use script_text::{ScriptFault, parse};
 use session_local::Request;
 use std::test::*;
 

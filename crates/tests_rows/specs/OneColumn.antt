@@ -7,8 +7,8 @@ use Rattle.database_state.specs.Table.{Table}
 use Rattle.index_derive.specs.declared.rules.IndexRule.{IndexRule}
 use Rattle.jet_base.specs.Ids.{column_id}
 use Rattle.jet_base.specs.declared.words.ColType.TheVariants.{LongBinary}
-use Rattle.stored_variants.specs.PutRecords.{IsStorable}
-use Rattle.stored_variants.specs.StoredVersions.{StoredVersions}
+use Rattle.table_versions.specs.stored_variants.PutRecords.{IsStorable}
+use Rattle.table_versions.specs.stored_variants.StoredVersions.{StoredVersions}
 
 -- the column of the table, and the names of both
 abbrev pub body : Column

@@ -8,7 +8,7 @@ ghost use Rattle.database_state.specs.Table.{table_with_id};
 ghost use Rattle.index_derive.specs.declared.schema_calls.SchemaStep.TheVariants.{CreateTable};
 ghost use Rattle.jet_base.specs.Ids.{table_id};
 ghost use Rattle.jet_base.specs.declared.words.ColType.TheVariants.{LongBinary};
-ghost use Rattle.stored_variants.specs.SchemaSteps.{after_step};
+ghost use Rattle.table_versions.specs.stored_variants.SchemaSteps.{after_step};
 ghost use Rattle.tests_rows.specs.OneColumn.{IsPlain, TakesOneValue, body, name, no_table, one_value};
 
 use crate::values::bytes_of;

@@ -16,9 +16,9 @@ use Rattle.index_derive.specs.declared.rules.Schema.{Schema}
 use Rattle.index_derive.specs.Entries.{entries, primary_key}
 use Rattle.jet_base.specs.declared.replies.Jet.TheVariants as jet
 use Rattle.version_history.proofs.Lists.{all_both}
-use Rattle.version_keys.proofs.IndexNumbers.{all_primary_first}
-use Rattle.version_keys.proofs.SameColumns.{entries_same, legal_same, primary_key_same}
-use Rattle.version_keys.proofs.SchemaKeys.{each_column, found_has}
+use Rattle.stored_variants.proofs.version_keys_proofs.IndexNumbers.{all_primary_first}
+use Rattle.stored_variants.proofs.version_keys_proofs.SameColumns.{entries_same, legal_same, primary_key_same}
+use Rattle.stored_variants.proofs.version_keys_proofs.SchemaKeys.{each_column, found_has}
 use Rattle.stored_variants.specs.VersionsKept.{IsBookmarkOf, IsStoredRule}
 use Rattle.common_lemmas.proofs.Found.{of_found}
 use Rattle.common_lemmas.proofs.Lists.{all_weaker}

@@ -13,10 +13,10 @@ use Rattle.index_derive.specs.declared.rules.Schema.{Schema}
 use Rattle.index_derive.specs.Entries.{entries, is_legal, primary_key}
 use Rattle.jet_catalog.specs.Catalog.{CatalogState, IsNumbered, ids_rise}
 use Rattle.page_image.specs.Page.{Node}
-use Rattle.table_trees.specs.StoredTables.{StoredTable, index_entries, table_long_values, table_nodes}
+use Rattle.kept_rows.specs.table_trees.StoredTables.{StoredTable, index_entries, table_long_values, table_nodes}
 use Rattle.version_store.specs.HeldChanges.{HeldChange, is_rewrite, is_standing}
-use Rattle.versioned_tables.specs.HeldRecords.{HeldRecord, is_standing_rewrite}
-use Rattle.versioned_tables.specs.Variants.{HoldsVariants, has_variant, is_variant_key}
+use Rattle.stored_variants.specs.versioned_tables.HeldRecords.{HeldRecord, is_standing_rewrite}
+use Rattle.stored_variants.specs.versioned_tables.Variants.{HoldsVariants, has_variant, is_variant_key}
 use Rattle.stored_variants.specs.PutRecords.{HasKeysOf}
 use Rattle.stored_variants.specs.RecordRows.{TableValues, some_before, IsRecordRow, held_record_in, record_of, rows_of_nodes}
 use Rattle.variant_trees.specs.GoneKeys.{AreRows, KeepsValues, is_gone_key}

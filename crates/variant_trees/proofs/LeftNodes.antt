@@ -13,10 +13,10 @@ use Rattle.derived_index.specs.KeptEntries.{has_entry}
 use Rattle.index_derive.specs.declared.rules.IndexRule.{IndexRule}
 use Rattle.index_derive.specs.declared.rules.Schema.{Schema}
 use Rattle.page_image.specs.Page.{Node}
-use Rattle.table_trees.specs.StoredTables.{StoredIndex, StoredTable, has_table, index_entries, is_index, is_table, part_of, table_nodes}
+use Rattle.kept_rows.specs.table_trees.StoredTables.{StoredIndex, StoredTable, has_table, index_entries, is_index, is_table, part_of, table_nodes}
 use Rattle.version_store.specs.HeldChanges.{HeldChange, is_rewrite}
-use Rattle.versioned_tables.specs.HeldRecords.{HeldRecord, is_standing_rewrite}
-use Rattle.versioned_tables.specs.Variants.{HoldsVariants, has_variant, is_variant_key}
+use Rattle.stored_variants.specs.versioned_tables.HeldRecords.{HeldRecord, is_standing_rewrite}
+use Rattle.stored_variants.specs.versioned_tables.Variants.{HoldsVariants, has_variant, is_variant_key}
 use Rattle.stored_variants.specs.RecordRows.{TableValues, some_before, held_record_in, record_of, row_in_node, row_under, rows_of_nodes}
 use Rattle.variant_trees.specs.GoneKeys.{ChangesEntries, LosesRecord, index_numbers, is_gone_key, table_numbers}
 use Rattle.variant_trees.specs.LeftVariants.{AreLeft, DistinctIds, IsLeft, LosesNode, is_this}

@@ -20,14 +20,14 @@ use Rattle.jet_base.specs.declared.ids.ColumnId.{ColumnId}
 use Rattle.jet_base.specs.declared.ids.TableId.{TableId}
 use Rattle.jet_catalog.specs.Catalog.{IsNumbered, CatalogState, catalog_after}
 use Rattle.page_image.specs.Page.{Node}
-use Rattle.table_trees.specs.StoredNodes.{bookmark_entries}
-use Rattle.table_trees.specs.StoredTables.{table_long_values, StoredIndex, StoredTable, index_entries, is_index, part_of, table_indexes, table_nodes}
-use Rattle.version_keys.proofs.IndexNumbers.{all_primary_first, none_of}
-use Rattle.version_keys.proofs.SameColumns.{yields_same}
-use Rattle.version_keys.proofs.SchemaKeys.{mapped_row, other_column}
-use Rattle.version_records.proofs.Storing.{fits_without}
-use Rattle.version_sums.specs.EscrowNumbers.{holds_number, is_one_number}
-use Rattle.versioned_tables.specs.Variants.{HoldsVariants, has_variant}
+use Rattle.kept_rows.specs.table_trees.StoredNodes.{bookmark_entries}
+use Rattle.kept_rows.specs.table_trees.StoredTables.{table_long_values, StoredIndex, StoredTable, index_entries, is_index, part_of, table_indexes, table_nodes}
+use Rattle.stored_variants.proofs.version_keys_proofs.IndexNumbers.{all_primary_first, none_of}
+use Rattle.stored_variants.proofs.version_keys_proofs.SameColumns.{yields_same}
+use Rattle.stored_variants.proofs.version_keys_proofs.SchemaKeys.{mapped_row, other_column}
+use Rattle.stored_variants.proofs.version_records_proofs.Storing.{fits_without}
+use Rattle.stored_variants.specs.version_sums.EscrowNumbers.{holds_number, is_one_number}
+use Rattle.stored_variants.specs.versioned_tables.Variants.{HoldsVariants, has_variant}
 use Rattle.variant_trees.specs.LostColumns.{LosesValues, HasNodes, HoldsRecord, node_without, row_without}
 use Rattle.stored_variants.specs.RecordRows.{TableValues, IsRecordRow, record_of, row_under, rows_of_nodes}
 use Rattle.stored_variants.specs.SchemaSteps.{IsMade}

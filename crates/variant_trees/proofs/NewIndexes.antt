@@ -26,10 +26,10 @@ use Rattle.jet_base.specs.declared.ids.TableId.{TableId}
 use Rattle.jet_catalog.specs.Catalog.{CatalogState, catalog_after}
 use Rattle.page_image.specs.Page.{Node}
 use Rattle.record_changes.proofs.Tests.{or_first, or_second}
-use Rattle.table_trees.specs.StoredNodes.{bookmark_entries}
-use Rattle.table_trees.specs.StoredTables.{table_long_values, StoredTable, index_entries, table_indexes, table_nodes}
-use Rattle.version_keys.proofs.IndexNumbers.{all_primary_first, found_alone, found_with, none_of}
-use Rattle.versioned_tables.specs.Variants.{HoldsVariants}
+use Rattle.kept_rows.specs.table_trees.StoredNodes.{bookmark_entries}
+use Rattle.kept_rows.specs.table_trees.StoredTables.{table_long_values, StoredTable, index_entries, table_indexes, table_nodes}
+use Rattle.stored_variants.proofs.version_keys_proofs.IndexNumbers.{all_primary_first, found_alone, found_with, none_of}
+use Rattle.stored_variants.specs.versioned_tables.Variants.{HoldsVariants}
 use Rattle.stored_variants.specs.RecordRows.{TableValues, record_of, row_under, rows_of_nodes}
 use Rattle.stored_variants.specs.SchemaSteps.{IsIndexFor, IsMade}
 use Rattle.stored_variants.specs.VersionsKept.{AreKeptWith, IsKeptTable, IsRowUnder, IsStoredRule, needed_trees, only_secondary, secondary_rule, secondary_rules, tree_numbers}

@@ -10,7 +10,7 @@ use Rattle.column_set.specs.Rows.{are_short, is_all_here, record_values_in_order
 use Rattle.kept_rows.specs.ValuesChanged.{HasLongValues}
 use Rattle.long_references.specs.ReferenceCounts.{with_all_taken}
 use Rattle.long_rows.specs.KeptRows.{given_by, with_value_given}
-use Rattle.table_trees.specs.StoredTables.{StoredTable, table_long_values}
+use Rattle.kept_rows.specs.table_trees.StoredTables.{StoredTable, table_long_values}
 
 both : (n : ℕ) → nat_le n 255 ≡ true → nat_lt 255 n ≡ true → ⊥
 both n low high = grind (arith, nat_tests)

@@ -19,9 +19,9 @@ use Rattle.long_rows.specs.WholeRows.{is_whole, record_in}
 use Rattle.long_rows.proofs.InUse.{counted, is_there, stands_less}
 use Rattle.long_value.specs.Values.{LongValue, Values, released, value_of, without_reference}
 use Rattle.page_image.specs.Page.{Node}
-use Rattle.table_trees.specs.StoredTables.{StoredIndex, StoredTable, long_value_of, table_long_values, table_nodes}
+use Rattle.kept_rows.specs.table_trees.StoredTables.{StoredIndex, StoredTable, long_value_of, table_long_values, table_nodes}
 use Rattle.version_store.specs.HeldChanges.{HeldChange, is_rewrite, is_standing}
-use Rattle.versioned_tables.proofs.Neighbours.{IsIn}
+use Rattle.stored_variants.proofs.versioned_tables_proofs.Neighbours.{IsIn}
 use Rattle.stored_variants.specs.CountedValues.{AreCounted, BringsNoValue, newest_rows, row_before, rows_before}
 use Rattle.stored_variants.specs.RecordRows.{IsRecordRow, TableValues, held_record_in, row_under}
 use Rattle.stored_variants.specs.VersionsKept.{AreKept, AreKeptWith, IsKeptChange, IsRowUnder}

@@ -15,8 +15,8 @@ use Rattle.long_references.proofs.Taken.{ValueLaws}
 use Rattle.long_rows.specs.RowsInUse.{newest}
 use Rattle.long_value.specs.Values.{Values, value_of}
 use Rattle.page_image.specs.Page.{Node}
-use Rattle.table_trees.specs.StoredNodes.{bookmark_entries, put_data}
-use Rattle.table_trees.specs.StoredTables.{StoredTable, has_table, table_indexes, table_long_values, table_nodes, with_nodes}
+use Rattle.kept_rows.specs.table_trees.StoredNodes.{bookmark_entries, put_data}
+use Rattle.kept_rows.specs.table_trees.StoredTables.{StoredTable, has_table, table_indexes, table_long_values, table_nodes, with_nodes}
 use Rattle.stored_variants.specs.CountedValues.{newest_rows}
 use Rattle.stored_variants.specs.RecordRows.{IsRecordRow, row_in_node, row_under}
 use Rattle.stored_variants.proofs.CountedRows.{newest_with, own_row, own_rows_are}

@@ -9,9 +9,9 @@ use Rattle.index_derive.specs.declared.rules.IndexRule.{IndexRule}
 use Rattle.index_derive.specs.declared.schema_calls.SchemaStep.{SchemaStep}
 use Rattle.jet_catalog.specs.Catalog.{CatalogState, catalog_after, without_rows}
 use Rattle.page_image.specs.Page.{Node}
-use Rattle.table_trees.specs.StoredTables.{table_long_values, StoredIndex, StoredTable, index_entries, is_index, part_of, table_indexes, table_nodes}
-use Rattle.version_keys.proofs.SchemaKeys.{other_table, this_table}
-use Rattle.versioned_tables.specs.Variants.{HoldsVariants}
+use Rattle.kept_rows.specs.table_trees.StoredTables.{table_long_values, StoredIndex, StoredTable, index_entries, is_index, part_of, table_indexes, table_nodes}
+use Rattle.stored_variants.proofs.version_keys_proofs.SchemaKeys.{other_table, this_table}
+use Rattle.stored_variants.specs.versioned_tables.Variants.{HoldsVariants}
 use Rattle.stored_variants.specs.RecordRows.{TableValues, rows_of_nodes}
 use Rattle.stored_variants.specs.SchemaSteps.{IsMade}
 use Rattle.stored_variants.specs.VersionsKept.{AreKept, AreKeptWith, IsKeptTable, needed_trees, secondary_rule, tree_numbers}

@@ -24,18 +24,18 @@ use Rattle.index_derive.specs.declared.rules.Schema.{Schema}
 use Rattle.index_derive.specs.Entries.{is_escrow_column, is_legal}
 use Rattle.jet_base.specs.declared.ids.ColumnId.{ColumnId}
 use Rattle.jet_base.specs.declared.ids.TableId.{TableId}
-use Rattle.table_trees.specs.StoredNodes.{bookmark_entries}
-use Rattle.table_trees.specs.StoredTables.{StoredTable, index_entries, table_long_values, table_nodes}
-use Rattle.version_keys.proofs.IndexNumbers.{all_primary_first, none_of}
-use Rattle.version_keys.proofs.SameColumns.{yields_same}
-use Rattle.version_records.proofs.StoredSums.{sum_fits}
+use Rattle.kept_rows.specs.table_trees.StoredNodes.{bookmark_entries}
+use Rattle.kept_rows.specs.table_trees.StoredTables.{StoredTable, index_entries, table_long_values, table_nodes}
+use Rattle.stored_variants.proofs.version_keys_proofs.IndexNumbers.{all_primary_first, none_of}
+use Rattle.stored_variants.proofs.version_keys_proofs.SameColumns.{yields_same}
+use Rattle.stored_variants.proofs.version_records_proofs.StoredSums.{sum_fits}
 use Rattle.version_store.specs.HeldChanges.{HeldChange}
-use Rattle.version_sums.specs.EscrowNumbers.{ColumnsRise, holds_number}
-use Rattle.version_sums.proofs.StoredSums.{values_seen}
-use Rattle.version_sums.proofs.VeryRecords.{one_value, sum_holds, sum_is_number}
-use Rattle.versioned_tables.specs.HeldRecords.{HeldRecord}
-use Rattle.versioned_tables.specs.Variants.{HoldsVariants}
-use Rattle.versioned_tables.specs.VersionedTables.{rows_with}
+use Rattle.stored_variants.specs.version_sums.EscrowNumbers.{ColumnsRise, holds_number}
+use Rattle.stored_variants.proofs.version_sums_proofs.StoredSums.{values_seen}
+use Rattle.stored_variants.proofs.version_sums_proofs.VeryRecords.{one_value, sum_holds, sum_is_number}
+use Rattle.stored_variants.specs.versioned_tables.HeldRecords.{HeldRecord}
+use Rattle.stored_variants.specs.versioned_tables.Variants.{HoldsVariants}
+use Rattle.stored_variants.specs.versioned_tables.VersionedTables.{rows_with}
 use Rattle.stored_variants.specs.RecordRows.{TableValues, some_before, IsRecordRow, held_record_in, record_of, row_in_node, row_under, rows_of_nodes}
 use Rattle.variant_trees.specs.LeftVariants.{is_this}
 use Rattle.stored_variants.specs.VersionsKept.{AreKept, AreKeptWith, IsBookmarkOf, IsKeptChange, IsKeptTable, IsRowUnder, IsStoredRule, only_secondary}

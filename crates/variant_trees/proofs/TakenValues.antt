@@ -13,7 +13,7 @@ use Rattle.long_value.specs.Values.{AreLong, Values, value_of}
 use Rattle.page_image.specs.Page.{Node}
 use Rattle.stored_variants.specs.PutRecords.{Keys}
 use Rattle.stored_variants.specs.RecordRows.{IsRecordRow, TableValues, row_under}
-use Rattle.table_trees.specs.StoredTables.{StoredTable, table_long_values, table_nodes}
+use Rattle.kept_rows.specs.table_trees.StoredTables.{StoredTable, table_long_values, table_nodes}
 use Rattle.version_store.specs.HeldChanges.{HeldChange}
 use Rattle.variant_trees.specs.GoneKeys.{AreRows, KeepsValues}
 use Rattle.variant_trees.specs.PutStages.{IsHalfPut}

@@ -9,10 +9,10 @@ use Rattle.index_derive.specs.declared.rules.Schema.{Schema}
 use Rattle.jet_catalog.specs.Catalog.{without_rows}
 use Rattle.long_value.specs.Values.{Values}
 use Rattle.page_image.specs.Page.{Node}
-use Rattle.table_trees.specs.StoredTables.{StoredTable, index_entries, table_indexes, table_long_values, table_nodes}
+use Rattle.kept_rows.specs.table_trees.StoredTables.{StoredTable, index_entries, table_indexes, table_long_values, table_nodes}
 use Rattle.version_store.specs.HeldChanges.{HeldChange}
-use Rattle.versioned_tables.specs.HeldRecords.{HeldRecord}
-use Rattle.versioned_tables.specs.Variants.{has_variant, is_variant_key}
+use Rattle.stored_variants.specs.versioned_tables.HeldRecords.{HeldRecord}
+use Rattle.stored_variants.specs.versioned_tables.Variants.{has_variant, is_variant_key}
 use Rattle.variant_trees.specs.GoneKeys.{KeepsValues, is_gone_key}
 use Rattle.stored_variants.specs.CountedValues.{AreCounted, BringsNoValue, newest_rows}
 use Rattle.stored_variants.specs.RecordRows.{TableValues, held_record_in, row_under, rows_of_nodes}

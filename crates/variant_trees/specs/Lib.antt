@@ -5,3 +5,4 @@ pub mod UndoneChanges
 pub mod LeftVariants
 pub mod NewEntries
 pub mod LostColumns
+pub use Rattle.kept_rows.specs as kept_rows

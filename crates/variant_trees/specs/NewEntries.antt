@@ -11,7 +11,7 @@ use Rattle.index_derive.specs.declared.rules.Schema.{Schema}
 use Rattle.index_derive.specs.Entries.{entries, is_legal}
 use Rattle.long_value.specs.Values.{Values}
 use Rattle.page_image.specs.Page.{Node}
-use Rattle.table_trees.specs.StoredTables.{StoredTable, without_index}
+use Rattle.kept_rows.specs.table_trees.StoredTables.{StoredTable, without_index}
 use Rattle.variant_trees.specs.GoneKeys.{ChangesEntries}
 use Rattle.stored_variants.specs.RecordRows.{IsRecordRow, record_of, row_in_node, row_under}
 

@@ -11,9 +11,9 @@ use Rattle.index_derive.specs.declared.rules.Schema.{Schema}
 use Rattle.kept_rows.specs.Sources.{row_given}
 use Rattle.long_references.specs.ReferenceCounts.{with_all_taken}
 use Rattle.long_rows.specs.KeptRows.{Found}
-use Rattle.table_trees.specs.StoredTables.{StoredTable, index_entries, table_indexes, table_long_values, table_nodes, has_index}
-use Rattle.versioned_tables.specs.HeldRecords.{HeldRecord}
-use Rattle.versioned_tables.specs.Variants.{is_variant_key}
+use Rattle.kept_rows.specs.table_trees.StoredTables.{StoredTable, index_entries, table_indexes, table_long_values, table_nodes, has_index}
+use Rattle.stored_variants.specs.versioned_tables.HeldRecords.{HeldRecord}
+use Rattle.stored_variants.specs.versioned_tables.Variants.{is_variant_key}
 use Rattle.btree_inplace.specs.Order.{extent_in, get_in}
 use Rattle.stored_variants.specs.PutRecords.{HasKeysOf, Keys}
 use Rattle.stored_variants.specs.RecordRows.{row_under}

@@ -5,8 +5,8 @@ ghost use Rattle.std.specs.List.{AllByRecursion};
 ghost use Rattle.database_state.specs.Conflicts.{yields_key};
 ghost use Rattle.derived_index.specs.KeptEntries.{has_entry};
 ghost use Rattle.index_derive.specs.Entries.{is_legal};
-ghost use Rattle.table_trees.specs.StoredTables.{index_entries, table_long_values, table_nodes};
-ghost use Rattle.versioned_tables.specs.Variants.{is_variant_key};
+ghost use Rattle.kept_rows.specs.table_trees.StoredTables.{index_entries, table_long_values, table_nodes};
+ghost use Rattle.stored_variants.specs.versioned_tables.Variants.{is_variant_key};
 ghost use Rattle.stored_variants.specs.PutRecords.{HasKeysOf};
 ghost use Rattle.stored_variants.specs.RecordRows.{some_before, IsRecordRow, record_of, row_under};
 ghost use Rattle.variant_trees.specs.GoneRecords.{CanRead, gone_fields};
@@ -17,8 +17,8 @@ use crate::nodes::{in_place, row_in_node};
 use index_derive::derive::yields;
 use index_derive::{IndexRule, Schema, entries_rise};
 use jet_base::{IndexId, TableId};
+use kept_rows::table_trees::{TableTrees, entries_after_a_change, indexes_after_a_change};
 use key_normal::Key;
-use table_trees::{TableTrees, entries_after_a_change, indexes_after_a_change};
 use version_store::Versions;
 
 /// Takes out of each index that has a tree of its own the keys of a record that goes, but for those that a variant of the

@@ -16,7 +16,7 @@ use Rattle.database_state.specs.Step.{entry_by, state_after, state_after_all}
 use Rattle.database_state.specs.Lawful.{is_lawful}
 use Rattle.record_changes.specs.Records.{records_of}
 use Rattle.version_history.specs.Readers.{found_record}
-use Rattle.version_sums.specs.EscrowSums.{amounts_to, escrow_value, seen_value, unseen_sums}
+use Rattle.version_keys.specs.version_sums.EscrowSums.{amounts_to, escrow_value, seen_value, unseen_sums}
 use Rattle.version_keys.specs.Variants.{is_key_held, is_variant_key, shown_entries}
 use Rattle.definition_examples.specs.States.{unique_rule, sample_table, fields, hidden_key}
 

@@ -20,3 +20,4 @@ pub mod OrderedTables
 pub mod LawfulCommits
 pub mod SumBefores
 pub mod EscrowSums
+pub use Rattle.version_sums.proofs as version_sums_proofs

@@ -36,9 +36,9 @@ use Rattle.version_history.specs.KeptSteps.{base_after, committed_own, dropped_a
 use Rattle.version_history.specs.Readers.{is_standing}
 use Rattle.version_history.proofs.EndEntries.{back}
 use Rattle.version_history.proofs.LawfulEntries.{keeps_lawful}
-use Rattle.version_sums.specs.EscrowNumbers.{IsOfItsType, holds_number, is_number, is_one_number}
-use Rattle.version_sums.proofs.Puts.{found_has}
-use Rattle.version_sums.proofs.VeryRecords.{one_value, sum_holds, sum_rises}
+use Rattle.version_keys.specs.version_sums.EscrowNumbers.{IsOfItsType, holds_number, is_number, is_one_number}
+use Rattle.version_keys.proofs.version_sums_proofs.Puts.{found_has}
+use Rattle.version_keys.proofs.version_sums_proofs.VeryRecords.{one_value, sum_holds, sum_rises}
 use Rattle.version_keys.proofs.KeysOfEntries.{changes_records}
 use Rattle.version_keys.proofs.SchemaKeys.{at_found, at_table, mapped_row, no_rows, other_column, other_values, with_last, without_table}
 use Rattle.version_keys.proofs.UniqueKept.{same_defined, same_tables}

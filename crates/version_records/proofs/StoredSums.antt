@@ -32,10 +32,10 @@ use Rattle.version_history.proofs.EndEntries.{back}
 use Rattle.version_history.proofs.Keeping.{some_map}
 use Rattle.version_history.proofs.LawfulEntries.{keeps_lawful}
 use Rattle.version_history.proofs.Lists.{all_both}
-use Rattle.version_sums.specs.EscrowNumbers.{ColumnsRise, holds_number, is_number}
-use Rattle.version_sums.proofs.Puts.{all_put, found_has, sum_put}
-use Rattle.version_sums.proofs.StoredSums.{values_seen}
-use Rattle.version_sums.proofs.VeryRecords.{one_value, sum_is_number}
+use Rattle.version_keys.specs.version_sums.EscrowNumbers.{ColumnsRise, holds_number, is_number}
+use Rattle.version_keys.proofs.version_sums_proofs.Puts.{all_put, found_has, sum_put}
+use Rattle.version_keys.proofs.version_sums_proofs.StoredSums.{values_seen}
+use Rattle.version_keys.proofs.version_sums_proofs.VeryRecords.{one_value, sum_is_number}
 use Rattle.version_records.specs.EachRecord.{EachRecordHas, HasBoth}
 use Rattle.version_records.specs.RecordNumbers.{AddsToEscrow, HasEscrowNumbers, HasItsType, HoldsNumbers}
 use Rattle.version_records.specs.StoredRecords.{IsStored, leaves_records_short}

@@ -23,8 +23,8 @@ use Rattle.version_history.specs.KeptSteps.{base_after, committed_own, dropped_a
 use Rattle.version_history.proofs.EndEntries.{back}
 use Rattle.version_history.proofs.Entries.{history_later}
 use Rattle.version_history.proofs.SeenRecords.{newest_records}
-use Rattle.version_sums.proofs.StoredRecord.{found_there}
-use Rattle.version_sums.proofs.UnhinderedSums.{unhindered_found}
+use Rattle.version_keys.proofs.version_sums_proofs.StoredRecord.{found_there}
+use Rattle.version_keys.proofs.version_sums_proofs.UnhinderedSums.{unhindered_found}
 use Rattle.version_keys.proofs.UniqueKept.{id_of}
 use Rattle.version_records.specs.Bookmarks.{TouchesRecord}
 use Rattle.version_records.proofs.EachRecord.{KeepsRecords, commit_keeps, lower_keeps, undone_keeps}

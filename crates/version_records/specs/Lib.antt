@@ -3,3 +3,5 @@ pub mod Bookmarks
 pub mod StoredRecords
 pub mod RecordNumbers
 pub mod SumBefores
+pub use Rattle.version_keys.specs as version_keys
+pub use Rattle.version_keys.specs.version_sums as version_sums

@@ -13,7 +13,7 @@ use Rattle.database_state.specs.Table.{Table, schema_of, table_with_id}
 use Rattle.database_state.specs.Changes.{changed_table}
 use Rattle.database_state.specs.State.{DatabaseState, PastChange}
 use Rattle.record_changes.specs.Records.{Records}
-use Rattle.version_sums.specs.EscrowNumbers.{ColumnsRise, IsOfItsType, holds_number}
+use Rattle.version_keys.specs.version_sums.EscrowNumbers.{ColumnsRise, IsOfItsType, holds_number}
 use Rattle.version_records.specs.EachRecord.{EachRecordHas}
 
 -- No escrow column of the table is multi-valued. An escrow column has a value in every record that fits, since the engine keeps it,

@@ -3,6 +3,8 @@
 //! it so. The functions do nothing: their contracts are the laws.
 #![tactic(auto)]
 
+pub use version_keys;
+
 mod bookmarks;
 mod numbers;
 mod stored;

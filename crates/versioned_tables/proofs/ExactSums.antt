@@ -11,8 +11,8 @@ use Rattle.database_state.specs.Changes.{changed_bookmark, changed_table, is_sum
 use Rattle.database_state.specs.State.{DatabaseState, PastChange, transaction_of}
 use Rattle.record_changes.specs.Records.{Records, record_after}
 use Rattle.version_history.specs.History.{IsPlaced}
-use Rattle.version_keys.specs.Variants.{HasNoSums}
-use Rattle.version_sums.proofs.VeryRecords.{very_record}
+use Rattle.version_records.specs.version_keys.Variants.{HasNoSums}
+use Rattle.version_records.proofs.version_sums_proofs.VeryRecords.{very_record}
 use Rattle.version_records.specs.EachRecord.{HasBoth}
 use Rattle.version_records.specs.RecordNumbers.{AddsToEscrow, HasEscrowNumbers, HoldsNumbers}
 use Rattle.version_records.proofs.EscrowRecords.{sum_keeps}

@@ -15,11 +15,11 @@ use Rattle.database_state.specs.View.{newest, view}
 use Rattle.record_changes.specs.Records.{Records, is_change_of, records_of}
 use Rattle.version_history.specs.Readers.{found_record, hides as hides_record, is_unseen as is_unseen_change, until}
 use Rattle.version_history.proofs.Viewing.{same_there}
-use Rattle.version_sums.specs.EscrowSums.{amounts_to, escrow_value, seen_value, sums_by as sums_by_change, unseen_sums as unseen_kept, with_sums}
-use Rattle.version_sums.proofs.StoredRecord.{found_with_sums}
-use Rattle.version_sums.proofs.StoredSums.{other_columns, value_without}
-use Rattle.version_keys.specs.KeySums.{SeesNoSum}
-use Rattle.version_keys.proofs.FoundKeys.{found_keys}
+use Rattle.version_records.specs.version_sums.EscrowSums.{amounts_to, escrow_value, seen_value, sums_by as sums_by_change, unseen_sums as unseen_kept, with_sums}
+use Rattle.version_records.proofs.version_sums_proofs.StoredRecord.{found_with_sums}
+use Rattle.version_records.proofs.version_sums_proofs.StoredSums.{other_columns, value_without}
+use Rattle.version_records.specs.version_keys.KeySums.{SeesNoSum}
+use Rattle.version_records.proofs.version_keys_proofs.FoundKeys.{found_keys}
 use Rattle.version_store.specs.HeldChanges.{kind_of}
 use Rattle.version_store.specs.declared.calls.Reader.{Reader}
 use Rattle.versioned_tables.specs.HeldRecords.{HeldRecord, hides, is_change_at, is_unseen, seen_record}

@@ -25,3 +25,6 @@ pub mod HeldSums
 pub mod ViewedRecords
 pub mod UnseenSums
 pub mod ShownIndexes
+pub use Rattle.version_records.proofs as version_records_proofs
+pub use Rattle.version_records.proofs.version_keys_proofs as version_keys_proofs
+pub use Rattle.version_records.proofs.version_sums_proofs as version_sums_proofs

@@ -14,8 +14,8 @@ use Rattle.database_state.specs.State.{DatabaseState, PastChange, transaction_of
 use Rattle.database_state.specs.Table.{Rows, entries_of_rule, index_entries, record_in, row_at, rows_of, rule_with_id, table_with_id}
 use Rattle.database_state.specs.View.{view}
 use Rattle.record_changes.specs.Records.{Records}
-use Rattle.version_sums.specs.EscrowSums.{with_sums}
-use Rattle.version_keys.specs.KeySums.{SeesNoSum}
+use Rattle.version_records.specs.version_sums.EscrowSums.{with_sums}
+use Rattle.version_records.specs.version_keys.KeySums.{SeesNoSum}
 use Rattle.version_store.specs.declared.calls.Reader.{Reader}
 use Rattle.versioned_tables.specs.HeldSums.{unseen_sums}
 use Rattle.versioned_tables.specs.VersionedTables.{VersionedTables, seen_tables}

@@ -13,7 +13,7 @@ use Rattle.index_derive.specs.Entries.{own_order}
 use Rattle.database_state.specs.Table.{Rows}
 use Rattle.database_state.specs.State.{DatabaseState}
 use Rattle.derived_index.proofs.PairOrder.{pair_lt-is}
-use Rattle.version_keys.specs.TableOrder.{HasTablesInOrder}
+use Rattle.version_records.specs.version_keys.TableOrder.{HasTablesInOrder}
 use Rattle.versioned_tables.specs.Holding.{AllRise, RowsRise}
 
 once : (r : Ordering) → is_lt r ≡ is_lt (ordering_then r r)

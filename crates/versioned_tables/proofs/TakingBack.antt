@@ -25,8 +25,8 @@ use Rattle.version_history.proofs.FoundRecord.{fold-at}
 use Rattle.version_history.proofs.Keeping.{undone_change as same_change}
 use Rattle.version_history.proofs.Undoing.{IsLastOf, made_last}
 use Rattle.version_history.proofs.Viewing.{same_there}
-use Rattle.version_keys.specs.Variants.{EachLeaves}
-use Rattle.version_keys.proofs.VariantKeys.{each_variant}
+use Rattle.version_records.specs.version_keys.Variants.{EachLeaves}
+use Rattle.version_records.proofs.version_keys_proofs.VariantKeys.{each_variant}
 use Rattle.version_store.specs.HeldChanges.{kind_of}
 use Rattle.versioned_tables.specs.HeldRecords.{HeldRecord, as_undone, inverse, inverse_of, undone_change}
 use Rattle.versioned_tables.specs.VersionedTables.{tables_taken_back}

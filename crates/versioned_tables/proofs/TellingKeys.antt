@@ -11,8 +11,8 @@ use Rattle.database_state.specs.Conflicts.{is_concurrent as is_concurrent_change
 use Rattle.record_changes.specs.Records.{Records, is_change_of, records_of}
 use Rattle.version_history.specs.History.{IsHistory}
 use Rattle.version_history.specs.Readers.{before_or as kept_before, is_rewrite as rewrites}
-use Rattle.version_keys.specs.KeySums.{HasKeyBefores, SeesNoSum}
-use Rattle.version_keys.specs.Variants.{is_key_held, is_standing_rewrite as is_kept_rewrite, next_variant as next_kept}
+use Rattle.version_records.specs.version_keys.KeySums.{HasKeyBefores, SeesNoSum}
+use Rattle.version_records.specs.version_keys.Variants.{is_key_held, is_standing_rewrite as is_kept_rewrite, next_variant as next_kept}
 use Rattle.version_store.specs.declared.calls.Reader.{Reader}
 use Rattle.version_store.specs.HeldChanges.{is_rewrite}
 use Rattle.versioned_tables.specs.HeldRecords.{HeldRecord, before_or, has_key_conflict, is_standing_rewrite, next_variant}

@@ -5,8 +5,8 @@ use Rattle.std.specs.Int.{w32, cast_signed, cast_unsigned, int_wrapping_sub}
 use Rattle.std.proofs.lemmas.Int.{of_z-to_z, to_z-of_z}
 use Rattle.std.proofs.Math.Facts.{Fits-of_z}
 use Rattle.version_history.specs.Readers.{until}
-use Rattle.version_sums.specs.EscrowSums.{amounts_to, seen_value}
-use Rattle.version_sums.proofs.StoredSums.{minus, signed_minus}
+use Rattle.version_records.specs.version_sums.EscrowSums.{amounts_to, seen_value}
+use Rattle.version_records.proofs.version_sums_proofs.StoredSums.{minus, signed_minus}
 use Rattle.version_store.specs.declared.calls.ChangeKind.{ChangeKind}
 use Rattle.version_store.specs.declared.calls.ChangeKind.TheVariants as kind
 use Rattle.version_store.specs.declared.calls.Reader.{Reader}

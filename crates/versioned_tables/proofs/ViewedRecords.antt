@@ -18,11 +18,11 @@ use Rattle.record_changes.specs.Records.{Records, is_change_of, records_of}
 use Rattle.record_changes.proofs.Sums.{sums_commute}
 use Rattle.version_history.specs.Readers.{hides as hides_record, is_unseen as is_unseen_change, until}
 use Rattle.version_history.proofs.Viewing.{same_there}
-use Rattle.version_sums.specs.EscrowNumbers.{ColumnsRise, holds_number}
-use Rattle.version_sums.specs.EscrowSums.{amounts_to, escrow_value, seen_value, sums_by as sums_by_change, unseen_sums as unseen_kept, with_sums}
-use Rattle.version_sums.proofs.StoredRecord.{found_with_sums}
-use Rattle.version_sums.proofs.StoredSums.{all_sums, minus, number_in, other_columns, plus, signed_minus}
-use Rattle.version_sums.proofs.VeryRecords.{very_record}
+use Rattle.version_records.specs.version_sums.EscrowNumbers.{ColumnsRise, holds_number}
+use Rattle.version_records.specs.version_sums.EscrowSums.{amounts_to, escrow_value, seen_value, sums_by as sums_by_change, unseen_sums as unseen_kept, with_sums}
+use Rattle.version_records.proofs.version_sums_proofs.StoredRecord.{found_with_sums}
+use Rattle.version_records.proofs.version_sums_proofs.StoredSums.{all_sums, minus, number_in, other_columns, plus, signed_minus}
+use Rattle.version_records.proofs.version_sums_proofs.VeryRecords.{very_record}
 use Rattle.version_records.specs.RecordNumbers.{AddsToEscrow, HasEscrowNumbers, HoldsNumbers}
 use Rattle.version_records.proofs.EscrowRecords.{numbers_seen}
 use Rattle.version_store.specs.declared.calls.Reader.{Reader}

@@ -11,7 +11,7 @@ use Rattle.version_history.specs.History.{IsBegun, IsHistory, without_rows}
 use Rattle.version_history.specs.Readers.{found_record}
 use Rattle.version_history.proofs.EndEntries.{same_definitions}
 use Rattle.version_history.proofs.Viewing.{same_there}
-use Rattle.version_keys.specs.Variants.{HasNoSums}
+use Rattle.version_records.specs.version_keys.Variants.{HasNoSums}
 use Rattle.version_store.specs.declared.calls.Reader.{Reader}
 use Rattle.versioned_tables.specs.HeldRecords.{HeldRecord, seen_record}
 use Rattle.versioned_tables.specs.VersionedTables.{VersionedTables, seen_table, seen_tables}

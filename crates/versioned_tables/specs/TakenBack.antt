@@ -2,7 +2,7 @@
 use Rattle.std.specs.Prelude.{List, ◌⊎◌}
 use Rattle.database_state.specs.State.{DatabaseState, PastChange}
 use Rattle.record_changes.specs.Records.{Records}
-use Rattle.version_keys.specs.Variants.{HasNoSums}
+use Rattle.version_records.specs.version_keys.Variants.{HasNoSums}
 use Rattle.version_records.specs.RecordNumbers.{HasEscrowNumbers}
 
 -- No escrow column was changed, or each holds a number in every record: then the opposite sum gives the very record back. Every

@@ -1,7 +1,7 @@
 -- The record that a reader views, where escrow columns were changed by others.
 use Rattle.std.specs.Prelude.{ℕ, ℤ, neg_ℤ, List, map, Option, option_map}
 use Rattle.column_set.specs.RecordValues.{RecordFields}
-use Rattle.version_sums.specs.EscrowSums.{with_sums}
+use Rattle.version_records.specs.version_sums.EscrowSums.{with_sums}
 use Rattle.version_store.specs.declared.calls.Reader.{Reader}
 use Rattle.versioned_tables.specs.HeldRecords.{HeldRecord, seen_record}
 use Rattle.versioned_tables.specs.HeldSums.{unseen_sums}

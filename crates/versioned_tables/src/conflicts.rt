@@ -9,7 +9,7 @@ ghost use Rattle.database_state.specs.State.{DatabaseState, LiveSession, PastCha
 ghost use Rattle.database_state.specs.VersionStore.{is_needed, version_span};
 ghost use Rattle.record_changes.specs.Records.{Records, records_of};
 ghost use Rattle.version_history.specs.History.{EachTwo, LabelsRise};
-ghost use Rattle.version_keys.specs.KeySums.{HasKeyBefores, SeesNoSum};
+ghost use Rattle.version_records.specs.version_keys.KeySums.{HasKeyBefores, SeesNoSum};
 ghost use Rattle.version_store.specs.declared.calls.Reader.{Reader};
 ghost use Rattle.version_store.specs.HeldChanges.{is_kept_status};
 ghost use Rattle.versioned_tables.specs.HeldRecords.{HeldRecord, has_conflict, has_key_conflict, span};

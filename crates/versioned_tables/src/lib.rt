@@ -2,6 +2,9 @@
 //! it sees. The functions do nothing: their contracts are the laws.
 #![tactic(auto)]
 
+pub use version_records;
+pub use version_records::version_keys;
+
 mod conflicts;
 mod examples;
 mod one_by_one;

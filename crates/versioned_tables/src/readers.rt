@@ -5,7 +5,7 @@ ghost use Rattle.database_state.specs.State.{DatabaseState, PastChange, transact
 ghost use Rattle.database_state.specs.Table.{Rows, record_in, row_at, table_with_id};
 ghost use Rattle.database_state.specs.View.{view};
 ghost use Rattle.record_changes.specs.Records.{Records};
-ghost use Rattle.version_keys.specs.Variants.{HasNoSums};
+ghost use Rattle.version_records.specs.version_keys.Variants.{HasNoSums};
 ghost use Rattle.version_store.specs.declared.calls.Reader.{Reader};
 ghost use Rattle.versioned_tables.specs.HeldRecords.{HeldRecord, seen_record};
 ghost use Rattle.versioned_tables.specs.VersionedTables.{VersionedTables, seen_rows, seen_tables};

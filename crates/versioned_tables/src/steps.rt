@@ -20,7 +20,7 @@ ghost use Rattle.database_state.specs.Lawful.{is_lawful};
 ghost use Rattle.record_changes.specs.Records.{Records, after_item, records_of};
 ghost use Rattle.version_history.specs.KeptSteps.{new_change, committed_own, is_own_open, lowered_own, undone_where, with_next_number};
 ghost use Rattle.version_history.specs.Readers.{is_standing};
-ghost use Rattle.version_keys.specs.TableOrder.{HasTablesInOrder};
+ghost use Rattle.version_records.specs.version_keys.TableOrder.{HasTablesInOrder};
 ghost use Rattle.version_store.specs.declared.calls.By.{By};
 ghost use Rattle.versioned_tables.specs.HeldRecords.{is_open_at, is_open_of};
 ghost use Rattle.versioned_tables.specs.VersionedTables.{VersionedTables, leaves_tables, with_change, with_changes_undone, with_level_released, with_schema_step, with_session_committed, without_oldest};

@@ -10,8 +10,8 @@ ghost use Rattle.database_state.specs.State.{DatabaseState, PastChange, transact
 ghost use Rattle.database_state.specs.Table.{index_entries, record_in, rows_of, table_with_id};
 ghost use Rattle.database_state.specs.View.{view};
 ghost use Rattle.record_changes.specs.Records.{Records};
-ghost use Rattle.version_sums.specs.EscrowSums.{amounts_to, escrow_value, seen_value, with_sums};
-ghost use Rattle.version_keys.specs.KeySums.{SeesNoSum};
+ghost use Rattle.version_records.specs.version_sums.EscrowSums.{amounts_to, escrow_value, seen_value, with_sums};
+ghost use Rattle.version_records.specs.version_keys.KeySums.{SeesNoSum};
 ghost use Rattle.version_store.specs.declared.calls.Reader.{Reader};
 ghost use Rattle.versioned_tables.specs.HeldSums.{unseen_sums};
 ghost use Rattle.versioned_tables.specs.VersionedTables.{VersionedTables, seen_tables};

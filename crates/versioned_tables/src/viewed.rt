@@ -12,7 +12,7 @@ ghost use Rattle.version_records.specs.RecordNumbers.{HasEscrowNumbers};
 ghost use Rattle.version_store.specs.declared.calls.Reader.{Reader};
 ghost use Rattle.version_store.specs.HeldChanges.{HeldChange};
 ghost use Rattle.version_store.specs.Sums.{unseen_sum};
-ghost use Rattle.version_sums.specs.EscrowSums.{amounts_to, escrow_value, seen_value};
+ghost use Rattle.version_records.specs.version_sums.EscrowSums.{amounts_to, escrow_value, seen_value};
 ghost use Rattle.versioned_tables.specs.HeldRecords.{HeldRecord, seen_record};
 ghost use Rattle.versioned_tables.specs.HeldSums.{IsSameChange, unseen_sums};
 ghost use Rattle.versioned_tables.specs.Holding.{Holds, begin_of};

@@ -1,7 +1,7 @@
 use Rattle.std.proofs.Common.{◌≡◌, Bool, sym, ap, subst, ◌∙◌}
 use Rattle.index_derive.specs.declared.log.Step.{Step}
-use Rattle.engine_versions.specs.EngineState.{EngineState}
-use Rattle.engine_versions.specs.EngineSteps.{cleaned_for, step_cleans}
+use Rattle.loggable_steps.specs.engine_versions.EngineState.{EngineState}
+use Rattle.loggable_steps.specs.engine_versions.EngineSteps.{cleaned_for, step_cleans}
 use Rattle.engine_steps.specs.Steps.{IsSettledForStep}
 use Rattle.engine_steps.proofs.applying.apply.Goals as goal
 use Rattle.engine_steps.proofs.applying.apply.Goals.{then-cleans, else-cleans}

@@ -1,5 +1,5 @@
 use Rattle.std.proofs.Common.{sym, subst}
-use Rattle.engine_versions.specs.EngineState.{HasRoomForEnds}
+use Rattle.loggable_steps.specs.engine_versions.EngineState.{HasRoomForEnds}
 use Rattle.engine_steps.proofs.applying.apply_alone.Goals as goal
 
 pub apply_entry-requires-clause-room : goal.apply_entry-requires-clause-room

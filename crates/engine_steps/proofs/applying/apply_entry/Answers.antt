@@ -2,7 +2,7 @@ use Rattle.std.proofs.Common.{◌≡◌, ℕ, sym, subst}
 use Rattle.std.specs.Prelude.{Result, Ok, Err, OnOk}
 use Rattle.index_derive.specs.declared.log.EntryKind.{EntryKind}
 use Rattle.index_derive.specs.declared.log.EntryKind.TheVariants as entry
-use Rattle.engine_versions.specs.EngineSteps.{effect_on}
+use Rattle.loggable_steps.specs.engine_versions.EngineSteps.{effect_on}
 use Rattle.engine_steps.specs.Steps.{MayCome}
 use Rattle.engine_steps.proofs.applying.apply_entry.Goals as goal
 use Rattle.database_state.specs.Step.{entry_by}

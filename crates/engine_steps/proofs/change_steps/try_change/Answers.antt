@@ -2,9 +2,9 @@ use Rattle.std.proofs.Common.{◌≡◌, ℕ, sym, ap, subst}
 use Rattle.std.specs.Prelude.{Result, OnOk}
 use Rattle.column_set.specs.declared.changes.Change.{Change}
 use Rattle.version_store.specs.declared.calls.By.{By}
-use Rattle.versioned_tables.specs.VersionedTables.{with_change}
-use Rattle.stored_variants.specs.StoredVersions.{StoredVersions}
-use Rattle.engine_versions.specs.EngineSteps.{newest_with}
+use Rattle.loggable_steps.specs.versioned_tables.VersionedTables.{with_change}
+use Rattle.engine_parts.specs.stored_variants.StoredVersions.{StoredVersions}
+use Rattle.loggable_steps.specs.engine_versions.EngineSteps.{newest_with}
 use Rattle.engine_steps.specs.Changing.{changed}
 use Rattle.engine_steps.proofs.change_steps.try_change.Goals as goal
 

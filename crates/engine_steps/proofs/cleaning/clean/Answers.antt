@@ -1,7 +1,7 @@
 use Rattle.std.proofs.Common.{ℕ, Option, sym, subst}
-use Rattle.engine_versions.specs.EngineState.{EngineState}
-use Rattle.engine_versions.specs.HoldsState.{HoldsState}
-use Rattle.stored_variants.specs.StoredVersions.{StoredVersions}
+use Rattle.loggable_steps.specs.engine_versions.EngineState.{EngineState}
+use Rattle.loggable_steps.specs.engine_versions.HoldsState.{HoldsState}
+use Rattle.engine_parts.specs.stored_variants.StoredVersions.{StoredVersions}
 use Rattle.engine_steps.specs.Cleans.{AreUnneeded, CanGo}
 use Rattle.engine_steps.proofs.cleaning.clean.Goals as goal
 

@@ -2,9 +2,9 @@ use Rattle.std.proofs.Common.{◌≡◌, ℕ, ◌-◌, ◌&&◌, true, List, ref
 use Rattle.std.specs.Prelude.{drop, is_some, nat_lt}
 use Rattle.common_lemmas.proofs.Booleans.{and_left, and_right}
 use Rattle.record_changes.proofs.Tests.{and_second}
-use Rattle.versioned_tables.specs.HeldRecords.{HeldRecord}
-use Rattle.versioned_tables.specs.VersionedTables.{without_oldest}
-use Rattle.stored_variants.specs.StoredVersions.{StoredVersions, next_to_forget}
+use Rattle.loggable_steps.specs.versioned_tables.HeldRecords.{HeldRecord}
+use Rattle.loggable_steps.specs.versioned_tables.VersionedTables.{without_oldest}
+use Rattle.engine_parts.specs.stored_variants.StoredVersions.{StoredVersions, next_to_forget}
 use Rattle.engine_steps.specs.Cleans.{AreUnneeded}
 use Rattle.engine_steps.proofs.GivenUp.{drop_later, fewer_left, kept_is, minus_none, more_unneeded, none_yet, one_more, one_within, some_held, some_left}
 use Rattle.engine_steps.proofs.cleaning.forget_first.Goals as goal

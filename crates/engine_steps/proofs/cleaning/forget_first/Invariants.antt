@@ -1,6 +1,6 @@
 use Rattle.std.proofs.Common.{◌≡◌, ◌≤◌, ◌-◌, ◌&&◌}
 use Rattle.std.specs.Prelude.{is_some, nat_lt}
-use Rattle.stored_variants.specs.StoredVersions.{next_to_forget}
+use Rattle.engine_parts.specs.stored_variants.StoredVersions.{next_to_forget}
 use Rattle.engine_steps.specs.Cleans.{AreUnneeded, without_first}
 use Rattle.engine_steps.proofs.cleaning.forget_first.Given as goal
 

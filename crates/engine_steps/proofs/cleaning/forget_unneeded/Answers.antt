@@ -1,6 +1,6 @@
 use Rattle.std.proofs.Common.{◌<◌, List, length, refl, sym, ap, subst, ◌∙◌}
-use Rattle.versioned_tables.specs.HeldRecords.{HeldRecord}
-use Rattle.stored_variants.specs.StoredVersions.{StoredVersions}
+use Rattle.loggable_steps.specs.versioned_tables.HeldRecords.{HeldRecord}
+use Rattle.engine_parts.specs.stored_variants.StoredVersions.{StoredVersions}
 use Rattle.engine_steps.specs.Cleans.{without_unneeded}
 use Rattle.engine_steps.proofs.GivenUp.{all_kept, fewer_held, kept_later, some_held}
 use Rattle.engine_steps.proofs.cleaning.forget_unneeded.Goals as goal

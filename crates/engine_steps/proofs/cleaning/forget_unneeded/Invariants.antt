@@ -1,6 +1,6 @@
 use Rattle.std.proofs.Common.{◌≡◌, length}
 use Rattle.std.specs.Prelude.{is_some}
-use Rattle.stored_variants.specs.StoredVersions.{next_to_forget}
+use Rattle.engine_parts.specs.stored_variants.StoredVersions.{next_to_forget}
 use Rattle.engine_steps.specs.Cleans.{without_unneeded}
 use Rattle.engine_steps.proofs.cleaning.forget_unneeded.Given as goal
 

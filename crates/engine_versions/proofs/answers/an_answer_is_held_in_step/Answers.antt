@@ -1,10 +1,10 @@
 use Rattle.database_state.specs.Step.{state_after_all}
 use Rattle.derived_index.proofs.KeysRise.{keys_rise}
 use Rattle.index_derive.specs.Steps.{entries_of_step}
-use Rattle.version_keys.proofs.OneEntry.{one_entry}
+use Rattle.versioned_tables.proofs.version_keys_proofs.OneEntry.{one_entry}
 use Rattle.session_local.specs.Calls.{answer}
 use Rattle.session_local.specs.Outcome.{Asked}
-use Rattle.lawful_answers.proofs.TypedAnswers.{answer_typed}
+use Rattle.agreeing_sessions.proofs.lawful_answers_proofs.TypedAnswers.{answer_typed}
 use Rattle.engine_versions.specs.HoldsState.{asked_of}
 use Rattle.engine_versions.proofs.Answering.{all_held_after, answer_in_step, answer_lawful, held_after, room_after}
 use Rattle.engine_versions.proofs.Replies.{answer_built, answer_own, built_amount}

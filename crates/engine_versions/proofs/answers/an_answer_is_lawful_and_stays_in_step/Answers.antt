@@ -1,5 +1,5 @@
 use Rattle.derived_index.proofs.KeysRise.{keys_rise}
-use Rattle.version_keys.proofs.OneEntry.{one_entry}
+use Rattle.versioned_tables.proofs.version_keys_proofs.OneEntry.{one_entry}
 use Rattle.engine_versions.proofs.Answering.{answer_in_step, answer_lawful}
 use Rattle.engine_versions.proofs.answers.an_answer_is_lawful_and_stays_in_step.Goals as goal
 

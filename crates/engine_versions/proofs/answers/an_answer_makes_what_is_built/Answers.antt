@@ -1,5 +1,5 @@
 use Rattle.engine_versions.specs.HoldsState.{asked_of}
-use Rattle.lawful_answers.proofs.TypedAnswers.{answer_typed}
+use Rattle.agreeing_sessions.proofs.lawful_answers_proofs.TypedAnswers.{answer_typed}
 use Rattle.engine_versions.proofs.Replies.{answer_built, answer_own, built_amount}
 use Rattle.engine_versions.proofs.answers.an_answer_makes_what_is_built.Goals as goal
 

@@ -2,7 +2,7 @@ use Rattle.std.proofs.Common.{sym, ap, ◌∙◌}
 use Rattle.version_cleanup.specs.Cleaning.{reader_in}
 use Rattle.version_cleanup.specs.LiveSessions.{oldest_begin}
 use Rattle.versioned_tables.specs.HeldRecords.{span}
-use Rattle.version_keys.proofs.KeyConflicts.{key_conflict_by_variants}
+use Rattle.versioned_tables.proofs.version_keys_proofs.KeyConflicts.{key_conflict_by_variants}
 use Rattle.versioned_tables.proofs.Telling.{conflict_is_told, span_is_told}
 use Rattle.engine_versions.proofs.Sessions.{oldest_alike}
 use Rattle.engine_versions.proofs.Telling.{begin_told, keys_told}

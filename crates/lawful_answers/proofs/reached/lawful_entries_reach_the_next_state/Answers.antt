@@ -1,4 +1,4 @@
-use Rattle.version_keys.proofs.OneEntry.{one_entry}
+use Rattle.version_records.proofs.version_keys_proofs.OneEntry.{one_entry}
 use Rattle.lawful_answers.proofs.ReachedStates.{reaches, reaches_all}
 use Rattle.lawful_answers.proofs.reached.lawful_entries_reach_the_next_state.Goals as goal
 

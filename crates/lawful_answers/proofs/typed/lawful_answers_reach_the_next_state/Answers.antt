@@ -1,6 +1,6 @@
 use Rattle.index_derive.specs.Steps.{entries_of_step}
 use Rattle.session_local.specs.Calls.{answer}
-use Rattle.version_keys.proofs.OneEntry.{one_entry}
+use Rattle.version_records.proofs.version_keys_proofs.OneEntry.{one_entry}
 use Rattle.lawful_answers.proofs.ReachedStates.{reaches_all}
 use Rattle.lawful_answers.proofs.TypedAnswers.{answer_typed}
 use Rattle.lawful_answers.proofs.typed.lawful_answers_reach_the_next_state.Goals as goal

@@ -11,9 +11,9 @@ use Rattle.index_derive.specs.Entries.{is_escrow_column}
 use Rattle.session_local.specs.declared.request.Request.TheVariants as call
 use Rattle.session_local.specs.Local.{OpenCursor, cursor_labelled}
 use Rattle.session_local.specs.SessionSide.{SessionSide}
-use Rattle.version_sums.specs.EscrowSums.{escrow_value}
-use Rattle.engine_versions.specs.EngineState.{EngineState}
-use Rattle.engine_parts.specs.Deciding.{Decides, IsBeside, IsDecision}
+use Rattle.decision_lemmas.specs.version_sums.EscrowSums.{escrow_value}
+use Rattle.decision_lemmas.specs.engine_versions.EngineState.{EngineState}
+use Rattle.decision_lemmas.specs.engine_parts.Deciding.{Decides, IsBeside, IsDecision}
 use Rattle.record_decisions.specs.Changing.{step_by}
 use Rattle.record_decisions.specs.EscrowUpdates.{place_in, sum_at, sum_in}
 use Rattle.record_decisions.specs.Preparing.{values_seen}

@@ -6,7 +6,7 @@ use Rattle.session_local.specs.declared.decision.Decision.{Decision}
 use Rattle.session_local.specs.declared.request.Request.TheVariants as call
 use Rattle.session_local.specs.Preparing.{update_of}
 use Rattle.session_local.specs.RecordCalls.{hold_at}
-use Rattle.engine_parts.specs.Deciding.{Decides, IsDecision, IsLawfulStep}
+use Rattle.decision_lemmas.specs.engine_parts.Deciding.{Decides, IsDecision, IsLawfulStep}
 use Rattle.record_decisions.specs.Changing.{step_by}
 use Rattle.record_decisions.specs.Preparing.{replace_in, replace_of}
 use Rattle.record_decisions.proofs.LocksAndDeletes.{changed_by, made-as}

@@ -3,8 +3,8 @@ use Rattle.std.specs.Prelude.{OnOk}
 use Rattle.index_derive.specs.declared.log.Step.{Step}
 use Rattle.index_derive.specs.declared.log.Step.TheVariants.{One}
 use Rattle.database_state.specs.State.{empty_state}
-use Rattle.engine_versions.specs.EngineState.{EngineState, HasRoomForEnds, empty_engine}
-use Rattle.engine_steps.specs.Steps.{MayTake}
+use Rattle.logged_engine.specs.engine_versions.EngineState.{EngineState, HasRoomForEnds, empty_engine}
+use Rattle.logged_engine.specs.engine_steps.Steps.{MayTake}
 use Rattle.tests_logged.proofs.Entering.{first, first_is_lawful, holds_next, may_enter}
 use Rattle.tests_logged.proofs.first_entries.entered.Goals as goal
 

@@ -6,7 +6,7 @@ use Rattle.long_references.proofs.Taken.{ValueLaws}
 use Rattle.long_value.specs.Values.{Values, value_of}
 use Rattle.stored_variants.proofs.Dropped.{has_trees}
 use Rattle.stored_variants.proofs.Tables.{newest_is_row}
-use Rattle.table_trees.specs.StoredTables.{table_long_values}
+use Rattle.kept_rows.specs.table_trees.StoredTables.{table_long_values}
 use Rattle.variant_trees.proofs.UndoneThere.{spelled_row}
 use Rattle.variant_trees.proofs.Forgotten.{IsOldest, IsTaken, are_rows, first_empty, first_fallen, first_within, nothing_forgotten, oldest_counted, oldest_is, oldest_leaves, oldest_named, oldest_taken, oldest_there}
 use Rattle.variant_trees.proofs.Released.{Releases, no_value_came, still_held, still_kept, still_shown}

@@ -1,7 +1,7 @@
 use Rattle.std.proofs.Common.{◌≡◌, ◌≤◌, ℕ, List, Some, length, refl, sym, ap, subst, ◌∙◌}
 use Rattle.column_set.specs.RowReading.{row_in}
-use Rattle.table_trees.specs.StoredNodes.{node_after}
-use Rattle.table_trees.specs.StoredTables.{table_long_values, table_nodes}
+use Rattle.kept_rows.specs.table_trees.StoredNodes.{node_after}
+use Rattle.kept_rows.specs.table_trees.StoredTables.{table_long_values, table_nodes}
 use Rattle.std.specs.Prelude.{option_and_then}
 use Rattle.long_references.specs.ReferenceCounts.{NamesNoOther}
 use Rattle.variant_trees.specs.LostColumns.{row_without}

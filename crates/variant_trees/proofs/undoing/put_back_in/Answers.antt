@@ -8,7 +8,7 @@ use Rattle.long_references.proofs.Taken.{ValueLaws}
 use Rattle.long_value.specs.Values.{Values, value_of}
 use Rattle.stored_variants.proofs.Dropped.{has_trees}
 use Rattle.stored_variants.specs.RecordRows.{row_under}
-use Rattle.table_trees.specs.StoredTables.{table_long_values, table_nodes}
+use Rattle.kept_rows.specs.table_trees.StoredTables.{table_long_values, table_nodes}
 use Rattle.version_store.specs.HeldChanges.{HeldChange, with_status}
 use Rattle.variant_trees.proofs.OpenUndone.{place_now, was_undone}
 use Rattle.variant_trees.proofs.Released.{Releases}

@@ -1,4 +1,4 @@
-use Rattle.version_keys.proofs.FoundKeys.{found_without_sums}
+use Rattle.version_records.proofs.version_keys_proofs.FoundKeys.{found_without_sums}
 use Rattle.versioned_tables.proofs.Views.{is_shown}
 use Rattle.versioned_tables.proofs.readers.a_session_is_shown_its_view.Goals as goal
 

@@ -5,7 +5,7 @@ use Rattle.database_state.specs.Table.{table_named}
 use Rattle.session_local.specs.declared.decision.Decision.{Decision}
 use Rattle.session_local.specs.declared.request.Request.TheVariants as call
 use Rattle.session_local.specs.SessionSide.{SessionSide}
-use Rattle.stored_variants.specs.StoredVersions.{StoredVersions}
+use Rattle.table_versions.specs.stored_variants.StoredVersions.{StoredVersions}
 use Rattle.engine_versions.specs.EngineState.{EngineState}
 use Rattle.engine_parts.specs.Deciding.{Decides, IsDecision}
 use Rattle.engine_parts.specs.Parts.{tables_of}

@@ -1,8 +1,8 @@
 use Rattle.std.proofs.Common.{◌≡◌, List, w32, rules, of_z, to_z, ap, ◌∙◌}
 use Rattle.std.specs.Prelude.{ℤ}
 use Rattle.version_store.specs.declared.calls.Reader.{Reader}
-use Rattle.version_sums.specs.EscrowSums.{amounts_to, escrow_value, seen_value}
-use Rattle.versioned_tables.specs.HeldSums.{unseen_sums}
+use Rattle.engine_versions.specs.version_sums.EscrowSums.{amounts_to, escrow_value, seen_value}
+use Rattle.engine_versions.specs.versioned_tables.HeldSums.{unseen_sums}
 use Rattle.engine_versions.specs.EngineState.{EngineState}
 use Rattle.engine_parts.specs.Reading.{unseen_amounts}
 use Rattle.engine_parts.proofs.engine.Engine.seen_sum.Goals as goal

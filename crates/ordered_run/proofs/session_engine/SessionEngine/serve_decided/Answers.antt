@@ -7,7 +7,7 @@ use Rattle.session_local.specs.Run.{RunState, asked_in}
 use Rattle.script_transcript.specs.TranscriptLine.{NamesNoMore}
 use Rattle.run_sessions.specs.declared.sessions.RunSession.{RunSession}
 use Rattle.run_sessions.specs.Sessions.{session_at, with_local}
-use Rattle.engine_versions.specs.EngineState.{EngineState}
+use Rattle.engine_core.specs.engine_versions.EngineState.{EngineState}
 use Rattle.engine_core.specs.Runs.{HoldsRun}
 use Rattle.ordered_run.proofs.SessionCalls.{WasMade, decided-goes_on, takes_some_by_step, told_after}
 use Rattle.ordered_run.proofs.SessionRuns.{goes_on-none}

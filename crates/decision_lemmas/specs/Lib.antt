@@ -1,0 +1,11 @@
+pub use Rattle.engine_parts.specs as engine_parts
+pub use Rattle.engine_parts.specs.stored_variants as stored_variants
+pub use Rattle.engine_parts.specs.table_versions as table_versions
+pub use Rattle.engine_versions.specs as engine_versions
+pub use Rattle.engine_versions.specs.agreeing_sessions as agreeing_sessions
+pub use Rattle.engine_versions.specs.built_calls as built_calls
+pub use Rattle.engine_versions.specs.lawful_answers as lawful_answers
+pub use Rattle.engine_versions.specs.version_keys as version_keys
+pub use Rattle.engine_versions.specs.version_records as version_records
+pub use Rattle.engine_versions.specs.version_sums as version_sums
+pub use Rattle.engine_versions.specs.versioned_tables as versioned_tables
