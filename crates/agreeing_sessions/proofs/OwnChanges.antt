@@ -21,7 +21,8 @@ use Rattle.index_derive.specs.declared.log.EntryKind.TheVariants as entry
 use Rattle.index_derive.specs.declared.log.Step.TheVariants.{Alone, One}
 use Rattle.index_derive.specs.Steps.{entries_of_step}
 use Rattle.database_state.specs.Table.{Table, row_at, rows_of, table_with_id}
-use Rattle.database_state.specs.Changes.{changed_bookmark, changed_table, escrow_bytes, rows_after, tables_after, tables_after_all, without_copied}
+use Rattle.database_state.specs.Changes.{escrow_bytes, rows_after, tables_after, tables_after_all, without_copied}
+use Rattle.column_set.specs.ChangedRecords.{changed_bookmark, changed_table}
 use Rattle.database_state.specs.State.{DatabaseState, PastChange, Transaction, change_of, is_open_change_of, levels_of, open_changes_of, transaction_of}
 use Rattle.database_state.specs.View.{view, view_in}
 use Rattle.database_state.specs.Step.{applied, state_after, state_after_all}

@@ -11,3 +11,4 @@ pub mod Refusals
 pub mod Shared
 pub mod HeldValues
 pub mod NameIndex
+pub mod ChangedRecords

@@ -4,6 +4,7 @@ ghost use Rattle.std.specs.Prelude.{◌≡◌, IfOk, Some, refl, bytes_eq};
 ghost use Rattle.std.specs.Ordering.{nat_cmp};
 ghost use Rattle.std.specs.Cmp.{partial_equiv_from_equiv};
 ghost use Rattle.std.specs.Cmp.Lexicographic.{slice_cmp, nat_list_eq_equiv, nat_list_cmp_total, texts_ties, texts_po};
+ghost use Rattle.column_set.specs.ChangedRecords.{changed_bookmark, changed_table};
 
 use crate::records::Record;
 use jet_base::{ColumnId, OutOfMemory, SmallBytes, TableId};
@@ -136,4 +137,30 @@ pub enum Change {
         column: ColumnId,
         amount: i32,
     },
+}
+
+impl Change {
+    /// The table of the record that it changes.
+    pub fn table(&self) -> TableId
+        ensures { result.0 ≡ changed_table self.now }
+    {
+        match self {
+            Change::Put { table, .. }
+            | Change::Drop { table, .. }
+            | Change::Hold { table, .. }
+            | Change::Add { table, .. } => *table,
+        }
+    }
+
+    /// What the record that it changes is found by.
+    pub fn bookmark(&self) -> &Bookmark
+        ensures { result.now ≡ changed_bookmark self.now }
+    {
+        match self {
+            Change::Put { bookmark, .. }
+            | Change::Drop { bookmark, .. }
+            | Change::Hold { bookmark, .. }
+            | Change::Add { bookmark, .. } => bookmark,
+        }
+    }
 }

@@ -17,16 +17,6 @@ use key_normal::{Key, KeyMaker, Part};
 use stored_value::{fits, stored_front};
 
 impl Cursor {
-    /// Whether the keys of the current index have 255 bytes at most, as `make_key` asks.
-    pub fn has_short_keys(&self, schema: &Schema) -> bool
-        ensures { result ≡ has_short_keys (rule_of_cursor self.now schema.now) }
-    {
-        match self.rule(schema) {
-            Some(rule) => rule.key_most <= 255,
-            None => true,
-        }
-    }
-
     /// Makes the first segment of a key in the current index, or without `fresh` the next one. The index's keys have
     /// 255 bytes at most.
     ///

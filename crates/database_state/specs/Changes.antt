@@ -3,20 +3,9 @@ use Rattle.std.specs.Prelude.{ℕ, ◌+◌, ◌%◌, ◌^◌, Bool, true, false,
 use Rattle.std.specs.Int.{w32, to_le_bytes, from_le_bytes, cast_unsigned}
 use Rattle.column_set.specs.declared.changes.Change.{Change}
 use Rattle.column_set.specs.declared.changes.Change.TheVariants.{Put, Drop, Hold, Add}
+use Rattle.column_set.specs.ChangedRecords.{changed_table, changed_bookmark}
 use Rattle.column_set.specs.RecordValues.{RecordFields, values_of, with_values}
 use Rattle.database_state.specs.Table.{Table, Rows, row_at, with_row, without_row, with_table}
-
-abbrev pub changed_table : Change → ℕ
-changed_table (Put table bookmark copied values) = table.0
-changed_table (Drop table bookmark) = table.0
-changed_table (Hold table bookmark) = table.0
-changed_table (Add table bookmark column amount) = table.0
-
-abbrev pub changed_bookmark : Change → List ℕ
-changed_bookmark (Put table bookmark copied values) = bookmark
-changed_bookmark (Drop table bookmark) = bookmark
-changed_bookmark (Hold table bookmark) = bookmark
-changed_bookmark (Add table bookmark column amount) = bookmark
 
 -- a put without the bookmark that it was copied from
 abbrev pub without_copied : Change → Change

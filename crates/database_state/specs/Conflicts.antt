@@ -6,7 +6,8 @@ use Rattle.column_set.specs.RecordValues.{RecordFields}
 use Rattle.index_derive.specs.declared.rules.IndexRule.{IndexRule}
 use Rattle.index_derive.specs.declared.rules.Schema.{Schema}
 use Rattle.index_derive.specs.Entries.{key_list}
-use Rattle.database_state.specs.Changes.{changed_table, changed_bookmark, is_sum}
+use Rattle.database_state.specs.Changes.{is_sum}
+use Rattle.column_set.specs.ChangedRecords.{changed_table, changed_bookmark}
 use Rattle.database_state.specs.State.{DatabaseState, PastChange, Transaction, Status, uncommitted, committed, undone, transaction_of}
 
 -- Whether a commit at this number came after the transaction began. Outside a transaction the begin is the call itself.

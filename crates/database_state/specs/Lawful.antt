@@ -15,7 +15,8 @@ use Rattle.index_derive.specs.declared.schema_calls.SchemaStep.{SchemaStep}
 use Rattle.index_derive.specs.declared.schema_calls.SchemaStep.TheVariants as step
 use Rattle.index_derive.specs.Entries.{primary_key, has_double_key, is_unique, is_escrow_column}
 use Rattle.database_state.specs.Table.{Table, Rows, row_at, rows_of, schema_of, primary_rule, table_with_id}
-use Rattle.database_state.specs.Changes.{changed_table, escrow_bytes}
+use Rattle.database_state.specs.Changes.{escrow_bytes}
+use Rattle.column_set.specs.ChangedRecords.{changed_table}
 use Rattle.database_state.specs.State.{DatabaseState, LiveSession, live_session, levels}
 use Rattle.database_state.specs.View.{view}
 use Rattle.database_state.specs.Conflicts.{has_write_conflict, has_key_conflict}

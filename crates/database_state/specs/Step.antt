@@ -6,7 +6,8 @@ use Rattle.index_derive.specs.declared.log.EntryKind.{EntryKind}
 use Rattle.index_derive.specs.declared.log.EntryKind.TheVariants as entry
 use Rattle.index_derive.specs.declared.schema_calls.SchemaStep.{SchemaStep}
 use Rattle.database_state.specs.Table.{record_in}
-use Rattle.database_state.specs.Changes.{changed_table, changed_bookmark, without_copied, tables_after, tables_after_all}
+use Rattle.database_state.specs.Changes.{without_copied, tables_after, tables_after_all}
+use Rattle.column_set.specs.ChangedRecords.{changed_table, changed_bookmark}
 use Rattle.database_state.specs.State.{DatabaseState, LiveSession, PastChange, Transaction, uncommitted, committed, undone, is_open_change_of, open_changes_of, levels, with_session}
 use Rattle.database_state.specs.View.{newest}
 use Rattle.database_state.specs.SchemaChanges.{tables_after_step, greatest_table_after}

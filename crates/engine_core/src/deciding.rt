@@ -8,7 +8,7 @@ ghost use Rattle.engine_steps.specs.built_calls.BuiltCalls.{is_built_request};
 ghost use Rattle.engine_steps.specs.engine_parts.Deciding.{Decides, IsBeside, IsDecision, only_reply};
 ghost use Rattle.engine_core.specs.Reading.{is_reading};
 
-use engine_steps::engine_parts::{Engine, replied};
+use engine_steps::engine_parts::Engine;
 use jet_base::{CursorId, OutOfMemory, Prepare};
 use record_decisions::{delete, escrow_update, get_lock, prepare_copy, prepare_replace, update};
 use session_decisions::{
@@ -17,8 +17,8 @@ use session_decisions::{
 };
 use session_local::{Decision, Local, Reply, Request};
 
-/// Decides a call that looks at the shared state: the reply, the step, and what `finish` needs for the session's own state. Of
-/// that it writes the reply buffer alone, but that a call that moves a cursor has moved it.
+/// Decides a call that looks at the shared state, but for those that `read` answers: the reply, the step, and what `finish`
+/// needs for the session's own state. Of that it writes the reply buffer alone.
 ///
 /// Where there is no memory nothing changes.
 pub fn decide(
@@ -29,6 +29,7 @@ pub fn decide(
     requires beside { IsBeside engine.now local.old }
     requires built { is_built_request request.now ≡ true }
     requires shared { is_answered_locally local.old.state request.now ≡ false }
+    requires changing { is_reading request.now ≡ false }
     ensures answer { IfOk result (λ decision. Decides engine.now local.old request.now local.new decision) }
     ensures decided { IfOk result (λ decision. IsDecision engine.now local.old request.now local.new decision) }
     ensures kept { OnErr result (local.new ≡ local.old) }
@@ -49,15 +50,6 @@ pub fn decide(
         Request::CreateIndex { .. } => create_index(engine, local, request),
         Request::OpenTable { cursor, table } => engine.open_cursor(local, *cursor, table),
         Request::CloseTable { cursor } => Ok(engine.close_cursor(local, *cursor)),
-        Request::Move { .. }
-        | Request::Seek { .. }
-        | Request::SetIndexRange { .. }
-        | Request::SetCurrentIndex { .. }
-        | Request::GotoBookmark { .. }
-        | Request::IndexRecordCount { .. }
-        | Request::RetrieveKey { .. }
-        | Request::GetBookmark { .. }
-        | Request::RetrieveColumn { .. } => Ok(replied(read(engine, local, request))),
         Request::PrepareUpdate { cursor, how } => prepare(engine, local, *cursor, *how),
         Request::Update { cursor } => update(engine, local, *cursor),
         Request::Delete { cursor } => delete(engine, local, *cursor),
@@ -67,8 +59,8 @@ pub fn decide(
             column,
             amount,
         } => escrow_update(engine, local, *cursor, column, *amount),
-        Request::MakeKey { .. } | Request::RemoveIndexRange { .. } | Request::SetColumn { .. } =>
-            unreachable!(),
+        // A session answers the others by itself, or `read` does.
+        _ => unreachable!(),
     }
 }
 

@@ -28,7 +28,8 @@ use Rattle.common_lemmas.proofs.Lists.{all_weaker}
 use Rattle.database_state.specs.Refusals.{Refusals, first_refusal}
 use Rattle.database_state.specs.Table.{Rows, Table, index_entries, primary_order, primary_rule, record_in, row_at, rows_of, schema_of, table_named, table_with_id, rule_with_id}
 use Rattle.database_state.specs.SchemaSteps.{table_step, deleted_table_step, column_step, deleted_column_step, index_step, deleted_index_step}
-use Rattle.database_state.specs.Changes.{changed_table, changed_bookmark, escrow_bytes}
+use Rattle.database_state.specs.Changes.{escrow_bytes}
+use Rattle.column_set.specs.ChangedRecords.{changed_table, changed_bookmark}
 use Rattle.database_state.specs.Conflicts.{has_key_conflict}
 use Rattle.database_state.specs.Puts.{is_taken, new_keys, null_refusals, put_refusals, replaced_record}
 use Rattle.database_state.specs.SchemaChanges.{schema_refusal}

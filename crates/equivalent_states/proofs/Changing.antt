@@ -4,7 +4,8 @@ use Rattle.std.specs.Prelude.{◌==◌, find, map, if◌then◌else◌}
 use Rattle.column_set.specs.declared.columns.Column.{Column}
 use Rattle.column_set.specs.declared.changes.Change.{Change}
 use Rattle.database_state.specs.Table.{Table, table_with_id}
-use Rattle.database_state.specs.Changes.{changed_table, is_sum, rows_after, tables_after, tables_after_all}
+use Rattle.database_state.specs.Changes.{is_sum, rows_after, tables_after, tables_after_all}
+use Rattle.column_set.specs.ChangedRecords.{changed_table}
 use Rattle.database_state.specs.State.{PastChange, committed, undone, is_open, is_undone, is_open_change_of}
 use Rattle.database_state.specs.Equivalence.{EssentialChange, columns_of, essential_item, essential_change}
 use Rattle.equivalent_states.proofs.Essential.{forgotten, kept_of, open_stands, summed}

@@ -5,7 +5,8 @@ use Rattle.std.specs.List.{AllByRecursion, list_any}
 use Rattle.common_lemmas.proofs.Booleans.{impossible}
 use Rattle.column_set.specs.declared.columns.Column.{Column}
 use Rattle.database_state.specs.Table.{Table, table_with_id}
-use Rattle.database_state.specs.Changes.{changed_table, is_sum}
+use Rattle.database_state.specs.Changes.{is_sum}
+use Rattle.column_set.specs.ChangedRecords.{changed_table}
 use Rattle.database_state.specs.State.{LiveSession, PastChange, Status, uncommitted, committed, undone, is_open, is_undone}
 use Rattle.database_state.specs.VersionStore.{is_needed, is_needed_status, from_oldest_needed}
 use Rattle.database_state.specs.Equivalence.{EssentialChange, columns_of, essential_item, essential_change, without_record, without_sums}

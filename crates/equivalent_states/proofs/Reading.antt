@@ -6,7 +6,8 @@ use Rattle.std.proofs.lemmas.List.Sums.{sum-map}
 use Rattle.common_lemmas.proofs.Booleans.{and_left, and_right, impossible}
 use Rattle.column_set.specs.declared.changes.Change.{Change}
 use Rattle.database_state.specs.Table.{table_with_id}
-use Rattle.database_state.specs.Changes.{changed_table, tables_after_all}
+use Rattle.database_state.specs.Changes.{tables_after_all}
+use Rattle.column_set.specs.ChangedRecords.{changed_table}
 use Rattle.database_state.specs.State.{DatabaseState, LiveSession, PastChange, Status, Transaction, uncommitted, committed, undone, change_of, is_open, is_undone, is_open_change_of, open_changes, open_changes_of, transaction_of}
 use Rattle.database_state.specs.View.{newest, view, view_in}
 use Rattle.database_state.specs.Conflicts.{collide, concurrent_changes, has_write_conflict, is_after_begin, is_concurrent, is_concurrent_status}

@@ -10,7 +10,8 @@ use Rattle.column_set.specs.declared.changes.Change.{Change}
 use Rattle.index_derive.specs.declared.log.EntryKind.{EntryKind}
 use Rattle.index_derive.specs.declared.log.EntryKind.TheVariants as entry
 use Rattle.database_state.specs.Table.{Table, record_in}
-use Rattle.database_state.specs.Changes.{changed_table, changed_bookmark, tables_after, tables_after_all, without_copied}
+use Rattle.database_state.specs.Changes.{tables_after, tables_after_all, without_copied}
+use Rattle.column_set.specs.ChangedRecords.{changed_table, changed_bookmark}
 use Rattle.database_state.specs.State.{DatabaseState, LiveSession, PastChange, Transaction, uncommitted, committed, undone, is_open, is_open_change_of, levels, open_changes_of}
 use Rattle.database_state.specs.View.{newest}
 use Rattle.database_state.specs.VersionStore.{is_needed, from_oldest_needed}

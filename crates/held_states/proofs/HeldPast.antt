@@ -10,7 +10,8 @@ use Rattle.column_set.specs.declared.changes.Change.TheVariants.{Put, Drop, Hold
 use Rattle.column_set.specs.declared.columns.Column.{Column}
 use Rattle.column_set.specs.RecordValues.{RecordFields}
 use Rattle.database_state.specs.Table.{Table, schema_of, table_with_id}
-use Rattle.database_state.specs.Changes.{changed_table, changed_bookmark, is_sum, with_sum, without_copied}
+use Rattle.database_state.specs.Changes.{is_sum, with_sum, without_copied}
+use Rattle.column_set.specs.ChangedRecords.{changed_table, changed_bookmark}
 use Rattle.database_state.specs.State.{PastChange, Status, is_undone}
 use Rattle.database_state.specs.VersionStore.{cost_of}
 use Rattle.database_state.specs.Equivalence.{columns_of, essential_change, without_record, without_sums}

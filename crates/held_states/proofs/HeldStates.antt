@@ -8,7 +8,7 @@ use Rattle.common_lemmas.proofs.Lists.{all_weaker}
 use Rattle.common_lemmas.proofs.Booleans.{impossible}
 use Rattle.database_state.specs.Table.{Table}
 use Rattle.database_state.specs.State.{DatabaseState, LiveSession, PastChange, Status, Transaction, uncommitted, committed, undone, change_of, is_undone, transaction_of}
-use Rattle.database_state.specs.Changes.{changed_table}
+use Rattle.column_set.specs.ChangedRecords.{changed_table}
 use Rattle.database_state.specs.Table.{table_with_id}
 use Rattle.database_state.specs.VersionStore.{from_oldest_needed}
 use Rattle.database_state.specs.Equivalence.{AreEquivalent, EssentialChange, columns_of, essential_change}

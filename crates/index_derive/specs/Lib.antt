@@ -6,3 +6,4 @@ pub mod Steps
 pub mod Walks
 pub mod Schemas
 pub mod RisingKeys
+pub mod Flags

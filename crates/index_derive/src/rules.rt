@@ -49,6 +49,22 @@ pub struct IndexFlags {
     pub tuples: bool,
 }
 
+impl IndexFlags {
+    /// No flag.
+    pub const NONE: IndexFlags = IndexFlags {
+        primary: false,
+        unique: false,
+        disallownull: false,
+        ignorenull: false,
+        ignoreanynull: false,
+        ignorefirstnull: false,
+        sortnullshigh: false,
+        crossproduct: false,
+        disallowtruncation: false,
+        tuples: false,
+    };
+}
+
 /// The rule of an index: which entries a record has in it.
 #[derive(Debug, Drop)]
 pub struct IndexRule {

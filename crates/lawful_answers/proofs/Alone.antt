@@ -15,7 +15,8 @@ use Rattle.index_derive.specs.declared.rules.IndexRule.{IndexRule}
 use Rattle.index_derive.specs.declared.rules.Schema.{Schema}
 use Rattle.index_derive.specs.Steps.{entries_of_step}
 use Rattle.database_state.specs.Table.{Table}
-use Rattle.database_state.specs.Changes.{changed_table, tables_after_all}
+use Rattle.database_state.specs.Changes.{tables_after_all}
+use Rattle.column_set.specs.ChangedRecords.{changed_table}
 use Rattle.database_state.specs.State.{DatabaseState, PastChange, Status, Transaction, change_of, committed, is_open_change_of, levels, levels_of, transaction_of, uncommitted, undone}
 use Rattle.database_state.specs.View.{view, view_in}
 use Rattle.database_state.specs.Conflicts.{collide, concurrent_changes, has_key_conflict, has_write_conflict, is_concurrent, is_concurrent_status, yields_key}

@@ -11,7 +11,7 @@ use Rattle.index_derive.specs.declared.rules.IndexRule.{IndexRule}
 use Rattle.index_derive.specs.declared.rules.Schema.{Schema}
 use Rattle.index_derive.specs.Entries.{entries, is_legal, is_unique, key_list, primary_key}
 use Rattle.database_state.specs.Table.{Rows, Table, primary_rule, row_at, rule_with_id, schema_of, table_with_id}
-use Rattle.database_state.specs.Changes.{changed_bookmark, changed_table}
+use Rattle.column_set.specs.ChangedRecords.{changed_bookmark, changed_table}
 use Rattle.database_state.specs.Puts.{is_cut_refusal, is_null_refusal, is_taken, new_keys, null_refusals}
 use Rattle.database_state.specs.State.{PastChange, transaction_of}
 use Rattle.database_state.specs.View.{view}

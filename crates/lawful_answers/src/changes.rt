@@ -9,7 +9,7 @@ ghost use Rattle.index_derive.specs.declared.rules.Schema.{Schema};
 ghost use Rattle.index_derive.specs.declared.log.EntryKind.TheVariants as entry;
 ghost use Rattle.index_derive.specs.declared.log.Step.TheVariants.{Alone};
 ghost use Rattle.index_derive.specs.Steps.{entries_of_step};
-ghost use Rattle.database_state.specs.Changes.{changed_table, changed_bookmark};
+ghost use Rattle.column_set.specs.ChangedRecords.{changed_table, changed_bookmark};
 ghost use Rattle.database_state.specs.State.{DatabaseState, PastChange, levels};
 ghost use Rattle.database_state.specs.View.{view};
 ghost use Rattle.database_state.specs.Conflicts.{has_write_conflict, has_key_conflict};

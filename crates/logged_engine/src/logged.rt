@@ -9,7 +9,8 @@ ghost use Rattle.loggable_steps.specs.built_calls.BuiltCalls.{is_built_request};
 ghost use Rattle.loggable_steps.specs.engine_versions.EngineState.{HasRoomForEnds, cleaned, engine_of};
 ghost use Rattle.loggable_steps.specs.engine_versions.EngineSteps.{engine_after_step, step_cleans};
 ghost use Rattle.loggable_steps.specs.engine_versions.HoldsState.{HoldsState};
-ghost use Rattle.engine_core.specs.engine_parts.Deciding.{Decides, IsBeside, IsDecision};
+ghost use Rattle.engine_core.specs.Reading.{is_reading};
+ghost use Rattle.engine_core.specs.engine_parts.Deciding.{Decides, IsBeside, IsDecision, only_reply};
 ghost use Rattle.engine_core.specs.engine_steps.Cleans.{CanGo, without_oldest_held};
 ghost use Rattle.engine_core.specs.engine_steps.Steps.{MayTake};
 ghost use Rattle.log_grammar.specs.EntryStreams.{stream_bytes};
@@ -32,7 +33,7 @@ use loggable_steps::engine_versions::ends_always_find_room;
 use loggable_steps::{
     a_closed_state_is_held_by_its_tables, an_engine_without_sessions_tells_its_state,
 };
-use session_local::{Decision, Local, Request};
+use session_local::{Decision, Local, Reply, Request};
 use std::alloc::Global;
 use std::marker::Model;
 
@@ -93,11 +94,12 @@ impl LoggedEngine {
         self.engine.set_limit(limit);
     }
 
-    /// Decides a call that looks at the shared state, as `engine_core::decide` does.
+    /// Decides a call that looks at the shared state, but for those that `read` answers, as `engine_core::decide` does.
     pub fn decide(&self, local: &mut Local, request: &Request) -> Result<Decision, OutOfMemory>
         requires beside { IsBeside self.now.engine local.old }
         requires built { is_built_request request.now ≡ true }
         requires shared { is_answered_locally local.old.state request.now ≡ false }
+        requires changing { is_reading request.now ≡ false }
         ensures answer { IfOk result (λ decision. Decides self.now.engine local.old request.now local.new decision) }
         ensures decided { IfOk result (λ decision. IsDecision self.now.engine local.old request.now local.new decision) }
         ensures kept { OnErr result (local.new ≡ local.old) }
@@ -105,6 +107,18 @@ impl LoggedEngine {
         ensures session { local.new.session ≡ local.old.session }
     {
         engine_core::decide(&self.engine, local, request)
+    }
+
+    /// Answers a call that moves a cursor or reads, as `engine_core::read` does.
+    pub fn read(&self, local: &mut Local, request: &Request) -> Reply
+        requires beside { IsBeside self.now.engine local.old }
+        requires shared { is_answered_locally local.old.state request.now ≡ false }
+        requires reading { is_reading request.now ≡ true }
+        ensures answer { Decides self.now.engine local.old request.now local.new (only_reply result) }
+        ensures decided { IsDecision self.now.engine local.old request.now local.new (only_reply result) }
+        ensures session { local.new.session ≡ local.old.session }
+    {
+        engine_core::read(&self.engine, local, request)
     }
 
     /// Gives up held changes from the oldest on that no reader needs, at most so many, and tells how many, as

@@ -149,6 +149,7 @@ impl SessionEngine {
         requires built { is_built_request request.now ≡ true }
         requires labelled { session.0 ≤ last_label }
         requires shared { is_answered_locally (session_at self.old.sessions session.0).local.state request.now ≡ false }
+        requires changing { is_reading request.now ≡ false }
         ensures line { (limit : ℕ) (run : RunState) → IsAt limit self.old run → Goes limit self.new run session request.now result }
         ensures named { NamesNoMore result.reply (length (reply_of self.new session)) }
     {

@@ -7,7 +7,8 @@ use Rattle.common_lemmas.proofs.Numbers.{equal_bytes, same_bytes, self_equal}
 use Rattle.column_set.specs.declared.changes.Change.{Change}
 use Rattle.column_set.specs.declared.changes.Change.TheVariants.{Put, Drop, Hold, Add}
 use Rattle.column_set.specs.RecordValues.{RecordFields}
-use Rattle.database_state.specs.Changes.{changed_table, changed_bookmark, is_sum}
+use Rattle.database_state.specs.Changes.{is_sum}
+use Rattle.column_set.specs.ChangedRecords.{changed_table, changed_bookmark}
 use Rattle.database_state.specs.State.{PastChange}
 use Rattle.database_state.specs.Conflicts.{collide}
 use Rattle.record_changes.proofs.Sums.{sums_commute}

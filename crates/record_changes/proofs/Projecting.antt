@@ -13,7 +13,8 @@ use Rattle.column_set.specs.declared.changes.Change.{Change}
 use Rattle.column_set.specs.declared.changes.Change.TheVariants.{Put, Drop, Hold, Add}
 use Rattle.column_set.specs.RecordValues.{RecordFields}
 use Rattle.database_state.specs.Table.{Table, Rows, row_at, with_row, without_row, rows_of, table_with_id}
-use Rattle.database_state.specs.Changes.{changed_table, changed_bookmark, rows_with_sum, rows_after, tables_after, tables_after_all, with_sum}
+use Rattle.database_state.specs.Changes.{rows_with_sum, rows_after, tables_after, tables_after_all, with_sum}
+use Rattle.column_set.specs.ChangedRecords.{changed_table, changed_bookmark}
 use Rattle.record_changes.specs.Records.{IsThere, records_of, record_after, is_change_of, records_after}
 
 -- ---- rows

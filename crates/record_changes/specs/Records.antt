@@ -4,7 +4,8 @@ use Rattle.column_set.specs.declared.changes.Change.{Change}
 use Rattle.column_set.specs.declared.changes.Change.TheVariants.{Put, Drop, Hold, Add}
 use Rattle.column_set.specs.RecordValues.{RecordFields}
 use Rattle.database_state.specs.Table.{Table, record_in, table_with_id}
-use Rattle.database_state.specs.Changes.{changed_table, changed_bookmark, with_sum}
+use Rattle.database_state.specs.Changes.{with_sum}
+use Rattle.column_set.specs.ChangedRecords.{changed_table, changed_bookmark}
 use Rattle.database_state.specs.State.{PastChange}
 
 -- The record, if any, of each table under each bookmark. Two databases of equal records are equal as functions, in whatever

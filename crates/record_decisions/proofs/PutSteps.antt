@@ -9,7 +9,7 @@ use Rattle.column_set.specs.RecordValues.{RecordFields, is_missing_a_value}
 use Rattle.index_derive.specs.declared.rules.IndexRule.{IndexRule}
 use Rattle.index_derive.specs.declared.rules.Schema.{Schema}
 use Rattle.index_derive.specs.Entries.{is_legal}
-use Rattle.database_state.specs.Changes.{changed_bookmark}
+use Rattle.column_set.specs.ChangedRecords.{changed_bookmark}
 use Rattle.database_state.specs.Lawful.{log_limit}
 use Rattle.database_state.specs.Puts.{null_refusals}
 use Rattle.database_state.specs.Refusals.{Refusals, first_refusal}

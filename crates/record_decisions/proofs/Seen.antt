@@ -1,7 +1,7 @@
 -- What room a change has in a state that the engine holds.
 use Rattle.std.proofs.Common.{◌≡◌, ◌+◌, Option, ap, ◌∙◌}
 use Rattle.column_set.specs.RecordValues.{RecordFields}
-use Rattle.database_state.specs.Changes.{changed_table, changed_bookmark}
+use Rattle.column_set.specs.ChangedRecords.{changed_table, changed_bookmark}
 use Rattle.database_state.specs.State.{DatabaseState}
 use Rattle.database_state.specs.Table.{record_in}
 use Rattle.database_state.specs.VersionStore.{cost_of, version_span}

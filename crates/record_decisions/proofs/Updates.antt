@@ -13,7 +13,7 @@ use Rattle.column_set.specs.RecordValues.{RecordFields, is_missing_a_value}
 use Rattle.index_derive.specs.declared.log.Step.{Step}
 use Rattle.index_derive.specs.declared.rules.IndexRule.{IndexRule}
 use Rattle.index_derive.specs.declared.rules.Schema.{Schema}
-use Rattle.database_state.specs.Changes.{changed_bookmark}
+use Rattle.column_set.specs.ChangedRecords.{changed_bookmark}
 use Rattle.database_state.specs.Puts.{key_refusals, null_refusals, put_refusals}
 use Rattle.database_state.specs.Refusals.{Refusals}
 use Rattle.database_state.specs.State.{DatabaseState}

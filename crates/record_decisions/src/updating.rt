@@ -1,7 +1,7 @@
 //! Update: what a prepared update puts, or why it may not.
 
 ghost use Rattle.std.specs.Prelude.{◌≡◌, ◌≤◌, false, length, None, IfOk, IfSome, IsSome, IsTrue, OnErr, nat_le, option_copied};
-ghost use Rattle.database_state.specs.Changes.{changed_bookmark};
+ghost use Rattle.column_set.specs.ChangedRecords.{changed_bookmark};
 ghost use Rattle.database_state.specs.Lawful.{log_limit};
 ghost use Rattle.session_local.specs.declared.request.Request.TheVariants as call;
 ghost use Rattle.session_local.specs.Answer.{shown_by};
@@ -151,20 +151,8 @@ fn show_bookmark(local: &mut Local, put: &Change) -> Value
     ensures state { local.new.state ≡ local.old.state }
     ensures session { local.new.session ≡ local.old.session }
 {
-    let bytes = changed_bookmark(put);
+    let bytes = put.bookmark().as_bytes();
     local.show(bytes, bytes.len() as u64)
-}
-
-// The bookmark of the record that the change touches.
-fn changed_bookmark(change: &Change) -> &[u8]
-    ensures { result.now ≡ changed_bookmark change.now }
-{
-    match change {
-        Change::Put { bookmark, .. }
-        | Change::Drop { bookmark, .. }
-        | Change::Hold { bookmark, .. }
-        | Change::Add { bookmark, .. } => bookmark.as_bytes(),
-    }
 }
 
 // Success with a step and a value.

@@ -18,6 +18,7 @@ use Rattle.cursor_nav.specs.declared.seek_by.SeekBy.{SeekBy}
 use Rattle.cursor_nav.specs.declared.seek_by.SeekBy.TheVariants as seek
 use Rattle.session_local.specs.declared.request.Request.{Request}
 use Rattle.session_local.specs.declared.request.Request.TheVariants as call
+use Rattle.session_local.specs.CallNames as named
 use Rattle.script_words.specs.Words.{◌>>=◌, first_word, only_word, two_words, three_words, is_empty_list, begins_with_word, optional_word, choice_of, has_word, are_distinct, after_prefix, number_within, signed_number_of, label_of, name_of, hex_bytes_of}
 use Rattle.script_words.specs.Values.{given_of}
 
@@ -325,13 +326,13 @@ escrow_update_call cursor words = do
 -- the calls of records by their names, with what is read behind the label of their cursor
 abbrev pub record_calls : List (List ℕ × (CursorId → List (List ℕ) → Option Request))
 record_calls =
-    (codes "PrepareUpdate", prepare_update_call) ∷
-    (codes "SetColumn", set_column_call) ∷
-    (codes "RetrieveColumn", retrieve_column_call) ∷
-    (codes "Update", only_cursor call.Update) ∷
-    (codes "Delete", only_cursor call.Delete) ∷
-    (codes "GetLock", only_cursor call.GetLock) ∷
-    (codes "EscrowUpdate", escrow_update_call) ∷ []
+    (named.prepare_update, prepare_update_call) ∷
+    (named.set_column, set_column_call) ∷
+    (named.retrieve_column, retrieve_column_call) ∷
+    (named.update, only_cursor call.Update) ∷
+    (named.delete, only_cursor call.Delete) ∷
+    (named.get_lock, only_cursor call.GetLock) ∷
+    (named.escrow_update, escrow_update_call) ∷ []
 
 unfoldable pub record_call : List ℕ → CursorId → List (List ℕ) → Option Request
 record_call name cursor words = choice_of record_calls name >>= λ reading. reading cursor words
@@ -339,13 +340,13 @@ record_call name cursor words = choice_of record_calls name >>= λ reading. read
 -- the calls of navigation; a name that is none of them is left to the calls of records
 abbrev pub place_calls : List (List ℕ × (CursorId → List (List ℕ) → Option Request))
 place_calls =
-    (codes "Move", move_call) ∷
-    (codes "Seek", seek_call) ∷
-    (codes "SetIndexRange", set_index_range_call) ∷
-    (codes "IndexRecordCount", count_call) ∷
-    (codes "RetrieveKey", only_cursor call.RetrieveKey) ∷
-    (codes "GetBookmark", only_cursor call.GetBookmark) ∷
-    (codes "GotoBookmark", goto_bookmark_call) ∷ []
+    (named.move, move_call) ∷
+    (named.seek, seek_call) ∷
+    (named.set_index_range, set_index_range_call) ∷
+    (named.index_record_count, count_call) ∷
+    (named.retrieve_key, only_cursor call.RetrieveKey) ∷
+    (named.get_bookmark, only_cursor call.GetBookmark) ∷
+    (named.goto_bookmark, goto_bookmark_call) ∷ []
 
 unfoldable pub place_call : List ℕ → CursorId → List (List ℕ) → Option Request
 place_call name cursor words = unwrap_or (choice_of place_calls name) (record_call name) cursor words
@@ -353,10 +354,10 @@ place_call name cursor words = unwrap_or (choice_of place_calls name) (record_ca
 -- the other calls of a cursor; a name that is none of them is left to the calls of navigation
 abbrev pub cursor_calls : List (List ℕ × (CursorId → List (List ℕ) → Option Request))
 cursor_calls =
-    (codes "OpenTable", open_table_call) ∷
-    (codes "CloseTable", only_cursor call.CloseTable) ∷
-    (codes "SetCurrentIndex", set_current_index_call) ∷
-    (codes "MakeKey", make_key_call) ∷ []
+    (named.open_table, open_table_call) ∷
+    (named.close_table, only_cursor call.CloseTable) ∷
+    (named.set_current_index, set_current_index_call) ∷
+    (named.make_key, make_key_call) ∷ []
 
 unfoldable pub call_of_cursor : List ℕ → CursorId → List (List ℕ) → Option Request
 call_of_cursor name cursor words = unwrap_or (choice_of cursor_calls name) (place_call name) cursor words
@@ -364,12 +365,12 @@ call_of_cursor name cursor words = unwrap_or (choice_of cursor_calls name) (plac
 -- the calls of the schema; a name that is none of them is left to the calls of a cursor
 abbrev pub schema_calls : List (List ℕ × (List (List ℕ) → Option Request))
 schema_calls =
-    (codes "CreateTable", table_call call.CreateTable) ∷
-    (codes "DeleteTable", table_call call.DeleteTable) ∷
-    (codes "AddColumn", add_column_call) ∷
-    (codes "DeleteColumn", part_call call.DeleteColumn) ∷
-    (codes "CreateIndex", create_index_call) ∷
-    (codes "DeleteIndex", part_call call.DeleteIndex) ∷ []
+    (named.create_table, table_call call.CreateTable) ∷
+    (named.delete_table, table_call call.DeleteTable) ∷
+    (named.add_column, add_column_call) ∷
+    (named.delete_column, part_call call.DeleteColumn) ∷
+    (named.create_index, create_index_call) ∷
+    (named.delete_index, part_call call.DeleteIndex) ∷ []
 
 unfoldable pub schema_call : List ℕ → List (List ℕ) → Option Request
 schema_call name words = unwrap_or (choice_of schema_calls name) (cursor_call (call_of_cursor name)) words
@@ -377,11 +378,11 @@ schema_call name words = unwrap_or (choice_of schema_calls name) (cursor_call (c
 -- the calls of sessions and transactions; a name that is none of them is left to the calls of the schema
 abbrev pub transaction_calls : List (List ℕ × (List (List ℕ) → Option Request))
 transaction_calls =
-    (codes "BeginSession", bare_call call.BeginSession) ∷
-    (codes "EndSession", bare_call call.EndSession) ∷
-    (codes "BeginTransaction", bare_call call.BeginTransaction) ∷
-    (codes "CommitTransaction", commit_call) ∷
-    (codes "Rollback", rollback_call) ∷ []
+    (named.begin_session, bare_call call.BeginSession) ∷
+    (named.end_session, bare_call call.EndSession) ∷
+    (named.begin_transaction, bare_call call.BeginTransaction) ∷
+    (named.commit_transaction, commit_call) ∷
+    (named.rollback, rollback_call) ∷ []
 
 -- a call by its name and the words behind it
 unfoldable pub named_call : List ℕ → List (List ℕ) → Option Request

@@ -24,5 +24,5 @@ mod script_calls;
 pub use laws::a_call_of_the_grammar_is_answered;
 pub use parser::ScriptParser;
 pub use piece::CallPiece;
-pub use script::{ScriptFault, parse};
+pub use script::ScriptFault;
 pub use script_calls::ScriptCalls;

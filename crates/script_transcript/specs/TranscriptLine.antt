@@ -11,40 +11,41 @@ use Rattle.session_local.specs.declared.reply.Value.{Value}
 use Rattle.session_local.specs.declared.reply.Value.TheVariants as value
 use Rattle.session_local.specs.declared.request.Request.{Request}
 use Rattle.session_local.specs.declared.request.Request.TheVariants as call
+use Rattle.session_local.specs.CallNames as named
 use Rattle.session_local.specs.Answer.{ShownValue, Nothing, Number, Count, Bytes, Answered, Row, answered_by}
 
 -- the name of a call, as the grammar has it
 abbrev pub call_name : Request → List ℕ
-call_name call.BeginSession = codes "BeginSession"
-call_name call.EndSession = codes "EndSession"
-call_name call.BeginTransaction = codes "BeginTransaction"
-call_name (call.CommitTransaction lazy) = codes "CommitTransaction"
-call_name (call.Rollback all) = codes "Rollback"
-call_name (call.CreateTable table) = codes "CreateTable"
-call_name (call.DeleteTable table) = codes "DeleteTable"
-call_name (call.AddColumn table column type flags) = codes "AddColumn"
-call_name (call.DeleteColumn table column) = codes "DeleteColumn"
-call_name (call.CreateIndex table index flags most segments conditions) = codes "CreateIndex"
-call_name (call.DeleteIndex table index) = codes "DeleteIndex"
-call_name (call.OpenTable cursor table) = codes "OpenTable"
-call_name (call.CloseTable cursor) = codes "CloseTable"
-call_name (call.SetCurrentIndex cursor index) = codes "SetCurrentIndex"
-call_name (call.Move cursor way) = codes "Move"
-call_name (call.MakeKey cursor fresh value) = codes "MakeKey"
-call_name (call.Seek cursor by) = codes "Seek"
-call_name (call.SetIndexRange cursor upper inclusive) = codes "SetIndexRange"
-call_name (call.RemoveIndexRange cursor) = codes "SetIndexRange"
-call_name (call.IndexRecordCount cursor most) = codes "IndexRecordCount"
-call_name (call.RetrieveKey cursor) = codes "RetrieveKey"
-call_name (call.GetBookmark cursor) = codes "GetBookmark"
-call_name (call.GotoBookmark cursor bookmark) = codes "GotoBookmark"
-call_name (call.PrepareUpdate cursor how) = codes "PrepareUpdate"
-call_name (call.SetColumn cursor column sequence value) = codes "SetColumn"
-call_name (call.RetrieveColumn cursor column sequence copy most) = codes "RetrieveColumn"
-call_name (call.Update cursor) = codes "Update"
-call_name (call.Delete cursor) = codes "Delete"
-call_name (call.GetLock cursor) = codes "GetLock"
-call_name (call.EscrowUpdate cursor column amount) = codes "EscrowUpdate"
+call_name call.BeginSession = named.begin_session
+call_name call.EndSession = named.end_session
+call_name call.BeginTransaction = named.begin_transaction
+call_name (call.CommitTransaction lazy) = named.commit_transaction
+call_name (call.Rollback all) = named.rollback
+call_name (call.CreateTable table) = named.create_table
+call_name (call.DeleteTable table) = named.delete_table
+call_name (call.AddColumn table column type flags) = named.add_column
+call_name (call.DeleteColumn table column) = named.delete_column
+call_name (call.CreateIndex table index flags most segments conditions) = named.create_index
+call_name (call.DeleteIndex table index) = named.delete_index
+call_name (call.OpenTable cursor table) = named.open_table
+call_name (call.CloseTable cursor) = named.close_table
+call_name (call.SetCurrentIndex cursor index) = named.set_current_index
+call_name (call.Move cursor way) = named.move
+call_name (call.MakeKey cursor fresh value) = named.make_key
+call_name (call.Seek cursor by) = named.seek
+call_name (call.SetIndexRange cursor upper inclusive) = named.set_index_range
+call_name (call.RemoveIndexRange cursor) = named.set_index_range
+call_name (call.IndexRecordCount cursor most) = named.index_record_count
+call_name (call.RetrieveKey cursor) = named.retrieve_key
+call_name (call.GetBookmark cursor) = named.get_bookmark
+call_name (call.GotoBookmark cursor bookmark) = named.goto_bookmark
+call_name (call.PrepareUpdate cursor how) = named.prepare_update
+call_name (call.SetColumn cursor column sequence value) = named.set_column
+call_name (call.RetrieveColumn cursor column sequence copy most) = named.retrieve_column
+call_name (call.Update cursor) = named.update
+call_name (call.Delete cursor) = named.delete
+call_name (call.GetLock cursor) = named.get_lock
+call_name (call.EscrowUpdate cursor column amount) = named.escrow_update
 
 -- a byte as two hexadecimal digits, the high one first, with lower case letters
 abbrev pub byte_digits : ℕ → List ℕ

@@ -1,6 +1,6 @@
 //! The names of the calls.
 
-ghost use Rattle.std.specs.Prelude.{◌≡◌, ◌<◌, ◌≤◌, ◌-◌, [], ◌∷◌, ◌++◌, length, take};
+ghost use Rattle.std.specs.Prelude.{◌≡◌, ◌≤◌, ◌-◌, [], ◌∷◌, ◌++◌, take};
 ghost use Rattle.jet_base.specs.JetName.{jet_name};
 ghost use Rattle.jet_base.specs.declared.replies.Jet.TheVariants as jet;
 ghost use Rattle.script_transcript.specs.TranscriptLine.{call_name};
@@ -10,54 +10,21 @@ use session_local::Request;
 /// The room in bytes for the answer of a call that succeeded.
 pub const ANSWER_ROOM: usize = 40;
 
-/// The name of a call, as a script and a transcript write it, between two spaces.
-pub fn spaced_name_of_call(request: &Request) -> &'static str
-    ensures name { result.now ≡ 32 ∷ call_name request.now ++ 32 ∷ [] }
-    ensures len { length result.now ≤ 19 }
-{
-    match request {
-        Request::BeginSession => " BeginSession ",
-        Request::EndSession => " EndSession ",
-        Request::BeginTransaction => " BeginTransaction ",
-        Request::CommitTransaction { .. } => " CommitTransaction ",
-        Request::Rollback { .. } => " Rollback ",
-        Request::CreateTable { .. } => " CreateTable ",
-        Request::DeleteTable { .. } => " DeleteTable ",
-        Request::AddColumn { .. } => " AddColumn ",
-        Request::DeleteColumn { .. } => " DeleteColumn ",
-        Request::CreateIndex { .. } => " CreateIndex ",
-        Request::DeleteIndex { .. } => " DeleteIndex ",
-        Request::OpenTable { .. } => " OpenTable ",
-        Request::CloseTable { .. } => " CloseTable ",
-        Request::SetCurrentIndex { .. } => " SetCurrentIndex ",
-        Request::Move { .. } => " Move ",
-        Request::MakeKey { .. } => " MakeKey ",
-        Request::Seek { .. } => " Seek ",
-        Request::SetIndexRange { .. } => " SetIndexRange ",
-        Request::RemoveIndexRange { .. } => " SetIndexRange ",
-        Request::IndexRecordCount { .. } => " IndexRecordCount ",
-        Request::RetrieveKey { .. } => " RetrieveKey ",
-        Request::GetBookmark { .. } => " GetBookmark ",
-        Request::GotoBookmark { .. } => " GotoBookmark ",
-        Request::PrepareUpdate { .. } => " PrepareUpdate ",
-        Request::SetColumn { .. } => " SetColumn ",
-        Request::RetrieveColumn { .. } => " RetrieveColumn ",
-        Request::Update { .. } => " Update ",
-        Request::Delete { .. } => " Delete ",
-        Request::GetLock { .. } => " GetLock ",
-        Request::EscrowUpdate { .. } => " EscrowUpdate ",
-    }
-}
+/// How many bytes of such an answer stand behind the name of the call and a space.
+pub const SUCCESS_SIZE: usize = 15;
 
-/// What stands behind the head of a line whose call succeeded and shows nothing, and how many bytes it has.
+/// What stands behind the head of a line whose call succeeded and shows nothing, and how many bytes it has: the name of the
+/// call, as a script writes it too, and that of the reply.
 ///
 /// Spaces fill it up to one size, so that it is copied by a few words and no call.
 pub fn answer_of_success(request: &Request) -> (&'static [u8; ANSWER_ROOM], usize)
     ensures whole { take result.1 result.0.now ≡ 32 ∷ call_name request.now ++ 32 ∷ jet_name jet.Success ++ 10 ∷ [] }
     // Without the end of the line.
     ensures front { take (result.1 - 1) result.0.now ≡ 32 ∷ call_name request.now ++ 32 ∷ jet_name jet.Success }
-    ensures some { 0 < result.1 }
-    ensures within { result.1 ≤ ANSWER_ROOM }
+    // The name of the call, between two spaces.
+    ensures name { take (result.1 - SUCCESS_SIZE) result.0.now ≡ 32 ∷ call_name request.now ++ 32 ∷ [] }
+    ensures some { SUCCESS_SIZE ≤ result.1 }
+    ensures within { result.1 ≤ 34 }
 {
     match request {
         Request::BeginSession => (b" BeginSession JET_errSuccess\n           ", 29),

@@ -9,7 +9,7 @@ ghost use Rattle.script_transcript.specs.Written.{BeginsWith};
 ghost use Rattle.std.specs.Vec.{vec_capacity};
 
 use crate::append::{append, append_front, append_hex, append_label, append_number, append_signed};
-use crate::names::{answer_of_success, spaced_name_of_call};
+use crate::names::{SUCCESS_SIZE, answer_of_success};
 use jet_base::{Jet, OutOfMemory, Session, name};
 use session_local::{Reply, Request, Value};
 use std::alloc::Global;
@@ -269,7 +269,8 @@ fn append_names(text: &mut Vec<u8>, request: &Request, jet: Jet)
     ensures len { vec_len text.new ≤ vec_len text.old + 59 }
     ensures room { vec_capacity text.old ≤ vec_capacity text.new }
 {
-    append(text, spaced_name_of_call(request).as_bytes());
+    let (answer, count) = answer_of_success(request);
+    append_front(text, answer, count - SUCCESS_SIZE);
     append(text, name(jet).as_bytes());
 }
 

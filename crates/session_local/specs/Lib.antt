@@ -24,3 +24,4 @@ pub mod RecordLaws
 pub mod FormedLaws
 pub mod Changing
 pub mod Showing
+pub mod CallNames

@@ -13,7 +13,7 @@ use Rattle.cursor_nav.specs.Places.{Pair}
 use Rattle.cursor_nav.specs.Navigation.{Navigated}
 use Rattle.database_state.specs.Refusals.{Refusals, first_refusal}
 use Rattle.database_state.specs.Table.{Rows, row_at, rows_of, table_with_id, record_in, index_entries}
-use Rattle.database_state.specs.Changes.{changed_table, changed_bookmark}
+use Rattle.column_set.specs.ChangedRecords.{changed_table, changed_bookmark}
 use Rattle.database_state.specs.State.{DatabaseState, levels}
 use Rattle.database_state.specs.View.{view, newest}
 use Rattle.database_state.specs.VersionStore.{cost_of, version_span}

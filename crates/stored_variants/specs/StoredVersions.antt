@@ -2,7 +2,7 @@
 use Rattle.std.specs.Prelude.{ℕ, ◌+◌, Bool, not, nat_lt, List, [], ◌∷◌, Option, Some, None, if◌then◌else◌}
 use Rattle.cursor_nav.specs.Places.{Pair}
 use Rattle.column_set.specs.declared.changes.Change.{Change}
-use Rattle.database_state.specs.Changes.{changed_table, changed_bookmark}
+use Rattle.column_set.specs.ChangedRecords.{changed_table, changed_bookmark}
 use Rattle.database_state.specs.Table.{Table, index_entries, record_in, schema_of, table_with_id}
 use Rattle.database_state.specs.VersionStore.{cost_of}
 use Rattle.version_store.specs.declared.calls.By.{By}

@@ -13,7 +13,8 @@ use Rattle.column_set.specs.declared.changes.Change.{Change}
 use Rattle.column_set.specs.declared.changes.Change.TheVariants.{Put, Drop, Hold, Add}
 use Rattle.column_set.specs.RecordValues.{RecordFields}
 use Rattle.cursor_nav.specs.Places.{are_sorted}
-use Rattle.database_state.specs.Changes.{changed_bookmark, changed_table, tables_after}
+use Rattle.database_state.specs.Changes.{tables_after}
+use Rattle.column_set.specs.ChangedRecords.{changed_bookmark, changed_table}
 use Rattle.database_state.specs.Conflicts.{yields_key}
 use Rattle.database_state.specs.Table.{Rows, Table, record_in, row_at, rows_of, schema_of, table_with_id, without_row}
 use Rattle.derived_index.specs.KeptEntries.{has_entry}

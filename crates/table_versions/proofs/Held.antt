@@ -5,7 +5,7 @@ use Rattle.common_lemmas.proofs.Booleans.{and_left, impossible}
 use Rattle.common_lemmas.proofs.Lists.{all_append}
 use Rattle.column_set.specs.declared.changes.Change.{Change}
 use Rattle.column_set.specs.declared.changes.Change.TheVariants.{Put, Drop, Hold, Add}
-use Rattle.database_state.specs.Changes.{changed_table}
+use Rattle.column_set.specs.ChangedRecords.{changed_table}
 use Rattle.database_state.specs.State.{is_undone}
 use Rattle.database_state.specs.Table.{Table, schema_of, table_with_id}
 use Rattle.stored_variants.specs.table_trees.StoredTables.{StoredTable}

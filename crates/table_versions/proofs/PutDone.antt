@@ -11,7 +11,7 @@ use Rattle.column_set.specs.RecordValues.{RecordFields, record_fits, record_size
 use Rattle.database_state.specs.Lawful.{is_indexable}
 use Rattle.column_set.specs.Rows.{IsRowBytes, RowFields, is_row, row_bytes, row_size}
 use Rattle.column_set.specs.RowReading.{row_in}
-use Rattle.database_state.specs.Changes.{changed_bookmark, changed_table}
+use Rattle.column_set.specs.ChangedRecords.{changed_bookmark, changed_table}
 use Rattle.database_state.specs.Table.{Table, record_in, schema_of, table_with_id}
 use Rattle.index_derive.specs.declared.rules.Schema.{Schema}
 use Rattle.variant_trees.specs.kept_rows.Sources.{row_given}

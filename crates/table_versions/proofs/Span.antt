@@ -9,7 +9,7 @@ use Rattle.column_set.specs.RecordValues.{RecordFields, record_size}
 use Rattle.column_set.specs.Rows.{RowFields, is_row_of, largest_row, row_bytes, row_size}
 use Rattle.column_set.specs.RowReading.{row_in}
 use Rattle.database_state.specs.Table.{record_in}
-use Rattle.database_state.specs.Changes.{changed_bookmark, changed_table}
+use Rattle.column_set.specs.ChangedRecords.{changed_bookmark, changed_table}
 use Rattle.database_state.specs.VersionStore.{cost_of as cost_of_change}
 use Rattle.version_store.specs.declared.calls.By.{By}
 use Rattle.version_store.specs.declared.calls.ChangeKind.{ChangeKind}

@@ -2,7 +2,8 @@
 
 ghost use Rattle.std.specs.Prelude.{◌≡◌, ◌↔◌, ◌<◌, true, false, is_some, option_copied, IfSome, IsErrOf, IsSomeAnd, OnErr, OnOk};
 ghost use Rattle.column_set.specs.Rows.{IsRowBytes};
-ghost use Rattle.database_state.specs.Changes.{changed_bookmark, changed_table, is_sum};
+ghost use Rattle.database_state.specs.Changes.{is_sum};
+ghost use Rattle.column_set.specs.ChangedRecords.{changed_bookmark, changed_table};
 ghost use Rattle.database_state.specs.Table.{record_in, table_with_id, schema_of};
 ghost use Rattle.version_store.specs.HeldChanges.{kind_of};
 ghost use Rattle.stored_variants.specs.versioned_tables.VersionedTables.{with_change};
@@ -14,7 +15,6 @@ ghost use Rattle.version_store.specs.declared.fault.VersionFault.TheVariants as 
 
 use crate::reading::shown_row;
 use crate::store::TableVersions;
-use crate::telling::{bookmark_of, table_of};
 use arrayvec::ArrayVec;
 use column_set::{Change, MAX_ROW_SIZE, Record, rows_are_read_back, size_of_a_row};
 use long_references::{counts_after_a_step, values_keep_their_counts};
@@ -41,8 +41,8 @@ impl TableVersions {
         nodes_after_a_change();
         nodes_by_bookmark();
         self.trees.nodes_are_in_order();
-        let table = table_of(change);
-        let bookmark = bookmark_of(change);
+        let table = change.table();
+        let bookmark = change.bookmark().as_bytes();
         let before = row_in_node(self.trees.get(table, bookmark));
         match self.versions.push(by, change, before) {
             Ok(()) => {
@@ -95,13 +95,7 @@ impl TableVersions {
             begin: Some(by.begin),
         };
         let mut row = ArrayVec::new();
-        match shown_row(
-            &self.trees,
-            &self.versions,
-            table_of(change),
-            copied,
-            reader,
-        ) {
+        match shown_row(&self.trees, &self.versions, change.table(), copied, reader) {
             Some(bytes) => {
                 append(&mut row, bytes);
                 self.put_beside(by, change, Some(row.as_slice()))
@@ -134,8 +128,8 @@ impl TableVersions {
         values_keep_their_counts();
         self.trees.nodes_are_in_order();
         let _ = self.catalog.tables();
-        let table = table_of(change);
-        let bookmark = bookmark_of(change);
+        let table = change.table();
+        let bookmark = change.bookmark().as_bytes();
         match values_of(change) {
             Some(values) => match self.catalog.by_id(table) {
                 Some(def) => match put_record(

@@ -1,7 +1,7 @@
 //! Ends of levels and transactions, undos, locks, and the oldest change that is forgotten.
 
 ghost use Rattle.std.specs.Prelude.{◌≡◌, ◌≤◌, ◌↔◌, true, false, is_some, IsErrOf, OnErr, OnOk, Some, ◌<◌, length};
-ghost use Rattle.database_state.specs.Changes.{changed_table};
+ghost use Rattle.column_set.specs.ChangedRecords.{changed_table};
 ghost use Rattle.database_state.specs.Table.{table_with_id};
 ghost use Rattle.version_store.specs.HeldChanges.{kind_of};
 ghost use Rattle.stored_variants.specs.versioned_tables.VersionedTables.{with_change, with_level_released, with_session_committed, with_changes_undone, with_last_undone, without_oldest};

@@ -2,14 +2,12 @@
 
 ghost use Rattle.std.specs.Prelude.{◌≡◌, length};
 ghost use Rattle.column_set.specs.Rows.{largest_row};
-ghost use Rattle.database_state.specs.Changes.{changed_bookmark, changed_table};
 ghost use Rattle.stored_variants.specs.versioned_tables.HeldRecords.{has_conflict};
 ghost use Rattle.stored_variants.specs.StoredVersions.{has_room, next_to_forget};
 
 use crate::reading::newest_row;
 use crate::store::TableVersions;
 use column_set::{Change, MAX_ROW_SIZE, size_of_a_row};
-use jet_base::TableId;
 use version_store::{By, Reader};
 
 // As many bytes as a row has at most.
@@ -52,7 +50,7 @@ impl TableVersions {
     {
         size_of_a_row();
         self.trees.nodes_are_in_order();
-        let before = newest_row(&self.trees, table_of(change), bookmark_of(change));
+        let before = newest_row(&self.trees, change.table(), change.bookmark().as_bytes());
         self.versions.fits(by, change, before)
     }
 
@@ -76,28 +74,4 @@ fn longest_row() -> &'static [u8]
     ensures { length result.now ≡ largest_row }
 {
     &LONGEST_ROW
-}
-
-// The table of the record that the change touches.
-pub(crate) fn table_of(change: &Change) -> TableId
-    ensures { result.0 ≡ changed_table change.now }
-{
-    match change {
-        Change::Put { table, .. } => *table,
-        Change::Drop { table, .. } => *table,
-        Change::Hold { table, .. } => *table,
-        Change::Add { table, .. } => *table,
-    }
-}
-
-// Its bookmark.
-pub(crate) fn bookmark_of(change: &Change) -> &[u8]
-    ensures { result.now ≡ changed_bookmark change.now }
-{
-    match change {
-        Change::Put { bookmark, .. } => bookmark.as_bytes(),
-        Change::Drop { bookmark, .. } => bookmark.as_bytes(),
-        Change::Hold { bookmark, .. } => bookmark.as_bytes(),
-        Change::Add { bookmark, .. } => bookmark.as_bytes(),
-    }
 }

@@ -28,22 +28,9 @@ const SUM: ColumnFlags = ColumnFlags {
     ..PLAIN
 };
 
-const SECONDARY: IndexFlags = IndexFlags {
-    primary: false,
-    unique: false,
-    disallownull: false,
-    ignorenull: false,
-    ignoreanynull: false,
-    ignorefirstnull: false,
-    sortnullshigh: false,
-    crossproduct: false,
-    disallowtruncation: false,
-    tuples: false,
-};
-
 const PRIMARY: IndexFlags = IndexFlags {
     primary: true,
-    ..SECONDARY
+    ..IndexFlags::NONE
 };
 
 fn name(rt: &impl Abort, alloc: Global, text: &str) -> Name {
@@ -153,7 +140,7 @@ fn with_table(rt: &impl Abort, alloc: Global) -> Catalog {
     make(
         rt,
         &mut catalog,
-        create_index(rt, alloc, "by_a", SECONDARY, "a"),
+        create_index(rt, alloc, "by_a", IndexFlags::NONE, "a"),
     );
     make(
         rt,
@@ -229,7 +216,7 @@ const INDEXES: [(&str, &str, Jet); 2] = [
 fn secondary_indexes_are_refused(rt: HostRuntime) {
     let mut catalog = with_table(&rt, rt.alloc());
     for (index, column, jet) in INDEXES {
-        let call = create_index(&rt, rt.alloc(), index, SECONDARY, column);
+        let call = create_index(&rt, rt.alloc(), index, IndexFlags::NONE, column);
         assert!(&rt; answer(&rt, &mut catalog, call, false) == jet);
     }
 }
@@ -261,7 +248,7 @@ fn deleted_tables_keep_their_numbers(rt: HostRuntime) {
 fn deleted_indexes_leave_their_numbers(rt: HostRuntime) {
     let mut catalog = with_table(&rt, rt.alloc());
     make(&rt, &mut catalog, delete_index(&rt, rt.alloc(), "by_a"));
-    let call = create_index(&rt, rt.alloc(), "again", SECONDARY, "a");
+    let call = create_index(&rt, rt.alloc(), "again", IndexFlags::NONE, "a");
     make(&rt, &mut catalog, call);
     let again = name(&rt, rt.alloc(), "again");
     let found = catalog.lookup(b"T".as_slice()).expect(&rt, "the table");
@@ -280,7 +267,7 @@ fn conditional_index(rt: &impl Abort, alloc: Global) -> SchemaCall {
     SchemaCall::CreateIndex {
         table: name(rt, alloc, "T"),
         index: name(rt, alloc, "i"),
-        flags: SECONDARY,
+        flags: IndexFlags::NONE,
         key_most: 300,
         segments: segments(rt, alloc, "a"),
         conditions,

@@ -1,5 +1,8 @@
 //! Moves, seeks, ranges and counts at a plain list.
 
+ghost use Rattle.std.specs.Prelude.{◌≡◌};
+ghost use Rattle.cursor_nav.specs.MakingKeys.{has_short_keys, rule_of_cursor};
+
 use column_set::{Column, Columns};
 use cursor_nav::{Cursor, Moved, SeekBy, SortedEntries};
 use index_derive::{IndexEntry, IndexFlags, IndexRule, Place, Schema, Segment};
@@ -52,14 +55,7 @@ fn columns(rt: &impl Abort, alloc: Global) -> Columns {
 const PRIMARY: IndexFlags = IndexFlags {
     primary: true,
     unique: true,
-    disallownull: false,
-    ignorenull: false,
-    ignoreanynull: false,
-    ignorefirstnull: false,
-    sortnullshigh: false,
-    crossproduct: false,
-    disallowtruncation: false,
-    tuples: false,
+    ..IndexFlags::NONE
 };
 
 fn indexes(rt: &impl Abort, alloc: Global) -> Items<IndexRule> {
@@ -99,9 +95,19 @@ fn reply(answer: Result<Moved, Jet>) -> Jet {
     }
 }
 
+/// Whether keys are made in the current index, as `make_key` asks.
+fn has_short_keys(cursor: &Cursor, schema: &Schema) -> bool
+    ensures { result ≡ has_short_keys (rule_of_cursor cursor.now schema.now) }
+{
+    match schema.rule_with_id(cursor.index()) {
+        Some(rule) => rule.key_most <= 255,
+        None => true,
+    }
+}
+
 /// Makes the key of the id.
 fn make(cursor: &mut Cursor, schema: &Schema, n: i64) -> Jet {
-    if cursor.has_short_keys(schema) {
+    if has_short_keys(cursor, schema) {
         reply(cursor.make_key(schema, true, &Given::Number(n)))
     } else {
         Jet::InvalidParameter

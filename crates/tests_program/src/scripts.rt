@@ -1,8 +1,9 @@
 //! Scripts, parsed.
 
-use esentutl::script_text::{ScriptFault, parse};
+use esentutl::script_text::{ScriptCalls, ScriptFault, ScriptParser};
 use jet_base::{CursorId, Session};
 use session_local::Request;
+use std::alloc::Global;
 use std::test::*;
 
 /// Every form of a call, in no order that an engine would serve. Lines 4 and 7 are skipped, and the last line lacks its end.
@@ -60,6 +61,11 @@ const SCRIPT: &[u8] = b"1 BeginSession
 1 GotoBookmark 1 x:
 1 BeginSession
 1 RetrieveKey 2";
+
+/// The calls of a whole script.
+fn parse(alloc: Global, script: &[u8]) -> Result<ScriptCalls, ScriptFault> {
+    ScriptParser::new(alloc)?.finish(script)
+}
 
 #[test]
 fn a_script_gives_its_calls(rt: HostRuntime) -> Result<(), Fail> {

@@ -6,7 +6,7 @@ ghost use Rattle.std.specs.Prelude.{◌≡◌, ◌≤◌, ◌∷◌, [], true, m
 ghost use Rattle.column_set.specs.RecordValues.{values_of};
 ghost use Rattle.index_derive.specs.Entries.{entries, is_legal};
 
-use crate::entries::cases::{CASES, Case, PLAIN};
+use crate::entries::cases::{CASES, Case};
 use column_set::{Column, Columns, Values};
 use index_derive::derive::{entries, next_entry, yields};
 use index_derive::{
@@ -229,7 +229,7 @@ fn rule_of_parts(rt: &impl Abort, alloc: Global) -> IndexRule {
     let flags = IndexFlags {
         tuples: true,
         disallownull: true,
-        ..PLAIN
+        ..IndexFlags::NONE
     };
     let segments = segments(rt, alloc, &[(256, false)]);
     rule(rt, alloc, flags, segments, Items::empty(alloc))

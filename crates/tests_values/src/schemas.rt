@@ -10,14 +10,7 @@ use std::test::*;
 const PRIMARY: IndexFlags = IndexFlags {
     primary: true,
     unique: true,
-    disallownull: false,
-    ignorenull: false,
-    ignoreanynull: false,
-    ignorefirstnull: false,
-    sortnullshigh: false,
-    crossproduct: false,
-    disallowtruncation: false,
-    tuples: false,
+    ..IndexFlags::NONE
 };
 
 fn name(rt: &impl Abort, alloc: Global, text: &str) -> Name {

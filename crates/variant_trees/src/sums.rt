@@ -3,7 +3,8 @@
 ghost use Rattle.std.specs.Prelude.{◌≡◌, ℤ, neg_ℤ, List, map, true, false, None, IfSome, IsSomeAnd};
 ghost use Rattle.std.specs.Int.{w32, cast_unsigned};
 ghost use Rattle.column_set.specs.declared.changes.Change.TheVariants.{Add};
-ghost use Rattle.database_state.specs.Changes.{changed_bookmark, changed_table, is_sum, tables_after};
+ghost use Rattle.database_state.specs.Changes.{is_sum, tables_after};
+ghost use Rattle.column_set.specs.ChangedRecords.{changed_bookmark, changed_table};
 ghost use Rattle.database_state.specs.Table.{Table, schema_of, table_with_id};
 ghost use Rattle.index_derive.specs.Entries.{is_escrow_column};
 ghost use Rattle.kept_rows.specs.table_trees.StoredTables.{table_long_values, table_nodes};

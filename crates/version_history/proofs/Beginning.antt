@@ -7,7 +7,8 @@ use Rattle.std.proofs.lemmas.Bool.{eqb-true}
 use Rattle.common_lemmas.proofs.Lists.{all_append, all_weaker}
 use Rattle.common_lemmas.proofs.Booleans.{impossible}
 use Rattle.database_state.specs.Table.{Table, table_with_id}
-use Rattle.database_state.specs.Changes.{changed_table, is_sum}
+use Rattle.database_state.specs.Changes.{is_sum}
+use Rattle.column_set.specs.ChangedRecords.{changed_table}
 use Rattle.database_state.specs.State.{PastChange, Transaction, Status, uncommitted, committed, undone, is_open, is_undone}
 use Rattle.database_state.specs.Conflicts.{collide, is_concurrent, is_concurrent_status}
 use Rattle.record_changes.specs.Records.{Records, after_item, record_after, records_after_items}

@@ -8,7 +8,7 @@ use Rattle.common_lemmas.proofs.Lists.{all_weaker, filter_none}
 use Rattle.column_set.specs.declared.changes.Change.{Change}
 use Rattle.index_derive.specs.declared.rules.IndexRule.{IndexRule}
 use Rattle.index_derive.specs.declared.rules.Schema.{Schema}
-use Rattle.database_state.specs.Changes.{changed_table}
+use Rattle.column_set.specs.ChangedRecords.{changed_table}
 use Rattle.database_state.specs.State.{DatabaseState, PastChange, Transaction, Status, uncommitted, committed, undone, transaction_of}
 use Rattle.database_state.specs.Conflicts.{collide, is_after_begin, is_concurrent, is_concurrent_status, concurrent_changes, has_write_conflict, has_key_conflict, yields_key}
 use Rattle.record_changes.specs.Records.{Records}

@@ -12,7 +12,8 @@ use Rattle.column_set.specs.declared.changes.Change.{Change}
 use Rattle.column_set.specs.declared.changes.Change.TheVariants.{Put, Drop, Hold, Add}
 use Rattle.index_derive.specs.declared.schema_calls.SchemaStep.{SchemaStep}
 use Rattle.database_state.specs.Table.{Table, table_with_id, record_in}
-use Rattle.database_state.specs.Changes.{changed_table, changed_bookmark, without_copied, rows_after, tables_after, tables_after_all}
+use Rattle.database_state.specs.Changes.{without_copied, rows_after, tables_after, tables_after_all}
+use Rattle.column_set.specs.ChangedRecords.{changed_table, changed_bookmark}
 use Rattle.database_state.specs.State.{DatabaseState, LiveSession, PastChange, Transaction, Status, uncommitted, committed, undone, is_open, is_open_change_of, change_of, transaction_of, levels_of, levels, open_changes_of, open_changes}
 use Rattle.database_state.specs.View.{newest}
 use Rattle.database_state.specs.Conflicts.{collide, is_after_begin, is_concurrent, concurrent_changes, has_write_conflict}

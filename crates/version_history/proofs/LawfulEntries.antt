@@ -11,7 +11,7 @@ use Rattle.index_derive.specs.declared.log.EntryKind.{EntryKind}
 use Rattle.index_derive.specs.declared.log.EntryKind.TheVariants as entry
 use Rattle.index_derive.specs.declared.schema_calls.SchemaStep.{SchemaStep}
 use Rattle.database_state.specs.Table.{Table, table_with_id}
-use Rattle.database_state.specs.Changes.{changed_table}
+use Rattle.column_set.specs.ChangedRecords.{changed_table}
 use Rattle.database_state.specs.State.{DatabaseState, PastChange, Transaction, live_session, transaction_of, levels_of, levels}
 use Rattle.database_state.specs.Conflicts.{has_write_conflict}
 use Rattle.database_state.specs.SchemaChanges.{schema_refusal, is_in_use, step_table}

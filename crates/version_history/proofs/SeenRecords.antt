@@ -6,7 +6,8 @@ use Rattle.std.proofs.lemmas.List.Elements.{filter-append}
 use Rattle.common_lemmas.proofs.Booleans.{and_left}
 use Rattle.common_lemmas.proofs.Lists.{all_filter, all_weaker, filter_none}
 use Rattle.database_state.specs.Table.{Table}
-use Rattle.database_state.specs.Changes.{changed_table, tables_after, tables_after_all}
+use Rattle.database_state.specs.Changes.{tables_after, tables_after_all}
+use Rattle.column_set.specs.ChangedRecords.{changed_table}
 use Rattle.database_state.specs.State.{DatabaseState, PastChange, Transaction, Status, uncommitted, committed, undone, is_open, is_open_change_of, change_of, transaction_of, open_changes, open_changes_of}
 use Rattle.database_state.specs.View.{newest}
 use Rattle.database_state.specs.Conflicts.{collide}

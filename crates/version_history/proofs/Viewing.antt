@@ -5,7 +5,8 @@ use Rattle.std.proofs.lemmas.Bool.{eqb-true, false_from_ne_true}
 use Rattle.common_lemmas.proofs.Booleans.{and_left, and_right}
 use Rattle.common_lemmas.proofs.Lists.{all_filter, all_weaker, filter_none}
 use Rattle.database_state.specs.Table.{Table, table_with_id}
-use Rattle.database_state.specs.Changes.{changed_table, tables_after_all}
+use Rattle.database_state.specs.Changes.{tables_after_all}
+use Rattle.column_set.specs.ChangedRecords.{changed_table}
 use Rattle.database_state.specs.State.{DatabaseState, PastChange, Transaction, Status, uncommitted, committed, undone, is_open, is_open_change_of, change_of, transaction_of}
 use Rattle.database_state.specs.View.{newest, view, view_in}
 use Rattle.record_changes.specs.Records.{IsThere, Records, after_item, records_after_items, records_of}

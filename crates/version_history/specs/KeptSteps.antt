@@ -4,7 +4,8 @@ use Rattle.column_set.specs.declared.changes.Change.{Change}
 use Rattle.index_derive.specs.declared.log.EntryKind.{EntryKind}
 use Rattle.index_derive.specs.declared.log.EntryKind.TheVariants as entry
 use Rattle.database_state.specs.Table.{record_in}
-use Rattle.database_state.specs.Changes.{changed_table, changed_bookmark, without_copied, tables_after}
+use Rattle.database_state.specs.Changes.{without_copied, tables_after}
+use Rattle.column_set.specs.ChangedRecords.{changed_table, changed_bookmark}
 use Rattle.database_state.specs.State.{DatabaseState, PastChange, uncommitted, committed, undone, is_open_change_of, levels}
 use Rattle.database_state.specs.View.{newest}
 use Rattle.database_state.specs.SchemaChanges.{tables_after_step}

@@ -3,7 +3,8 @@
 ghost use Rattle.std.specs.Prelude.{◌≡◌, ℕ, false, List, Some, filter};
 ghost use Rattle.std.specs.List.{list_any};
 ghost use Rattle.column_set.specs.declared.changes.Change.{Change};
-ghost use Rattle.database_state.specs.Changes.{changed_table, changed_bookmark, is_sum};
+ghost use Rattle.database_state.specs.Changes.{is_sum};
+ghost use Rattle.column_set.specs.ChangedRecords.{changed_table, changed_bookmark};
 ghost use Rattle.database_state.specs.State.{DatabaseState, PastChange, Transaction, transaction_of};
 ghost use Rattle.database_state.specs.View.{newest, view};
 ghost use Rattle.database_state.specs.Conflicts.{collide, is_concurrent, concurrent_changes, has_write_conflict};

@@ -3,7 +3,8 @@
 ghost use Rattle.std.specs.Prelude.{◌≡◌, ℕ, ◌==◌, ◌≤◌, ◌&&◌, true, false, List, ◌∷◌, ◌++◌, map, Option};
 ghost use Rattle.std.specs.List.{AllByRecursion};
 ghost use Rattle.database_state.specs.Table.{Table};
-ghost use Rattle.database_state.specs.Changes.{changed_table, changed_bookmark, is_sum};
+ghost use Rattle.database_state.specs.Changes.{is_sum};
+ghost use Rattle.column_set.specs.ChangedRecords.{changed_table, changed_bookmark};
 ghost use Rattle.database_state.specs.State.{PastChange, Transaction, is_open_change_of};
 ghost use Rattle.database_state.specs.Conflicts.{collide};
 ghost use Rattle.record_changes.specs.Records.{Records, after_item, records_after_items};

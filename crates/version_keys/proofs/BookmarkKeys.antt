@@ -12,7 +12,8 @@ use Rattle.index_derive.specs.declared.rules.IndexRule.{IndexRule}
 use Rattle.index_derive.specs.declared.rules.Schema.{Schema}
 use Rattle.index_derive.specs.Entries.{NullKeyDisallowed, KeyTruncated, entries, is_legal, key_columns, keys_or_none, primary_key, whole_key}
 use Rattle.index_derive.specs.Primary.{first_values, primary_entries}
-use Rattle.database_state.specs.Changes.{changed_table, changed_bookmark, is_sum}
+use Rattle.database_state.specs.Changes.{is_sum}
+use Rattle.column_set.specs.ChangedRecords.{changed_table, changed_bookmark}
 use Rattle.database_state.specs.State.{PastChange}
 use Rattle.database_state.specs.Conflicts.{yields_key}
 use Rattle.record_changes.specs.Records.{Records, after_item, is_change_of, record_after, records_after_items}

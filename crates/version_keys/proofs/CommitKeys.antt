@@ -17,7 +17,8 @@ use Rattle.index_derive.specs.declared.rules.Schema.{Schema}
 use Rattle.index_derive.specs.declared.log.EntryKind.TheVariants as entry
 use Rattle.index_derive.specs.Entries.{has_double, has_double_key, is_unique, key_list}
 use Rattle.database_state.specs.Table.{Rows, Table, row_at, schema_of, table_with_id}
-use Rattle.database_state.specs.Changes.{changed_table, tables_after_all}
+use Rattle.database_state.specs.Changes.{tables_after_all}
+use Rattle.column_set.specs.ChangedRecords.{changed_table}
 use Rattle.database_state.specs.State.{DatabaseState, PastChange, Transaction, committed, open_changes_of, transaction_of}
 use Rattle.database_state.specs.View.{view, view_in}
 use Rattle.database_state.specs.Conflicts.{yields_key}

@@ -18,7 +18,8 @@ use Rattle.index_derive.specs.declared.schema_calls.SchemaStep.{SchemaStep}
 use Rattle.index_derive.specs.declared.schema_calls.SchemaStep.TheVariants as step
 use Rattle.index_derive.specs.Entries.{is_escrow_column}
 use Rattle.database_state.specs.Table.{Table, schema_of, table_with_id}
-use Rattle.database_state.specs.Changes.{changed_table, is_sum, without_copied}
+use Rattle.database_state.specs.Changes.{is_sum, without_copied}
+use Rattle.column_set.specs.ChangedRecords.{changed_table}
 use Rattle.database_state.specs.SchemaChanges.{has_column, new_table, rule_columns, schema_refusal, tables_after_step, with_column, with_index, without_column, without_index}
 use Rattle.database_state.specs.State.{DatabaseState, PastChange, is_open_change_of, is_undone, levels, transaction_of}
 use Rattle.database_state.specs.Conflicts.{yields_key}

@@ -11,7 +11,8 @@ use Rattle.column_set.specs.RecordValues.{RecordFields, values_of}
 use Rattle.index_derive.specs.declared.rules.IndexRule.{IndexRule}
 use Rattle.index_derive.specs.declared.rules.Schema.{Schema}
 use Rattle.database_state.specs.Table.{Table, table_with_id}
-use Rattle.database_state.specs.Changes.{changed_table, escrow_bytes, escrow_sum, is_sum, with_sum}
+use Rattle.database_state.specs.Changes.{escrow_bytes, escrow_sum, is_sum, with_sum}
+use Rattle.column_set.specs.ChangedRecords.{changed_table}
 use Rattle.database_state.specs.SchemaChanges.{rule_columns}
 use Rattle.database_state.specs.State.{DatabaseState, PastChange}
 use Rattle.database_state.specs.Conflicts.{yields_key}

@@ -11,7 +11,8 @@ use Rattle.index_derive.specs.declared.rules.Schema.{Schema}
 use Rattle.index_derive.specs.declared.log.EntryKind.{EntryKind}
 use Rattle.index_derive.specs.declared.log.EntryKind.TheVariants as entry
 use Rattle.database_state.specs.Table.{Table}
-use Rattle.database_state.specs.Changes.{changed_table, changed_bookmark, tables_after_all}
+use Rattle.database_state.specs.Changes.{tables_after_all}
+use Rattle.column_set.specs.ChangedRecords.{changed_table, changed_bookmark}
 use Rattle.database_state.specs.State.{DatabaseState, PastChange, Transaction, is_open, is_undone, is_open_change_of, committed, undone, uncommitted, live_session, transaction_of, levels, open_changes_of}
 use Rattle.database_state.specs.Conflicts.{is_concurrent, yields_key}
 use Rattle.database_state.specs.Step.{all_undone, applied, at_levels, every_change, is_at_level, with_changes_at, with_levels, with_transaction}

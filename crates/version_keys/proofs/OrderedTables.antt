@@ -20,7 +20,8 @@ use Rattle.index_derive.specs.declared.schema_calls.SchemaStep.TheVariants as st
 use Rattle.index_derive.specs.Entries.{own_order}
 use Rattle.index_derive.specs.RisingKeys.{key_cmp}
 use Rattle.database_state.specs.Table.{Rows, Table, row_at, table_with_id}
-use Rattle.database_state.specs.Changes.{changed_table, rows_after, rows_with_sum, tables_after, tables_after_all, with_sum}
+use Rattle.database_state.specs.Changes.{rows_after, rows_with_sum, tables_after, tables_after_all, with_sum}
+use Rattle.column_set.specs.ChangedRecords.{changed_table}
 use Rattle.database_state.specs.SchemaChanges.{greatest_table_after, new_table, tables_after_step, with_column, with_index, without_column, without_index}
 use Rattle.database_state.specs.State.{DatabaseState, levels, open_changes_of, undone}
 use Rattle.database_state.specs.Step.{applied, is_at_level, state_after, with_changes_at, with_levels, with_transaction}

@@ -7,7 +7,8 @@ use Rattle.column_set.specs.RecordValues.{RecordFields, column_of_id}
 use Rattle.index_derive.specs.declared.rules.IndexRule.{IndexRule}
 use Rattle.index_derive.specs.declared.rules.Schema.{Schema}
 use Rattle.database_state.specs.Table.{Table, schema_of, table_with_id}
-use Rattle.database_state.specs.Changes.{changed_table, changed_bookmark, is_sum}
+use Rattle.database_state.specs.Changes.{is_sum}
+use Rattle.column_set.specs.ChangedRecords.{changed_table, changed_bookmark}
 use Rattle.database_state.specs.SchemaChanges.{rule_columns}
 use Rattle.database_state.specs.State.{DatabaseState, PastChange}
 use Rattle.database_state.specs.Conflicts.{yields_key}

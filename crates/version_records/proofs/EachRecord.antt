@@ -13,7 +13,8 @@ use Rattle.index_derive.specs.declared.rules.Schema.{Schema}
 use Rattle.index_derive.specs.declared.log.EntryKind.{EntryKind}
 use Rattle.index_derive.specs.declared.log.EntryKind.TheVariants as entry
 use Rattle.database_state.specs.Table.{Rows, Table, row_at, rows_of, schema_of, table_with_id}
-use Rattle.database_state.specs.Changes.{changed_table, changed_bookmark, is_sum, with_sum, without_copied}
+use Rattle.database_state.specs.Changes.{is_sum, with_sum, without_copied}
+use Rattle.column_set.specs.ChangedRecords.{changed_table, changed_bookmark}
 use Rattle.database_state.specs.State.{DatabaseState, PastChange, levels, transaction_of, undone}
 use Rattle.database_state.specs.View.{newest, view}
 use Rattle.database_state.specs.Step.{applied, every_change, is_at_level, with_changes_at, with_levels, with_transaction}

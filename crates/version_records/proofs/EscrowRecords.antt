@@ -18,7 +18,8 @@ use Rattle.index_derive.specs.declared.schema_calls.SchemaStep.{SchemaStep}
 use Rattle.index_derive.specs.declared.schema_calls.SchemaStep.TheVariants as step
 use Rattle.index_derive.specs.Entries.{is_escrow_column}
 use Rattle.database_state.specs.Table.{Rows, Table, row_at, schema_of, table_with_id}
-use Rattle.database_state.specs.Changes.{changed_bookmark, changed_table, escrow_bytes}
+use Rattle.database_state.specs.Changes.{escrow_bytes}
+use Rattle.column_set.specs.ChangedRecords.{changed_bookmark, changed_table}
 use Rattle.database_state.specs.SchemaChanges.{columns_with, new_table, schema_refusal, tables_after_step, with_column, with_index, without_column, without_index}
 use Rattle.database_state.specs.State.{DatabaseState, PastChange, levels, transaction_of}
 use Rattle.database_state.specs.View.{view}

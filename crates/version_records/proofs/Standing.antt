@@ -16,7 +16,8 @@ use Rattle.index_derive.specs.declared.schema_calls.SchemaStep.{SchemaStep}
 use Rattle.index_derive.specs.declared.schema_calls.SchemaStep.TheVariants as step
 use Rattle.index_derive.specs.Entries.{entries, primary_key}
 use Rattle.database_state.specs.Table.{Rows, Table, primary_rule, row_at, schema_of, table_with_id}
-use Rattle.database_state.specs.Changes.{changed_table, changed_bookmark, is_sum, with_sum, without_copied}
+use Rattle.database_state.specs.Changes.{is_sum, with_sum, without_copied}
+use Rattle.column_set.specs.ChangedRecords.{changed_table, changed_bookmark}
 use Rattle.database_state.specs.Conflicts.{yields_key}
 use Rattle.database_state.specs.Puts.{is_cut_refusal, is_null_refusal, null_refusals}
 use Rattle.database_state.specs.SchemaChanges.{has_column, new_table, rule_columns, schema_refusal, tables_after_step, with_column, with_index, without_column, without_index}

@@ -19,7 +19,8 @@ use Rattle.index_derive.specs.declared.log.EntryKind.TheVariants as entry
 use Rattle.index_derive.specs.declared.rules.Schema.{Schema}
 use Rattle.index_derive.specs.Entries.{is_escrow_column}
 use Rattle.database_state.specs.Table.{Table, row_at, schema_of, table_with_id}
-use Rattle.database_state.specs.Changes.{changed_bookmark, changed_table, escrow_bytes, escrow_sum, with_sum}
+use Rattle.database_state.specs.Changes.{escrow_bytes, escrow_sum, with_sum}
+use Rattle.column_set.specs.ChangedRecords.{changed_bookmark, changed_table}
 use Rattle.database_state.specs.State.{DatabaseState, PastChange, transaction_of}
 use Rattle.database_state.specs.View.{view}
 use Rattle.database_state.specs.Step.{applied, state_after}

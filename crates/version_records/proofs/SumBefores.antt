@@ -12,7 +12,8 @@ use Rattle.index_derive.specs.declared.log.Entry.{Entry}
 use Rattle.index_derive.specs.declared.log.EntryKind.{EntryKind}
 use Rattle.index_derive.specs.declared.log.EntryKind.TheVariants as entry
 use Rattle.database_state.specs.Table.{Table, schema_of, table_with_id}
-use Rattle.database_state.specs.Changes.{changed_table, changed_bookmark, is_sum, without_copied}
+use Rattle.database_state.specs.Changes.{is_sum, without_copied}
+use Rattle.column_set.specs.ChangedRecords.{changed_table, changed_bookmark}
 use Rattle.database_state.specs.Equivalence.{without_sums}
 use Rattle.database_state.specs.State.{DatabaseState, PastChange, is_open_change_of, is_undone, levels, transaction_of, undone}
 use Rattle.database_state.specs.Conflicts.{collide}

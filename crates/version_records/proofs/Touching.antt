@@ -11,7 +11,8 @@ use Rattle.column_set.specs.RecordValues.{RecordFields}
 use Rattle.index_derive.specs.declared.log.EntryKind.{EntryKind}
 use Rattle.index_derive.specs.declared.log.EntryKind.TheVariants as entry
 use Rattle.database_state.specs.Table.{Table, table_with_id}
-use Rattle.database_state.specs.Changes.{changed_bookmark, changed_table, without_copied}
+use Rattle.database_state.specs.Changes.{without_copied}
+use Rattle.column_set.specs.ChangedRecords.{changed_bookmark, changed_table}
 use Rattle.database_state.specs.State.{DatabaseState, PastChange, Transaction, levels, levels_of, transaction_of}
 use Rattle.database_state.specs.View.{newest, view}
 use Rattle.database_state.specs.Conflicts.{has_write_conflict}

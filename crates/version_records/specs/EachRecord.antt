@@ -4,7 +4,7 @@ use Rattle.std.specs.List.{AllByRecursion}
 use Rattle.column_set.specs.RecordValues.{RecordFields}
 use Rattle.index_derive.specs.declared.rules.Schema.{Schema}
 use Rattle.database_state.specs.Table.{schema_of, table_with_id}
-use Rattle.database_state.specs.Changes.{changed_table, changed_bookmark}
+use Rattle.column_set.specs.ChangedRecords.{changed_table, changed_bookmark}
 use Rattle.database_state.specs.State.{DatabaseState, PastChange}
 use Rattle.record_changes.specs.Records.{Records}
 

@@ -4,7 +4,8 @@ use Rattle.std.specs.Prelude.{bytes_eq}
 use Rattle.std.proofs.lemmas.Bool.{and_parts, eqb-true}
 use Rattle.std.proofs.lemmas.Slice.Eq.{bytes_eq-Decides}
 use Rattle.column_set.specs.declared.changes.Change.{Change}
-use Rattle.database_state.specs.Changes.{changed_bookmark, changed_table, is_sum}
+use Rattle.database_state.specs.Changes.{is_sum}
+use Rattle.column_set.specs.ChangedRecords.{changed_bookmark, changed_table}
 use Rattle.database_state.specs.State.{is_undone}
 use Rattle.version_store.specs.declared.calls.Reader.{Reader}
 use Rattle.version_store.specs.HeldChanges.{HeldChange, collides, conflicts, hides, is_add, is_concurrent, is_record, is_rewrite, is_standing_rewrite, is_unseen}

@@ -3,7 +3,8 @@ use Rattle.std.specs.Prelude.{ℕ, zero, suc, ◌+◌, ◌-◌, ◌*◌, ◌/◌
 use Rattle.std.specs.List.{list_any}
 use Rattle.column_set.specs.declared.changes.Change.{Change}
 use Rattle.column_set.specs.declared.changes.Change.TheVariants as change
-use Rattle.database_state.specs.Changes.{changed_table, changed_bookmark, is_sum}
+use Rattle.database_state.specs.Changes.{is_sum}
+use Rattle.column_set.specs.ChangedRecords.{changed_table, changed_bookmark}
 use Rattle.database_state.specs.State.{Status, uncommitted, committed, undone, is_open, is_undone}
 use Rattle.version_store.specs.declared.calls.By.{By}
 use Rattle.version_store.specs.declared.calls.ChangeKind.{ChangeKind}

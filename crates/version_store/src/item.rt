@@ -2,7 +2,6 @@
 
 ghost use Rattle.std.specs.Prelude.{◌≡◌, ◌≤◌, [], option_copied, length, unwrap_or};
 ghost use Rattle.version_store.specs.HeldChanges.{kind_of, is_add, is_rewrite, cost, is_after, is_record, is_unseen, is_concurrent, is_standing, is_standing_rewrite, hides, conflicts, is_kept, is_open_of, is_open_at};
-ghost use Rattle.database_state.specs.Changes.{changed_table, changed_bookmark};
 ghost use Rattle.version_store.specs.Items.{held_change, row_of, released_item, committed_item};
 ghost use Rattle.version_store.specs.Sums.{amount_on, unseen_with};
 
@@ -39,30 +38,6 @@ pub(crate) struct Item {
     pub(crate) own_before: u64,
     /// No open change of the session, up to this one, is of a higher level.
     pub(crate) highest: u8,
-}
-
-/// The table that the change touches.
-pub(crate) fn table_of(change: &Change) -> TableId
-    ensures { result.0 ≡ changed_table change.now }
-{
-    match change {
-        Change::Put { table, .. } => *table,
-        Change::Drop { table, .. } => *table,
-        Change::Hold { table, .. } => *table,
-        Change::Add { table, .. } => *table,
-    }
-}
-
-/// The bookmark of the record that the change touches.
-pub(crate) fn bookmark_of(change: &Change) -> &Bookmark
-    ensures { result.now ≡ changed_bookmark change.now }
-{
-    match change {
-        Change::Put { bookmark, .. } => bookmark,
-        Change::Drop { bookmark, .. } => bookmark,
-        Change::Hold { bookmark, .. } => bookmark,
-        Change::Add { bookmark, .. } => bookmark,
-    }
 }
 
 /// What the change does to its record.
@@ -218,7 +193,7 @@ impl Item {
         ensures { result ≡ conflicts reader change.now (held_change self.now []) }
     {
         self.is_concurrent(reader)
-            && self.is_record(table_of(change), bookmark_of(change).as_bytes())
+            && self.is_record(change.table(), change.bookmark().as_bytes())
             && !(adds(self.kind) && adds(what(change)))
     }
 

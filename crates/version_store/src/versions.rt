@@ -14,7 +14,7 @@ use crate::ends::{
 };
 use crate::fault::VersionFault;
 use crate::hash::hash_of;
-use crate::item::{Item, Status, bookmark_of, cost_of, row_parts, table_of, what};
+use crate::item::{Item, Status, cost_of, row_parts, what};
 use crate::records::{newest_hashed, newest_standing, newest_touching};
 use column_set::{Bookmark, Change};
 use jet_base::{ColumnId, OutOfMemory, Session, TableId};
@@ -151,8 +151,8 @@ impl Versions {
             return Err(OutOfMemory);
         }
         let (had_row, row) = row_parts(before);
-        let bookmark = bookmark_of(change).copy()?;
-        let hash = hash_of(table_of(change), bookmark.as_bytes());
+        let bookmark = change.bookmark().copy()?;
+        let hash = hash_of(change.table(), bookmark.as_bytes());
         let own_before = newest_of(&self.newest, by.session);
         let end = end_of(own_before, self.rows.first());
         let highest = highest_before(&self.items, end).max(by.level);
@@ -161,7 +161,7 @@ impl Versions {
             session: by.session,
             level: by.level,
             kind: what(change),
-            table: table_of(change),
+            table: change.table(),
             bookmark,
             had_row,
             status: Status::Uncommitted,
@@ -191,8 +191,8 @@ impl Versions {
     pub fn conflict(&self, reader: Reader, change: &Change) -> bool
         ensures { result ≡ has_conflict reader change.now self.now }
     {
-        let bookmark = bookmark_of(change).as_bytes();
-        let mut end = newest_hashed(&self.chains, table_of(change), bookmark);
+        let bookmark = change.bookmark().as_bytes();
+        let mut end = newest_hashed(&self.chains, change.table(), bookmark);
         while end > 0 {
             if self.items[end - 1].conflicts(reader, change) {
                 return true;

@@ -5,7 +5,8 @@ use Rattle.std.specs.Int.{w32, cast_signed, cast_unsigned, from_le_bytes, int_wr
 use Rattle.column_set.specs.declared.changes.Change.{Change}
 use Rattle.column_set.specs.declared.changes.Change.TheVariants.{Put, Drop, Hold, Add}
 use Rattle.column_set.specs.RecordValues.{RecordFields, put_by_number}
-use Rattle.database_state.specs.Changes.{changed_table, changed_bookmark, escrow_bytes, is_sum, with_sum}
+use Rattle.database_state.specs.Changes.{escrow_bytes, is_sum, with_sum}
+use Rattle.column_set.specs.ChangedRecords.{changed_table, changed_bookmark}
 use Rattle.database_state.specs.State.{PastChange}
 use Rattle.std.proofs.lemmas.Int.{of_z-to_z}
 use Rattle.std.proofs.lemmas.Bool.{and_from}

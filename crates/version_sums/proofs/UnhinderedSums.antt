@@ -6,7 +6,8 @@ use Rattle.common_lemmas.proofs.Finding.{find_none}
 use Rattle.common_lemmas.proofs.Booleans.{and_left, and_right, impossible}
 use Rattle.common_lemmas.proofs.Numbers.{equal_bytes, self_equal}
 use Rattle.column_set.specs.declared.changes.Change.{Change}
-use Rattle.database_state.specs.Changes.{changed_bookmark, changed_table, is_sum}
+use Rattle.database_state.specs.Changes.{is_sum}
+use Rattle.column_set.specs.ChangedRecords.{changed_bookmark, changed_table}
 use Rattle.database_state.specs.State.{DatabaseState, PastChange, Transaction, transaction_of}
 use Rattle.database_state.specs.View.{newest}
 use Rattle.database_state.specs.Conflicts.{collide, has_write_conflict, is_concurrent}

@@ -4,7 +4,8 @@ ghost use Rattle.std.specs.Prelude.{◌≡◌, ℕ, ℤ, neg_ℤ, true, false, L
 ghost use Rattle.std.specs.List.{AllByRecursion};
 ghost use Rattle.std.specs.Int.{w32, int_wrapping_neg};
 ghost use Rattle.column_set.specs.RecordValues.{RecordFields};
-ghost use Rattle.database_state.specs.Changes.{changed_table, changed_bookmark, is_sum, with_sum};
+ghost use Rattle.database_state.specs.Changes.{is_sum, with_sum};
+ghost use Rattle.column_set.specs.ChangedRecords.{changed_table, changed_bookmark};
 ghost use Rattle.database_state.specs.Conflicts.{collide};
 ghost use Rattle.database_state.specs.State.{PastChange};
 ghost use Rattle.record_changes.specs.Records.{Records, records_after_items};

@@ -7,7 +7,8 @@ use Rattle.column_set.specs.declared.changes.Change.TheVariants.{Put, Drop, Hold
 use Rattle.index_derive.specs.declared.log.Entry.{Entry}
 use Rattle.index_derive.specs.declared.log.EntryKind.TheVariants as entry
 use Rattle.database_state.specs.Table.{Table, record_in, table_with_id}
-use Rattle.database_state.specs.Changes.{changed_table, changed_bookmark, without_copied}
+use Rattle.database_state.specs.Changes.{without_copied}
+use Rattle.column_set.specs.ChangedRecords.{changed_table, changed_bookmark}
 use Rattle.database_state.specs.State.{DatabaseState, PastChange, levels, open_changes_of}
 use Rattle.database_state.specs.VersionStore.{cost_of, is_needed}
 use Rattle.database_state.specs.View.{newest}

@@ -11,7 +11,8 @@ use Rattle.column_set.specs.declared.changes.Change.{Change}
 use Rattle.column_set.specs.declared.changes.Change.TheVariants.{Put, Drop, Hold, Add}
 use Rattle.column_set.specs.RecordValues.{RecordFields}
 use Rattle.database_state.specs.Table.{Table, Rows, row_at, rows_of, record_in, table_with_id}
-use Rattle.database_state.specs.Changes.{changed_table, rows_after, rows_with_sum, tables_after, tables_after_all}
+use Rattle.database_state.specs.Changes.{rows_after, rows_with_sum, tables_after, tables_after_all}
+use Rattle.column_set.specs.ChangedRecords.{changed_table}
 use Rattle.version_history.specs.History.{without_rows}
 use Rattle.version_store.specs.declared.calls.Reader.{Reader}
 use Rattle.versioned_tables.specs.HeldRecords.{HeldRecord}

@@ -11,7 +11,8 @@ use Rattle.column_set.specs.declared.changes.Change.{Change}
 use Rattle.column_set.specs.declared.changes.Change.TheVariants.{Put, Drop, Hold, Add}
 use Rattle.column_set.specs.RecordValues.{RecordFields}
 use Rattle.database_state.specs.Table.{Table, table_with_id}
-use Rattle.database_state.specs.Changes.{changed_table, changed_bookmark, is_sum, tables_after, with_sum}
+use Rattle.database_state.specs.Changes.{is_sum, tables_after, with_sum}
+use Rattle.column_set.specs.ChangedRecords.{changed_table, changed_bookmark}
 use Rattle.database_state.specs.State.{PastChange, undone}
 use Rattle.database_state.specs.Conflicts.{collide}
 use Rattle.record_changes.specs.Records.{Records, IsThere, after_item, is_change_of, record_after, records_after, records_after_items, records_of}

@@ -4,7 +4,7 @@ use Rattle.std.specs.Prelude.{◌==◌, bytes_eq, find}
 use Rattle.common_lemmas.proofs.Booleans.{and_left, and_right}
 use Rattle.index_derive.specs.declared.rules.IndexRule.{IndexRule}
 use Rattle.index_derive.specs.declared.rules.Schema.{Schema}
-use Rattle.database_state.specs.Changes.{changed_table, changed_bookmark}
+use Rattle.column_set.specs.ChangedRecords.{changed_table, changed_bookmark}
 use Rattle.database_state.specs.State.{DatabaseState, PastChange, Transaction, is_undone, transaction_of}
 use Rattle.database_state.specs.View.{newest}
 use Rattle.database_state.specs.Conflicts.{is_concurrent as is_concurrent_change, has_key_conflict as has_key_conflict_in, yields_key}

@@ -11,7 +11,8 @@ use Rattle.column_set.specs.RecordValues.{RecordFields, values_of}
 use Rattle.index_derive.specs.declared.rules.Schema.{Schema}
 use Rattle.index_derive.specs.Entries.{is_escrow_column}
 use Rattle.database_state.specs.Table.{Table, record_in, schema_of, table_with_id}
-use Rattle.database_state.specs.Changes.{changed_table, escrow_bytes, with_sum}
+use Rattle.database_state.specs.Changes.{escrow_bytes, with_sum}
+use Rattle.column_set.specs.ChangedRecords.{changed_table}
 use Rattle.database_state.specs.State.{DatabaseState, PastChange, Transaction, transaction_of}
 use Rattle.database_state.specs.View.{newest, view}
 use Rattle.record_changes.specs.Records.{Records, is_change_of, records_of}

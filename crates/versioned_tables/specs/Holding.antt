@@ -5,7 +5,7 @@ use Rattle.std.specs.Ordering.{nat_cmp}
 use Rattle.std.specs.Cmp.Lexicographic.{slice_cmp}
 use Rattle.std.specs.FinMap.Entries.{is_sorted}
 use Rattle.database_state.specs.Table.{Table, Rows}
-use Rattle.database_state.specs.Changes.{changed_table, changed_bookmark}
+use Rattle.column_set.specs.ChangedRecords.{changed_table, changed_bookmark}
 use Rattle.database_state.specs.State.{DatabaseState, LiveSession, PastChange, Transaction}
 use Rattle.database_state.specs.VersionStore.{cost_of}
 use Rattle.database_state.specs.View.{newest}

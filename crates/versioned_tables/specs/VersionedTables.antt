@@ -7,7 +7,8 @@ use Rattle.index_derive.specs.declared.log.EntryKind.{EntryKind}
 use Rattle.index_derive.specs.declared.log.EntryKind.TheVariants as entry
 use Rattle.index_derive.specs.declared.schema_calls.SchemaStep.{SchemaStep}
 use Rattle.database_state.specs.Table.{Table, Rows, record_in, with_row, without_row}
-use Rattle.database_state.specs.Changes.{changed_table, changed_bookmark, tables_after}
+use Rattle.database_state.specs.Changes.{tables_after}
+use Rattle.column_set.specs.ChangedRecords.{changed_table, changed_bookmark}
 use Rattle.database_state.specs.SchemaChanges.{tables_after_step}
 use Rattle.version_store.specs.declared.calls.By.{By}
 use Rattle.version_store.specs.declared.calls.Reader.{Reader}

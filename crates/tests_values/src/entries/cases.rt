@@ -25,25 +25,11 @@ pub struct Case<'a> {
     pub keys: &'a [&'a [u8]],
 }
 
-/// No flag.
-pub const PLAIN: IndexFlags = IndexFlags {
-    primary: false,
-    unique: false,
-    disallownull: false,
-    ignorenull: false,
-    ignoreanynull: false,
-    ignorefirstnull: false,
-    sortnullshigh: false,
-    crossproduct: false,
-    disallowtruncation: false,
-    tuples: false,
-};
-
 /// A record without values in an index on both columns, which has one entry.
 const CASE: Case = Case {
     kind: ColType::UnsignedByte,
     multi: true,
-    flags: PLAIN,
+    flags: IndexFlags::NONE,
     columns: &[(256, false), (257, false)],
     conditions: &[],
     first: &[],
@@ -84,7 +70,7 @@ pub static CASES: &[Case] = &[
     Case {
         flags: IndexFlags {
             crossproduct: true,
-            ..PLAIN
+            ..IndexFlags::NONE
         },
         first: &[b"a", b"b", b"c"],
         second: &[b"x", b"y"],
@@ -108,7 +94,7 @@ pub static CASES: &[Case] = &[
     Case {
         flags: IndexFlags {
             crossproduct: true,
-            ..PLAIN
+            ..IndexFlags::NONE
         },
         second: &[b"x", b"y"],
         keys: &[b"\0\x7fx", b"\0\x7fy"],
@@ -118,7 +104,7 @@ pub static CASES: &[Case] = &[
     Case {
         flags: IndexFlags {
             crossproduct: true,
-            ..PLAIN
+            ..IndexFlags::NONE
         },
         first: &[b"a", b"b", b"c"],
         keys: &[b"\x7fa\0", b"\x7fb\0", b"\x7fc\0"],
@@ -129,7 +115,7 @@ pub static CASES: &[Case] = &[
         multi: false,
         flags: IndexFlags {
             primary: true,
-            ..PLAIN
+            ..IndexFlags::NONE
         },
         first: &[b"a"],
         second: &[b"x"],
@@ -140,7 +126,7 @@ pub static CASES: &[Case] = &[
     Case {
         flags: IndexFlags {
             unique: true,
-            ..PLAIN
+            ..IndexFlags::NONE
         },
         first: &[b"a", b"b", b"c"],
         second: &[b"x", b"y"],
@@ -158,7 +144,7 @@ pub static CASES: &[Case] = &[
     Case {
         flags: IndexFlags {
             crossproduct: true,
-            ..PLAIN
+            ..IndexFlags::NONE
         },
         first: &[b"a", b"a"],
         second: &[b"y", b"x", b"y"],
@@ -198,7 +184,7 @@ pub static CASES: &[Case] = &[
     Case {
         flags: IndexFlags {
             sortnullshigh: true,
-            ..PLAIN
+            ..IndexFlags::NONE
         },
         keys: &[b"\xc0\xc0"],
         ..CASE
@@ -207,7 +193,7 @@ pub static CASES: &[Case] = &[
     Case {
         flags: IndexFlags {
             sortnullshigh: true,
-            ..PLAIN
+            ..IndexFlags::NONE
         },
         columns: &[(256, true)],
         keys: &[b"\x3f"],
@@ -217,7 +203,7 @@ pub static CASES: &[Case] = &[
     Case {
         flags: IndexFlags {
             sortnullshigh: true,
-            ..PLAIN
+            ..IndexFlags::NONE
         },
         columns: &[(256, true), (257, false)],
         keys: &[b"\x3f\xc0"],
@@ -227,7 +213,7 @@ pub static CASES: &[Case] = &[
     Case {
         flags: IndexFlags {
             ignorenull: true,
-            ..PLAIN
+            ..IndexFlags::NONE
         },
         keys: &[],
         ..CASE
@@ -236,7 +222,7 @@ pub static CASES: &[Case] = &[
     Case {
         flags: IndexFlags {
             ignorenull: true,
-            ..PLAIN
+            ..IndexFlags::NONE
         },
         second: &[b"x"],
         keys: &[b"\0\x7fx"],
@@ -247,7 +233,7 @@ pub static CASES: &[Case] = &[
         flags: IndexFlags {
             ignorenull: true,
             crossproduct: true,
-            ..PLAIN
+            ..IndexFlags::NONE
         },
         second: &[b"x", b"y"],
         keys: &[b"\0\x7fx", b"\0\x7fy"],
@@ -257,7 +243,7 @@ pub static CASES: &[Case] = &[
     Case {
         flags: IndexFlags {
             ignoreanynull: true,
-            ..PLAIN
+            ..IndexFlags::NONE
         },
         first: &[b"a"],
         keys: &[],
@@ -267,7 +253,7 @@ pub static CASES: &[Case] = &[
     Case {
         flags: IndexFlags {
             ignoreanynull: true,
-            ..PLAIN
+            ..IndexFlags::NONE
         },
         first: &[b"a"],
         second: &[b"x"],
@@ -278,7 +264,7 @@ pub static CASES: &[Case] = &[
     Case {
         flags: IndexFlags {
             ignorefirstnull: true,
-            ..PLAIN
+            ..IndexFlags::NONE
         },
         second: &[b"x"],
         keys: &[],
@@ -288,7 +274,7 @@ pub static CASES: &[Case] = &[
     Case {
         flags: IndexFlags {
             ignorefirstnull: true,
-            ..PLAIN
+            ..IndexFlags::NONE
         },
         first: &[b"a"],
         keys: &[b"\x7fa\0"],
@@ -298,7 +284,7 @@ pub static CASES: &[Case] = &[
     Case {
         flags: IndexFlags {
             disallownull: true,
-            ..PLAIN
+            ..IndexFlags::NONE
         },
         first: &[b"a"],
         refused: Some(DeriveFault::NullKeyDisallowed),
@@ -309,7 +295,7 @@ pub static CASES: &[Case] = &[
     Case {
         flags: IndexFlags {
             disallownull: true,
-            ..PLAIN
+            ..IndexFlags::NONE
         },
         first: &[b"a"],
         second: &[b"x"],
@@ -321,7 +307,7 @@ pub static CASES: &[Case] = &[
         flags: IndexFlags {
             disallownull: true,
             crossproduct: true,
-            ..PLAIN
+            ..IndexFlags::NONE
         },
         first: &[b"a", b"b", b"c"],
         refused: Some(DeriveFault::NullKeyDisallowed),
@@ -333,7 +319,7 @@ pub static CASES: &[Case] = &[
         flags: IndexFlags {
             disallownull: true,
             ignorenull: true,
-            ..PLAIN
+            ..IndexFlags::NONE
         },
         keys: &[],
         ..CASE
@@ -343,7 +329,7 @@ pub static CASES: &[Case] = &[
         flags: IndexFlags {
             disallownull: true,
             ignoreanynull: true,
-            ..PLAIN
+            ..IndexFlags::NONE
         },
         first: &[b"a"],
         keys: &[],
@@ -354,7 +340,7 @@ pub static CASES: &[Case] = &[
         flags: IndexFlags {
             disallownull: true,
             ignorefirstnull: true,
-            ..PLAIN
+            ..IndexFlags::NONE
         },
         second: &[b"x"],
         keys: &[],
@@ -365,7 +351,7 @@ pub static CASES: &[Case] = &[
         flags: IndexFlags {
             disallownull: true,
             ignorenull: true,
-            ..PLAIN
+            ..IndexFlags::NONE
         },
         first: &[b"a"],
         refused: Some(DeriveFault::NullKeyDisallowed),
@@ -377,7 +363,7 @@ pub static CASES: &[Case] = &[
         flags: IndexFlags {
             disallownull: true,
             ignorefirstnull: true,
-            ..PLAIN
+            ..IndexFlags::NONE
         },
         first: &[b"a"],
         refused: Some(DeriveFault::NullKeyDisallowed),
@@ -418,7 +404,7 @@ pub static CASES: &[Case] = &[
     Case {
         flags: IndexFlags {
             disallownull: true,
-            ..PLAIN
+            ..IndexFlags::NONE
         },
         conditions: &[(257, false)],
         first: &[b"a"],
@@ -430,7 +416,7 @@ pub static CASES: &[Case] = &[
         kind: ColType::LongBinary,
         flags: IndexFlags {
             disallowtruncation: true,
-            ..PLAIN
+            ..IndexFlags::NONE
         },
         columns: &[(256, false)],
         conditions: &[(257, false)],
@@ -451,7 +437,7 @@ pub static CASES: &[Case] = &[
         kind: ColType::LongBinary,
         flags: IndexFlags {
             disallowtruncation: true,
-            ..PLAIN
+            ..IndexFlags::NONE
         },
         columns: &[(256, false)],
         first: &[&LONG],
@@ -464,7 +450,7 @@ pub static CASES: &[Case] = &[
         kind: ColType::LongBinary,
         flags: IndexFlags {
             disallowtruncation: true,
-            ..PLAIN
+            ..IndexFlags::NONE
         },
         columns: &[(256, false)],
         first: &[&[b'a'; 224]],
@@ -485,7 +471,7 @@ pub static CASES: &[Case] = &[
         flags: IndexFlags {
             disallownull: true,
             disallowtruncation: true,
-            ..PLAIN
+            ..IndexFlags::NONE
         },
         first: &[&LONG],
         refused: Some(DeriveFault::NullKeyDisallowed),
@@ -498,7 +484,7 @@ pub static CASES: &[Case] = &[
         flags: IndexFlags {
             ignoreanynull: true,
             disallowtruncation: true,
-            ..PLAIN
+            ..IndexFlags::NONE
         },
         first: &[&LONG],
         keys: &[],
@@ -509,7 +495,7 @@ pub static CASES: &[Case] = &[
         kind: ColType::LongText,
         flags: IndexFlags {
             tuples: true,
-            ..PLAIN
+            ..IndexFlags::NONE
         },
         columns: &[(256, false)],
         first: &[b"abcd", b"ab"],
@@ -522,7 +508,7 @@ pub static CASES: &[Case] = &[
         flags: IndexFlags {
             tuples: true,
             disallownull: true,
-            ..PLAIN
+            ..IndexFlags::NONE
         },
         columns: &[(256, false)],
         keys: &[],

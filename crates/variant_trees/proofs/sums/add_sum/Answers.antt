@@ -5,7 +5,8 @@ use Rattle.std.proofs.lemmas.Int.{to_z-of_z}
 use Rattle.common_lemmas.proofs.Booleans.{impossible}
 use Rattle.column_set.specs.declared.changes.Change.{Change}
 use Rattle.column_set.specs.declared.changes.Change.TheVariants.{Add}
-use Rattle.database_state.specs.Changes.{changed_table, is_sum, tables_after}
+use Rattle.database_state.specs.Changes.{is_sum, tables_after}
+use Rattle.column_set.specs.ChangedRecords.{changed_table}
 use Rattle.database_state.specs.Table.{schema_of, table_with_id}
 use Rattle.version_store.specs.HeldChanges.{kind_of}
 use Rattle.stored_variants.specs.VersionsKept.{AddsToEscrow}

@@ -31,6 +31,9 @@ decide-requires-clause-built c = c.requires.built
 pub decide-requires-clause-shared : goal.decide-requires-clause-shared
 decide-requires-clause-shared c = ap (λ (s : SessionSide). is_answered_locally s.state c.args.request.now) c.local_mut.ensures.value ∙ c.requires.shared
 
+pub decide-requires-clause-changing : goal.decide-requires-clause-changing
+decide-requires-clause-changing c = c.requires.changing
+
 pub returns-in_default-clause-line : goal.returns-in_default-clause-line
 returns-in_default-clause-line c = λ limit run is.
     let old = c.args.self.now in

@@ -1,6 +1,6 @@
 use Rattle.std.proofs.Common.{refl, ◌≡◌, List, None, sym, ap, subst, ◌∙◌}
 use Rattle.std.specs.Prelude.{IsSomeAnd}
-use Rattle.database_state.specs.Changes.{changed_bookmark, changed_table}
+use Rattle.column_set.specs.ChangedRecords.{changed_bookmark, changed_table}
 use Rattle.database_state.specs.Table.{Table, schema_of, table_with_id}
 use Rattle.version_store.specs.HeldChanges.{new_change, HeldChange, has_room as has_room_for_row, kind_of}
 use Rattle.stored_variants.specs.versioned_tables.VersionedTables.{with_change}

@@ -1,6 +1,6 @@
 use Rattle.std.proofs.Common.{◌≡◌, ℕ, ◌≤◌, List, [], ◌∷◌, ◌++◌, length, Option, option_map, sym, ap, subst, ◌∙◌}
 use Rattle.std.specs.Prelude.{IfSome, is_some, option_and_then, option_copied, unwrap_or}
-use Rattle.database_state.specs.Changes.{changed_bookmark, changed_table}
+use Rattle.column_set.specs.ChangedRecords.{changed_bookmark, changed_table}
 use Rattle.database_state.specs.Table.{record_in}
 use Rattle.stored_variants.specs.table_trees.StoredTables.{table_long_values, table_nodes}
 use Rattle.version_store.specs.HeldChanges.{has_room as has_room_for_row, new_change}
@@ -16,13 +16,13 @@ use Rattle.table_versions.proofs.store.TableVersions.drop_record.Goals as goal
 pub push-requires : goal.push-requires
 push-requires c =
     subst (λ (row : Option (List ℕ)). length (unwrap_or row []) ≤ 4096) (sym (c.row_in_node-before.ensures ∙ ap (option_and_then row_in_node) c.get.ensures))
-    (small_row (table_long_values c.self.inside.trees.tables c.table_of-table.result.0) (row_under (table_nodes c.self.inside.trees.tables c.table_of-table.result.0) c.bookmark_of-bookmark.result.now)
-    (newest_is_row (table_long_values c.self.inside.trees.tables) c.self.inside.catalog.tables c.self.inside.trees.tables c.self.inside.versions c.self.invariant.kept c.table_of-table.result.0 c.bookmark_of-bookmark.result.now))
+    (small_row (table_long_values c.self.inside.trees.tables c.table-table.result.0) (row_under (table_nodes c.self.inside.trees.tables c.table-table.result.0) c.as_bytes-bookmark.result.now)
+    (newest_is_row (table_long_values c.self.inside.trees.tables) c.self.inside.catalog.tables c.self.inside.trees.tables c.self.inside.versions c.self.invariant.kept c.table-table.result.0 c.as_bytes-bookmark.result.now))
 
 pub replace-requires : goal.replace-requires
 replace-requires c =
-    has_extent (table_nodes c.self.inside.trees.tables c.table_of-table.result.0) c.bookmark_of-bookmark.result.now
-    ((λ i. is_some (row_under (table_nodes c.self.inside.trees.tables (c.table_of-table.ensures i)) (c.bookmark_of-bookmark.ensures i)))
+    has_extent (table_nodes c.self.inside.trees.tables c.table-table.result.0) c.as_bytes-bookmark.result.now
+    ((λ i. is_some (row_under (table_nodes c.self.inside.trees.tables (c.table-table.ensures i)) ((c.as_bytes-bookmark.ensures ∙ c.bookmark.ensures) i)))
     ∙ row_there c.self.inside.newest_put c.self.inside.catalog c.self.inside.trees.tables c.self.inside.versions c.self.invariant.kept c.nodes_are_in_order.ensures.sorted c.args.self.now c.self.view_is
     (changed_table c.args.change.now) (changed_bookmark c.args.change.now) c.requires.there)
 
@@ -38,12 +38,12 @@ after c =
     } in
     after_drop sizes laws c.values_keep_their_counts.ensures.changed c.self.inside.newest_put c.self.inside.catalog c.self.inside.trees.tables c.self.inside.versions (parts_of_store c.self.inside.newest_put c.self.inside.catalog c.self.inside.trees c.self.inside.versions c.self.invariant) c.nodes_are_in_order.ensures.sorted c.nodes_are_in_order.ensures.short c.args.self.now c.self.view_is
     c.args.by c.args.change.now c.requires.drop c.requires.there
-    c.replace.new.self.tables (c.replace.ensures.tables ∙ (λ i. emptied c.self.inside.trees.tables (c.table_of-table.ensures i) (c.bookmark_of-bookmark.ensures i)))
+    c.replace.new.self.tables (c.replace.ensures.tables ∙ (λ i. emptied c.self.inside.trees.tables (c.table-table.ensures i) ((c.as_bytes-bookmark.ensures ∙ c.bookmark.ensures) i)))
     (λ other. c.nodes_after_a_change.ensures.long_values c.self.inside.trees.tables (changed_table c.args.change.now) other _) c.nodes_are_in_order-in-Ok.ensures.sorted
     c.push.new.self
     (c.in-Ok.ensures.ok
     ∙ ap (λ (row : Option (List ℕ)). c.self.inside.versions ++ new_change c.args.by c.args.change.now row ∷ [])
-    (c.row_in_node-before.ensures ∙ ap (option_and_then row_in_node) c.get.ensures ∙ (λ i. row_under (table_nodes c.self.inside.trees.tables (c.table_of-table.ensures i)) (c.bookmark_of-bookmark.ensures i))))
+    (c.row_in_node-before.ensures ∙ ap (option_and_then row_in_node) c.get.ensures ∙ (λ i. row_under (table_nodes c.self.inside.trees.tables (c.table-table.ensures i)) ((c.as_bytes-bookmark.ensures ∙ c.bookmark.ensures) i))))
 
 pub invariant_of-self : goal.invariant_of-self
 invariant_of-self c = record {
@@ -59,7 +59,7 @@ returns-in-Ok-clause-ok c = (after c).shown
 pub returns-in-Ok-clause-over : goal.returns-in-Ok-clause-over
 returns-in-Ok-clause-over c =
     let sizes : RowSizes = record { bytes = c.size_of_a_row.ensures.bytes; size = c.size_of_a_row.ensures.record_size } in
-    let row_is = c.row_in_node-before.ensures ∙ ap (option_and_then row_in_node) c.get.ensures ∙ (λ i. row_under (table_nodes c.self.inside.trees.tables (c.table_of-table.ensures i)) (c.bookmark_of-bookmark.ensures i)) in
+    let row_is = c.row_in_node-before.ensures ∙ ap (option_and_then row_in_node) c.get.ensures ∙ (λ i. row_under (table_nodes c.self.inside.trees.tables (c.table-table.ensures i)) ((c.as_bytes-bookmark.ensures ∙ c.bookmark.ensures) i)) in
     let is_row : IfSome (option_copied c.row_in_node-before.result) (IsRecordRow (table_long_values c.self.inside.trees.tables (changed_table c.args.change.now))) = subst (λ (row : Option (List ℕ)). IfSome row (IsRecordRow (table_long_values c.self.inside.trees.tables (changed_table c.args.change.now)))) (sym row_is)
     (newest_is_row (table_long_values c.self.inside.trees.tables) c.self.inside.catalog.tables c.self.inside.trees.tables c.self.inside.versions c.self.invariant.kept (changed_table c.args.change.now) (changed_bookmark c.args.change.now)) in
     let room : has_room_for_row c.args.by c.args.change.now (option_copied c.row_in_node-before.result) c.self.inside.versions ≡ has_room c.args.by c.args.change.now c.args.self.now.store =
@@ -72,7 +72,7 @@ returns-in-Ok-clause-over c =
 pub returns-in-Err-clause-over : goal.returns-in-Err-clause-over
 returns-in-Err-clause-over c =
     let sizes : RowSizes = record { bytes = c.size_of_a_row.ensures.bytes; size = c.size_of_a_row.ensures.record_size } in
-    let row_is = c.row_in_node-before.ensures ∙ ap (option_and_then row_in_node) c.get.ensures ∙ (λ i. row_under (table_nodes c.self.inside.trees.tables (c.table_of-table.ensures i)) (c.bookmark_of-bookmark.ensures i)) in
+    let row_is = c.row_in_node-before.ensures ∙ ap (option_and_then row_in_node) c.get.ensures ∙ (λ i. row_under (table_nodes c.self.inside.trees.tables (c.table-table.ensures i)) ((c.as_bytes-bookmark.ensures ∙ c.bookmark.ensures) i)) in
     let is_row : IfSome (option_copied c.row_in_node-before.result) (IsRecordRow (table_long_values c.self.inside.trees.tables (changed_table c.args.change.now))) = subst (λ (row : Option (List ℕ)). IfSome row (IsRecordRow (table_long_values c.self.inside.trees.tables (changed_table c.args.change.now)))) (sym row_is)
     (newest_is_row (table_long_values c.self.inside.trees.tables) c.self.inside.catalog.tables c.self.inside.trees.tables c.self.inside.versions c.self.invariant.kept (changed_table c.args.change.now) (changed_bookmark c.args.change.now)) in
     let room : has_room_for_row c.args.by c.args.change.now (option_copied c.row_in_node-before.result) c.self.inside.versions ≡ has_room c.args.by c.args.change.now c.args.self.now.store =

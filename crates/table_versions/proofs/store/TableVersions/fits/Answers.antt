@@ -1,5 +1,5 @@
 use Rattle.std.proofs.Common.{List, ℕ, Option, sym, ap, ◌∙◌, arith}
-use Rattle.database_state.specs.Changes.{changed_bookmark, changed_table}
+use Rattle.column_set.specs.ChangedRecords.{changed_bookmark, changed_table}
 use Rattle.database_state.specs.Table.{record_in}
 use Rattle.stored_variants.specs.table_trees.StoredTables.{table_long_values, table_nodes}
 use Rattle.stored_variants.specs.RecordRows.{row_under}

@@ -1,6 +1,6 @@
 use Rattle.std.proofs.Common.{◌≡◌, Option, List, ℕ, option_map, sym, ap, subst, ◌∙◌}
 use Rattle.std.specs.Prelude.{IfSome, option_copied}
-use Rattle.database_state.specs.Changes.{changed_bookmark, changed_table}
+use Rattle.column_set.specs.ChangedRecords.{changed_bookmark, changed_table}
 use Rattle.database_state.specs.Table.{record_in}
 use Rattle.stored_variants.specs.table_trees.StoredTables.{table_long_values, table_nodes}
 use Rattle.stored_variants.specs.RecordRows.{IsRecordRow, record_of, row_under}
@@ -11,7 +11,7 @@ use Rattle.table_versions.proofs.store.TableVersions.fits_with_its_row.Goals as 
 
 -- the row that was found is that of the change
 row_is : (c : goal.After-newest_row-before) → option_copied c.newest_row-before.result ≡ row_under (table_nodes c.self.inside.trees.tables (changed_table c.args.change.now)) (changed_bookmark c.args.change.now)
-row_is c = c.newest_row-before.ensures ∙ (λ i. row_under (table_nodes c.self.inside.trees.tables (c.table_of.ensures i)) (c.bookmark_of.ensures i))
+row_is c = c.newest_row-before.ensures ∙ (λ i. row_under (table_nodes c.self.inside.trees.tables (c.table.ensures i)) ((c.as_bytes.ensures ∙ c.bookmark.ensures) i))
 
 is_row : (c : goal.After-newest_row-before) → IfSome (option_copied c.newest_row-before.result) (IsRecordRow (table_long_values c.self.inside.trees.tables (changed_table c.args.change.now)))
 is_row c =

@@ -1,6 +1,6 @@
 use Rattle.std.proofs.Common.{refl, None, ◌≡◌, Bool, false, true, List, map, sym, ap, subst, ◌∙◌}
 use Rattle.std.specs.Prelude.{◌↔◌, IsErrOf, is_some}
-use Rattle.database_state.specs.Changes.{changed_table}
+use Rattle.column_set.specs.ChangedRecords.{changed_table}
 use Rattle.database_state.specs.Table.{table_with_id}
 use Rattle.version_store.specs.declared.fault.VersionFault.TheVariants as fault
 use Rattle.version_store.specs.HeldChanges.{new_change, HeldChange}

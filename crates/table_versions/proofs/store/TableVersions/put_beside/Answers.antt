@@ -1,7 +1,7 @@
 use Rattle.std.proofs.Common.{◌≡◌, ℕ, ◌<◌, ◌^◌, List, [], ◌∷◌, ◌++◌, Some, sym, ap, subst, ◌∙◌, arith}
 use Rattle.std.specs.Prelude.{IsSomeAnd, option_copied}
 use Rattle.column_set.specs.RecordValues.{RecordFields}
-use Rattle.database_state.specs.Changes.{changed_bookmark, changed_table}
+use Rattle.column_set.specs.ChangedRecords.{changed_bookmark, changed_table}
 use Rattle.database_state.specs.Table.{schema_of, table_with_id}
 use Rattle.stored_variants.specs.table_trees.StoredTables.{table_long_values, table_nodes}
 use Rattle.version_store.specs.HeldChanges.{new_change}
@@ -35,7 +35,7 @@ number_fits : (c : goal.After-schema) → c.args.by.number < 2 ^ 64
 number_fits c = omega arith
 
 found : (c : goal.After-schema) → table_with_id c.self.inside.catalog.tables (changed_table c.args.change.now) ≡ Some c.in-Some-by_id.def.now
-found c = ap (table_with_id c.self.inside.catalog.tables) (sym c.table_of-table.ensures) ∙ sym c.in-Some-by_id.ensures
+found c = ap (table_with_id c.self.inside.catalog.tables) (sym c.table-table.ensures) ∙ sym c.in-Some-by_id.ensures
 
 storable : (c : goal.After-schema) → IsStorable c.in-Some-by_id.def.now (changed_bookmark c.args.change.now) (put_values c.args.change.now)
 storable c =
@@ -43,15 +43,15 @@ storable c =
     (subst (λ (v : StoredVersions). IsSomeAnd (table_with_id v.store.tables (changed_table c.args.change.now)) (λ table. IsStorable table (changed_bookmark c.args.change.now) (put_values c.args.change.now))) (sym c.self.view_is) c.requires.storable)
 
 -- the same by the words that the call is given
-own_storable : (c : goal.After-schema) → IsStorable c.in-Some-by_id.def.now c.bookmark_of-bookmark.result.now c.in-Some.values.now
+own_storable : (c : goal.After-schema) → IsStorable c.in-Some-by_id.def.now c.as_bytes-bookmark.result.now c.in-Some.values.now
 own_storable c =
-    subst (λ (bookmark : List ℕ). IsStorable c.in-Some-by_id.def.now bookmark c.in-Some.values.now) (sym c.bookmark_of-bookmark.ensures)
+    subst (λ (bookmark : List ℕ). IsStorable c.in-Some-by_id.def.now bookmark c.in-Some.values.now) (sym (c.as_bytes-bookmark.ensures ∙ c.bookmark.ensures))
     (subst (λ (values : RecordFields). IsStorable c.in-Some-by_id.def.now (changed_bookmark c.args.change.now) values) (sym c.in-Some.ensures) (storable c))
 
-given : (c : goal.After-schema) → PutGiven (table_long_values c.self.inside.trees.tables) c.self.inside.catalog.tables c.self.inside.trees.tables c.self.inside.versions c.table_of-table.result.0 c.schema.result.now c.bookmark_of-bookmark.result.now c.in-Some.values.now
+given : (c : goal.After-schema) → PutGiven (table_long_values c.self.inside.trees.tables) c.self.inside.catalog.tables c.self.inside.trees.tables c.self.inside.versions c.table-table.result.0 c.schema.result.now c.as_bytes-bookmark.result.now c.in-Some.values.now
 given c =
-    asked_of_put (table_long_values c.self.inside.trees.tables) c.self.inside.catalog.tables c.self.inside.trees.tables c.self.inside.versions c.self.invariant.kept c.nodes_are_in_order.ensures.sorted c.table_of-table.result.0 c.in-Some-by_id.def.now (sym c.in-Some-by_id.ensures) c.schema.result.now c.schema.ensures
-    c.bookmark_of-bookmark.result.now c.in-Some.values.now (own_storable c)
+    asked_of_put (table_long_values c.self.inside.trees.tables) c.self.inside.catalog.tables c.self.inside.trees.tables c.self.inside.versions c.self.invariant.kept c.nodes_are_in_order.ensures.sorted c.table-table.result.0 c.in-Some-by_id.def.now (sym c.in-Some-by_id.ensures) c.schema.result.now c.schema.ensures
+    c.as_bytes-bookmark.result.now c.in-Some.values.now (own_storable c)
 
 pub put_record-requires-clause-there : goal.put_record-requires-clause-there
 put_record-requires-clause-there c = (given c).there
@@ -64,7 +64,7 @@ put_record-requires-clause-fits c = (given c).fits
 
 pub put_record-requires-clause-may : goal.put_record-requires-clause-may
 put_record-requires-clause-may c =
-    may_keep (laws c) c.self.inside.newest_put c.self.inside.catalog c.self.inside.trees.tables c.self.inside.versions (stored c) c.args.by.number (later c) (number_fits c) c.table_of-table.result.0 c.in-Some-by_id.def.now c.bookmark_of-bookmark.result.now (option_copied c.args.copied) c.in-Some.values.now
+    may_keep (laws c) c.self.inside.newest_put c.self.inside.catalog c.self.inside.trees.tables c.self.inside.versions (stored c) c.args.by.number (later c) (number_fits c) c.table-table.result.0 c.in-Some-by_id.def.now c.as_bytes-bookmark.result.now (option_copied c.args.copied) c.in-Some.values.now
     c.requires.copied (own_storable c)
 
 pub put_record-requires-clause-some : goal.put_record-requires-clause-some
@@ -86,7 +86,7 @@ pub put_record-requires-clause-room : goal.put_record-requires-clause-room
 put_record-requires-clause-room c =
     let sizes : RowSizes = record { bytes = c.size_of_a_row.ensures.bytes; size = c.size_of_a_row.ensures.record_size } in
     row_room sizes c.self.inside.newest_put c.self.inside.catalog c.self.inside.trees.tables c.self.inside.versions c.self.invariant.kept c.nodes_are_in_order.ensures.sorted c.args.self.now c.self.view_is
-    c.args.by c.args.change.now c.table_of-table.result.0 c.bookmark_of-bookmark.result.now c.table_of-table.ensures c.bookmark_of-bookmark.ensures
+    c.args.by c.args.change.now c.table-table.result.0 c.as_bytes-bookmark.result.now c.table-table.ensures (c.as_bytes-bookmark.ensures ∙ c.bookmark.ensures)
     ∙ c.requires.room
 
 -- ---- what the put leaves
@@ -113,7 +113,7 @@ number_fits_then : (c : goal.After-nodes_are_in_order-in-Ok) → c.args.by.numbe
 number_fits_then c = omega arith
 
 found_then : (c : goal.After-nodes_are_in_order-in-Ok) → table_with_id c.self.inside.catalog.tables (changed_table c.args.change.now) ≡ Some c.in-Some-by_id.def.now
-found_then c = ap (table_with_id c.self.inside.catalog.tables) (sym c.table_of-table.ensures) ∙ sym c.in-Some-by_id.ensures
+found_then c = ap (table_with_id c.self.inside.catalog.tables) (sym c.table-table.ensures) ∙ sym c.in-Some-by_id.ensures
 
 storable_then : (c : goal.After-nodes_are_in_order-in-Ok) → IsStorable c.in-Some-by_id.def.now (changed_bookmark c.args.change.now) (put_values c.args.change.now)
 storable_then c =
@@ -128,10 +128,10 @@ after c =
     (may_keep (laws_then c) c.self.inside.newest_put c.self.inside.catalog c.self.inside.trees.tables c.self.inside.versions (stored_then c) c.args.by.number (later_then c) (number_fits_then c) (changed_table c.args.change.now) c.in-Some-by_id.def.now (changed_bookmark c.args.change.now)
     (option_copied c.args.copied) (put_values c.args.change.now) c.requires.copied (storable_then c))
     c.put_record.new.trees.tables
-    (put_as c.args.by.number c.self.inside.trees.tables c.put_record.new.trees.tables (option_copied c.args.copied) c.table_of-table.result.0 (changed_table c.args.change.now) c.table_of-table.ensures c.bookmark_of-bookmark.result.now (changed_bookmark c.args.change.now) c.bookmark_of-bookmark.ensures
+    (put_as c.args.by.number c.self.inside.trees.tables c.put_record.new.trees.tables (option_copied c.args.copied) c.table-table.result.0 (changed_table c.args.change.now) c.table-table.ensures c.as_bytes-bookmark.result.now (changed_bookmark c.args.change.now) (c.as_bytes-bookmark.ensures ∙ c.bookmark.ensures)
     c.schema.result.now (schema_of c.in-Some-by_id.def.now) c.schema.ensures c.in-Some.values.now (put_values c.args.change.now) c.in-Some.ensures c.in-Ok.ensures.put)
     c.nodes_are_in_order-in-Ok.ensures.sorted c.put_record.new.versions
-    (c.in-Ok.ensures.held ∙ (λ i. c.self.inside.versions ++ new_change c.args.by c.args.change.now (row_under (table_nodes c.self.inside.trees.tables (c.table_of-table.ensures i)) (c.bookmark_of-bookmark.ensures i)) ∷ []))
+    (c.in-Ok.ensures.held ∙ (λ i. c.self.inside.versions ++ new_change c.args.by c.args.change.now (row_under (table_nodes c.self.inside.trees.tables (c.table-table.ensures i)) ((c.as_bytes-bookmark.ensures ∙ c.bookmark.ensures) i)) ∷ []))
 
 -- ---- what a put that fails leaves
 
@@ -139,13 +139,13 @@ stored_else : (c : goal.After-nodes_are_in_order-in-Err) → IsStored c.self.ins
 stored_else c = parts_of_store c.self.inside.newest_put c.self.inside.catalog c.self.inside.trees c.self.inside.versions c.self.invariant
 
 found_else : (c : goal.After-nodes_are_in_order-in-Err) → table_with_id c.self.inside.catalog.tables (changed_table c.args.change.now) ≡ Some c.in-Some-by_id.def.now
-found_else c = ap (table_with_id c.self.inside.catalog.tables) (sym c.table_of-table.ensures) ∙ sym c.in-Some-by_id.ensures
+found_else c = ap (table_with_id c.self.inside.catalog.tables) (sym c.table-table.ensures) ∙ sym c.in-Some-by_id.ensures
 
 none : (c : goal.After-nodes_are_in_order-in-Err) → IsAfterNone c.self.inside.newest_put c.self.inside.catalog c.put_record.new.trees.tables c.put_record.new.versions c.args.self.now
 none c =
     after_none c.self.inside.newest_put c.self.inside.catalog c.self.inside.trees.tables c.self.inside.versions (stored_else c) c.nodes_are_in_order.ensures.sorted c.args.self.now c.self.view_is c.tables.ensures.numbered
     (changed_table c.args.change.now) c.in-Some-by_id.def.now (found_else c) c.put_record.new.trees.tables
-    (same_as c.self.inside.trees.tables c.put_record.new.trees.tables c.table_of-table.result.0 (changed_table c.args.change.now) c.table_of-table.ensures c.schema.result.now (schema_of c.in-Some-by_id.def.now) c.schema.ensures c.in-Err.ensures.same)
+    (same_as c.self.inside.trees.tables c.put_record.new.trees.tables c.table-table.result.0 (changed_table c.args.change.now) c.table-table.ensures c.schema.result.now (schema_of c.in-Some-by_id.def.now) c.schema.ensures c.in-Err.ensures.same)
     c.nodes_are_in_order-in-Err.ensures.sorted c.put_record.new.versions c.in-Err.ensures.unheld
 
 pub invariant_of-self : goal.invariant_of-self

@@ -16,7 +16,7 @@ within n m none low = omega arith
 pub append-requires : goal.append-requires
 append-requires c =
     let longs = table_long_values c.self.inside.trees.tables in
-    let id = c.table_of.result.0 in
+    let id = c.table.result.0 in
     let reader : Reader = record { session = c.args.by.session; begin = Some c.args.by.begin } in
     let is = sym (ap option_copied c.in-Some.is) ∙ c.shown_row.ensures in
     let row : IsRecordRow (longs id) c.in-Some.bytes.now = subst (λ (o : Option (List ℕ)). IfSome o (IsRecordRow (longs id))) (sym is)
@@ -29,7 +29,7 @@ append-requires c =
 pub put_beside-requires-clause-copied : goal.put_beside-requires-clause-copied
 put_beside-requires-clause-copied c =
     let longs = table_long_values c.self.inside.trees.tables in
-    let id = c.table_of.result.0 in
+    let id = c.table.result.0 in
     let reader : Reader = record { session = c.args.by.session; begin = Some c.args.by.begin } in
     let is = sym (ap option_copied c.in-Some.is) ∙ c.shown_row.ensures in
     let row : IsRecordRow (longs id) c.in-Some.bytes.now = subst (λ (o : Option (List ℕ)). IfSome o (IsRecordRow (longs id))) (sym is)

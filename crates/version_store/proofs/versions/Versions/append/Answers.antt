@@ -1,7 +1,7 @@
 -- The new item and its row are the change as it is made.
 use Rattle.std.proofs.Common.{◌≡◌, ℕ, suc, ◌+◌, ◌-◌, List, [], ◌∷◌, ◌++◌, Some, length, get_or, refl, sym, ap, subst, ◌∙◌, arith}
 use Rattle.std.proofs.lemmas.List.{length_push}
-use Rattle.database_state.specs.Changes.{changed_bookmark}
+use Rattle.column_set.specs.ChangedRecords.{changed_bookmark}
 use Rattle.version_store.specs.HeldChanges.{HeldChange, cost_of, new_change}
 use Rattle.version_store.specs.Items.{held_change, held_changes, item_hash}
 use Rattle.version_store.specs.Hashes.{hash_of}
@@ -20,7 +20,7 @@ item_of c = record {
   session = c.args.by.session;
   level = c.args.by.level;
   kind = c.what.result;
-  table = c.table_of-2.result;
+  table = c.table-2.result;
   bookmark = c.in_ok-bookmark.bookmark;
   had_row = c.row_parts-had_row.result.0;
   status = status.Uncommitted;
@@ -30,13 +30,13 @@ item_of c = record {
 }
 
 bookmark_is : (c : goal.After-set_newest) → c.in_ok-bookmark.bookmark ≡ changed_bookmark c.args.change.now
-bookmark_is c = c.in_ok-bookmark.ensures ∙ c.bookmark_of.ensures
+bookmark_is c = c.in_ok-bookmark.ensures ∙ c.bookmark.ensures
 
 is_new : (c : goal.After-set_newest) → held_change (item_of c) c.row_parts-had_row.result.1.now ≡ new_change c.args.by c.args.change.now (option_copied c.args.before)
-is_new c = new-held c.args.by c.args.change.now (option_copied c.args.before) (item_of c) c.row_parts-had_row.result.1.now refl refl refl c.what.ensures c.table_of-2.ensures (bookmark_is c) c.row_parts-had_row.ensures.row refl
+is_new c = new-held c.args.by c.args.change.now (option_copied c.args.before) (item_of c) c.row_parts-had_row.result.1.now refl refl refl c.what.ensures c.table-2.ensures (bookmark_is c) c.row_parts-had_row.ensures.row refl
 
 hash_is : (c : goal.After-set_newest) → c.hash_of-hash.result ≡ item_hash (item_of c)
-hash_is c = c.hash_of-hash.ensures ∙ ap (λ (t : ℕ). hash_of t c.as_bytes.result.now) (c.table_of.ensures ∙ sym c.table_of-2.ensures) ∙ ap (hash_of c.table_of-2.result.0) c.as_bytes.ensures
+hash_is c = c.hash_of-hash.ensures ∙ ap (λ (t : ℕ). hash_of t c.as_bytes.result.now) (c.table.ensures ∙ sym c.table-2.ensures) ∙ ap (hash_of c.table-2.result.0) c.as_bytes.ensures
 
 pushed : (c : goal.After-set_newest) → Pushed c.self.inside.items.items c.push_back_reserved.new.self.items c.self.inside.rows.pieces c.push-2.new.self.pieces c.self.inside.chains c.push.new.self (item_of c) c.row_parts-had_row.result.1.now c.self.inside.total (c.self.inside.total + c.cost_of-cost.result)
 pushed c =

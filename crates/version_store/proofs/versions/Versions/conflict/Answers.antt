@@ -2,7 +2,7 @@
 use Rattle.std.proofs.Common.{◌≡◌, ℕ, ◌-◌, ◌<◌, true, false, [], map, length, get_or, take, sym, ap, subst, ◌∙◌, arith}
 use Rattle.std.specs.List.{list_any}
 use Rattle.std.proofs.lemmas.List.{length-map}
-use Rattle.database_state.specs.Changes.{changed_bookmark, changed_table}
+use Rattle.column_set.specs.ChangedRecords.{changed_bookmark, changed_table}
 use Rattle.version_store.specs.Chained.{latest}
 use Rattle.version_store.specs.HeldChanges.{HeldChange, conflicts, has_conflict}
 use Rattle.version_store.specs.Items.{held_change}
@@ -18,7 +18,7 @@ pub loop-end-init : goal.loop-end-init
 loop-end-init c =
     let a = c.self.inside in let made = c.args.change.now in let hash : ℕ = hash_of (changed_table made) (changed_bookmark made) in
     let are : a.chains ≡ map held_hash (held a) = c.self.invariant.keeps.are_hashes ∙ hashes-held a.items.items a.rows.pieces c.self.invariant.keeps.are_rows in
-    let same : hash_of c.table_of.result.0 c.as_bytes-bookmark.result.now ≡ hash = ap (λ (t : ℕ). hash_of t c.as_bytes-bookmark.result.now) c.table_of.ensures ∙ ap (hash_of (changed_table made)) (c.as_bytes-bookmark.ensures ∙ c.bookmark_of.ensures) in
+    let same : hash_of c.table.result.0 c.as_bytes-bookmark.result.now ≡ hash = ap (λ (t : ℕ). hash_of t c.as_bytes-bookmark.result.now) c.table.ensures ∙ ap (hash_of (changed_table made)) (c.as_bytes-bookmark.ensures ∙ c.bookmark.ensures) in
     let is : c.newest_hashed-end.result ≡ latest hash a.chains = c.newest_hashed-end.ensures ∙ ap (λ (s : ℕ). latest s a.chains) same in
     record {
       walk = subst (Walk hash a.chains) (sym is) (walk-start hash a.chains);

@@ -1,7 +1,7 @@
 -- If some change conflicts, one before the end does.
 use Rattle.std.proofs.Common.{◌≡◌, take}
 use Rattle.std.specs.List.{list_any}
-use Rattle.database_state.specs.Changes.{changed_bookmark, changed_table}
+use Rattle.column_set.specs.ChangedRecords.{changed_bookmark, changed_table}
 use Rattle.version_store.specs.HeldChanges.{conflicts}
 use Rattle.version_store.specs.Kept.{held}
 use Rattle.version_store.specs.Hashes.{hash_of}
