@@ -3,7 +3,7 @@ use Rattle.std.specs.Prelude.{zero, suc, true, false, [], ◌∷◌, codes}
 use Rattle.jet_base.specs.Ids.{column_id, index_id}
 use Rattle.jet_base.specs.declared.words.ColType.TheVariants.{Long, Text}
 use Rattle.column_set.specs.declared.columns.Column.{Column}
-use Rattle.index_derive.specs.declared.rules.IndexFlags.{IndexFlags}
+use Rattle.index_derive.specs.Flags.{no_flags}
 use Rattle.index_derive.specs.declared.rules.IndexRule.{IndexRule}
 use Rattle.database_state.specs.Table.{Table}
 use Rattle.catalog_grammar.specs.Catalogs.{TableRoots}
@@ -14,9 +14,6 @@ id_column = record { id = column_id 1; name = codes "id"; kind = Long; tagged = 
 
 abbrev pub mail_column : Column
 mail_column = record { id = column_id 256; name = codes "mail"; kind = Text; tagged = true; multi = true; not_null = false; escrow = false; version = false; auto = false }
-
-abbrev pub no_flags : IndexFlags
-no_flags = record { primary = false; unique = false; disallownull = false; ignorenull = false; ignoreanynull = false; ignorefirstnull = false; sortnullshigh = false; crossproduct = false; disallowtruncation = false; tuples = false }
 
 -- the primary index over the number
 abbrev pub primary : IndexRule

@@ -47,9 +47,6 @@ if_null column = record { column = column_id column; must_be_null = true }
 abbrev pub if_not_null : ℕ → Condition
 if_not_null column = record { column = column_id column; must_be_null = false }
 
-abbrev pub no_flags : IndexFlags
-no_flags = record { primary = false; unique = false; disallownull = false; ignorenull = false; ignoreanynull = false; ignorefirstnull = false; sortnullshigh = false; crossproduct = false; disallowtruncation = false; tuples = false }
-
 -- an index with keys of up to 255 bytes and without conditions
 abbrev pub index_over : IndexFlags → List Segment → IndexRule
 index_over flags segments = record { id = index_id 1; name = codes "i"; order = 1; segments = segments; flags = flags; conditions = []; key_most = 255 }

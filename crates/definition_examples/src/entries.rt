@@ -5,7 +5,8 @@ ghost use Rattle.std.specs.Prelude.{◌≡◌, ℕ, List, [], ◌∷◌, ◌++�
 ghost use Rattle.key_normal.specs.KeyBytes.{segment_bytes, is_cut, cut_key};
 ghost use Rattle.jet_base.specs.declared.words.ColType.TheVariants as kind;
 ghost use Rattle.index_derive.specs.Entries.{entries, key_list, whole_key, NullKeyDisallowed, KeyTruncated};
-ghost use Rattle.definition_examples.specs.Samples.{sample_schema, ascending, descending, if_null, if_not_null, no_flags, index_over};
+ghost use Rattle.index_derive.specs.Flags.{no_flags};
+ghost use Rattle.definition_examples.specs.Samples.{sample_schema, ascending, descending, if_null, if_not_null, index_over};
 
 /// Letters that differ in case alone give one key.
 pub fn keys_of_several_values()

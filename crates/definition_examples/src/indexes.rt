@@ -4,7 +4,8 @@
 ghost use Rattle.std.specs.Prelude.{◌≡◌, ℕ, List, [], ◌∷◌, ◌++◌, true, false, codes, replicate, length, map};
 ghost use Rattle.jet_base.specs.Ids.{column_id};
 ghost use Rattle.index_derive.specs.Entries.{derive, own_order, has_double_key, primary_key, is_legal, column_is_used, is_unique};
-ghost use Rattle.definition_examples.specs.Samples.{sample_schema, sum_column, ascending, descending, if_null, if_not_null, no_flags, index_over};
+ghost use Rattle.index_derive.specs.Flags.{no_flags};
+ghost use Rattle.definition_examples.specs.Samples.{sample_schema, sum_column, ascending, descending, if_null, if_not_null, index_over};
 
 /// Entries are sorted by key, and those of one key by bookmark.
 pub fn derived_index()

@@ -3,6 +3,7 @@ use Rattle.std.specs.Prelude.{ℕ, List, [], ◌∷◌, ◌++◌, false, codes, 
 use Rattle.jet_base.specs.Ids.{column_id, index_id}
 use Rattle.jet_base.specs.declared.words.ColType.TheVariants.{Text}
 use Rattle.column_set.specs.RecordValues.{RecordFields}
+use Rattle.index_derive.specs.Flags.{no_flags}
 use Rattle.index_derive.specs.declared.rules.IndexRule.{IndexRule}
 use Rattle.index_derive.specs.declared.rules.Schema.{Schema}
 
@@ -13,7 +14,7 @@ text_index = record {
   name = codes "i";
   order = 2;
   segments = record { column = column_id 128; descending = false } ∷ [];
-  flags = record { primary = false; unique = false; disallownull = false; ignorenull = false; ignoreanynull = false; ignorefirstnull = false; sortnullshigh = false; crossproduct = false; disallowtruncation = false; tuples = false };
+  flags = no_flags;
   conditions = [];
   key_most = 255;
 }

@@ -13,19 +13,6 @@ use page_space::Space;
 use std::alloc::Global;
 use std::test::Fail;
 
-const NO_FLAGS: IndexFlags = IndexFlags {
-    primary: false,
-    unique: false,
-    disallownull: false,
-    ignorenull: false,
-    ignoreanynull: false,
-    ignorefirstnull: false,
-    sortnullshigh: false,
-    crossproduct: false,
-    disallowtruncation: false,
-    tuples: false,
-};
-
 /// A catalog of one table, whose records have their root on page 5 and whose long values on page 6.
 fn one_table(alloc: Global, space: &mut Space) -> Result<CatalogTree, OutOfMemory>
     ensures { IfOk result (λ made. HoldsCatalog space.new made roots one_table) }
@@ -83,7 +70,7 @@ fn a_new_index_has_a_node(rt: HostRuntime) -> Result<(), Fail> {
         name: Name::new(rt.alloc(), "i")?,
         order: 1,
         segments: Items::new(Vec::new(rt.alloc())),
-        flags: NO_FLAGS,
+        flags: IndexFlags::NONE,
         conditions: Items::new(Vec::new(rt.alloc())),
         key_most: 255,
     };

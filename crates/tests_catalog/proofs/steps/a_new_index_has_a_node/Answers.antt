@@ -1,6 +1,7 @@
 -- The catalog of one table takes an index without segments and conditions.
 use Rattle.std.proofs.Common.{◌≡◌, ℕ, false, List, [], refl, sym, subst, ◌∙◌, arith, codes}
 use Rattle.jet_base.specs.Ids.{index_id, table_id}
+use Rattle.index_derive.specs.Flags.{no_flags}
 use Rattle.index_derive.specs.declared.rules.Condition.{Condition}
 use Rattle.index_derive.specs.declared.rules.IndexRule.{IndexRule}
 use Rattle.index_derive.specs.declared.rules.Segment.{Segment}
@@ -15,7 +16,7 @@ index_rule name segments conditions = record {
   name = name;
   order = 1;
   segments = segments;
-  flags = record { primary = false; unique = false; disallownull = false; ignorenull = false; ignoreanynull = false; ignorefirstnull = false; sortnullshigh = false; crossproduct = false; disallowtruncation = false; tuples = false };
+  flags = no_flags;
   conditions = conditions;
   key_most = 255;
 }
