@@ -1,6 +1,6 @@
 //! How often an object of the outside has failed.
 
-ghost use Rattle.std.specs.Prelude.{◌≡◌, ℕ, ◌+◌, ◌-◌, ◌^◌, min};
+ghost use Rattle.std.specs.Prelude.{◌≡◌, ℕ, ◌+◌, ◌-◌, ◌^◌, min, MatchResult};
 
 use crate::rises::Rises;
 use std::marker::Model;
@@ -40,6 +40,20 @@ impl FaultCount {
     {
         self.rises.rise();
         self.shown = self.shown.saturating_add(1);
+    }
+
+    /// Counts an answer where it is an error, and hands it on.
+    pub fn note<T, E>(&mut self, answer: Result<T, E>) -> Result<T, E>
+        ensures same { result ≡ answer }
+        ensures counted { MatchResult answer (λ _. self.new ≡ self.old) (λ _. self.new ≡ self.old + 1) }
+    {
+        match answer {
+            Ok(value) => Ok(value),
+            Err(error) => {
+                self.rise();
+                Err(error)
+            }
+        }
     }
 
     /// The count, or 2^64 - 1 where it is greater.
