@@ -1,6 +1,6 @@
 //! How often an object of the outside has failed.
 
-ghost use Rattle.std.specs.Prelude.{◌≡◌, ℕ, ◌+◌, ◌-◌, ◌^◌, min, MatchResult};
+ghost use Rattle.std.specs.Prelude.{◌≡◌, ℕ, ◌+◌, ◌-◌, ◌^◌, ◌<◌, ◌≤◌, min, MatchResult};
 
 use crate::rises::Rises;
 use std::marker::Model;
@@ -53,6 +53,16 @@ impl FaultCount {
                 self.rise();
                 Err(error)
             }
+        }
+    }
+
+    /// Counts a write that took `count` of `len` bytes, where it did not take all of them.
+    pub fn note_short(&mut self, count: usize, len: usize)
+        ensures short { count < len → self.new ≡ self.old + 1 }
+        ensures whole { len ≤ count → self.new ≡ self.old }
+    {
+        if count < len {
+            self.rise();
         }
     }
 
